@@ -1,0 +1,30 @@
+// Verdicts and their causes.
+
+/// Seconds since 1970, from 0 to 250,000,000,000.
+#[derive(Clone, Copy, Debug, PartialEq, Eq)]
+pub struct Moment(pub u64);
+
+/// A sysfs file that is held open.
+#[derive(Clone, Copy, Debug, PartialEq, Eq)]
+pub struct Held(pub u64);
+
+/// What is done with a device: usbguard-rules.conf(5), target.
+#[derive(Clone, Copy, Debug, PartialEq, Eq)]
+pub enum Target {
+    Allow,
+    Block,
+    Reject,
+}
+
+/// Why a verdict was given.
+#[derive(Clone, Copy, Debug, PartialEq, Eq)]
+pub enum Cause {
+    /// The rule with that id was the first that matched.
+    Rule(u64),
+    /// No rule matched: ImplicitPolicyTarget of usbguard-daemon.conf(5).
+    Implicit,
+    /// The device was present at the start and keeps what it had.
+    Keep,
+    /// Its descriptors could not be read as USB 2.0, chapter 9, says.
+    Malformed { kind: u8, place: u64 },
+}
