@@ -4,4 +4,6 @@
 mod sysfs;
 
 pub use sysfs::Sysfs;
-pub use ug_kernel::{Attr, Control, Device, Effect, HeldFile, Listing, Opened, Probe, ReadOut, Write, Wrote};
+pub use ug_kernel::{
+    Attr, Control, Device, Effect, HeldFile, Listing, Opened, Probe, ReadOut, Write, Wrote,
+};
