@@ -54,10 +54,6 @@ with_piece configs piece =
     if nat_eq (slice_index piece 1) 2 then configs ++ config_of piece [] ∷ [] else
     if nat_eq (slice_index piece 1) 4 then with_interface configs (interface_of piece) else configs
 
-abbrev pub is_empty : List Config → Bool
-is_empty [] = true
-is_empty (c ∷ configs) = false
-
 abbrev pub unless : Option ℕ → ℕ → Result (List Config) Fault → Result (List Config) Fault
 unless None place read = read
 unless (Some kind) place read = Err (record { kind = kind; place = place })
@@ -67,7 +63,7 @@ unfoldable pub read_from : List Config → ℕ → ℕ → List ℕ → Result (
 read_from configs place passed [] = Ok configs
 read_from configs place (suc passed) (b ∷ bytes) = read_from configs (place + 1) passed bytes
 read_from configs place zero (b ∷ bytes) =
-    unless (fault_at (not (is_empty configs)) (b ∷ bytes)) place
+    unless (fault_at (not (nat_eq (length configs) 0)) (b ∷ bytes)) place
     (read_from (with_piece configs (take b (b ∷ bytes))) (place + 1) (b - 1) bytes)
 
 abbrev pub under : List ℕ → Result (List Config) Fault → Result Descr Fault
@@ -82,7 +78,7 @@ decoded bytes =
     under bytes (read_from [] 18 0 (drop 18 bytes))
 
 -- an answer is what was read, unless memory was refused
-abbrev pub Answers : Result Descr DescrFault → Result Descr Fault → Type 0
+abbrev pub Answers : {X : Type 0} → Result X DescrFault → Result X Fault → Type 0
 Answers (Ok descr) read = read ≡ Ok descr
 Answers (Err (Malformed kind place)) read = read ≡ Err (record { kind = kind; place = place })
 Answers (Err Memory) read = Unit {0}

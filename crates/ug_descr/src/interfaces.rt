@@ -1,8 +1,8 @@
 // The interfaces of a device.
-ghost use Rattle.std.specs.Prelude.{◌≡◌, IfOk};
-ghost use Rattle.ug_descr.specs.Reading.{triples_of};
+ghost use Rattle.std.specs.Prelude.{◌≡◌, ◌++◌, IfOk, OnOk};
+ghost use Rattle.ug_descr.specs.Reading.{triples_of, config_triples};
 
-use crate::descriptors::Descr;
+use crate::descriptors::{Config, Descr};
 use std::alloc::Global;
 use ug_types::{List, NoMemory, Triple};
 
@@ -10,5 +10,18 @@ use ug_types::{List, NoMemory, Triple};
 pub fn ifaces(alloc: Global, descr: &Descr) -> Result<List<Triple>, NoMemory>
     ensures { IfOk result (λ triples. triples ≡ triples_of descr.now) }
 {
-    Err(NoMemory)
+    let mut triples = List::new(alloc);
+    for config in descr.configs.as_slice() {
+        add_triples(&mut triples, config)?;
+    }
+    Ok(triples)
+}
+
+fn add_triples(triples: &mut List<Triple>, config: &Config) -> Result<(), NoMemory>
+    ensures { OnOk result (triples.new ≡ triples.old ++ config_triples config.now) }
+{
+    for interface in config.items.as_slice() {
+        triples.push(interface.triple)?;
+    }
+    Ok(())
 }
