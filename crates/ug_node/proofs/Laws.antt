@@ -10,15 +10,16 @@ use Rattle.ug_kernel.specs.declared.calls.Opened.{Opened}
 use Rattle.ug_kernel.specs.declared.calls.Opened.TheVariants as opened
 use Rattle.ug_kernel.specs.declared.calls.Probe.{Probe}
 use Rattle.ug_kernel.specs.declared.calls.Probe.TheVariants as probe
-use Rattle.ug_kernel.specs.Calls.{Open, Ask_alive, Close}
+use Rattle.ug_kernel.specs.Calls.{Call, Answer, Open, Ask_alive, Close}
 use Rattle.ug_kernel.specs.Kernel.{Kernel, Live, IsSound, IsKernel, Moves}
-use Rattle.ug_kernel.specs.Called.{Lived, NoneLived, Holds, IsOpened, IsGoneAt, IsAlive, Called}
+use Rattle.ug_kernel.specs.Called.{Lived, NoneLived, Holds, IsOpened, IsGoneAt, IsAlive, Called, Follows}
 use Rattle.ug_kernel.specs.Quiet.{Quiet, Grows}
 use Rattle.ug_kernel.proofs.Quiet.{quiet_trans, moves_quiet, opened_quiet, called_quiet, get_end}
 use Rattle.ug_kernel.proofs.Grow.{some_same, quiet_grows, grows_refl, grows_trans, called_grows}
 use Rattle.ug_kernel.proofs.Held.{live_before, lived_cut}
 use Rattle.ug_itree.specs.Tree.{Runs, calls}
 use Rattle.ug_itree.proofs.Runs.{runs_split}
+use Rattle.ug_itree.proofs.Told.{told_run}
 use Rattle.ug_itree.proofs.Kernels.{runs_sound, runs_grow, runs_quiet}
 use Rattle.ug_node.specs.declared.files.Stop.{Stop}
 use Rattle.ug_node.specs.declared.files.Stop.TheVariants as stop
@@ -26,7 +27,7 @@ use Rattle.ug_node.specs.declared.identity.Binding.{Binding}
 use Rattle.ug_node.specs.declared.identity.Binding.TheVariants as bound
 use Rattle.ug_node.specs.Files.{reading_own, reading_parent}
 use Rattle.ug_node.specs.Bind.{binding_of, after_probe, probing, after_parent, to_parent, after_own, after_open, binding}
-use Rattle.ug_node.specs.Bound.{attrs_of, parent_attrs_of, IsParentRead, IsBound, BindSays, IsBinding}
+use Rattle.ug_node.specs.Bound.{attrs_of, parent_attrs_of, IsParentRead, IsBound, BindSays, IsBinding, Binds}
 use Rattle.ug_node.proofs.ReadAs.{ReadsAs, Kept, none_wider, reads_wider, own_kept, parent_kept, own_says, parent_says}
 use Rattle.ug_node.proofs.Unwritten.{own_quiet, parent_quiet, binding_quiet}
 
@@ -213,3 +214,9 @@ binding_law name parent r k l above sound runs = record {
   quiet = runs_quiet (binding name parent) k r l (binding_quiet name parent) runs;
   says = binding_says name parent r k l (sym above) runs;
 }
+
+-- and over the states of a run
+pub told_binds : {S : Type 0} (gives : S → (call : Call) → Answer call → S → Type 0) (told : S → Option Kernel) (did : (s : S) (call : Call) (answer : Answer call) (t : S) (l : Kernel) → gives s call answer t → told t ≡ Some l → Follows call answer (told s) l) (name : List ℕ) (parent : Option (List ℕ)) (s : S) (r : Binding) (t : S) → parent ≡ parent_of name → Runs gives s (binding name parent) r t → Binds told s name r t
+told_binds gives told did name parent s r t above runs = λ l e.
+    let m = told_run gives told did (binding name parent) s r t l runs e in
+    (m.kernel, m.was, λ k. binding_law name parent r m.kernel l above k (m.run k).0)

@@ -1,0 +1,5 @@
+use Rattle.ug_node.proofs.Laws.{told_binds}
+use Rattle.ug_node.proofs.identity.bind.Goals as goal
+
+pub returns-clause-law : goal.returns-clause-law
+returns-clause-law g c = told_binds g.Y.Sysfs.gives g.Y.Sysfs.told g.met.Y.Sysfs.did _ _ _ _ _ c.requires c.bind_below.ensures
