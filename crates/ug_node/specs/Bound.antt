@@ -1,5 +1,5 @@
 -- What a binding says: the answer's attributes are those of the very device behind its held file.
-use Rattle.std.specs.Prelude.{◌≡◌, ℕ, Bool, true, false, ◌||◌, List, [], Option, Some, None, slice_get}
+use Rattle.std.specs.Prelude.{◌≡◌, ℕ, ◌-◌, ◌^◌, ◌<◌, Bool, true, false, ◌||◌, List, [], Option, Some, None, slice_get}
 use Rattle.ug_types.specs.declared.record.Attrs.{Attrs}
 use Rattle.ug_kernel.specs.declared.device.Device.{Device}
 use Rattle.ug_kernel.specs.declared.calls.Control.TheVariants.{Authorized}
@@ -90,3 +90,14 @@ pub record IsBinding (name : List ℕ) (k l : Kernel) (answer : Binding) : Type 
 -- where a kernel is told at the end, one was told at the start, and where that was sound this was a binding
 abbrev pub Binds : {S : Type 0} → (S → Option Kernel) → S → List ℕ → Binding → S → Type 0
 Binds told s name answer t = (l : Kernel) → told t ≡ Some l → (k : Kernel) × (told s ≡ Some k) × (IsKernel k → IsBinding name k l answer)
+
+-- the numbers of a fault: those of the last call and of all faults, and it is a new one
+pub record IsFault (faults calls_after faults_after call count : ℕ) : Type 0 where
+  pub number : call ≡ calls_after
+  pub total : count ≡ faults_after
+  pub rises : faults < 2 ^ 64 - 1 → faults < faults_after
+
+-- a failed answer has the numbers of a fault
+abbrev pub TellsFault : ℕ → ℕ → ℕ → Binding → Type 0
+TellsFault faults calls_after faults_after (bound.Failed call count) = IsFault faults calls_after faults_after call count
+TellsFault faults calls_after faults_after answer = Unit {0}

@@ -3,7 +3,7 @@ ghost use Rattle.std.specs.Prelude.{◌≡◌};
 ghost use Rattle.ug_types.specs.Names.{parent_of};
 ghost use Rattle.ug_itree.specs.Tree.{Runs};
 ghost use Rattle.ug_node.specs.Bind.{binding, binding_of};
-ghost use Rattle.ug_node.specs.Bound.{Binds};
+ghost use Rattle.ug_node.specs.Bound.{Binds, TellsFault};
 
 use crate::files::{Stop, read_own, read_parent};
 use std::alloc::Global;
@@ -53,6 +53,7 @@ pub fn bind<Y: Sysfs>(
     requires { parent ≡ parent_of name.now }
     ensures runs { Runs Y.gives sysfs.old (binding name.now (parent_of name.now)) result sysfs.new }
     ensures law { Binds Y.told sysfs.old name.now result sysfs.new }
+    ensures fault { TellsFault (Y.faults sysfs.old) (Y.calls sysfs.new) (Y.faults sysfs.new) result }
 {
     bind_below(alloc, sysfs, name, parent)
 }
