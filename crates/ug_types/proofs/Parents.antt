@@ -1,7 +1,7 @@
 -- Names and what stands before their marks.
-use Rattle.std.proofs.Common.{◌≡◌, ℕ, ◌+◌, ◌-◌, ◌*◌, ◌<◌, ◌≤◌, ◌/◌, ◌%◌, ◌^◌, Bool, true, false, cond, List, [], ◌∷◌, ◌++◌, length, get_or, take, drop, Option, None, Some, nat_eq, nat_lt, codes, refl, sym, ap, subst, ◌∙◌, arith, append_assoc, inl, inr, ◌⊎◌}
+use Rattle.std.proofs.Common.{◌≡◌, ℕ, ◌+◌, ◌<◌, ◌≤◌, ◌/◌, ◌%◌, Bool, true, false, cond, List, [], ◌∷◌, ◌++◌, length, get_or, take, drop, Option, None, Some, nat_eq, nat_lt, codes, refl, sym, ap, subst, ◌∙◌, arith, append_assoc, inl, inr, ◌⊎◌}
 use Rattle.std.proofs.lemmas.Bool.{cond-false, ne_eqb, or_from, lt-ltb, cond-true}
-use Rattle.std.proofs.lemmas.List.{take-append-drop, take_all, take_more, drop_more}
+use Rattle.std.proofs.lemmas.List.{take-append-drop, take_more, drop_more}
 use Rattle.std.proofs.lemmas.Option.{none-some, same_Some}
 use Rattle.std.proofs.lemmas.List.Sums.{sum_by-append}
 use Rattle.std.proofs.lemmas.Fmt.{decimal_by_steps, length-decimal-le}
@@ -12,7 +12,7 @@ use Rattle.std.specs.Ordering.{nat_cmp, ordering_then}
 use Rattle.std.specs.Cmp.Lexicographic.{slice_cmp}
 use Rattle.std.specs.Option.{option_map, IfSome}
 use Rattle.std.specs.List.{count_by}
-use Rattle.ug_types.specs.NodeNames.{IsBus, IsPort, ArePorts, joined, IsRootHub, IsDevice, IsNodeName}
+use Rattle.ug_types.specs.NodeNames.{IsBus, IsPort, ArePorts, joined, IsDevice, IsNodeName}
 use Rattle.ug_types.specs.Names.{is_mark, parent_of, depth_of, root_of, or_root, sweep_cmp, or_nothing, before_last_dot, behind, before_dash}
 
 -- the last dot stands before a text without one
@@ -100,23 +100,23 @@ no_mark d =
 
 decimal_unmarked : (n : ℕ) → n ≤ 999 → IsUnmarked (decimal n)
 decimal_unmarked n h = decimal_by_steps P one more n (omega arith)
-    where
-      P : ℕ → List ℕ → Type 0
-      P k ds = IsUnmarked ds
+  where
+    P : ℕ → List ℕ → Type 0
+    P k ds = IsUnmarked ds
 
-      one : (k : ℕ) → k < 10 → P k ((48 + k) ∷ [])
-      one k g = record {
-        dot = no_dot_added [] (48 + k) (λ e. omega arith);
-        dash = no_dash_added [] (48 + k) refl (λ e. omega arith);
-        marks = no_mark k;
-      }
+    one : (k : ℕ) → k < 10 → P k ((48 + k) ∷ [])
+    one k g = record {
+      dot = no_dot_added [] (48 + k) (λ e. omega arith);
+      dash = no_dash_added [] (48 + k) refl (λ e. omega arith);
+      marks = no_mark k;
+    }
 
-      more : (k : ℕ) (ds : List ℕ) → 10 ≤ k → P (k / 10) ds → P k (ds ++ (48 + k % 10) ∷ [])
-      more k ds g u = record {
-        dot = no_dot_added ds (48 + k % 10) (λ e. omega arith) ∙ u.dot;
-        dash = no_dash_added ds (48 + k % 10) u.dash (λ e. omega arith);
-        marks = omega (arith, marks-append ds ((48 + k % 10) ∷ []), u.marks, no_mark (k % 10));
-      }
+    more : (k : ℕ) (ds : List ℕ) → 10 ≤ k → P (k / 10) ds → P k (ds ++ (48 + k % 10) ∷ [])
+    more k ds g u = record {
+      dot = no_dot_added ds (48 + k % 10) (λ e. omega arith) ∙ u.dot;
+      dash = no_dash_added ds (48 + k % 10) u.dash (λ e. omega arith);
+      marks = omega (arith, marks-append ds ((48 + k % 10) ∷ []), u.marks, no_mark (k % 10));
+    }
 
 record IsOnRootHub (t : List ℕ) : Type 0 where
   bus : ℕ
@@ -237,8 +237,9 @@ by_form : (P : List ℕ → Type 0)
     → (name : List ℕ) → IsNodeName name → P name
 by_form P root hub device name (inl h) = subst P (sym h.is) (root h.bus h.is_bus)
 by_form P root hub device name (inr d) = elim (device_form name d) [
-  inl h ↦ subst P (sym h.is) (hub h.bus h.port h.is_bus h.is_port)
-  | inr h ↦ subst P (sym h.is) (device h.front h.port h.device h.is_port) ]
+  | inl h ↦ subst P (sym h.is) (hub h.bus h.port h.is_bus h.is_port)
+  | inr h ↦ subst P (sym h.is) (device h.front h.port h.device h.is_port)
+]
 
 root_name : (bus : ℕ) → IsBus bus → IsNodeName (codes "usb" ++ decimal bus)
 root_name bus b = inl (record { bus = bus; is_bus = b; is = refl })
@@ -254,9 +255,9 @@ parent_is : (name : List ℕ) → IsNodeName name → (parent : List ℕ) → pa
 parent_is = by_form (λ name. (parent : List ℕ) → parent_of name ≡ Some parent → IsParent name parent)
     (λ bus b parent h. absurd (none-some parent (sym (parent_root bus b) ∙ h)))
     (λ bus port b p parent h. is_parent_by (decimal bus ++ 45 ∷ decimal port) (codes "usb" ++ decimal bus) parent (parent_on_hub bus port b p) h
-      (record { named = root_name bus b; depth = omega (arith, depth_root bus b, depth_on_hub bus port b p) }))
+    (record { named = root_name bus b; depth = omega (arith, depth_root bus b, depth_on_hub bus port b p) }))
     (λ front port d p parent h. is_parent_by (front ++ 46 ∷ decimal port) front parent (parent_on_device front port p) h
-      (record { named = inr d; depth = depth_on_device front port p }))
+    (record { named = inr d; depth = depth_on_device front port p }))
 
 pub parent_named : (name parent : List ℕ) → IsNodeName name → parent_of name ≡ Some parent → IsNodeName parent
 parent_named name parent n h = let p : IsParent name parent = parent_is name n parent h in p.named

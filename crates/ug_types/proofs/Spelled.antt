@@ -1,14 +1,14 @@
 -- What has been read is the beginning of a name, and each name is read to its end.
-use Rattle.std.proofs.Common.{◌≡◌, ℕ, suc, ◌+◌, ◌-◌, ◌*◌, ◌/◌, ◌%◌, ◌<◌, ◌≤◌, ◌^◌, Bool, true, false, cond, List, [], ◌∷◌, ◌++◌, length, get_or, take, drop, Option, None, Some, MatchOption, nat_eq, nat_le, codes, refl, sym, ap, subst, ◌∙◌, arith, add-one, append_assoc, inl, inr, ◌⊎◌, ◌&&◌, true≢false}
+use Rattle.std.proofs.Common.{◌≡◌, ℕ, ◌+◌, ◌-◌, ◌*◌, ◌/◌, ◌%◌, ◌<◌, ◌≤◌, Bool, true, false, cond, List, [], ◌∷◌, ◌++◌, length, get_or, take, drop, Option, None, Some, nat_eq, nat_le, codes, refl, sym, ap, subst, ◌∙◌, arith, append_assoc, inl, inr, ◌⊎◌, ◌&&◌, true≢false}
 use Rattle.std.specs.Fmt.{decimal}
 use Rattle.std.specs.Option.{option_map}
-use Rattle.std.proofs.lemmas.Bool.{cond-true, cond-false, cond_both, and_parts, and_from, leb-true, le-leb, eqb-true, eq-eqb, ne_eqb}
+use Rattle.std.proofs.lemmas.Bool.{cond-true, cond-false, and_parts, and_from, leb-true, le-leb, eqb-true, ne_eqb}
 use Rattle.std.proofs.lemmas.Fmt.{decimal_digit, decimal_step, decimal_by_steps}
 use Rattle.std.proofs.lemmas.List.{append-nil, take-append-drop, take_all, take_more}
 use Rattle.std.proofs.lemmas.Option.{same_Some, none-some, cond_some}
 use Rattle.ug_types.specs.declared.reading.Reading.{Reading}
 use Rattle.ug_types.specs.declared.reading.Reading.TheVariants.{Start, U, Us, Usb, RootHub, Bus, Mark, Port}
-use Rattle.ug_types.specs.NodeNames.{IsBus, IsPort, ArePorts, joined, IsRootHub, IsDevice, IsNodeName, IsPrefixOfName, StopsAt}
+use Rattle.ug_types.specs.NodeNames.{IsBus, IsPort, ArePorts, joined, IsDevice, IsNodeName, IsPrefixOfName, StopsAt}
 use Rattle.ug_types.specs.Reading.{after, ends_name, only, first_digit, up_to, with_digit}
 
 abbrev then_byte : Option Reading → ℕ → Option Reading
@@ -159,9 +159,9 @@ stem_device stem n (inr p) k =
       is_bus = d.is_bus;
       are_ports = (d.are_ports.0, ports_push d.ports n d.are_ports.1 k);
       is = ap (λ (t : List ℕ). t ++ decimal n) (p.is ∙ ap (λ (t : List ℕ). t ++ 46 ∷ []) d.is)
-      ∙ append_assoc head (46 ∷ []) (decimal n)
-      ∙ append_assoc (decimal d.bus) (45 ∷ joined d.port d.ports) (46 ∷ decimal n)
-      ∙ ap (λ (t : List ℕ). decimal d.bus ++ 45 ∷ t) (sym (joined_push d.port d.ports n));
+          ∙ append_assoc head (46 ∷ []) (decimal n)
+          ∙ append_assoc (decimal d.bus) (45 ∷ joined d.port d.ports) (46 ∷ decimal n)
+          ∙ ap (λ (t : List ℕ). decimal d.bus ++ 45 ∷ t) (sym (joined_push d.port d.ports n));
     }
 
 device_along : (s t : List ℕ) → s ≡ t → IsDevice t → IsDevice s
@@ -212,8 +212,9 @@ more_port n t b r k h =
 
 reached_after : (s : Reading) (t : List ℕ) (b : ℕ) (r : Reading) → Reached s t → after s b ≡ Some r → Reached r (t ++ b ∷ [])
 reached_after Start t b r e h = elim (cond_either (nat_eq b 117) U (option_map Bus (first_digit b)) r h) [
-  inl p ↦ subst (λ (q : Reading). Reached q (t ++ b ∷ [])) p.1 (push_on t [] b e ∙ ap (λ (c : ℕ). c ∷ []) (eqb-true b 117 p.0))
-  | inr p ↦ to_bus t b r e p ]
+  | inl p ↦ subst (λ (q : Reading). Reached q (t ++ b ∷ [])) p.1 (push_on t [] b e ∙ ap (λ (c : ℕ). c ∷ []) (eqb-true b 117 p.0))
+  | inr p ↦ to_bus t b r e p
+]
 reached_after U t b r e h = to_letter 115 Us t (117 ∷ []) b r e h refl
 reached_after Us t b r e h = to_letter 98 Usb t (117 ∷ 115 ∷ []) b r e h refl
 reached_after Usb t b r e h =
@@ -229,16 +230,18 @@ reached_after (RootHub n) t b r e h =
       push_on t (codes "usb" ++ decimal n) b e.1 ∙ append_assoc (codes "usb") (decimal n) (b ∷ []) ∙ ap (λ (x : List ℕ). codes "usb" ++ x) (digit_behind 999 n b m.0 d k.0 k.1),
     )
 reached_after (Bus n) t b r e h = elim (cond_either (nat_eq b 45) Mark (option_map Bus (with_digit 999 n b)) r h) [
-  inl p ↦ subst (λ (q : Reading). Reached q (t ++ b ∷ [])) p.1 (to_dash n t b e.0 e.1 (eqb-true b 45 p.0))
-  | inr p ↦ more_bus n t b r e.0 e.1 p ]
+  | inl p ↦ subst (λ (q : Reading). Reached q (t ++ b ∷ [])) p.1 (to_dash n t b e.0 e.1 (eqb-true b 45 p.0))
+  | inr p ↦ more_bus n t b r e.0 e.1 p
+]
 reached_after Mark t b r e h =
     let m : (n : ℕ) × (first_digit b ≡ Some n) × (Port n ≡ r) = mapped Port (first_digit b) r h in
     let d : IsFirstDigit b m.0 = first_digit_is b m.0 m.1 in
     let next : HasPort m.0 (t ++ b ∷ []) = record { stem = t; is_stem = e; is_port = (d.low, omega (arith, d.high)); is = ap (λ (x : List ℕ). t ++ x) (one_digit b m.0 d) } in
     subst (λ (q : Reading). Reached q (t ++ b ∷ [])) m.2 next
 reached_after (Port n) t b r e h = elim (cond_either (nat_eq b 46) Mark (option_map Port (with_digit 255 n b)) r h) [
-  inl p ↦ subst (λ (q : Reading). Reached q (t ++ b ∷ [])) p.1 (to_dot n t b e (eqb-true b 46 p.0))
-  | inr p ↦ more_port n t b r e p ]
+  | inl p ↦ subst (λ (q : Reading). Reached q (t ++ b ∷ [])) p.1 (to_dot n t b e (eqb-true b 46 p.0))
+  | inr p ↦ more_port n t b r e p
+]
 
 -- a state in which reading goes on is there
 begun : (o : Option Reading) (xs : List ℕ) (r : Reading) → read o xs ≡ Some r → (s : Reading) × (o ≡ Some s)
@@ -292,20 +295,20 @@ read_number : (from : Reading) (to : ℕ → Reading) (most : ℕ) → most ≤ 
     → ((n d : ℕ) → d < 10 → n * 10 + d ≤ most → after (to n) (48 + d) ≡ Some (to (n * 10 + d)))
     → (n : ℕ) → 1 ≤ n → n ≤ most → read (Some from) (decimal n) ≡ Some (to n)
 read_number from to most small first more n low high = decimal_by_steps P one next n (omega arith) low high
-    where
-      P : ℕ → List ℕ → Type 0
-      P k ds = 1 ≤ k → k ≤ most → read (Some from) ds ≡ Some (to k)
+  where
+    P : ℕ → List ℕ → Type 0
+    P k ds = 1 ≤ k → k ≤ most → read (Some from) ds ≡ Some (to k)
 
-      one : (k : ℕ) → k < 10 → P k ((48 + k) ∷ [])
-      one k h = λ l g. first k l h
+    one : (k : ℕ) → k < 10 → P k ((48 + k) ∷ [])
+    one k h = λ l g. first k l h
 
-      next : (k : ℕ) (ds : List ℕ) → 10 ≤ k → P (k / 10) ds → P k (ds ++ (48 + k % 10) ∷ [])
-      next k ds h before = λ l g.
-          let whole : k / 10 * 10 + k % 10 ≡ k = omega arith in
-          read-append (Some from) ds ((48 + k % 10) ∷ [])
-          ∙ ap (λ (s : Option Reading). then_byte s (48 + k % 10)) (before (omega arith) (omega arith))
-          ∙ more (k / 10) (k % 10) (omega arith) (omega arith)
-          ∙ ap (λ (i : ℕ). Some (to i)) whole
+    next : (k : ℕ) (ds : List ℕ) → 10 ≤ k → P (k / 10) ds → P k (ds ++ (48 + k % 10) ∷ [])
+    next k ds h before = λ l g.
+        let whole : k / 10 * 10 + k % 10 ≡ k = omega arith in
+        read-append (Some from) ds ((48 + k % 10) ∷ [])
+        ∙ ap (λ (s : Option Reading). then_byte s (48 + k % 10)) (before (omega arith) (omega arith))
+        ∙ more (k / 10) (k % 10) (omega arith) (omega arith)
+        ∙ ap (λ (i : ℕ). Some (to i)) whole
 
 read_hub_bus : (n : ℕ) → IsBus n → read (Some Usb) (decimal n) ≡ Some (RootHub n)
 read_hub_bus n k = read_number Usb (λ i. RootHub i) 999 (omega arith)
@@ -335,8 +338,7 @@ read_name : (t : List ℕ) → IsNodeName t → (s : Reading) × (read (Some Sta
 read_name t (inl h) = (RootHub h.bus, ap (read (Some Start)) h.is ∙ read_hub_bus h.bus h.is_bus, refl)
 read_name t (inr d) =
     let last : (l : ℕ) × (read (Some Mark) (joined d.port d.ports) ≡ Some (Port l)) = read_joined d.port d.ports d.are_ports in
-    let behind_bus : List ℕ = 45 ∷ joined d.port d.ports in
-    (
+    let behind_bus : List ℕ = 45 ∷ joined d.port d.ports in (
       Port last.0,
       ap (read (Some Start)) d.is ∙ read-append (Some Start) (decimal d.bus) behind_bus ∙ ap (λ (s : Option Reading). read s behind_bus) (read_bus d.bus d.is_bus) ∙ last.1,
       refl,

@@ -1,5 +1,5 @@
 -- What the bytes of a node name lead to, one after the other.
-use Rattle.std.specs.Prelude.{ℕ, ◌+◌, ◌-◌, ◌*◌, Bool, true, false, List, [], ◌∷◌, Option, Some, None, nat_eq, nat_le, ◌&&◌, if◌then◌else◌}
+use Rattle.std.specs.Prelude.{ℕ, ◌+◌, ◌-◌, ◌*◌, Bool, true, false, Option, Some, None, nat_eq, nat_le, ◌&&◌, if◌then◌else◌}
 use Rattle.std.specs.Option.{option_map}
 use Rattle.ug_types.specs.declared.reading.Reading.{Reading}
 use Rattle.ug_types.specs.declared.reading.Reading.TheVariants.{Start, U, Us, Usb, RootHub, Bus, Mark, Port}

@@ -13,5 +13,4 @@ pub fn parents_law()
     ensures depth_top { (name : List ℕ) → IsNodeName name → parent_of name ≡ None → depth_of name ≡ 0 }
     ensures depth_above { (name parent : List ℕ) → IsNodeName name → parent_of name ≡ Some parent → depth_of name ≡ depth_of parent + 1 }
     ensures first { (name parent : List ℕ) → IsNodeName name → parent_of name ≡ Some parent → sweep_cmp parent name ≡ Less }
-{
-}
+{}

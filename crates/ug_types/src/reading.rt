@@ -100,5 +100,9 @@ pub fn stop(text: &[u8]) -> Option<usize>
             None => return Some(i),
         }
     }
-    if state.ends_name() { None } else { Some(text.len()) }
+    if state.ends_name() {
+        None
+    } else {
+        Some(text.len())
+    }
 }
