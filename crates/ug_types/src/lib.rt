@@ -8,6 +8,8 @@ mod list;
 mod marks;
 mod memory;
 mod name;
+#[cfg(test)]
+mod name_tests;
 mod no_memory;
 mod reading;
 mod record;

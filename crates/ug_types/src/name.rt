@@ -124,12 +124,13 @@ impl NodeName {
         &self.bytes[..self.len as usize]
     }
 
-    /// Each name is a name of the grammar, of at most 31 bytes.
-    pub fn known(&self)
+    /// The number of its bytes. Each value of this type is a name of the grammar.
+    pub fn len(&self) -> usize
+        ensures value { result ≡ length self.now }
+        ensures short { result ≤ 31 }
         ensures named { IsNodeName self.now }
-        ensures short { length self.now ≤ 31 }
     {
-        let _ = &self.len;
+        self.len as usize
     }
 
     /// How many parents are above: none above a root hub.
