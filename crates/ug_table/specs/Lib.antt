@@ -3,3 +3,4 @@ pub mod Bring
 pub mod State
 pub mod Settle
 pub mod Sweep
+pub mod Laws

@@ -1,9 +1,8 @@
 // The settling of one name.
 ghost use Rattle.std.specs.Prelude.{◌≡◌, ◌≤◌, ◌<◌, ◌+◌, ◌-◌, ◌^◌, vec_len, vec_capacity, OnOk};
-ghost use Rattle.ug_types.specs.Names.{parent_of};
 ghost use Rattle.ug_itree.specs.Tree.{Runs};
 ghost use Rattle.ug_table.specs.State.{state_of, kept_of};
-ghost use Rattle.ug_table.specs.Settle.{stands, kept_standings, tried_standings, admitting, entering, settling, resettling, no_room};
+ghost use Rattle.ug_table.specs.Settle.{stands, kept_standings, tried_standings, admitting, entering, settling, resettling};
 
 use crate::bring::bring;
 use crate::judge::Judge;
@@ -15,13 +14,6 @@ use ug_node::{Binding, Bound, bind};
 use ug_record::record_of;
 use ug_sysfs::{Probe, Sysfs};
 use ug_types::{NoMemory, NodeName};
-
-// The name of a device's parent.
-fn parent_name(name: &NodeName) -> Option<NodeName>
-    ensures { result ≡ parent_of name.now }
-{
-    None
-}
 
 fn is_stands(settled: Settled) -> bool
     ensures { result ≡ stands settled }
@@ -116,7 +108,7 @@ impl Table {
             });
             return Settled::Memory;
         }
-        let controller = parent_name(name).is_none();
+        let controller = name.parent().is_none();
         let (verdict, cause) = judge.verdict(&judged, controller, present, bound.on);
         let number = self.next;
         self.next += 1;
@@ -163,7 +155,7 @@ impl Table {
         ensures spare { out.old.spare ≤ out.new.spare + 4 }
         ensures next { self.new.next ≤ self.old.next + 1 }
     {
-        match bind(alloc, sysfs, name, parent_name(name)) {
+        match bind(alloc, sysfs, name, name.parent()) {
             Binding::Bound(bound) => self.admit(alloc, sysfs, name, present, judge, bound, out),
             Binding::Absent => Settled::Nobody,
             Binding::Vanished => Settled::Nobody,
