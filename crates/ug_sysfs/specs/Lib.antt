@@ -1,1 +1,4 @@
 pub mod Few
+pub mod Reply
+pub mod Devices
+pub mod World
