@@ -1,9 +1,8 @@
 -- What a call does, and what its answer says of the kernel from the call's start to its end.
-use Rattle.std.specs.Prelude.{◌≡◌, ℕ, ◌≤◌, nat_le, Bool, true, false, if◌then◌else◌, ◌⊎◌, List, [], ◌∷◌, ◌++◌, length, Option, Some, None, slice_get}
+use Rattle.std.specs.Prelude.{◌≡◌, ℕ, nat_le, Bool, true, false, if◌then◌else◌, ◌⊎◌, List, [], ◌∷◌, ◌++◌, length, Option, Some, None, slice_get}
 use Rattle.ug_types.specs.Elements.{Has, AllDistinct}
 use Rattle.ug_kernel.specs.declared.device.Device.{Device}
 use Rattle.ug_kernel.specs.declared.device.HeldFile.{HeldFile}
-use Rattle.ug_kernel.specs.declared.device.Effect.{Effect}
 use Rattle.ug_kernel.specs.declared.calls.Control.{Control}
 use Rattle.ug_kernel.specs.declared.calls.Attr.{Attr}
 use Rattle.ug_kernel.specs.declared.calls.Attr.TheVariants as attr
