@@ -17,7 +17,7 @@ pub record IsFit (ds : List Device) (x : Device) : Type 0 where
   pub root : x.parent ≡ None → parent_of x.name ≡ None
   pub few : live_count ds < 65536
 
-live_count_push : (ds : List Device) (x : Device) → live_count (ds ++ x ∷ []) ≤ live_count ds + 1
+pub live_count_push : (ds : List Device) (x : Device) → live_count (ds ++ x ∷ []) ≤ live_count ds + 1
 live_count_push [] x = pick x.gone
   where
     pick : (b : Bool) → (if b then 0 else 1) + 0 ≤ 0 + 1

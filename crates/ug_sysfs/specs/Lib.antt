@@ -2,3 +2,8 @@ pub mod Few
 pub mod Reply
 pub mod Devices
 pub mod World
+pub mod Begins
+pub mod Find
+pub mod Sound
+pub mod Law
+pub mod Count

@@ -1,5 +1,5 @@
 -- A kernel with its script, and what the script fixes.
-use Rattle.std.specs.Prelude.{◌≡◌, ℕ, ◌+◌, Bool, true, false, cond, not, ◌&&◌, ◌||◌, ◌⊎◌, eqb, nat_lt, List, [], ◌∷◌, ◌++◌, length, set, Option, Some, None}
+use Rattle.std.specs.Prelude.{◌≡◌, ℕ, ◌+◌, ◌-◌, ◌^◌, Bool, true, false, cond, not, ◌&&◌, ◌||◌, ◌⊎◌, eqb, nat_lt, List, [], ◌∷◌, ◌++◌, length, set, Option, Some, None}
 use Rattle.std.specs.List.{slice_get}
 use Rattle.ug_kernel.specs.declared.device.Device.{Device}
 use Rattle.ug_kernel.specs.declared.device.HeldFile.{HeldFile}
@@ -37,6 +37,10 @@ pub record World : Type 0 where
   pub faults : ℕ
   pub made : List Made
   pub ran_out : Bool
+
+-- one fault more, up to the greatest number of 64 bits
+abbrev pub one_more : ℕ → ℕ
+one_more n = cond (nat_lt n (2 ^ 64 - 1)) (n + 1) n
 
 abbrev pub moved : Move → List Device → List Device
 moved (Plug d) ds = plugged d ds
@@ -166,7 +170,7 @@ fate_of w = fate w.calls None w.fails
 
 abbrev pub faults_after : Option Bool → ℕ → ℕ
 faults_after None n = n
-faults_after (Some b) n = raised n
+faults_after (Some b) n = one_more n
 
 -- a call that fails is counted
 abbrev pub counted : World → World
@@ -193,7 +197,7 @@ answer_from w call = answering call (effect (fate_of w) call w.kernel).0 (ended 
 
 -- a kernel that has run out fails
 abbrev pub refused : World → World
-refused w = record w { calls = raised w.calls; faults = raised w.faults }
+refused w = record w { calls = raised w.calls; faults = one_more w.faults }
 
 abbrev pub refusing : World → (call : Call) → Answer call × World
 refusing w call = answering call (failure call) (refused w)
@@ -221,12 +225,12 @@ Effects w call reply u =
     (((reply ≡ (effect (fate_of w) call w.kernel).0) × (u ≡ with_kernel (counted w) (effect (fate_of w) call w.kernel).1))
     ⊎ ((IsMemory call reply × (u ≡ w) × (fate_of w ≡ None))
     ⊎ ((reply ≡ failure call) × (u.ran_out ≡ true) × (u.calls ≡ w.calls))))
-    × (u.faults ≡ cond (is_failure call reply) (raised w.faults) w.faults)
+    × (u.faults ≡ cond (is_failure call reply) (one_more w.faults) w.faults)
 
 -- the call is listed, or there is no memory for that. A call that then fails is counted
 abbrev pub Ends : World → Made → Bool → World → Type 0
 Ends w made true u = u ≡ noted (made ∷ []) w
-Ends w made false u = (u.ran_out ≡ true) × (u.calls ≡ w.calls) × (u.faults ≡ cond (is_failed made.kind) w.faults (raised w.faults))
+Ends w made false u = (u.ran_out ≡ true) × (u.calls ≡ w.calls) × (u.faults ≡ cond (is_failed made.kind) w.faults (one_more w.faults))
 
 -- a write that has its effect
 abbrev pub Puts : World → ℕ → Write → Wrote → World → Type 0
@@ -257,7 +261,7 @@ pub record Loses (s : World) (call : Call) (a : Answer call) (t : World) : Type 
   pub listed : IsListed call
   pub out : t.ran_out ≡ true
   pub call_counted : t.calls ≡ raised s.calls
-  pub fault_counted : t.faults ≡ raised s.faults
+  pub fault_counted : t.faults ≡ one_more s.faults
   pub answer : a ≡ told_as call (failure call) t
 
 -- the script's answer; or want of memory

@@ -1,7 +1,7 @@
 // Devices come and go.
-ghost use Rattle.std.specs.Prelude.{◌≡◌, ◌+◌, ◌<◌, ◌⊎◌, length, take, drop, vec_len, vec_capacity, IfOk};
+ghost use Rattle.std.specs.Prelude.{◌≡◌, ◌+◌, ◌<◌, ◌≤◌, ◌⊎◌, length, take, drop, vec_len, vec_capacity, IfOk};
 ghost use Rattle.ug_kernel.specs.Kernel.{live_count};
-ghost use Rattle.ug_kernel.specs.Called.{read_of, within, text_within};
+ghost use Rattle.ug_kernel.specs.Called.{read_of, within, text_within, value_after};
 ghost use Rattle.ug_sysfs.specs.Devices.{find, plugged, unplugged, falls, fall};
 ghost use Rattle.ug_sysfs.specs.World.{live_names, live_held, switched};
 
@@ -38,8 +38,8 @@ fn is_gone(devices: &[Device], parent: Option<usize>) -> bool
     }
 }
 
-/// The target goes, and each device after it whose parent is gone before it.
-pub fn unplug(devices: &mut [Device], target: usize)
+// Marks the target, and each device after it whose parent is marked.
+fn mark(devices: &mut [Device], target: usize)
     ensures { devices.new ≡ fall target (take target devices.old) (drop target devices.old) }
 {
     for i in target..devices.len() {
@@ -48,6 +48,14 @@ pub fn unplug(devices: &mut [Device], target: usize)
             devices[i].gone = true;
         }
     }
+}
+
+/// The target goes, and what is below it.
+pub fn unplug(devices: &mut [Device], target: usize)
+    ensures devices { devices.new ≡ fall target (take target devices.old) (drop target devices.old) }
+    ensures few { live_count devices.new ≤ live_count devices.old }
+{
+    mark(devices, target);
 }
 
 // How many devices are live.
@@ -64,10 +72,14 @@ fn count_live(devices: &[Device]) -> usize
 }
 
 /// A device is born, if it can be. There is room for it.
+#[tactic(auto, using(ug_kernel::proofs::Sounds::live_count_push))]
 pub fn plug(devices: &mut Vec<Device>, device: Device)
-    requires { vec_len devices.old < vec_capacity devices.old }
+    requires room { vec_len devices.old < vec_capacity devices.old }
+    requires few { live_count devices.old.items ≤ 65536 }
     ensures devices { devices.new.items ≡ plugged device devices.old.items }
     ensures capacity { vec_capacity devices.new ≡ vec_capacity devices.old }
+    ensures length { length devices.new.items ≤ length devices.old.items + 1 }
+    ensures few { live_count devices.new.items ≤ 65536 }
 {
     if count_live(devices) >= MOST {
         return;
@@ -87,8 +99,10 @@ pub fn plug(devices: &mut Vec<Device>, device: Device)
 }
 
 /// The names of the live devices.
+#[tactic(auto, using(crate::specs::Find::length_names))]
 pub fn live_names(alloc: Global, devices: &[Device]) -> Result<List<NodeName>, NoMemory>
-    ensures { IfOk result (λ names. names ≡ live_names devices.now) }
+    ensures names { IfOk result (λ names. names ≡ live_names devices.now) }
+    ensures number { IfOk result (λ names. length names ≡ live_count devices.now) }
 {
     let mut names = List::new(alloc);
     for device in devices {
@@ -146,15 +160,30 @@ pub fn live_held(devices: &[Device], held: &[HeldFile], number: usize) -> Option
     }
 }
 
-/// A write has its effect on a device's value.
-pub fn switch(devices: &mut [Device], i: usize, write: Write)
+// The value after a write.
+fn value_after(write: Write, was: bool) -> bool
+    ensures { result ≡ value_after write was }
+{
+    match write {
+        Write::On => true,
+        Write::Off => false,
+        Write::Remove => was,
+    }
+}
+
+// The device has that write's value.
+fn set_value(devices: &mut [Device], i: usize, write: Write)
     ensures { devices.new ≡ switched write i devices.old }
 {
     if i < devices.len() {
-        match write {
-            Write::On => devices[i].on = true,
-            Write::Off => devices[i].on = false,
-            Write::Remove => {}
-        }
+        devices[i].on = value_after(write, devices[i].on);
     }
+}
+
+/// A write has its effect on a device's value.
+pub fn switch(devices: &mut [Device], i: usize, write: Write)
+    ensures devices { devices.new ≡ switched write i devices.old }
+    ensures few { live_count devices.new ≡ live_count devices.old }
+{
+    set_value(devices, i, write);
 }

@@ -2,6 +2,9 @@
 ghost use Rattle.std.specs.Prelude.{◌≡◌, ◌++◌, ◌∷◌, [], true, false, List, length, IfOk, OnOk, OnErr, MatchOption};
 ghost use Rattle.ug_kernel.specs.Calls.{Names, Open, Read, Ask_alive, Put};
 ghost use Rattle.ug_sysfs.specs.Devices.{plugged, unplugged};
+ghost use Rattle.ug_sysfs.specs.Count.{counts_each};
+ghost use Rattle.ug_sysfs.specs.Few.{HasFew};
+ghost use Rattle.ug_sysfs.specs.Law.{does_what_it_may, begins_afresh};
 ghost use Rattle.ug_sysfs.specs.World.{Gives, Effects, RunsOut, Puts, Ends, Enters, begun, over, fate_of, counted, told};
 
 use crate::devices::{find, live_held, live_names, plug, read_file, switch, unplug};
@@ -9,7 +12,7 @@ use crate::made::{
     Asked, Made, kind_of_listing, kind_of_opened, kind_of_probe, kind_of_read, kind_of_wrote,
 };
 use crate::made::Kind;
-use crate::schedule::{fate, happen, happen_all};
+use crate::schedule::{fate, happen, happen_all, one_more};
 use crate::script::{Failing, Move, Scheduled};
 use crate::sysfs::Sysfs;
 use std::alloc::Global;
@@ -84,6 +87,7 @@ impl SimKernel {
 
     /// A device is born. Its `parent` and `gone` are the kernel's to say. It isn't where its name is live,
     /// where its parent isn't, or where 65,536 devices are.
+    #[tactic(auto, using(crate::proofs::Plugs::plugs_le))]
     pub fn plug(&mut self, device: Device) -> Result<(), NoMemory>
         ensures ok { OnOk result (self.new ≡ record self.old { kernel = record self.old.kernel { devices = plugged device self.old.kernel.devices } }) }
         ensures err { OnErr result (self.new ≡ self.old) }
@@ -105,6 +109,7 @@ impl SimKernel {
 
     /// A move that is to come at a call of the event, before its effect or after it. Moves happen in the order
     /// in which they are scheduled; one whose call is past happens at the next.
+    #[tactic(auto, using(crate::proofs::Plugs::plugs_le))]
     pub fn schedule(&mut self, call: u64, after: bool, action: Move) -> Result<(), NoMemory>
         ensures ok { OnOk result (self.new ≡ record self.old { moves = self.old.moves ++ record { call = call; after = after; action = action } ∷ [] }) }
         ensures err { OnErr result (self.new ≡ self.old) }
@@ -177,7 +182,7 @@ impl SimKernel {
     {
         self.calls = self.calls.saturating_add(1);
         if self.ran_out {
-            self.faults = self.faults.saturating_add(1);
+            self.faults = one_more(self.faults);
             return false;
         }
         happen(&mut self.devices, &mut self.moves, self.calls, false);
@@ -194,7 +199,7 @@ impl SimKernel {
             Err(_) => {
                 self.ran_out = true;
                 if !matches!(&kind, Kind::Failed) {
-                    self.faults = self.faults.saturating_add(1);
+                    self.faults = one_more(self.faults);
                 }
                 false
             }
@@ -208,13 +213,14 @@ impl SimKernel {
     {
         let fate = fate(&self.fails, self.calls);
         if fate.is_some() {
-            self.faults = self.faults.saturating_add(1);
+            self.faults = one_more(self.faults);
         }
         fate
     }
 
     fn list_now(&mut self, alloc: Global) -> Listing
-        ensures { Effects self.old Names result self.new }
+        ensures effects { Effects self.old Names result self.new }
+        ensures few { HasFew result }
     {
         match self.fate() {
             Some(_) => Listing::Failed,
@@ -304,7 +310,7 @@ impl SimKernel {
             None => match self.put(held, what) {
                 Some(answer) => answer,
                 None => {
-                    self.faults = self.faults.saturating_add(1);
+                    self.faults = one_more(self.faults);
                     Wrote::Failed
                 }
             },
@@ -323,11 +329,11 @@ impl Sysfs for SimKernel {
 
     ghost faults = { λ w. w.faults };
 
-    ghost did = { did };
+    ghost did = { does_what_it_may };
 
-    ghost counted = { counts };
+    ghost counted = { counts_each };
 
-    ghost began = { began };
+    ghost began = { begins_afresh };
 
     fn begin(&mut self) {
         self.calls = 0;
