@@ -1,5 +1,5 @@
 -- Runs of one tree after another.
-use Rattle.std.proofs.Common.{refl, sym, subst}
+use Rattle.std.proofs.Common.{refl, subst}
 use Rattle.ug_kernel.specs.Calls.{Call, Answer}
 use Rattle.ug_itree.specs.Tree.{Prog, Return, Ask, Room, Runs, then}
 use Rattle.ug_itree.specs.Paths.{Asked, Had, Paths, Chain}

@@ -1,16 +1,6 @@
 -- The calls of a run, in order.
-use Rattle.std.specs.Prelude.{◌≡◌, ℕ, Bool, List, [], ◌∷◌}
-use Rattle.ug_kernel.specs.Calls.{Call, Names, Open, Read, Ask_alive, Put, Close, Answer, Told}
-use Rattle.ug_kernel.specs.declared.calls.Listing.{Listing}
-use Rattle.ug_kernel.specs.declared.calls.Listing.TheVariants as listing
-use Rattle.ug_kernel.specs.declared.calls.Opened.{Opened}
-use Rattle.ug_kernel.specs.declared.calls.Opened.TheVariants as opened
-use Rattle.ug_kernel.specs.declared.calls.ReadOut.{ReadOut}
-use Rattle.ug_kernel.specs.declared.calls.ReadOut.TheVariants as out
-use Rattle.ug_kernel.specs.declared.calls.Probe.{Probe}
-use Rattle.ug_kernel.specs.declared.calls.Probe.TheVariants as probe
-use Rattle.ug_kernel.specs.declared.calls.Wrote.{Wrote}
-use Rattle.ug_kernel.specs.declared.calls.Wrote.TheVariants as wrote
+use Rattle.std.specs.Prelude.{◌≡◌, Bool, List, [], ◌∷◌}
+use Rattle.ug_kernel.specs.Calls.{Call, Answer}
 use Rattle.ug_itree.specs.Tree.{Prog, Return, Ask, Room}
 
 -- a call with its answer

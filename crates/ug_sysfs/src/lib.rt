@@ -13,4 +13,6 @@ pub use made::{Asked, Kind, Made};
 pub use script::{Failing, Move, Scheduled};
 pub use sim::SimKernel;
 pub use sysfs::Sysfs;
-pub use ug_kernel::{Attr, Control, Device, Effect, HeldFile, Listing, Opened, Probe, ReadOut, Write, Wrote};
+pub use ug_kernel::{
+    Attr, Control, Device, Effect, HeldFile, Listing, Opened, Probe, ReadOut, Write, Wrote,
+};

@@ -2,3 +2,4 @@ pub mod Elements
 pub mod Ends
 pub mod Names
 pub mod Padded
+pub mod Sweep
