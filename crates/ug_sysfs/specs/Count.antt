@@ -1,19 +1,17 @@
 -- A script's calls are counted, and so are those that fail.
-use Rattle.std.proofs.Common.{◌≡◌, ℕ, ◌+◌, ◌-◌, ◌^◌, ◌<◌, ◌≤◌, ◌⊎◌, Bool, true, false, cond, if◌then◌else◌, nat_lt, nat_le, List, length, Option, Some, None, refl, sym, ◌∙◌, ap, subst, arith, inl, inr}
-use Rattle.std.proofs.lemmas.Bool.{both_ways, lt-ltb, ltb-true}
+use Rattle.std.proofs.Common.{◌≡◌, ℕ, ◌+◌, ◌-◌, ◌^◌, ◌<◌, ◌≤◌, Bool, true, false, cond, if◌then◌else◌, nat_lt, nat_le, List, length, Option, Some, None, refl, sym, ap, subst, arith, inl, inr}
+use Rattle.std.proofs.lemmas.Bool.{both_ways, lt-ltb}
 use Rattle.std.specs.List.{slice_get}
 use Rattle.ug_kernel.specs.declared.device.Device.{Device}
 use Rattle.ug_kernel.specs.declared.calls.Attr.{Attr}
 use Rattle.ug_kernel.specs.declared.calls.Attr.TheVariants as attr
-use Rattle.ug_kernel.specs.declared.calls.Control.{Control}
-use Rattle.ug_kernel.specs.declared.calls.Write.{Write}
 use Rattle.ug_kernel.specs.declared.calls.ReadOut.TheVariants as out
 use Rattle.ug_kernel.specs.Calls.{Call, Names, Open, Read, Ask_alive, Put, Close, Closing, Answer, raised, failed_listing, failed_open, failed_read, failed_probe, failed_put, Counted, Counts}
 use Rattle.ug_kernel.specs.Kernel.{Kernel}
 use Rattle.ug_kernel.specs.Called.{read_of, within, text_within}
 use Rattle.ug_sysfs.specs.Devices.{find}
 use Rattle.ug_sysfs.specs.Reply.{Reply, failure, is_failure, IsMemory}
-use Rattle.ug_sysfs.specs.World.{World, one_more, opened_at, read_from, read_at, live_held, alive_of, probed_at, put_at, act, effect, entered, ended, fate_of, faults_after, told_as, answer_from, refusing, answer_unless, answer_of, IsListed, Wants, Loses, Gives}
+use Rattle.ug_sysfs.specs.World.{World, one_more, opened_at, read_from, read_at, live_held, alive_of, probed_at, put_at, act, effect, entered, fate_of, faults_after, told_as, answer_from, refusing, answer_unless, answer_of, IsListed, Gives}
 
 more_within : (n : ℕ) → (n ≤ one_more n) × (one_more n ≤ n + 1)
 more_within n =

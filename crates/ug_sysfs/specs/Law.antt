@@ -1,6 +1,6 @@
 -- What a script answers is what the kernel may answer.
-use Rattle.std.proofs.Common.{◌≡◌, ℕ, zero, suc, ◌+◌, ◌-◌, ◌^◌, ◌<◌, ◌≤◌, ◌⊎◌, Bool, true, false, cond, min, List, [], ◌∷◌, ◌++◌, length, Option, Some, None, refl, sym, ◌∙◌, ap, subst, arith, inl, inr, length-set}
-use Rattle.std.proofs.lemmas.Bool.{both_ways, cond-true, cond-false}
+use Rattle.std.proofs.Common.{◌≡◌, ℕ, ◌<◌, Bool, true, false, cond, List, length, Option, Some, None, refl, sym, ◌∙◌, ap, subst, arith, inl, inr, length-set}
+use Rattle.std.proofs.lemmas.Bool.{both_ways}
 use Rattle.std.proofs.lemmas.Option.{slice_get_within, none-some, same_Some}
 use Rattle.std.specs.List.{slice_get}
 use Rattle.ug_types.specs.Elements.{Has}
@@ -12,17 +12,17 @@ use Rattle.ug_kernel.specs.declared.calls.Attr.TheVariants as attr
 use Rattle.ug_kernel.specs.declared.calls.Write.{Write}
 use Rattle.ug_kernel.specs.declared.calls.ReadOut.{ReadOut}
 use Rattle.ug_kernel.specs.declared.calls.ReadOut.TheVariants as out
-use Rattle.ug_kernel.specs.Calls.{Call, Names, Open, Read, Ask_alive, Put, Close, Closing, Closed, Answer, raised}
-use Rattle.ug_kernel.specs.Kernel.{Kernel, Live, IsKernel, Stays, Begins, Moves}
-use Rattle.ug_kernel.specs.Called.{Lived, NoneLived, read_of, within, text_within, value_after, Holds, IsOpened, IsWritten, Does, IsGoneAt, IsAlive, IsFile, says_read, Says, Called, Follows}
+use Rattle.ug_kernel.specs.Calls.{Call, Names, Open, Read, Ask_alive, Put, Close, Closing, Answer, raised}
+use Rattle.ug_kernel.specs.Kernel.{Kernel, Live, IsKernel, Stays, Moves}
+use Rattle.ug_kernel.specs.Called.{NoneLived, read_of, within, text_within, value_after, IsWritten, Does, IsGoneAt, IsAlive, IsFile, says_read, Says, Called, Follows}
 use Rattle.ug_kernel.proofs.Places.{at_set_same, at_set_other}
 use Rattle.ug_kernel.proofs.Stayed.{live_back, lived_at, unmoving}
 use Rattle.ug_kernel.proofs.Sounds.{sound_set, held_push, kernel_moves}
 use Rattle.ug_sysfs.specs.Devices.{find}
 use Rattle.ug_sysfs.specs.Reply.{Reply, failure, IsMemory}
-use Rattle.ug_sysfs.specs.World.{World, happen, opened_at, read_from, read_at, live_held, live_names, probed_at, put_at, act, hidden, effect, shift, entered, ended, fate_of, counted, with_kernel, told_as, answer_from, refusing, answer_unless, answer_of, IsListed, Wants, Loses, Gives, begun, told}
+use Rattle.ug_sysfs.specs.World.{World, opened_at, read_from, read_at, live_held, live_names, probed_at, put_at, act, hidden, effect, shift, entered, ended, fate_of, counted, with_kernel, told_as, answer_from, answer_unless, Wants, Gives, begun, told}
 use Rattle.ug_sysfs.specs.Begins.{begins_happen}
-use Rattle.ug_sysfs.specs.Find.{Found, find_some, find_none, listed_live, distinct_names, HeldLive, live_held_some, live_held_none}
+use Rattle.ug_sysfs.specs.Find.{find_some, find_none, listed_live, distinct_names, HeldLive, live_held_some, live_held_none}
 use Rattle.ug_sysfs.specs.Sound.{sound_happen}
 
 -- what holds of the effect of a call

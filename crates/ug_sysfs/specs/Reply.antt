@@ -1,8 +1,5 @@
 -- The answers themselves, and their kinds.
-use Rattle.std.specs.Prelude.{◌≡◌, ℕ, Bool, true, false, List, [], ◌∷◌, ◌++◌}
-use Rattle.ug_kernel.specs.declared.calls.Control.{Control}
-use Rattle.ug_kernel.specs.declared.calls.Attr.{Attr}
-use Rattle.ug_kernel.specs.declared.calls.Write.{Write}
+use Rattle.std.specs.Prelude.{◌≡◌, Bool, true, false, List, [], ◌∷◌}
 use Rattle.ug_kernel.specs.declared.calls.Listing.{Listing}
 use Rattle.ug_kernel.specs.declared.calls.Listing.TheVariants as listing
 use Rattle.ug_kernel.specs.declared.calls.Opened.{Opened}
@@ -14,7 +11,6 @@ use Rattle.ug_kernel.specs.declared.calls.Probe.TheVariants as probe
 use Rattle.ug_kernel.specs.declared.calls.Wrote.{Wrote}
 use Rattle.ug_kernel.specs.declared.calls.Wrote.TheVariants as wrote
 use Rattle.ug_kernel.specs.Calls.{Call, Names, Open, Read, Ask_alive, Put, Close, Closing, Closed, failed_listing, failed_open, failed_read, failed_probe, failed_put}
-use Rattle.ug_sysfs.specs.declared.made.Asked.{Asked}
 use Rattle.ug_sysfs.specs.declared.made.Asked.TheVariants as asked
 use Rattle.ug_sysfs.specs.declared.made.Kind.{Kind}
 use Rattle.ug_sysfs.specs.declared.made.Kind.TheVariants as kind

@@ -1,22 +1,22 @@
 -- The moves of a script keep a kernel sound.
-use Rattle.std.proofs.Common.{◌≡◌, ℕ, zero, suc, ◌+◌, ◌<◌, ◌≤◌, ◌⊎◌, Bool, true, false, ◌||◌, cond, eqb, nat_lt, List, [], ◌∷◌, ◌++◌, length, take, drop, Option, Some, None, refl, sym, ◌∙◌, ap, subst, arith, inl, inr, length-append}
+use Rattle.std.proofs.Common.{◌≡◌, ℕ, ◌+◌, ◌<◌, ◌≤◌, Bool, true, false, ◌||◌, cond, eqb, nat_lt, List, [], ◌∷◌, ◌++◌, length, take, drop, Option, Some, None, refl, sym, ◌∙◌, ap, subst, arith, inl, inr, length-append}
 use Rattle.std.proofs.lemmas.Bool.{or_parts, ltb-true}
 use Rattle.std.proofs.lemmas.List.{take-append-drop}
 use Rattle.std.proofs.lemmas.Option.{none-some, same_Some}
 use Rattle.std.specs.List.{slice_get}
 use Rattle.ug_types.specs.Names.{parent_of}
 use Rattle.ug_kernel.specs.declared.device.Device.{Device}
-use Rattle.ug_kernel.specs.Kernel.{Kernel, Live, live_count, IsSound, IsKernel, Begins}
+use Rattle.ug_kernel.specs.Kernel.{Kernel, Live, live_count, IsSound, IsKernel}
 use Rattle.ug_kernel.proofs.Places.{at_push, in_front}
 use Rattle.ug_kernel.proofs.Stayed.{live_count_begins}
-use Rattle.ug_kernel.proofs.Sounds.{IsFit, live_count_push, sound_push, Kept, sound_fewer, kernel_moves}
+use Rattle.ug_kernel.proofs.Sounds.{sound_push, Kept, sound_fewer, kernel_moves}
 use Rattle.ug_sysfs.specs.declared.script.Move.{Move}
 use Rattle.ug_sysfs.specs.declared.script.Move.TheVariants.{Plug, Unplug}
 use Rattle.ug_sysfs.specs.declared.script.Scheduled.{Scheduled}
-use Rattle.ug_sysfs.specs.Devices.{find, gone_of, felled, falls, fall, unplug_at, unplugged, born, born_under, placed, plug_at, plugged}
+use Rattle.ug_sysfs.specs.Devices.{find, gone_of, felled, falls, fall, unplug_at, unplugged, born_under, placed, plug_at, plugged}
 use Rattle.ug_sysfs.specs.World.{moved, due, happen, happen_all}
 use Rattle.ug_sysfs.specs.Begins.{begins_unplug, plugged_moves, unplugged_moves, happened_moves}
-use Rattle.ug_sysfs.specs.Find.{Found, find_some, find_none}
+use Rattle.ug_sysfs.specs.Find.{find_some, find_none}
 
 kept_push : (target : ℕ) (bs : List Device) (d : Device) → Kept bs → Kept (bs ++ felled target bs d ∷ [])
 kept_push target bs d k = record { none = none }

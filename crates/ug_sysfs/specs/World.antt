@@ -6,7 +6,6 @@ use Rattle.ug_kernel.specs.declared.device.HeldFile.{HeldFile}
 use Rattle.ug_kernel.specs.declared.calls.Control.{Control}
 use Rattle.ug_kernel.specs.declared.calls.Attr.{Attr}
 use Rattle.ug_kernel.specs.declared.calls.Write.{Write}
-use Rattle.ug_kernel.specs.declared.calls.Listing.{Listing}
 use Rattle.ug_kernel.specs.declared.calls.Listing.TheVariants as listing
 use Rattle.ug_kernel.specs.declared.calls.Opened.{Opened}
 use Rattle.ug_kernel.specs.declared.calls.Opened.TheVariants as opened
@@ -23,7 +22,6 @@ use Rattle.ug_sysfs.specs.declared.script.Failing.{Failing}
 use Rattle.ug_sysfs.specs.declared.script.Move.{Move}
 use Rattle.ug_sysfs.specs.declared.script.Move.TheVariants.{Plug, Unplug}
 use Rattle.ug_sysfs.specs.declared.script.Scheduled.{Scheduled}
-use Rattle.ug_sysfs.specs.declared.made.Kind.{Kind}
 use Rattle.ug_sysfs.specs.declared.made.Made.{Made}
 use Rattle.ug_sysfs.specs.Devices.{find, plugged, unplugged}
 use Rattle.ug_sysfs.specs.Reply.{Reply, failure, is_failure, is_failed, IsMemory, listed}

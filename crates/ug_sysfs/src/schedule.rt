@@ -83,5 +83,9 @@ pub fn fate(fails: &[Failing], call: u64) -> Option<bool>
 pub fn one_more(faults: u64) -> u64
     ensures { result ≡ one_more faults }
 {
-    if faults < u64::MAX { faults + 1 } else { faults }
+    if faults < u64::MAX {
+        faults + 1
+    } else {
+        faults
+    }
 }

@@ -9,9 +9,8 @@ ghost use Rattle.ug_sysfs.specs.World.{Gives, Effects, RunsOut, Puts, Ends, Ente
 
 use crate::devices::{find, live_held, live_names, plug, read_file, switch, unplug};
 use crate::made::{
-    Asked, Made, kind_of_listing, kind_of_opened, kind_of_probe, kind_of_read, kind_of_wrote,
+    Asked, Kind, Made, kind_of_listing, kind_of_opened, kind_of_probe, kind_of_read, kind_of_wrote,
 };
-use crate::made::Kind;
 use crate::schedule::{fate, happen, happen_all, one_more};
 use crate::script::{Failing, Move, Scheduled};
 use crate::sysfs::Sysfs;
@@ -92,8 +91,7 @@ impl SimKernel {
         ensures ok { OnOk result (self.new ≡ record self.old { kernel = record self.old.kernel { devices = plugged device self.old.kernel.devices } }) }
         ensures err { OnErr result (self.new ≡ self.old) }
     {
-        self.devices
-            .reserve(self.moves.len().saturating_add(1))?;
+        self.devices.reserve(self.moves.len().saturating_add(1))?;
         plug(&mut self.devices, device);
         Ok(())
     }
@@ -114,8 +112,7 @@ impl SimKernel {
         ensures ok { OnOk result (self.new ≡ record self.old { moves = self.old.moves ++ record { call = call; after = after; action = action } ∷ [] }) }
         ensures err { OnErr result (self.new ≡ self.old) }
     {
-        self.devices
-            .reserve(self.moves.len().saturating_add(1))?;
+        self.devices.reserve(self.moves.len().saturating_add(1))?;
         self.moves.push_back(Scheduled {
             call,
             after,
