@@ -7,3 +7,5 @@ pub mod Find
 pub mod Sound
 pub mod Law
 pub mod Count
+pub mod Below
+pub mod Birth

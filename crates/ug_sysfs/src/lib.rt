@@ -2,6 +2,7 @@
 #![tactic(auto)]
 
 mod devices;
+mod laws;
 mod made;
 mod parent;
 mod schedule;
@@ -9,6 +10,7 @@ mod script;
 mod sim;
 mod sysfs;
 
+pub use laws::{event_law, fate_law, plug_law, ran_out_law, unplug_law};
 pub use made::{Asked, Kind, Made};
 pub use script::{Failing, Move, Scheduled};
 pub use sim::SimKernel;
