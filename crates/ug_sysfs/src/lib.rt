@@ -18,3 +18,6 @@ pub use sysfs::Sysfs;
 pub use ug_kernel::{
     Attr, Control, Device, Effect, HeldFile, Listing, Opened, Probe, ReadOut, Write, Wrote,
 };
+
+#[cfg(test)]
+mod tests;
