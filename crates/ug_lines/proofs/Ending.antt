@@ -1,11 +1,11 @@
 -- How a text ends.
-use Rattle.std.proofs.Common.{◌≡◌, ℕ, ◌+◌, List, [], ◌++◌, Option, None, Some, ◌⊎◌, inl, inr, refl, sym, ap, subst, ◌∙◌, append_assoc}
+use Rattle.std.proofs.Common.{◌≡◌, ℕ, ◌+◌, List, [], ◌∷◌, ◌++◌, Option, None, Some, ◌⊎◌, inl, inr, refl, sym, ap, subst, ◌∙◌, append_assoc}
 use Rattle.std.proofs.lemmas.List.{append-nil}
 use Rattle.std.proofs.KnownBytes.{Appends-nil, Appends-trans, Appends-kept, Consumes-nil, Consumes-trans, Consumes-kept}
 use Rattle.std.specs.Io.KnownBytes.{Appends, Consumes, Keeps, IsAtEnd}
 use Rattle.ug_lines.specs.Lines.{whole_from, rest_from, last_line, lines_from, lines_of}
-use Rattle.ug_lines.specs.Fold.{Fault, BadLine, InputTooLong, Outcome, Stage, Going, Halted, plays, machine_of, closed_text, closed_fault, whole_text, fault_of, bad_line, read_fault, no_memory}
-use Rattle.ug_lines.specs.Runs.{Shows, Stops, Fed, Feeds, Last, Lasts, Closes, Front, Rejected, Wrote, Tells, words_of, ended_of, Says, Stands, Reads, Finishes, Replays}
+use Rattle.ug_lines.specs.Fold.{Fault, BadLine, InputTooLong, Outcome, Stage, Going, Halted, plays, machine_of, closed_text, closed_fault, whole_text, fault_of, bad_line, input_too_long, read_fault, no_memory}
+use Rattle.ug_lines.specs.Runs.{Shows, Stops, Fed, Feeds, Last, Lasts, Closes, Front, Rejected, Wrote, Cut, Tells, words_of, ended_of, Says, Stands, Reads, Finishes, Replays}
 use Rattle.ug_lines.specs.declared.machine.Ran.{Ran}
 use Rattle.ug_lines.specs.declared.machine.Ran.TheVariants as ran
 use Rattle.ug_lines.specs.declared.call.Ended.{Ended}
@@ -20,39 +20,53 @@ at_end-nil (Some xs) more h e = cc
 same_end : (taken : List ℕ) (left : Option (List ℕ)) (more : List ℕ) → IsAtEnd left → left ≡ Some more → taken ++ more ≡ taken
 same_end taken left more e k = ap (λ (x : List ℕ). taken ++ x) (at_end-nil left more e k) ∙ append-nil taken
 
-cut_same : (text words added rest r : List ℕ) → words ≡ added ++ rest → (text ++ words) ++ r ≡ (text ++ added) ++ (rest ++ r)
-cut_same text words added rest r e = ap (λ (ws : List ℕ). (text ++ ws) ++ r) e ∙ simp append_assoc
-
 regroup : (a b c d : List ℕ) → ((a ++ b) ++ c) ++ d ≡ a ++ ((b ++ c) ++ d)
 regroup a b c d = simp append_assoc
 
--- nothing stands behind a line whose text was cut
-none_behind : (text added rest : List ℕ) → text ++ (added ++ rest) ≡ ((text ++ added) ++ []) ++ rest
-none_behind text added rest = simp (append_assoc, append-nil)
+no_words : (added rest : List ℕ) → [] ≡ added ++ rest → added ≡ []
+no_words [] rest e = refl
+no_words (b ∷ added) rest e = cc
 
 module _ {M : Type 0} (step : M → List ℕ → Outcome M) (closing : M → Option (List ℕ)) where
+  -- what stands where a step behind n lines ended so, before its fault line
+  abbrev Reached : (m0 : M) (taken : List ℕ) (left : Option (List ℕ)) (out : List ℕ) (n : ℕ) (m : M) → Ran → Type 0
+  Reached m0 taken left out n m ran.Done = Wrote step closing m0 taken left out m Done
+  Reached m0 taken left out n m ran.Bad = Rejected step closing m0 taken left (out ++ bad_line (n + 1)) m BadLine
+  Reached m0 taken left out n m ran.TooLong = Rejected step closing m0 taken left (out ++ input_too_long) m InputTooLong
+  Reached m0 taken left out n m ran.SinkFailed = Tells step closing m0 taken left out m WriteFault
+  Reached m0 taken left out n m ran.Memory = (next : M) × Front step m0 taken left out next
+
+  -- a fault line goes behind the text, or a front of it
+  said : (m0 : M) (taken : List ℕ) (left : Option (List ℕ)) (text words added : List ℕ) (m : M) (wanted result : Ended)
+      → Tells step closing m0 taken left (text ++ words) m wanted
+      → ((rest : List ℕ) → words ≡ added ++ rest → Tells step closing m0 taken left (text ++ added) m WriteFault)
+      → ((result ≡ wanted) × (added ≡ words)) ⊎ ((result ≡ WriteFault) × ((rest : List ℕ) × (words ≡ added ++ rest)))
+      → Tells step closing m0 taken left (text ++ added) m result
+  said m0 taken left text words added m wanted result h k (inl (e, w)) =
+      subst (λ (r : Ended). Tells step closing m0 taken left (text ++ added) m r) (sym e)
+      (subst (λ (ws : List ℕ). Tells step closing m0 taken left (text ++ ws) m wanted) (sym w) h)
+  said m0 taken left text words added m wanted result h k (inr (e, (rest, w))) =
+      subst (λ (r : Ended). Tells step closing m0 taken left (text ++ added) m r) (sym e) (k rest w)
+
   cut-wrote : (m0 : M) (taken : List ℕ) (left : Option (List ℕ)) (text words added rest : List ℕ) (m : M) (e : Ended) → words ≡ added ++ rest → Wrote step closing m0 taken left (text ++ words) m e → Wrote step closing m0 taken left ((text ++ added) ++ rest) m e
   cut-wrote m0 taken left text words added rest m e w h = subst (λ (t : List ℕ). Wrote step closing m0 taken left t m e) (ap (λ (ws : List ℕ). text ++ ws) w ∙ sym (append_assoc text added rest)) h
 
-  -- a front of an output
-  cut-tells : (m0 : M) (taken : List ℕ) (left : Option (List ℕ)) (text words added rest : List ℕ) (m : M) (wanted : Ended) → words ≡ added ++ rest → Tells step closing m0 taken left (text ++ words) m wanted → Tells step closing m0 taken left (text ++ added) m WriteFault
-  cut-tells m0 taken left text words added rest m Done w h = (Done, rest, cut-wrote m0 taken left text words added rest m Done w h)
-  cut-tells m0 taken left text words added rest m Bad w h = (Bad, rest, cut-wrote m0 taken left text words added rest m Bad w h)
-  cut-tells m0 taken left text words added rest m TooLong w h = (TooLong, rest, cut-wrote m0 taken left text words added rest m TooLong w h)
-  cut-tells m0 taken left text words added rest m ReadFault w h = (ReadFault, rest, cut-wrote m0 taken left text words added rest m ReadFault w h)
-  cut-tells m0 taken left text words added rest m WriteFault w (e, r, h) = (e, rest ++ r, subst (λ (t : List ℕ). Wrote step closing m0 taken left t m e) (cut_same text words added rest r w) h)
-  cut-tells m0 taken left text words added rest m Memory w h = (Memory, rest, cut-wrote m0 taken left text words added rest m Memory w h)
-
-  -- a fault line goes behind the text
-  said : (m0 : M) (taken : List ℕ) (left : Option (List ℕ)) (text words added : List ℕ) (m : M) (wanted result : Ended)
-      → Tells step closing m0 taken left (text ++ words) m wanted
-      → ((result ≡ wanted) × (added ≡ words)) ⊎ ((result ≡ WriteFault) × ((rest : List ℕ) × (words ≡ added ++ rest)))
-      → Tells step closing m0 taken left (text ++ added) m result
-  said m0 taken left text words added m wanted result h (inl (e, w)) =
-      subst (λ (r : Ended). Tells step closing m0 taken left (text ++ added) m r) (sym e)
-      (subst (λ (ws : List ℕ). Tells step closing m0 taken left (text ++ ws) m wanted) (sym w) h)
-  said m0 taken left text words added m wanted result h (inr (e, (rest, w))) =
-      subst (λ (r : Ended). Tells step closing m0 taken left (text ++ added) m r) (sym e) (cut-tells m0 taken left text words added rest m wanted w h)
+  concluded : (m0 : M) (taken : List ℕ) (left : Option (List ℕ)) (out : List ℕ) (n : ℕ) (m : M) (r : Ran) (added : List ℕ) (result : Ended)
+      → Reached m0 taken left out n m r
+      → ((result ≡ ended_of r) × (added ≡ words_of r n)) ⊎ ((result ≡ WriteFault) × ((rest : List ℕ) × (words_of r n ≡ added ++ rest)))
+      → Tells step closing m0 taken left (out ++ added) m result
+  concluded m0 taken left out n m ran.Done added result h s =
+      let w = subst (λ (t : List ℕ). Wrote step closing m0 taken left t m Done) (sym (append-nil out)) h in
+      said m0 taken left out [] added m Done result w (λ rest e. (Done, rest, cut-wrote m0 taken left out [] added rest m Done e w)) s
+  concluded m0 taken left out n m ran.Bad added result h s =
+      said m0 taken left out (bad_line (n + 1)) added m Bad result h (λ rest e. (Bad, rest, cut-wrote m0 taken left out (bad_line (n + 1)) added rest m Bad e h)) s
+  concluded m0 taken left out n m ran.TooLong added result h s =
+      said m0 taken left out input_too_long added m TooLong result h (λ rest e. (TooLong, rest, cut-wrote m0 taken left out input_too_long added rest m TooLong e h)) s
+  concluded m0 taken left out n m ran.SinkFailed added result h s =
+      let w = subst (λ (t : List ℕ). Tells step closing m0 taken left t m WriteFault) (sym (append-nil out)) h in
+      said m0 taken left out [] added m WriteFault result w (λ rest e. subst (λ (ws : List ℕ). Tells step closing m0 taken left (out ++ ws) m WriteFault) (sym (no_words added rest e)) w) s
+  concluded m0 taken left out n m ran.Memory added result (next, f) s =
+      said m0 taken left out no_memory added m Memory result (out, next, f, refl) (λ rest e. (Memory, rest, (out, added, next, f, refl, e))) s
 
   plays-front : (m0 : M) (taken text line : List ℕ) (n : ℕ) (m : M) (lines : List (List ℕ)) → Stands step m0 taken text line n m → plays step (Going 0 [] m0) (whole_from [] taken ++ lines) ≡ plays step (Going n text m) lines
   plays-front m0 taken text line n m lines st = plays-append step (Going 0 [] m0) (whole_from [] taken) lines ∙ ap (λ (s : Stage M). plays step s lines) st.played
@@ -103,21 +117,21 @@ module _ {M : Type 0} (step : M → List ℕ → Outcome M) (closing : M → Opt
       (ap (λ (v : Stage M). fault_of closing v) q ∙ a, ap (λ (v : Stage M). whole_text closing v) q ∙ b, ap (λ (v : Stage M). machine_of v) q ∙ d)
 
   -- a last line that isn't taken
-  last-tells : (m0 : M) (taken text line : List ℕ) (n : ℕ) (m : M) (left : Option (List ℕ)) (n1 : ℕ) (m1 : M) (added : List ℕ) (r : Ran) → Stands step m0 taken text line n m → IsAtEnd left → (r ≡ ran.Done → ⊥) → Last step line n m n1 m1 added r
-      → Tells step closing m0 taken left ((text ++ added) ++ words_of r n1) m1 (ended_of r)
-  last-tells m0 taken text line n m left n1 m1 added ran.Done st e ne l = absurd (ne refl)
-  last-tells m0 taken text line n m left n1 m1 added ran.Bad st e ne l =
+  last-reaches : (m0 : M) (taken text line : List ℕ) (n : ℕ) (m : M) (left : Option (List ℕ)) (n1 : ℕ) (m1 : M) (added : List ℕ) (r : Ran) → Stands step m0 taken text line n m → IsAtEnd left → (r ≡ ran.Done → ⊥) → Last step line n m n1 m1 added r
+      → Reached m0 taken left (text ++ added) n1 m1 r
+  last-reaches m0 taken text line n m left n1 m1 added ran.Done st e ne l = absurd (ne refl)
+  last-reaches m0 taken text line n m left n1 m1 added ran.Bad st e ne l =
       rejected-end m0 taken left _ m1 (Halted BadLine n1 (text ++ added) m1) BadLine e (plays-all m0 taken text line n m st ∙ l text) refl refl refl
-  last-tells m0 taken text line n m left n1 m1 added ran.TooLong st e ne l =
+  last-reaches m0 taken text line n m left n1 m1 added ran.TooLong st e ne l =
       rejected-end m0 taken left _ m1 (Halted InputTooLong n1 (text ++ added) m1) InputTooLong e (plays-all m0 taken text line n m st ∙ l text) refl refl refl
-  last-tells m0 taken text line n m left n1 m1 added ran.SinkFailed st e ne (rest, sh) =
-      (WriteFault, rest, subst (λ (t : List ℕ). Front step m0 taken left t m1) (none_behind text added rest) (front-last m0 taken text line n m left (added ++ rest) m1 st e sh))
-  last-tells m0 taken text line n m left n1 m1 added ran.Memory st e ne (next, sh) = (text ++ added, next, front-last m0 taken text line n m left added next st e sh, refl)
+  last-reaches m0 taken text line n m left n1 m1 added ran.SinkFailed st e ne (rest, sh) =
+      (WriteFault, rest, subst (λ (t : List ℕ). Front step m0 taken left t m1) (sym (append_assoc text added rest)) (front-last m0 taken text line n m left (added ++ rest) m1 st e sh))
+  last-reaches m0 taken text line n m left n1 m1 added ran.Memory st e ne (next, sh) = (next, front-last m0 taken text line n m left added next st e sh)
 
   -- bytes whose line is refused
-  stops-tells : (m0 : M) (taken text line : List ℕ) (n : ℕ) (m : M) (bytes : List ℕ) (left : Option (List ℕ)) (n1 : ℕ) (m1 : M) (added : List ℕ) (fault : Fault) → Stands step m0 taken text line n m → Stops step line n m bytes fault n1 m1 added
+  stops-reaches : (m0 : M) (taken text line : List ℕ) (n : ℕ) (m : M) (bytes : List ℕ) (left : Option (List ℕ)) (n1 : ℕ) (m1 : M) (added : List ℕ) (fault : Fault) → Stands step m0 taken text line n m → Stops step line n m bytes fault n1 m1 added
       → (whole : List ℕ) → whole_text closing (Halted fault n1 (text ++ added) m1) ≡ whole → Rejected step closing m0 (taken ++ bytes) left whole m1 fault
-  stops-tells m0 taken text line n m bytes left n1 m1 added fault st f whole w = λ more k.
+  stops-reaches m0 taken text line n m bytes left n1 m1 added fault st f whole w = λ more k.
       let q : plays step (Going 0 [] m0) (lines_of ((taken ++ bytes) ++ more)) ≡ Halted fault n1 (text ++ added) m1 =
       ap (λ (bs : List ℕ). plays step (Going 0 [] m0) (lines_of bs)) (append_assoc taken bytes more)
       ∙ (ap (λ (ls : List (List ℕ)). plays step (Going 0 [] m0) ls) (lines_from-append [] taken (bytes ++ more))
@@ -126,21 +140,21 @@ module _ {M : Type 0} (step : M → List ℕ → Outcome M) (closing : M → Opt
       (ap (λ (v : Stage M). fault_of closing v) q, ap (λ (v : Stage M). whole_text closing v) q ∙ w, ap (λ (v : Stage M). machine_of v) q)
 
   -- bytes whose line isn't taken
-  fed-tells : (m0 : M) (taken text line : List ℕ) (n : ℕ) (m : M) (bytes : List ℕ) (left : Option (List ℕ)) (line1 : List ℕ) (n1 : ℕ) (m1 : M) (added : List ℕ) (r : Ran) → Stands step m0 taken text line n m → (r ≡ ran.Done → ⊥) → Fed step line n m bytes line1 n1 m1 added r
-      → Tells step closing m0 (taken ++ bytes) left ((text ++ added) ++ words_of r n1) m1 (ended_of r)
-  fed-tells m0 taken text line n m bytes left line1 n1 m1 added ran.Done st ne f = absurd (ne refl)
-  fed-tells m0 taken text line n m bytes left line1 n1 m1 added ran.Bad st ne f = stops-tells m0 taken text line n m bytes left n1 m1 added BadLine st f _ refl
-  fed-tells m0 taken text line n m bytes left line1 n1 m1 added ran.TooLong st ne f = stops-tells m0 taken text line n m bytes left n1 m1 added InputTooLong st f _ refl
-  fed-tells m0 taken text line n m bytes left line1 n1 m1 added ran.SinkFailed st ne (rest, sh) =
-      (WriteFault, rest, subst (λ (t : List ℕ). Front step m0 (taken ++ bytes) left t m1) (none_behind text added rest) (front-piece m0 taken text line n m bytes left (added ++ rest) m1 st sh))
-  fed-tells m0 taken text line n m bytes left line1 n1 m1 added ran.Memory st ne (next, sh) = (text ++ added, next, front-piece m0 taken text line n m bytes left added next st sh, refl)
+  fed-reaches : (m0 : M) (taken text line : List ℕ) (n : ℕ) (m : M) (bytes : List ℕ) (left : Option (List ℕ)) (line1 : List ℕ) (n1 : ℕ) (m1 : M) (added : List ℕ) (r : Ran) → Stands step m0 taken text line n m → (r ≡ ran.Done → ⊥) → Fed step line n m bytes line1 n1 m1 added r
+      → Reached m0 (taken ++ bytes) left (text ++ added) n1 m1 r
+  fed-reaches m0 taken text line n m bytes left line1 n1 m1 added ran.Done st ne f = absurd (ne refl)
+  fed-reaches m0 taken text line n m bytes left line1 n1 m1 added ran.Bad st ne f = stops-reaches m0 taken text line n m bytes left n1 m1 added BadLine st f _ refl
+  fed-reaches m0 taken text line n m bytes left line1 n1 m1 added ran.TooLong st ne f = stops-reaches m0 taken text line n m bytes left n1 m1 added InputTooLong st f _ refl
+  fed-reaches m0 taken text line n m bytes left line1 n1 m1 added ran.SinkFailed st ne (rest, sh) =
+      (WriteFault, rest, subst (λ (t : List ℕ). Front step m0 (taken ++ bytes) left t m1) (sym (append_assoc text added rest)) (front-piece m0 taken text line n m bytes left (added ++ rest) m1 st sh))
+  fed-reaches m0 taken text line n m bytes left line1 n1 m1 added ran.Memory st ne (next, sh) = (next, front-piece m0 taken text line n m bytes left added next st sh)
 
   -- the last text, behind all lines
   record Closed (h1 h2 : Option (List ℕ)) (o : Option (List ℕ)) (r : Ran) : Type 0 where
     more : List ℕ
     sink : Appends h1 h2 more
     told : (m0 : M) (taken : List ℕ) (left : Option (List ℕ)) (out : List ℕ) (n : ℕ) (m : M) → IsAtEnd left → plays step (Going 0 [] m0) (lines_of taken) ≡ Going n out m → closing m ≡ o
-        → Tells step closing m0 taken left ((out ++ more) ++ words_of r n) m (ended_of r)
+        → Reached m0 taken left (out ++ more) n m r
 
   closes-adds : (h1 h2 : Option (List ℕ)) (o : Option (List ℕ)) (r : Ran) → Closes o h1 h2 r → Closed h1 h2 o r
   closes-adds h1 h2 (Some last) ran.Done k = record {
@@ -149,7 +163,7 @@ module _ {M : Type 0} (step : M → List ℕ → Outcome M) (closing : M → Opt
     told = λ m0 taken left out n m e p eo. (
       e,
       ap (λ (v : Stage M). fault_of closing v) p ∙ ap (λ (q : Option (List ℕ)). closed_fault q) eo,
-      ap (λ (v : Stage M). whole_text closing v) p ∙ (ap (λ (q : Option (List ℕ)). out ++ closed_text n q) eo ∙ sym (append-nil (out ++ last))),
+      ap (λ (v : Stage M). whole_text closing v) p ∙ ap (λ (q : Option (List ℕ)). out ++ closed_text n q) eo,
       ap (λ (v : Stage M). machine_of v) p,
     );
   }
@@ -164,7 +178,7 @@ module _ {M : Type 0} (step : M → List ℕ → Outcome M) (closing : M → Opt
       (
         e,
         ap (λ (v : Stage M). fault_of closing v) p ∙ ap (λ (q : Option (List ℕ)). closed_fault q) eo,
-        ap (λ (v : Stage M). whole_text closing v) p ∙ (ap (λ (q : Option (List ℕ)). out ++ closed_text n q) eo ∙ (ap (λ (t : List ℕ). out ++ t) split ∙ none_behind out front rest)),
+        ap (λ (v : Stage M). whole_text closing v) p ∙ (ap (λ (q : Option (List ℕ)). out ++ closed_text n q) eo ∙ (ap (λ (t : List ℕ). out ++ t) split ∙ sym (append_assoc out front rest))),
         ap (λ (v : Stage M). machine_of v) p,
       ),
     );
@@ -172,7 +186,7 @@ module _ {M : Type 0} (step : M → List ℕ → Outcome M) (closing : M → Opt
   closes-adds h1 h2 (Some last) ran.Memory k = record {
     more = [];
     sink = Appends-kept h1 h1 h2 [] (Appends-nil h1) k;
-    told = λ m0 taken left out n m e p eo. (out, m, front-all m0 taken left n out m e p, ap (λ (t : List ℕ). t ++ no_memory) (append-nil out));
+    told = λ m0 taken left out n m e p eo. (m, front-all m0 taken left n (out ++ []) m e (p ∙ ap (λ (t : List ℕ). Going n t m) (sym (append-nil out))));
   }
   closes-adds h1 h2 None ran.Done k = absurd k
   closes-adds h1 h2 None ran.Bad k = record {
@@ -186,7 +200,7 @@ module _ {M : Type 0} (step : M → List ℕ → Outcome M) (closing : M → Opt
   closes-adds h1 h2 None ran.Memory k = record {
     more = [];
     sink = Appends-kept h1 h1 h2 [] (Appends-nil h1) k;
-    told = λ m0 taken left out n m e p eo. (out, m, front-all m0 taken left n out m e p, ap (λ (t : List ℕ). t ++ no_memory) (append-nil out));
+    told = λ m0 taken left out n m e p eo. (m, front-all m0 taken left n (out ++ []) m e (p ∙ ap (λ (t : List ℕ). Going n t m) (sym (append-nil out))));
   }
 
   pub finish-stopped : (line : List ℕ) (n : ℕ) (m : M) (h0 : Option (List ℕ)) (r : Ran) (n1 : ℕ) (m1 : M) (h1 h2 : Option (List ℕ)) (result : Ended) → (r ≡ ran.Done → ⊥) → Lasts step line n m h0 r n1 m1 h1 → Says h1 h2 (words_of r n1) (ended_of r) result → Finishes step closing line n m h0 h2 m1 result
@@ -195,8 +209,8 @@ module _ {M : Type 0} (step : M → List ℕ → Outcome M) (closing : M → Opt
     sink = Appends-trans h0 h1 h2 l.added s.added l.sink s.sink;
     told = λ m0 taken text left st e.
         subst (λ (t : List ℕ). Tells step closing m0 taken left t m1 result) (append_assoc text l.added s.added)
-        (said m0 taken left (text ++ l.added) (words_of r n1) s.added m1 (ended_of r) result
-        (last-tells m0 taken text line n m left n1 m1 l.added r st e ne l.told)
+        (concluded m0 taken left (text ++ l.added) n1 m1 r s.added result
+        (last-reaches m0 taken text line n m left n1 m1 l.added r st e ne l.told)
         s.told);
   }
 
@@ -208,7 +222,7 @@ module _ {M : Type 0} (step : M → List ℕ → Outcome M) (closing : M → Opt
         sink = Appends-trans h0 h2 h3 (l.added ++ x.more) s.added (Appends-trans h0 h1 h2 l.added x.more l.sink x.sink) s.sink;
         told = λ m0 taken text left st e.
             subst (λ (t : List ℕ). Tells step closing m0 taken left t m1 result) (regroup text l.added x.more s.added)
-            (said m0 taken left ((text ++ l.added) ++ x.more) (words_of r n1) s.added m1 (ended_of r) result
+            (concluded m0 taken left ((text ++ l.added) ++ x.more) n1 m1 r s.added result
             (x.told m0 taken left (text ++ l.added) n1 m1 e (plays-all m0 taken text line n m st ∙ l.told text) refl)
             s.told);
       }
@@ -253,8 +267,8 @@ module _ {M : Type 0} (step : M → List ℕ → Outcome M) (closing : M → Opt
     text = (r.text ++ f.added) ++ s.added;
     source = Consumes-trans left0 left1 left2 r.taken bytes r.source c;
     sink = Appends-trans held0 held2 held3 (r.text ++ f.added) s.added (Appends-trans held0 held1 held2 r.text f.added r.sink f.sink) s.sink;
-    told = said m0 (r.taken ++ bytes) left2 (r.text ++ f.added) (words_of stop n1) s.added m1 (ended_of stop) result
-        (fed-tells m0 r.taken r.text line n m bytes left2 line1 n1 m1 f.added stop r.stands ne f.told) s.told;
+    told = concluded m0 (r.taken ++ bytes) left2 (r.text ++ f.added) n1 m1 stop s.added result
+        (fed-reaches m0 r.taken r.text line n m bytes left2 line1 n1 m1 f.added stop r.stands ne f.told) s.told;
   }
 
   pub replay-fault : (m0 : M) (left0 left1 left2 held0 held1 held2 : Option (List ℕ)) (line : List ℕ) (n : ℕ) (m : M) (result : Ended)
@@ -264,7 +278,9 @@ module _ {M : Type 0} (step : M → List ℕ → Outcome M) (closing : M → Opt
     text = r.text ++ s.added;
     source = Consumes-kept left0 left1 left2 r.taken r.source c;
     sink = Appends-trans held0 held1 held2 r.text s.added r.sink s.sink;
-    told = said m0 r.taken left2 r.text read_fault s.added m ReadFault result (n, r.text, r.stands.played, refl) s.told;
+    told =
+        let w : Wrote step closing m0 r.taken left2 (r.text ++ read_fault) m ReadFault = (n, r.text, r.stands.played, refl) in
+        said m0 r.taken left2 r.text read_fault s.added m ReadFault result w (λ rest e. (ReadFault, rest, cut-wrote m0 r.taken left2 r.text read_fault s.added rest m ReadFault e w)) s.told;
   }
 
   pub replay-end : (m0 : M) (left0 left1 left2 held0 held1 held2 : Option (List ℕ)) (line : List ℕ) (n : ℕ) (m m1 : M) (result : Ended)

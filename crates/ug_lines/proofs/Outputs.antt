@@ -4,8 +4,8 @@ use Rattle.std.proofs.lemmas.List.{append-nil}
 use Rattle.std.specs.Io.KnownBytes.{Appends, Consumes, IsAtEnd}
 use Rattle.ug_lines.specs.Lines.{lines_of}
 use Rattle.ug_lines.specs.Fold.{Fault, BadLine, InputTooLong, Outcome, Going, plays, machine_of, whole_text, fault_of}
-use Rattle.ug_lines.specs.Runs.{Front, Rejected, Wrote, Tells, Replays}
-use Rattle.ug_lines.specs.Statuses.{status_of, FirstLines, IsOutput, Whole, UpToReadFault, UpToLine, UpToNoMemory, Answers}
+use Rattle.ug_lines.specs.Runs.{Front, Rejected, Cut, Tells, Replays}
+use Rattle.ug_lines.specs.Statuses.{status_of, FirstLines, IsCut, OfWhole, OfReadFault, OfLines, OfNoMemory, Answers}
 use Rattle.ug_lines.specs.declared.call.Ended.{Ended}
 use Rattle.ug_lines.specs.declared.call.Ended.TheVariants.{Done, Bad, TooLong, ReadFault, WriteFault, Memory}
 
@@ -36,19 +36,20 @@ module _ {M : Type 0} (step : M → List ℕ → Outcome M) (closing : M → Opt
   all-taken : (taken more : List ℕ) → all ≡ taken ++ more → left ≡ Some more → IsAtEnd left → taken ≡ all
   all-taken taken more s l e = sym (s ∙ (ap (λ (x : List ℕ). taken ++ x) (end-known left more e l) ∙ append-nil taken))
 
-  output-rejected : (taken more text : List ℕ) (m : M) (fault : Fault) → all ≡ taken ++ more → left ≡ Some more → Rejected step closing m0 taken left text m fault → IsOutput step closing m0 all taken text m
-  output-rejected taken more text m fault s l w = let v = w more l in
-      Whole (ap (λ (bs : List ℕ). whole_text closing (plays step (Going 0 [] m0) (lines_of bs))) s ∙ v.1) (ap (λ (bs : List ℕ). machine_of (plays step (Going 0 [] m0) (lines_of bs))) s ∙ v.2)
+  cut-rejected : (taken more text rest : List ℕ) (m : M) (fault : Fault) → all ≡ taken ++ more → left ≡ Some more → Rejected step closing m0 taken left (text ++ rest) m fault → IsCut step closing m0 all taken text rest m
+  cut-rejected taken more text rest m fault s l w =
+      let v = w more l in
+      OfWhole (ap (λ (bs : List ℕ). whole_text closing (plays step (Going 0 [] m0) (lines_of bs))) s ∙ v.1) (ap (λ (bs : List ℕ). machine_of (plays step (Going 0 [] m0) (lines_of bs))) s ∙ v.2)
 
-  output-of : (taken more text : List ℕ) (m : M) (e : Ended) → all ≡ taken ++ more → left ≡ Some more → Wrote step closing m0 taken left text m e → IsOutput step closing m0 all taken text m
-  output-of taken more text m Done s l w =
+  cut-of : (taken more text rest : List ℕ) (m : M) (e : Ended) → all ≡ taken ++ more → left ≡ Some more → Cut step closing m0 taken left text rest m e → IsCut step closing m0 all taken text rest m
+  cut-of taken more text rest m Done s l w =
       let q : taken ≡ all = all-taken taken more s l w.0 in
-      Whole (ap (λ (bs : List ℕ). whole_text closing (plays step (Going 0 [] m0) (lines_of bs))) (sym q) ∙ w.2) (ap (λ (bs : List ℕ). machine_of (plays step (Going 0 [] m0) (lines_of bs))) (sym q) ∙ w.3)
-  output-of taken more text m Bad s l w = output-rejected taken more text m BadLine s l w
-  output-of taken more text m TooLong s l w = output-rejected taken more text m InputTooLong s l w
-  output-of taken more text m ReadFault s l (n, out, p, t) = UpToReadFault n out p t
-  output-of taken more text m WriteFault s l w = UpToLine (first-lines taken more text m s l w)
-  output-of taken more text m Memory s l (out, next, f, t) = UpToNoMemory out next (first-lines taken more out next s l f) t
+      OfWhole (ap (λ (bs : List ℕ). whole_text closing (plays step (Going 0 [] m0) (lines_of bs))) (sym q) ∙ w.2) (ap (λ (bs : List ℕ). machine_of (plays step (Going 0 [] m0) (lines_of bs))) (sym q) ∙ w.3)
+  cut-of taken more text rest m Bad s l w = cut-rejected taken more text rest m BadLine s l w
+  cut-of taken more text rest m TooLong s l w = cut-rejected taken more text rest m InputTooLong s l w
+  cut-of taken more text rest m ReadFault s l (n, out, p, t) = OfReadFault n out p t
+  cut-of taken more text rest m WriteFault s l w = OfLines (first-lines taken more (text ++ rest) m s l w)
+  cut-of taken more text rest m Memory s l (out, front, next, f, t, w) = OfNoMemory out front next (first-lines taken more out next s l f) t w
 
   rejected : (taken more text : List ℕ) (held : Option (List ℕ)) (m : M) (fault : Fault) → all ≡ taken ++ more → left ≡ Some more → held ≡ Some (base ++ text) → Rejected step closing m0 taken left text m fault → Answers step closing m0 all base left held m 2
   rejected taken more text held m fault s l h w =
@@ -94,7 +95,7 @@ module _ {M : Type 0} (step : M → List ℕ → Outcome M) (closing : M → Opt
     done = λ z. absurd (omega (arith, z));
     bad = λ z. absurd (omega (arith, z));
     read = λ z. absurd (omega (arith, z));
-    written = λ _. (taken, more, text, rest, s, l, h, output-of taken more (text ++ rest) m e s l w);
+    written = λ _. (taken, more, text, rest, s, l, h, cut-of taken more text rest m e s l w);
     memory = λ z. absurd (omega (arith, z));
   }
   told taken more text held m Memory s l h (out, next, f, t) = record {

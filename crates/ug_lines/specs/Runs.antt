@@ -111,13 +111,24 @@ Wrote step closing m0 taken left text m ended.WriteFault = Front step m0 taken l
 -- the same with the fault line, and nothing is said of the machine
 Wrote step closing m0 taken left text m ended.Memory = (out : List ℕ) × (next : _) × Front step m0 taken left out next × (text ≡ out ++ no_memory)
 
--- the same, and where the sink failed a front of such an output
+-- What was written is a front of such an output, of which the rest was not written. Of the machine nothing is said
+-- only where the fault line for want of memory was cut, behind all of the output of some first lines.
+abbrev pub Cut : {M : Type 0} → (M → List ℕ → Outcome M) → (M → Option (List ℕ)) → M → List ℕ → Option (List ℕ) → List ℕ → List ℕ → M → Ended → Type 0
+Cut step closing m0 taken left text rest m ended.Done = Wrote step closing m0 taken left (text ++ rest) m ended.Done
+Cut step closing m0 taken left text rest m ended.Bad = Wrote step closing m0 taken left (text ++ rest) m ended.Bad
+Cut step closing m0 taken left text rest m ended.TooLong = Wrote step closing m0 taken left (text ++ rest) m ended.TooLong
+Cut step closing m0 taken left text rest m ended.ReadFault = Wrote step closing m0 taken left (text ++ rest) m ended.ReadFault
+Cut step closing m0 taken left text rest m ended.WriteFault = Wrote step closing m0 taken left (text ++ rest) m ended.WriteFault
+Cut step closing m0 taken left text rest m ended.Memory =
+    (out : List ℕ) × (front : List ℕ) × (next : _) × Front step m0 taken left out next × (text ≡ out ++ front) × (no_memory ≡ front ++ rest)
+
+-- what a call wrote, and where the sink failed a front of such an output
 abbrev pub Tells : {M : Type 0} → (M → List ℕ → Outcome M) → (M → Option (List ℕ)) → M → List ℕ → Option (List ℕ) → List ℕ → M → Ended → Type 0
 Tells step closing m0 taken left text m ended.Done = Wrote step closing m0 taken left text m ended.Done
 Tells step closing m0 taken left text m ended.Bad = Wrote step closing m0 taken left text m ended.Bad
 Tells step closing m0 taken left text m ended.TooLong = Wrote step closing m0 taken left text m ended.TooLong
 Tells step closing m0 taken left text m ended.ReadFault = Wrote step closing m0 taken left text m ended.ReadFault
-Tells step closing m0 taken left text m ended.WriteFault = (e : Ended) × (rest : List ℕ) × Wrote step closing m0 taken left (text ++ rest) m e
+Tells step closing m0 taken left text m ended.WriteFault = (e : Ended) × (rest : List ℕ) × Cut step closing m0 taken left text rest m e
 Tells step closing m0 taken left text m ended.Memory = Wrote step closing m0 taken left text m ended.Memory
 
 -- the fault line of a step behind n lines that ended so, and how the call ends then

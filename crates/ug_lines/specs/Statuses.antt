@@ -21,16 +21,16 @@ pub record FirstLines {M : Type 0} (step : M → List ℕ → Outcome M) (m0 : M
   pub front : lines_of all ≡ lines ++ others
   pub played : plays step (Going 0 [] m0) lines ≡ Going count out m
 
--- an output that a failing sink cuts short, and the machine that stands then
-pub data IsOutput {M : Type 0} (step : M → List ℕ → Outcome M) (closing : M → Option (List ℕ)) (m0 : M) (all taken text : List ℕ) (m : M) : Type 0 where
-  -- all that belongs to the text, be it good or not
-  Whole : whole_text closing (plays step (Going 0 [] m0) (lines_of all)) ≡ text → machine_of (plays step (Going 0 [] m0) (lines_of all)) ≡ m → IsOutput step closing m0 all taken text m
-  -- the output of the lines that were ended among the bytes taken, and the fault line
-  UpToReadFault : (n : ℕ) (out : List ℕ) → plays step (Going 0 [] m0) (whole_lines taken) ≡ Going n out m → text ≡ out ++ read_fault → IsOutput step closing m0 all taken text m
-  -- the output of some first lines
-  UpToLine : FirstLines step m0 all text m → IsOutput step closing m0 all taken text m
-  -- the same and the fault line, and nothing is said of the machine
-  UpToNoMemory : (out : List ℕ) (next : M) → FirstLines step m0 all out next → text ≡ out ++ no_memory → IsOutput step closing m0 all taken text m
+-- what was written is a front of an output, of which the rest was not written; and the machine that stands then
+pub data IsCut {M : Type 0} (step : M → List ℕ → Outcome M) (closing : M → Option (List ℕ)) (m0 : M) (all taken text rest : List ℕ) (m : M) : Type 0 where
+  -- of all that belongs to the text, be it good or not
+  OfWhole : whole_text closing (plays step (Going 0 [] m0) (lines_of all)) ≡ text ++ rest → machine_of (plays step (Going 0 [] m0) (lines_of all)) ≡ m → IsCut step closing m0 all taken text rest m
+  -- of the output of the lines that were ended among the bytes taken, and the fault line
+  OfReadFault : (n : ℕ) (out : List ℕ) → plays step (Going 0 [] m0) (whole_lines taken) ≡ Going n out m → text ++ rest ≡ out ++ read_fault → IsCut step closing m0 all taken text rest m
+  -- of the output of some first lines
+  OfLines : FirstLines step m0 all (text ++ rest) m → IsCut step closing m0 all taken text rest m
+  -- of the fault line for want of memory, behind all of the output of some first lines; nothing is said of the machine
+  OfNoMemory : (out front : List ℕ) (next : M) → FirstLines step m0 all out next → text ≡ out ++ front → no_memory ≡ front ++ rest → IsCut step closing m0 all taken text rest m
 
 -- all are the bytes of the source and base those of the sink before the call
 pub record Answers {M : Type 0} (step : M → List ℕ → Outcome M) (closing : M → Option (List ℕ)) (m0 : M) (all base : List ℕ) (left held : Option (List ℕ)) (m : M) (status : ℕ) : Type 0 where
@@ -49,6 +49,6 @@ pub record Answers {M : Type 0} (step : M → List ℕ → Outcome M) (closing :
       × (plays step (Going 0 [] m0) (whole_lines taken) ≡ Going n text m) × (held ≡ Some (base ++ (text ++ read_fault)))
   -- a front of an output, with the machine that stands at the output's end
   pub written : status ≡ 5 → (taken : List ℕ) × (more : List ℕ) × (text : List ℕ) × (rest : List ℕ) × (all ≡ taken ++ more) × (left ≡ Some more)
-      × (held ≡ Some (base ++ text)) × IsOutput step closing m0 all taken (text ++ rest) m
+      × (held ≡ Some (base ++ text)) × IsCut step closing m0 all taken text rest m
   -- the output of some first lines, each of them good, and the fault line
   pub memory : status ≡ 6 → (text : List ℕ) × (next : M) × FirstLines step m0 all text next × (held ≡ Some (base ++ (text ++ no_memory)))
