@@ -1,5 +1,5 @@
 // A machine whose lines are its text, and calls over objects in memory.
-ghost use Rattle.std.specs.Prelude.{◌≡◌, ◌≤◌, ℕ, List, Some, None, nat_eq, if◌then◌else◌, length, codes};
+ghost use Rattle.std.specs.Prelude.{◌≡◌, ◌≤◌, ℕ, List, Some, None, true, nat_eq, if◌then◌else◌, length, codes};
 ghost use Rattle.ug_types.specs.Ends.{Rose};
 ghost use Rattle.ug_lines.specs.Fold.{BadLine, InputTooLong, Writes, Refused};
 ghost use Rattle.ug_lines.specs.Runs.{Steps, Closes};
