@@ -5,7 +5,7 @@ use Rattle.std.proofs.KnownBytes.{Appends-nil, Appends-trans, Appends-kept, Cons
 use Rattle.std.specs.Io.KnownBytes.{Appends, Consumes, Keeps, IsAtEnd}
 use Rattle.ug_lines.specs.Lines.{whole_from, rest_from, last_line, lines_from, lines_of}
 use Rattle.ug_lines.specs.Fold.{Fault, BadLine, InputTooLong, Outcome, Stage, Going, Halted, plays, machine_of, closed_text, closed_fault, whole_text, fault_of, bad_line, input_too_long, read_fault, no_memory}
-use Rattle.ug_lines.specs.Runs.{Shows, Stops, Fed, Feeds, Last, Lasts, Closes, Front, Rejected, Wrote, Cut, Tells, words_of, ended_of, Says, Stands, Reads, Finishes, Replays}
+use Rattle.ug_lines.specs.Runs.{Shows, Stops, Fed, Feeds, Last, Lasts, Closes, Front, Rejected, Wrote, Tells, words_of, ended_of, Says, Stands, Reads, Finishes, Replays}
 use Rattle.ug_lines.specs.declared.machine.Ran.{Ran}
 use Rattle.ug_lines.specs.declared.machine.Ran.TheVariants as ran
 use Rattle.ug_lines.specs.declared.call.Ended.{Ended}

@@ -1,14 +1,17 @@
 -- What bytes add, one piece after another.
-use Rattle.std.proofs.Common.{◌≡◌, ℕ, ◌+◌, ◌<◌, ◌≤◌, List, [], ◌∷◌, ◌++◌, length, take, drop, get_or, Bool, true, false, if◌then◌else◌, nat_eq, Option, refl, sym, ap, subst, ◌∙◌, append_assoc, arith, length-append}
-use Rattle.std.proofs.lemmas.List.{append-nil, take_more, take-append-drop}
+use Rattle.std.proofs.Common.{◌≡◌, ℕ, ◌+◌, ◌<◌, ◌≤◌, List, [], ◌∷◌, ◌++◌, length, take, drop, Bool, true, if◌then◌else◌, nat_eq, Option, inl, inr, refl, sym, ap, subst, ◌∙◌, append_assoc, arith, length-append}
+use Rattle.std.proofs.lemmas.List.{append-nil, take-append-drop}
+use Rattle.std.proofs.Math.Seq.{take-add}
 use Rattle.std.proofs.KnownBytes.{Appends-nil, Appends-trans, Appends-kept}
 use Rattle.std.specs.Io.KnownBytes.{Appends, Keeps}
 use Rattle.ug_lines.specs.Lines.{whole_from, rest_from, last_line, lines_from}
 use Rattle.ug_lines.specs.Fold.{Fault, BadLine, InputTooLong, Outcome, Writes, Refused, Stage, Going, Halted, plays, stage_after, is_within}
-use Rattle.ug_lines.specs.Runs.{Steps, Shows, Stops, Fed, Feeds, Lasts}
+use Rattle.ug_lines.specs.Runs.{Steps, Shows, Stops, Fed, Extends, Feeds, Lasts}
 use Rattle.ug_lines.specs.declared.machine.Ran.{Ran}
 use Rattle.ug_lines.specs.declared.machine.Ran.TheVariants.{Done, Bad, TooLong, SinkFailed, Memory}
-use Rattle.ug_lines.proofs.Lines.{whole_from-end, rest_from-end, whole_from-byte, rest_from-byte, whole_from-nil, rest_from-nil, whole_from-append, rest_from-append, lines_from-append, begins}
+use Rattle.ug_lines.proofs.Lines.{whole_from-end, rest_from-end, whole_from-nil, rest_from-nil, whole_from-append, rest_from-append, lines_from-append, begins}
+use Rattle.ug_lines.specs.Splitting.{IsLine}
+use Rattle.ug_lines.proofs.Splitting.{whole_from-run, rest_from-run, lines_from-run}
 use Rattle.ug_lines.proofs.Stages.{plays-append, plays-halted, within, past_count, past_length, plays-one, plays-past}
 
 module _ {M : Type 0} (step : M → List ℕ → Outcome M) where
@@ -24,40 +27,49 @@ module _ {M : Type 0} (step : M → List ℕ → Outcome M) where
   shows-one : (n : ℕ) (m next : M) (line text : List ℕ) (whole : List (List ℕ)) → whole ≡ line ∷ [] → is_within n line ≡ true → step m line ≡ Writes text next → Shows step n m whole text next
   shows-one n m next line text whole e w o = record { lines = line ∷ []; others = []; count = n + 1; front = e; played = λ before. plays-one step n before m line (Writes text next) [] w o }
 
+  fed-no_memory : (line new : List ℕ) (n : ℕ) (m : M) (h : Option (List ℕ)) (bytes : List ℕ) → Feeds step line n m h bytes Memory new n m h
+  fed-no_memory line new n m h bytes = record { added = []; sink = Appends-nil h; told = (m, shows-none n m (whole_from line bytes)) }
+
   -- a line behind the last that may be
-  pub fed-past_count : (line : List ℕ) (n : ℕ) (m : M) (h : Option (List ℕ)) (b : ℕ) → 1048576 ≤ n → Feeds step line n m h (b ∷ []) Bad line n m h
-  fed-past_count line n m h b k = record {
+  pub fed-past_count : (line new : List ℕ) (n : ℕ) (m : M) (h : Option (List ℕ)) (bytes : List ℕ) → 0 < length bytes → 1048576 ≤ n → Feeds step line n m h bytes Bad new n m h
+  fed-past_count line new n m h bytes some k = record {
     added = [];
     sink = Appends-nil h;
-    told = λ more text. let r = begins line (b ∷ more) (omega arith) in
-        plays-past step n text m line (b ∷ more) r (past_count n r.first k) ∙ ap (λ (t : List ℕ). Halted BadLine n t m) (sym (append-nil text));
+    told = λ more text. let r = begins line (bytes ++ more) (omega (arith, length-append bytes more)) in
+        plays-past step n text m line (bytes ++ more) r (past_count n r.first k) ∙ ap (λ (t : List ℕ). Halted BadLine n t m) (sym (append-nil text));
   }
 
   -- a line that is too long
-  pub fed-past_length : (line : List ℕ) (n : ℕ) (m : M) (h : Option (List ℕ)) (b : ℕ) → nat_eq b 10 ≡ false → 1048576 ≤ length line → Feeds step line n m h (b ∷ []) Bad line n m h
-  fed-past_length line n m h b e k = record {
+  fed-past_length : (line new : List ℕ) (n : ℕ) (m : M) (h : Option (List ℕ)) (run : List ℕ) → IsLine run → 1048576 < length line + length run → Feeds step line n m h run Bad new n m h
+  fed-past_length line new n m h run is k = record {
     added = [];
     sink = Appends-nil h;
     told = λ more text.
-        let l = line ++ b ∷ [] in
-        let r = begins l more (omega (arith, length-append line (b ∷ []))) in
-        let w : 1048576 < length r.first = omega (arith, r.long, length-append line (b ∷ [])) in
-        rw (whole_from-byte line b more e, rest_from-byte line b more e) (plays-past step n text m l more r (past_length n r.first w) ∙ ap (λ (t : List ℕ). Halted BadLine n t m) (sym (append-nil text)));
+        let l = line ++ run in
+        let r = begins l more (omega (arith, length-append line run)) in
+        let w : 1048576 < length r.first = omega (arith, r.long, length-append line run) in
+        ap (λ (ls : List (List ℕ)). plays step (Going n text m) ls) (lines_from-run line run more is)
+        ∙ (plays-past step n text m l more r (past_length n r.first w) ∙ ap (λ (t : List ℕ). Halted BadLine n t m) (sym (append-nil text)));
   }
 
-  -- one more byte of the line
-  pub fed-byte : (line new : List ℕ) (n : ℕ) (m : M) (h : Option (List ℕ)) (b : ℕ) → nat_eq b 10 ≡ false → new ≡ line ++ b ∷ [] → Feeds step line n m h (b ∷ []) Done new n m h
-  fed-byte line new n m h b e w = record {
+  fed-extended : (line new : List ℕ) (n : ℕ) (m : M) (h : Option (List ℕ)) (run : List ℕ) (ran : Ran) → IsLine run → Extends line n run ran new → Feeds step line n m h run ran new n m h
+  fed-extended line new n m h run Done is e = record {
     added = [];
     sink = Appends-nil h;
     told = (
-      λ text. rw (whole_from-byte line b [] e, whole_from-nil (line ++ b ∷ [])) (ap (λ (t : List ℕ). Going n t m) (sym (append-nil text))),
-      w ∙ sym (rest_from-byte line b [] e ∙ rest_from-nil (line ++ b ∷ [])),
+      λ text. ap (λ (ls : List (List ℕ)). plays step (Going n text m) ls) (whole_from-run line run is) ∙ ap (λ (t : List ℕ). Going n t m) (sym (append-nil text)),
+      e ∙ sym (rest_from-run line run is),
     );
   }
+  fed-extended line new n m h run Bad is (some, inl k) = fed-past_count line new n m h run some k
+  fed-extended line new n m h run Bad is (some, inr k) = fed-past_length line new n m h run is k
+  fed-extended line new n m h run TooLong is e = absurd e
+  fed-extended line new n m h run SinkFailed is e = absurd e
+  fed-extended line new n m h run Memory is e = fed-no_memory line new n m h run
 
-  pub fed-no_memory : (line new : List ℕ) (n : ℕ) (m : M) (h : Option (List ℕ)) (bytes : List ℕ) → Feeds step line n m h bytes Memory new n m h
-  fed-no_memory line new n m h bytes = record { added = []; sink = Appends-nil h; told = (m, shows-none n m (whole_from line bytes)) }
+  -- bytes without a newline
+  pub fed-run : (line new : List ℕ) (n n1 : ℕ) (m : M) (h : Option (List ℕ)) (run : List ℕ) (ran : Ran) → IsLine run → n1 ≡ n → Extends line n run ran new → Feeds step line n m h run ran new n1 m h
+  fed-run line new n n1 m h run ran is same e = subst (λ (k : ℕ). Feeds step line n m h run ran new k m h) (sym same) (fed-extended line new n m h run ran is e)
 
   whole-one : (line : List ℕ) (b : ℕ) → nat_eq b 10 ≡ true → whole_from line (b ∷ []) ≡ line ∷ []
   whole-one line b e = whole_from-end line b [] e ∙ ap (λ (ls : List (List ℕ)). line ∷ ls) (whole_from-nil [])
@@ -180,22 +192,20 @@ module _ {M : Type 0} (step : M → List ℕ → Outcome M) where
   }
 
   -- the bytes behind a stop add nothing
-  pub Feeds-stop : (l0 : List ℕ) (n0 : ℕ) (m0 : M) (h0 : Option (List ℕ)) (a l1 : List ℕ) (n1 : ℕ) (m1 : M) (h1 : Option (List ℕ)) (b c : List ℕ) (ran : Ran) (l : List ℕ) (n : ℕ) (m : M) (h : Option (List ℕ)) → (ran ≡ Done → ⊥) → Feeds step l0 n0 m0 h0 a Done l1 n1 m1 h1 → Feeds step l1 n1 m1 h1 b ran l n m h → Feeds step l0 n0 m0 h0 ((a ++ b) ++ c) ran l n m h
-  Feeds-stop l0 n0 m0 h0 a l1 n1 m1 h1 b c ran l n m h ne f g =
-      let t = Feeds-then l0 n0 m0 h0 a l1 n1 m1 h1 b ran l n m h f g in
-      record { added = t.added; sink = t.sink; told = fed-more l0 n0 m0 (a ++ b) c t.added l n m ran ne t.told }
+  pub Feeds-more : (l0 : List ℕ) (n0 : ℕ) (m0 : M) (h0 : Option (List ℕ)) (a b : List ℕ) (ran : Ran) (l : List ℕ) (n : ℕ) (m : M) (h : Option (List ℕ)) → (ran ≡ Done → ⊥) → Feeds step l0 n0 m0 h0 a ran l n m h → Feeds step l0 n0 m0 h0 (a ++ b) ran l n m h
+  Feeds-more l0 n0 m0 h0 a b ran l n m h ne f = record { added = f.added; sink = f.sink; told = fed-more l0 n0 m0 a b f.added l n m ran ne f.told }
 
-  -- a loop over a piece takes its next byte
-  pub Feeds-next : (l0 : List ℕ) (n0 : ℕ) (m0 : M) (h0 : Option (List ℕ)) (piece : List ℕ) (i : ℕ) (l1 : List ℕ) (n1 : ℕ) (m1 : M) (h1 : Option (List ℕ)) (l : List ℕ) (n : ℕ) (m : M) (h : Option (List ℕ)) → i < length piece → Feeds step l0 n0 m0 h0 (take i piece) Done l1 n1 m1 h1 → Feeds step l1 n1 m1 h1 (get_or piece i 0 ∷ []) Done l n m h → Feeds step l0 n0 m0 h0 (take (i + 1) piece) Done l n m h
-  Feeds-next l0 n0 m0 h0 piece i l1 n1 m1 h1 l n m h lt f g =
-      subst (λ (bs : List ℕ). Feeds step l0 n0 m0 h0 bs Done l n m h) (sym (take_more piece i 0 lt)) (Feeds-then l0 n0 m0 h0 (take i piece) l1 n1 m1 h1 (get_or piece i 0 ∷ []) Done l n m h f g)
+  -- a loop over a piece takes its next bytes
+  pub Feeds-next : (l0 : List ℕ) (n0 : ℕ) (m0 : M) (h0 : Option (List ℕ)) (piece : List ℕ) (at end : ℕ) (part : List ℕ) (l1 : List ℕ) (n1 : ℕ) (m1 : M) (h1 : Option (List ℕ)) (l : List ℕ) (n : ℕ) (m : M) (h : Option (List ℕ)) → part ≡ take end (drop at piece) → Feeds step l0 n0 m0 h0 (take at piece) Done l1 n1 m1 h1 → Feeds step l1 n1 m1 h1 part Done l n m h → Feeds step l0 n0 m0 h0 (take (at + end) piece) Done l n m h
+  Feeds-next l0 n0 m0 h0 piece at end part l1 n1 m1 h1 l n m h e f g =
+      subst (λ (bs : List ℕ). Feeds step l0 n0 m0 h0 bs Done l n m h) (ap (λ (p : List ℕ). take at piece ++ p) e ∙ sym (take-add at end piece)) (Feeds-then l0 n0 m0 h0 (take at piece) l1 n1 m1 h1 part Done l n m h f g)
 
-  -- a loop over a piece stops at its next byte
-  pub Feeds-stop-at : (l0 : List ℕ) (n0 : ℕ) (m0 : M) (h0 : Option (List ℕ)) (piece : List ℕ) (i : ℕ) (l1 : List ℕ) (n1 : ℕ) (m1 : M) (h1 : Option (List ℕ)) (ran : Ran) (l : List ℕ) (n : ℕ) (m : M) (h : Option (List ℕ)) → i < length piece → (ran ≡ Done → ⊥) → Feeds step l0 n0 m0 h0 (take i piece) Done l1 n1 m1 h1 → Feeds step l1 n1 m1 h1 (get_or piece i 0 ∷ []) ran l n m h → Feeds step l0 n0 m0 h0 piece ran l n m h
-  Feeds-stop-at l0 n0 m0 h0 piece i l1 n1 m1 h1 ran l n m h lt ne f g =
+  -- a loop over a piece stops in its next bytes
+  pub Feeds-stop : (l0 : List ℕ) (n0 : ℕ) (m0 : M) (h0 : Option (List ℕ)) (piece : List ℕ) (at end : ℕ) (part : List ℕ) (l1 : List ℕ) (n1 : ℕ) (m1 : M) (h1 : Option (List ℕ)) (ran : Ran) (l : List ℕ) (n : ℕ) (m : M) (h : Option (List ℕ)) → part ≡ take end (drop at piece) → (ran ≡ Done → ⊥) → Feeds step l0 n0 m0 h0 (take at piece) Done l1 n1 m1 h1 → Feeds step l1 n1 m1 h1 part ran l n m h → Feeds step l0 n0 m0 h0 piece ran l n m h
+  Feeds-stop l0 n0 m0 h0 piece at end part l1 n1 m1 h1 ran l n m h e ne f g =
       subst (λ (bs : List ℕ). Feeds step l0 n0 m0 h0 bs ran l n m h)
-      (ap (λ (bs : List ℕ). bs ++ drop (i + 1) piece) (sym (take_more piece i 0 lt)) ∙ take-append-drop (i + 1) piece)
-      (Feeds-stop l0 n0 m0 h0 (take i piece) l1 n1 m1 h1 (get_or piece i 0 ∷ []) (drop (i + 1) piece) ran l n m h ne f g)
+      (ap (λ (p : List ℕ). (take at piece ++ p) ++ drop (at + end) piece) e ∙ (ap (λ (p : List ℕ). p ++ drop (at + end) piece) (sym (take-add at end piece)) ∙ take-append-drop (at + end) piece))
+      (Feeds-more l0 n0 m0 h0 (take at piece ++ part) (drop (at + end) piece) ran l n m h ne (Feeds-then l0 n0 m0 h0 (take at piece) l1 n1 m1 h1 part ran l n m h f g))
 
   -- a last line is one, unless it is empty
   last_line-one : (line : List ℕ) → 0 < length line → last_line line ≡ line ∷ []

@@ -1,12 +1,12 @@
 -- The lines of bytes are the only ones that they split into.
-use Rattle.std.proofs.Common.{◌≡◌, ◌≢◌, ℕ, List, [], ◌∷◌, ◌++◌, Bool, true, false, nat_eq, refl, sym, ap, ◌∙◌, append_assoc, arith}
+use Rattle.std.proofs.Common.{◌≡◌, ◌≢◌, ℕ, zero, suc, ◌+◌, ◌-◌, ◌<◌, ◌≤◌, List, [], ◌∷◌, ◌++◌, length, take, get_or, Bool, true, false, nat_eq, refl, sym, ap, subst, ◌∙◌, append_assoc, arith}
 use Rattle.std.proofs.lemmas.Bool.Decides.{nat_tests}
-use Rattle.std.proofs.lemmas.List.{append-nil}
-use Rattle.ug_lines.specs.Lines.{whole_from, rest_from}
+use Rattle.std.proofs.lemmas.List.{append-nil, take_more, take_all}
+use Rattle.ug_lines.specs.Lines.{whole_from, rest_from, lines_from}
 use Rattle.ug_lines.specs.Splitting.{IsLine, AreLines, joined, Splits}
 use Rattle.ug_lines.proofs.Lines.{whole_from-end, rest_from-end, whole_from-byte, rest_from-byte, whole_from-nil, rest_from-nil}
 
-line-more : (line : List ℕ) (b : ℕ) → IsLine line → b ≢ 10 → IsLine (line ++ b ∷ [])
+pub line-more : (line : List ℕ) (b : ℕ) → IsLine line → b ≢ 10 → IsLine (line ++ b ∷ [])
 line-more [] b h k = (k, tt)
 line-more (c ∷ line) b h k = (h.0, line-more line b h.1 k)
 
@@ -51,15 +51,48 @@ pub splits : (bytes : List ℕ) → Splits bytes (whole_from [] bytes) (rest_fro
 splits bytes = let r = begun [] bytes tt in record { whole = r.whole; each = r.each; open_line = r.open_line }
 
 -- bytes without a newline go onto the line
-whole_from-line : (line l more : List ℕ) → IsLine l → whole_from line (l ++ more) ≡ whole_from (line ++ l) more
+pub whole_from-line : (line l more : List ℕ) → IsLine l → whole_from line (l ++ more) ≡ whole_from (line ++ l) more
 whole_from-line line [] more h = ap (λ (x : List ℕ). whole_from x more) (sym (append-nil line))
 whole_from-line line (b ∷ l) more h =
     whole_from-byte line b (l ++ more) (tested b h.0) ∙ (whole_from-line (line ++ b ∷ []) l more h.1 ∙ ap (λ (x : List ℕ). whole_from x more) (append_assoc line (b ∷ []) l))
 
-rest_from-line : (line l more : List ℕ) → IsLine l → rest_from line (l ++ more) ≡ rest_from (line ++ l) more
+pub rest_from-line : (line l more : List ℕ) → IsLine l → rest_from line (l ++ more) ≡ rest_from (line ++ l) more
 rest_from-line line [] more h = ap (λ (x : List ℕ). rest_from x more) (sym (append-nil line))
 rest_from-line line (b ∷ l) more h =
     rest_from-byte line b (l ++ more) (tested b h.0) ∙ (rest_from-line (line ++ b ∷ []) l more h.1 ∙ ap (λ (x : List ℕ). rest_from x more) (append_assoc line (b ∷ []) l))
+
+-- bytes without a newline end no line
+pub whole_from-run : (line run : List ℕ) → IsLine run → whole_from line run ≡ []
+whole_from-run line run h = ap (λ (x : List ℕ). whole_from line x) (sym (append-nil run)) ∙ (whole_from-line line run [] h ∙ whole_from-nil (line ++ run))
+
+pub rest_from-run : (line run : List ℕ) → IsLine run → rest_from line run ≡ line ++ run
+rest_from-run line run h = ap (λ (x : List ℕ). rest_from line x) (sym (append-nil run)) ∙ (rest_from-line line run [] h ∙ rest_from-nil (line ++ run))
+
+pub lines_from-run : (line run more : List ℕ) → IsLine run → lines_from line (run ++ more) ≡ lines_from (line ++ run) more
+lines_from-run line run more h = rw (whole_from-line line run more h, rest_from-line line run more h) refl
+
+-- the front of a line
+pub line-front : (n : ℕ) (line : List ℕ) → IsLine line → IsLine (take n line)
+line-front zero line h = tt
+line-front (suc n) [] h = tt
+line-front (suc n) (b ∷ line) h = (h.0, line-front n line h.1)
+
+pub line-take_more : (bytes : List ℕ) (i : ℕ) → i < length bytes → IsLine (take i bytes) → get_or bytes i 0 ≢ 10 → IsLine (take (i + 1) bytes)
+line-take_more bytes i lt h k = subst (λ (xs : List ℕ). IsLine xs) (sym (take_more bytes i 0 lt)) (line-more (take i bytes) (get_or bytes i 0) h k)
+
+pub line-take_all : (bytes : List ℕ) (i n : ℕ) → length bytes ≤ i → IsLine (take i bytes) → IsLine (take n bytes)
+line-take_all bytes i n le h = line-front n bytes (subst (λ (xs : List ℕ). IsLine xs) (take_all i bytes le) h)
+
+-- bytes of which only the last may be a newline
+last_taken : (part : List ℕ) → 0 < length part → part ≡ take (length part - 1) part ++ get_or part (length part - 1) 0 ∷ []
+last_taken part some =
+    sym (take_all (length part - 1 + 1) part (omega arith)) ∙ take_more part (length part - 1) 0 (omega arith)
+
+pub part-line : (part : List ℕ) → 0 < length part → IsLine (take (length part - 1) part) → get_or part (length part - 1) 0 ≢ 10 → IsLine part
+part-line part some h k = subst (λ (xs : List ℕ). IsLine xs) (sym (last_taken part some)) (line-more (take (length part - 1) part) (get_or part (length part - 1) 0) h k)
+
+pub part-ended : (part : List ℕ) → 0 < length part → get_or part (length part - 1) 0 ≡ 10 → part ≡ take (length part - 1) part ++ 10 ∷ []
+part-ended part some e = last_taken part some ∙ ap (λ (b : ℕ). take (length part - 1) part ++ b ∷ []) e
 
 whole_joined : (lines : List (List ℕ)) (rest : List ℕ) → AreLines lines → IsLine rest → whole_from [] (joined lines rest) ≡ lines
 whole_joined [] rest h k =

@@ -1,5 +1,5 @@
 -- What the calls that take lines leave.
-use Rattle.std.specs.Prelude.{ℕ, ◌≡◌, ◌+◌, List, [], ◌++◌, Option, Some, None, ◌⊎◌}
+use Rattle.std.specs.Prelude.{ℕ, ◌≡◌, ◌<◌, ◌≤◌, ◌+◌, length, List, [], ◌++◌, Option, Some, None, ◌⊎◌}
 use Rattle.std.specs.Io.KnownBytes.{Appends, Consumes, Keeps, IsAtEnd}
 use Rattle.ug_types.specs.Ends.{Puts}
 use Rattle.ug_types.specs.declared.sink.Put.TheVariants.{Failed}
@@ -58,6 +58,14 @@ Fed step line0 n0 m0 bytes line n m added TooLong = Stops step line0 n0 m0 bytes
 -- the line was carried out, and its text was cut
 Fed step line0 n0 m0 bytes line n m added SinkFailed = (rest : List ℕ) × Shows step n0 m0 (whole_from line0 bytes) (added ++ rest) m
 Fed step line0 n0 m0 bytes line n m added Memory = (next : _) × Shows step n0 m0 (whole_from line0 bytes) added next
+
+-- bytes without a newline go onto a line that has begun behind n lines
+abbrev pub Extends : List ℕ → ℕ → List ℕ → Ran → List ℕ → Type 0
+Extends line n run Done new = new ≡ line ++ run
+Extends line n run Bad new = (0 < length run) × ((1048576 ≤ n) ⊎ (1048576 < length line + length run))
+Extends line n run TooLong new = ⊥
+Extends line n run SinkFailed new = ⊥
+Extends line n run Memory new = Unit {0}
 
 -- the same, with what the sink holds
 pub record Feeds {M : Type 0} (step : M → List ℕ → Outcome M) (line0 : List ℕ) (n0 : ℕ) (m0 : M) (held0 : Option (List ℕ)) (bytes : List ℕ) (ran : Ran) (line : List ℕ) (n : ℕ) (m : M) (held : Option (List ℕ)) : Type 0 where
