@@ -79,6 +79,9 @@ pub stop_at : (configs : List Config) (at kind : ℕ) (bytes : List ℕ) → at 
 stop_at configs at kind bytes h e =
     stop configs at kind (drop at bytes) (omega (arith, length-drop at bytes)) (ap (fault_at (some_config configs)) (sym (rest_is at bytes)) ∙ e)
 
-pub end_at : (configs : List Config) (at : ℕ) (bytes : List ℕ) → length bytes ≤ at → read_from configs at 0 (drop at bytes) ≡ Ok configs
+pub nothing_left : (configs : List Config) (place : ℕ) → read_from configs place 0 [] ≡ Ok configs
 unfolding read_from
-end_at configs at bytes h = ap (read_from configs at 0) (drop_all at bytes h)
+nothing_left configs place = refl
+
+pub end_at : (configs : List Config) (at : ℕ) (bytes : List ℕ) → length bytes ≤ at → read_from configs at 0 (drop at bytes) ≡ Ok configs
+end_at configs at bytes h = ap (read_from configs at 0) (drop_all at bytes h) ∙ nothing_left configs at
