@@ -5,8 +5,11 @@ use Rattle.std.proofs.lemmas.List.{append-nil, take-append-drop, length-take-le}
 use Rattle.std.proofs.Math.Seq.{take-add, take-append_seam, drop-append_seam, drop-append-add}
 use Rattle.ug_descr.specs.declared.descriptors.Config.{Config}
 use Rattle.ug_descr.specs.declared.descriptors.Descr.{Descr}
-use Rattle.ug_descr.specs.Reading.{Fault, decoded, descr_of, fault_at, number_at, read_from, triple_at, under}
-use Rattle.ug_descr.specs.Grammar.{Bad, BadDescriptor, Good, IsDescriptor, IsDevice, configs_of}
+use Rattle.std.specs.Prelude.{IfOk, IfErr}
+use Rattle.ug_descr.specs.declared.fault.DescrFault.{DescrFault}
+use Rattle.ug_descr.specs.declared.fault.DescrFault.TheVariants.{Malformed, Memory}
+use Rattle.ug_descr.specs.Reading.{Answers, Fault, decoded, descr_of, fault_at, number_at, read_from, triple_at, under}
+use Rattle.ug_descr.specs.Grammar.{Bad, BadDescriptor, Good, IfMalformed, IsDescriptor, IsDevice, configs_of}
 use Rattle.ug_descr.proofs.Cut.{Cut, Stopped, Whole, all_read, cut}
 use Rattle.ug_descr.proofs.Faults.{faulty_first, is_faulty, is_least}
 use Rattle.ug_descr.proofs.Grouping.{add_all, grouped}
@@ -181,3 +184,37 @@ read_bad bytes kind place e =
         let same : m.0 ≡ f = cc in
         subst (λ (g : Fault). Bad bytes g.kind g.place) same m.1
     ]
+
+-- what an answer says, where it is what was read
+pub answer_good : (bytes : List ℕ) (result : Result Descr DescrFault) → Answers result (decoded bytes) → IfOk result (λ descr. Good bytes descr)
+answer_good bytes (Ok descr) a = read_good bytes descr a
+answer_good bytes (Err e) a = tt
+
+pub answer_bad : (bytes : List ℕ) (result : Result Descr DescrFault) → Answers result (decoded bytes) → IfErr result (λ e. IfMalformed e (Bad bytes))
+answer_bad bytes (Ok descr) a = tt
+answer_bad bytes (Err (Malformed kind place)) a = read_bad bytes kind place a
+answer_bad bytes (Err Memory) a = tt
+
+pub answer_only_good : (bytes : List ℕ) (result : Result Descr DescrFault) → Answers result (decoded bytes) → (descr : Descr) → Good bytes descr → Answers result (Ok descr)
+answer_only_good bytes result a descr g = subst (λ (read : Result Descr Fault). Answers result read) (good_read bytes descr g) a
+
+pub answer_only_bad : (bytes : List ℕ) (result : Result Descr DescrFault) → Answers result (decoded bytes) → (kind place : ℕ) → Bad bytes kind place → Answers result (Err (record { kind = kind; place = place }))
+answer_only_bad bytes result a kind place b = subst (λ (read : Result Descr Fault). Answers result read) (bad_read bytes kind place b) a
+
+pub some_meaning : (bytes : List ℕ) → ((descr : Descr) × Good bytes descr) ⊎ ((kind : ℕ) × (place : ℕ) × Bad bytes kind place)
+some_meaning bytes = elim (meaning bytes) [ inl m ↦ inl (m.0, m.1) | inr m ↦ inr (m.0.kind, m.0.place, m.1) ]
+
+pub same_descr : (bytes : List ℕ) (a b : Descr) → Good bytes a → Good bytes b → a ≡ b
+same_descr bytes a b g h = let e = good_read bytes a g in let f = good_read bytes b h in cc
+
+pub same_fault : (bytes : List ℕ) (kind place other_kind other_place : ℕ) → Bad bytes kind place → Bad bytes other_kind other_place → (kind ≡ other_kind) × (place ≡ other_place)
+same_fault bytes kind place other_kind other_place g h =
+    let e = bad_read bytes kind place g in
+    let f = bad_read bytes other_kind other_place h in
+    let A : Fault = record { kind = kind; place = place } in
+    let B : Fault = record { kind = other_kind; place = other_place } in
+    let same : A ≡ B = cc in
+    (ap (λ (x : Fault). x.kind) same, ap (λ (x : Fault). x.place) same)
+
+pub not_both : (bytes : List ℕ) (descr : Descr) (kind place : ℕ) → Good bytes descr → Bad bytes kind place → ⊥
+not_both bytes descr kind place g h = let e = good_read bytes descr g in let f = bad_read bytes kind place h in cc
