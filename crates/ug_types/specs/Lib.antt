@@ -1,3 +1,5 @@
+pub mod Elements
 pub mod Ends
 pub mod Names
 pub mod Padded
+pub mod Sweep

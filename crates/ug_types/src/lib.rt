@@ -18,7 +18,7 @@ pub use host::{ReaderSource, WriterSink};
 pub use line::Line;
 pub use list::List;
 pub use memory::{MemSink, MemSource};
-pub use name::{NameFault, NodeName};
+pub use name::{NameFault, NodeName, sort_names, sweep_order};
 pub use no_memory::NoMemory;
 pub use record::{Attrs, DeviceRecord, Judged, Triple};
 pub use rule::{Cond, CondKind, Conds, Id, Iface, Op, Query, Rule, Values};
