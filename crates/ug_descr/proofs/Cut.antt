@@ -1,13 +1,13 @@
 -- Bytes cut into descriptors, up to the first fault.
-use Rattle.std.proofs.Common.{◌≡◌, ℕ, zero, suc, ◌+◌, ◌-◌, ◌<◌, ◌≤◌, ◌⊎◌, inl, inr, Bool, true, false, not, ◌||◌, nat_eq, List, [], ◌∷◌, ◌++◌, length, length-append, length-drop, length-take, take, drop, slice_index, Option, None, Some, Result, Ok, Err, refl, sym, ap, subst, ◌∙◌, arith, append_assoc}
+use Rattle.std.proofs.Common.{◌≡◌, ℕ, zero, suc, ◌+◌, ◌<◌, ◌≤◌, ◌⊎◌, inl, inr, Bool, true, List, [], ◌∷◌, ◌++◌, length, length-append, length-drop, take, drop, slice_index, Option, None, Some, refl, sym, ap, subst, ◌∙◌, arith, append_assoc}
 use Rattle.std.specs.List.{AllByRecursion, concat}
-use Rattle.std.proofs.lemmas.List.{append-nil, take-append-drop, length-take-le}
+use Rattle.std.proofs.lemmas.List.{take-append-drop, length-take-le}
 use Rattle.std.proofs.Math.Seq.{drop-append_seam, take-append_seam}
 use Rattle.ug_descr.specs.declared.descriptors.Config.{Config}
-use Rattle.ug_descr.specs.Reading.{Fault, fault_at, read_from, with_piece}
+use Rattle.ug_descr.specs.Reading.{fault_at, read_from, with_piece}
 use Rattle.ug_descr.specs.Grammar.{IsDescriptor}
 use Rattle.ug_descr.proofs.Faults.{no_fault}
-use Rattle.ug_descr.proofs.Order.{Ordered, is_config}
+use Rattle.ug_descr.proofs.Order.{Ordered}
 use Rattle.ug_descr.proofs.Grouping.{add_all, some_piece}
 use Rattle.ug_descr.proofs.Steps.{some_config, Sound, sound, next}
 
@@ -24,7 +24,7 @@ one configs place (n ∷ t ∷ rest) tail d b =
     let xs : List ℕ = n ∷ t ∷ (rest ++ tail) in
     let long : length xs ≡ length (n ∷ t ∷ rest) + length tail = length-append (n ∷ t ∷ rest) tail in
     let f : fault_at (some_config configs) xs ≡ None =
-        no_fault (some_config configs) xs (omega (arith, d.0, d.1)) (omega (arith, d.1, long)) (λ e. omega (arith, d.1, d.2 e)) (λ e. omega (arith, d.1, d.3 e)) b in
+    no_fault (some_config configs) xs (omega (arith, d.0, d.1)) (omega (arith, d.1, long)) (λ e. omega (arith, d.1, d.2 e)) (λ e. omega (arith, d.1, d.3 e)) b in
     let front : take n xs ≡ n ∷ t ∷ rest = ap (λ (k : ℕ). take k xs) d.1 ∙ take-append_seam (n ∷ t ∷ rest) tail in
     let back : drop n xs ≡ tail = ap (λ (k : ℕ). drop k xs) d.1 ∙ drop-append_seam (n ∷ t ∷ rest) tail in
     next configs place xs (omega arith) f
@@ -77,7 +77,7 @@ longer configs piece xs d b (inl w) = inl (record {
   pieces = piece ∷ w.pieces;
   joined = ap (λ (l : List ℕ). piece ++ l) w.joined;
   each = (d, w.each);
-  order = (b, subst (λ (c : Bool). Ordered c w.pieces) (some_piece configs piece) w.order)
+  order = (b, subst (λ (c : Bool). Ordered c w.pieces) (some_piece configs piece) w.order);
 })
 longer configs piece xs d b (inr w) = inr (record {
   pieces = piece ∷ w.pieces;
@@ -87,7 +87,7 @@ longer configs piece xs d b (inr w) = inr (record {
   each = (d, w.each);
   order = (b, subst (λ (c : Bool). Ordered c w.pieces) (some_piece configs piece) w.order);
   begins = w.begins;
-  fault = w.fault
+  fault = w.fault;
 })
 
 pub cut : (n : ℕ) (configs : List Config) (xs : List ℕ) → length xs ≤ n → Cut configs xs
@@ -96,12 +96,12 @@ cut zero configs (x ∷ xs) h = absurd (omega (arith, h))
 cut (suc n) configs (x ∷ xs) h =
     let G : Option ℕ → Type 0 = λ o. fault_at (some_config configs) (x ∷ xs) ≡ o → Cut configs (x ∷ xs) in
     let g : (o : Option ℕ) → G o = λ o. elim o as G [
-      None ↦ λ e.
-        let s : Sound (some_config configs) (x ∷ xs) = sound (some_config configs) (x ∷ xs) e in
-        let p = front_piece configs (x ∷ xs) s in
-        let less : length (drop x (x ∷ xs)) ≤ n = omega (arith, h, s.two, length-drop x (x ∷ xs)) in
-        let later = cut n (with_piece configs (take x (x ∷ xs))) (drop x (x ∷ xs)) less in
-        subst (λ (l : List ℕ). Cut configs l) (take-append-drop x (x ∷ xs)) (longer configs (take x (x ∷ xs)) (drop x (x ∷ xs)) p.0 p.1 later)
-    | Some kind ↦ λ e. inr (record { pieces = []; tail = x ∷ xs; kind = kind; joined = refl; each = tt; order = tt; begins = omega arith; fault = e })
+      | None ↦ λ e.
+          let s : Sound (some_config configs) (x ∷ xs) = sound (some_config configs) (x ∷ xs) e in
+          let p = front_piece configs (x ∷ xs) s in
+          let less : length (drop x (x ∷ xs)) ≤ n = omega (arith, h, s.two, length-drop x (x ∷ xs)) in
+          let later = cut n (with_piece configs (take x (x ∷ xs))) (drop x (x ∷ xs)) less in
+          subst (λ (l : List ℕ). Cut configs l) (take-append-drop x (x ∷ xs)) (longer configs (take x (x ∷ xs)) (drop x (x ∷ xs)) p.0 p.1 later)
+      | Some kind ↦ λ e. inr (record { pieces = []; tail = x ∷ xs; kind = kind; joined = refl; each = tt; order = tt; begins = omega arith; fault = e })
     ] in
     g (fault_at (some_config configs) (x ∷ xs)) refl

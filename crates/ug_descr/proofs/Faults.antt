@@ -1,5 +1,5 @@
 -- The first fault at a descriptor, by the tests and as a relation.
-use Rattle.std.proofs.Common.{◌≡◌, ℕ, ◌<◌, ◌≤◌, ◌⊎◌, Bool, true, false, not, ◌&&◌, nat_eq, nat_lt, List, [], ◌∷◌, length, slice_index, Option, None, Some, refl, arith, ap, sym, ◌∙◌}
+use Rattle.std.proofs.Common.{◌≡◌, ℕ, ◌<◌, ◌≤◌, Bool, true, List, [], ◌∷◌, length, slice_index, Option, None, Some, refl, arith, ap, ◌∙◌}
 use Rattle.ug_descr.specs.declared.descriptors.Descr.{Descr}
 use Rattle.ug_descr.specs.declared.descriptors.Config.{Config}
 use Rattle.ug_descr.specs.Reading.{fault_at}
@@ -26,11 +26,11 @@ pub faulty_first : (before : Descr) (rest : List ℕ) (kind : ℕ) → Faulty be
 faulty_first before rest kind f least =
     let G : Option ℕ → Type 0 = λ o. fault_at (some_config before.configs) rest ≡ o → fault_at (some_config before.configs) rest ≡ Some kind in
     let g : (o : Option ℕ) → G o = λ o. elim o as G [
-      None ↦ λ e. absurd (not_none before rest kind e f)
-    | Some found ↦ λ e.
-        let above : found < kind → ⊥ = λ h. least found h (is_faulty before rest found e) in
-        let below : kind < found → ⊥ = λ h. is_least before rest found kind e h f in
-        let same : found ≡ kind = grind arith in
-        e ∙ ap (λ (k : ℕ). Some k) same
+      | None ↦ λ e. absurd (not_none before rest kind e f)
+      | Some found ↦ λ e.
+          let above : found < kind → ⊥ = λ h. least found h (is_faulty before rest found e) in
+          let below : kind < found → ⊥ = λ h. is_least before rest found kind e h f in
+          let same : found ≡ kind = grind arith in
+          e ∙ ap (λ (k : ℕ). Some k) same
     ] in
     g (fault_at (some_config before.configs) rest) refl

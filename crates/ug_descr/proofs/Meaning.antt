@@ -1,18 +1,18 @@
 -- What is read is what the cut into descriptors says.
-use Rattle.std.proofs.Common.{◌≡◌, ℕ, zero, suc, ◌+◌, ◌-◌, ◌<◌, ◌≤◌, ◌⊎◌, inl, inr, Bool, true, false, not, ◌&&◌, nat_eq, nat_lt, List, [], ◌∷◌, ◌++◌, length, length-append, length-drop, length-take, take, drop, slice_index, get_or, Option, None, Some, Result, Ok, Err, refl, sym, ap, subst, ◌∙◌, arith, append_assoc}
+use Rattle.std.proofs.Common.{◌≡◌, ℕ, zero, suc, ◌+◌, ◌<◌, ◌≤◌, ◌⊎◌, inl, inr, Bool, true, false, ◌&&◌, nat_eq, nat_lt, List, [], ◌∷◌, ◌++◌, length, length-append, length-drop, take, drop, slice_index, Some, Result, Ok, Err, refl, sym, ap, subst, ◌∙◌, arith, append_assoc}
 use Rattle.std.specs.List.{AllByRecursion, concat}
 use Rattle.std.proofs.lemmas.List.{append-nil, take-append-drop, length-take-le}
-use Rattle.std.proofs.Math.Seq.{take-add, take-append_seam, drop-append_seam, drop-append-add}
+use Rattle.std.proofs.Math.Seq.{take-append_seam, drop-append_seam}
 use Rattle.ug_descr.specs.declared.descriptors.Config.{Config}
 use Rattle.ug_descr.specs.declared.descriptors.Descr.{Descr}
 use Rattle.std.specs.Prelude.{IfOk, IfErr}
 use Rattle.ug_descr.specs.declared.fault.DescrFault.{DescrFault}
 use Rattle.ug_descr.specs.declared.fault.DescrFault.TheVariants.{Malformed, Memory}
-use Rattle.ug_descr.specs.Reading.{Answers, Fault, decoded, descr_of, fault_at, number_at, read_from, triple_at, under}
+use Rattle.ug_descr.specs.Reading.{Answers, Fault, decoded, descr_of, fault_at, read_from, under}
 use Rattle.ug_descr.specs.Grammar.{Bad, BadDescriptor, Good, IfMalformed, IsDescriptor, IsDevice, configs_of}
 use Rattle.ug_descr.proofs.Cut.{Cut, Stopped, Whole, all_read, cut}
 use Rattle.ug_descr.proofs.Faults.{faulty_first, is_faulty, is_least}
-use Rattle.ug_descr.proofs.Grouping.{add_all, grouped}
+use Rattle.ug_descr.proofs.Grouping.{grouped}
 use Rattle.ug_descr.proofs.Order.{Ordered, in_order, ordered}
 use Rattle.ug_descr.proofs.Steps.{nothing_left, some_config, stop}
 
@@ -34,12 +34,12 @@ front_cases bytes =
     let A : Bool → Type 0 = λ b. nat_lt (length bytes) 18 ≡ b → P in
     let B : Bool → Type 0 = λ b. nat_eq (slice_index bytes 0) 18 && nat_eq (slice_index bytes 1) 1 ≡ b → 18 ≤ length bytes → P in
     let g : (b : Bool) → B b = λ b. elim b as B [
-      true ↦ λ e h. inr (inr (h, grind arith, grind arith))
-    | false ↦ λ e h. inr (inl (h, λ (p, q). grind arith))
+      | true ↦ λ e h. inr (inr (h, grind arith, grind arith))
+      | false ↦ λ e h. inr (inl (h, λ (p, q). grind arith))
     ] in
     let f : (b : Bool) → A b = λ b. elim b as A [
-      true ↦ λ e. inl (grind arith)
-    | false ↦ λ e. g (nat_eq (slice_index bytes 0) 18 && nat_eq (slice_index bytes 1) 1) refl (grind arith)
+      | true ↦ λ e. inl (grind arith)
+      | false ↦ λ e. g (nat_eq (slice_index bytes 0) 18 && nat_eq (slice_index bytes 1) 1) refl (grind arith)
     ] in
     f (nat_lt (length bytes) 18) refl
 
@@ -88,13 +88,13 @@ bad_read bytes kind place (inr (inr b)) =
     let g = b.good in
     let tail : List ℕ = drop place bytes in
     let same : bytes ≡ g.device ++ (concat g.others ++ tail) =
-        sym (take-append-drop place bytes) ∙ ap (λ (l : List ℕ). l ++ tail) g.joined ∙ append_assoc g.device (concat g.others) tail in
+    sym (take-append-drop place bytes) ∙ ap (λ (l : List ℕ). l ++ tail) g.joined ∙ append_assoc g.device (concat g.others) tail in
     let at : 18 + length (concat g.others) ≡ place =
-        omega (arith, g.is_device.0, length-append g.device (concat g.others), ap length g.joined, length-take-le place bytes (omega (arith, b.begins))) in
+    omega (arith, g.is_device.0, length-append g.device (concat g.others), ap length g.joined, length-take-le place bytes (omega (arith, b.begins))) in
     let begins : 0 < length tail = omega (arith, b.begins, length-drop place bytes) in
     let configs : b.before.configs ≡ configs_of g.others = ap (λ (d : Descr). d.configs) g.says in
     let fault : fault_at (some_config (configs_of g.others)) tail ≡ Some kind =
-        ap (λ (l : List Config). fault_at (some_config l) tail) (sym configs) ∙ faulty_first b.before tail kind b.faulty b.least in
+    ap (λ (l : List Config). fault_at (some_config l) tail) (sym configs) ∙ faulty_first b.before tail kind b.faulty b.least in
     ap decoded same
     ∙ stopped_read g.device tail g.others kind g.is_device g.each (ordered g.others g.in_order) begins fault
     ∙ ap (λ (p : ℕ). Err (record { kind = kind; place = p })) at
@@ -107,7 +107,7 @@ is_device : (bytes : List ℕ) → 18 ≤ length bytes → slice_index bytes 0 �
 is_device bytes h a b =
     let long : length (take 18 bytes) ≡ 18 = length-take-le 18 bytes h in
     let at : (i : ℕ) → i < 18 → slice_index (take 18 bytes) i ≡ slice_index bytes i =
-        λ i l. sym (at_front (take 18 bytes) (drop 18 bytes) i (omega (arith, l, long))) ∙ ap (λ (t : List ℕ). slice_index t i) (take-append-drop 18 bytes) in
+    λ i l. sym (at_front (take 18 bytes) (drop 18 bytes) i (omega (arith, l, long))) ∙ ap (λ (t : List ℕ). slice_index t i) (take-append-drop 18 bytes) in
     (long, at 0 (omega arith) ∙ a, at 1 (omega arith) ∙ b)
 
 whole_means : (bytes : List ℕ) → IsDevice (take 18 bytes) → Whole [] (drop 18 bytes) → Meaning bytes
@@ -120,7 +120,7 @@ whole_means bytes d w =
       is_device = d;
       each = w.each;
       in_order = in_order w.pieces w.order;
-      says = refl
+      says = refl;
     } in
     inl (descr, g, good_read bytes descr g)
 
@@ -129,13 +129,13 @@ stopped_means bytes d s =
     let front : List ℕ = take 18 bytes ++ concat s.pieces in
     let place : ℕ = 18 + length (concat s.pieces) in
     let all : bytes ≡ front ++ s.tail =
-        sym (take-append-drop 18 bytes) ∙ ap (λ (l : List ℕ). take 18 bytes ++ l) s.joined ∙ sym (append_assoc (take 18 bytes) (concat s.pieces) s.tail) in
+    sym (take-append-drop 18 bytes) ∙ ap (λ (l : List ℕ). take 18 bytes ++ l) s.joined ∙ sym (append_assoc (take 18 bytes) (concat s.pieces) s.tail) in
     let at : length front ≡ place = omega (arith, d.0, length-append (take 18 bytes) (concat s.pieces)) in
     let taken : take place bytes ≡ front = ap (λ (n : ℕ). take n bytes) (sym at) ∙ ap (take (length front)) all ∙ take-append_seam front s.tail in
     let left : drop place bytes ≡ s.tail = ap (λ (n : ℕ). drop n bytes) (sym at) ∙ ap (drop (length front)) all ∙ drop-append_seam front s.tail in
     let before : Descr = descr_of (take 18 bytes) (configs_of s.pieces) in
     let fault : fault_at (some_config before.configs) (drop place bytes) ≡ Some s.kind =
-        ap (fault_at (some_config before.configs)) left ∙ ap (λ (l : List Config). fault_at (some_config l) s.tail) (sym (grouped s.pieces)) ∙ s.fault in
+    ap (fault_at (some_config before.configs)) left ∙ ap (λ (l : List Config). fault_at (some_config l) s.tail) (sym (grouped s.pieces)) ∙ s.fault in
     let b : BadDescriptor bytes s.kind place = record {
       before = before;
       good = record {
@@ -145,11 +145,11 @@ stopped_means bytes d s =
         is_device = d;
         each = s.each;
         in_order = in_order s.pieces s.order;
-        says = refl
+        says = refl;
       };
       begins = omega (arith, at, ap length all, length-append front s.tail, s.begins);
       faulty = is_faulty before (drop place bytes) s.kind fault;
-      least = λ lesser l f. is_least before (drop place bytes) s.kind lesser fault l f
+      least = λ lesser l f. is_least before (drop place bytes) s.kind lesser fault l f;
     } in
     let f : Fault = record { kind = s.kind; place = place } in
     inr (f, inr (inr b), bad_read bytes s.kind place (inr (inr b)))
@@ -161,28 +161,28 @@ meaning bytes =
     let F : Type 0 = (18 ≤ length bytes) × (slice_index bytes 0 ≡ 18) × (slice_index bytes 1 ≡ 1) in
     let behind : IsDevice (take 18 bytes) → Cut [] (drop 18 bytes) → Meaning bytes = λ d c. elim c [ inl w ↦ whole_means bytes d w | inr s ↦ stopped_means bytes d s ] in
     elim (front_cases bytes) [
-      inl s ↦ let f : Fault = record { kind = 1; place = length bytes } in inr (f, inl (refl, refl, s), short bytes s)
-    | inr r ↦ elim r [
-        inl o ↦ let f : Fault = record { kind = 2; place = 0 } in inr (f, inr (inl (refl, refl, o.0, o.1)), other_front bytes o.0 o.1)
-      | inr d ↦ behind (is_device bytes d.0 d.1 d.2) (cut (length (drop 18 bytes)) [] (drop 18 bytes) (omega arith))
+      | inl s ↦ let f : Fault = record { kind = 1; place = length bytes } in inr (f, inl (refl, refl, s), short bytes s)
+      | inr r ↦ elim r [
+        | inl o ↦ let f : Fault = record { kind = 2; place = 0 } in inr (f, inr (inl (refl, refl, o.0, o.1)), other_front bytes o.0 o.1)
+        | inr d ↦ behind (is_device bytes d.0 d.1 d.2) (cut (length (drop 18 bytes)) [] (drop 18 bytes) (omega arith))
       ]
     ]
 
 pub read_good : (bytes : List ℕ) (descr : Descr) → decoded bytes ≡ Ok descr → Good bytes descr
 read_good bytes descr e =
     elim (meaning bytes) [
-      inl m ↦ let same : m.0 ≡ descr = cc in subst (Good bytes) same m.1
-    | inr m ↦ let none : ⊥ = cc in absurd none
+      | inl m ↦ let same : m.0 ≡ descr = cc in subst (Good bytes) same m.1
+      | inr m ↦ let none : ⊥ = cc in absurd none
     ]
 
 pub read_bad : (bytes : List ℕ) (kind place : ℕ) → decoded bytes ≡ Err (record { kind = kind; place = place }) → Bad bytes kind place
 read_bad bytes kind place e =
     elim (meaning bytes) [
-      inl m ↦ let none : ⊥ = cc in absurd none
-    | inr m ↦
-        let f : Fault = record { kind = kind; place = place } in
-        let same : m.0 ≡ f = cc in
-        subst (λ (g : Fault). Bad bytes g.kind g.place) same m.1
+      | inl m ↦ let none : ⊥ = cc in absurd none
+      | inr m ↦
+          let f : Fault = record { kind = kind; place = place } in
+          let same : m.0 ≡ f = cc in
+          subst (λ (g : Fault). Bad bytes g.kind g.place) same m.1
     ]
 
 -- what an answer says, where it is what was read

@@ -1,5 +1,5 @@
 -- The order of the pieces, from the front.
-use Rattle.std.proofs.Common.{◌≡◌, ℕ, ◌<◌, ◌≤◌, ◌⊎◌, Bool, true, false, ◌||◌, nat_eq, List, [], ◌∷◌, ◌++◌, length, slice_index, refl, sym, ap, ◌∙◌, arith, inl, inr}
+use Rattle.std.proofs.Common.{◌≡◌, ℕ, Bool, true, false, ◌||◌, nat_eq, List, [], ◌∷◌, ◌++◌, slice_index, refl, sym, ap, ◌∙◌, arith}
 use Rattle.ug_descr.specs.Grammar.{HasConfiguration, InOrder}
 
 abbrev pub is_config : List ℕ → Bool
@@ -19,11 +19,11 @@ stands [] e = absurd cc
 stands (piece ∷ pieces) e =
     let G : Bool → Type 0 = λ b. is_config piece ≡ b → HasConfiguration (piece ∷ pieces) in
     let g : (b : Bool) → G b = λ b. elim b as G [
-      true ↦ λ f. ([], piece, pieces, refl, grind arith)
-    | false ↦ λ f.
-        let later : has_config pieces ≡ true = grind arith in
-        let h = stands pieces later in
-        (piece ∷ h.0, h.1, h.2, ap (λ (l : List (List ℕ)). piece ∷ l) h.3, h.4)
+      | true ↦ λ f. ([], piece, pieces, refl, grind arith)
+      | false ↦ λ f.
+          let later : has_config pieces ≡ true = grind arith in
+          let h = stands pieces later in
+          (piece ∷ h.0, h.1, h.2, ap (λ (l : List (List ℕ)). piece ∷ l) h.3, h.4)
     ] in
     g (is_config piece) refl
 
@@ -44,10 +44,11 @@ or_false false e = e
 
 from_splits : (configured : Bool) (pieces : List (List ℕ)) → ((front : List (List ℕ)) (piece : List ℕ) (rest : List (List ℕ)) → pieces ≡ front ++ piece ∷ rest → slice_index piece 1 ≡ 4 → (configured || has_config front) ≡ true) → Ordered configured pieces
 from_splits configured [] h = tt
-from_splits configured (p ∷ pieces) h =
-    (λ e. or_false configured (h [] p pieces refl e),
-     from_splits (configured || is_config p) pieces (λ front piece rest s e.
-        sym (or_assoc configured (is_config p) (has_config front)) ∙ h (p ∷ front) piece rest (ap (λ (l : List (List ℕ)). p ∷ l) s) e))
+from_splits configured (p ∷ pieces) h = (
+  λ e. or_false configured (h [] p pieces refl e),
+  from_splits (configured || is_config p) pieces (λ front piece rest s e.
+      sym (or_assoc configured (is_config p) (has_config front)) ∙ h (p ∷ front) piece rest (ap (λ (l : List (List ℕ)). p ∷ l) s) e),
+)
 
 pub ordered : (pieces : List (List ℕ)) → InOrder pieces → Ordered false pieces
 ordered pieces h = from_splits false pieces (λ front piece rest s e. seen front (h front piece rest s e))

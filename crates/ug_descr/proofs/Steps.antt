@@ -1,9 +1,9 @@
 -- One step of the reading.
-use Rattle.std.proofs.Common.{◌≡◌, ℕ, zero, suc, ◌+◌, ◌-◌, ◌<◌, ◌≤◌, Bool, true, false, not, nat_eq, nat_lt, List, [], ◌∷◌, ◌++◌, length, take, drop, slice_index, slice_index_or, slice_set, Option, None, Some, Result, Ok, Err, refl, sym, ap, ◌∙◌, arith, add-zero, length-drop}
+use Rattle.std.proofs.Common.{◌≡◌, ℕ, zero, suc, ◌+◌, ◌-◌, ◌<◌, ◌≤◌, Bool, true, not, nat_eq, List, [], ◌∷◌, ◌++◌, length, take, drop, slice_index, slice_index_or, slice_set, Option, None, Some, Ok, Err, refl, sym, ap, ◌∙◌, arith, add-zero, length-drop}
 use Rattle.std.proofs.lemmas.List.{take_all, drop_all, drop-drop}
 use Rattle.ug_descr.specs.declared.descriptors.Config.{Config}
 use Rattle.ug_descr.specs.declared.descriptors.IfaceDescr.{IfaceDescr}
-use Rattle.ug_descr.specs.Reading.{Fault, fault_at, read_from, with_interface, with_piece, unless}
+use Rattle.ug_descr.specs.Reading.{fault_at, read_from, with_interface, with_piece, unless}
 
 -- what no fault at a descriptor says of it
 pub record Sound (configured : Bool) (rest : List ℕ) : Type 0 where
@@ -19,7 +19,7 @@ sound configured rest e = record {
   within = grind arith;
   configuration = grind arith;
   interface = grind arith;
-  behind = grind arith
+  behind = grind arith;
 }
 
 pub with_last : (configs : List Config) (at : ℕ) (c : Config) (items : List IfaceDescr) (i : IfaceDescr) → length configs ≡ at + 1 → c ≡ slice_index_or configs at c → items ≡ c.items ++ i ∷ [] → slice_set configs at (record { value = c.value; count = c.count; items = items }) ≡ with_interface configs i

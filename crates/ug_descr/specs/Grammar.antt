@@ -1,5 +1,5 @@
 -- Descriptors as pieces that join to the bytes of the file: USB 2.0, 9.5 and 9.6.
-use Rattle.std.specs.Prelude.{◌≡◌, ℕ, ◌<◌, ◌≤◌, ◌⊎◌, nat_eq, if◌then◌else◌, List, [], ◌∷◌, ◌++◌, length, take, drop, slice_index, Result, Ok, Err}
+use Rattle.std.specs.Prelude.{◌≡◌, ℕ, ◌<◌, ◌≤◌, ◌⊎◌, nat_eq, if◌then◌else◌, List, [], ◌∷◌, ◌++◌, length, take, drop, slice_index}
 use Rattle.std.specs.List.{AllByRecursion, concat}
 use Rattle.ug_descr.specs.declared.descriptors.Descr.{Descr}
 use Rattle.ug_descr.specs.declared.descriptors.Config.{Config}

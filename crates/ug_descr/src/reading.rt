@@ -10,8 +10,11 @@ use std::alloc::Global;
 use ug_types::{List, NoMemory, Triple};
 
 const DEVICE_LENGTH: usize = 18;
+
 const DEVICE: u8 = 1;
+
 const CONFIGURATION: u8 = 2;
+
 const INTERFACE: u8 = 4;
 /// The least bLength of a configuration and of an interface descriptor.
 const LEAST_LENGTH: u8 = 9;
