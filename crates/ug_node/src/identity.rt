@@ -1,7 +1,9 @@
 // Binds a name.
 ghost use Rattle.std.specs.Prelude.{◌≡◌};
+ghost use Rattle.ug_types.specs.Names.{parent_of};
 ghost use Rattle.ug_itree.specs.Tree.{Runs};
 ghost use Rattle.ug_node.specs.Bind.{binding, binding_of};
+ghost use Rattle.ug_node.specs.Bound.{Binds, TellsFault};
 
 use crate::files::{Stop, read_own, read_parent};
 use std::alloc::Global;
@@ -40,9 +42,24 @@ fn stopped(stop: Stop) -> Binding
     }
 }
 
-/// Opens `authorized`, reads the four files and the parent's three, and probes the held file last.
-#[tactic(auto, unfolding(crate::specs::Bind::binding), using(ug_itree::proofs::Runs::runs_then))]
+/// Finds the device of a name: opens its `authorized`, reads its four files and its parent's three, and probes
+/// the held file last. What is read by name is so known to be of the device that is held.
 pub fn bind<Y: Sysfs>(
+    alloc: Global,
+    sysfs: &mut Y,
+    name: &NodeName,
+    parent: Option<NodeName>,
+) -> Binding
+    requires { parent ≡ parent_of name.now }
+    ensures runs { Runs Y.gives sysfs.old (binding name.now (parent_of name.now)) result sysfs.new }
+    ensures law { Binds Y.told sysfs.old name.now result sysfs.new }
+    ensures fault { TellsFault (Y.faults sysfs.old) (Y.calls sysfs.new) (Y.faults sysfs.new) result }
+{
+    bind_below(alloc, sysfs, name, parent)
+}
+
+#[tactic(auto, unfolding(crate::specs::Bind::binding), using(ug_itree::proofs::Runs::runs_then))]
+fn bind_below<Y: Sysfs>(
     alloc: Global,
     sysfs: &mut Y,
     name: &NodeName,

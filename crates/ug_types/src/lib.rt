@@ -2,11 +2,16 @@
 #![tactic(auto)]
 
 mod host;
+mod laws;
 mod line;
 mod list;
+mod marks;
 mod memory;
 mod name;
+#[cfg(test)]
+mod name_tests;
 mod no_memory;
+mod reading;
 mod record;
 mod rule;
 mod sink;
@@ -15,6 +20,7 @@ mod text;
 mod verdict;
 
 pub use host::{ReaderSource, WriterSink};
+pub use laws::parents_law;
 pub use line::Line;
 pub use list::List;
 pub use memory::{MemSink, MemSource};

@@ -1,0 +1,3 @@
+pub mod Grow
+pub mod Quiet
+pub mod Held

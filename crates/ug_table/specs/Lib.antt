@@ -1,0 +1,5 @@
+pub mod Standings
+pub mod Bring
+pub mod State
+pub mod Settle
+pub mod Sweep
