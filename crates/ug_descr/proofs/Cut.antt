@@ -11,11 +11,6 @@ use Rattle.ug_descr.proofs.Order.{Ordered}
 use Rattle.ug_descr.proofs.Grouping.{add_all, some_piece}
 use Rattle.ug_descr.proofs.Steps.{some_config, Sound, sound, next}
 
--- descriptors, each interface behind a configuration
-pub record Sequence (configured : Bool) (pieces : List (List ℕ)) : Type 0 where
-  pub each : AllByRecursion IsDescriptor pieces
-  pub order : Ordered configured pieces
-
 -- one piece is read
 one : (configs : List Config) (place : ℕ) (piece tail : List ℕ) → IsDescriptor piece → (slice_index piece 1 ≡ 4 → some_config configs ≡ true) → read_from configs place 0 (piece ++ tail) ≡ read_from (with_piece configs piece) (place + length piece) 0 tail
 one configs place [] tail d b = absurd (omega (arith, d.0))

@@ -1,10 +1,9 @@
 -- Records by what the descriptors mean.
-use Rattle.std.proofs.Common.{◌≡◌, ℕ, Bool, true, false, List, [], ◌∷◌, ◌++◌, Option, None, Some, Result, Ok, Err, refl, sym, ap, ◌∙◌, arith, nat_eq, if◌then◌else◌}
+use Rattle.std.proofs.Common.{◌≡◌, ℕ, Bool, true, false, List, [], ◌∷◌, ◌++◌, Option, Some, refl, ap, ◌∙◌, arith, nat_eq, if◌then◌else◌}
 use Rattle.ug_types.specs.declared.record.Attrs.{Attrs}
-use Rattle.ug_types.specs.declared.record.Judged.{Judged}
 use Rattle.ug_types.specs.declared.record.Judged.TheVariants as judged
 use Rattle.ug_descr.specs.declared.descriptors.Descr.{Descr}
-use Rattle.ug_descr.specs.Reading.{Fault, decoded}
+use Rattle.ug_descr.specs.Reading.{decoded}
 use Rattle.ug_descr.specs.Grammar.{Good, Bad}
 use Rattle.ug_descr.proofs.Meaning.{good_read, bad_read}
 use Rattle.ug_record.specs.Records.{text_of, judged_of, judged_under, parent_hash_of, hash_or_empty, hash_under, record_under}
@@ -19,8 +18,8 @@ other_stays [] h = refl
 other_stays (b ∷ []) h =
     let G : Bool → Type 0 = λ t. nat_eq b 10 ≡ t → text_of (b ∷ []) ≡ b ∷ [] in
     let g : (t : Bool) → G t = λ t. elim t as G [
-      true ↦ λ e. let same : b ≡ 10 = grind arith in absurd (h [] (ap (λ (n : ℕ). n ∷ []) same))
-    | false ↦ λ e. ap (λ (t : Bool). if t then [] else b ∷ []) e
+      | true ↦ λ e. let same : b ≡ 10 = grind arith in absurd (h [] (ap (λ (n : ℕ). n ∷ []) same))
+      | false ↦ λ e. ap (λ (t : Bool). if t then [] else b ∷ []) e
     ] in
     g (nat_eq b 10) refl
 other_stays (b ∷ c ∷ file) h = ap (λ (l : List ℕ). b ∷ l) (other_stays (c ∷ file) (λ text e. h (b ∷ text) (ap (λ (l : List ℕ). b ∷ l) e)))
