@@ -163,7 +163,7 @@ impl Table {
         ensures spare { out.old.spare ≤ out.new.spare + 4 }
         ensures next { self.new.next ≤ self.old.next + 1 }
     {
-        match bind(alloc, sysfs, name, name.parent()) {
+        match bind(alloc, sysfs, name) {
             Binding::Bound(bound) => self.admit(alloc, sysfs, name, present, judge, bound, out),
             Binding::Absent => Settled::Nobody,
             Binding::Vanished => Settled::Nobody,
