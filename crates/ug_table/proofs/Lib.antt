@@ -1,1 +1,4 @@
+pub mod Elements
 pub mod Loops
+pub mod Values
+pub mod Places
