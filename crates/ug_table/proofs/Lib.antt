@@ -4,3 +4,4 @@ pub mod Devices
 pub mod Standings
 pub mod Account
 pub mod Steps
+pub mod Written
