@@ -5,3 +5,5 @@ pub mod Standings
 pub mod Account
 pub mod Steps
 pub mod Written
+pub mod Fair
+pub mod FairSweep
