@@ -1,13 +1,15 @@
 -- The sweep is fair.
-use Rattle.std.proofs.Common.{◌≡◌, ℕ, Bool, true, false, not, List, [], ◌∷◌, ◌++◌, cond, ap}
+use Rattle.std.proofs.Common.{◌≡◌, ℕ, Option, Some, Bool, true, false, not, List, [], ◌∷◌, ◌++◌, cond, ap}
 use Rattle.std.specs.List.{filter}
 use Rattle.ug_types.specs.Sweep.{in_sweep_order}
 use Rattle.ug_kernel.specs.declared.calls.Listing.{Listing}
 use Rattle.ug_kernel.specs.declared.calls.Listing.TheVariants as listing
-use Rattle.ug_kernel.specs.Calls.{Names}
+use Rattle.ug_kernel.specs.Calls.{Call, Answer, Names}
 use Rattle.ug_kernel.specs.Kernel.{Kernel, IsKernel}
+use Rattle.ug_kernel.specs.Called.{Follows}
 use Rattle.ug_itree.specs.Tree.{Runs, calls}
 use Rattle.ug_itree.proofs.Runs.{runs_split}
+use Rattle.ug_itree.proofs.Told.{told_run}
 use Rattle.ug_audit.specs.declared.entry.Entry.{Entry}
 use Rattle.ug_audit.specs.declared.entry.Entry.TheVariants as entry
 use Rattle.ug_audit.specs.declared.entry.Fault.{Fault}
@@ -16,7 +18,7 @@ use Rattle.ug_table.specs.State.{State, noted, Kept, kept_of, with_kept}
 use Rattle.ug_table.specs.Standings.{lists, farewells}
 use Rattle.ug_table.specs.Settle.{settling, resettling}
 use Rattle.ug_table.specs.Sweep.{settling_all, resettling_all, parted, names_of, resumed, unlisted, marked_listed, if_room, after_list, sweeping}
-use Rattle.ug_table.specs.Laws.{Stand, IsFair}
+use Rattle.ug_table.specs.Laws.{Stand, IsFair, SweepsFairly}
 use Rattle.ug_table.specs.declared.standing.Standing.{Standing}
 use Rattle.ug_table.specs.declared.standing.Settled.{Settled}
 use Rattle.ug_table.proofs.Account.{Answers, Laters}
@@ -72,3 +74,9 @@ pub sweeping_fair : {J : Type 0} (answer : Answers J) (later : Laters J) (w : St
 unfolding sweeping
 sweeping_fair answer later w k l v sound stand r =
     after_list_fair l r.0.answer r.0.number r.0.count v (then_called Names r.0 r.1 tt r.2 (fair_refl answer later k w sound stand)) r.3
+
+-- and over the states of a run
+pub told_fair : {S J : Type 0} (gives : S → (call : Call) → Answer call → S → Type 0) (told : S → Option Kernel) (did : (s : S) (call : Call) (answer : Answer call) (t : S) (l : Kernel) → gives s call answer t → told t ≡ Some l → Follows call answer (told s) l) (answer : Answers J) (later : Laters J) (s : S) (w : State J) (t : S) (v : State J) → Runs gives s (sweeping answer later w) v t → SweepsFairly told answer later s w t v
+told_fair gives told did answer later s w t v r = λ l e.
+    let m = told_run gives told did (sweeping answer later w) s v t l r e in
+    (m.kernel, m.was, λ sound stand. sweeping_fair answer later w m.kernel l v sound stand (m.run sound).0)

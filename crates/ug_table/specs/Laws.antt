@@ -99,6 +99,11 @@ pub record IsFair {J : Type 0} (answer : J → Judged → Bool → Bool → Bool
   pub account : Account answer later l w.standings k.log w.judge w.next rest l.log v.judge v.next
   pub told : (s : Standing) → Has v.standings s → IsTold w.standings rest s
 
+-- where a kernel is told at the end of a sweep, one was told at its start; and where that is sound and the standings are of
+-- its devices, the sweep is fair
+abbrev pub SweepsFairly : {S J : Type 0} → (S → Option Kernel) → (J → Judged → Bool → Bool → Bool → Target × Cause) → (J → Judged → Bool → Bool → Bool → J) → S → State J → S → State J → Type 0
+SweepsFairly told answer later s w t v = (l : Kernel) → told t ≡ Some l → (k : Kernel) × (told s ≡ Some k) × (IsKernel k → Stand k w.standings w.next → IsFair answer later k w l v)
+
 -- the name is told as unsettled
 abbrev pub IsNamed : List Entry → List ℕ → Type 0
 IsNamed entries name = (why : Fault) × Has entries (entry.Unsettled name why)
