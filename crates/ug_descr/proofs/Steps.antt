@@ -1,9 +1,9 @@
 -- One step of the reading.
-use Rattle.std.proofs.Common.{◌≡◌, ℕ, zero, suc, ◌+◌, ◌-◌, ◌<◌, ◌≤◌, Bool, true, false, not, nat_eq, nat_lt, List, [], ◌∷◌, ◌++◌, length, take, drop, slice_index, slice_index_or, slice_set, Option, None, Some, Result, Ok, Err, refl, sym, ap, ◌∙◌, arith, add-zero, length-drop}
+use Rattle.std.proofs.Common.{◌≡◌, ℕ, zero, suc, ◌+◌, ◌-◌, ◌<◌, ◌≤◌, Bool, true, not, nat_eq, List, [], ◌∷◌, ◌++◌, length, take, drop, slice_index, slice_index_or, slice_set, Option, None, Some, Ok, Err, refl, sym, ap, ◌∙◌, arith, add-zero, length-drop}
 use Rattle.std.proofs.lemmas.List.{take_all, drop_all, drop-drop}
 use Rattle.ug_descr.specs.declared.descriptors.Config.{Config}
 use Rattle.ug_descr.specs.declared.descriptors.IfaceDescr.{IfaceDescr}
-use Rattle.ug_descr.specs.Reading.{Fault, fault_at, read_from, with_interface, with_piece, unless}
+use Rattle.ug_descr.specs.Reading.{fault_at, read_from, with_interface, with_piece, unless}
 
 -- what no fault at a descriptor says of it
 pub record Sound (configured : Bool) (rest : List ℕ) : Type 0 where
@@ -19,7 +19,7 @@ sound configured rest e = record {
   within = grind arith;
   configuration = grind arith;
   interface = grind arith;
-  behind = grind arith
+  behind = grind arith;
 }
 
 pub with_last : (configs : List Config) (at : ℕ) (c : Config) (items : List IfaceDescr) (i : IfaceDescr) → length configs ≡ at + 1 → c ≡ slice_index_or configs at c → items ≡ c.items ++ i ∷ [] → slice_set configs at (record { value = c.value; count = c.count; items = items }) ≡ with_interface configs i
@@ -79,6 +79,9 @@ pub stop_at : (configs : List Config) (at kind : ℕ) (bytes : List ℕ) → at 
 stop_at configs at kind bytes h e =
     stop configs at kind (drop at bytes) (omega (arith, length-drop at bytes)) (ap (fault_at (some_config configs)) (sym (rest_is at bytes)) ∙ e)
 
-pub end_at : (configs : List Config) (at : ℕ) (bytes : List ℕ) → length bytes ≤ at → read_from configs at 0 (drop at bytes) ≡ Ok configs
+pub nothing_left : (configs : List Config) (place : ℕ) → read_from configs place 0 [] ≡ Ok configs
 unfolding read_from
-end_at configs at bytes h = ap (read_from configs at 0) (drop_all at bytes h)
+nothing_left configs place = refl
+
+pub end_at : (configs : List Config) (at : ℕ) (bytes : List ℕ) → length bytes ≤ at → read_from configs at 0 (drop at bytes) ≡ Ok configs
+end_at configs at bytes h = ap (read_from configs at 0) (drop_all at bytes h) ∙ nothing_left configs at

@@ -1,5 +1,5 @@
 -- What the descriptors of a device say, read from the front, and the first fault in them.
-use Rattle.std.specs.Prelude.{ℕ, zero, suc, ◌+◌, ◌-◌, Bool, true, false, not, ◌&&◌, ◌||◌, nat_eq, nat_lt, if◌then◌else◌, List, [], ◌∷◌, ◌++◌, length, take, drop, map, flat_map, slice_index, Option, None, Some, Result, Ok, Err, ◌≡◌}
+use Rattle.std.specs.Prelude.{ℕ, zero, suc, ◌+◌, ◌-◌, Bool, not, ◌&&◌, nat_eq, nat_lt, if◌then◌else◌, List, [], ◌∷◌, ◌++◌, length, take, drop, map, flat_map, slice_index, Option, None, Some, Result, Ok, Err, ◌≡◌}
 use Rattle.std.specs.Int.{w16, from_le_bytes}
 use Rattle.ug_types.specs.declared.record.Triple.{Triple}
 use Rattle.ug_descr.specs.declared.descriptors.Descr.{Descr}

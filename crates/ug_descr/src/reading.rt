@@ -1,5 +1,7 @@
 // Descriptors read from their bytes.
-ghost use Rattle.std.specs.Prelude.{◌≡◌, ◌<◌, ◌≤◌, [], ◌+◌, length, drop, slice_index, vec_len, OnOk};
+ghost use Rattle.std.specs.Prelude.{◌≡◌, ◌<◌, ◌≤◌, [], ◌+◌, length, drop, slice_index, vec_len, OnOk, IfOk, IfErr, ℕ};
+ghost use Rattle.ug_descr.specs.declared.descriptors.Descr.{Descr};
+ghost use Rattle.ug_descr.specs.Grammar.{Good, Bad, IfMalformed};
 ghost use Rattle.ug_descr.specs.Reading.{Answers, decoded, number_at, triple_at, fault_at, interface_of, config_of, with_piece, with_interface, read_from};
 
 use crate::descriptors::{Config, Descr, IfaceDescr};
@@ -8,15 +10,28 @@ use std::alloc::Global;
 use ug_types::{List, NoMemory, Triple};
 
 const DEVICE_LENGTH: usize = 18;
+
 const DEVICE: u8 = 1;
+
 const CONFIGURATION: u8 = 2;
+
 const INTERFACE: u8 = 4;
 /// The least bLength of a configuration and of an interface descriptor.
 const LEAST_LENGTH: u8 = 9;
 
-/// What the bytes of the file `descriptors` say. Linear in their number.
-#[tactic(auto, unfolding(crate::specs::Reading::decoded))]
+/// What the bytes of the file `descriptors` say, or their first fault. Linear in the number of bytes.
 pub fn decode(alloc: Global, bytes: &[u8]) -> Result<Descr, DescrFault>
+    ensures good { IfOk result (λ descr. Good bytes.now descr) }
+    ensures only_good { (descr : Descr) → Good bytes.now descr → Answers result (Ok descr) }
+    ensures bad { IfErr result (λ e. IfMalformed e (Bad bytes.now)) }
+    ensures only_bad { (kind place : ℕ) → Bad bytes.now kind place → Answers result (Err (record { kind = kind; place = place })) }
+    ensures exact { Answers result (decoded bytes.now) }
+{
+    read(alloc, bytes)
+}
+
+#[tactic(auto, unfolding(crate::specs::Reading::decoded))]
+fn read(alloc: Global, bytes: &[u8]) -> Result<Descr, DescrFault>
     ensures { Answers result (decoded bytes.now) }
 {
     if bytes.len() < DEVICE_LENGTH {

@@ -5,3 +5,6 @@ mod device;
 mod hex;
 
 pub use device::device_hash;
+
+#[cfg(test)]
+mod tests;

@@ -1,5 +1,5 @@
 -- The numbers of calls and of faults over a run.
-use Rattle.std.proofs.Common.{◌≡◌, ℕ, ◌+◌, ◌-◌, ◌^◌, ◌<◌, ◌≤◌, refl, ap, subst, arith}
+use Rattle.std.proofs.Common.{ℕ, ◌≤◌, ap, arith}
 use Rattle.ug_kernel.specs.Calls.{Call, Names, Open, Read, Ask_alive, Put, Close, Answer, Counts}
 use Rattle.ug_itree.specs.Tree.{Prog, Return, Ask, Room, Runs}
 

@@ -1,5 +1,5 @@
 -- Devices that lived through, and those of held files.
-use Rattle.std.proofs.Common.{◌≡◌, ℕ, Bool, true, false, List, Some, slice_get, refl, sym, ◌∙◌, ap, subst}
+use Rattle.std.proofs.Common.{◌≡◌, ℕ, Bool, true, false, Some, slice_get, refl, subst}
 use Rattle.ug_kernel.specs.declared.device.Device.{Device}
 use Rattle.ug_kernel.specs.Kernel.{Kernel, Live, Stays}
 use Rattle.ug_kernel.specs.Called.{Lived}

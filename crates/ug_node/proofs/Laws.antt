@@ -1,5 +1,5 @@
 -- The law of a binding, over kernels.
-use Rattle.std.proofs.Common.{◌≡◌, ℕ, Bool, ◌≤◌, List, [], ◌∷◌, ◌++◌, length, Option, Some, None, Result, Ok, Err, slice_get, refl, sym, ◌∙◌, ap, subst, arith}
+use Rattle.std.proofs.Common.{◌≡◌, ℕ, Bool, ◌≤◌, List, length, Option, Some, None, Result, Ok, Err, slice_get, refl, sym, ◌∙◌, ap, subst, arith}
 use Rattle.std.proofs.lemmas.Option.{slice_get_past}
 use Rattle.ug_types.specs.Names.{parent_of}
 use Rattle.ug_types.specs.declared.record.Attrs.{Attrs}
@@ -12,7 +12,7 @@ use Rattle.ug_kernel.specs.declared.calls.Probe.{Probe}
 use Rattle.ug_kernel.specs.declared.calls.Probe.TheVariants as probe
 use Rattle.ug_kernel.specs.Calls.{Call, Answer, Open, Ask_alive, Close}
 use Rattle.ug_kernel.specs.Kernel.{Kernel, Live, IsSound, IsKernel, Moves}
-use Rattle.ug_kernel.specs.Called.{Lived, NoneLived, Holds, IsOpened, IsGoneAt, IsAlive, Called, Follows}
+use Rattle.ug_kernel.specs.Called.{Lived, NoneLived, IsOpened, IsGoneAt, IsAlive, Called, Follows}
 use Rattle.ug_kernel.specs.Quiet.{Quiet, Grows}
 use Rattle.ug_kernel.proofs.Quiet.{quiet_trans, moves_quiet, opened_quiet, called_quiet, get_end}
 use Rattle.ug_kernel.proofs.Grow.{some_same, quiet_grows, grows_refl, grows_trans, called_grows}
@@ -20,7 +20,7 @@ use Rattle.ug_kernel.proofs.Held.{live_before, lived_cut}
 use Rattle.ug_itree.specs.Tree.{Runs, calls}
 use Rattle.ug_itree.proofs.Runs.{runs_split}
 use Rattle.ug_itree.proofs.Told.{told_run}
-use Rattle.ug_itree.proofs.Kernels.{runs_sound, runs_grow, runs_quiet}
+use Rattle.ug_itree.proofs.Kernels.{runs_sound, runs_quiet}
 use Rattle.ug_node.specs.declared.files.Stop.{Stop}
 use Rattle.ug_node.specs.declared.files.Stop.TheVariants as stop
 use Rattle.ug_node.specs.declared.identity.Binding.{Binding}
@@ -168,21 +168,21 @@ after_parent_law name parent k held m v u l attrs (Ok theirs) r h above s t g a 
     let mid = open_later name k held m v a h in
     let wider = reads_wider name attrs_of m m v u (Ok attrs) own_kept (grows_refl m) (quiet_grows m v a) (quiet_grows v u b) own in
     probing_law name k held u l attrs (Some theirs) r (open_later name k held v u b mid)
-      (own_now name attrs_of k held m u attrs h own_kept (grows_trans m v u (quiet_grows m v a) (quiet_grows v u b)) wider)
-      (parent_now name parent k held v u theirs mid above s t (quiet_grows v u b) reads) runs
+    (own_now name attrs_of k held m u attrs h own_kept (grows_trans m v u (quiet_grows m v a) (quiet_grows v u b)) wider)
+    (parent_now name parent k held v u theirs mid above s t (quiet_grows v u b) reads) runs
 after_parent_law name parent k held m v u l attrs (Err why) r h above s t g a b own reads runs =
     let none : why ≡ stop.Vanished → NoneLived name k u = λ e i d lives named.
-        let x = (lived_cut k v u i d g (quiet_grows v u b) lives).1 in
-        let y = parent_lived v u name parent i x.0 x.0.parent s t (quiet_grows v u b) x.1 (x.2.name ∙ named) above refl in
-        none_read parent parent_attrs_of v u why reads e y.0 y.1 y.3 y.4 in
+    let x = (lived_cut k v u i d g (quiet_grows v u b) lives).1 in
+    let y = parent_lived v u name parent i x.0 x.0.parent s t (quiet_grows v u b) x.1 (x.2.name ∙ named) above refl in
+    none_read parent parent_attrs_of v u why reads e y.0 y.1 y.3 y.4 in
     says_ends name k u l (binding_of why) r (early_law name k u why none) runs.0 runs.1
 
 to_parent_law : (name : List ℕ) (parent : Option (List ℕ)) (k : Kernel) (held : ℕ) (m v l : Kernel) (attrs : Attrs) (r : Binding) → IsOpenSince name k held m → parent_of name ≡ parent → IsKernel v → Grows k v → Quiet m v → ReadsAs name attrs_of m v (Ok attrs) → Runs calls v (to_parent held attrs parent) r l → BindSays name k l r
 to_parent_law name None k held m v l attrs r h above s g a own runs =
     let now = open_later name k held m v a h in
     probing_law name k held v l attrs None r now
-      (own_now name attrs_of k held m v attrs h own_kept (quiet_grows m v a) own)
-      (λ d live. no_parent v name now.opens.i d d.parent s.devices live (named_now name k held v now d live.at) above refl) runs
+    (own_now name attrs_of k held m v attrs h own_kept (quiet_grows m v a) own)
+    (λ d live. no_parent v name now.opens.i d d.parent s.devices live (named_now name k held v now d live.at) above refl) runs
 to_parent_law name (Some parent) k held m v l attrs r h above s g a own runs =
     let cut = runs_split calls v (reading_parent parent held) (after_parent held attrs) r l runs in
     after_parent_law name parent k held m v cut.1 l attrs cut.0 r h above s.devices (runs_sound (reading_parent parent held) v cut.0 cut.1 s cut.2).devices g a (runs_quiet (reading_parent parent held) v cut.0 cut.1 (parent_quiet parent held) cut.2) own (parent_says parent held v cut.1 cut.0 cut.2) cut.3
@@ -198,8 +198,8 @@ after_open_law : (name : List ℕ) (parent : Option (List ℕ)) (k m l : Kernel)
 after_open_law name parent k m l (opened.Token held) number count r above c runs =
     let cut = runs_split calls m (reading_own name held.0) (after_own held.0 parent) r l runs in
     after_own_law name parent k held.0 m cut.1 l cut.0 r
-      (record { before = c.before; opening = c.after; start = c.moves_before; opens = c.effect; quiet = moves_quiet c.after m c.moves_after; sound = c.sound_before })
-      above (runs_sound (reading_own name held.0) m cut.0 cut.1 c.sound cut.2) (called_grows (Open name Authorized) _ k m c) (runs_quiet (reading_own name held.0) m cut.0 cut.1 (own_quiet name held.0) cut.2) (own_says name held.0 m cut.1 cut.0 cut.2) cut.3
+    (record { before = c.before; opening = c.after; start = c.moves_before; opens = c.effect; quiet = moves_quiet c.after m c.moves_after; sound = c.sound_before })
+    above (runs_sound (reading_own name held.0) m cut.0 cut.1 c.sound cut.2) (called_grows (Open name Authorized) _ k m c) (runs_quiet (reading_own name held.0) m cut.0 cut.1 (own_quiet name held.0) cut.2) (own_says name held.0 m cut.1 cut.0 cut.2) cut.3
 after_open_law name parent k m l opened.Absent number count r above c runs = says_ends name k m l bound.Absent r c.says runs.0 runs.1
 after_open_law name parent k m l opened.Failed number count r above c runs = says_ends name k m l (bound.Failed number count) r tt runs.0 runs.1
 after_open_law name parent k m l opened.Memory number count r above c runs = says_ends name k m l bound.Memory r tt runs.0 runs.1

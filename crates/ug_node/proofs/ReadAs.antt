@@ -1,5 +1,5 @@
 -- What was read of a device that lived through.
-use Rattle.std.proofs.Common.{◌≡◌, ℕ, nat_le, Bool, true, false, ◌||◌, cond, List, [], length, Option, Result, Ok, Err, refl, sym, ◌∙◌, ap, subst}
+use Rattle.std.proofs.Common.{◌≡◌, ℕ, nat_le, Bool, true, false, cond, List, length, Option, Result, Ok, Err, refl, sym, ◌∙◌, ap, subst}
 use Rattle.ug_types.specs.declared.record.Attrs.{Attrs}
 use Rattle.ug_kernel.specs.declared.device.Device.{Device}
 use Rattle.ug_kernel.specs.declared.calls.Attr.{Attr}
@@ -8,12 +8,11 @@ use Rattle.ug_kernel.specs.declared.calls.ReadOut.{ReadOut}
 use Rattle.ug_kernel.specs.declared.calls.ReadOut.TheVariants as out
 use Rattle.ug_kernel.specs.Calls.{Read, Close}
 use Rattle.ug_kernel.specs.Kernel.{Kernel, Stays}
-use Rattle.ug_kernel.specs.Called.{Lived, NoneLived, within, text_within, read_of, IsFile, says_read, Called}
-use Rattle.ug_kernel.specs.Quiet.{Quiet, Grows}
-use Rattle.ug_kernel.proofs.Quiet.{called_quiet}
-use Rattle.ug_kernel.proofs.Grow.{grows_refl, quiet_grows, grows_trans, called_grows}
+use Rattle.ug_kernel.specs.Called.{Lived, NoneLived, within, text_within, read_of, IsFile, says_read}
+use Rattle.ug_kernel.specs.Quiet.{Grows}
+use Rattle.ug_kernel.proofs.Grow.{grows_refl, grows_trans, called_grows}
 use Rattle.ug_kernel.proofs.Held.{lived_cut}
-use Rattle.ug_itree.specs.Tree.{Prog, Return, Ask, Runs, then, calls}
+use Rattle.ug_itree.specs.Tree.{Prog, Runs, then, calls}
 use Rattle.ug_itree.proofs.Runs.{runs_split}
 use Rattle.ug_itree.proofs.Kernels.{runs_grow}
 use Rattle.ug_node.specs.declared.files.File.{File}

@@ -44,18 +44,12 @@ fn stopped(stop: Stop) -> Binding
 
 /// Finds the device of a name: opens its `authorized`, reads its four files and its parent's three, and probes
 /// the held file last. What is read by name is so known to be of the device that is held.
-pub fn bind<Y: Sysfs>(
-    alloc: Global,
-    sysfs: &mut Y,
-    name: &NodeName,
-    parent: Option<NodeName>,
-) -> Binding
-    requires { parent ≡ parent_of name.now }
+pub fn bind<Y: Sysfs>(alloc: Global, sysfs: &mut Y, name: &NodeName) -> Binding
     ensures runs { Runs Y.gives sysfs.old (binding name.now (parent_of name.now)) result sysfs.new }
     ensures law { Binds Y.told sysfs.old name.now result sysfs.new }
     ensures fault { TellsFault (Y.faults sysfs.old) (Y.calls sysfs.new) (Y.faults sysfs.new) result }
 {
-    bind_below(alloc, sysfs, name, parent)
+    bind_below(alloc, sysfs, name, name.parent())
 }
 
 #[tactic(auto, unfolding(crate::specs::Bind::binding), using(ug_itree::proofs::Runs::runs_then))]

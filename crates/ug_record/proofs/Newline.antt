@@ -1,5 +1,5 @@
 -- A newline at the end of a file, by its place.
-use Rattle.std.proofs.Common.{◌≡◌, ◌≢◌, ℕ, zero, suc, ◌+◌, ◌-◌, ◌<◌, Bool, true, false, nat_eq, List, [], ◌∷◌, length, take, slice_index, refl, sym, ap, ◌∙◌, arith, if◌then◌else◌}
+use Rattle.std.proofs.Common.{◌≡◌, ◌≢◌, ℕ, zero, suc, ◌+◌, List, [], ◌∷◌, length, take, slice_index, refl, ap, arith}
 use Rattle.ug_record.specs.Records.{text_of}
 
 pub text_cut : (file : List ℕ) (end : ℕ) → length file ≡ end + 1 → slice_index file end ≡ 10 → take end file ≡ text_of file

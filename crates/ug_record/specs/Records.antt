@@ -38,7 +38,7 @@ record_under name attrs parent descr = record {
   parent_hash = parent_hash_of parent;
   via_port = name;
   interfaces = triples_of descr;
-  connect = text_of attrs.connect
+  connect = text_of attrs.connect;
 }
 
 abbrev pub judged_under : List ℕ → Attrs → Option Attrs → Result Descr Fault → Judged

@@ -11,6 +11,7 @@ pub fn text_of(alloc: Global, file: &[u8]) -> Result<Text, NoMemory>
 {
     Text::of(alloc, without_newline(file))
 }
+
 #[tactic(auto, using(crate::proofs::Newline::text_cut, crate::proofs::Newline::text_kept, crate::proofs::Newline::text_empty))]
 pub fn without_newline(file: &[u8]) -> &[u8]
     ensures { result.now ≡ file_text file.now }

@@ -75,14 +75,14 @@ fn hash_from(attrs: &Attrs, descr: &Descr) -> [u8; 44]
 fn parent_hash_from(alloc: Global, parent: Option<&Attrs>) -> Result<Text, NoMemory>
     ensures { IfOk result (λ text. text ≡ parent_hash_of (option_copied parent.entry)) }
 {
-    let Some(attrs) = parent else {
+    let Some(parent) = parent else {
         return Ok(Text::new(alloc));
     };
-    if attrs.too_long {
+    if parent.too_long {
         return Ok(Text::new(alloc));
     }
-    match decode(alloc, attrs.descriptors.bytes()) {
-        Ok(descr) => Text::of(alloc, hash_from(attrs, &descr).as_slice()),
+    match decode(alloc, parent.descriptors.bytes()) {
+        Ok(descr) => Text::of(alloc, hash_from(parent, &descr).as_slice()),
         Err(DescrFault::Malformed { .. }) => Ok(Text::new(alloc)),
         Err(DescrFault::Memory) => Err(NoMemory),
     }

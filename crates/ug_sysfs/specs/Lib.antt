@@ -1,1 +1,11 @@
 pub mod Few
+pub mod Reply
+pub mod Devices
+pub mod World
+pub mod Begins
+pub mod Find
+pub mod Sound
+pub mod Law
+pub mod Count
+pub mod Below
+pub mod Birth

@@ -1,5 +1,6 @@
 // The settling of one name.
-ghost use Rattle.std.specs.Prelude.{◌≡◌, ◌≤◌, ◌<◌, ◌+◌, ◌-◌, ◌^◌, vec_len, vec_capacity, OnOk};
+ghost use Rattle.std.specs.Prelude.{◌≡◌, ◌≤◌, ◌<◌, ◌+◌, ◌-◌, ◌^◌, vec_len, vec_capacity, is_none, OnOk};
+ghost use Rattle.ug_types.specs.Names.{parent_of};
 ghost use Rattle.ug_itree.specs.Tree.{Runs};
 ghost use Rattle.ug_table.specs.State.{state_of, kept_of};
 ghost use Rattle.ug_table.specs.Settle.{stands, kept_standings, tried_standings, admitting, entering, settling, resettling};
@@ -14,6 +15,13 @@ use ug_node::{Binding, Bound, bind};
 use ug_record::record_of;
 use ug_sysfs::{Probe, Sysfs};
 use ug_types::{NoMemory, NodeName};
+
+// Whether the name is a root hub's.
+fn is_controller(name: &NodeName) -> bool
+    ensures { result ≡ is_none (parent_of name.now) }
+{
+    name.parent().is_none()
+}
 
 fn is_stands(settled: Settled) -> bool
     ensures { result ≡ stands settled }
@@ -108,7 +116,7 @@ impl Table {
             });
             return Settled::Memory;
         }
-        let controller = name.parent().is_none();
+        let controller = is_controller(name);
         let (verdict, cause) = judge.verdict(&judged, controller, present, bound.on);
         let number = self.next;
         self.next += 1;
@@ -155,7 +163,7 @@ impl Table {
         ensures spare { out.old.spare ≤ out.new.spare + 4 }
         ensures next { self.new.next ≤ self.old.next + 1 }
     {
-        match bind(alloc, sysfs, name, name.parent()) {
+        match bind(alloc, sysfs, name) {
             Binding::Bound(bound) => self.admit(alloc, sysfs, name, present, judge, bound, out),
             Binding::Absent => Settled::Nobody,
             Binding::Vanished => Settled::Nobody,

@@ -12,7 +12,7 @@ use Rattle.std.specs.Ordering.{nat_cmp, ordering_then}
 use Rattle.std.specs.Cmp.Lexicographic.{slice_cmp}
 use Rattle.std.specs.Option.{option_map, IfSome}
 use Rattle.std.specs.List.{count_by}
-use Rattle.ug_types.specs.NodeNames.{IsBus, IsPort, ArePorts, joined, IsDevice, IsNodeName}
+use Rattle.ug_types.specs.NodeNames.{IsBus, IsPort, ArePorts, joined, IsRootHub, IsDevice, IsNodeName}
 use Rattle.ug_types.specs.Names.{is_mark, parent_of, depth_of, root_of, or_root, sweep_cmp, or_nothing, before_last_dot, behind, before_dash}
 
 -- the last dot stands before a text without one
@@ -268,6 +268,12 @@ depth_above name parent n h = let p : IsParent name parent = parent_is name n pa
 pub depth_top : (name : List ℕ) → IsNodeName name → parent_of name ≡ None → depth_of name ≡ 0
 depth_top = by_form (λ name. parent_of name ≡ None → depth_of name ≡ 0)
     (λ bus b h. depth_root bus b)
+    (λ bus port b p h. absurd (none-some (codes "usb" ++ decimal bus) (sym h ∙ parent_on_hub bus port b p)))
+    (λ front port d p h. absurd (none-some front (sym h ∙ parent_on_device front port p)))
+
+pub top_root_hub : (name : List ℕ) → IsNodeName name → parent_of name ≡ None → IsRootHub name
+top_root_hub = by_form (λ name. parent_of name ≡ None → IsRootHub name)
+    (λ bus b h. record { bus = bus; is_bus = b; is = refl })
     (λ bus port b p h. absurd (none-some (codes "usb" ++ decimal bus) (sym h ∙ parent_on_hub bus port b p)))
     (λ front port d p h. absurd (none-some front (sym h ∙ parent_on_device front port p)))
 

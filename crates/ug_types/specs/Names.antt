@@ -1,4 +1,4 @@
--- Names of device nodes: which texts are names, their parents and their order in a sweep.
+-- The parents of names of device nodes, and their order in a sweep.
 use Rattle.std.specs.Prelude.{ℕ, List, [], ◌∷◌, ◌++◌, Option, Some, None, nat_eq, if◌then◌else◌, codes, Bool, ◌||◌, count_by}
 use Rattle.std.specs.declared.cmp.Ordering.{Ordering}
 use Rattle.std.specs.Ordering.{nat_cmp, ordering_then}

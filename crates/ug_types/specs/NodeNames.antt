@@ -34,6 +34,7 @@ pub record IsDevice (text : List ℕ) : Type 0 where
 abbrev pub IsNodeName : List ℕ → Type 0
 IsNodeName text = IsRootHub text ⊎ IsDevice text
 
+-- some name begins with the text
 abbrev pub IsPrefixOfName : List ℕ → Type 0
 IsPrefixOfName text = (rest : List ℕ) × IsNodeName (text ++ rest)
 

@@ -1,12 +1,11 @@
 // Names of USB device nodes in sysfs.
-ghost use Rattle.std.specs.Prelude.{◌≡◌, ◌<◌, length, nat_eq};
+ghost use Rattle.std.specs.Prelude.{◌≡◌, ◌<◌, ◌≤◌, ◌↔◌, ◌++◌, ℕ, [], None, IfOk, IsTrue, codes, length, nat_eq, vec_capacity};
 ghost use Rattle.std.specs.Cmp.Lexicographic.{pointwise};
 ghost use Rattle.std.proofs.Common.{rules, refl};
 ghost use Rattle.std.proofs.lemmas.Cmp.{nat_list_eq_equiv};
 ghost use Rattle.std.specs.Hash as fed;
 ghost use Rattle.std.specs.Cmp as Cmp;
 ghost use Rattle.std.specs.Cmp.Rules.{comparing, hashing};
-ghost use Rattle.std.specs.Prelude.{◌≤◌, ◌↔◌, ◌++◌, ℕ, [], None, IfOk, IsTrue, codes, vec_capacity};
 ghost use Rattle.std.specs.Ordering.{as_partial_cmp};
 ghost use Rattle.std.specs.List.Sorted.{IsSorted, IsPermutation};
 ghost use Rattle.ug_types.specs.NodeNames.{IsNodeName, StopsAt};
@@ -19,7 +18,8 @@ use std::cmp::Ordering;
 use std::hash::{Hash, Hasher};
 use std::marker::Model;
 
-/// The name of a device node: `usbN` for a root hub, `B-P.P` and so on for a device (sysfs-bus-usb).
+/// The name of a device node: `usbN` for a root hub, `B-P`, `B-P.P` and so on for a device (sysfs-bus-usb).
+/// Bus numbers go from 1 to 999, port numbers from 1 to 255.
 #[derive(Clone, Copy, Debug)]
 pub struct NodeName {
     bytes: [u8; 31],
@@ -42,13 +42,14 @@ impl Model for NodeName {
     ghost inverse_ok = { λ n h. padded_text n h.0 };
 }
 
+/// Why a text is no `NodeName`.
 #[derive(Clone, Copy, Debug, PartialEq, Eq)]
 pub enum NameFault {
     /// There are no bytes.
     Empty,
-    /// The byte at that place, or the end there, is in no name.
+    /// The text stops being the beginning of a name at that place, or ends there too early.
     BadForm(u64),
-    /// It has more than 31 bytes.
+    /// It is a name, of more than 31 bytes.
     TooLong,
 }
 
@@ -118,6 +119,7 @@ impl NodeName {
         self.parent().is_none()
     }
 
+    /// The text of the name.
     pub fn bytes(&self) -> &[u8]
         ensures { result.now ≡ self.now }
     {

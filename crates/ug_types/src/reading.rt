@@ -68,7 +68,7 @@ fn only(letter: u8, next: Reading, byte: u8) -> Option<Reading>
 fn first_digit(byte: u8) -> Option<u16>
     ensures { result ≡ first_digit byte }
 {
-    if byte >= b'1' && byte <= b'9' {
+    if matches!(byte, b'1'..=b'9') {
         Some((byte - b'0') as u16)
     } else {
         None
@@ -78,7 +78,7 @@ fn first_digit(byte: u8) -> Option<u16>
 fn with_digit(most: u16, number: u16, byte: u8) -> Option<u16>
     ensures { result ≡ with_digit most number byte }
 {
-    if byte < b'0' || byte > b'9' {
+    if !byte.is_ascii_digit() {
         return None;
     }
     let longer = number as u32 * 10 + (byte - b'0') as u32;

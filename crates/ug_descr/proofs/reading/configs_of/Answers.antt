@@ -1,4 +1,4 @@
-use Rattle.std.proofs.Common.{◌≡◌, Some, None, sym, ap, ◌∙◌, arith}
+use Rattle.std.proofs.Common.{◌≡◌, Some, None, sym, ◌∙◌, arith}
 use Rattle.ug_descr.specs.Reading.{fault_at}
 use Rattle.ug_descr.proofs.Steps.{next_at, stop_at, end_at, some_config, rest_at}
 use Rattle.ug_descr.proofs.reading.configs_of.Goals as goal

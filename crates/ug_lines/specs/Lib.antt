@@ -1,0 +1,5 @@
+pub mod Lines
+pub mod Fold
+pub mod Runs
+pub mod Splitting
+pub mod Statuses

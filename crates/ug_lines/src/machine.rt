@@ -1,0 +1,48 @@
+// A machine that takes lines, and writes text.
+ghost use Rattle.std.specs.Prelude.{◌≡◌, ◌≤◌, ℕ, List, Option};
+ghost use Rattle.ug_types.specs.Ends.{Rose};
+ghost use Rattle.ug_lines.specs.Fold.{Outcome};
+ghost use Rattle.ug_lines.specs.Runs.{Steps, Closes};
+
+use std::alloc::Global;
+use ug_types::Sink;
+
+/// How a step ended.
+#[derive(Clone, Copy, Debug, PartialEq, Eq)]
+pub enum Ran {
+    Done,
+    /// The line isn't one that may stand there.
+    Bad,
+    /// What the line would start is past a limit.
+    TooLong,
+    /// A part of the text was written, up to where the sink failed.
+    SinkFailed,
+    /// Nothing was written.
+    Memory,
+}
+
+/// A machine over a world that is lent to it.
+pub trait Machine<W> {
+    /// What a line writes, and the machine and the world that it leaves.
+    ghost step_of: { Self × W → List ℕ → Outcome (Self × W) };
+
+    /// What is written behind the last line, unless more lines are wanted.
+    ghost closing: { Self → Option (List ℕ) };
+
+    /// What joins a machine and its world before each line.
+    ghost keeps: { Self → W → Type 0 };
+
+    /// Takes a line, and writes its text.
+    fn step<K: Sink>(&mut self, alloc: Global, world: &mut W, line: &[u8], out: &mut K) -> Ran
+        requires { keeps self.old world.old }
+        ensures ran { Steps (step_of (self.old, world.old) line.now) (self.new, world.new) (K.held out.old) (K.held out.new) result }
+        ensures kept { result ≡ Ran.Done → keeps self.new world.new }
+        ensures counted { K.faults out.old ≤ K.faults out.new }
+        ensures cause { result ≡ Ran.SinkFailed → Rose (K.faults out.old) (K.faults out.new) };
+
+    /// Writes the text behind the last line.
+    fn finish<K: Sink>(&self, out: &mut K) -> Ran
+        ensures ran { Closes (closing self.now) (K.held out.old) (K.held out.new) result }
+        ensures counted { K.faults out.old ≤ K.faults out.new }
+        ensures cause { result ≡ Ran.SinkFailed → Rose (K.faults out.old) (K.faults out.new) };
+}

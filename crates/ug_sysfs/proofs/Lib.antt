@@ -1,0 +1,4 @@
+pub mod Plugs
+pub mod Switched
+pub mod Fates
+pub mod RanOut
