@@ -16,13 +16,16 @@ use Rattle.ug_table.specs.State.{Kept}
 use Rattle.ug_table.specs.Bring.{bringing}
 use Rattle.ug_table.specs.Standings.{standing_of, without}
 use Rattle.ug_table.specs.Settle.{tried_standings, to_keep_mark, after_again, again, resettling}
+use Rattle.ug_table.specs.Sweep.{names_of}
 use Rattle.ug_table.specs.Laws.{HasStanding}
 use Rattle.ug_table.specs.declared.standing.Standing.{Standing}
 use Rattle.ug_table.specs.declared.standing.Known.{Known}
 use Rattle.ug_table.specs.declared.standing.Settled.{Settled}
 use Rattle.ug_table.specs.declared.standing.Settled.TheVariants as settled
 use Rattle.ug_table.proofs.Values.{IsFileOf, file_same, file_later, LiveAs, open_named}
-use Rattle.ug_table.proofs.Places.{Files, found, missing, without_other, Was, tried_was}
+use Rattle.ug_table.proofs.Elements.{has_map}
+use Rattle.ug_table.proofs.Standings.{found, missing, missing_without}
+use Rattle.ug_table.proofs.Places.{Files, Was, tried_was}
 use Rattle.ug_table.proofs.Apart.{Appends, open_found, resettling_apart}
 use Rattle.ug_table.proofs.Own.{Good, good_before, tried_own, probed_own}
 
@@ -35,8 +38,8 @@ well_before es fs gs l ss i name a (inl h) = inl (good_before es fs gs l ss i na
 well_before es fs gs l ss i name a (inr h) = inr h
 
 -- no standing of its name, no standing
-pub none_stands : (k : Kernel) (ss : List Standing) (i : ℕ) (name : List ℕ) → Files k ss → LiveAs k i name → ((s : Standing) → s.name ≡ name → Has ss s → ⊥) → HasStanding k ss i → ⊥
-none_stands k ss i name f live none h = none h.s (open_named k h.s.name name h.s.held.0 i (f h.s h.has) h.file live) h.has
+pub none_stands : (k : Kernel) (ss : List Standing) (i : ℕ) (name : List ℕ) → Files k ss → LiveAs k i name → (Has (names_of ss) name → ⊥) → HasStanding k ss i → ⊥
+none_stands k ss i name f live none h = none (subst (λ v. Has (names_of ss) v) (open_named k h.s.name name h.s.held.0 i (f h.s h.has) h.file live) (has_map (λ (v : Standing). v.name) ss h.s h.has))
 
 -- a standing that was there had the same device
 pub stood : (k l : Kernel) (ss rs : List Standing) (i : ℕ) → Files k ss → Grows k l → ((s : Standing) → Has rs s → Was ss s) → HasStanding l rs i → HasStanding k ss i
@@ -56,17 +59,17 @@ after_again_own name i w known (probe.Alive on) call count k m l p e sound f lat
     let x = probed_own name known.held.0 i on call count k m sound (open_found name w.standings known k e f) first c in
     let cut = runs_split calls m (bringing name known on w.entries) (to_keep_mark w name) p l r in
     let u = cut.1 in
-    let own = tried_own name known i on s.0 w.standings w.entries m u cut.0 s.1 (ap (λ (v : Known). v.held) s.3) (ap (λ (v : Known). v.verdict) s.3) (subst (λ y. LiveAs y i name) cut.3.1 live) x.0 x.1 cut.2 in
+    let own = tried_own name known i on s.s w.standings w.entries m u cut.0 s.has (ap (λ (v : Known). v.held) s.known) (ap (λ (v : Known). v.verdict) s.known) (subst (λ y. LiveAs y i name) cut.3.1 live) x.0 x.1 cut.2 in
     subst (λ y. Ends w y p i name) (sym cut.3.1) (subst (λ (v : Settled × Kept). Ends w u v i name) (sym cut.3.0) (inl own))
 after_again_own name i w known probe.Gone call count k m l p e sound f later first live c r =
     let same : p.1.standings ≡ without name w.standings = ap (λ (v : Settled × Kept). v.1.standings) r.0 in
-    inr (none_stands l p.1.standings i name later live (λ s is a. without_other w.standings name s (subst (λ v. Has v s) same a) is))
+    inr (none_stands l p.1.standings i name later live (λ a. missing_without name w.standings (subst (λ v. Has (names_of v) name) same a)))
 after_again_own name i w known probe.Failed call count k m l p e sound f later first live c r = inl (inr (entry.Unsettled name (fault.Call call count) ∷ [], ap (λ (v : Settled × Kept). v.1.entries) r.0, (fault.Call call count, inl refl)))
 
 again_own : (name : List ℕ) (i : ℕ) (w : Kept) (found : Option Known) (k l : Kernel) (p : Settled × Kept) → standing_of name w.standings ≡ found → IsKernel k → Files k w.standings → Files l p.1.standings → LiveAs k i name → LiveAs l i name → Runs calls k (again name w found) p l → Ends w l p i name
 again_own name i w None k l p e sound f later first live r =
     let same : p.1.standings ≡ w.standings = ap (λ (v : Settled × Kept). v.1.standings) r.0 in
-    inr (none_stands l p.1.standings i name later live (λ s is a. missing name w.standings s e is (subst (λ v. Has v s) same a)))
+    inr (none_stands l p.1.standings i name later live (λ a. missing name w.standings e (subst (λ v. Has (names_of v) name) same a)))
 again_own name i w (Some known) k l p e sound f later first live r = after_again_own name i w known r.0.answer r.0.number r.0.count k r.1 l p e sound f later first live r.2 r.3
 
 pub resettling_own : (name : List ℕ) (i : ℕ) (w : Kept) (k l : Kernel) (p : Settled × Kept) → IsKernel k → Files k w.standings → LiveAs k i name → LiveAs l i name → Runs calls k (resettling name w) p l → Ends w l p i name

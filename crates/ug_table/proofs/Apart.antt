@@ -39,7 +39,9 @@ use Rattle.ug_table.specs.declared.standing.Known.{Known}
 use Rattle.ug_table.specs.declared.standing.Settled.{Settled}
 use Rattle.ug_table.specs.declared.standing.Settled.TheVariants as settled
 use Rattle.ug_table.proofs.Values.{Others, others_refl, others_trans, others_quiet, others_put, IsOpen, open_later}
-use Rattle.ug_table.proofs.Places.{found, Files, files_later, kept_has, kept_files, tried_has, tried_files}
+use Rattle.ug_table.proofs.Standings.{found}
+use Rattle.ug_table.proofs.Account.{Answers, Laters}
+use Rattle.ug_table.proofs.Places.{Files, files_later, kept_has, kept_files, tried_has, tried_files}
 
 -- entries were added
 abbrev pub Appends : List Entry → List Entry → Type 0
@@ -94,12 +96,6 @@ apart_end name k l ss rs es fs e f j files = subst (λ x. Apart name k ss es x r
 -- of states
 abbrev pub Parts : {J : Type 0} → List ℕ → Kernel → State J → Kernel → State J → Type 0
 Parts name k w l v = Apart name k w.standings w.entries l v.standings v.entries
-
-abbrev pub Answers : Type 0 → Type 0
-Answers J = J → Judged → Bool → Bool → Bool → Target × Cause
-
-abbrev pub Laters : Type 0 → Type 0
-Laters J = J → Judged → Bool → Bool → Bool → J
 
 second_is : {J : Type 0} (name : List ℕ) (k : Kernel) (w : State J) (l : Kernel) (p q : Settled × State J) → p ≡ q → Parts name k w l q.1 → Parts name k w l p.1
 second_is {J} name k w l p q e h = subst (λ (v : Settled × State J). Parts name k w l v.1) (sym e) h
@@ -188,7 +184,7 @@ after_known_apart answer later name present w known probe.Failed call count k l 
 pub open_found : (name : List ℕ) (ss : List Standing) (known : Known) (k : Kernel) → standing_of name ss ≡ Some known → Files k ss → IsOpen k name known.held.0
 open_found name ss known k e f =
     let at = found name ss known e in
-    subst (λ (v : Known). IsOpen k name v.held.0) at.3 (subst (λ v. IsOpen k v at.0.held.0) at.2 (f at.0 at.1))
+    subst (λ (v : Known). IsOpen k name v.held.0) at.known (subst (λ v. IsOpen k v at.s.held.0) at.named (f at.s at.has))
 
 from_standing_apart : {J : Type 0} (answer : Answers J) (later : Laters J) (name : List ℕ) (present : Bool) (w : State J) (found : Option Known) (k l : Kernel) (p : Settled × State J) → standing_of name w.standings ≡ found → IsKernel k → Files k w.standings → Runs calls k (from_standing answer later name present w found) p l → Parts name k w l p.1
 from_standing_apart answer later name present w None k l p e sound f r = entering_apart answer later name present w k l p sound f r

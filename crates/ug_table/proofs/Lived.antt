@@ -1,7 +1,6 @@
 -- Each device that lived through a sweep is as judged, or its name is told, or it has no standing and the failed listing is told.
 use Rattle.std.proofs.Common.{◌≡◌, ℕ, Bool, true, false, not, List, [], ◌∷◌, ◌++◌, Option, Some, None, ◌⊎◌, inl, inr, refl, sym, ◌∙◌, ap, subst, append_assoc, slice_get}
 use Rattle.std.specs.List.{filter}
-use Rattle.std.specs.Cmp.Lexicographic.{bytes_decides}
 use Rattle.ug_types.specs.Elements.{Has}
 use Rattle.ug_types.specs.Sweep.{in_sweep_order}
 use Rattle.ug_types.proofs.Sorting.{to_sweep_order}
@@ -31,8 +30,10 @@ use Rattle.ug_table.specs.declared.standing.Known.{Known}
 use Rattle.ug_table.specs.declared.standing.Settled.{Settled}
 use Rattle.ug_table.proofs.Elements.{has_left, filter_has, has_map}
 use Rattle.ug_table.proofs.Values.{file_later, LiveAs, lives_between, lived, open_named}
-use Rattle.ug_table.proofs.Places.{Files, files_later, found, missing}
-use Rattle.ug_table.proofs.Apart.{Appends, appends_refl, appends_trans, Apart, Answers, Laters, settling_apart, resettling_apart}
+use Rattle.ug_table.proofs.Standings.{same_is, is_same, found, missing}
+use Rattle.ug_table.proofs.Account.{Answers, Laters}
+use Rattle.ug_table.proofs.Places.{Files, files_later}
+use Rattle.ug_table.proofs.Apart.{Appends, appends_refl, appends_trans, Apart, settling_apart, resettling_apart}
 use Rattle.ug_table.proofs.Own.{Good, good_before, as_judged, settling_own}
 use Rattle.ug_table.proofs.Again.{Well, well_before, none_stands, stood, resettling_own, resettling_was}
 
@@ -53,10 +54,10 @@ well_apart other name i es k ss fs l rs gs ne f live g apart back (inr h) = inr 
 
 -- one name of a list: it is the device's, or another's
 step : (P Q : Type 0) (n name : List ℕ) (names : List (List ℕ)) (b : Bool) → same_name n name ≡ b → (n ≡ name → Q) → ((n ≡ name → ⊥) → P → Q) → Has (n ∷ names) name ⊎ P → Has names name ⊎ Q
-step P Q n name names true e own other c = inr (own ((bytes_decides n name).0 e))
-step P Q n name names false e own other (inl (inl is)) = let same = (bytes_decides n name).1 is in absurd (let none : ⊥ = cc in none)
+step P Q n name names true e own other c = inr (own (same_is n name e))
+step P Q n name names false e own other (inl (inl is)) = let same = is_same n name is in absurd (let none : ⊥ = cc in none)
 step P Q n name names false e own other (inl (inr h)) = inl h
-step P Q n name names false e own other (inr p) = inr (other (λ is. let same = (bytes_decides n name).1 is in let none : ⊥ = cc in none) p)
+step P Q n name names false e own other (inr p) = inr (other (λ is. let same = is_same n name is in let none : ⊥ = cc in none) p)
 
 -- the listed names
 
@@ -122,10 +123,10 @@ well_ended es why l ss fs rest i name e a (inr h) =
 
 -- a known name is one of the known names
 known_listed : (name : List ℕ) (ss : List Standing) (known : Known) → standing_of name ss ≡ Some known → Has (names_of ss) name
-known_listed name ss known e = let s = found name ss known e in subst (λ v. Has (names_of ss) v) s.2 (has_map (λ (v : Standing). v.name) ss s.0 s.1)
+known_listed name ss known e = let s = found name ss known e in subst (λ v. Has (names_of ss) v) s.named (has_map (λ (v : Standing). v.name) ss s.s s.has)
 
 begins : (name : List ℕ) (i : ℕ) (es : List Entry) (k : Kernel) (ss : List Standing) (known : Option Known) → standing_of name ss ≡ known → Files k ss → LiveAs k i name → Has (names_of ss) name ⊎ Well es k ss es i name
-begins name i es k ss None e f live = inr (inr (none_stands k ss i name f live (λ s is a. missing name ss s e is a)))
+begins name i es k ss None e f live = inr (inr (none_stands k ss i name f live (missing name ss e)))
 begins name i es k ss (Some known) e f live = inl (known_listed name ss known e)
 
 unlisted_ended : {J : Type 0} (why : Fault) (w : State J) (k l : Kernel) (v : State J) (rest : List Entry) (i : ℕ) (name : List ℕ) → IsKernel k → Files k w.standings → v.entries ≡ w.entries ++ rest → LiveAs k i name → LiveAs l i name → Runs calls k (unlisted why w) v l → Ended l v.standings rest i name

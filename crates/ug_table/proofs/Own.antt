@@ -41,8 +41,10 @@ use Rattle.ug_table.specs.declared.standing.Settled.{Settled}
 use Rattle.ug_table.specs.declared.standing.Settled.TheVariants as settled
 use Rattle.ug_table.proofs.Elements.{has_right}
 use Rattle.ug_table.proofs.Values.{IsFileOf, file_same, file_later, LiveAs, lives_between, lived, live_same, gone_no, Value, quiet_value, done_value, IsOpen, alive_open}
-use Rattle.ug_table.proofs.Places.{Files, found, kept_new, tried_new}
-use Rattle.ug_table.proofs.Apart.{Appends, Answers, Laters, open_found}
+use Rattle.ug_table.proofs.Standings.{found}
+use Rattle.ug_table.proofs.Account.{Answers, Laters}
+use Rattle.ug_table.proofs.Places.{Files, kept_new, tried_new}
+use Rattle.ug_table.proofs.Apart.{Appends, open_found}
 
 -- the name is told among what was added
 abbrev pub NamedSince : List Entry → List Entry → List ℕ → Type 0
@@ -189,7 +191,7 @@ after_known_own answer later name present i w known (probe.Alive on) call count 
     let x = probed_own name known.held.0 i on call count k m sound (open_found name w.standings known k e f) first c in
     let cut = runs_split calls m (bringing name known on w.entries) (to_mark w name) p l r in
     let u = cut.1 in
-    let own = tried_own name known i on s.0 w.standings w.entries m u cut.0 s.1 (ap (λ (v : Known). v.held) s.3) (ap (λ (v : Known). v.verdict) s.3) (subst (λ y. LiveAs y i name) cut.3.1 live) x.0 x.1 cut.2 in
+    let own = tried_own name known i on s.s w.standings w.entries m u cut.0 s.has (ap (λ (v : Known). v.held) s.known) (ap (λ (v : Known). v.verdict) s.known) (subst (λ y. LiveAs y i name) cut.3.1 live) x.0 x.1 cut.2 in
     subst (λ y. Ends w y p i name) (sym cut.3.1)
     (ends_with w u p (cut.0.0, record w { standings = tried_standings w.standings name cut.0.0; entries = cut.0.1 }) i name cut.3.0 own)
 after_known_own answer later name present i w known probe.Gone call count k m l p e sound f first mid live c r =

@@ -1,58 +1,27 @@
--- Standings by their names, and what settling a name leaves of them.
+-- What settling a name leaves of the standings.
 use Rattle.std.proofs.Common.{◌≡◌, ℕ, Bool, true, false, not, List, [], ◌∷◌, Option, Some, None, map, inl, inr, refl, sym, ◌∙◌, ap, subst}
 use Rattle.std.specs.Prelude.{if◌then◌else◌}
 use Rattle.std.specs.List.{filter, insert}
-use Rattle.std.specs.Cmp.Lexicographic.{bytes_decides}
 use Rattle.ug_types.specs.Elements.{Has}
 use Rattle.ug_kernel.specs.Kernel.{Kernel}
 use Rattle.ug_kernel.specs.Quiet.{Grows}
-use Rattle.ug_kernel.proofs.Grow.{some_same}
-use Rattle.ug_table.specs.Standings.{same_name, known_of, standing_of, without, mark_of, marked, place_for, with_standing}
+use Rattle.ug_table.specs.Standings.{same_name, marked, place_for, with_standing}
 use Rattle.ug_table.specs.Settle.{kept_standings, tried_standings}
 use Rattle.ug_table.specs.declared.standing.Standing.{Standing}
-use Rattle.ug_table.specs.declared.standing.Known.{Known}
 use Rattle.ug_table.specs.declared.standing.Settled.{Settled}
 use Rattle.ug_table.specs.declared.standing.Settled.TheVariants as settled
 use Rattle.ug_table.proofs.Elements.{filter_has, has_filter, map_has, has_map, insert_has, has_new, has_old}
+use Rattle.ug_table.proofs.Standings.{same_is}
 use Rattle.ug_table.proofs.Values.{IsOpen, open_later}
 
--- names by their test
-
-pub same_test : (a b : List ℕ) → a ≡ b → same_name a b ≡ true
-same_test a b e = (bytes_decides a b).1 e
-
 other_by : (a b : List ℕ) (t : Bool) → same_name a b ≡ t → (a ≡ b → ⊥) → same_name a b ≡ false
-other_by a b true e ne = absurd (ne ((bytes_decides a b).0 e))
+other_by a b true e ne = absurd (ne (same_is a b e))
 other_by a b false e ne = e
 
 pub other_test : (a b : List ℕ) → (a ≡ b → ⊥) → same_name a b ≡ false
 other_test a b ne = other_by a b (same_name a b) refl ne
 
--- a standing that is found is there
-
-abbrev pub Found : List ℕ → List Standing → Known → Type 0
-Found name ss known = (s : Standing) × Has ss s × (s.name ≡ name) × (known_of s ≡ known)
-
-found_at : (name : List ℕ) (x : Standing) (ss : List Standing) (known : Known) (b : Bool) → same_name x.name name ≡ b → (if b then Some (known_of x) else standing_of name ss) ≡ Some known → (standing_of name ss ≡ Some known → Found name ss known) → Found name (x ∷ ss) known
-found_at name x ss known true e h go = (x, inl refl, (bytes_decides x.name name).0 e, some_same (Some known) (known_of x) known (sym h) refl)
-found_at name x ss known false e h go = let k = go h in (k.0, inr k.1, k.2, k.3)
-
-pub found : (name : List ℕ) (ss : List Standing) (known : Known) → standing_of name ss ≡ Some known → Found name ss known
-found name [] known h = absurd (let none : ⊥ = cc in none)
-found name (x ∷ ss) known h = found_at name x ss known (same_name x.name name) refl h (λ g. found name ss known g)
-
-missing_at : (name : List ℕ) (x : Standing) (ss : List Standing) (s : Standing) (b : Bool) → same_name x.name name ≡ b → (if b then Some (known_of x) else standing_of name ss) ≡ None → (standing_of name ss ≡ None → Has ss s → ⊥) → s.name ≡ name → Has (x ∷ ss) s → ⊥
-missing_at name x ss s true e h go is a = let none : ⊥ = cc in none
-missing_at name x ss s false e h go is (inl a) =
-    let same : same_name x.name name ≡ true = same_test x.name name (ap (λ (v : Standing). v.name) a ∙ is) in
-    let none : ⊥ = cc in none
-missing_at name x ss s false e h go is (inr a) = go h a
-
-pub missing : (name : List ℕ) (ss : List Standing) (s : Standing) → standing_of name ss ≡ None → s.name ≡ name → Has ss s → ⊥
-missing name [] s h is a = a
-missing name (x ∷ ss) s h is a = missing_at name x ss s (same_name x.name name) refl h (λ g b. missing name ss s g is b) is a
-
--- a standing's held file is of a device of its name
+-- each standing's held file is of a device of its name
 
 abbrev pub Files : Kernel → List Standing → Type 0
 Files k ss = (s : Standing) → Has ss s → IsOpen k s.name s.held.0
@@ -84,12 +53,6 @@ pub kept_new : (ss : List Standing) (x : Standing) (how : Settled) → how ≡ s
 kept_new ss x how e = subst (λ (v : Settled). (s : Standing) × Has (kept_standings ss x v) s × (s.held ≡ x.held) × (s.verdict ≡ x.verdict)) (sym e) (record x { settled = true }, has_new ss (place_for x.name ss) (record x { settled = true }), refl, refl)
 
 -- a standing that is tried again
-
-pub without_other : (ss : List Standing) (name : List ℕ) (s : Standing) → Has (without name ss) s → s.name ≡ name → ⊥
-without_other ss name s h is =
-    let t : not (same_name s.name name) ≡ true = (filter_has (λ (v : Standing). not (same_name v.name name)) ss s h).1 in
-    let f : not (same_name s.name name) ≡ false = ap not (same_test s.name name is) in
-    let none : ⊥ = cc in none
 
 marked_other : (name : List ℕ) (b : Bool) (s : Standing) → (s.name ≡ name → ⊥) → marked name b s ≡ s
 marked_other name b s ne = ap (λ (t : Bool). let v : Standing = record s { settled = if t then b else s.settled } in v) (other_test s.name name ne)
