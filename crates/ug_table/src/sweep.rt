@@ -6,6 +6,7 @@ ghost use Rattle.ug_itree.specs.Tree.{Runs};
 ghost use Rattle.ug_table.specs.State.{state_of, kept_of};
 ghost use Rattle.ug_table.specs.Standings.{lists, farewells};
 ghost use Rattle.ug_table.specs.Sweep.{settling_all, resettling_all, parted, unlisted, sweeping, names_of};
+ghost use Rattle.ug_table.specs.Laws.{Sweeps};
 
 use crate::judge::Judge;
 use crate::settle::resettle;
@@ -131,7 +132,24 @@ impl Table {
         resettle_all(&mut self.standings, sysfs, &self.names, out);
     }
 
-    /// Lists the names, drops the standings that went, and settles each name.
+    /// Lists the names, drops the standings of names that aren't listed, and settles each listed name in sweep order.
+    /// Where the listing fails, or memory is short for it, the known names are settled all the same.
+    pub fn sweep<Y: Sysfs, A: Judge>(
+        &mut self,
+        alloc: Global,
+        sysfs: &mut Y,
+        judge: &mut A,
+        out: &mut Entries,
+    )
+        requires room { 8 * vec_len self.old.standings + 1 ≤ out.old.spare }
+        requires next { self.old.next + 65536 < 2 ^ 64 }
+        ensures runs { Runs Y.gives sysfs.old (sweeping A.answer A.later (state_of self.old judge.old out.old.entries)) (state_of self.new judge.new out.new.entries) sysfs.new }
+        ensures next { self.new.next ≤ self.old.next + 65536 }
+        ensures swept { Sweeps Y.told A.answer A.later sysfs.old (state_of self.old judge.old out.old.entries) sysfs.new (state_of self.new judge.new out.new.entries) }
+    {
+        self.sweep_names(alloc, sysfs, judge, out);
+    }
+
     #[tactic(auto, unfolding(crate::specs::Sweep::sweeping), using(ug_itree::proofs::Runs::runs_then))]
     fn sweep_names<Y: Sysfs, A: Judge>(
         &mut self,
