@@ -1,5 +1,5 @@
 // What the definitions of matching come to.
-ghost use Rattle.std.specs.Prelude.{◌≡◌, ◌⊎◌, ◌↔◌, ℕ, List, [], ◌∷◌, Bool, Option, IsTrue, length};
+ghost use Rattle.std.specs.Prelude.{◌≡◌, ◌⊎◌, ◌↔◌, ℕ, List, Bool, Option, IsTrue, length};
 ghost use Rattle.std.specs.List.{zip};
 ghost use Rattle.ug_types.specs.Elements.{Has};
 ghost use Rattle.ug_types.specs.declared.record.DeviceRecord.{DeviceRecord};
@@ -10,7 +10,7 @@ ghost use Rattle.ug_types.specs.declared.rule.Query.{Query};
 ghost use Rattle.ug_match.specs.declared.covers.DeviceId.{DeviceId};
 ghost use Rattle.ug_match.specs.Covers.{covers_number, covers_id, covers_interface, covers_text};
 ghost use Rattle.ug_match.specs.Operators.{holds, MatchesSome, IsMatched};
-ghost use Rattle.ug_match.specs.Queries.{attribute, query_matches};
+ghost use Rattle.ug_match.specs.Queries.{query_matches};
 
 use ug_types::Op;
 

@@ -47,7 +47,12 @@ fn any_device() -> Query {
     }
 }
 
-fn interfaces_match(alloc: Global, op: Op, values: &[Iface], device: &DeviceRecord) -> Result<bool, Fail> {
+fn interfaces_match(
+    alloc: Global,
+    op: Op,
+    values: &[Iface],
+    device: &DeviceRecord,
+) -> Result<bool, Fail> {
     let items = List::from_vec(Vec::from_slice(alloc, values)?);
     let mut query = any_device();
     query.interface = Some(Values { op, items });

@@ -1,4 +1,4 @@
-use Rattle.std.proofs.Common.{rules, ◌≡◌, length, nat_eq, Bool, true}
+use Rattle.std.proofs.Common.{rules, ◌≡◌, length, nat_eq, true}
 use Rattle.std.proofs.Common.{tests}
 use Rattle.std.specs.List.{list_all, zip}
 use Rattle.std.proofs.lemmas.Bool.Decides.{Decides-eqb}
