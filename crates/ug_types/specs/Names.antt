@@ -1,5 +1,5 @@
--- Names of device nodes: which texts are names, their parents and their order in a sweep.
-use Rattle.std.specs.Prelude.{ℕ, ◌+◌, List, [], ◌∷◌, ◌++◌, Option, Some, None, nat_eq, if◌then◌else◌, codes}
+-- The parents of names of device nodes, and their order in a sweep.
+use Rattle.std.specs.Prelude.{ℕ, List, [], ◌∷◌, ◌++◌, Option, Some, None, nat_eq, if◌then◌else◌, codes, Bool, ◌||◌, count_by}
 use Rattle.std.specs.declared.cmp.Ordering.{Ordering}
 use Rattle.std.specs.Ordering.{nat_cmp, ordering_then}
 use Rattle.std.specs.Cmp.Lexicographic.{slice_cmp}
@@ -34,13 +34,13 @@ or_root None name = root_of (before_dash name)
 unfoldable pub parent_of : List ℕ → Option (List ℕ)
 parent_of name = or_root (before_last_dot name) name
 
-abbrev pub marks : List ℕ → ℕ
-marks [] = 0
-marks (b ∷ bytes) = (if nat_eq b 46 then 1 else if nat_eq b 45 then 1 else 0) + marks bytes
+-- a dash or a dot
+abbrev pub is_mark : ℕ → Bool
+is_mark b = nat_eq b 45 || nat_eq b 46
 
 -- how many parents are above a name: one for its dash, and one for each dot
 unfoldable pub depth_of : List ℕ → ℕ
-depth_of name = marks name
+depth_of name = count_by is_mark name
 
 -- by depth, then by bytes
 abbrev pub sweep_cmp : List ℕ → List ℕ → Ordering

@@ -2,6 +2,7 @@ use Rattle.std.specs.Prelude.{◌≡◌, ℕ, ◌-◌, ◌≤◌, List, ◌++◌
 use Rattle.std.proofs.Common.{sym, ◌∙◌, ap, arith}
 use Rattle.std.proofs.lemmas.List.{length-take-le, take-append-drop}
 use Rattle.ug_types.specs.declared.name.NodeName.TheInside.{Inside}
+use Rattle.ug_types.specs.NodeNames.{IsNodeName}
 
 abbrev pub text_of : Inside → List ℕ
 text_of n = take n.len n.bytes
@@ -12,6 +13,10 @@ padded d = record { bytes = d ++ replicate (31 - length d) 0; len = length d }
 -- zeros behind the text
 abbrev pub IsPadded : Inside → Type 0
 IsPadded n = (n.len ≤ 31) × (length n.bytes ≡ 31) × (drop n.len n.bytes ≡ replicate (31 - n.len) 0)
+
+-- every name is one of the grammar
+abbrev pub IsNamed : Inside → Type 0
+IsNamed n = IsPadded n × IsNodeName (text_of n)
 
 pub padded_text : (n : Inside) → IsPadded n → padded (text_of n) ≡ n
 padded_text n h =

@@ -1,0 +1,12 @@
+// The journal of an event.
+#![tactic(auto)]
+
+mod entries;
+mod entry;
+mod lines;
+#[cfg(test)]
+mod lines_tests;
+
+pub use entries::Entries;
+pub use entry::{Entry, Fault};
+pub use lines::line_of;

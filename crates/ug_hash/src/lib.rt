@@ -1,0 +1,10 @@
+// The hash of a device.
+#![tactic(auto)]
+
+mod device;
+mod hex;
+
+pub use device::device_hash;
+
+#[cfg(test)]
+mod tests;

@@ -1,0 +1,4 @@
+pub mod Runs
+pub mod Told
+pub mod Kernels
+pub mod Counted

@@ -1,0 +1,4 @@
+pub mod Calls
+pub mod Kernel
+pub mod Called
+pub mod Quiet

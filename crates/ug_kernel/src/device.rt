@@ -1,0 +1,32 @@
+// What the kernel keeps.
+use crate::calls::{Control, Write};
+use ug_types::{NodeName, Text};
+
+/// A device that was born. Its place in the kernel's list is its identity, and is never used again.
+#[derive(Drop)]
+pub struct Device {
+    pub name: NodeName,
+    /// The parent's identity. A root hub has none.
+    pub parent: Option<usize>,
+    pub descriptors: Text,
+    pub product: Option<Text>,
+    pub serial: Option<Text>,
+    pub connect: Option<Text>,
+    pub gone: bool,
+    /// The value of `authorized`.
+    pub on: bool,
+}
+
+/// An open file of a device. Its place in the kernel's list is its number.
+#[derive(Clone, Copy, Debug, PartialEq, Eq)]
+pub struct HeldFile {
+    pub device: usize,
+    pub control: Control,
+}
+
+/// A write that had its effect.
+#[derive(Clone, Copy, Debug, PartialEq, Eq)]
+pub struct Effect {
+    pub device: usize,
+    pub write: Write,
+}

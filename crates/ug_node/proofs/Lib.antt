@@ -1,0 +1,4 @@
+pub mod Laws
+mod ReadAs
+mod Rises
+mod Unwritten

@@ -1,0 +1,54 @@
+-- The calls that bind a name, in order: open, read, read the parent's, probe.
+use Rattle.std.specs.Prelude.{ℕ, List, Option, Some, None, Result, Ok, Err}
+use Rattle.ug_types.specs.declared.record.Attrs.{Attrs}
+use Rattle.ug_kernel.specs.declared.calls.Control.TheVariants.{Authorized}
+use Rattle.ug_kernel.specs.declared.calls.Opened.{Opened}
+use Rattle.ug_kernel.specs.declared.calls.Opened.TheVariants as opened
+use Rattle.ug_kernel.specs.declared.calls.Probe.{Probe}
+use Rattle.ug_kernel.specs.declared.calls.Probe.TheVariants as probe
+use Rattle.ug_kernel.specs.Calls.{Open, Ask_alive, Close}
+use Rattle.ug_itree.specs.Tree.{Prog, Return, Ask, then}
+use Rattle.ug_node.specs.Files.{reading_own, reading_parent}
+use Rattle.ug_node.specs.declared.files.Stop.{Stop}
+use Rattle.ug_node.specs.declared.files.Stop.TheVariants as stop
+use Rattle.ug_node.specs.declared.identity.Binding.{Binding}
+use Rattle.ug_node.specs.declared.identity.Binding.TheVariants as bound
+
+abbrev pub binding_of : Stop → Binding
+binding_of stop.Vanished = bound.Vanished
+binding_of (stop.Fault call count) = bound.Failed call count
+binding_of stop.Memory = bound.Memory
+
+-- the held file is closed, and that is all
+abbrev pub closing : ℕ → Binding → Prog Binding
+closing held answer = Ask (Close held) (λ closed. Return answer)
+
+abbrev pub after_probe : ℕ → Attrs → Option Attrs → Probe → ℕ → ℕ → Prog Binding
+after_probe held attrs parent (probe.Alive on) number count = Return (bound.Bound (record { held = record { 0 = held }; attrs = attrs; parent = parent; on = on }))
+after_probe held attrs parent probe.Gone number count = closing held bound.Vanished
+after_probe held attrs parent probe.Failed number count = closing held (bound.Failed number count)
+
+abbrev pub probing : ℕ → Attrs → Option Attrs → Prog Binding
+probing held attrs parent = Ask (Ask_alive held) (λ t. after_probe held attrs parent t.answer t.number t.count)
+
+abbrev pub after_parent : ℕ → Attrs → Result Attrs Stop → Prog Binding
+after_parent held attrs (Ok parent) = probing held attrs (Some parent)
+after_parent held attrs (Err why) = Return (binding_of why)
+
+abbrev pub to_parent : ℕ → Attrs → Option (List ℕ) → Prog Binding
+to_parent held attrs None = probing held attrs None
+to_parent held attrs (Some parent) = then (reading_parent parent held) (after_parent held attrs)
+
+abbrev pub after_own : ℕ → Option (List ℕ) → Result Attrs Stop → Prog Binding
+after_own held parent (Ok attrs) = to_parent held attrs parent
+after_own held parent (Err why) = Return (binding_of why)
+
+abbrev pub after_open : List ℕ → Option (List ℕ) → Opened → ℕ → ℕ → Prog Binding
+after_open name parent (opened.Token held) number count = then (reading_own name held.0) (after_own held.0 parent)
+after_open name parent opened.Absent number count = Return bound.Absent
+after_open name parent opened.Failed number count = Return (bound.Failed number count)
+after_open name parent opened.Memory number count = Return bound.Memory
+
+-- a name, with its parent's
+unfoldable pub binding : List ℕ → Option (List ℕ) → Prog Binding
+binding name parent = Ask (Open name Authorized) (λ t. after_open name parent t.answer t.number t.count)

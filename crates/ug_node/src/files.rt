@@ -1,0 +1,140 @@
+// Reads the files of a device by its name.
+ghost use Rattle.std.specs.Prelude.{◌≡◌, []};
+ghost use Rattle.ug_itree.specs.Tree.{Runs};
+ghost use Rattle.ug_node.specs.Files.{reading, reading_own, reading_parent};
+
+use std::alloc::Global;
+use ug_sysfs::{Attr, ReadOut, Sysfs};
+use ug_types::{Attrs, Held, NodeName, Text};
+
+/// A file's bytes. One that is absent or too long counts as empty.
+#[derive(Drop)]
+pub struct File {
+    pub bytes: Text,
+    pub too_long: bool,
+}
+
+/// Why the reading of a device's files ended early. The held file is closed.
+#[derive(Clone, Copy)]
+pub enum Stop {
+    /// There is no `descriptors` file: no device of the name lived through.
+    Vanished,
+    /// A call failed: its number in the event, and the count of failed calls after it.
+    Fault { call: u64, count: u64 },
+    Memory,
+}
+
+fn no_bytes(alloc: Global, too_long: bool) -> File
+    ensures { result ≡ record { bytes = []; too_long = too_long } }
+{
+    File {
+        bytes: Text::new(alloc),
+        too_long,
+    }
+}
+
+/// Reads one file. The held file is closed where this ends the reading.
+#[tactic(auto, unfolding(crate::specs::Files::reading))]
+pub fn read_file<Y: Sysfs>(
+    alloc: Global,
+    sysfs: &mut Y,
+    name: &NodeName,
+    attr: Attr,
+    held: Held,
+) -> Result<File, Stop>
+    ensures { Runs Y.gives sysfs.old (reading name.now attr held.0) result sysfs.new }
+{
+    match sysfs.read(alloc, name, attr) {
+        ReadOut::Bytes(bytes) => Ok(File {
+            bytes,
+            too_long: false,
+        }),
+        ReadOut::TooLong => Ok(no_bytes(alloc, true)),
+        ReadOut::Absent => match attr {
+            Attr::Descriptors => {
+                sysfs.close(held);
+                Err(Stop::Vanished)
+            }
+            _ => Ok(no_bytes(alloc, false)),
+        },
+        ReadOut::Failed => {
+            let fault = Stop::Fault {
+                call: sysfs.calls(),
+                count: sysfs.faults(),
+            };
+            sysfs.close(held);
+            Err(fault)
+        }
+        ReadOut::Memory => {
+            sysfs.close(held);
+            Err(Stop::Memory)
+        }
+    }
+}
+
+/// Reads the four files of a device.
+#[tactic(auto, unfolding(crate::specs::Files::reading_own), using(ug_itree::proofs::Runs::runs_then))]
+pub fn read_own<Y: Sysfs>(
+    alloc: Global,
+    sysfs: &mut Y,
+    name: &NodeName,
+    held: Held,
+) -> Result<Attrs, Stop>
+    ensures { Runs Y.gives sysfs.old (reading_own name.now held.0) result sysfs.new }
+{
+    let descriptors = match read_file(alloc, sysfs, name, Attr::Descriptors, held) {
+        Ok(file) => file,
+        Err(stop) => return Err(stop),
+    };
+    let product = match read_file(alloc, sysfs, name, Attr::Product, held) {
+        Ok(file) => file,
+        Err(stop) => return Err(stop),
+    };
+    let serial = match read_file(alloc, sysfs, name, Attr::Serial, held) {
+        Ok(file) => file,
+        Err(stop) => return Err(stop),
+    };
+    match read_file(alloc, sysfs, name, Attr::Connect, held) {
+        Ok(connect) => Ok(Attrs {
+            too_long: descriptors.too_long
+                || product.too_long
+                || serial.too_long
+                || connect.too_long,
+            descriptors: descriptors.bytes,
+            product: product.bytes,
+            serial: serial.bytes,
+            connect: connect.bytes,
+        }),
+        Err(stop) => Err(stop),
+    }
+}
+
+/// Reads the files of a parent that its children's records need.
+#[tactic(auto, unfolding(crate::specs::Files::reading_parent), using(ug_itree::proofs::Runs::runs_then))]
+pub fn read_parent<Y: Sysfs>(
+    alloc: Global,
+    sysfs: &mut Y,
+    name: &NodeName,
+    held: Held,
+) -> Result<Attrs, Stop>
+    ensures { Runs Y.gives sysfs.old (reading_parent name.now held.0) result sysfs.new }
+{
+    let descriptors = match read_file(alloc, sysfs, name, Attr::Descriptors, held) {
+        Ok(file) => file,
+        Err(stop) => return Err(stop),
+    };
+    let product = match read_file(alloc, sysfs, name, Attr::Product, held) {
+        Ok(file) => file,
+        Err(stop) => return Err(stop),
+    };
+    match read_file(alloc, sysfs, name, Attr::Serial, held) {
+        Ok(serial) => Ok(Attrs {
+            too_long: descriptors.too_long || product.too_long || serial.too_long,
+            descriptors: descriptors.bytes,
+            product: product.bytes,
+            serial: serial.bytes,
+            connect: Text::new(alloc),
+        }),
+        Err(stop) => Err(stop),
+    }
+}

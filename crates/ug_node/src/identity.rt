@@ -1,0 +1,104 @@
+// Binds a name.
+ghost use Rattle.std.specs.Prelude.{◌≡◌};
+ghost use Rattle.ug_types.specs.Names.{parent_of};
+ghost use Rattle.ug_itree.specs.Tree.{Runs};
+ghost use Rattle.ug_node.specs.Bind.{binding, binding_of};
+ghost use Rattle.ug_node.specs.Bound.{Binds, TellsFault};
+
+use crate::files::{Stop, read_own, read_parent};
+use std::alloc::Global;
+use ug_sysfs::{Control, Opened, Probe, Sysfs};
+use ug_types::{Attrs, Held, NodeName};
+
+/// A device that lived from the opening of its file to the probe of it, with its own files and its parent's.
+#[derive(Drop)]
+pub struct Bound {
+    pub held: Held,
+    pub attrs: Attrs,
+    pub parent: Option<Attrs>,
+    pub on: bool,
+}
+
+/// The answer to a binding. The held file is closed on each answer but `Bound`.
+#[derive(Drop)]
+pub enum Binding {
+    Bound(Bound),
+    /// No device of the name lived through the call.
+    Absent,
+    /// The device went away meanwhile: no device of the name lived through the call.
+    Vanished,
+    /// A call failed: its number in the event, and the count of failed calls after it.
+    Failed { call: u64, count: u64 },
+    Memory,
+}
+
+fn stopped(stop: Stop) -> Binding
+    ensures { result ≡ binding_of stop }
+{
+    match stop {
+        Stop::Vanished => Binding::Vanished,
+        Stop::Fault { call, count } => Binding::Failed { call, count },
+        Stop::Memory => Binding::Memory,
+    }
+}
+
+/// Finds the device of a name: opens its `authorized`, reads its four files and its parent's three, and probes
+/// the held file last. What is read by name is so known to be of the device that is held.
+pub fn bind<Y: Sysfs>(alloc: Global, sysfs: &mut Y, name: &NodeName) -> Binding
+    ensures runs { Runs Y.gives sysfs.old (binding name.now (parent_of name.now)) result sysfs.new }
+    ensures law { Binds Y.told sysfs.old name.now result sysfs.new }
+    ensures fault { TellsFault (Y.faults sysfs.old) (Y.calls sysfs.new) (Y.faults sysfs.new) result }
+{
+    bind_below(alloc, sysfs, name, name.parent())
+}
+
+#[tactic(auto, unfolding(crate::specs::Bind::binding), using(ug_itree::proofs::Runs::runs_then))]
+fn bind_below<Y: Sysfs>(
+    alloc: Global,
+    sysfs: &mut Y,
+    name: &NodeName,
+    parent: Option<NodeName>,
+) -> Binding
+    ensures { Runs Y.gives sysfs.old (binding name.now parent) result sysfs.new }
+{
+    let held = match sysfs.open_control(alloc, name, Control::Authorized) {
+        Opened::Token(held) => held,
+        Opened::Absent => return Binding::Absent,
+        Opened::Failed => {
+            return Binding::Failed {
+                call: sysfs.calls(),
+                count: sysfs.faults(),
+            };
+        }
+        Opened::Memory => return Binding::Memory,
+    };
+    let attrs = match read_own(alloc, sysfs, name, held) {
+        Ok(attrs) => attrs,
+        Err(stop) => return stopped(stop),
+    };
+    let parent_attrs = match parent {
+        None => None,
+        Some(parent) => match read_parent(alloc, sysfs, &parent, held) {
+            Ok(attrs) => Some(attrs),
+            Err(stop) => return stopped(stop),
+        },
+    };
+    match sysfs.probe(held) {
+        Probe::Alive(on) => Binding::Bound(Bound {
+            held,
+            attrs,
+            parent: parent_attrs,
+            on,
+        }),
+        Probe::Gone => {
+            sysfs.close(held);
+            Binding::Vanished
+        }
+        Probe::Failed => {
+            let call = sysfs.calls();
+            let count = sysfs.faults();
+            sysfs.close(held);
+            Binding::Failed { call, count }
+        }
+    }
+}

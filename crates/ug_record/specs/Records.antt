@@ -1,0 +1,51 @@
+-- What is known of a device from its files.
+use Rattle.std.specs.Prelude.{ℕ, nat_eq, if◌then◌else◌, List, [], ◌∷◌, Option, None, Some, Result, Ok, Err}
+use Rattle.ug_types.specs.declared.record.Attrs.{Attrs}
+use Rattle.ug_types.specs.declared.record.DeviceRecord.{DeviceRecord}
+use Rattle.ug_types.specs.declared.record.Judged.{Judged}
+use Rattle.ug_types.specs.declared.record.Judged.TheVariants.{Good, Malformed}
+use Rattle.ug_descr.specs.declared.descriptors.Descr.{Descr}
+use Rattle.ug_descr.specs.Reading.{Fault, decoded, triples_of}
+use Rattle.ug_hash.specs.Hash.{hash_of}
+
+-- the file without one newline at its end
+abbrev pub text_of : List ℕ → List ℕ
+text_of [] = []
+text_of (b ∷ []) = if nat_eq b 10 then [] else b ∷ []
+text_of (b ∷ c ∷ bytes) = b ∷ text_of (c ∷ bytes)
+
+-- the hash of a device, from its files and what its descriptors say
+abbrev pub hash_under : Attrs → Descr → List ℕ
+hash_under attrs descr =
+    hash_of (text_of attrs.product) descr.vendor descr.product (text_of attrs.serial) attrs.descriptors
+
+abbrev pub hash_or_empty : Attrs → Result Descr Fault → List ℕ
+hash_or_empty attrs (Ok descr) = hash_under attrs descr
+hash_or_empty attrs (Err fault) = []
+
+-- empty for no parent, and for one with a file that was too long or whose descriptors are malformed
+unfoldable pub parent_hash_of : Option Attrs → List ℕ
+parent_hash_of None = []
+parent_hash_of (Some attrs) = if attrs.too_long then [] else hash_or_empty attrs (decoded attrs.descriptors)
+
+abbrev pub record_under : List ℕ → Attrs → Option Attrs → Descr → DeviceRecord
+record_under name attrs parent descr = record {
+  vendor = descr.vendor;
+  product = descr.product;
+  serial = text_of attrs.serial;
+  name = text_of attrs.product;
+  hash = hash_under attrs descr;
+  parent_hash = parent_hash_of parent;
+  via_port = name;
+  interfaces = triples_of descr;
+  connect = text_of attrs.connect;
+}
+
+abbrev pub judged_under : List ℕ → Attrs → Option Attrs → Result Descr Fault → Judged
+judged_under name attrs parent (Ok descr) = Good (record_under name attrs parent descr)
+judged_under name attrs parent (Err fault) = Malformed fault.kind fault.place
+
+-- of a device's node name, its files, and the files of its parent if it has one
+unfoldable pub judged_of : List ℕ → Attrs → Option Attrs → Judged
+judged_of name attrs parent =
+    if attrs.too_long then Malformed 8 0 else judged_under name attrs parent (decoded attrs.descriptors)

@@ -1,0 +1,89 @@
+// The record of a device.
+ghost use Rattle.std.specs.Prelude.{◌≡◌, IfOk, option_copied};
+ghost use Rattle.ug_record.specs.Records.{judged_of, parent_hash_of, record_under, hash_under};
+
+use crate::files::{text_of, without_newline};
+use std::alloc::Global;
+use ug_descr::{Descr, DescrFault, decode, ifaces};
+use ug_hash::device_hash;
+use ug_types::{Attrs, DeviceRecord, Judged, NoMemory, NodeName, Text};
+
+/// What is known of a device by its node name, from its files and those of its parent. A parent that is malformed or
+/// has a file that was too long makes the parent hash empty, and isn't a fault of the device.
+#[tactic(auto, unfolding(crate::specs::Records::judged_of))]
+pub fn record_of(
+    alloc: Global,
+    name: &NodeName,
+    attrs: &Attrs,
+    parent: Option<&Attrs>,
+) -> Result<Judged, NoMemory>
+    ensures { IfOk result (λ judged. judged ≡ judged_of name.now attrs.now (option_copied parent.entry)) }
+{
+    if attrs.too_long {
+        return Ok(Judged::Malformed { kind: 8, place: 0 });
+    }
+    match decode(alloc, attrs.descriptors.bytes()) {
+        Ok(descr) => {
+            let record = record_from(alloc, name, attrs, parent, &descr)?;
+            Ok(Judged::Good(record))
+        }
+        Err(DescrFault::Malformed { kind, place }) => Ok(Judged::Malformed { kind, place }),
+        Err(DescrFault::Memory) => Err(NoMemory),
+    }
+}
+
+fn record_from(
+    alloc: Global,
+    name: &NodeName,
+    attrs: &Attrs,
+    parent: Option<&Attrs>,
+    descr: &Descr,
+) -> Result<DeviceRecord, NoMemory>
+    ensures { IfOk result (λ made. made ≡ record_under name.now attrs.now (option_copied parent.entry) descr.now) }
+{
+    let name_text = text_of(alloc, attrs.product.bytes())?;
+    let serial = text_of(alloc, attrs.serial.bytes())?;
+    let connect = text_of(alloc, attrs.connect.bytes())?;
+    let interfaces = ifaces(alloc, descr)?;
+    let parent_hash = parent_hash_from(alloc, parent)?;
+    Ok(DeviceRecord {
+        vendor: descr.vendor,
+        product: descr.product,
+        hash: hash_from(attrs, descr),
+        serial,
+        name: name_text,
+        parent_hash,
+        via_port: *name,
+        interfaces,
+        connect,
+    })
+}
+
+fn hash_from(attrs: &Attrs, descr: &Descr) -> [u8; 44]
+    ensures { result ≡ hash_under attrs.now descr.now }
+{
+    device_hash(
+        without_newline(attrs.product.bytes()),
+        descr.vendor,
+        descr.product,
+        without_newline(attrs.serial.bytes()),
+        attrs.descriptors.bytes(),
+    )
+}
+
+#[tactic(auto, unfolding(crate::specs::Records::parent_hash_of))]
+fn parent_hash_from(alloc: Global, parent: Option<&Attrs>) -> Result<Text, NoMemory>
+    ensures { IfOk result (λ text. text ≡ parent_hash_of (option_copied parent.entry)) }
+{
+    let Some(parent) = parent else {
+        return Ok(Text::new(alloc));
+    };
+    if parent.too_long {
+        return Ok(Text::new(alloc));
+    }
+    match decode(alloc, parent.descriptors.bytes()) {
+        Ok(descr) => Text::of(alloc, hash_from(parent, &descr).as_slice()),
+        Err(DescrFault::Malformed { .. }) => Ok(Text::new(alloc)),
+        Err(DescrFault::Memory) => Err(NoMemory),
+    }
+}

@@ -1,0 +1,6 @@
+pub mod Plugs
+pub mod Fates
+pub mod RanOut
+pub mod Finds
+pub mod Kept
+pub mod Fall

@@ -1,0 +1,89 @@
+-- Devices by their names, and how they come and go.
+use Rattle.std.specs.Prelude.{ℕ, ◌+◌, Bool, true, false, cond, not, ◌&&◌, ◌||◌, eqb, nat_lt, List, [], ◌∷◌, ◌++◌, length, take, drop, set, Option, Some, None, nat_eq}
+use Rattle.std.specs.List.{slice_get}
+use Rattle.std.specs.Cmp.Lexicographic.{pointwise}
+use Rattle.ug_types.specs.Names.{parent_of}
+use Rattle.ug_kernel.specs.declared.device.Device.{Device}
+use Rattle.ug_kernel.specs.Kernel.{live_count}
+use Rattle.ug_sysfs.specs.declared.parent.Parent.{Parent}
+use Rattle.ug_sysfs.specs.declared.parent.Parent.TheVariants.{Nobody, Live, Missing}
+
+abbrev pub is_named : List ℕ → Device → Bool
+is_named name d = not d.gone && pointwise nat_eq d.name name
+
+-- the first live device of a name, where the list begins at place i
+abbrev pub find : List ℕ → ℕ → List Device → Option ℕ
+find name i [] = None
+find name i (d ∷ ds) = cond (is_named name d) (Some i) (find name (i + 1) ds)
+
+abbrev pub sought_at : Option ℕ → Parent
+sought_at None = Missing
+sought_at (Some i) = Live i
+
+-- a parent by its name
+abbrev pub sought : Option (List ℕ) → List Device → Parent
+sought None ds = Nobody
+sought (Some name) ds = sought_at (find name 0 ds)
+
+abbrev pub gone_of : Option Device → Bool
+gone_of None = false
+gone_of (Some d) = d.gone
+
+-- whether a device falls with its parent
+abbrev pub falls : Option ℕ → List Device → Bool
+falls None ds = false
+falls (Some p) ds = gone_of (slice_get ds p)
+
+-- the target goes, and each device after it whose parent is gone before it
+abbrev pub felled : ℕ → List Device → Device → Device
+felled target before d = record d { gone = d.gone || (eqb (length before) target || falls d.parent before) }
+
+abbrev pub fall : ℕ → List Device → List Device → List Device
+fall target before [] = before
+fall target before (d ∷ ds) = fall target (before ++ felled target before d ∷ []) ds
+
+-- the same, one device at a time
+abbrev pub gone_in : ℕ → Option Device → List Device → List Device
+gone_in i None ds = ds
+gone_in i (Some d) ds = set ds i (record d { gone = true })
+
+abbrev pub with_gone : ℕ → List Device → List Device
+with_gone i ds = gone_in i (slice_get ds i) ds
+
+abbrev pub falls_of : Option Device → List Device → Bool
+falls_of None ds = false
+falls_of (Some d) ds = falls d.parent ds
+
+abbrev pub falls_at : ℕ → List Device → Bool
+falls_at i ds = falls_of (slice_get ds i) (take i ds)
+
+abbrev pub stepped : ℕ → ℕ → List Device → List Device
+stepped target i ds = cond (eqb i target || falls_at i ds) (with_gone i ds) ds
+
+abbrev pub unplug_at : Option ℕ → List Device → List Device
+unplug_at None ds = ds
+unplug_at (Some i) ds = fall i (take i ds) (drop i ds)
+
+-- the live device of a name goes, and what is below it
+abbrev pub unplugged : List ℕ → List Device → List Device
+unplugged name ds = unplug_at (find name 0 ds) ds
+
+abbrev pub born : Device → Option ℕ → List Device → List Device
+born d parent ds = ds ++ record d { parent = parent; gone = false } ∷ []
+
+abbrev pub born_under : Device → Option ℕ → List Device → List Device
+born_under d None ds = ds
+born_under d (Some i) ds = born d (Some i) ds
+
+-- a root hub has no parent; else it is the live device of the parent's name
+abbrev pub placed : Device → Option (List ℕ) → List Device → List Device
+placed d None ds = born d None ds
+placed d (Some name) ds = born_under d (find name 0 ds) ds
+
+abbrev pub plug_at : Option ℕ → Device → List Device → List Device
+plug_at None d ds = placed d (parent_of d.name) ds
+plug_at (Some i) d ds = ds
+
+-- a device is born, unless its name is live, or its parent isn't, or 65,536 devices are
+abbrev pub plugged : Device → List Device → List Device
+plugged d ds = cond (nat_lt (live_count ds) 65536) (plug_at (find d.name 0 ds) d ds) ds

@@ -1,0 +1,13 @@
+pub mod Few
+pub mod Reply
+pub mod Devices
+pub mod World
+pub mod Begins
+pub mod Find
+pub mod Sound
+pub mod Law
+pub mod Count
+pub mod Below
+pub mod Birth
+pub mod Listed
+pub mod Indexed

@@ -1,0 +1,93 @@
+-- The answers themselves, and their kinds.
+use Rattle.std.specs.Prelude.{◌≡◌, Bool, true, false, List, [], ◌∷◌}
+use Rattle.ug_kernel.specs.declared.calls.Listing.{Listing}
+use Rattle.ug_kernel.specs.declared.calls.Listing.TheVariants as listing
+use Rattle.ug_kernel.specs.declared.calls.Opened.{Opened}
+use Rattle.ug_kernel.specs.declared.calls.Opened.TheVariants as opened
+use Rattle.ug_kernel.specs.declared.calls.ReadOut.{ReadOut}
+use Rattle.ug_kernel.specs.declared.calls.ReadOut.TheVariants as out
+use Rattle.ug_kernel.specs.declared.calls.Probe.{Probe}
+use Rattle.ug_kernel.specs.declared.calls.Probe.TheVariants as probe
+use Rattle.ug_kernel.specs.declared.calls.Wrote.{Wrote}
+use Rattle.ug_kernel.specs.declared.calls.Wrote.TheVariants as wrote
+use Rattle.ug_kernel.specs.Calls.{Call, Names, Open, Read, Ask_alive, Put, Close, Closing, Closed, failed_listing, failed_open, failed_read, failed_probe, failed_put}
+use Rattle.ug_sysfs.specs.declared.made.Asked.TheVariants as asked
+use Rattle.ug_sysfs.specs.declared.made.Kind.{Kind}
+use Rattle.ug_sysfs.specs.declared.made.Kind.TheVariants as kind
+use Rattle.ug_sysfs.specs.declared.made.Made.{Made}
+
+-- what a call's method returns
+abbrev pub Reply : Call → Type 0
+Reply Names = Listing
+Reply (Open name control) = Opened
+Reply (Read name attr) = ReadOut
+Reply (Ask_alive held) = Probe
+Reply (Put held write) = Wrote
+Reply (Close held) = Closing
+
+-- a failure. Closing has none
+abbrev pub failure : (call : Call) → Reply call
+failure Names = listing.Failed
+failure (Open name control) = opened.Failed
+failure (Read name attr) = out.Failed
+failure (Ask_alive held) = probe.Failed
+failure (Put held write) = wrote.Failed
+failure (Close held) = Closed
+
+abbrev pub is_failure : (call : Call) → Reply call → Bool
+is_failure Names reply = failed_listing reply
+is_failure (Open name control) reply = failed_open reply
+is_failure (Read name attr) reply = failed_read reply
+is_failure (Ask_alive held) reply = failed_probe reply
+is_failure (Put held write) reply = failed_put reply
+is_failure (Close held) reply = false
+
+-- want of memory, where the call takes memory
+abbrev pub IsMemory : (call : Call) → Reply call → Type 0
+IsMemory Names reply = reply ≡ listing.Memory
+IsMemory (Open name control) reply = reply ≡ opened.Memory
+IsMemory (Read name attr) reply = reply ≡ out.Memory
+IsMemory (Ask_alive held) reply = ⊥
+IsMemory (Put held write) reply = ⊥
+IsMemory (Close held) reply = ⊥
+
+abbrev pub listing_kind : Listing → Kind
+listing_kind (listing.Names names) = kind.Names
+listing_kind listing.Failed = kind.Failed
+listing_kind listing.Memory = kind.Memory
+
+abbrev pub opened_kind : Opened → Kind
+opened_kind (opened.Token held) = kind.Token
+opened_kind opened.Absent = kind.Absent
+opened_kind opened.Failed = kind.Failed
+opened_kind opened.Memory = kind.Memory
+
+abbrev pub read_kind : ReadOut → Kind
+read_kind (out.Bytes bytes) = kind.Bytes
+read_kind out.Absent = kind.Absent
+read_kind out.TooLong = kind.TooLong
+read_kind out.Failed = kind.Failed
+read_kind out.Memory = kind.Memory
+
+abbrev pub probe_kind : Probe → Kind
+probe_kind (probe.Alive on) = kind.Alive
+probe_kind probe.Gone = kind.Gone
+probe_kind probe.Failed = kind.Failed
+
+abbrev pub wrote_kind : Wrote → Kind
+wrote_kind wrote.Done = kind.Done
+wrote_kind wrote.Gone = kind.Gone
+wrote_kind wrote.Failed = kind.Failed
+
+abbrev pub is_failed : Kind → Bool
+is_failed kind.Failed = true
+is_failed other = false
+
+-- a call as it is listed. Closing isn't
+abbrev pub listed : (call : Call) → Reply call → List Made
+listed Names reply = record { asked = asked.List; kind = listing_kind reply } ∷ []
+listed (Open name control) reply = record { asked = asked.Open name control; kind = opened_kind reply } ∷ []
+listed (Read name attr) reply = record { asked = asked.Read name attr; kind = read_kind reply } ∷ []
+listed (Ask_alive held) reply = record { asked = asked.Probe (record { 0 = held }); kind = probe_kind reply } ∷ []
+listed (Put held write) reply = record { asked = asked.Write (record { 0 = held }) write; kind = wrote_kind reply } ∷ []
+listed (Close held) reply = []

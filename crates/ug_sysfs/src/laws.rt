@@ -1,0 +1,46 @@
+// What the definitions of the simulated kernel mean.
+ghost use Rattle.std.specs.Prelude.{◌≡◌, ℕ, ◌++◌, ◌∷◌, [], Bool, true, false, if◌then◌else◌, nat_eq, List, Some, None};
+ghost use Rattle.ug_kernel.specs.declared.device.Device.{Device};
+ghost use Rattle.ug_kernel.specs.Calls.{Call, Answer};
+ghost use Rattle.ug_kernel.specs.Kernel.{Kernel, Live, IsSound, IsKernel, Moves};
+ghost use Rattle.ug_sysfs.specs.declared.script.Failing.{Failing};
+ghost use Rattle.ug_sysfs.specs.Devices.{plugged, unplugged};
+ghost use Rattle.ug_sysfs.specs.Birth.{CanBeBorn, IsBorn};
+ghost use Rattle.ug_sysfs.specs.Below.{IsFelled};
+ghost use Rattle.ug_sysfs.specs.World.{World, Gives, fate, over};
+
+/// A device is born wherever it can be, as the newest, and else nothing changes. It is a move, and keeps a kernel sound.
+pub fn plug_law()
+    ensures born { (d : Device) (ds : List Device) → CanBeBorn d ds → IsBorn d ds (plugged d ds) }
+    ensures refused { (d : Device) (ds : List Device) → ¬ (CanBeBorn d ds) → plugged d ds ≡ ds }
+    ensures moves { (d : Device) (k : Kernel) → Moves k (record k { devices = plugged d k.devices }) }
+    ensures sound { (d : Device) (k : Kernel) → IsKernel k → IsKernel (record k { devices = plugged d k.devices }) }
+{}
+
+/// Unplugging takes the live device of the name and what is below it, and nothing else. It is a move, and keeps a
+/// kernel sound.
+pub fn unplug_law()
+    ensures felled { (name : List ℕ) (ds : List Device) (i : ℕ) (d : Device) → IsSound ds → Live ds i d → d.name ≡ name → IsFelled i ds (unplugged name ds) }
+    ensures nobody { (name : List ℕ) (ds : List Device) → ((i : ℕ) (d : Device) → Live ds i d → d.name ≡ name → ⊥) → unplugged name ds ≡ ds }
+    ensures moves { (name : List ℕ) (k : Kernel) → Moves k (record k { devices = unplugged name k.devices }) }
+    ensures sound { (name : List ℕ) (k : Kernel) → IsKernel k → IsKernel (record k { devices = unplugged name k.devices }) }
+{}
+
+/// A kernel without devices is sound, and stays so at an event's end, where it moves.
+pub fn event_law()
+    ensures new { IsKernel (record { devices = []; held = []; log = [] }) }
+    ensures moves { (w : World) → Moves w.kernel (over w).kernel }
+    ensures sound { (w : World) → IsKernel w.kernel → IsKernel (over w).kernel }
+{}
+
+/// A call fails where it is scheduled to. The last word on it counts.
+pub fn fate_law()
+    ensures none { (n : ℕ) → fate n None [] ≡ None }
+    ensures last { (n : ℕ) (fs : List Failing) (f : Failing) → f.call ≡ n → fate n None (fs ++ f ∷ []) ≡ Some f.effect }
+    ensures other { (n : ℕ) (fs : List Failing) (f : Failing) → ¬ (f.call ≡ n) → fate n None (fs ++ f ∷ []) ≡ fate n None fs }
+{}
+
+/// A kernel that has run out stays so.
+pub fn ran_out_law()
+    ensures { (s : World) (call : Call) (a : Answer call) (t : World) → Gives s call a t → s.ran_out ≡ true → t.ran_out ≡ true }
+{}

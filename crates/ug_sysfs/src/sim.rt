@@ -1,0 +1,417 @@
+// A kernel in memory, which goes by a script.
+ghost use Rattle.std.specs.Prelude.{◌≡◌, ◌++◌, ◌∷◌, [], true, false, List, length, IfOk, OnOk, OnErr, MatchOption};
+ghost use Rattle.ug_kernel.specs.Calls.{Names, Open, Read, Ask_alive, Put};
+ghost use Rattle.ug_sysfs.specs.Devices.{plugged, unplugged};
+ghost use Rattle.ug_sysfs.specs.Count.{counts_each};
+ghost use Rattle.ug_sysfs.specs.Few.{HasFew};
+ghost use Rattle.ug_sysfs.specs.Law.{does_what_it_may, begins_afresh};
+ghost use Rattle.ug_sysfs.specs.World.{Gives, Effects, RunsOut, Puts, Ends, Enters, begun, over, fate_of, counted, told};
+
+use crate::devices::{live_held, live_names, read_file};
+use crate::made::{
+    Asked, Kind, Made, kind_of_listing, kind_of_opened, kind_of_probe, kind_of_read, kind_of_wrote,
+};
+use crate::parent::plug;
+use crate::roster::Roster;
+use crate::schedule::{fate, happen, happen_all, one_more};
+use crate::script::{Failing, Move, Scheduled};
+use crate::sysfs::Sysfs;
+use std::alloc::Global;
+use std::collections::VecDeque;
+use std::marker::Model;
+use ug_kernel::{
+    Attr, Control, Device, Effect, HeldFile, Listing, Opened, Probe, ReadOut, Write, Wrote,
+};
+use ug_types::{Held, NoMemory, NodeName};
+
+/// A kernel in memory. Its script fixes each answer, except where memory is refused. Where an entry of the log
+/// or of the calls finds no memory, it runs out: its calls fail from then on, and it tells no kernel.
+#[derive(Drop)]
+pub struct SimKernel {
+    roster: Roster,
+    held: Vec<HeldFile>,
+    log: Vec<Effect>,
+    moves: VecDeque<Scheduled>,
+    fails: Vec<Failing>,
+    calls: u64,
+    faults: u64,
+    made: Vec<Made>,
+    ran_out: bool,
+}
+
+impl Model for SimKernel {
+    ghost use Rattle.std.specs.Prelude.{◌≤◌};
+    ghost use Rattle.ug_kernel.specs.Kernel.{live_count};
+    ghost use Rattle.ug_sysfs.specs.World.{World, plugs};
+
+    ghost Value = { World };
+
+    ghost view = { λ s. record {
+      kernel = record { devices = s.roster.devices; held = s.held.items; log = s.log.items };
+      moves = s.moves.items;
+      fails = s.fails.items;
+      calls = s.calls;
+      faults = s.faults;
+      made = s.made.items;
+      ran_out = s.ran_out;
+    } };
+
+    // each plug that is scheduled has its room
+    ghost invariant = { λ s. (plugs s.moves.items ≤ s.roster.room) × (live_count s.roster.devices ≤ 65536) };
+}
+
+impl SimKernel {
+    /// No device, no held file, nothing scheduled. It takes no memory.
+    pub fn new(alloc: Global) -> SimKernel
+        ensures { result ≡ record {
+          kernel = record { devices = []; held = []; log = [] };
+          moves = [];
+          fails = [];
+          calls = 0;
+          faults = 0;
+          made = [];
+          ran_out = false;
+        } }
+    {
+        SimKernel {
+            roster: Roster::new(alloc),
+            held: Vec::new(alloc),
+            log: Vec::new(alloc),
+            moves: VecDeque::new(alloc),
+            fails: Vec::new(alloc),
+            calls: 0,
+            faults: 0,
+            made: Vec::new(alloc),
+            ran_out: false,
+        }
+    }
+
+    /// A device is born. Its `parent` and `gone` are the kernel's to say. It isn't where its name is live,
+    /// where its parent isn't, or where 65,536 devices are.
+    #[tactic(auto, using(crate::proofs::Plugs::plugs_le))]
+    pub fn plug(&mut self, device: Device) -> Result<(), NoMemory>
+        ensures ok { OnOk result (self.new ≡ record self.old { kernel = record self.old.kernel { devices = plugged device self.old.kernel.devices } }) }
+        ensures err { OnErr result (self.new ≡ self.old) }
+    {
+        self.roster.reserve(self.moves.len().saturating_add(1))?;
+        plug(&mut self.roster, device);
+        Ok(())
+    }
+
+    /// The live device of that name goes, and what is below it.
+    pub fn unplug(&mut self, name: &NodeName)
+        ensures { self.new ≡ record self.old { kernel = record self.old.kernel { devices = unplugged name.now self.old.kernel.devices } } }
+    {
+        if let Some(i) = self.roster.find(name) {
+            self.roster.unplug(i);
+        }
+    }
+
+    /// A move that is to come at a call of the event, before its effect or after it. Moves happen in the order
+    /// in which they are scheduled; one whose call is past happens at the next.
+    #[tactic(auto, using(crate::proofs::Plugs::plugs_le))]
+    pub fn schedule(&mut self, call: u64, after: bool, action: Move) -> Result<(), NoMemory>
+        ensures ok { OnOk result (self.new ≡ record self.old { moves = self.old.moves ++ record { call = call; after = after; action = action } ∷ [] }) }
+        ensures err { OnErr result (self.new ≡ self.old) }
+    {
+        self.roster.reserve(self.moves.len().saturating_add(1))?;
+        self.moves.push_back(Scheduled {
+            call,
+            after,
+            action,
+        })?;
+        Ok(())
+    }
+
+    /// A call that is to fail. A write then has its effect, or not. The last word on a call counts.
+    pub fn fail(&mut self, call: u64, effect: bool) -> Result<(), NoMemory>
+        ensures ok { OnOk result (self.new ≡ record self.old { fails = self.old.fails ++ record { call = call; effect = effect } ∷ [] }) }
+        ensures err { OnErr result (self.new ≡ self.old) }
+    {
+        self.fails.push(Failing { call, effect })?;
+        Ok(())
+    }
+
+    /// What is still scheduled happens, and no call is to fail any more.
+    pub fn end_event(&mut self)
+        ensures { self.new ≡ over self.old }
+    {
+        happen_all(&mut self.roster, &mut self.moves);
+        self.fails.clear();
+    }
+
+    /// Whether an entry of the log or of the calls found no memory.
+    pub fn ran_out(&self) -> bool
+        ensures { result ≡ self.now.ran_out }
+    {
+        self.ran_out
+    }
+
+    /// All devices that were born.
+    pub fn devices(&self) -> &[Device]
+        ensures { result.now ≡ self.now.kernel.devices }
+    {
+        self.roster.devices()
+    }
+
+    /// All files that were opened. A file that was closed stays.
+    pub fn held(&self) -> &[HeldFile]
+        ensures { result.now ≡ self.now.kernel.held }
+    {
+        self.held.as_slice()
+    }
+
+    /// The writes that had their effect.
+    pub fn log(&self) -> &[Effect]
+        ensures { result.now ≡ self.now.kernel.log }
+    {
+        self.log.as_slice()
+    }
+
+    /// The calls of the event, without closings.
+    pub fn made(&self) -> &[Made]
+        ensures { result.now ≡ self.now.made }
+    {
+        self.made.as_slice()
+    }
+
+    // A call begins, unless the kernel has run out: then it fails.
+    fn enter(&mut self) -> bool
+        ensures { Enters self.old result self.new }
+    {
+        self.calls = self.calls.saturating_add(1);
+        if self.ran_out {
+            self.faults = one_more(self.faults);
+            return false;
+        }
+        happen(&mut self.roster, &mut self.moves, self.calls, false);
+        true
+    }
+
+    // The moves after its effect happen, and the call is noted if there is memory for that.
+    fn end(&mut self, asked: Asked, kind: Kind) -> bool
+        ensures { Ends self.old (record { asked = asked; kind = kind }) result self.new }
+    {
+        happen(&mut self.roster, &mut self.moves, self.calls, true);
+        match self.made.push(Made { asked, kind }) {
+            Ok(_) => true,
+            Err(_) => {
+                self.ran_out = true;
+                if !matches!(&kind, Kind::Failed) {
+                    self.faults = one_more(self.faults);
+                }
+                false
+            }
+        }
+    }
+
+    // Whether the call fails, and then it is counted.
+    fn fate(&mut self) -> Option<bool>
+        ensures fate { result ≡ fate_of self.old }
+        ensures counted { self.new ≡ counted self.old }
+    {
+        let fate = fate(&self.fails, self.calls);
+        if fate.is_some() {
+            self.faults = one_more(self.faults);
+        }
+        fate
+    }
+
+    #[tactic(auto, using(crate::specs::Find::length_names))]
+    fn list_now(&mut self, alloc: Global) -> Listing
+        ensures effects { Effects self.old Names result self.new }
+        ensures few { HasFew result }
+    {
+        match self.fate() {
+            Some(_) => Listing::Failed,
+            None => match live_names(alloc, self.roster.devices()) {
+                Ok(names) => Listing::Names(names),
+                Err(_) => Listing::Memory,
+            },
+        }
+    }
+
+    fn open_now(&mut self, name: &NodeName, control: Control) -> Opened
+        ensures { Effects self.old (Open name.now control) result self.new }
+    {
+        match self.fate() {
+            Some(_) => Opened::Failed,
+            None => match self.roster.find(name) {
+                Some(device) => {
+                    let number = self.held.len() as u64;
+                    match self.held.push(HeldFile { device, control }) {
+                        Ok(_) => Opened::Token(Held(number)),
+                        Err(_) => Opened::Memory,
+                    }
+                }
+                None => Opened::Absent,
+            },
+        }
+    }
+
+    fn read_now(&mut self, alloc: Global, name: &NodeName, attr: Attr) -> ReadOut
+        ensures { Effects self.old (Read name.now attr) result self.new }
+    {
+        match self.fate() {
+            Some(_) => ReadOut::Failed,
+            None => match self.roster.find(name) {
+                Some(i) => match self.roster.devices().get(i) {
+                    Some(device) => read_file(alloc, device, attr),
+                    None => ReadOut::Absent,
+                },
+                None => ReadOut::Absent,
+            },
+        }
+    }
+
+    fn probe_now(&mut self, held: Held) -> Probe
+        ensures { Effects self.old (Ask_alive held.0) result self.new }
+    {
+        match self.fate() {
+            Some(_) => Probe::Failed,
+            None => match live_held(self.roster.devices(), &self.held, held.0 as usize) {
+                Some(i) => match self.roster.devices().get(i) {
+                    Some(device) => Probe::Alive(device.on),
+                    None => Probe::Gone,
+                },
+                None => Probe::Gone,
+            },
+        }
+    }
+
+    // What a write does where it has its effect. There may be no memory for its entry.
+    fn put(&mut self, held: Held, write: Write) -> Option<Wrote>
+        ensures { MatchOption result (RunsOut self.old self.new) (λ reply. Puts self.old held.0 write reply self.new) }
+    {
+        match live_held(self.roster.devices(), &self.held, held.0 as usize) {
+            Some(device) => match self.log.push(Effect { device, write }) {
+                Ok(_) => {
+                    self.roster.switch(device, write);
+                    Some(Wrote::Done)
+                }
+                Err(_) => {
+                    self.ran_out = true;
+                    None
+                }
+            },
+            None => Some(Wrote::Gone),
+        }
+    }
+
+    fn write_now(&mut self, held: Held, what: Write) -> Wrote
+        ensures { Effects self.old (Put held.0 what) result self.new }
+    {
+        match self.fate() {
+            Some(true) => {
+                let _ = self.put(held, what);
+                Wrote::Failed
+            }
+            Some(false) => Wrote::Failed,
+            None => match self.put(held, what) {
+                Some(answer) => answer,
+                None => {
+                    self.faults = one_more(self.faults);
+                    Wrote::Failed
+                }
+            },
+        }
+    }
+}
+
+impl Sysfs for SimKernel {
+    ghost gives = { Gives };
+
+    ghost begins = { λ s t. t ≡ begun s };
+
+    ghost told = { told };
+
+    ghost calls = { λ w. w.calls };
+
+    ghost faults = { λ w. w.faults };
+
+    ghost did = { does_what_it_may };
+
+    ghost counted = { counts_each };
+
+    ghost began = { begins_afresh };
+
+    fn begin(&mut self) {
+        self.calls = 0;
+        self.made.clear();
+    }
+
+    fn calls(&self) -> u64 {
+        self.calls
+    }
+
+    fn faults(&self) -> u64 {
+        self.faults
+    }
+
+    fn list(&mut self, alloc: Global) -> Listing {
+        if !self.enter() {
+            return Listing::Failed;
+        }
+        let answer = self.list_now(alloc);
+        let kind = kind_of_listing(&answer);
+        if self.end(Asked::List, kind) {
+            answer
+        } else {
+            Listing::Failed
+        }
+    }
+
+    fn open_control(&mut self, alloc: Global, name: &NodeName, control: Control) -> Opened {
+        if !self.enter() {
+            return Opened::Failed;
+        }
+        let answer = self.open_now(name, control);
+        let kind = kind_of_opened(answer);
+        if self.end(Asked::Open(*name, control), kind) {
+            answer
+        } else {
+            Opened::Failed
+        }
+    }
+
+    fn read(&mut self, alloc: Global, name: &NodeName, attr: Attr) -> ReadOut {
+        if !self.enter() {
+            return ReadOut::Failed;
+        }
+        let answer = self.read_now(alloc, name, attr);
+        let kind = kind_of_read(&answer);
+        if self.end(Asked::Read(*name, attr), kind) {
+            answer
+        } else {
+            ReadOut::Failed
+        }
+    }
+
+    fn probe(&mut self, held: Held) -> Probe {
+        if !self.enter() {
+            return Probe::Failed;
+        }
+        let answer = self.probe_now(held);
+        let kind = kind_of_probe(answer);
+        if self.end(Asked::Probe(held), kind) {
+            answer
+        } else {
+            Probe::Failed
+        }
+    }
+
+    fn write(&mut self, held: Held, what: Write) -> Wrote {
+        if !self.enter() {
+            return Wrote::Failed;
+        }
+        let answer = self.write_now(held, what);
+        let kind = kind_of_wrote(answer);
+        if self.end(Asked::Write(held, what), kind) {
+            answer
+        } else {
+            Wrote::Failed
+        }
+    }
+
+    fn close(&mut self, _held: Held) {}
+}

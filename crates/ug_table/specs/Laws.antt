@@ -1,0 +1,132 @@
+-- What a sweep does, in the words of devices and journal.
+use Rattle.std.specs.Prelude.{◌≡◌, ℕ, ◌+◌, ◌<◌, Bool, is_none, List, [], ◌∷◌, ◌++◌, Option, Some, ◌⊎◌, slice_get}
+use Rattle.ug_types.specs.Elements.{Has, AllDistinct}
+use Rattle.ug_types.specs.Names.{parent_of}
+use Rattle.ug_types.specs.declared.record.Attrs.{Attrs}
+use Rattle.ug_types.specs.declared.record.Judged.{Judged}
+use Rattle.ug_types.specs.declared.verdict.Held.{Held}
+use Rattle.ug_types.specs.declared.verdict.Target.{Target}
+use Rattle.ug_types.specs.declared.verdict.Cause.{Cause}
+use Rattle.ug_kernel.specs.declared.device.Device.{Device}
+use Rattle.ug_kernel.specs.declared.device.Effect.{Effect}
+use Rattle.ug_kernel.specs.declared.calls.Control.TheVariants.{Authorized}
+use Rattle.ug_kernel.specs.declared.calls.Write.{Write}
+use Rattle.ug_kernel.specs.declared.calls.Wrote.{Wrote}
+use Rattle.ug_kernel.specs.declared.calls.Wrote.TheVariants as wrote
+use Rattle.ug_kernel.specs.Kernel.{Kernel, IsKernel}
+use Rattle.ug_kernel.specs.Called.{Lived}
+use Rattle.ug_kernel.specs.Quiet.{Grows}
+use Rattle.ug_record.specs.Records.{judged_of}
+use Rattle.ug_node.specs.Bound.{attrs_of, IsParentRead}
+use Rattle.ug_audit.specs.declared.entry.Entry.{Entry}
+use Rattle.ug_audit.specs.declared.entry.Entry.TheVariants as entry
+use Rattle.ug_audit.specs.declared.entry.Fault.{Fault}
+use Rattle.ug_table.specs.Bring.{wants, write_of}
+use Rattle.ug_table.specs.State.{State}
+use Rattle.ug_table.specs.Sweep.{names_of}
+use Rattle.ug_table.specs.declared.standing.Standing.{Standing}
+
+-- what is known of the device d from its own files and its parent's
+abbrev pub IsRecordOf : Kernel → Device → Judged → Type 0
+IsRecordOf k d judged = (parent : Option Attrs) × IsParentRead k d.parent parent × (judged ≡ judged_of d.name (attrs_of d) parent)
+
+-- the held file is that very device's `authorized`, the name is its, and the record is that of its files and its parent's
+pub record IsDevice (k : Kernel) (i : ℕ) (name : List ℕ) (held : Held) (judged : Judged) : Type 0 where
+  pub d : Device
+  pub device : slice_get k.devices i ≡ Some d
+  pub file : slice_get k.held held.0 ≡ Some (record { device = i; control = Authorized })
+  pub named : d.name ≡ name
+  pub of : IsRecordOf k d judged
+
+-- each standing is of a device, its number was given out, and no name has two
+pub record Stand (k : Kernel) (ss : List Standing) (next : ℕ) : Type 0 where
+  pub devices : (s : Standing) → Has ss s → (i : ℕ) × IsDevice k i s.name s.held s.judged
+  pub numbers : (s : Standing) → Has ss s → s.number < next
+  pub names : AllDistinct (names_of ss)
+
+-- an entry that tells neither a verdict nor a write
+abbrev pub TellsNeither : Entry → Type 0
+TellsNeither (entry.Judged number name held verdict cause) = ⊥
+TellsNeither (entry.Intent number name write) = ⊥
+TellsNeither (entry.Wrote number name write outcome) = ⊥
+TellsNeither e = Unit {0}
+
+-- whether a write of that outcome may have had its effect, and whether it may not
+abbrev pub MayHave : Wrote → Type 0
+MayHave wrote.Done = Unit {0}
+MayHave wrote.Gone = ⊥
+MayHave wrote.Failed = Unit {0}
+
+abbrev pub MayHaveNot : Wrote → Type 0
+MayHaveNot wrote.Done = ⊥
+MayHaveNot wrote.Gone = Unit {0}
+MayHaveNot wrote.Failed = Unit {0}
+
+-- the number has that verdict: by a standing from before, or by an entry since
+abbrev pub HasVerdict : List Standing → List Entry → ℕ → List ℕ → Held → Target → Type 0
+HasVerdict before entries number name held verdict =
+    ((s : Standing) × Has before s × (s.number ≡ number) × (s.name ≡ name) × (s.held ≡ held) × (s.verdict ≡ verdict))
+    ⊎ ((cause : Cause) × Has entries (entry.Judged number name held verdict cause))
+
+-- the two entries of a write
+abbrev pub wrote_entries : ℕ → List ℕ → Write → Wrote → List Entry
+wrote_entries number name write outcome = entry.Intent number name write ∷ entry.Wrote number name write outcome ∷ []
+
+-- The entries since a sweep began, in order, with what they say of the log, of the judge and of the next number.
+-- Each verdict is the judge's on the record of the very device of the held file, under the next number. Each entry that was
+-- added to the log is that of a write that is told, with its intent directly before it, to the very device of its number,
+-- and is what the verdict of that number wants.
+pub data Account {J : Type 0} (answer : J → Judged → Bool → Bool → Bool → Target × Cause) (later : J → Judged → Bool → Bool → Bool → J) (k : Kernel) (before : List Standing) (log0 : List Effect) (judge0 : J) (next0 : ℕ) : List Entry → List Effect → J → ℕ → Type 0 where
+  Start : Account answer later k before log0 judge0 next0 [] log0 judge0 next0
+  Note : (es : List Entry) (log : List Effect) (judge : J) (next : ℕ) (e : Entry) → TellsNeither e → Account answer later k before log0 judge0 next0 es log judge next → Account answer later k before log0 judge0 next0 (es ++ e ∷ []) log judge next
+  Judge : (es : List Entry) (log : List Effect) (judge : J) (next i : ℕ) (name : List ℕ) (held : Held) (judged : Judged) (present on : Bool) → IsDevice k i name held judged → Account answer later k before log0 judge0 next0 es log judge next → Account answer later k before log0 judge0 next0 (es ++ entry.Judged next name held (answer judge judged (is_none (parent_of name)) present on).0 (answer judge judged (is_none (parent_of name)) present on).1 ∷ []) log (later judge judged (is_none (parent_of name)) present on) (next + 1)
+  Had : (es : List Entry) (log : List Effect) (judge : J) (next i number : ℕ) (name : List ℕ) (held : Held) (judged : Judged) (verdict : Target) (outcome : Wrote) → IsDevice k i name held judged → HasVerdict before es number name held verdict → MayHave outcome → Account answer later k before log0 judge0 next0 es log judge next → Account answer later k before log0 judge0 next0 (es ++ wrote_entries number name (write_of verdict) outcome) (log ++ record { device = i; write = write_of verdict } ∷ []) judge next
+  Had_not : (es : List Entry) (log : List Effect) (judge : J) (next i number : ℕ) (name : List ℕ) (held : Held) (judged : Judged) (verdict : Target) (outcome : Wrote) → IsDevice k i name held judged → HasVerdict before es number name held verdict → MayHaveNot outcome → Account answer later k before log0 judge0 next0 es log judge next → Account answer later k before log0 judge0 next0 (es ++ wrote_entries number name (write_of verdict) outcome) log judge next
+
+-- a standing at the end was there before, or its verdict was told since
+abbrev pub IsTold : List Standing → List Entry → Standing → Type 0
+IsTold before entries s =
+    ((b : Standing) × Has before b × (s.number ≡ b.number) × (s.name ≡ b.name) × (s.held ≡ b.held) × (s.judged ≡ b.judged) × (s.verdict ≡ b.verdict) × (s.cause ≡ b.cause))
+    ⊎ Has entries (entry.Judged s.number s.name s.held s.verdict s.cause)
+
+-- from the state w over the kernel k to the state v over the kernel l
+pub record IsFair {J : Type 0} (answer : J → Judged → Bool → Bool → Bool → Target × Cause) (later : J → Judged → Bool → Bool → Bool → J) (k : Kernel) (w : State J) (l : Kernel) (v : State J) : Type 0 where
+  pub sound : IsKernel l
+  pub grows : Grows k l
+  pub rest : List Entry
+  pub entries : v.entries ≡ w.entries ++ rest
+  pub stand : Stand l v.standings v.next
+  pub account : Account answer later l w.standings k.log w.judge w.next rest l.log v.judge v.next
+  pub told : (s : Standing) → Has v.standings s → IsTold w.standings rest s
+
+-- the name is told as unsettled
+abbrev pub IsNamed : List Entry → List ℕ → Type 0
+IsNamed entries name = (why : Fault) × Has entries (entry.Unsettled name why)
+
+-- the device has a standing
+pub record HasStanding (k : Kernel) (ss : List Standing) (i : ℕ) : Type 0 where
+  pub s : Standing
+  pub has : Has ss s
+  pub file : slice_get k.held s.held.0 ≡ Some (record { device = i; control = Authorized })
+
+-- and its value is the one that the verdict wants
+pub record IsAsJudged (k : Kernel) (ss : List Standing) (i : ℕ) : Type 0 where
+  pub standing : HasStanding k ss i
+  pub d : Device
+  pub device : slice_get k.devices i ≡ Some d
+  pub value : d.on ≡ wants standing.s.verdict
+
+-- each device that lived through is as judged, or its name is told, or it has no standing and the listing is told
+abbrev pub IsSettled : Kernel → Kernel → List Standing → List Entry → Type 0
+IsSettled k l ss entries = (i : ℕ) (d : Device) → Lived k.devices l.devices i d
+    → IsAsJudged l ss i ⊎ (IsNamed entries d.name ⊎ (((why : Fault) × Has entries (entry.UnsettledAll why)) × (HasStanding l ss i → ⊥)))
+
+-- the sweep is fair, and each device is settled or named
+pub record Swept {J : Type 0} (answer : J → Judged → Bool → Bool → Bool → Target × Cause) (later : J → Judged → Bool → Bool → Bool → J) (k : Kernel) (w : State J) (l : Kernel) (v : State J) : Type 0 where
+  pub fair : IsFair answer later k w l v
+  pub settled : IsSettled k l v.standings fair.rest
+
+-- where a kernel is told at the end of a sweep, one was told at its start; and where that is sound and the standings are of
+-- its devices, that is so
+abbrev pub Sweeps : {S J : Type 0} → (S → Option Kernel) → (J → Judged → Bool → Bool → Bool → Target × Cause) → (J → Judged → Bool → Bool → Bool → J) → S → State J → S → State J → Type 0
+Sweeps told answer later s w t v = (l : Kernel) → told t ≡ Some l → (k : Kernel) × (told s ≡ Some k) × (IsKernel k → Stand k w.standings w.next → Swept answer later k w l v)

@@ -1,0 +1,6 @@
+pub mod Standings
+pub mod Bring
+pub mod State
+pub mod Settle
+pub mod Sweep
+pub mod Laws

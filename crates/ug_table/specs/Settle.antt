@@ -1,0 +1,145 @@
+-- The settling of one name: a known one is probed and written, another is bound, judged and written.
+use Rattle.std.specs.Prelude.{ℕ, ◌+◌, Bool, true, false, is_none, List, [], ◌∷◌, ◌++◌, Option, Some, None, map}
+use Rattle.ug_types.specs.Names.{parent_of}
+use Rattle.ug_types.specs.declared.record.Judged.{Judged}
+use Rattle.ug_types.specs.declared.verdict.Target.{Target}
+use Rattle.ug_types.specs.declared.verdict.Cause.{Cause}
+use Rattle.ug_kernel.specs.declared.calls.Probe.{Probe}
+use Rattle.ug_kernel.specs.declared.calls.Probe.TheVariants as probe
+use Rattle.ug_kernel.specs.Calls.{Ask_alive, Close}
+use Rattle.ug_itree.specs.Tree.{Prog, Return, Ask, Room, then}
+use Rattle.ug_record.specs.Records.{judged_of}
+use Rattle.ug_node.specs.Bind.{binding}
+use Rattle.ug_node.specs.declared.identity.Bound.{Bound}
+use Rattle.ug_node.specs.declared.identity.Binding.{Binding}
+use Rattle.ug_node.specs.declared.identity.Binding.TheVariants as bound
+use Rattle.ug_audit.specs.declared.entry.Entry.{Entry}
+use Rattle.ug_audit.specs.declared.entry.Entry.TheVariants as entry
+use Rattle.ug_audit.specs.declared.entry.Fault.{Fault}
+use Rattle.ug_audit.specs.declared.entry.Fault.TheVariants as fault
+use Rattle.ug_table.specs.State.{State, noted, Kept}
+use Rattle.ug_table.specs.Standings.{standing_of, without, marked, with_standing}
+use Rattle.ug_table.specs.Bring.{bringing}
+use Rattle.ug_table.specs.declared.standing.Standing.{Standing}
+use Rattle.ug_table.specs.declared.standing.Known.{Known}
+use Rattle.ug_table.specs.declared.standing.Settled.{Settled}
+use Rattle.ug_table.specs.declared.standing.Settled.TheVariants as settled
+
+abbrev pub stands : Settled → Bool
+stands settled.Stands = true
+stands (settled.Fault call count) = false
+stands settled.Nobody = false
+stands settled.Memory = false
+
+-- a new standing is kept, unless its device is gone
+abbrev pub kept_standings : List Standing → Standing → Settled → List Standing
+kept_standings ss s settled.Nobody = ss
+kept_standings ss s settled.Stands = with_standing (record s { settled = true }) ss
+kept_standings ss s (settled.Fault call count) = with_standing s ss
+kept_standings ss s settled.Memory = with_standing s ss
+
+abbrev pub to_keep : {J : Type 0} → State J → Standing → Settled × List Entry → Prog (Settled × State J)
+to_keep w s p = Return (p.0, record w { standings = kept_standings w.standings s p.0; entries = p.1 })
+
+abbrev pub unsettled : {J : Type 0} → State J → List ℕ → Fault → Settled → Prog (Settled × State J)
+unsettled w name why how = Return (how, noted w (entry.Unsettled name why))
+
+-- want of memory for a standing: its file is closed
+abbrev pub no_room : {J : Type 0} → State J → List ℕ → ℕ → Prog (Settled × State J)
+no_room w name held = Ask (Close held) (λ closed. unsettled w name fault.Memory settled.Memory)
+
+-- the standing that a verdict makes
+abbrev pub standing_for : {J : Type 0} → State J → List ℕ → ℕ → Judged → Target × Cause → Standing
+standing_for w name held judged given = record {
+  number = w.next;
+  name = name;
+  held = record { 0 = held };
+  judged = judged;
+  verdict = given.0;
+  cause = given.1;
+  settled = false
+}
+
+abbrev pub known_in : {J : Type 0} → State J → ℕ → Target × Cause → Known
+known_in w held given = record { number = w.next; held = record { 0 = held }; verdict = given.0 }
+
+abbrev pub judged_entry : {J : Type 0} → State J → List ℕ → ℕ → Target × Cause → Entry
+judged_entry w name held given = entry.Judged w.next name (record { 0 = held }) given.0 given.1
+
+abbrev pub judging : {J : Type 0} → J → State J → List ℕ → ℕ → Judged → Bool → Target × Cause → Prog (Settled × State J)
+judging later w name held judged on given =
+    then (bringing name (known_in w held given) on (w.entries ++ judged_entry w name held given ∷ []))
+    (to_keep (record w { next = w.next + 1; judge = later }) (standing_for w name held judged given))
+
+abbrev pub to_judge : {J : Type 0} → (J → Judged → Bool → Bool → Bool → Target × Cause) → (J → Judged → Bool → Bool → Bool → J) → List ℕ → Bool → State J → Bound → Judged → Prog (Settled × State J)
+to_judge answer later name present w b judged =
+    judging (later w.judge judged (is_none (parent_of name)) present b.on) w name b.held.0 judged b.on (answer w.judge judged (is_none (parent_of name)) present b.on)
+
+abbrev pub if_place : {J : Type 0} → (J → Judged → Bool → Bool → Bool → Target × Cause) → (J → Judged → Bool → Bool → Bool → J) → List ℕ → Bool → State J → Bound → Judged → Bool → Prog (Settled × State J)
+if_place answer later name present w b judged true = to_judge answer later name present w b judged
+if_place answer later name present w b judged false = no_room w name b.held.0
+
+abbrev pub if_record : {J : Type 0} → (J → Judged → Bool → Bool → Bool → Target × Cause) → (J → Judged → Bool → Bool → Bool → J) → List ℕ → Bool → State J → Bound → Bool → Prog (Settled × State J)
+if_record answer later name present w b true = Room (if_place answer later name present w b (judged_of name b.attrs b.parent))
+if_record answer later name present w b false = no_room w name b.held.0
+
+-- a bound device gets room for its record and its standing, a verdict and its writes
+unfoldable pub admitting : {J : Type 0} → (J → Judged → Bool → Bool → Bool → Target × Cause) → (J → Judged → Bool → Bool → Bool → J) → List ℕ → Bool → State J → Bound → Prog (Settled × State J)
+admitting answer later name present w b = Room (if_record answer later name present w b)
+
+abbrev pub after_bind : {J : Type 0} → (J → Judged → Bool → Bool → Bool → Target × Cause) → (J → Judged → Bool → Bool → Bool → J) → List ℕ → Bool → State J → Binding → Prog (Settled × State J)
+after_bind answer later name present w (bound.Bound b) = admitting answer later name present w b
+after_bind answer later name present w bound.Absent = Return (settled.Nobody, w)
+after_bind answer later name present w bound.Vanished = Return (settled.Nobody, w)
+after_bind answer later name present w (bound.Failed call count) = unsettled w name (fault.Call call count) (settled.Fault call count)
+after_bind answer later name present w bound.Memory = unsettled w name fault.Memory settled.Memory
+
+-- a name that has no standing
+unfoldable pub entering : {J : Type 0} → (J → Judged → Bool → Bool → Bool → Target × Cause) → (J → Judged → Bool → Bool → Bool → J) → List ℕ → Bool → State J → Prog (Settled × State J)
+entering answer later name present w = then (binding name (parent_of name)) (after_bind answer later name present w)
+
+-- a standing that was tried again
+abbrev pub tried_standings : List Standing → List ℕ → Settled → List Standing
+tried_standings ss name settled.Nobody = without name ss
+tried_standings ss name settled.Stands = map (marked name true) ss
+tried_standings ss name (settled.Fault call count) = map (marked name false) ss
+tried_standings ss name settled.Memory = map (marked name false) ss
+
+abbrev pub to_mark : {J : Type 0} → State J → List ℕ → Settled × List Entry → Prog (Settled × State J)
+to_mark w name p = Return (p.0, record w { standings = tried_standings w.standings name p.0; entries = p.1 })
+
+-- a device that is gone loses its standing
+abbrev pub dropped : {J : Type 0} → State J → List ℕ → ℕ → State J
+dropped w name number = record w { standings = without name w.standings; entries = w.entries ++ entry.Gone number name ∷ [] }
+
+abbrev pub failed_probe : {J : Type 0} → State J → List ℕ → ℕ → ℕ → Prog (Settled × State J)
+failed_probe w name call count = Return (settled.Fault call count, record w { standings = tried_standings w.standings name (settled.Fault call count); entries = w.entries ++ entry.Unsettled name (fault.Call call count) ∷ [] })
+
+abbrev pub after_known : {J : Type 0} → (J → Judged → Bool → Bool → Bool → Target × Cause) → (J → Judged → Bool → Bool → Bool → J) → List ℕ → Bool → State J → Known → Probe → ℕ → ℕ → Prog (Settled × State J)
+after_known answer later name present w known (probe.Alive on) call count = then (bringing name known on w.entries) (to_mark w name)
+after_known answer later name present w known probe.Gone call count = entering answer later name present (dropped w name known.number)
+after_known answer later name present w known probe.Failed call count = failed_probe w name call count
+
+abbrev pub from_standing : {J : Type 0} → (J → Judged → Bool → Bool → Bool → Target × Cause) → (J → Judged → Bool → Bool → Bool → J) → List ℕ → Bool → State J → Option Known → Prog (Settled × State J)
+from_standing answer later name present w (Some known) = Ask (Ask_alive known.held.0) (λ t. after_known answer later name present w known t.answer t.number t.count)
+from_standing answer later name present w None = entering answer later name present w
+
+-- one listed name
+unfoldable pub settling : {J : Type 0} → (J → Judged → Bool → Bool → Bool → Target × Cause) → (J → Judged → Bool → Bool → Bool → J) → List ℕ → Bool → State J → Prog (Settled × State J)
+settling answer later name present w = from_standing answer later name present w (standing_of name w.standings)
+
+abbrev pub to_keep_mark : Kept → List ℕ → Settled × List Entry → Prog (Settled × Kept)
+to_keep_mark k name p = Return (p.0, record { standings = tried_standings k.standings name p.0; entries = p.1 })
+
+abbrev pub after_again : List ℕ → Kept → Known → Probe → ℕ → ℕ → Prog (Settled × Kept)
+after_again name k known (probe.Alive on) call count = then (bringing name known on k.entries) (to_keep_mark k name)
+after_again name k known probe.Gone call count = Return (settled.Nobody, record { standings = without name k.standings; entries = k.entries ++ entry.Gone known.number name ∷ [] })
+after_again name k known probe.Failed call count = Return (settled.Fault call count, record { standings = tried_standings k.standings name (settled.Fault call count); entries = k.entries ++ entry.Unsettled name (fault.Call call count) ∷ [] })
+
+abbrev pub again : List ℕ → Kept → Option Known → Prog (Settled × Kept)
+again name k (Some known) = Ask (Ask_alive known.held.0) (λ t. after_again name k known t.answer t.number t.count)
+again name k None = Return (settled.Nobody, k)
+
+-- one known name where the listing didn't succeed
+unfoldable pub resettling : List ℕ → Kept → Prog (Settled × Kept)
+resettling name k = again name k (standing_of name k.standings)

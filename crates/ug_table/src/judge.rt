@@ -1,0 +1,20 @@
+// What gives verdicts.
+ghost use Rattle.std.specs.Prelude.{◌≡◌, Bool};
+ghost use Rattle.ug_types.specs.declared.record.Judged.{Judged};
+ghost use Rattle.ug_types.specs.declared.verdict.Target.{Target};
+ghost use Rattle.ug_types.specs.declared.verdict.Cause.{Cause};
+
+use ug_types::{Cause, Judged, Target};
+
+/// Gives verdicts, and may change as it does.
+pub trait Judge {
+    /// The verdict on a device that is or isn't a root hub, was or wasn't present at the start, and is on or off.
+    ghost answer: { Self → Judged → Bool → Bool → Bool → Target × Cause };
+
+    /// What the judge is after it.
+    ghost later: { Self → Judged → Bool → Bool → Bool → Self };
+
+    fn verdict(&mut self, dev: &Judged, controller: bool, present: bool, on: bool) -> (Target, Cause)
+        ensures answer { result ≡ answer self.old dev.now controller present on }
+        ensures later { self.new ≡ later self.old dev.now controller present on };
+}

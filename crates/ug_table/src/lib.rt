@@ -1,0 +1,13 @@
+// The standings of devices, and the sweep that settles each.
+#![tactic(auto)]
+
+mod bring;
+mod judge;
+mod settle;
+mod standing;
+mod sweep;
+mod table;
+
+pub use judge::Judge;
+pub use standing::{Known, Settled, Standing};
+pub use table::Table;

@@ -1,0 +1,35 @@
+// How a device stands.
+use ug_types::{Cause, Held, Judged, NodeName, Target};
+
+/// A device that was judged, with the file by which it is known.
+#[derive(Drop)]
+pub struct Standing {
+    pub number: u64,
+    pub name: NodeName,
+    /// Its `authorized` file.
+    pub held: Held,
+    pub judged: Judged,
+    pub verdict: Target,
+    pub cause: Cause,
+    /// Its last settling came to its end without a failure.
+    pub settled: bool,
+}
+
+/// What the writes of a standing need.
+#[derive(Clone, Copy)]
+pub struct Known {
+    pub number: u64,
+    pub held: Held,
+    pub verdict: Target,
+}
+
+/// How the settling of a name ended.
+#[derive(Clone, Copy, Debug, PartialEq, Eq)]
+pub enum Settled {
+    Stands,
+    /// No device of the name lived through the call.
+    Nobody,
+    /// The number of the failed call in its event, and the count of failed calls after it.
+    Fault { call: u64, count: u64 },
+    Memory,
+}

@@ -1,0 +1,210 @@
+// The sweep over all devices.
+ghost use Rattle.std.specs.Prelude.{◌≡◌, ◌≤◌, ◌<◌, ◌+◌, ◌-◌, ◌*◌, ◌^◌, ◌++◌, [], min, length, vec_len, vec_capacity};
+ghost use Rattle.std.specs.List.{filter};
+ghost use Rattle.ug_types.specs.Sweep.{in_sweep_order};
+ghost use Rattle.ug_itree.specs.Tree.{Runs};
+ghost use Rattle.ug_table.specs.State.{state_of, kept_of};
+ghost use Rattle.ug_table.specs.Standings.{lists, farewells};
+ghost use Rattle.ug_table.specs.Sweep.{settling_all, resettling_all, parted, unlisted, sweeping, names_of};
+ghost use Rattle.ug_table.specs.Laws.{Sweeps};
+
+use crate::judge::Judge;
+use crate::settle::resettle;
+use crate::standing::Standing;
+use crate::table::Table;
+use std::alloc::Global;
+use ug_audit::{Entries, Entry, Fault};
+use ug_sysfs::{Listing, Sysfs};
+use ug_types::{List, NodeName, sort_names};
+
+fn has(names: &[NodeName], name: &NodeName) -> bool
+    ensures { result ≡ lists names.now name.now }
+{
+    names.iter().any(|n| *n == *name)
+}
+
+/// An entry for each standing whose name isn't listed.
+fn bid(standings: &[Standing], names: &[NodeName], out: &mut Entries)
+    requires { length standings.now ≤ out.old.spare }
+    ensures entries { out.new.entries ≡ out.old.entries ++ farewells names.now standings.now }
+    ensures spare { out.old.spare ≤ out.new.spare + length standings.now }
+    ensures room { out.new.room ≡ out.old.room }
+{
+    for s in standings {
+        if !has(names, &s.name) {
+            out.push(Entry::Gone {
+                number: s.number,
+                name: s.name,
+            });
+        }
+    }
+}
+
+fn retain_listed(standings: &mut Vec<Standing>, names: &[NodeName])
+    ensures standings { standings.new.items ≡ filter (λ s. lists names.now s.name) standings.old.items }
+    ensures len { vec_len standings.new ≤ vec_len standings.old }
+{
+    standings.retain(|s| has(names, &s.name));
+}
+
+/// The names of the standings, for which there is room.
+fn names_into(standings: &[Standing], names: &mut Vec<NodeName>)
+    requires empty { names.old.items ≡ [] }
+    requires room { length standings.now ≤ vec_capacity names.old }
+    ensures names { names.new.items ≡ names_of standings.now }
+    ensures capacity { vec_capacity names.new ≡ vec_capacity names.old }
+{
+    for s in standings {
+        names.push_reserved(s.name);
+    }
+}
+
+/// Settles each known name in order.
+#[tactic(auto, using(ug_itree::proofs::Runs::runs_then))]
+fn resettle_all<Y: Sysfs>(
+    standings: &mut Vec<Standing>,
+    sysfs: &mut Y,
+    names: &[NodeName],
+    out: &mut Entries,
+)
+    requires { 3 * length names.now ≤ out.old.spare }
+    ensures runs { Runs Y.gives sysfs.old (resettling_all names.now (kept_of standings.old.items out.old.entries)) (kept_of standings.new.items out.new.entries) sysfs.new }
+    ensures spare { out.old.spare ≤ out.new.spare + 3 * length names.now }
+    ensures room { out.new.room ≡ out.old.room }
+    ensures len { vec_len standings.new ≤ vec_len standings.old }
+{
+    for name in names {
+        let _settled = resettle(standings, sysfs, name, out);
+    }
+}
+
+impl Table {
+    /// Drops the standings of other names than these.
+    fn part<J>(&mut self, names: &[NodeName], judge: &J, out: &mut Entries)
+        requires { vec_len self.old.standings ≤ out.old.spare }
+        ensures state { state_of self.new judge.now out.new.entries ≡ parted names.now (state_of self.old judge.now out.old.entries) }
+        ensures spare { out.old.spare ≤ out.new.spare + vec_len self.old.standings }
+        ensures room { out.new.room ≡ out.old.room }
+        ensures next { self.new.next ≡ self.old.next }
+        ensures len { vec_len self.new.standings ≤ vec_len self.old.standings }
+    {
+        bid(&self.standings, names, out);
+        retain_listed(&mut self.standings, names);
+    }
+
+    /// Settles each listed name in order.
+    #[tactic(auto, using(ug_itree::proofs::Runs::runs_then))]
+    fn settle_all<Y: Sysfs, A: Judge>(
+        &mut self,
+        alloc: Global,
+        sysfs: &mut Y,
+        names: &[NodeName],
+        present: bool,
+        judge: &mut A,
+        out: &mut Entries,
+    )
+        requires room { 5 * length names.now ≤ out.old.spare }
+        requires next { self.old.next + length names.now < 2 ^ 64 }
+        ensures runs { Runs Y.gives sysfs.old (settling_all A.answer A.later names.now present (state_of self.old judge.old out.old.entries)) (state_of self.new judge.new out.new.entries) sysfs.new }
+        ensures next { self.new.next ≤ self.old.next + length names.now }
+        ensures spare { out.old.spare ≤ out.new.spare + 5 * length names.now }
+        ensures room { out.new.room ≡ out.old.room }
+        ensures len { vec_len self.new.standings ≤ vec_len self.old.standings + length names.now }
+    {
+        for name in names {
+            let _settled = self.settle(alloc, sysfs, name, present, judge, out);
+        }
+    }
+
+    // The known names are settled all the same.
+    #[tactic(auto, using(ug_itree::proofs::Runs::runs_then))]
+    fn go_unlisted<Y: Sysfs, J>(&mut self, sysfs: &mut Y, fault: Fault, judge: &J, out: &mut Entries)
+        requires { 3 * vec_len self.old.standings + 2 ≤ out.old.spare }
+        ensures runs { Runs Y.gives sysfs.old (unlisted fault (state_of self.old judge.now out.old.entries)) (state_of self.new judge.now out.new.entries) sysfs.new }
+        ensures next { self.new.next ≡ self.old.next }
+        ensures spare { 0 < out.new.spare }
+        ensures room { out.new.room ≡ out.old.room }
+        ensures len { vec_len self.new.standings ≤ vec_len self.old.standings }
+    {
+        out.push(Entry::UnsettledAll { fault });
+        self.names.clear();
+        names_into(&self.standings, &mut self.names);
+        resettle_all(&mut self.standings, sysfs, &self.names, out);
+    }
+
+    /// Lists the names, drops the standings of names that aren't listed, and settles each listed name in sweep order.
+    /// Where the listing fails, or memory is short for it, the known names are settled all the same.
+    pub fn sweep<Y: Sysfs, A: Judge>(
+        &mut self,
+        alloc: Global,
+        sysfs: &mut Y,
+        judge: &mut A,
+        out: &mut Entries,
+    )
+        requires room { 8 * vec_len self.old.standings + 1 ≤ out.old.spare }
+        requires next { self.old.next + 65536 < 2 ^ 64 }
+        ensures runs { Runs Y.gives sysfs.old (sweeping A.answer A.later (state_of self.old judge.old out.old.entries)) (state_of self.new judge.new out.new.entries) sysfs.new }
+        ensures next { self.new.next ≤ self.old.next + 65536 }
+        ensures swept { Sweeps Y.told A.answer A.later sysfs.old (state_of self.old judge.old out.old.entries) sysfs.new (state_of self.new judge.new out.new.entries) }
+    {
+        self.sweep_names(alloc, sysfs, judge, out);
+    }
+
+    #[tactic(auto, unfolding(crate::specs::Sweep::sweeping), using(ug_itree::proofs::Runs::runs_then))]
+    fn sweep_names<Y: Sysfs, A: Judge>(
+        &mut self,
+        alloc: Global,
+        sysfs: &mut Y,
+        judge: &mut A,
+        out: &mut Entries,
+    )
+        requires room { 8 * vec_len self.old.standings + 2 ≤ out.old.spare }
+        requires next { self.old.next + 65536 < 2 ^ 64 }
+        ensures runs { Runs Y.gives sysfs.old (sweeping A.answer A.later (state_of self.old judge.old out.old.entries)) (state_of self.new judge.new out.new.entries) sysfs.new }
+        ensures next { self.new.next ≤ self.old.next + 65536 }
+        ensures spare { 0 < out.new.spare }
+        ensures room { 8 * vec_len self.old.standings + 64 ≤ out.old.room → 8 * vec_len self.new.standings + 64 ≤ out.new.room }
+    {
+        let names = match sysfs.list(alloc) {
+            Listing::Names(names) => sorted(names),
+            Listing::Failed => {
+                let fault = Fault::Call {
+                    call: sysfs.calls(),
+                    count: sysfs.faults(),
+                };
+                self.go_unlisted(sysfs, fault, judge, out);
+                return;
+            }
+            Listing::Memory => {
+                self.go_unlisted(sysfs, Fault::Memory, judge, out);
+                return;
+            }
+        };
+        if out.reserve(room_for(&self.standings, &names)).is_err() {
+            self.go_unlisted(sysfs, Fault::Memory, judge, out);
+            return;
+        }
+        let present = !self.listed;
+        self.part(&names, judge, out);
+        self.listed = true;
+        self.settle_all(alloc, sysfs, &names, present, judge, out);
+    }
+}
+
+// Eight entries for each name, and some for the event.
+fn room_for(standings: &[Standing], names: &[NodeName]) -> usize
+    ensures { result ≡ min (2 ^ 64 - 1) (8 * (length standings.now + length names.now) + 65) }
+{
+    let count = standings.len() as u128 + names.len() as u128;
+    let room = 8 * count + 65;
+    if room > usize::MAX as u128 { usize::MAX } else { room as usize }
+}
+
+fn sorted(names: List<NodeName>) -> Vec<NodeName>
+    ensures items { result.items ≡ in_sweep_order names }
+    ensures len { length result.items ≡ length names }
+{
+    let mut names = names.into_vec();
+    sort_names(&mut names);
+    names
+}

@@ -1,0 +1,99 @@
+// The list of standings, in sweep order of their names.
+ghost use Rattle.std.specs.Prelude.{◌≡◌, ◌≤◌, ◌<◌, ◌+◌, ◌++◌, [], map, length, vec_len, vec_capacity, false};
+ghost use Rattle.std.specs.List.{filter};
+ghost use Rattle.ug_table.specs.Standings.{standing_of, without, marked, mark_of, with_standing, place_for};
+
+use crate::standing::{Known, Standing};
+use std::alloc::Global;
+use ug_types::NodeName;
+
+/// The standings, the number of the next, and whether a listing has succeeded.
+#[derive(Drop)]
+pub struct Table {
+    pub standings: Vec<Standing>,
+    pub next: u64,
+    pub listed: bool,
+    /// Room for the names of all standings.
+    pub names: Vec<NodeName>,
+    ghost room: { vec_len standings ≤ vec_capacity names },
+}
+
+impl Table {
+    /// No standing. It takes no memory.
+    pub fn new(alloc: Global) -> Table
+        ensures standings { result.standings.items ≡ [] }
+        ensures next { result.next ≡ 1 }
+        ensures listed { result.listed ≡ false }
+    {
+        Table {
+            standings: Vec::new(alloc),
+            next: 1,
+            listed: false,
+            names: Vec::new(alloc),
+        }
+    }
+}
+
+/// The standing of a name.
+#[tactic(auto, using(std::proofs::lemmas::List::at_drop_more))]
+pub fn find(standings: &[Standing], name: &NodeName) -> Option<Known>
+    ensures { result ≡ standing_of name.now standings.now }
+{
+    for s in standings {
+        if s.name == *name {
+            return Some(Known {
+                number: s.number,
+                held: s.held,
+                verdict: s.verdict,
+            });
+        }
+    }
+    None
+}
+
+/// Drops the standing of a name.
+pub fn forget(standings: &mut Vec<Standing>, name: &NodeName)
+    ensures standings { standings.new.items ≡ without name.now standings.old.items }
+    ensures len { vec_len standings.new ≤ vec_len standings.old }
+{
+    standings.retain(|s| s.name != *name);
+}
+
+/// Notes whether the standing of a name is settled.
+#[tactic(auto, using(std::proofs::lemmas::List::Edits::map_over_more))]
+pub fn mark(standings: &mut [Standing], name: &NodeName, settled: bool)
+    ensures { standings.new ≡ map (marked name.now settled) standings.old }
+{
+    for s in standings.iter_mut() {
+        s.settled = mark_for(s, name, settled);
+    }
+}
+
+fn mark_for(s: &Standing, name: &NodeName, settled: bool) -> bool
+    ensures { result ≡ mark_of name.now settled s.now }
+{
+    if s.name == *name { settled } else { s.settled }
+}
+
+// Where a standing of that name belongs.
+fn place_of(standings: &[Standing], name: &NodeName) -> usize
+    ensures bound { result ≤ length standings.now }
+    ensures place { result ≡ place_for name.now standings.now }
+{
+    for (i, s) in standings.iter().enumerate() {
+        if !name.cmp(&s.name).is_gt() {
+            return i;
+        }
+    }
+    standings.len()
+}
+
+/// Puts a standing in its place, for which there is room.
+pub fn put_in(standings: &mut Vec<Standing>, standing: Standing)
+    requires { vec_len standings.old < vec_capacity standings.old }
+    ensures standings { standings.new.items ≡ with_standing standing standings.old.items }
+    ensures len { vec_len standings.new ≡ vec_len standings.old + 1 }
+{
+    let at = place_of(standings, &standing.name);
+    let _done = standings.insert(at, standing);
+}

@@ -1,0 +1,17 @@
+// What the definitions of names come to.
+ghost use Rattle.std.specs.Prelude.{◌≡◌, ℕ, ◌+◌, List, ◌∷◌, ◌++◌, Some, None, codes, decimal};
+ghost use Rattle.std.specs.declared.cmp.Ordering.TheVariants.{Less};
+ghost use Rattle.ug_types.specs.NodeNames.{IsBus, IsDevice, IsNodeName, IsPort, IsRootHub};
+ghost use Rattle.ug_types.specs.Names.{depth_of, parent_of, sweep_cmp};
+
+/// A root hub alone has no parent. What hangs on a root hub has that hub, and what hangs on a device has that device.
+pub fn parents_law()
+    ensures root_hub { (bus : ℕ) → IsBus bus → parent_of (codes "usb" ++ decimal bus) ≡ None }
+    ensures on_root_hub { (bus port : ℕ) → IsBus bus → IsPort port → parent_of (decimal bus ++ 45 ∷ decimal port) ≡ Some (codes "usb" ++ decimal bus) }
+    ensures on_device { (front : List ℕ) (port : ℕ) → IsDevice front → IsPort port → parent_of (front ++ 46 ∷ decimal port) ≡ Some front }
+    ensures only_root_hub { (name : List ℕ) → IsNodeName name → parent_of name ≡ None → IsRootHub name }
+    ensures named { (name parent : List ℕ) → IsNodeName name → parent_of name ≡ Some parent → IsNodeName parent }
+    ensures depth_top { (name : List ℕ) → IsNodeName name → parent_of name ≡ None → depth_of name ≡ 0 }
+    ensures depth_above { (name parent : List ℕ) → IsNodeName name → parent_of name ≡ Some parent → depth_of name ≡ depth_of parent + 1 }
+    ensures first { (name parent : List ℕ) → IsNodeName name → parent_of name ≡ Some parent → sweep_cmp parent name ≡ Less }
+{}
