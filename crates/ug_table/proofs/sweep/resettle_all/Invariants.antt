@@ -1,4 +1,4 @@
-use Rattle.std.proofs.Common.{◌+◌, ◌-◌, ◌*◌, ◌≤◌, length, drop, vec_len}
+use Rattle.std.proofs.Common.{◌-◌, ◌*◌, ◌≤◌, length, drop, vec_len}
 use Rattle.ug_itree.specs.Tree.{Runs}
 use Rattle.ug_table.specs.State.{Kept, kept_of}
 use Rattle.ug_table.specs.Sweep.{resettling_all}
