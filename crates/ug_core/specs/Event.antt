@@ -25,7 +25,7 @@ pub record DaemonState : Type 0 where
 abbrev pub daemon_of : Daemon → DaemonState
 daemon_of d = record {
   sweep = record { standings = d.table.standings.items; next = d.table.next; listed = d.table.listed; judge = d.policy; entries = d.report.entries.entries };
-  event = d.next_event
+  event = d.next_event;
 }
 
 abbrev pub policy_answer : Policy → Judged → Bool → Bool → Bool → Target × Cause

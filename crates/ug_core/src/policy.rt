@@ -54,7 +54,13 @@ impl Judge for Policy {
 
     ghost later = { λ p dev controller present on. p };
 
-    fn verdict(&mut self, dev: &Judged, controller: bool, present: bool, on: bool) -> (Target, Cause) {
+    fn verdict(
+        &mut self,
+        dev: &Judged,
+        controller: bool,
+        present: bool,
+        on: bool,
+    ) -> (Target, Cause) {
         match dev {
             Judged::Malformed { kind, place } => (
                 Target::Block,
