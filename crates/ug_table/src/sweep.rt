@@ -141,10 +141,12 @@ impl Table {
         judge: &mut A,
         out: &mut Entries,
     )
-        requires room { 8 * vec_len self.old.standings + 1 ≤ out.old.spare }
+        requires room { 8 * vec_len self.old.standings + 2 ≤ out.old.spare }
         requires next { self.old.next + 65536 < 2 ^ 64 }
         ensures runs { Runs Y.gives sysfs.old (sweeping A.answer A.later (state_of self.old judge.old out.old.entries)) (state_of self.new judge.new out.new.entries) sysfs.new }
         ensures next { self.new.next ≤ self.old.next + 65536 }
+        ensures spare { 0 < out.new.spare }
+        ensures room { 8 * vec_len self.old.standings + 64 ≤ out.old.room → 8 * vec_len self.new.standings + 64 ≤ out.new.room }
         ensures swept { Sweeps Y.told A.answer A.later sysfs.old (state_of self.old judge.old out.old.entries) sysfs.new (state_of self.new judge.new out.new.entries) }
     {
         self.sweep_names(alloc, sysfs, judge, out);
