@@ -1,6 +1,5 @@
 -- The sweep is fair.
-use Rattle.std.proofs.Common.{◌≡◌, ℕ, Option, Some, Bool, true, false, not, List, [], ◌∷◌, ◌++◌, cond, ap}
-use Rattle.std.specs.List.{filter}
+use Rattle.std.proofs.Common.{ℕ, Bool, true, false, not, List, [], ◌∷◌, ◌++◌, cond, ap}
 use Rattle.ug_types.specs.Sweep.{in_sweep_order}
 use Rattle.ug_kernel.specs.declared.calls.Listing.{Listing}
 use Rattle.ug_kernel.specs.declared.calls.Listing.TheVariants as listing
@@ -12,7 +11,7 @@ use Rattle.ug_audit.specs.declared.entry.Entry.{Entry}
 use Rattle.ug_audit.specs.declared.entry.Entry.TheVariants as entry
 use Rattle.ug_audit.specs.declared.entry.Fault.{Fault}
 use Rattle.ug_audit.specs.declared.entry.Fault.TheVariants as fault
-use Rattle.ug_table.specs.State.{State, noted, Kept, kept_of, with_kept}
+use Rattle.ug_table.specs.State.{State, Kept, kept_of, with_kept}
 use Rattle.ug_table.specs.Standings.{lists, farewells}
 use Rattle.ug_table.specs.Settle.{settling, resettling}
 use Rattle.ug_table.specs.Sweep.{settling_all, resettling_all, parted, names_of, resumed, unlisted, marked_listed, if_room, after_list, sweeping}

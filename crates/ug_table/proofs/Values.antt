@@ -1,5 +1,5 @@
 -- What calls do to the devices' values.
-use Rattle.std.proofs.Common.{◌≡◌, ℕ, Bool, true, false, List, Some, slice_get, ◌⊎◌, inl, inr, refl, sym, ◌∙◌, ap, subst}
+use Rattle.std.proofs.Common.{◌≡◌, ℕ, Bool, List, Some, slice_get, inl, inr, refl, sym, ◌∙◌, ap, subst}
 use Rattle.ug_types.specs.declared.verdict.Target.{Target}
 use Rattle.ug_types.specs.declared.verdict.Target.TheVariants as target
 use Rattle.ug_kernel.specs.declared.device.Device.{Device}
@@ -10,9 +10,9 @@ use Rattle.ug_kernel.specs.declared.calls.Wrote.{Wrote}
 use Rattle.ug_kernel.specs.declared.calls.Wrote.TheVariants as wrote
 use Rattle.ug_kernel.specs.Calls.{Told, Put}
 use Rattle.ug_kernel.specs.Kernel.{Kernel, Live, IsKernel}
-use Rattle.ug_kernel.specs.Called.{Lived, value_after, does_put, Does, IsWritten, IsGoneAt, IsAlive, Called}
+use Rattle.ug_kernel.specs.Called.{Lived, value_after, does_put, IsWritten, IsGoneAt, IsAlive, Called}
 use Rattle.ug_kernel.specs.Quiet.{Quiet, Grows}
-use Rattle.ug_kernel.proofs.Grow.{some_same, called_grows}
+use Rattle.ug_kernel.proofs.Grow.{some_same}
 use Rattle.ug_kernel.proofs.Quiet.{moves_quiet}
 use Rattle.ug_kernel.proofs.Held.{live_before}
 use Rattle.ug_table.specs.Bring.{wants, write_of}
@@ -137,8 +137,8 @@ open_named k name other held i o file live =
 pub others_put : (name : List ℕ) (held : ℕ) (write : Write) (answer : Told Wrote) (k l : Kernel) → IsOpen k name held → Called (Put held write) answer k l → Others name k l
 others_put name held write answer k l o c i on d e ne v =
     let other : o.i ≡ i → ⊥ = λ is.
-        let same : o.d ≡ d = some_same (slice_get k.devices i) o.d d (subst (λ x. slice_get k.devices x ≡ Some o.d) is o.device) e in
-        ne (ap (λ (x : Device). x.name) (sym same) ∙ o.named) in
+    let same : o.d ≡ d = some_same (slice_get k.devices i) o.d d (subst (λ x. slice_get k.devices x ≡ Some o.d) is o.device) e in
+    ne (ap (λ (x : Device). x.name) (sym same) ∙ o.named) in
     put_other held i o.i write answer on k l o.file other c v
 
 -- what is alive behind the file of a device is that device
