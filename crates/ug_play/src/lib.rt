@@ -1,0 +1,2 @@
+// What a script fixes of a sweep.
+#![tactic(auto)]
