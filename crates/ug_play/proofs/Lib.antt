@@ -1,1 +1,6 @@
-mod Plays
+pub mod Plays
+pub mod Trees
+pub mod Played
+pub mod Bindings
+pub mod Journals
+pub mod Sweeps

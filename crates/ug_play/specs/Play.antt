@@ -1,5 +1,5 @@
 -- What a script fixes.
-use Rattle.std.specs.Prelude.{Bool, true, false, List}
+use Rattle.std.specs.Prelude.{◌≡◌, Bool, true, false, ◌⊎◌, List, ◌++◌}
 use Rattle.std.specs.List.{list_any}
 use Rattle.ug_itree.specs.Tree.{Prog, Return, Ask, Room}
 use Rattle.ug_sysfs.specs.World.{World, answer_of}
@@ -26,3 +26,11 @@ entry_tells_memory e = false
 
 abbrev pub tells_memory : List Entry → Bool
 tells_memory entries = list_any entry_tells_memory entries
+
+-- the entries after it are those before, and some more, of which one tells want of memory
+abbrev pub TellsMemory : List Entry → List Entry → Type 0
+TellsMemory before after = (rest : List Entry) × (after ≡ before ++ rest) × (tells_memory rest ≡ true)
+
+-- the result and the world at the end are those that the script fixes, or the result tells want of memory, or the kernel has run out
+abbrev pub IsPlayed : {R : Type 0} → (R → Type 0) → Prog R → World → R → World → Type 0
+IsPlayed tells p s r t = ((r ≡ (play p s).0) × (t ≡ (play p s).1)) ⊎ (tells r ⊎ (t.ran_out ≡ true))
