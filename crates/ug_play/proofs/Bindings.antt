@@ -1,5 +1,5 @@
 -- Want of memory in a binding is its answer.
-use Rattle.std.proofs.Common.{◌≡◌, ℕ, Bool, true, false, List, Option, Some, None, Result, Ok, Err, refl, sym, subst}
+use Rattle.std.proofs.Common.{◌≡◌, ℕ, List, Option, Some, None, Result, Ok, Err, refl, sym, subst}
 use Rattle.ug_types.specs.declared.record.Attrs.{Attrs}
 use Rattle.ug_kernel.specs.declared.calls.Attr.{Attr}
 use Rattle.ug_kernel.specs.declared.calls.Attr.TheVariants as attr
@@ -11,7 +11,7 @@ use Rattle.ug_kernel.specs.declared.calls.Probe.{Probe}
 use Rattle.ug_kernel.specs.declared.calls.Probe.TheVariants as probe
 use Rattle.ug_itree.specs.Tree.{Prog, then}
 use Rattle.ug_node.specs.Files.{giving_up, if_absent, after_read, reading, after_connect, after_serial, after_product, after_descriptors, reading_own, after_parent_serial, after_parent_product, after_parent_descriptors, reading_parent}
-use Rattle.ug_node.specs.Bind.{closing, after_probe, probing, after_parent, to_parent, after_own, after_open, binding}
+use Rattle.ug_node.specs.Bind.{after_probe, probing, after_parent, to_parent, after_own, after_open, binding}
 use Rattle.ug_node.specs.declared.files.File.{File}
 use Rattle.ug_node.specs.declared.files.Stop.{Stop}
 use Rattle.ug_node.specs.declared.files.Stop.TheVariants as stop

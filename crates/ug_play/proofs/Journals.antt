@@ -1,5 +1,5 @@
 -- Trees that append to the entries.
-use Rattle.std.proofs.Common.{◌≡◌, Bool, true, false, ◌||◌, List, [], ◌∷◌, ◌++◌, refl, sym, ◌∙◌, ap, append_assoc}
+use Rattle.std.proofs.Common.{◌≡◌, Bool, true, false, List, [], ◌∷◌, ◌++◌, refl, sym, ◌∙◌, ap, append_assoc}
 use Rattle.std.proofs.lemmas.Bool.{or_left, or_right}
 use Rattle.std.proofs.lemmas.List.{append-nil}
 use Rattle.std.proofs.lemmas.List.Folds.{list_any-append}
@@ -54,8 +54,8 @@ journals_then {A} {B} of then_of before p f j k =
     record {
       appends = returns_then P Q p f j.appends (λ a x. (journals_more then_of before (of a) (f a) x (k a)).appends);
       memory = tells_then P M N p f j.appends j.memory
-        (λ a x. (journals_more then_of before (of a) (f a) x (k a)).memory)
-        (λ a m. returns_more (λ (b : B). Appends (of a) (then_of b)) N (f a) (λ b y. memory_still before (of a) (then_of b) m y) (k a).appends);
+          (λ a x. (journals_more then_of before (of a) (f a) x (k a)).memory)
+          (λ a m. returns_more (λ (b : B). Appends (of a) (then_of b)) N (f a) (λ b y. memory_still before (of a) (then_of b) m y) (k a).appends);
     }
 
 -- a call that takes no memory

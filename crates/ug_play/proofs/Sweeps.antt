@@ -12,7 +12,7 @@ use Rattle.ug_kernel.specs.declared.calls.Probe.{Probe}
 use Rattle.ug_kernel.specs.declared.calls.Probe.TheVariants as probe
 use Rattle.ug_kernel.specs.declared.calls.Wrote.{Wrote}
 use Rattle.ug_kernel.specs.declared.calls.Wrote.TheVariants as wrote
-use Rattle.ug_kernel.specs.Calls.{Names, Ask_alive, Put, Answer}
+use Rattle.ug_kernel.specs.Calls.{Ask_alive, Put}
 use Rattle.ug_itree.specs.Tree.{Prog, Runs}
 use Rattle.ug_record.specs.Records.{judged_of}
 use Rattle.ug_node.specs.Bind.{binding}
@@ -24,20 +24,18 @@ use Rattle.ug_audit.specs.declared.entry.Entry.TheVariants as entry
 use Rattle.ug_audit.specs.declared.entry.Fault.{Fault}
 use Rattle.ug_audit.specs.declared.entry.Fault.TheVariants as fault
 use Rattle.ug_sysfs.specs.World.{World, Gives}
-use Rattle.ug_table.specs.declared.standing.Standing.{Standing}
 use Rattle.ug_table.specs.declared.standing.Known.{Known}
 use Rattle.ug_table.specs.declared.standing.Settled.{Settled}
-use Rattle.ug_table.specs.declared.standing.Settled.TheVariants as settled
-use Rattle.ug_table.specs.State.{State, noted, Kept, kept_of, with_kept}
+use Rattle.ug_table.specs.State.{State, Kept, kept_of}
 use Rattle.ug_table.specs.Standings.{standing_of, farewells}
 use Rattle.ug_table.specs.Bring.{wants, write_of, after_write, to_write, to_bring, bringing}
-use Rattle.ug_table.specs.Settle.{to_keep, kept_standings, unsettled, no_room, standing_for, known_in, judged_entry, judging, to_judge, if_place, if_record, admitting, after_bind, entering, tried_standings, to_mark, dropped, failed_probe, after_known, from_standing, settling, to_keep_mark, after_again, again, resettling}
+use Rattle.ug_table.specs.Settle.{to_keep, no_room, standing_for, known_in, judged_entry, judging, if_place, if_record, admitting, after_bind, entering, to_mark, dropped, after_known, from_standing, settling, to_keep_mark, after_again, again, resettling}
 use Rattle.ug_table.specs.Sweep.{settling_all, resettling_all, parted, names_of, resumed, unlisted, marked_listed, if_room, after_list, sweeping}
 use Rattle.ug_play.specs.Play.{TellsMemory, IsPlayed}
-use Rattle.ug_play.proofs.Trees.{IsWant, Returns, Tells, returns_any, returns_more, returns_then, tells_then}
+use Rattle.ug_play.proofs.Trees.{Returns, returns_any, returns_more, returns_then, tells_then}
 use Rattle.ug_play.proofs.Played.{played}
 use Rattle.ug_play.proofs.Bindings.{tells_binding}
-use Rattle.ug_play.proofs.Journals.{Appends, appends_none, appends_one, appends_more, memory_one, memory_still, Journals, journals_return, journals_more, journals_then, journals_call, journals_room}
+use Rattle.ug_play.proofs.Journals.{Appends, appends_none, appends_one, appends_more, memory_one, memory_still, Journals, journals_more, journals_then, journals_call, journals_room}
 
 abbrev written : Settled × List Entry → List Entry
 written v = v.1
@@ -92,8 +90,8 @@ admitting_journals answer later name present w b =
     let judged : Judged = judged_of name b.attrs b.parent in
     journals_room settled_in w.entries (if_record answer later name present w b)
     (journals_room settled_in w.entries (if_place answer later name present w b judged)
-        (judging_journals (later w.judge judged (is_none (parent_of name)) present b.on) w name b.held.0 judged b.on (answer w.judge judged (is_none (parent_of name)) present b.on))
-        (no_room_memory w name b.held.0))
+    (judging_journals (later w.judge judged (is_none (parent_of name)) present b.on) w name b.held.0 judged b.on (answer w.judge judged (is_none (parent_of name)) present b.on))
+    (no_room_memory w name b.held.0))
     (no_room_memory w name b.held.0)
 
 after_bind_journals : {J : Type 0} (answer : J → Judged → Bool → Bool → Bool → Target × Cause) (later : J → Judged → Bool → Bool → Bool → J) (name : List ℕ) (present : Bool) (w : State J) (r : Binding) → Journals settled_in w.entries (after_bind answer later name present w r)
@@ -115,8 +113,8 @@ entering_journals {J} answer later name present w =
     record {
       appends = returns_then E Q p f (returns_any p) (λ r u. (after_bind_journals answer later name present w r).appends);
       memory = tells_then E P N p f (returns_any p) (tells_binding name (parent_of name))
-        (λ r u. (after_bind_journals answer later name present w r).memory)
-        (λ r e. subst (λ (x : Binding). Returns N (after_bind answer later name present w x)) (sym e) (memory_one w.entries (entry.Unsettled name fault.Memory) refl));
+          (λ r u. (after_bind_journals answer later name present w r).memory)
+          (λ r e. subst (λ (x : Binding). Returns N (after_bind answer later name present w x)) (sym e) (memory_one w.entries (entry.Unsettled name fault.Memory) refl));
     }
 
 after_known_journals : {J : Type 0} (answer : J → Judged → Bool → Bool → Bool → Target × Cause) (later : J → Judged → Bool → Bool → Bool → J) (name : List ℕ) (present : Bool) (w : State J) (known : Known) (r : Probe) (call count : ℕ) → Journals settled_in w.entries (after_known answer later name present w known r call count)
