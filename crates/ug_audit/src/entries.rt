@@ -19,7 +19,7 @@ impl Model for Entries {
 
     ghost Value = { Noted };
 
-    ghost view = { λ e. record { entries = e.items.items; spare = e.spare } };
+    ghost view = { λ e. record { entries = e.items.items; spare = e.spare; room = length e.items.items + e.spare } };
 
     ghost invariant = { λ e. length e.items.items + e.spare ≤ vec_capacity e.items };
 }
@@ -27,7 +27,7 @@ impl Model for Entries {
 impl Entries {
     /// No entries. It takes no memory.
     pub fn new(alloc: Global) -> Entries
-        ensures { result ≡ record { entries = []; spare = 0 } }
+        ensures { result ≡ record { entries = []; spare = 0; room = 0 } }
     {
         Entries {
             items: Vec::new(alloc),
@@ -40,7 +40,9 @@ impl Entries {
         ensures entries { self.new.entries ≡ self.old.entries }
         ensures ok { OnOk result (n ≤ self.new.spare) }
         ensures more { self.old.spare ≤ self.new.spare }
-        ensures err { OnErr result (self.new.spare ≡ self.old.spare) }
+        ensures room { self.old.room ≤ self.new.room }
+        ensures within { self.new.spare ≤ self.new.room }
+        ensures err { OnErr result (self.new ≡ self.old) }
     {
         if n <= self.spare {
             return Ok(());
@@ -59,6 +61,7 @@ impl Entries {
         requires { 0 < self.old.spare }
         ensures entries { self.new.entries ≡ self.old.entries ++ entry ∷ [] }
         ensures spare { self.new.spare + 1 ≡ self.old.spare }
+        ensures room { self.new.room ≡ self.old.room }
     {
         self.items.push_reserved(entry);
         self.spare -= 1;
@@ -67,7 +70,8 @@ impl Entries {
     /// Takes all entries out, and keeps their room.
     pub fn clear(&mut self)
         ensures entries { self.new.entries ≡ [] }
-        ensures spare { self.new.spare ≡ self.old.spare + length self.old.entries }
+        ensures spare { self.new.spare ≡ self.old.room }
+        ensures room { self.new.room ≡ self.old.room }
     {
         let count = self.items.len();
         self.items.clear();

@@ -14,7 +14,10 @@ pub enum Fault {
 #[derive(Clone, Copy)]
 pub enum Entry {
     /// The event begins.
-    Event { number: u64, moment: Moment },
+    Event {
+        number: u64,
+        moment: Moment,
+    },
     /// A verdict was set. The held file isn't printed.
     Judged {
         number: u64,
@@ -37,11 +40,21 @@ pub enum Entry {
         outcome: Wrote,
     },
     /// A standing was dropped.
-    Gone { number: u64, name: NodeName },
+    Gone {
+        number: u64,
+        name: NodeName,
+    },
     /// The device of a name may not stand as judged.
-    Unsettled { name: NodeName, fault: Fault },
+    Unsettled {
+        name: NodeName,
+        fault: Fault,
+    },
     /// No device is known to be listed.
-    UnsettledAll { fault: Fault },
+    UnsettledAll {
+        fault: Fault,
+    },
     /// The event ends.
-    End { number: u64 },
+    End {
+        number: u64,
+    },
 }

@@ -3,6 +3,10 @@
 
 mod entries;
 mod entry;
+mod lines;
+#[cfg(test)]
+mod lines_tests;
 
 pub use entries::Entries;
 pub use entry::{Entry, Fault};
+pub use lines::line_of;

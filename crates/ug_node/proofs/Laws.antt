@@ -111,6 +111,12 @@ parent_now name parent k held m u attrs h above s t g reads d live =
     let is : attrs ≡ parent_attrs_of y.0 = reads x.0 x.1 x.3 x.4 ∙ parent_kept x.1 y.0 y.2 in
     subst (λ p. IsParentRead u p (Some attrs)) (sym x.2) (y.0, y.1, ap (λ v. Some v) is)
 
+-- a device of the name that lived through is the one that was opened
+opened_only : (name : List ℕ) (k : Kernel) (held : ℕ) (w l : Kernel) (h : IsOpenSince name k held w) → Grows w l → (j : ℕ) (d : Device) → Lived k.devices l.devices j d → d.name ≡ name → j ≡ h.opens.i
+opened_only name k held w l h g j d lives named =
+    let x = lived_cut k h.before l j d (quiet_grows k h.before (moves_quiet k h.before h.start)) (grows_trans h.before w l (grows_trans h.before h.opening w (quiet_grows h.before h.opening (opened_quiet name Authorized held h.before h.opening h.opens)) (quiet_grows h.opening w h.quiet)) g) lives in
+    h.sound.devices.names j h.opens.i x.1.0 h.opens.d x.1.1.entry h.opens.live (x.1.2.name ∙ named ∙ sym h.opens.named)
+
 -- the probe
 
 bound_law : (name : List ℕ) (k : Kernel) (held : ℕ) (u l : Kernel) (attrs : Attrs) (parent : Option Attrs) (on : Bool) (h : IsOpenSince name k held u) → ((d : Device) → Live u.devices h.opens.i d → attrs ≡ attrs_of d) → ((d : Device) → Live u.devices h.opens.i d → IsParentRead u d.parent parent) → IsAlive held on u → Quiet u l → IsBound name k l (record { held = record { 0 = held }; attrs = attrs; parent = parent; on = on })
@@ -132,12 +138,12 @@ bound_law name k held u l attrs parent on h own parents alive q =
       parents = subst (λ p. IsParentRead l p parent) (sym e.2.stays.parent) (parent_read_later u l alive.d.parent parent (quiet_grows u l q) (parents alive.d live));
       value = e.2.on ∙ alive.value;
       lived = record { before = h.before; opening = h.opening; probing = u; start = h.start; opened = h.opens; is = refl; reads = h.quiet; alive = alive; end = q };
+      only = opened_only name k held u l h (quiet_grows u l q);
     }
 
 gone_law : (name : List ℕ) (k : Kernel) (held : ℕ) (w l : Kernel) → IsOpenSince name k held w → Grows w l → IsGoneAt held w → NoneLived name k l
 gone_law name k held w l h g gone j d lives named =
-    let x = lived_cut k h.before l j d (quiet_grows k h.before (moves_quiet k h.before h.start)) (grows_trans h.before w l (grows_trans h.before h.opening w (quiet_grows h.before h.opening (opened_quiet name Authorized held h.before h.opening h.opens)) (quiet_grows h.opening w h.quiet)) g) lives in
-    let is : j ≡ h.opens.i = h.sound.devices.names j h.opens.i x.1.0 h.opens.d x.1.1.entry h.opens.live (x.1.2.name ∙ named ∙ sym h.opens.named) in
+    let is = opened_only name k held w l h g j d lives named in
     let y = device_now name k held w h in
     let exit : Live l.devices h.opens.i lives.exit.0 = subst (λ v. Live l.devices v lives.exit.0) is lives.exit.1 in
     let live = (live_before w l h.opens.i y.0 lives.exit.0 g y.1 exit).0 in

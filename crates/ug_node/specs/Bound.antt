@@ -7,7 +7,7 @@ use Rattle.ug_kernel.specs.declared.calls.Attr.TheVariants as attr
 use Rattle.ug_kernel.specs.declared.calls.ReadOut.{ReadOut}
 use Rattle.ug_kernel.specs.declared.calls.ReadOut.TheVariants as out
 use Rattle.ug_kernel.specs.Kernel.{Kernel, IsKernel, Moves}
-use Rattle.ug_kernel.specs.Called.{NoneLived, IsOpened, IsAlive, read_of}
+use Rattle.ug_kernel.specs.Called.{Lived, NoneLived, IsOpened, IsAlive, read_of}
 use Rattle.ug_kernel.specs.Quiet.{Quiet}
 use Rattle.ug_node.specs.declared.identity.Binding.{Binding}
 use Rattle.ug_node.specs.declared.identity.Binding.TheVariants as bound
@@ -60,7 +60,7 @@ pub record LivedUntilProbe (name : List ℕ) (k l : Kernel) (held i : ℕ) (on :
   pub end : Quiet probing l
 
 -- the held file is a new one, of a device of that name; the attributes, the parent's and the value are that device's;
--- and it lived until it was probed, after all was read
+-- and it lived until it was probed, after all was read; no other device of the name lived through the binding
 pub record IsBound (name : List ℕ) (k l : Kernel) (b : Bound) : Type 0 where
   pub i : ℕ
   pub d : Device
@@ -72,6 +72,7 @@ pub record IsBound (name : List ℕ) (k l : Kernel) (b : Bound) : Type 0 where
   pub parents : IsParentRead l d.parent b.parent
   pub value : d.on ≡ b.on
   pub lived : LivedUntilProbe name k l b.held.0 i b.on
+  pub only : (j : ℕ) (e : Device) → Lived k.devices l.devices j e → e.name ≡ name → j ≡ i
 
 -- what an answer says of the kernel from the binding's start to its end
 abbrev pub BindSays : List ℕ → Kernel → Kernel → Binding → Type 0

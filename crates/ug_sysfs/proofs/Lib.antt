@@ -1,4 +1,6 @@
 pub mod Plugs
-pub mod Switched
 pub mod Fates
 pub mod RanOut
+pub mod Finds
+pub mod Kept
+pub mod Fall

@@ -10,7 +10,7 @@ use Rattle.ug_kernel.specs.Kernel.{Live, live_count}
 use Rattle.ug_sysfs.specs.Devices.{is_named, find}
 use Rattle.ug_sysfs.specs.World.{live_names, if_live, live_place, live_held}
 
-live_named : (name : List ℕ) (d : Device) → is_named name d ≡ true → (d.gone ≡ false) × (d.name ≡ name)
+pub live_named : (name : List ℕ) (d : Device) → is_named name d ≡ true → (d.gone ≡ false) × (d.name ≡ name)
 live_named name d h =
     let p = and_parts (not d.gone) (pointwise nat_eq d.name name) h in
     (not-true d.gone p.0, same_text d.name name (sym p.1))

@@ -9,3 +9,5 @@ pub mod Law
 pub mod Count
 pub mod Below
 pub mod Birth
+pub mod Listed
+pub mod Indexed

@@ -5,6 +5,7 @@ mod devices;
 mod laws;
 mod made;
 mod parent;
+mod roster;
 mod schedule;
 mod script;
 mod sim;

@@ -1,26 +1,25 @@
 // What a script has in store.
-ghost use Rattle.std.specs.Prelude.{◌≡◌, ◌+◌, ◌≤◌, None, [], length, vec_capacity};
+ghost use Rattle.std.specs.Prelude.{◌≡◌, ◌+◌, ◌≤◌, None, []};
 ghost use Rattle.ug_kernel.specs.Kernel.{live_count};
 ghost use Rattle.ug_sysfs.specs.World.{moved, plugs_of, first_is_due, happen, happen_all, plugs, fate, one_more};
 
-use crate::devices::{find, plug, unplug};
+use crate::parent::plug;
+use crate::roster::Roster;
 use crate::script::{Failing, Move, Scheduled};
 use std::collections::VecDeque;
-use ug_kernel::Device;
 
-fn carry_out(devices: &mut Vec<Device>, action: Move)
-    requires room { length devices.old.items + plugs_of action ≤ vec_capacity devices.old }
-    requires few { live_count devices.old.items ≤ 65536 }
-    ensures devices { devices.new.items ≡ moved action devices.old.items }
-    ensures capacity { vec_capacity devices.new ≡ vec_capacity devices.old }
-    ensures length { length devices.new.items ≤ length devices.old.items + plugs_of action }
-    ensures few { live_count devices.new.items ≤ 65536 }
+fn carry_out(roster: &mut Roster, action: Move)
+    requires room { plugs_of action ≤ roster.old.room }
+    requires few { live_count roster.old.devices ≤ 65536 }
+    ensures devices { roster.new.devices ≡ moved action roster.old.devices }
+    ensures room { roster.old.room ≤ roster.new.room + plugs_of action }
+    ensures few { live_count roster.new.devices ≤ 65536 }
 {
     match action {
-        Move::Plug(device) => plug(devices, device),
+        Move::Plug(device) => plug(roster, device),
         Move::Unplug(name) => {
-            if let Some(i) = find(devices, name.bytes()) {
-                unplug(devices, i);
+            if let Some(i) = roster.find(&name) {
+                roster.unplug(i);
             }
         }
     }
@@ -36,33 +35,32 @@ fn is_due(moves: &VecDeque<Scheduled>, call: u64, after: bool) -> bool
 }
 
 /// The moves whose turn has come.
-pub fn happen(devices: &mut Vec<Device>, moves: &mut VecDeque<Scheduled>, call: u64, after: bool)
-    requires room { length devices.old.items + plugs moves.old.items ≤ vec_capacity devices.old }
-    requires few { live_count devices.old.items ≤ 65536 }
-    ensures happened { (moves.new.items, devices.new.items)
-        ≡ happen call after moves.old.items devices.old.items }
-    ensures room { length devices.new.items + plugs moves.new.items ≤ vec_capacity devices.new }
-    ensures few { live_count devices.new.items ≤ 65536 }
+pub fn happen(roster: &mut Roster, moves: &mut VecDeque<Scheduled>, call: u64, after: bool)
+    requires room { plugs moves.old.items ≤ roster.old.room }
+    requires few { live_count roster.old.devices ≤ 65536 }
+    ensures happened { (moves.new.items, roster.new.devices)
+        ≡ happen call after moves.old.items roster.old.devices }
+    ensures room { plugs moves.new.items ≤ roster.new.room }
+    ensures few { live_count roster.new.devices ≤ 65536 }
 {
     while is_due(moves, call, after) {
         match moves.pop_front() {
-            Some(next) => carry_out(devices, next.action),
+            Some(next) => carry_out(roster, next.action),
             None => return,
         }
     }
 }
 
 /// All moves that are still to come.
-pub fn happen_all(devices: &mut Vec<Device>, moves: &mut VecDeque<Scheduled>)
-    requires room { length devices.old.items + plugs moves.old.items ≤ vec_capacity devices.old }
-    requires few { live_count devices.old.items ≤ 65536 }
-    ensures devices { devices.new.items ≡ happen_all moves.old.items devices.old.items }
+pub fn happen_all(roster: &mut Roster, moves: &mut VecDeque<Scheduled>)
+    requires room { plugs moves.old.items ≤ roster.old.room }
+    requires few { live_count roster.old.devices ≤ 65536 }
+    ensures devices { roster.new.devices ≡ happen_all moves.old.items roster.old.devices }
     ensures moves { moves.new.items ≡ [] }
-    ensures room { length devices.new.items ≤ vec_capacity devices.new }
-    ensures few { live_count devices.new.items ≤ 65536 }
+    ensures few { live_count roster.new.devices ≤ 65536 }
 {
     while let Some(next) = moves.pop_front() {
-        carry_out(devices, next.action);
+        carry_out(roster, next.action);
     }
 }
 

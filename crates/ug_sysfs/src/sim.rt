@@ -7,10 +7,12 @@ ghost use Rattle.ug_sysfs.specs.Few.{HasFew};
 ghost use Rattle.ug_sysfs.specs.Law.{does_what_it_may, begins_afresh};
 ghost use Rattle.ug_sysfs.specs.World.{Gives, Effects, RunsOut, Puts, Ends, Enters, begun, over, fate_of, counted, told};
 
-use crate::devices::{find, live_held, live_names, plug, read_file, switch, unplug};
+use crate::devices::{live_held, live_names, read_file};
 use crate::made::{
     Asked, Kind, Made, kind_of_listing, kind_of_opened, kind_of_probe, kind_of_read, kind_of_wrote,
 };
+use crate::parent::plug;
+use crate::roster::Roster;
 use crate::schedule::{fate, happen, happen_all, one_more};
 use crate::script::{Failing, Move, Scheduled};
 use crate::sysfs::Sysfs;
@@ -26,7 +28,7 @@ use ug_types::{Held, NoMemory, NodeName};
 /// or of the calls finds no memory, it runs out: its calls fail from then on, and it tells no kernel.
 #[derive(Drop)]
 pub struct SimKernel {
-    devices: Vec<Device>,
+    roster: Roster,
     held: Vec<HeldFile>,
     log: Vec<Effect>,
     moves: VecDeque<Scheduled>,
@@ -38,14 +40,14 @@ pub struct SimKernel {
 }
 
 impl Model for SimKernel {
-    ghost use Rattle.std.specs.Prelude.{◌+◌, ◌≤◌, length, vec_capacity};
+    ghost use Rattle.std.specs.Prelude.{◌≤◌};
     ghost use Rattle.ug_kernel.specs.Kernel.{live_count};
     ghost use Rattle.ug_sysfs.specs.World.{World, plugs};
 
     ghost Value = { World };
 
     ghost view = { λ s. record {
-      kernel = record { devices = s.devices.items; held = s.held.items; log = s.log.items };
+      kernel = record { devices = s.roster.devices; held = s.held.items; log = s.log.items };
       moves = s.moves.items;
       fails = s.fails.items;
       calls = s.calls;
@@ -55,7 +57,7 @@ impl Model for SimKernel {
     } };
 
     // each plug that is scheduled has its room
-    ghost invariant = { λ s. (length s.devices.items + plugs s.moves.items ≤ vec_capacity s.devices) × (live_count s.devices.items ≤ 65536) };
+    ghost invariant = { λ s. (plugs s.moves.items ≤ s.roster.room) × (live_count s.roster.devices ≤ 65536) };
 }
 
 impl SimKernel {
@@ -72,7 +74,7 @@ impl SimKernel {
         } }
     {
         SimKernel {
-            devices: Vec::new(alloc),
+            roster: Roster::new(alloc),
             held: Vec::new(alloc),
             log: Vec::new(alloc),
             moves: VecDeque::new(alloc),
@@ -91,8 +93,8 @@ impl SimKernel {
         ensures ok { OnOk result (self.new ≡ record self.old { kernel = record self.old.kernel { devices = plugged device self.old.kernel.devices } }) }
         ensures err { OnErr result (self.new ≡ self.old) }
     {
-        self.devices.reserve(self.moves.len().saturating_add(1))?;
-        plug(&mut self.devices, device);
+        self.roster.reserve(self.moves.len().saturating_add(1))?;
+        plug(&mut self.roster, device);
         Ok(())
     }
 
@@ -100,8 +102,8 @@ impl SimKernel {
     pub fn unplug(&mut self, name: &NodeName)
         ensures { self.new ≡ record self.old { kernel = record self.old.kernel { devices = unplugged name.now self.old.kernel.devices } } }
     {
-        if let Some(i) = find(&self.devices, name.bytes()) {
-            unplug(&mut self.devices, i);
+        if let Some(i) = self.roster.find(name) {
+            self.roster.unplug(i);
         }
     }
 
@@ -112,7 +114,7 @@ impl SimKernel {
         ensures ok { OnOk result (self.new ≡ record self.old { moves = self.old.moves ++ record { call = call; after = after; action = action } ∷ [] }) }
         ensures err { OnErr result (self.new ≡ self.old) }
     {
-        self.devices.reserve(self.moves.len().saturating_add(1))?;
+        self.roster.reserve(self.moves.len().saturating_add(1))?;
         self.moves.push_back(Scheduled {
             call,
             after,
@@ -134,7 +136,7 @@ impl SimKernel {
     pub fn end_event(&mut self)
         ensures { self.new ≡ over self.old }
     {
-        happen_all(&mut self.devices, &mut self.moves);
+        happen_all(&mut self.roster, &mut self.moves);
         self.fails.clear();
     }
 
@@ -149,7 +151,7 @@ impl SimKernel {
     pub fn devices(&self) -> &[Device]
         ensures { result.now ≡ self.now.kernel.devices }
     {
-        self.devices.as_slice()
+        self.roster.devices()
     }
 
     /// All files that were opened. A file that was closed stays.
@@ -182,7 +184,7 @@ impl SimKernel {
             self.faults = one_more(self.faults);
             return false;
         }
-        happen(&mut self.devices, &mut self.moves, self.calls, false);
+        happen(&mut self.roster, &mut self.moves, self.calls, false);
         true
     }
 
@@ -190,7 +192,7 @@ impl SimKernel {
     fn end(&mut self, asked: Asked, kind: Kind) -> bool
         ensures { Ends self.old (record { asked = asked; kind = kind }) result self.new }
     {
-        happen(&mut self.devices, &mut self.moves, self.calls, true);
+        happen(&mut self.roster, &mut self.moves, self.calls, true);
         match self.made.push(Made { asked, kind }) {
             Ok(_) => true,
             Err(_) => {
@@ -222,7 +224,7 @@ impl SimKernel {
     {
         match self.fate() {
             Some(_) => Listing::Failed,
-            None => match live_names(alloc, &self.devices) {
+            None => match live_names(alloc, self.roster.devices()) {
                 Ok(names) => Listing::Names(names),
                 Err(_) => Listing::Memory,
             },
@@ -234,7 +236,7 @@ impl SimKernel {
     {
         match self.fate() {
             Some(_) => Opened::Failed,
-            None => match find(&self.devices, name.bytes()) {
+            None => match self.roster.find(name) {
                 Some(device) => {
                     let number = self.held.len() as u64;
                     match self.held.push(HeldFile { device, control }) {
@@ -252,8 +254,8 @@ impl SimKernel {
     {
         match self.fate() {
             Some(_) => ReadOut::Failed,
-            None => match find(&self.devices, name.bytes()) {
-                Some(i) => match self.devices.get(i) {
+            None => match self.roster.find(name) {
+                Some(i) => match self.roster.devices().get(i) {
                     Some(device) => read_file(alloc, device, attr),
                     None => ReadOut::Absent,
                 },
@@ -267,8 +269,8 @@ impl SimKernel {
     {
         match self.fate() {
             Some(_) => Probe::Failed,
-            None => match live_held(&self.devices, &self.held, held.0 as usize) {
-                Some(i) => match self.devices.get(i) {
+            None => match live_held(self.roster.devices(), &self.held, held.0 as usize) {
+                Some(i) => match self.roster.devices().get(i) {
                     Some(device) => Probe::Alive(device.on),
                     None => Probe::Gone,
                 },
@@ -281,10 +283,10 @@ impl SimKernel {
     fn put(&mut self, held: Held, write: Write) -> Option<Wrote>
         ensures { MatchOption result (RunsOut self.old self.new) (λ reply. Puts self.old held.0 write reply self.new) }
     {
-        match live_held(&self.devices, &self.held, held.0 as usize) {
+        match live_held(self.roster.devices(), &self.held, held.0 as usize) {
             Some(device) => match self.log.push(Effect { device, write }) {
                 Ok(_) => {
-                    switch(&mut self.devices, device, write);
+                    self.roster.switch(device, write);
                     Some(Wrote::Done)
                 }
                 Err(_) => {

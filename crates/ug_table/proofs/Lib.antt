@@ -1,1 +1,16 @@
+pub mod Elements
 pub mod Loops
+pub mod Devices
+pub mod Standings
+pub mod Account
+pub mod Steps
+pub mod Written
+pub mod Fair
+pub mod FairSweep
+pub mod Values
+pub mod Places
+pub mod Apart
+pub mod Own
+pub mod Again
+pub mod Lived
+pub mod Swept

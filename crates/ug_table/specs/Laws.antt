@@ -121,11 +121,12 @@ abbrev pub IsSettled : Kernel → Kernel → List Standing → List Entry → Ty
 IsSettled k l ss entries = (i : ℕ) (d : Device) → Lived k.devices l.devices i d
     → IsAsJudged l ss i ⊎ (IsNamed entries d.name ⊎ (((why : Fault) × Has entries (entry.UnsettledAll why)) × (HasStanding l ss i → ⊥)))
 
--- where a kernel is told at the end of a sweep, one was told at its start; and where that is sound and the standings are of
--- its devices, the sweep is fair and each device is settled or named
+-- the sweep is fair, and each device is settled or named
 pub record Swept {J : Type 0} (answer : J → Judged → Bool → Bool → Bool → Target × Cause) (later : J → Judged → Bool → Bool → Bool → J) (k : Kernel) (w : State J) (l : Kernel) (v : State J) : Type 0 where
   pub fair : IsFair answer later k w l v
   pub settled : IsSettled k l v.standings fair.rest
 
+-- where a kernel is told at the end of a sweep, one was told at its start; and where that is sound and the standings are of
+-- its devices, that is so
 abbrev pub Sweeps : {S J : Type 0} → (S → Option Kernel) → (J → Judged → Bool → Bool → Bool → Target × Cause) → (J → Judged → Bool → Bool → Bool → J) → S → State J → S → State J → Type 0
 Sweeps told answer later s w t v = (l : Kernel) → told t ≡ Some l → (k : Kernel) × (told s ≡ Some k) × (IsKernel k → Stand k w.standings w.next → Swept answer later k w l v)

@@ -41,6 +41,7 @@ pub fn bring<Y: Sysfs>(
     requires { 3 ≤ out.old.spare }
     ensures runs { Runs Y.gives sysfs.old (bringing name.now known on out.old.entries) (result, out.new.entries) sysfs.new }
     ensures spare { out.old.spare ≤ out.new.spare + 3 }
+    ensures room { out.new.room ≡ out.old.room }
 {
     if is_wanted(known.verdict) == on {
         return Settled::Stands;

@@ -35,7 +35,8 @@ fn is_stands(settled: Settled) -> bool
 /// Keeps a new standing, unless its device is gone.
 fn keep(standings: &mut Vec<Standing>, standing: Standing, settled: Settled)
     requires { vec_len standings.old < vec_capacity standings.old }
-    ensures { standings.new.items ≡ kept_standings standings.old.items standing settled }
+    ensures standings { standings.new.items ≡ kept_standings standings.old.items standing settled }
+    ensures len { vec_len standings.new ≤ vec_len standings.old + 1 }
 {
     let mut standing = standing;
     match settled {
@@ -94,6 +95,8 @@ impl Table {
         requires next { self.old.next < 2 ^ 64 - 1 }
         ensures runs { Runs Y.gives sysfs.old (admitting A.answer A.later name.now present (state_of self.old judge.old out.old.entries) bound) (result, state_of self.new judge.new out.new.entries) sysfs.new }
         ensures spare { out.old.spare ≤ out.new.spare + 4 }
+        ensures room { out.new.room ≡ out.old.room }
+        ensures len { vec_len self.new.standings ≤ vec_len self.old.standings + 1 }
         ensures next { self.new.next ≤ self.old.next + 1 }
     {
         let held = bound.held;
@@ -161,6 +164,8 @@ impl Table {
         requires next { self.old.next < 2 ^ 64 - 1 }
         ensures runs { Runs Y.gives sysfs.old (entering A.answer A.later name.now present (state_of self.old judge.old out.old.entries)) (result, state_of self.new judge.new out.new.entries) sysfs.new }
         ensures spare { out.old.spare ≤ out.new.spare + 4 }
+        ensures room { out.new.room ≡ out.old.room }
+        ensures len { vec_len self.new.standings ≤ vec_len self.old.standings + 1 }
         ensures next { self.new.next ≤ self.old.next + 1 }
     {
         match bind(alloc, sysfs, name) {
@@ -199,6 +204,8 @@ impl Table {
         requires next { self.old.next < 2 ^ 64 - 1 }
         ensures runs { Runs Y.gives sysfs.old (settling A.answer A.later name.now present (state_of self.old judge.old out.old.entries)) (result, state_of self.new judge.new out.new.entries) sysfs.new }
         ensures spare { out.old.spare ≤ out.new.spare + 5 }
+        ensures room { out.new.room ≡ out.old.room }
+        ensures len { vec_len self.new.standings ≤ vec_len self.old.standings + 1 }
         ensures next { self.new.next ≤ self.old.next + 1 }
     {
         let known = match find(&self.standings, name) {
@@ -244,6 +251,7 @@ pub fn resettle<Y: Sysfs>(
     requires { 3 ≤ out.old.spare }
     ensures runs { Runs Y.gives sysfs.old (resettling name.now (kept_of standings.old.items out.old.entries)) (result, kept_of standings.new.items out.new.entries) sysfs.new }
     ensures spare { out.old.spare ≤ out.new.spare + 3 }
+    ensures room { out.new.room ≡ out.old.room }
     ensures len { vec_len standings.new ≤ vec_len standings.old }
 {
     let known = match find(standings, name) {

@@ -6,6 +6,7 @@ ghost use Rattle.ug_itree.specs.Tree.{Runs};
 ghost use Rattle.ug_table.specs.State.{state_of, kept_of};
 ghost use Rattle.ug_table.specs.Standings.{lists, farewells};
 ghost use Rattle.ug_table.specs.Sweep.{settling_all, resettling_all, parted, unlisted, sweeping, names_of};
+ghost use Rattle.ug_table.specs.Laws.{Sweeps};
 
 use crate::judge::Judge;
 use crate::settle::resettle;
@@ -27,6 +28,7 @@ fn bid(standings: &[Standing], names: &[NodeName], out: &mut Entries)
     requires { length standings.now ≤ out.old.spare }
     ensures entries { out.new.entries ≡ out.old.entries ++ farewells names.now standings.now }
     ensures spare { out.old.spare ≤ out.new.spare + length standings.now }
+    ensures room { out.new.room ≡ out.old.room }
 {
     for s in standings {
         if !has(names, &s.name) {
@@ -67,6 +69,8 @@ fn resettle_all<Y: Sysfs>(
 )
     requires { 3 * length names.now ≤ out.old.spare }
     ensures runs { Runs Y.gives sysfs.old (resettling_all names.now (kept_of standings.old.items out.old.entries)) (kept_of standings.new.items out.new.entries) sysfs.new }
+    ensures spare { out.old.spare ≤ out.new.spare + 3 * length names.now }
+    ensures room { out.new.room ≡ out.old.room }
     ensures len { vec_len standings.new ≤ vec_len standings.old }
 {
     for name in names {
@@ -80,6 +84,7 @@ impl Table {
         requires { vec_len self.old.standings ≤ out.old.spare }
         ensures state { state_of self.new judge.now out.new.entries ≡ parted names.now (state_of self.old judge.now out.old.entries) }
         ensures spare { out.old.spare ≤ out.new.spare + vec_len self.old.standings }
+        ensures room { out.new.room ≡ out.old.room }
         ensures next { self.new.next ≡ self.old.next }
         ensures len { vec_len self.new.standings ≤ vec_len self.old.standings }
     {
@@ -102,6 +107,9 @@ impl Table {
         requires next { self.old.next + length names.now < 2 ^ 64 }
         ensures runs { Runs Y.gives sysfs.old (settling_all A.answer A.later names.now present (state_of self.old judge.old out.old.entries)) (state_of self.new judge.new out.new.entries) sysfs.new }
         ensures next { self.new.next ≤ self.old.next + length names.now }
+        ensures spare { out.old.spare ≤ out.new.spare + 5 * length names.now }
+        ensures room { out.new.room ≡ out.old.room }
+        ensures len { vec_len self.new.standings ≤ vec_len self.old.standings + length names.now }
     {
         for name in names {
             let _settled = self.settle(alloc, sysfs, name, present, judge, out);
@@ -110,10 +118,19 @@ impl Table {
 
     // The known names are settled all the same.
     #[tactic(auto, using(ug_itree::proofs::Runs::runs_then))]
-    fn go_unlisted<Y: Sysfs, J>(&mut self, sysfs: &mut Y, fault: Fault, judge: &J, out: &mut Entries)
-        requires { 3 * vec_len self.old.standings + 1 ≤ out.old.spare }
+    fn go_unlisted<Y: Sysfs, J>(
+        &mut self,
+        sysfs: &mut Y,
+        fault: Fault,
+        judge: &J,
+        out: &mut Entries,
+    )
+        requires { 3 * vec_len self.old.standings + 2 ≤ out.old.spare }
         ensures runs { Runs Y.gives sysfs.old (unlisted fault (state_of self.old judge.now out.old.entries)) (state_of self.new judge.now out.new.entries) sysfs.new }
         ensures next { self.new.next ≡ self.old.next }
+        ensures spare { 0 < out.new.spare }
+        ensures room { out.new.room ≡ out.old.room }
+        ensures len { vec_len self.new.standings ≤ vec_len self.old.standings }
     {
         out.push(Entry::UnsettledAll { fault });
         self.names.clear();
@@ -121,7 +138,26 @@ impl Table {
         resettle_all(&mut self.standings, sysfs, &self.names, out);
     }
 
-    /// Lists the names, drops the standings that went, and settles each name.
+    /// Lists the names, drops the standings of names that aren't listed, and settles each listed name in sweep order.
+    /// Where the listing fails, or memory is short for it, the known names are settled all the same.
+    pub fn sweep<Y: Sysfs, A: Judge>(
+        &mut self,
+        alloc: Global,
+        sysfs: &mut Y,
+        judge: &mut A,
+        out: &mut Entries,
+    )
+        requires room { 8 * vec_len self.old.standings + 2 ≤ out.old.spare }
+        requires next { self.old.next + 65536 < 2 ^ 64 }
+        ensures runs { Runs Y.gives sysfs.old (sweeping A.answer A.later (state_of self.old judge.old out.old.entries)) (state_of self.new judge.new out.new.entries) sysfs.new }
+        ensures next { self.new.next ≤ self.old.next + 65536 }
+        ensures spare { 0 < out.new.spare }
+        ensures room { 8 * vec_len self.old.standings + 64 ≤ out.old.room → 8 * vec_len self.new.standings + 64 ≤ out.new.room }
+        ensures swept { Sweeps Y.told A.answer A.later sysfs.old (state_of self.old judge.old out.old.entries) sysfs.new (state_of self.new judge.new out.new.entries) }
+    {
+        self.sweep_names(alloc, sysfs, judge, out);
+    }
+
     #[tactic(auto, unfolding(crate::specs::Sweep::sweeping), using(ug_itree::proofs::Runs::runs_then))]
     fn sweep_names<Y: Sysfs, A: Judge>(
         &mut self,
@@ -130,10 +166,12 @@ impl Table {
         judge: &mut A,
         out: &mut Entries,
     )
-        requires room { 8 * vec_len self.old.standings + 1 ≤ out.old.spare }
+        requires room { 8 * vec_len self.old.standings + 2 ≤ out.old.spare }
         requires next { self.old.next + 65536 < 2 ^ 64 }
         ensures runs { Runs Y.gives sysfs.old (sweeping A.answer A.later (state_of self.old judge.old out.old.entries)) (state_of self.new judge.new out.new.entries) sysfs.new }
         ensures next { self.new.next ≤ self.old.next + 65536 }
+        ensures spare { 0 < out.new.spare }
+        ensures room { 8 * vec_len self.old.standings + 64 ≤ out.old.room → 8 * vec_len self.new.standings + 64 ≤ out.new.room }
     {
         let names = match sysfs.list(alloc) {
             Listing::Names(names) => sorted(names),
@@ -167,7 +205,11 @@ fn room_for(standings: &[Standing], names: &[NodeName]) -> usize
 {
     let count = standings.len() as u128 + names.len() as u128;
     let room = 8 * count + 65;
-    if room > usize::MAX as u128 { usize::MAX } else { room as usize }
+    if room > usize::MAX as u128 {
+        usize::MAX
+    } else {
+        room as usize
+    }
 }
 
 fn sorted(names: List<NodeName>) -> Vec<NodeName>

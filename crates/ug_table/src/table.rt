@@ -91,7 +91,8 @@ fn place_of(standings: &[Standing], name: &NodeName) -> usize
 /// Puts a standing in its place, for which there is room.
 pub fn put_in(standings: &mut Vec<Standing>, standing: Standing)
     requires { vec_len standings.old < vec_capacity standings.old }
-    ensures { standings.new.items ≡ with_standing standing standings.old.items }
+    ensures standings { standings.new.items ≡ with_standing standing standings.old.items }
+    ensures len { vec_len standings.new ≡ vec_len standings.old + 1 }
 {
     let at = place_of(standings, &standing.name);
     let _done = standings.insert(at, standing);

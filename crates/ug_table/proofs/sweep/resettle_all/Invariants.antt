@@ -1,4 +1,4 @@
-use Rattle.std.proofs.Common.{◌+◌, ◌-◌, ◌*◌, ◌≤◌, length, drop, vec_len}
+use Rattle.std.proofs.Common.{◌≡◌, ◌+◌, ◌-◌, ◌*◌, ◌≤◌, length, drop, vec_len}
 use Rattle.ug_itree.specs.Tree.{Runs}
 use Rattle.ug_table.specs.State.{Kept, kept_of}
 use Rattle.ug_table.specs.Sweep.{resettling_all}
@@ -9,5 +9,7 @@ abbrev pub invariant-loop-name : goal.invariant-loop-name
 invariant-loop-name g l = record {
   runs : (r : Kept) (t : _) → Runs g.Y.Sysfs.gives l.sysfs (resettling_all (drop l.name-index l.names) (kept_of l.standings.items l.out.entries)) r t → Runs g.Y.Sysfs.gives l.fn.sysfs (resettling_all l.names (kept_of l.fn.standings.items l.fn.out.entries)) r t;
   room : 3 * (length l.names - l.name-index) ≤ l.out.spare;
+  spare : l.fn.out.spare ≤ l.out.spare + 3 * l.name-index;
+  space : l.out.room ≡ l.fn.out.room;
   len : vec_len l.standings ≤ vec_len l.fn.standings;
 }

@@ -1,4 +1,4 @@
-use Rattle.std.proofs.Common.{arith}
+use Rattle.std.proofs.Common.{arith, ◌∙◌}
 use Rattle.ug_table.proofs.Loops.{settling_more}
 use Rattle.ug_table.proofs.table.Table.settle_all.Goals as goal
 
@@ -7,5 +7,8 @@ loop-name-preserved g c = record {
   runs = λ r t k. c.loop-name.invariant.runs r t (settling_more g.Y.Sysfs.gives g.A.Judge.answer g.A.Judge.later c.args.names.now c.args.present c.loop-name.name-index c.name-item.result _ _ _ _ c.loop-name-test.true c.name-item.is c.settle-settled.ensures.runs r t k);
   room = omega (arith, c.settle-settled.ensures.spare);
   next = omega (arith, c.settle-settled.ensures.next);
+  spare = omega (arith, c.settle-settled.ensures.spare);
+  space = c.settle-settled.ensures.room ∙ c.loop-name.invariant.space;
+  len = omega (arith, c.settle-settled.ensures.len);
   most = omega (arith, c.settle-settled.ensures.next);
 }

@@ -1,0 +1,229 @@
+// The text of an entry.
+ghost use Rattle.std.specs.Prelude.{◌≡◌, ◌≤◌, ◌<◌, ◌+◌, ◌++◌, [], ◌∷◌, length, codes, decimal};
+ghost use Rattle.ug_audit.specs.Lines.{and_words, cause_words, entry_line, fault_words, target_word, wrote_word};
+ghost use Rattle.ug_audit.specs.Lines as lines;
+
+use crate::entry::{Entry, Fault};
+use itoa::Buffer;
+use ug_kernel::{Write, Wrote};
+use ug_types::{Cause, Line, Moment, NodeName, Target};
+
+/// A line that is one word.
+fn first_word(word: &[u8]) -> Line
+    requires { length word.now ≤ 512 }
+    ensures text { result ≡ word.now }
+    ensures length { length result ≡ length word.now }
+{
+    let mut line = Line::new();
+    line.push(word);
+    line
+}
+
+/// Appends a space and a word.
+fn push_word(line: &mut Line, word: &[u8])
+    requires { length line.old + length word.now < 512 }
+    ensures text { line.new ≡ line.old ++ 32 ∷ word.now }
+    ensures length { length line.new ≡ length line.old + length word.now + 1 }
+{
+    line.push(b" ");
+    line.push(word);
+}
+
+/// Appends a space and a number.
+fn push_number(line: &mut Line, number: u64)
+    requires { length line.old + 20 < 512 }
+    ensures text { line.new ≡ line.old ++ 32 ∷ decimal number }
+    ensures length { length line.new ≤ length line.old + 21 }
+{
+    let mut digits = Buffer::new();
+    push_word(line, digits.format(number).as_bytes());
+}
+
+/// Appends a space and a name.
+fn push_name(line: &mut Line, name: &NodeName)
+    requires { length line.old + 31 < 512 }
+    ensures text { line.new ≡ line.old ++ 32 ∷ name.now }
+    ensures length { length line.new ≤ length line.old + 32 }
+{
+    let _short = name.len();
+    push_word(line, name.bytes());
+}
+
+#[tactic(auto, unfolding(crate::specs::Lines::target_word))]
+fn word_of_target(target: Target) -> &'static [u8]
+    ensures text { result.now ≡ target_word target }
+    ensures length { length result.now ≤ 6 }
+{
+    match target {
+        Target::Allow => b"allow",
+        Target::Block => b"block",
+        Target::Reject => b"reject",
+    }
+}
+
+#[tactic(auto, unfolding(crate::specs::Lines::write_word))]
+fn word_of_write(write: Write) -> &'static [u8]
+    ensures text { result.now ≡ lines.write_word write }
+    ensures length { length result.now ≤ 6 }
+{
+    match write {
+        Write::On => b"on",
+        Write::Off => b"off",
+        Write::Remove => b"remove",
+    }
+}
+
+#[tactic(auto, unfolding(crate::specs::Lines::wrote_word))]
+fn word_of_outcome(outcome: Wrote) -> &'static [u8]
+    ensures text { result.now ≡ wrote_word outcome }
+    ensures length { length result.now ≤ 6 }
+{
+    match outcome {
+        Wrote::Done => b"done",
+        Wrote::Gone => b"gone",
+        Wrote::Failed => b"failed",
+    }
+}
+
+/// Appends a cause's words.
+#[tactic(auto, unfolding(crate::specs::Lines::cause_words))]
+fn push_cause(line: &mut Line, cause: Cause)
+    requires { length line.old + 60 < 512 }
+    ensures { line.new ≡ and_words line.old (cause_words cause) }
+{
+    match cause {
+        Cause::Rule(id) => {
+            push_word(line, b"rule");
+            push_number(line, id);
+        }
+        Cause::Implicit => push_word(line, b"implicit"),
+        Cause::Keep => push_word(line, b"keep"),
+        Cause::Malformed { kind, place } => {
+            push_word(line, b"malformed");
+            push_number(line, kind as u64);
+            push_number(line, place);
+        }
+    }
+}
+
+/// Appends a fault's words.
+#[tactic(auto, unfolding(crate::specs::Lines::fault_words))]
+fn push_fault(line: &mut Line, fault: Fault)
+    requires { length line.old + 60 < 512 }
+    ensures { line.new ≡ and_words line.old (fault_words fault) }
+{
+    match fault {
+        Fault::Call { call, count } => {
+            push_word(line, b"fault");
+            push_number(line, call);
+            push_number(line, count);
+        }
+        Fault::Memory => push_word(line, b"memory"),
+    }
+}
+
+/// A line that begins with a word, a device's number and its name.
+fn of_device(word: &[u8], number: u64, name: &NodeName) -> Line
+    requires { length word.now ≤ 10 }
+    ensures text { result ≡ and_words word.now (decimal number ∷ name.now ∷ []) }
+    ensures length { length result ≤ 63 }
+{
+    let mut line = first_word(word);
+    push_number(&mut line, number);
+    push_name(&mut line, name);
+    line
+}
+
+fn line_of_event(number: u64, moment: Moment) -> Line
+    ensures { result ≡ and_words (codes "event") (decimal number ∷ codes "sweep" ∷ decimal moment.0 ∷ []) }
+{
+    let mut line = first_word(b"event");
+    push_number(&mut line, number);
+    push_word(&mut line, b"sweep");
+    push_number(&mut line, moment.0);
+    line
+}
+
+fn line_of_verdict(number: u64, name: &NodeName, verdict: Target, cause: Cause) -> Line
+    ensures { result ≡ and_words (codes "judged") (decimal number ∷ name.now ∷ target_word verdict ∷ cause_words cause) }
+{
+    let mut line = of_device(b"judged", number, name);
+    push_word(&mut line, word_of_target(verdict));
+    push_cause(&mut line, cause);
+    line
+}
+
+fn line_of_intent(number: u64, name: &NodeName, write: Write) -> Line
+    ensures { result ≡ and_words (codes "intent") (decimal number ∷ name.now ∷ lines.write_word write ∷ []) }
+{
+    let mut line = of_device(b"intent", number, name);
+    push_word(&mut line, word_of_write(write));
+    line
+}
+
+fn line_of_outcome(number: u64, name: &NodeName, write: Write, outcome: Wrote) -> Line
+    ensures { result ≡ and_words (codes "wrote") (decimal number ∷ name.now ∷ lines.write_word write ∷ wrote_word outcome ∷ []) }
+{
+    let mut line = of_device(b"wrote", number, name);
+    push_word(&mut line, word_of_write(write));
+    push_word(&mut line, word_of_outcome(outcome));
+    line
+}
+
+fn line_of_unsettled(name: &NodeName, fault: Fault) -> Line
+    ensures { result ≡ and_words (codes "unsettled") (name.now ∷ fault_words fault) }
+{
+    let mut line = first_word(b"unsettled");
+    push_name(&mut line, name);
+    push_fault(&mut line, fault);
+    line
+}
+
+fn line_of_all_unsettled(fault: Fault) -> Line
+    ensures { result ≡ and_words (codes "unsettled") (codes "*" ∷ fault_words fault) }
+{
+    let mut line = first_word(b"unsettled");
+    push_word(&mut line, b"*");
+    push_fault(&mut line, fault);
+    line
+}
+
+fn line_of_end(number: u64) -> Line
+    ensures { result ≡ and_words (codes "end") (decimal number ∷ []) }
+{
+    let mut line = first_word(b"end");
+    push_number(&mut line, number);
+    line
+}
+
+/// The line of an entry in the journal, without a newline. It takes no memory.
+#[tactic(auto, unfolding(crate::specs::Lines::entry_line))]
+pub fn line_of(entry: &Entry) -> Line
+    ensures { result ≡ entry_line entry.now }
+{
+    match entry {
+        Entry::Event { number, moment } => line_of_event(*number, *moment),
+        Entry::Judged {
+            number,
+            name,
+            held: _,
+            verdict,
+            cause,
+        } => line_of_verdict(*number, name, *verdict, *cause),
+        Entry::Intent {
+            number,
+            name,
+            write,
+        } => line_of_intent(*number, name, *write),
+        Entry::Wrote {
+            number,
+            name,
+            write,
+            outcome,
+        } => line_of_outcome(*number, name, *write, *outcome),
+        Entry::Gone { number, name } => of_device(b"gone", *number, name),
+        Entry::Unsettled { name, fault } => line_of_unsettled(name, *fault),
+        Entry::UnsettledAll { fault } => line_of_all_unsettled(*fault),
+        Entry::End { number } => line_of_end(*number),
+    }
+}

@@ -1,0 +1,67 @@
+-- The index keeps up.
+use Rattle.std.proofs.Common.{◌≡◌, ℕ, ◌+◌, ◌-◌, ◌<◌, ◌≤◌, Bool, true, false, cond, List, [], ◌∷◌, ◌++◌, length, set, get_or, Option, Some, None, nat_eq, vec_capacity, refl, sym, ◌∙◌, ap, subst, arith, length-set, length-append}
+use Rattle.std.proofs.lemmas.Option.{same_Some, slice_get_within, slice_get-get_or}
+use Rattle.std.proofs.lemmas.List.{set-get_or}
+use Rattle.std.specs.List.{slice_get}
+use Rattle.std.specs.Cmp.Lexicographic.{pointwise}
+use Rattle.std.specs.HashMap.{get, spare}
+use Rattle.ug_kernel.specs.declared.device.Device.{Device}
+use Rattle.ug_kernel.specs.declared.calls.Write.{Write}
+use Rattle.ug_kernel.specs.Kernel.{live_count}
+use Rattle.ug_kernel.specs.Called.{value_after}
+use Rattle.ug_kernel.proofs.Sounds.{live_count_set}
+use Rattle.ug_sysfs.specs.declared.roster.Roster.TheInside.{Inside}
+use Rattle.ug_sysfs.specs.Devices.{find, with_gone, gone_in}
+use Rattle.ug_sysfs.specs.World.{switched_to, switched}
+use Rattle.ug_sysfs.specs.Indexed.{IsDistinct, IsIndexed}
+use Rattle.ug_sysfs.proofs.Finds.{find_born, find_gone, find_switched, distinct_push, distinct_gone, distinct_switched, live_count_born, live_count_gone}
+
+pub indexed_born : (r s : Inside) (d : Device) → IsIndexed r → 0 < r.room → d.gone ≡ false → find d.name 0 r.all.items ≡ None → ((q : List ℕ) → get (pointwise nat_eq) s.index q ≡ cond (pointwise nat_eq d.name q) (Some (length r.all.items)) (get (pointwise nat_eq) r.index q)) → s.all.items ≡ r.all.items ++ d ∷ [] → s.live ≡ r.live + 1 → s.room ≡ r.room - 1 → vec_capacity s.all ≡ vec_capacity r.all → spare r.index ≤ spare s.index + 1 → IsIndexed s
+indexed_born r s d h lt g fresh updates items live room capacity left = record {
+  index = λ q. updates q ∙ ap (λ o. cond (pointwise nat_eq d.name q) (Some (length r.all.items)) o) (h.index q) ∙ sym (find_born q r.all.items d g fresh) ∙ ap (find q 0) (sym items);
+  distinct = subst IsDistinct (sym items) (distinct_push r.all.items d h.distinct fresh);
+  live = live ∙ ap (λ (n : ℕ). n + 1) h.live ∙ sym (live_count_born r.all.items d g) ∙ ap live_count (sym items);
+  places = omega (arith, h.places, ap length items, length-append r.all.items (d ∷ []));
+  entries = omega (arith, h.entries);
+}
+
+pub indexed_gone : (r s : Inside) (i : ℕ) (d : Device) → IsIndexed r → slice_get r.all.items i ≡ Some d → d.gone ≡ false → ((q : List ℕ) → get (pointwise nat_eq) s.index q ≡ cond (pointwise nat_eq d.name q) None (get (pointwise nat_eq) r.index q)) → s.all.items ≡ set r.all.items i (record d { gone = true }) → s.live ≡ r.live - 1 → s.room ≡ r.room → vec_capacity s.all ≡ vec_capacity r.all → spare r.index ≤ spare s.index → IsIndexed s
+indexed_gone r s i d h at g updates items live room capacity left = record {
+  index = λ q. updates q ∙ ap (λ o. cond (pointwise nat_eq d.name q) None o) (h.index q) ∙ sym (find_gone q r.all.items i d h.distinct at g) ∙ ap (find q 0) (sym items);
+  distinct = subst IsDistinct (sym items) (distinct_gone r.all.items i d h.distinct);
+  live = omega (arith, live, h.live, live_count_gone r.all.items i d at g, ap live_count items);
+  places = omega (arith, h.places, ap length items, length-set r.all.items i (record d { gone = true }));
+  entries = omega (arith, h.entries);
+}
+
+pub indexed_switched : (r s : Inside) (i : ℕ) (d : Device) (on : Bool) → IsIndexed r → slice_get r.all.items i ≡ Some d → s.index ≡ r.index → s.all.items ≡ set r.all.items i (record d { on = on }) → s.live ≡ r.live → s.room ≡ r.room → vec_capacity s.all ≡ vec_capacity r.all → IsIndexed s
+indexed_switched r s i d on h at index items live room capacity = record {
+  index = λ q. ap (λ m. get (pointwise nat_eq) m q) index ∙ h.index q ∙ sym (find_switched q 0 r.all.items i d on at) ∙ ap (find q 0) (sym items);
+  distinct = subst IsDistinct (sym items) (distinct_switched r.all.items i d on at h.distinct);
+  live = live ∙ h.live ∙ sym (live_count_set on r.all.items i d at) ∙ ap live_count (sym items);
+  places = omega (arith, h.places, ap length items, length-set r.all.items i (record d { on = on }));
+  entries = omega (arith, h.entries, ap spare index);
+}
+
+pub one_live : (ds : List Device) (i : ℕ) (d : Device) → slice_get ds i ≡ Some d → d.gone ≡ false → 1 ≤ live_count ds
+one_live ds i d at g = omega (arith, live_count_gone ds i d at g)
+
+pub gone_at : (ds : List Device) (i : ℕ) (d : Device) → slice_get ds i ≡ Some d → set ds i (record d { gone = true }) ≡ with_gone i ds
+gone_at ds i d at = ap (λ o. gone_in i o ds) (sym at)
+
+pub was_gone : (ds : List Device) (i : ℕ) (d : Device) → slice_get ds i ≡ Some d → d.gone ≡ true → ds ≡ with_gone i ds
+was_gone ds i d at g =
+    let lt = slice_get_within ds i d at in
+    let same : get_or ds i d ≡ record d { gone = true } = same_Some (get_or ds i d) d (sym (slice_get-get_or ds i d lt) ∙ at) ∙ (λ j. record d { gone = g j }) in
+    sym (set-get_or ds i d) ∙ ap (set ds i) same ∙ gone_at ds i d at
+
+pub switched_at : (write : Write) (i : ℕ) (ds : List Device) (d : Device) (on : Bool) → slice_get ds i ≡ Some d → on ≡ value_after write d.on → set ds i (record d { on = on }) ≡ switched write i ds
+switched_at write i ds d on at e = ap (λ (b : Bool). set ds i (record d { on = b })) e ∙ ap (λ o. switched_to write i o ds) (sym at)
+
+-- a write leaves as many live
+pub count_switched : (write : Write) (i : ℕ) (ds : List Device) → live_count (switched write i ds) ≡ live_count ds
+count_switched write i ds = at (slice_get ds i) refl
+  where
+    at : (o : Option Device) → slice_get ds i ≡ o → live_count (switched_to write i o ds) ≡ live_count ds
+    at None h = refl
+    at (Some d) h = live_count_set (value_after write d.on) ds i d h

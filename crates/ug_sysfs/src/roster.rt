@@ -1,0 +1,195 @@
+// The devices that were born, with an index of the live names, and room for some that are still to be born.
+ghost use Rattle.std.specs.Prelude.{◌≡◌, ◌+◌, ◌<◌, ◌≤◌, ◌++◌, ◌∷◌, [], length, true, false, None, OnOk, OnErr, take, drop};
+ghost use Rattle.ug_kernel.specs.Kernel.{live_count};
+ghost use Rattle.ug_kernel.specs.Called.{value_after};
+ghost use Rattle.ug_sysfs.specs.Devices.{find, with_gone, falls, falls_at, fall, stepped};
+ghost use Rattle.ug_sysfs.specs.World.{switched};
+
+use std::alloc::Global;
+use std::collections::HashMap;
+use std::marker::Model;
+use ug_kernel::{Device, Write};
+use ug_types::{NoMemory, NodeName};
+
+/// Devices by place and by live name.
+#[derive(Drop)]
+pub struct Roster {
+    all: Vec<Device>,
+    index: HashMap<NodeName, usize>,
+    live: usize,
+    room: usize,
+}
+
+impl Model for Roster {
+    ghost use Rattle.ug_sysfs.specs.Listed.{Listed};
+
+    ghost Value = { Listed };
+
+    ghost use Rattle.ug_sysfs.specs.Indexed.{IsIndexed};
+
+    ghost view = { λ r. record { devices = r.all.items; room = r.room } };
+
+    ghost invariant = { IsIndexed };
+}
+
+impl Roster {
+    pub fn new(alloc: Global) -> Roster
+        ensures { result ≡ record { devices = []; room = 0 } }
+    {
+        Roster {
+            all: Vec::new(alloc),
+            index: HashMap::new(alloc),
+            live: 0,
+            room: 0,
+        }
+    }
+
+    pub fn devices(&self) -> &[Device]
+        ensures { result.now ≡ self.now.devices }
+    {
+        self.all.as_slice()
+    }
+
+    /// The live device of a name.
+    pub fn find(&self, name: &NodeName) -> Option<usize>
+        ensures { result ≡ find name.now 0 self.now.devices }
+    {
+        self.index.get(name).copied()
+    }
+
+    /// How many devices are live.
+    pub fn live(&self) -> usize
+        ensures { result ≡ live_count self.now.devices }
+    {
+        self.live
+    }
+
+    /// Makes room for so many devices more.
+    pub fn reserve(&mut self, room: usize) -> Result<(), NoMemory>
+        ensures ok { OnOk result (self.new ≡ record self.old { room = room }) }
+        ensures err { OnErr result (self.new ≡ self.old) }
+    {
+        self.all.reserve(room)?;
+        self.index.reserve(room)?;
+        self.room = room;
+        Ok(())
+    }
+
+    pub fn push(&mut self, device: Device)
+        requires room { 0 < self.old.room }
+        requires live { device.gone ≡ false }
+        requires fresh { find device.name 0 self.old.devices ≡ None }
+        requires few { live_count self.old.devices < 65536 }
+        ensures devices { self.new.devices ≡ self.old.devices ++ device ∷ [] }
+        ensures room { self.new.room + 1 ≡ self.old.room }
+    {
+        let place = self.all.len();
+        let _ = self.index.insert(device.name, place);
+        self.all.push_reserved(device);
+        self.live += 1;
+        self.room -= 1;
+    }
+
+    fn fell(&mut self, i: usize)
+        requires { i < length self.old.devices }
+        ensures devices { self.new.devices ≡ with_gone i self.old.devices }
+        ensures room { self.new.room ≡ self.old.room }
+    {
+        let device = &self.all[i];
+        if device.gone {
+            return;
+        }
+        let name = device.name;
+        let _ = self.index.remove(&name);
+        self.all[i].gone = true;
+        self.live -= 1;
+    }
+
+    fn len(&self) -> usize
+        ensures { result ≡ length self.now.devices }
+    {
+        self.all.len()
+    }
+
+    // Whether a device falls with its parent.
+    fn falls(&self, i: usize) -> bool
+        requires { i < length self.now.devices }
+        ensures { result ≡ falls_at i self.now.devices }
+    {
+        let all = self.all.as_slice();
+        is_gone(&all[..i], all[i].parent)
+    }
+
+    // The device at i goes where it is the target or falls with its parent.
+    fn step(&mut self, i: usize, target: usize)
+        requires { i < length self.old.devices }
+        ensures devices { self.new.devices ≡ stepped target i self.old.devices }
+        ensures room { self.new.room ≡ self.old.room }
+    {
+        if i == target || self.falls(i) {
+            self.fell(i);
+        }
+    }
+
+    fn fall_from(&mut self, target: usize)
+        ensures devices { self.new.devices ≡ fall target (take target self.old.devices) (drop target self.old.devices) }
+        ensures room { self.new.room ≡ self.old.room }
+    {
+        for i in target..self.len() {
+            self.step(i, target);
+        }
+    }
+
+    /// The device goes, and what is below it.
+    pub fn unplug(&mut self, target: usize)
+        ensures devices { self.new.devices ≡ fall target (take target self.old.devices) (drop target self.old.devices) }
+        ensures room { self.new.room ≡ self.old.room }
+        ensures few { live_count self.new.devices ≤ live_count self.old.devices }
+    {
+        self.fall_from(target);
+    }
+
+    /// A write has its effect on a device's value.
+    pub fn switch(&mut self, i: usize, write: Write)
+        ensures devices { self.new.devices ≡ switched write i self.old.devices }
+        ensures room { self.new.room ≡ self.old.room }
+        ensures few { live_count self.new.devices ≡ live_count self.old.devices }
+    {
+        self.set_value(i, write);
+    }
+
+    // The device has that write's value.
+    fn set_value(&mut self, i: usize, write: Write)
+        ensures devices { self.new.devices ≡ switched write i self.old.devices }
+        ensures room { self.new.room ≡ self.old.room }
+    {
+        if i < self.all.len() {
+            let on = value_after(write, self.all[i].on);
+            self.all[i].on = on;
+        }
+    }
+}
+
+// Whether a parent is gone.
+fn is_gone(devices: &[Device], parent: Option<usize>) -> bool
+    ensures { result ≡ falls parent devices.now }
+{
+    match parent {
+        Some(i) => match devices.get(i) {
+            Some(device) => device.gone,
+            None => false,
+        },
+        None => false,
+    }
+}
+
+// The value after a write.
+fn value_after(write: Write, was: bool) -> bool
+    ensures { result ≡ value_after write was }
+{
+    match write {
+        Write::On => true,
+        Write::Off => false,
+        Write::Remove => was,
+    }
+}

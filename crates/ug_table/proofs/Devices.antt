@@ -1,0 +1,53 @@
+-- What is known of a device stays, whatever the kernel does.
+use Rattle.std.proofs.Common.{◌≡◌, ℕ, List, Option, Some, None, sym, ◌∙◌, ap, subst}
+use Rattle.ug_types.specs.declared.record.Attrs.{Attrs}
+use Rattle.ug_types.specs.declared.record.Judged.{Judged}
+use Rattle.ug_types.specs.declared.verdict.Held.{Held}
+use Rattle.ug_kernel.specs.declared.device.Device.{Device}
+use Rattle.ug_kernel.specs.declared.calls.Control.TheVariants.{Authorized}
+use Rattle.ug_kernel.specs.Kernel.{Kernel, Stays}
+use Rattle.ug_kernel.specs.Quiet.{Grows}
+use Rattle.ug_record.specs.Records.{judged_of}
+use Rattle.ug_node.specs.Bound.{attrs_of, parent_attrs_of, IsParentRead}
+use Rattle.ug_table.specs.Laws.{IsRecordOf, IsDevice, Stand}
+use Rattle.ug_table.specs.declared.standing.Standing.{Standing}
+
+attrs_stay : (d e : Device) → Stays d e → attrs_of d ≡ attrs_of e
+attrs_stay d e s =
+    let same : (descriptors : List ℕ) → d.descriptors ≡ descriptors → (product : Option (List ℕ)) → d.product ≡ product → (serial : Option (List ℕ)) → d.serial ≡ serial → (connect : Option (List ℕ)) → d.connect ≡ connect → attrs_of d ≡ attrs_of (record d { descriptors = descriptors; product = product; serial = serial; connect = connect }) = λ a p b q c r f t. cc in
+    same e.descriptors (sym s.descriptors) e.product (sym s.product) e.serial (sym s.serial) e.connect (sym s.connect)
+
+parent_attrs_stay : (d e : Device) → Stays d e → parent_attrs_of d ≡ parent_attrs_of e
+parent_attrs_stay d e s =
+    let same : (descriptors : List ℕ) → d.descriptors ≡ descriptors → (product : Option (List ℕ)) → d.product ≡ product → (serial : Option (List ℕ)) → d.serial ≡ serial → parent_attrs_of d ≡ parent_attrs_of (record d { descriptors = descriptors; product = product; serial = serial }) = λ a p b q c r. cc in
+    same e.descriptors (sym s.descriptors) e.product (sym s.product) e.serial (sym s.serial)
+
+parent_stays : (k l : Kernel) (p : Option ℕ) (attrs : Option Attrs) → Grows k l → IsParentRead k p attrs → IsParentRead l p attrs
+parent_stays k l None attrs g h = h
+parent_stays k l (Some p) attrs g h =
+    let x = g.devices p h.0 h.1 in
+    (x.0, x.1, h.2 ∙ ap (λ (v : Attrs). Some v) (parent_attrs_stay h.0 x.0 x.2))
+
+pub record_stays : (k l : Kernel) (d e : Device) (judged : Judged) → Grows k l → Stays d e → IsRecordOf k d judged → IsRecordOf l e judged
+record_stays k l d e judged g s h =
+    let name : judged_of d.name (attrs_of d) h.0 ≡ judged_of e.name (attrs_of d) h.0 = ap (λ (v : List ℕ). judged_of v (attrs_of d) h.0) (sym s.name) in
+    let attrs : judged_of e.name (attrs_of d) h.0 ≡ judged_of e.name (attrs_of e) h.0 = ap (λ (v : Attrs). judged_of e.name v h.0) (attrs_stay d e s) in
+    (h.0, subst (λ (v : Option ℕ). IsParentRead l v h.0) (sym s.parent) (parent_stays k l d.parent h.0 g h.1), h.2 ∙ name ∙ attrs)
+
+pub device_stays : (k l : Kernel) (i : ℕ) (name : List ℕ) (held : Held) (judged : Judged) → Grows k l → IsDevice k i name held judged → IsDevice l i name held judged
+device_stays k l i name held judged g h =
+    let x = g.devices i h.d h.device in
+    record {
+      d = x.0;
+      device = x.1;
+      file = g.held held.0 (record { device = i; control = Authorized }) h.file;
+      named = x.2.name ∙ h.named;
+      of = record_stays k l h.d x.0 judged g x.2 h.of;
+    }
+
+pub stand_stays : (k l : Kernel) (ss : List Standing) (next : ℕ) → Grows k l → Stand k ss next → Stand l ss next
+stand_stays k l ss next g h = record {
+  devices = λ s a. let x = h.devices s a in (x.0, device_stays k l x.0 s.name s.held s.judged g x.1);
+  numbers = h.numbers;
+  names = h.names;
+}

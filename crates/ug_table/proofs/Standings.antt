@@ -1,0 +1,51 @@
+-- The standings of names.
+use Rattle.std.proofs.Common.{◌≡◌, ℕ, Bool, true, false, not, List, [], ◌∷◌, Some, None, map, cond, ◌⊎◌, inl, inr, refl, ap, arith}
+use Rattle.std.specs.Cmp.Lexicographic.{bytes_decides}
+use Rattle.ug_types.specs.Elements.{Has}
+use Rattle.ug_table.specs.Standings.{same_name, known_of, standing_of, without, marked}
+use Rattle.ug_table.specs.Sweep.{names_of}
+use Rattle.ug_table.specs.declared.standing.Standing.{Standing}
+use Rattle.ug_table.specs.declared.standing.Known.{Known}
+use Rattle.ug_table.proofs.Elements.{filter_has, map_has}
+
+pub same_is : (a b : List ℕ) → same_name a b ≡ true → a ≡ b
+same_is a b e = (bytes_decides a b).0 e
+
+pub is_same : (a b : List ℕ) → a ≡ b → same_name a b ≡ true
+is_same a b e = (bytes_decides a b).1 e
+
+-- a standing that was found
+pub record Found (name : List ℕ) (ss : List Standing) (found_known : Known) : Type 0 where
+  pub s : Standing
+  pub has : Has ss s
+  pub named : s.name ≡ name
+  pub known : known_of s ≡ found_known
+
+found_by : (name : List ℕ) (x : Standing) (ss : List Standing) (known : Known) (b : Bool) → same_name x.name name ≡ b → (standing_of name ss ≡ Some known → Found name ss known) → cond b (Some (known_of x)) (standing_of name ss) ≡ Some known → Found name (x ∷ ss) known
+found_by name x ss known true e f h = let same : known_of x ≡ known = cc in record { s = x; has = inl refl; named = same_is x.name name e; known = same }
+found_by name x ss known false e f h = let k = f h in record { s = k.s; has = inr k.has; named = k.named; known = k.known }
+
+pub found : (name : List ℕ) (ss : List Standing) (known : Known) → standing_of name ss ≡ Some known → Found name ss known
+found name [] known h = let none : ⊥ = cc in absurd none
+found name (x ∷ ss) known h = found_by name x ss known (same_name x.name name) refl (λ k. found name ss known k) h
+
+-- and a name that has none
+missing_by : (name : List ℕ) (x : Standing) (ss : List Standing) (b : Bool) → same_name x.name name ≡ b → (standing_of name ss ≡ None → Has (names_of ss) name → ⊥) → cond b (Some (known_of x)) (standing_of name ss) ≡ None → (x.name ≡ name) ⊎ Has (names_of ss) name → ⊥
+missing_by name x ss true e f h a = let none : ⊥ = cc in none
+missing_by name x ss false e f h (inl a) = let same = is_same x.name name a in let none : ⊥ = cc in none
+missing_by name x ss false e f h (inr a) = f h a
+
+pub missing : (name : List ℕ) (ss : List Standing) → standing_of name ss ≡ None → Has (names_of ss) name → ⊥
+missing name [] h a = a
+missing name (x ∷ ss) h a = missing_by name x ss (same_name x.name name) refl (λ k. missing name ss k) h a
+
+pub missing_without : (name : List ℕ) (ss : List Standing) → Has (names_of (without name ss)) name → ⊥
+missing_without name ss a =
+    let m = map_has (λ (s : Standing). s.name) (without name ss) name a in
+    let f = filter_has (λ (s : Standing). not (same_name s.name name)) ss m.0 m.1 in
+    let same = is_same m.0.name name m.2 in
+    let none : ⊥ = grind (arith, f.1, same) in none
+
+pub names_marked : (name : List ℕ) (mark : Bool) (ss : List Standing) → names_of (map (marked name mark) ss) ≡ names_of ss
+names_marked name mark [] = refl
+names_marked name mark (s ∷ ss) = ap (λ (v : List (List ℕ)). s.name ∷ v) (names_marked name mark ss)
