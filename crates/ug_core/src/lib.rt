@@ -1,6 +1,7 @@
 // The daemon's events.
 #![tactic(auto)]
 
+mod calls;
 mod daemon;
 mod policy;
 mod report;

@@ -9,7 +9,7 @@ use Rattle.ug_types.specs.declared.verdict.Cause.{Cause}
 use Rattle.ug_kernel.specs.declared.calls.Probe.{Probe}
 use Rattle.ug_kernel.specs.declared.calls.Probe.TheVariants as probe
 use Rattle.ug_kernel.specs.Calls.{Ask_alive, Close}
-use Rattle.ug_kernel.specs.Kernel.{Kernel, IsKernel}
+use Rattle.ug_kernel.specs.Kernel.{Kernel}
 use Rattle.ug_kernel.proofs.Grow.{grows_refl}
 use Rattle.ug_itree.specs.Tree.{Return, Runs, calls}
 use Rattle.ug_itree.proofs.Runs.{runs_split}
@@ -37,7 +37,7 @@ use Rattle.ug_table.specs.declared.standing.Settled.TheVariants as settled
 use Rattle.ug_table.proofs.Elements.{insert_has, has_new, has_old, distinct_insert}
 use Rattle.ug_table.proofs.Standings.{found, missing, missing_without}
 use Rattle.ug_table.proofs.Account.{Answers, Laters, fair_trans}
-use Rattle.ug_table.proofs.Steps.{WasThere, WereThere, fair_refl, fair_end, then_quiet, then_called, then_note, then_standings, then_tried}
+use Rattle.ug_table.proofs.Steps.{WasThere, WereThere, fair_end, then_quiet, then_called, then_note, then_standings, then_tried}
 use Rattle.ug_table.proofs.Written.{bringing_fair}
 
 second : {A B : Type 0} (p q : A × B) → p ≡ q → p.1 ≡ q.1
@@ -182,9 +182,6 @@ from_standing_fair {J} {answer} {later} {k} {m} {w} {u} l name present None p at
 pub then_settling : {J : Type 0} {answer : Answers J} {later : Laters J} {k m : Kernel} {w u : State J} (l : Kernel) (name : List ℕ) (present : Bool) (p : Settled × State J) → IsFair answer later k w m u → Runs calls m (settling answer later name present u) p l → IsFair answer later k w l p.1
 unfolding settling
 then_settling {J} {answer} {later} {k} {m} {w} {u} l name present p h r = from_standing_fair l name present (standing_of name u.standings) p refl h r
-
-pub settling_fair : {J : Type 0} (answer : Answers J) (later : Laters J) (name : List ℕ) (present : Bool) (w : State J) (k l : Kernel) (p : Settled × State J) → IsKernel k → Stand k w.standings w.next → Runs calls k (settling answer later name present w) p l → IsFair answer later k w l p.1
-settling_fair answer later name present w k l p sound stand r = then_settling l name present p (fair_refl answer later k w sound stand) r
 
 -- where the listing didn't succeed
 

@@ -56,12 +56,6 @@ Value k i on = (d : Device) × (slice_get k.devices i ≡ Some d) × (d.on ≡ o
 pub quiet_value : (k l : Kernel) (i : ℕ) (on : Bool) → Quiet k l → Value k i on → Value l i on
 quiet_value k l i on q v = let a = q.devices i v.0 v.1 in (a.0, a.1, a.2.on ∙ v.2)
 
-pub alive_value : (k : Kernel) (held i : ℕ) (on : Bool) → IsFileOf k held i → IsAlive held on k → Value k i on
-alive_value k held i on file alive =
-    let same : alive.holds.file ≡ record { device = i; control = Authorized } = some_same (slice_get k.held held) alive.holds.file (record { device = i; control = Authorized }) alive.holds.at file in
-    let is : alive.i ≡ i = sym alive.holds.is ∙ ap (λ (v : HeldFile). v.device) same in
-    (alive.d, subst (λ v. slice_get k.devices v ≡ Some alive.d) is alive.live.at, alive.value)
-
 written_device : (held i : ℕ) (write : Write) (k l : Kernel) (w : IsWritten held write k l) → IsFileOf k held i → w.i ≡ i
 written_device held i write k l w file =
     let same : w.holds.file ≡ record { device = i; control = Authorized } = some_same (slice_get k.held held) w.holds.file (record { device = i; control = Authorized }) w.holds.at file in
