@@ -4,7 +4,7 @@ use Rattle.std.proofs.lemmas.Bool.{or_left, or_right}
 use Rattle.std.proofs.lemmas.List.{append-nil}
 use Rattle.std.proofs.lemmas.List.Folds.{list_any-append}
 use Rattle.ug_kernel.specs.Calls.{Call, Answer}
-use Rattle.ug_itree.specs.Tree.{Prog, Return, Ask, Room, then}
+use Rattle.ug_itree.specs.Tree.{Prog, Ask, Room, then}
 use Rattle.ug_audit.specs.declared.entry.Entry.{Entry}
 use Rattle.ug_play.specs.Play.{entry_tells_memory, tells_memory, TellsMemory}
 use Rattle.ug_play.proofs.Trees.{IsWant, Returns, Tells, returns_more, returns_then, tells_more, tells_then}
@@ -35,9 +35,6 @@ memory_one a e h = (e ∷ [], refl, or_left (entry_tells_memory e) false h)
 pub record Journals {R : Type 0} (of : R → List Entry) (before : List Entry) (p : Prog R) : Type 0 where
   pub appends : Returns (λ (r : R). Appends before (of r)) p
   pub memory : Tells (λ (r : R). TellsMemory before (of r)) p
-
-pub journals_return : {R : Type 0} (of : R → List Entry) (before : List Entry) (r : R) → Appends before (of r) → Journals of before (Return r)
-journals_return of before r x = record { appends = x; memory = tt }
 
 pub journals_more : {R : Type 0} (of : R → List Entry) (a b : List Entry) (p : Prog R) → Appends a b → Journals of b p → Journals of a p
 journals_more {R} of a b p x j = record {

@@ -1,5 +1,7 @@
 -- A sweep only adds entries, and where memory was refused one of them tells it.
-use Rattle.std.proofs.Common.{◌≡◌, ℕ, ◌+◌, Bool, true, false, not, is_none, List, [], ◌∷◌, ◌++◌, Option, Some, None, refl, sym, subst}
+use Rattle.std.proofs.Common.{◌≡◌, ℕ, ◌+◌, Bool, true, false, not, is_none, List, [], ◌∷◌, ◌++◌, Option, Some, None, refl, sym, ◌∙◌, ap, subst}
+use Rattle.std.proofs.lemmas.Bool.{or_right}
+use Rattle.std.proofs.lemmas.List.Folds.{list_any-append}
 use Rattle.ug_types.specs.Names.{parent_of}
 use Rattle.ug_types.specs.Sweep.{in_sweep_order}
 use Rattle.ug_types.specs.declared.record.Judged.{Judged}
@@ -13,7 +15,7 @@ use Rattle.ug_kernel.specs.declared.calls.Probe.TheVariants as probe
 use Rattle.ug_kernel.specs.declared.calls.Wrote.{Wrote}
 use Rattle.ug_kernel.specs.declared.calls.Wrote.TheVariants as wrote
 use Rattle.ug_kernel.specs.Calls.{Ask_alive, Put}
-use Rattle.ug_itree.specs.Tree.{Prog, Runs}
+use Rattle.ug_itree.specs.Tree.{Prog, Runs, then}
 use Rattle.ug_record.specs.Records.{judged_of}
 use Rattle.ug_node.specs.Bind.{binding}
 use Rattle.ug_node.specs.declared.identity.Bound.{Bound}
@@ -31,8 +33,8 @@ use Rattle.ug_table.specs.Standings.{standing_of, farewells}
 use Rattle.ug_table.specs.Bring.{wants, write_of, after_write, to_write, to_bring, bringing}
 use Rattle.ug_table.specs.Settle.{to_keep, no_room, standing_for, known_in, judged_entry, judging, if_place, if_record, admitting, after_bind, entering, to_mark, dropped, after_known, from_standing, settling, to_keep_mark, after_again, again, resettling}
 use Rattle.ug_table.specs.Sweep.{settling_all, resettling_all, parted, names_of, resumed, unlisted, marked_listed, if_room, after_list, sweeping}
-use Rattle.ug_play.specs.Play.{TellsMemory, IsPlayed}
-use Rattle.ug_play.proofs.Trees.{Returns, returns_any, returns_more, returns_then, tells_then}
+use Rattle.ug_play.specs.Play.{entry_tells_memory, tells_memory, TellsMemory, IsPlayed}
+use Rattle.ug_play.proofs.Trees.{Returns, returns_any, returns_more, returns_then, tells_more, tells_then}
 use Rattle.ug_play.proofs.Played.{played}
 use Rattle.ug_play.proofs.Bindings.{tells_binding}
 use Rattle.ug_play.proofs.Journals.{Appends, appends_none, appends_one, appends_more, memory_one, memory_still, Journals, journals_more, journals_then, journals_call, journals_room}
@@ -184,3 +186,13 @@ sweeping_journals {J} answer later w = record {
 
 pub sweeping_played : {J : Type 0} (answer : J → Judged → Bool → Bool → Bool → Target × Cause) (later : J → Judged → Bool → Bool → Bool → J) (w : State J) (s : World) (v : State J) (t : World) → Runs Gives s (sweeping answer later w) v t → IsPlayed (λ (x : State J). TellsMemory w.entries x.entries) (sweeping answer later w) s v t
 sweeping_played {J} answer later w s v t h = played (λ (x : State J). TellsMemory w.entries x.entries) (sweeping answer later w) s v t (sweeping_journals answer later w).memory h
+
+all_tell : (a b : List Entry) → TellsMemory a b → tells_memory b ≡ true
+all_tell a b h = ap tells_memory h.1 ∙ list_any-append entry_tells_memory a h.0 ∙ or_right (tells_memory a) (tells_memory h.0) h.2
+
+-- a sweep, and then what only adds entries: one of them all tells want of memory
+pub event_played : {J D : Type 0} (answer : J → Judged → Bool → Bool → Bool → Target × Cause) (later : J → Judged → Bool → Bool → Bool → J) (w : State J) (f : State J → Prog D) (of : D → List Entry) (s : World) (r : D) (t : World) → ((v : State J) → Journals of v.entries (f v)) → Runs Gives s (then (sweeping answer later w) f) r t → IsPlayed (λ (x : D). tells_memory (of x) ≡ true) (then (sweeping answer later w) f) s r t
+event_played {J} {D} answer later w f of s r t k h =
+    let p : Prog D = then (sweeping answer later w) f in
+    let j : Journals of w.entries p = journals_then swept_in of w.entries (sweeping answer later w) f (sweeping_journals answer later w) k in
+    played (λ (x : D). tells_memory (of x) ≡ true) p s r t (tells_more (λ (x : D). TellsMemory w.entries (of x)) (λ (x : D). tells_memory (of x) ≡ true) p (λ x m. all_tell w.entries (of x) m) j.memory) h
