@@ -29,7 +29,7 @@ daemon_of d = record {
 }
 
 abbrev pub policy_answer : Policy → Judged → Bool → Bool → Bool → Target × Cause
-policy_answer p dev controller present on = verdict_of p.rules.items dev controller present on
+policy_answer p dev controller present on = verdict_of p.rules dev controller present on
 
 abbrev pub policy_later : Policy → Judged → Bool → Bool → Bool → Policy
 policy_later p dev controller present on = p
@@ -61,7 +61,7 @@ RunsEvent {S} begins gives s moment d t e = (u : S) × begins s u × Runs gives 
 
 -- a new daemon has no standing and has noted nothing
 pub record IsStarted (rules : List IdRule) (first : ℕ) (d : DaemonState) : Type 0 where
-  pub rules_same : d.sweep.judge.rules.items ≡ rules
+  pub rules_same : d.sweep.judge.rules ≡ rules
   pub standings : d.sweep.standings ≡ []
   pub next : d.sweep.next ≡ 1
   pub listed : d.sweep.listed ≡ false

@@ -30,7 +30,7 @@ impl Daemon {
         entries.reserve(64)?;
         Ok(Daemon {
             policy: Policy {
-                rules: rules.into_vec(),
+                rules,
             },
             table: Table::new(alloc),
             next_event: first,

@@ -3,7 +3,7 @@ ghost use Rattle.std.specs.Prelude.{◌≡◌, ◌+◌, ◌<◌, ◌^◌, length
 ghost use Rattle.ug_core.specs.Policy.{is_of, first_match, kept, verdict_of};
 
 use ug_table::Judge;
-use ug_types::{Cause, DeviceRecord, Judged, Target};
+use ug_types::{Cause, DeviceRecord, Judged, List, Target};
 
 /// A rule for one vendor and product.
 #[derive(Clone, Copy, Debug, PartialEq, Eq)]
@@ -16,7 +16,7 @@ pub struct IdRule {
 /// The rules in order. A rule's id is its place, from 1.
 #[derive(Drop)]
 pub struct Policy {
-    pub rules: Vec<IdRule>,
+    pub rules: List<IdRule>,
 }
 
 fn fits(rule: &IdRule, device: &DeviceRecord) -> bool
@@ -50,7 +50,7 @@ fn keep(on: bool) -> (Target, Cause)
 }
 
 impl Judge for Policy {
-    ghost answer = { λ p dev controller present on. verdict_of p.rules.items dev controller present on };
+    ghost answer = { λ p dev controller present on. verdict_of p.rules dev controller present on };
 
     ghost later = { λ p dev controller present on. p };
 
@@ -73,7 +73,7 @@ impl Judge for Policy {
                 if controller && present {
                     return keep(on);
                 }
-                judge(&self.rules, device)
+                judge(self.rules.as_slice(), device)
             }
         }
     }

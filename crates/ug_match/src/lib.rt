@@ -1,0 +1,12 @@
+// Which devices a rule's attributes match: usbguard-rules.conf(5).
+#![tactic(auto)]
+
+mod covers;
+mod laws;
+mod operators;
+mod query;
+#[cfg(test)]
+mod tests;
+
+pub use laws::{operators_law, queries_law, values_law};
+pub use query::matches;
