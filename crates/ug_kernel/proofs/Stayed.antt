@@ -1,5 +1,5 @@
 -- What moves leave of a list of devices.
-use Rattle.std.proofs.Common.{◌≡◌, ℕ, zero, suc, ◌+◌, ◌<◌, ◌≤◌, Bool, true, false, if◌then◌else◌, List, [], ◌∷◌, ◌++◌, length, Some, refl, sym, ◌∙◌, ap, subst, arith}
+use Rattle.std.proofs.Common.{◌≡◌, ℕ, zero, suc, ◌<◌, ◌≤◌, Bool, true, false, if◌then◌else◌, List, [], ◌∷◌, ◌++◌, length, Some, refl, sym, ◌∙◌, ap, subst, arith}
 use Rattle.std.proofs.lemmas.Bool.{both_ways}
 use Rattle.std.proofs.lemmas.Option.{slice_get_within, same_Some}
 use Rattle.std.specs.List.{slice_get}
@@ -101,13 +101,6 @@ live_count_begins [] [] b n = omega arith
 live_count_begins [] (e ∷ es) b n = absurd (omega arith)
 live_count_begins (d ∷ ds) [] b n = absurd b
 live_count_begins (d ∷ ds) (e ∷ es) b n = omega (arith, count_one d e b.0.stays, live_count_begins ds es b.1 (omega arith))
-
-pub live_count_append : (ds es : List Device) → live_count (ds ++ es) ≡ live_count ds + live_count es
-live_count_append [] es = omega arith
-live_count_append (d ∷ ds) es = omega (arith, live_count_append ds es)
-
-pub moves_then : (k l m : Kernel) → Moves k l → Moves l m → Moves k m
-moves_then k l m a b = record { devices = begins_then k.devices l.devices m.devices a.devices b.devices; held = b.held ∙ a.held; log = b.log ∙ a.log }
 
 pub unmoving : (k : Kernel) → Moves k k
 unmoving k = record { devices = begins k.devices; held = refl; log = refl }

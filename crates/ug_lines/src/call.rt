@@ -20,7 +20,9 @@ pub enum Ended {
     Bad,
     /// What a line would start is past a limit.
     TooLong,
+    /// The source failed.
     ReadFault,
+    /// The sink failed. Nothing more was written.
     WriteFault,
     Memory,
 }
@@ -90,6 +92,7 @@ fn finish<K: Sink, W, M: Machine<W>>(
 }
 
 /// Reads a text to its end, hands each line to the machine, and writes the lines' text and a fault line.
+/// A newline ends a line; the last line may lack it. There may be 1,048,576 lines of at most 1,048,576 bytes.
 /// Behind a call of the sink that failed nothing is written.
 pub fn replay<S: Source, K: Sink, W, M: Machine<W>>(
     alloc: Global,
@@ -131,7 +134,8 @@ pub fn status(ended: Ended) -> u8
     }
 }
 
-/// The same as `replay`, with the exit status: 0, 2, 4, 5 or 6.
+/// The same as `replay`, with the exit status: 0, 2 for a refused line, 4 for a read fault, 5 for a write fault,
+/// 6 for want of memory.
 pub fn run<S: Source, K: Sink, W, M: Machine<W>>(
     alloc: Global,
     input: &mut S,

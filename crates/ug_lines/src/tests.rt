@@ -110,6 +110,24 @@ fn each_failing_call_ends_it(rt: HostRuntime) -> Result<(), AllocError> {
 }
 
 #[test]
+fn whole_lines_stand_before_a_read_fault(rt: HostRuntime) -> Result<(), AllocError> {
+    let mut text = Vec::new(rt.alloc());
+    let mut wanted = Vec::new(rt.alloc());
+    for n in 0..1000 {
+        text.extend_from_slice(b"123456789\n")?;
+        if n < 409 {
+            wanted.extend_from_slice(b"123456789")?;
+        }
+    }
+    wanted.extend_from_slice(b"read fault\n")?;
+    let (status, world, out) = call(rt.alloc(), &text, &[2], &[])?;
+    assert_eq!(rt; status, 4);
+    assert_eq!(rt; world, 9);
+    assert_eq!(rt; out.as_slice(), wanted.as_slice());
+    Ok(())
+}
+
+#[test]
 fn limits(rt: HostRuntime) -> Result<(), AllocError> {
     let mut text = vec![in rt.alloc(); b'0'; 1048576]?;
     let (status, world, out) = call(rt.alloc(), &text, &[], &[])?;

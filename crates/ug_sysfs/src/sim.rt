@@ -86,8 +86,8 @@ impl SimKernel {
         }
     }
 
-    /// A device is born. Its `parent` and `gone` are the kernel's to say. It isn't where its name is live,
-    /// where its parent isn't, or where 65,536 devices are.
+    /// A device is born; the kernel sets its `parent` and `gone`. Nothing happens if its name is live, if its
+    /// parent isn't, or if 65,536 devices are.
     #[tactic(auto, using(crate::proofs::Plugs::plugs_le))]
     pub fn plug(&mut self, device: Device) -> Result<(), NoMemory>
         ensures ok { OnOk result (self.new ≡ record self.old { kernel = record self.old.kernel { devices = plugged device self.old.kernel.devices } }) }

@@ -1,5 +1,5 @@
 -- Accounts of one part of a sweep after another.
-use Rattle.std.proofs.Common.{◌≡◌, ℕ, ◌+◌, Bool, is_none, List, [], ◌∷◌, ◌++◌, inl, inr, refl, sym, ◌∙◌, ap, subst, append_assoc, append-nil}
+use Rattle.std.proofs.Common.{◌≡◌, ℕ, ◌+◌, Bool, is_none, List, [], ◌∷◌, ◌++◌, inl, inr, sym, ◌∙◌, ap, subst, append_assoc, append-nil}
 use Rattle.ug_types.specs.Elements.{Has}
 use Rattle.ug_types.specs.Names.{parent_of}
 use Rattle.ug_types.specs.declared.record.Judged.{Judged}
@@ -41,8 +41,8 @@ verdict_before : (before middle : List Standing) (es fs : List Entry) (number : 
 verdict_before before middle es fs number name held verdict told (inl h) = elim (told h.0 h.1) [
   | inl b ↦ inl (b.0, b.1, sym b.2 ∙ h.2, sym b.3 ∙ h.3, sym b.4 ∙ h.4, sym b.6 ∙ h.5)
   | inr t ↦
-    let same : entry.Judged h.0.number h.0.name h.0.held h.0.verdict h.0.cause ≡ entry.Judged number name held verdict h.0.cause = cc (h.2, h.3, h.4, h.5) in
-    inr (h.0.cause, has_left es fs (entry.Judged number name held verdict h.0.cause) (subst (λ v. Has es v) same t))
+      let same : entry.Judged h.0.number h.0.name h.0.held h.0.verdict h.0.cause ≡ entry.Judged number name held verdict h.0.cause = cc (h.2, h.3, h.4, h.5) in
+      inr (h.0.cause, has_left es fs (entry.Judged number name held verdict h.0.cause) (subst (λ v. Has es v) same t))
 ]
 verdict_before before middle es fs number name held verdict told (inr h) = inr (h.0, has_right es fs (entry.Judged number name held verdict h.0) h.1)
 
@@ -50,8 +50,8 @@ told_before : (before middle : List Standing) (es fs : List Entry) (s : Standing
 told_before before middle es fs s told (inl h) = elim (told h.0 h.1) [
   | inl b ↦ inl (b.0, b.1, h.2 ∙ b.2, h.3 ∙ b.3, h.4 ∙ b.4, h.5 ∙ b.5, h.6 ∙ b.6, h.7 ∙ b.7)
   | inr t ↦
-    let same : entry.Judged h.0.number h.0.name h.0.held h.0.verdict h.0.cause ≡ entry.Judged s.number s.name s.held s.verdict s.cause = cc (h.2, h.3, h.4, h.6, h.7) in
-    inr (has_left es fs (entry.Judged s.number s.name s.held s.verdict s.cause) (subst (λ v. Has es v) same t))
+      let same : entry.Judged h.0.number h.0.name h.0.held h.0.verdict h.0.cause ≡ entry.Judged s.number s.name s.held s.verdict s.cause = cc (h.2, h.3, h.4, h.6, h.7) in
+      inr (has_left es fs (entry.Judged s.number s.name s.held s.verdict s.cause) (subst (λ v. Has es v) same t))
 ]
 told_before before middle es fs s told (inr h) = inr (has_right es fs (entry.Judged s.number s.name s.held s.verdict s.cause) h)
 

@@ -1,5 +1,5 @@
 -- Where the listing didn't succeed, a name that stands is settled so too, and one that doesn't has no standing at the end.
-use Rattle.std.proofs.Common.{◌≡◌, ℕ, List, [], ◌∷◌, ◌++◌, Option, Some, None, ◌⊎◌, inl, inr, refl, sym, ◌∙◌, ap, subst}
+use Rattle.std.proofs.Common.{◌≡◌, ℕ, List, [], ◌∷◌, Option, Some, None, ◌⊎◌, inl, inr, refl, sym, ap, subst}
 use Rattle.ug_types.specs.Elements.{Has}
 use Rattle.ug_kernel.specs.declared.calls.Probe.{Probe}
 use Rattle.ug_kernel.specs.declared.calls.Probe.TheVariants as probe
@@ -15,7 +15,7 @@ use Rattle.ug_audit.specs.declared.entry.Fault.TheVariants as fault
 use Rattle.ug_table.specs.State.{Kept}
 use Rattle.ug_table.specs.Bring.{bringing}
 use Rattle.ug_table.specs.Standings.{standing_of, without}
-use Rattle.ug_table.specs.Settle.{tried_standings, to_keep_mark, after_again, again, resettling}
+use Rattle.ug_table.specs.Settle.{to_keep_mark, after_again, again, resettling}
 use Rattle.ug_table.specs.Sweep.{names_of}
 use Rattle.ug_table.specs.Laws.{HasStanding}
 use Rattle.ug_table.specs.declared.standing.Standing.{Standing}

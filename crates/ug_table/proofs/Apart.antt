@@ -10,11 +10,10 @@ use Rattle.ug_kernel.specs.declared.calls.Wrote.{Wrote}
 use Rattle.ug_kernel.specs.declared.calls.Wrote.TheVariants as wrote
 use Rattle.ug_kernel.specs.declared.calls.Probe.{Probe}
 use Rattle.ug_kernel.specs.declared.calls.Probe.TheVariants as probe
-use Rattle.ug_kernel.specs.Calls.{Put, Ask_alive, Close}
+use Rattle.ug_kernel.specs.Calls.{Ask_alive, Close}
 use Rattle.ug_kernel.specs.Kernel.{Kernel, IsKernel}
-use Rattle.ug_kernel.specs.Called.{Called}
-use Rattle.ug_kernel.specs.Quiet.{Quiet, Grows}
-use Rattle.ug_kernel.proofs.Grow.{quiet_grows, called_grows}
+use Rattle.ug_kernel.specs.Quiet.{Quiet}
+use Rattle.ug_kernel.proofs.Grow.{quiet_grows}
 use Rattle.ug_kernel.proofs.Quiet.{called_quiet}
 use Rattle.ug_itree.specs.Tree.{Return, Runs, calls}
 use Rattle.ug_itree.proofs.Runs.{runs_split}

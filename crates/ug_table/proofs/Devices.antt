@@ -1,6 +1,5 @@
 -- What is known of a device stays, whatever the kernel does.
-use Rattle.std.proofs.Common.{◌≡◌, ℕ, ◌<◌, Bool, ◌||◌, List, Option, Some, None, slice_get, refl, sym, ◌∙◌, ap, subst}
-use Rattle.ug_types.specs.Elements.{Has}
+use Rattle.std.proofs.Common.{◌≡◌, ℕ, List, Option, Some, None, sym, ◌∙◌, ap, subst}
 use Rattle.ug_types.specs.declared.record.Attrs.{Attrs}
 use Rattle.ug_types.specs.declared.record.Judged.{Judged}
 use Rattle.ug_types.specs.declared.verdict.Held.{Held}
@@ -8,9 +7,8 @@ use Rattle.ug_kernel.specs.declared.device.Device.{Device}
 use Rattle.ug_kernel.specs.declared.calls.Control.TheVariants.{Authorized}
 use Rattle.ug_kernel.specs.Kernel.{Kernel, Stays}
 use Rattle.ug_kernel.specs.Quiet.{Grows}
-use Rattle.ug_kernel.proofs.Grow.{some_same}
 use Rattle.ug_record.specs.Records.{judged_of}
-use Rattle.ug_node.specs.Bound.{bytes_of, is_too_long, attrs_of, parent_attrs_of, IsParentRead}
+use Rattle.ug_node.specs.Bound.{attrs_of, parent_attrs_of, IsParentRead}
 use Rattle.ug_table.specs.Laws.{IsRecordOf, IsDevice, Stand}
 use Rattle.ug_table.specs.declared.standing.Standing.{Standing}
 

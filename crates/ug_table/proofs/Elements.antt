@@ -80,15 +80,18 @@ distinct_filter {X} {Y} f p (x ∷ xs) h =
 
 distinct_between : {X Y : Type 0} (f : X → Y) (xs ys : List X) (y : X) → AllDistinct (map f (xs ++ ys)) → (Has (map f (xs ++ ys)) (f y) → ⊥) → AllDistinct (map f (xs ++ y ∷ ys))
 distinct_between f [] ys y h n = (n, h)
-distinct_between f (x ∷ xs) ys y h n = (λ a.
-    let k = map_has f (xs ++ y ∷ ys) (f x) a in
-    elim (has_cases xs (y ∷ ys) k.0 k.1) [
-      | inl b ↦ h.0 (subst (λ v. Has (map f (xs ++ ys)) v) k.2 (has_map f (xs ++ ys) k.0 (has_left xs ys k.0 b)))
-      | inr c ↦ elim c [
-        | inl e ↦ n (inl (sym (subst (λ v. f v ≡ f x) (sym e) k.2)))
-        | inr d ↦ h.0 (subst (λ v. Has (map f (xs ++ ys)) v) k.2 (has_map f (xs ++ ys) k.0 (has_right xs ys k.0 d)))
-      ]
-    ], distinct_between f xs ys y h.1 (λ a. n (inr a)))
+distinct_between f (x ∷ xs) ys y h n = (
+  λ a.
+      let k = map_has f (xs ++ y ∷ ys) (f x) a in
+      elim (has_cases xs (y ∷ ys) k.0 k.1) [
+        | inl b ↦ h.0 (subst (λ v. Has (map f (xs ++ ys)) v) k.2 (has_map f (xs ++ ys) k.0 (has_left xs ys k.0 b)))
+        | inr c ↦ elim c [
+          | inl e ↦ n (inl (sym (subst (λ v. f v ≡ f x) (sym e) k.2)))
+          | inr d ↦ h.0 (subst (λ v. Has (map f (xs ++ ys)) v) k.2 (has_map f (xs ++ ys) k.0 (has_right xs ys k.0 d)))
+        ]
+      ],
+  distinct_between f xs ys y h.1 (λ a. n (inr a)),
+)
 
 pub distinct_insert : {X Y : Type 0} (f : X → Y) (xs : List X) (i : ℕ) (y : X) → AllDistinct (map f xs) → (Has (map f xs) (f y) → ⊥) → AllDistinct (map f (insert xs i y))
 distinct_insert f xs i y h n =

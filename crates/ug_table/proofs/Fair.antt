@@ -1,19 +1,17 @@
 -- The settling of one name is fair.
-use Rattle.std.proofs.Common.{◌≡◌, ℕ, ◌+◌, ◌<◌, ◌≤◌, Bool, true, false, is_none, List, [], ◌∷◌, ◌++◌, Option, Some, None, slice_get, inl, inr, refl, sym, ap, subst, arith}
+use Rattle.std.proofs.Common.{◌≡◌, ℕ, ◌+◌, ◌<◌, Bool, true, false, is_none, List, [], ◌∷◌, ◌++◌, Option, Some, None, inl, inr, refl, sym, ap, subst, arith}
 use Rattle.ug_types.specs.Elements.{Has, AllDistinct}
 use Rattle.ug_types.specs.Names.{parent_of}
 use Rattle.ug_types.specs.declared.record.Attrs.{Attrs}
 use Rattle.ug_types.specs.declared.record.Judged.{Judged}
-use Rattle.ug_types.specs.declared.verdict.Held.{Held}
 use Rattle.ug_types.specs.declared.verdict.Target.{Target}
 use Rattle.ug_types.specs.declared.verdict.Cause.{Cause}
 use Rattle.ug_kernel.specs.declared.calls.Probe.{Probe}
 use Rattle.ug_kernel.specs.declared.calls.Probe.TheVariants as probe
 use Rattle.ug_kernel.specs.Calls.{Ask_alive, Close}
-use Rattle.ug_kernel.specs.Kernel.{Kernel, IsKernel}
-use Rattle.ug_kernel.specs.Called.{Called}
+use Rattle.ug_kernel.specs.Kernel.{Kernel}
 use Rattle.ug_kernel.proofs.Grow.{grows_refl}
-use Rattle.ug_itree.specs.Tree.{Prog, Return, Runs, calls}
+use Rattle.ug_itree.specs.Tree.{Return, Runs, calls}
 use Rattle.ug_itree.proofs.Runs.{runs_split}
 use Rattle.ug_record.specs.Records.{judged_of}
 use Rattle.ug_node.specs.Bind.{binding}
@@ -26,10 +24,10 @@ use Rattle.ug_audit.specs.declared.entry.Entry.{Entry}
 use Rattle.ug_audit.specs.declared.entry.Entry.TheVariants as entry
 use Rattle.ug_audit.specs.declared.entry.Fault.{Fault}
 use Rattle.ug_audit.specs.declared.entry.Fault.TheVariants as fault
-use Rattle.ug_table.specs.State.{State, noted, Kept, with_kept}
-use Rattle.ug_table.specs.Standings.{known_of, standing_of, without, with_standing, place_for}
+use Rattle.ug_table.specs.State.{State, Kept, with_kept}
+use Rattle.ug_table.specs.Standings.{known_of, standing_of, with_standing, place_for}
 use Rattle.ug_table.specs.Bring.{bringing}
-use Rattle.ug_table.specs.Settle.{kept_standings, to_keep, unsettled, no_room, standing_for, known_in, judged_entry, judging, to_judge, if_place, if_record, admitting, after_bind, entering, tried_standings, to_mark, dropped, failed_probe, after_known, from_standing, settling, to_keep_mark, after_again, again, resettling}
+use Rattle.ug_table.specs.Settle.{kept_standings, to_keep, unsettled, no_room, standing_for, known_in, judged_entry, to_judge, if_place, if_record, admitting, after_bind, entering, tried_standings, to_mark, after_known, from_standing, settling, to_keep_mark, after_again, again, resettling}
 use Rattle.ug_table.specs.Sweep.{names_of}
 use Rattle.ug_table.specs.Laws.{IsDevice, Stand, Judge, Start, IsTold, IsFair}
 use Rattle.ug_table.specs.declared.standing.Standing.{Standing}
@@ -39,7 +37,7 @@ use Rattle.ug_table.specs.declared.standing.Settled.TheVariants as settled
 use Rattle.ug_table.proofs.Elements.{insert_has, has_new, has_old, distinct_insert}
 use Rattle.ug_table.proofs.Standings.{found, missing, missing_without}
 use Rattle.ug_table.proofs.Account.{Answers, Laters, fair_trans}
-use Rattle.ug_table.proofs.Steps.{WasThere, WereThere, fair_refl, fair_end, then_quiet, then_called, then_note, then_standings, then_fewer, then_tried}
+use Rattle.ug_table.proofs.Steps.{WasThere, WereThere, fair_end, then_quiet, then_called, then_note, then_standings, then_tried}
 use Rattle.ug_table.proofs.Written.{bringing_fair}
 
 second : {A B : Type 0} (p q : A × B) → p ≡ q → p.1 ≡ q.1
@@ -57,7 +55,7 @@ just_judged answer later w name held judged present on = record w {
   standings = with_standing (new_standing answer w name held judged present on) w.standings;
   next = w.next + 1;
   judge = later w.judge judged (is_none (parent_of name)) present on;
-  entries = w.entries ++ judged_entry w name held (given_of answer w name judged present on) ∷ []
+  entries = w.entries ++ judged_entry w name held (given_of answer w name judged present on) ∷ [];
 }
 
 stand_more : (k : Kernel) (ss : List Standing) (next i : ℕ) (s : Standing) → IsDevice k i s.name s.held s.judged → s.number ≡ next → (Has (names_of ss) s.name → ⊥) → Stand k ss next → Stand k (with_standing s ss) (next + 1)
@@ -184,9 +182,6 @@ from_standing_fair {J} {answer} {later} {k} {m} {w} {u} l name present None p at
 pub then_settling : {J : Type 0} {answer : Answers J} {later : Laters J} {k m : Kernel} {w u : State J} (l : Kernel) (name : List ℕ) (present : Bool) (p : Settled × State J) → IsFair answer later k w m u → Runs calls m (settling answer later name present u) p l → IsFair answer later k w l p.1
 unfolding settling
 then_settling {J} {answer} {later} {k} {m} {w} {u} l name present p h r = from_standing_fair l name present (standing_of name u.standings) p refl h r
-
-pub settling_fair : {J : Type 0} (answer : Answers J) (later : Laters J) (name : List ℕ) (present : Bool) (w : State J) (k l : Kernel) (p : Settled × State J) → IsKernel k → Stand k w.standings w.next → Runs calls k (settling answer later name present w) p l → IsFair answer later k w l p.1
-settling_fair answer later name present w k l p sound stand r = then_settling l name present p (fair_refl answer later k w sound stand) r
 
 -- where the listing didn't succeed
 

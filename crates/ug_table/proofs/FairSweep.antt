@@ -1,6 +1,5 @@
 -- The sweep is fair.
-use Rattle.std.proofs.Common.{◌≡◌, ℕ, Option, Some, Bool, true, false, not, List, [], ◌∷◌, ◌++◌, cond, ap}
-use Rattle.std.specs.List.{filter}
+use Rattle.std.proofs.Common.{ℕ, Bool, true, false, not, List, [], ◌∷◌, ◌++◌, cond, ap}
 use Rattle.ug_types.specs.Sweep.{in_sweep_order}
 use Rattle.ug_kernel.specs.declared.calls.Listing.{Listing}
 use Rattle.ug_kernel.specs.declared.calls.Listing.TheVariants as listing
@@ -12,7 +11,7 @@ use Rattle.ug_audit.specs.declared.entry.Entry.{Entry}
 use Rattle.ug_audit.specs.declared.entry.Entry.TheVariants as entry
 use Rattle.ug_audit.specs.declared.entry.Fault.{Fault}
 use Rattle.ug_audit.specs.declared.entry.Fault.TheVariants as fault
-use Rattle.ug_table.specs.State.{State, noted, Kept, kept_of, with_kept}
+use Rattle.ug_table.specs.State.{State, Kept, kept_of, with_kept}
 use Rattle.ug_table.specs.Standings.{lists, farewells}
 use Rattle.ug_table.specs.Settle.{settling, resettling}
 use Rattle.ug_table.specs.Sweep.{settling_all, resettling_all, parted, names_of, resumed, unlisted, marked_listed, if_room, after_list, sweeping}
@@ -28,9 +27,6 @@ then_settling_all [] present m l u v h r = fair_end l v r.0 r.1 h
 then_settling_all {J} {answer} {later} (name ∷ names) present m l u v h r =
     let cut = runs_split calls m (settling answer later name present u) (λ (p : Settled × State J). settling_all answer later names present p.1) v l r in
     then_settling_all names present cut.1 l cut.0.1 v (then_settling cut.1 name present cut.0 h cut.2) cut.3
-
-pub settling_all_fair : {J : Type 0} (answer : Answers J) (later : Laters J) (names : List (List ℕ)) (present : Bool) (w : State J) (k l : Kernel) (v : State J) → IsKernel k → Stand k w.standings w.next → Runs calls k (settling_all answer later names present w) v l → IsFair answer later k w l v
-settling_all_fair answer later names present w k l v sound stand r = then_settling_all names present k l w v (fair_refl answer later k w sound stand) r
 
 pub then_resettling_all : {J : Type 0} {answer : Answers J} {later : Laters J} {k : Kernel} {w : State J} (u : State J) (names : List (List ℕ)) (m l : Kernel) (x y : Kept) → IsFair answer later k w m (with_kept u x) → Runs calls m (resettling_all names x) y l → IsFair answer later k w l (with_kept u y)
 then_resettling_all u [] m l x y h r = fair_end l (with_kept u y) (ap (λ (v : Kept). with_kept u v) r.0) r.1 h

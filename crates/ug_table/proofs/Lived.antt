@@ -1,6 +1,5 @@
 -- Each device that lived through a sweep is as judged, or its name is told, or it has no standing and the failed listing is told.
 use Rattle.std.proofs.Common.{◌≡◌, ℕ, Bool, true, false, not, List, [], ◌∷◌, ◌++◌, Option, Some, None, ◌⊎◌, inl, inr, refl, sym, ◌∙◌, ap, subst, append_assoc, slice_get}
-use Rattle.std.specs.List.{filter}
 use Rattle.ug_types.specs.Elements.{Has}
 use Rattle.ug_types.specs.Sweep.{in_sweep_order}
 use Rattle.ug_types.proofs.Sorting.{to_sweep_order}
@@ -19,7 +18,7 @@ use Rattle.ug_audit.specs.declared.entry.Entry.{Entry}
 use Rattle.ug_audit.specs.declared.entry.Entry.TheVariants as entry
 use Rattle.ug_audit.specs.declared.entry.Fault.{Fault}
 use Rattle.ug_audit.specs.declared.entry.Fault.TheVariants as fault
-use Rattle.ug_table.specs.State.{State, Kept, kept_of, with_kept}
+use Rattle.ug_table.specs.State.{State, Kept, kept_of}
 use Rattle.ug_table.specs.Bring.{wants}
 use Rattle.ug_table.specs.Standings.{same_name, standing_of, lists, farewells}
 use Rattle.ug_table.specs.Settle.{settling, resettling}
@@ -74,7 +73,7 @@ settling_all_good {J} answer later (n ∷ names) present name i es w k l v sound
     let P = Good es k w.standings w.entries i name in
     let Q = Good es u x.standings x.entries i name in
     let own : n ≡ name → Q = λ e. good_before es w.entries x.entries u x.standings i name a
-        (settling_own answer later name present i w k u cut.0 sound f first mid (subst (λ y. Runs calls k (settling answer later y present w) cut.0 u) e cut.2)) in
+    (settling_own answer later name present i w k u cut.0 sound f first mid (subst (λ y. Runs calls k (settling answer later y present w) cut.0 u) e cut.2)) in
     settling_all_good answer later names present name i es x u l v (runs_sound (settling answer later n present w) k cut.0 u sound cut.2) apart.files mid live (appends_trans es w.entries x.entries a apart.entries)
     (step P Q n name names (same_name n name) refl own (λ ne h. good_apart n name i es k w.standings w.entries u x.standings x.entries ne f first g apart h) c)
     cut.3
@@ -94,7 +93,7 @@ resettling_all_well (n ∷ names) name i es w k l v sound f first live a c r =
     let P = Well es k w.standings w.entries i name in
     let Q = Well es u x.standings x.entries i name in
     let own : n ≡ name → Q = λ e. well_before es w.entries x.entries u x.standings i name a
-        (resettling_own name i w k u cut.0 sound f first mid (subst (λ y. Runs calls k (resettling y w) cut.0 u) e cut.2)) in
+    (resettling_own name i w k u cut.0 sound f first mid (subst (λ y. Runs calls k (resettling y w) cut.0 u) e cut.2)) in
     let back = stood k u w.standings x.standings i f g (resettling_was n w k u cut.0 cut.2) in
     resettling_all_well names name i es x u l v (runs_sound (resettling n w) k cut.0 u sound cut.2) apart.files mid live (appends_trans es w.entries x.entries a apart.entries)
     (step P Q n name names (same_name n name) refl own (λ ne h. well_apart n name i es k w.standings w.entries u x.standings x.entries ne f first g apart back h) c)

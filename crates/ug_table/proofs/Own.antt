@@ -10,10 +10,9 @@ use Rattle.ug_kernel.specs.declared.calls.Wrote.{Wrote}
 use Rattle.ug_kernel.specs.declared.calls.Wrote.TheVariants as wrote
 use Rattle.ug_kernel.specs.declared.calls.Probe.{Probe}
 use Rattle.ug_kernel.specs.declared.calls.Probe.TheVariants as probe
-use Rattle.ug_kernel.specs.Calls.{Put, Ask_alive, Close}
+use Rattle.ug_kernel.specs.Calls.{Put, Ask_alive}
 use Rattle.ug_kernel.specs.Kernel.{Kernel, IsKernel}
 use Rattle.ug_kernel.specs.Called.{Called}
-use Rattle.ug_kernel.specs.Quiet.{Grows}
 use Rattle.ug_kernel.proofs.Grow.{quiet_grows, called_grows}
 use Rattle.ug_kernel.proofs.Quiet.{called_quiet}
 use Rattle.ug_itree.specs.Tree.{Runs, calls}
@@ -33,14 +32,14 @@ use Rattle.ug_audit.specs.declared.entry.Fault.TheVariants as fault
 use Rattle.ug_table.specs.State.{State}
 use Rattle.ug_table.specs.Bring.{wants, write_of, after_write, to_write, to_bring, bringing}
 use Rattle.ug_table.specs.Standings.{standing_of}
-use Rattle.ug_table.specs.Settle.{kept_standings, to_keep, unsettled, no_room, standing_for, known_in, judged_entry, judging, if_place, if_record, admitting, after_bind, entering, tried_standings, to_mark, dropped, after_known, from_standing, settling}
-use Rattle.ug_table.specs.Laws.{IsNamed, HasStanding, IsAsJudged}
+use Rattle.ug_table.specs.Settle.{kept_standings, to_keep, unsettled, standing_for, known_in, judged_entry, judging, if_place, if_record, admitting, after_bind, entering, tried_standings, to_mark, dropped, after_known, from_standing, settling}
+use Rattle.ug_table.specs.Laws.{IsNamed, IsAsJudged}
 use Rattle.ug_table.specs.declared.standing.Standing.{Standing}
 use Rattle.ug_table.specs.declared.standing.Known.{Known}
 use Rattle.ug_table.specs.declared.standing.Settled.{Settled}
 use Rattle.ug_table.specs.declared.standing.Settled.TheVariants as settled
 use Rattle.ug_table.proofs.Elements.{has_right}
-use Rattle.ug_table.proofs.Values.{IsFileOf, file_same, file_later, LiveAs, lives_between, lived, live_same, gone_no, Value, quiet_value, done_value, IsOpen, alive_open}
+use Rattle.ug_table.proofs.Values.{IsFileOf, file_later, LiveAs, lives_between, lived, live_same, gone_no, Value, quiet_value, done_value, IsOpen, alive_open}
 use Rattle.ug_table.proofs.Standings.{found}
 use Rattle.ug_table.proofs.Account.{Answers, Laters}
 use Rattle.ug_table.proofs.Places.{Files, kept_new, tried_new}

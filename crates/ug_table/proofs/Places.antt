@@ -1,7 +1,6 @@
 -- What settling a name leaves of the standings.
-use Rattle.std.proofs.Common.{◌≡◌, ℕ, Bool, true, false, not, List, [], ◌∷◌, Option, Some, None, map, inl, inr, refl, sym, ◌∙◌, ap, subst}
+use Rattle.std.proofs.Common.{◌≡◌, ℕ, Bool, true, false, not, List, map, inl, inr, refl, sym, ap, subst}
 use Rattle.std.specs.Prelude.{if◌then◌else◌}
-use Rattle.std.specs.List.{filter, insert}
 use Rattle.ug_types.specs.Elements.{Has}
 use Rattle.ug_kernel.specs.Kernel.{Kernel}
 use Rattle.ug_kernel.specs.Quiet.{Grows}

@@ -1,8 +1,7 @@
 -- The standings of names.
-use Rattle.std.proofs.Common.{◌≡◌, ℕ, ◌<◌, Bool, true, false, not, List, [], ◌∷◌, Option, Some, None, nat_eq, map, cond, ◌⊎◌, inl, inr, refl, sym, ◌∙◌, ap, subst, arith}
-use Rattle.std.specs.Cmp.Lexicographic.{pointwise, bytes_decides}
-use Rattle.std.specs.List.{filter}
-use Rattle.ug_types.specs.Elements.{Has, AllDistinct}
+use Rattle.std.proofs.Common.{◌≡◌, ℕ, Bool, true, false, not, List, [], ◌∷◌, Some, None, map, cond, ◌⊎◌, inl, inr, refl, ap, arith}
+use Rattle.std.specs.Cmp.Lexicographic.{bytes_decides}
+use Rattle.ug_types.specs.Elements.{Has}
 use Rattle.ug_table.specs.Standings.{same_name, known_of, standing_of, without, marked}
 use Rattle.ug_table.specs.Sweep.{names_of}
 use Rattle.ug_table.specs.declared.standing.Standing.{Standing}

@@ -1,5 +1,5 @@
 -- Small fair steps: calls that write nothing, entries that tell neither, and fewer or marked standings.
-use Rattle.std.proofs.Common.{◌≡◌, ℕ, ◌<◌, Bool, false, true, not, List, [], ◌∷◌, ◌++◌, map, inl, inr, refl, sym, ◌∙◌, ap, subst, append_assoc, append-nil}
+use Rattle.std.proofs.Common.{◌≡◌, ℕ, ◌<◌, Bool, false, true, not, List, [], ◌∷◌, ◌++◌, map, inl, refl, sym, ap, subst, append_assoc, append-nil}
 use Rattle.std.specs.List.{filter}
 use Rattle.ug_types.specs.Elements.{Has, AllDistinct}
 use Rattle.ug_types.specs.declared.record.Judged.{Judged}
@@ -12,7 +12,7 @@ use Rattle.ug_kernel.proofs.Quiet.{WritesNothing, quiet_refl, called_quiet}
 use Rattle.ug_kernel.proofs.Grow.{quiet_grows, grows_refl}
 use Rattle.ug_audit.specs.declared.entry.Entry.{Entry}
 use Rattle.ug_table.specs.State.{State, noted}
-use Rattle.ug_table.specs.Standings.{same_name, without, marked}
+use Rattle.ug_table.specs.Standings.{same_name, marked}
 use Rattle.ug_table.specs.Settle.{tried_standings}
 use Rattle.ug_table.specs.Sweep.{names_of}
 use Rattle.ug_table.specs.Laws.{IsDevice, Stand, TellsNeither, Account, Start, Note, IsFair}

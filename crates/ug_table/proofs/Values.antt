@@ -1,5 +1,5 @@
 -- What calls do to the devices' values.
-use Rattle.std.proofs.Common.{◌≡◌, ℕ, Bool, true, false, List, Some, slice_get, ◌⊎◌, inl, inr, refl, sym, ◌∙◌, ap, subst}
+use Rattle.std.proofs.Common.{◌≡◌, ℕ, Bool, List, Some, slice_get, inl, inr, refl, sym, ◌∙◌, ap, subst}
 use Rattle.ug_types.specs.declared.verdict.Target.{Target}
 use Rattle.ug_types.specs.declared.verdict.Target.TheVariants as target
 use Rattle.ug_kernel.specs.declared.device.Device.{Device}
@@ -10,9 +10,9 @@ use Rattle.ug_kernel.specs.declared.calls.Wrote.{Wrote}
 use Rattle.ug_kernel.specs.declared.calls.Wrote.TheVariants as wrote
 use Rattle.ug_kernel.specs.Calls.{Told, Put}
 use Rattle.ug_kernel.specs.Kernel.{Kernel, Live, IsKernel}
-use Rattle.ug_kernel.specs.Called.{Lived, value_after, does_put, Does, IsWritten, IsGoneAt, IsAlive, Called}
+use Rattle.ug_kernel.specs.Called.{Lived, value_after, does_put, IsWritten, IsGoneAt, IsAlive, Called}
 use Rattle.ug_kernel.specs.Quiet.{Quiet, Grows}
-use Rattle.ug_kernel.proofs.Grow.{some_same, called_grows}
+use Rattle.ug_kernel.proofs.Grow.{some_same}
 use Rattle.ug_kernel.proofs.Quiet.{moves_quiet}
 use Rattle.ug_kernel.proofs.Held.{live_before}
 use Rattle.ug_table.specs.Bring.{wants, write_of}
@@ -55,12 +55,6 @@ Value k i on = (d : Device) × (slice_get k.devices i ≡ Some d) × (d.on ≡ o
 
 pub quiet_value : (k l : Kernel) (i : ℕ) (on : Bool) → Quiet k l → Value k i on → Value l i on
 quiet_value k l i on q v = let a = q.devices i v.0 v.1 in (a.0, a.1, a.2.on ∙ v.2)
-
-pub alive_value : (k : Kernel) (held i : ℕ) (on : Bool) → IsFileOf k held i → IsAlive held on k → Value k i on
-alive_value k held i on file alive =
-    let same : alive.holds.file ≡ record { device = i; control = Authorized } = some_same (slice_get k.held held) alive.holds.file (record { device = i; control = Authorized }) alive.holds.at file in
-    let is : alive.i ≡ i = sym alive.holds.is ∙ ap (λ (v : HeldFile). v.device) same in
-    (alive.d, subst (λ v. slice_get k.devices v ≡ Some alive.d) is alive.live.at, alive.value)
 
 written_device : (held i : ℕ) (write : Write) (k l : Kernel) (w : IsWritten held write k l) → IsFileOf k held i → w.i ≡ i
 written_device held i write k l w file =
@@ -137,8 +131,8 @@ open_named k name other held i o file live =
 pub others_put : (name : List ℕ) (held : ℕ) (write : Write) (answer : Told Wrote) (k l : Kernel) → IsOpen k name held → Called (Put held write) answer k l → Others name k l
 others_put name held write answer k l o c i on d e ne v =
     let other : o.i ≡ i → ⊥ = λ is.
-        let same : o.d ≡ d = some_same (slice_get k.devices i) o.d d (subst (λ x. slice_get k.devices x ≡ Some o.d) is o.device) e in
-        ne (ap (λ (x : Device). x.name) (sym same) ∙ o.named) in
+    let same : o.d ≡ d = some_same (slice_get k.devices i) o.d d (subst (λ x. slice_get k.devices x ≡ Some o.d) is o.device) e in
+    ne (ap (λ (x : Device). x.name) (sym same) ∙ o.named) in
     put_other held i o.i write answer on k l o.file other c v
 
 -- what is alive behind the file of a device is that device

@@ -7,7 +7,7 @@ use Rattle.ug_kernel.specs.declared.calls.Control.TheVariants.{Authorized}
 use Rattle.ug_kernel.specs.declared.calls.Write.{Write}
 use Rattle.ug_kernel.specs.declared.calls.Wrote.{Wrote}
 use Rattle.ug_kernel.specs.declared.calls.Wrote.TheVariants as wrote
-use Rattle.ug_kernel.specs.Calls.{Put, Answer}
+use Rattle.ug_kernel.specs.Calls.{Put}
 use Rattle.ug_kernel.specs.Kernel.{Kernel, Moves}
 use Rattle.ug_kernel.specs.Called.{IsWritten, Called}
 use Rattle.ug_kernel.proofs.Grow.{some_same, called_grows}

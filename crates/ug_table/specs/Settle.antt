@@ -57,7 +57,7 @@ standing_for w name held judged given = record {
   judged = judged;
   verdict = given.0;
   cause = given.1;
-  settled = false
+  settled = false;
 }
 
 abbrev pub known_in : {J : Type 0} → State J → ℕ → Target × Cause → Known

@@ -14,7 +14,13 @@ pub trait Judge {
     /// What the judge is after it.
     ghost later: { Self → Judged → Bool → Bool → Bool → Self };
 
-    fn verdict(&mut self, dev: &Judged, controller: bool, present: bool, on: bool) -> (Target, Cause)
+    fn verdict(
+        &mut self,
+        dev: &Judged,
+        controller: bool,
+        present: bool,
+        on: bool,
+    ) -> (Target, Cause)
         ensures answer { result ≡ answer self.old dev.now controller present on }
         ensures later { self.new ≡ later self.old dev.now controller present on };
 }

@@ -118,7 +118,13 @@ impl Table {
 
     // The known names are settled all the same.
     #[tactic(auto, using(ug_itree::proofs::Runs::runs_then))]
-    fn go_unlisted<Y: Sysfs, J>(&mut self, sysfs: &mut Y, fault: Fault, judge: &J, out: &mut Entries)
+    fn go_unlisted<Y: Sysfs, J>(
+        &mut self,
+        sysfs: &mut Y,
+        fault: Fault,
+        judge: &J,
+        out: &mut Entries,
+    )
         requires { 3 * vec_len self.old.standings + 2 ≤ out.old.spare }
         ensures runs { Runs Y.gives sysfs.old (unlisted fault (state_of self.old judge.now out.old.entries)) (state_of self.new judge.now out.new.entries) sysfs.new }
         ensures next { self.new.next ≡ self.old.next }
@@ -141,10 +147,12 @@ impl Table {
         judge: &mut A,
         out: &mut Entries,
     )
-        requires room { 8 * vec_len self.old.standings + 1 ≤ out.old.spare }
+        requires room { 8 * vec_len self.old.standings + 2 ≤ out.old.spare }
         requires next { self.old.next + 65536 < 2 ^ 64 }
         ensures runs { Runs Y.gives sysfs.old (sweeping A.answer A.later (state_of self.old judge.old out.old.entries)) (state_of self.new judge.new out.new.entries) sysfs.new }
         ensures next { self.new.next ≤ self.old.next + 65536 }
+        ensures spare { 0 < out.new.spare }
+        ensures room { 8 * vec_len self.old.standings + 64 ≤ out.old.room → 8 * vec_len self.new.standings + 64 ≤ out.new.room }
         ensures swept { Sweeps Y.told A.answer A.later sysfs.old (state_of self.old judge.old out.old.entries) sysfs.new (state_of self.new judge.new out.new.entries) }
     {
         self.sweep_names(alloc, sysfs, judge, out);
@@ -197,7 +205,11 @@ fn room_for(standings: &[Standing], names: &[NodeName]) -> usize
 {
     let count = standings.len() as u128 + names.len() as u128;
     let room = 8 * count + 65;
-    if room > usize::MAX as u128 { usize::MAX } else { room as usize }
+    if room > usize::MAX as u128 {
+        usize::MAX
+    } else {
+        room as usize
+    }
 }
 
 fn sorted(names: List<NodeName>) -> Vec<NodeName>

@@ -12,15 +12,6 @@ Appends-then (Some x) None c xs ys h k = absurd h
 Appends-then (Some x) (Some y) None xs ys h k = absurd k
 Appends-then (Some x) (Some y) (Some z) xs ys h k = k ∙ (ap (λ l. l ++ ys) h ∙ append_assoc x xs ys)
 
-pub Appends-none : (a b : Option (List ℕ)) → Keeps a b → Appends a b []
-Appends-none None b h = tt
-Appends-none (Some x) None h = absurd h
-Appends-none (Some x) (Some y) h = h ∙ sym (append-nil x)
-
-pub Keeps-same : (a : Option (List ℕ)) → Keeps a a
-Keeps-same None = tt
-Keeps-same (Some x) = refl
-
 pub Keeps-then : (a b c : Option (List ℕ)) (xs : List ℕ) → Appends a b xs → Keeps b c → Appends a c xs
 Keeps-then None b c xs h k = tt
 Keeps-then (Some x) None c xs h k = absurd h

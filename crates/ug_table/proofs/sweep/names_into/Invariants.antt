@@ -1,4 +1,4 @@
-use Rattle.std.proofs.Common.{◌≡◌, ◌+◌, ◌-◌, ◌≤◌, ◌++◌, length, drop, vec_len, vec_capacity}
+use Rattle.std.proofs.Common.{◌≡◌, ◌++◌, drop, vec_len, vec_capacity}
 use Rattle.ug_table.specs.Sweep.{names_of}
 use Rattle.ug_table.proofs.sweep.names_into.Given as goal
 

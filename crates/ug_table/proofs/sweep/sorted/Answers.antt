@@ -1,4 +1,4 @@
-use Rattle.std.proofs.Common.{length, sym, ap, ◌∙◌}
+use Rattle.std.proofs.Common.{length, ap, ◌∙◌}
 use Rattle.ug_types.proofs.Sorting.{length-sweep_order}
 use Rattle.ug_table.proofs.sweep.sorted.Goals as goal
 

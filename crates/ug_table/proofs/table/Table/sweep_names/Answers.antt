@@ -1,4 +1,4 @@
-use Rattle.std.proofs.Common.{arith, length}
+use Rattle.std.proofs.Common.{arith}
 use Rattle.ug_table.proofs.table.Table.sweep_names.Goals as goal
 
 pub settle_all-requires-clause-next : goal.settle_all-requires-clause-next

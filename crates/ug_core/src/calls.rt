@@ -1,0 +1,81 @@
+// The daemon's calls.
+ghost use Rattle.std.specs.Prelude.{◌≡◌, ◌≤◌, ◌<◌, ◌+◌, ◌-◌, ◌*◌, ◌^◌, [], IsTrue, length, IfOk, vec_len};
+ghost use Rattle.ug_itree.specs.Tree.{Runs};
+ghost use Rattle.ug_core.specs.Event.{daemon_of, IsStarted, moment_of, RunsEvent, handling, has_numbers, is_low};
+ghost use Rattle.ug_core.specs.Laws.{Handles};
+
+use crate::daemon::{Daemon, Event};
+use crate::policy::{IdRule, Policy};
+use crate::report::Report;
+use std::alloc::Global;
+use ug_audit::{Entries, Entry};
+use ug_sysfs::Sysfs;
+use ug_table::Table;
+use ug_types::{List, Moment, NoMemory};
+
+const LOW: u64 = u64::MAX - 4194304;
+
+fn low(n: u64) -> bool
+    ensures { result ≡ is_low n }
+{
+    n <= LOW
+}
+
+impl Daemon {
+    /// A daemon with these rules, whose first event has that number. It makes the room of an event's entries.
+    pub fn start(alloc: Global, rules: List<IdRule>, first: u64) -> Result<Daemon, NoMemory>
+        ensures { IfOk result (λ d. IsStarted rules first (daemon_of d)) }
+    {
+        let mut entries = Entries::new(alloc);
+        entries.reserve(64)?;
+        Ok(Daemon {
+            policy: Policy {
+                rules,
+            },
+            table: Table::new(alloc),
+            next_event: first,
+            report: Report { event: 0, entries },
+        })
+    }
+
+    /// Whether the next device number, the counts of faults and the event's number leave room for an event.
+    pub fn has_numbers(&self, sysfs_faults: u64, disk_faults: u64) -> bool
+        ensures { result ≡ has_numbers (daemon_of self.now) sysfs_faults disk_faults }
+    {
+        low(self.table.next) && low(self.next_event) && low(sysfs_faults) && low(disk_faults)
+    }
+
+    /// What was noted of the last event.
+    pub fn report(&self) -> &Report
+        ensures { result.now ≡ self.now.report }
+    {
+        &self.report
+    }
+
+    /// Handles an event, whose entries are then the report's.
+    pub fn handle<Y: Sysfs>(&mut self, alloc: Global, event: &Event, sysfs: &mut Y)
+        requires { IsTrue (has_numbers (daemon_of self.old) (Y.faults sysfs.old) 0) }
+        ensures runs { RunsEvent Y.begins Y.gives sysfs.old (moment_of event.now) (daemon_of self.old) sysfs.new (daemon_of self.new) }
+        ensures law { Handles Y.told (moment_of event.now) sysfs.old (daemon_of self.old) sysfs.new (daemon_of self.new) }
+    {
+        let Event::Sweep(moment) = event;
+        self.sweep(alloc, *moment, sysfs);
+    }
+
+    #[tactic(auto, unfolding(crate::specs::Event::handling), using(ug_itree::proofs::Runs::runs_then))]
+    fn sweep<Y: Sysfs>(&mut self, alloc: Global, moment: Moment, sysfs: &mut Y)
+        requires { IsTrue (has_numbers (daemon_of self.old) (Y.faults sysfs.old) 0) }
+        ensures runs { RunsEvent Y.begins Y.gives sysfs.old moment (daemon_of self.old) sysfs.new (daemon_of self.new) }
+        ensures law { Handles Y.told moment sysfs.old (daemon_of self.old) sysfs.new (daemon_of self.new) }
+    {
+        let number = self.next_event;
+        sysfs.begin();
+        let entries = &mut self.report.entries;
+        entries.clear();
+        entries.push(Entry::Event { number, moment });
+        self.table.sweep(alloc, sysfs, &mut self.policy, entries);
+        entries.push(Entry::End { number });
+        self.report.event = number;
+        self.next_event += 1;
+    }
+}

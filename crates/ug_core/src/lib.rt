@@ -1,0 +1,12 @@
+// The daemon's events.
+#![tactic(auto)]
+
+mod calls;
+mod daemon;
+mod policy;
+mod report;
+
+pub use daemon::{Daemon, Event};
+pub use policy::{IdRule, Policy};
+pub use report::Report;
+pub use ug_audit::{Entries, Entry, Fault, line_of};

@@ -1,0 +1,9 @@
+// What was noted of the last event.
+use ug_audit::Entries;
+
+#[derive(Drop)]
+pub struct Report {
+    /// The event's number, or that of the event before the first.
+    pub event: u64,
+    pub entries: Entries,
+}

@@ -1,0 +1,6 @@
+pub mod Plays
+pub mod Trees
+pub mod Played
+pub mod Bindings
+pub mod Journals
+pub mod Sweeps
