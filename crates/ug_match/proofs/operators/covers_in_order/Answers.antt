@@ -1,5 +1,4 @@
-use Rattle.std.proofs.Common.{rules, ◌≡◌, length, nat_eq, true}
-use Rattle.std.proofs.Common.{tests}
+use Rattle.std.proofs.Common.{rules, ◌≡◌, length, nat_eq, true, tests}
 use Rattle.std.specs.List.{list_all, zip}
 use Rattle.std.proofs.lemmas.Bool.Decides.{Decides-eqb}
 use Rattle.std.proofs.lemmas.Iterator.{YieldsList-from_slice, YieldsList-from_zip}
