@@ -1,11 +1,13 @@
 -- Names, numbers and hexadecimal words of a script's lines.
-use Rattle.std.specs.Prelude.{ℕ, ◌+◌, ◌-◌, ◌*◌, Bool, true, false, ◌&&◌, nat_eq, nat_lt, nat_le, if◌then◌else◌, List, [], ◌∷◌, length, get_or, Option, Some, None, Result, Ok, Err, codes}
-use Rattle.std.specs.List.{fold, starts_with}
+use Rattle.std.specs.Prelude.{◌≡◌, ℕ, ◌+◌, ◌-◌, ◌*◌, Bool, true, false, ◌&&◌, nat_eq, nat_le, if◌then◌else◌, List, [], ◌∷◌, length, get_or, Option, Some, None, Result, Ok, Err}
+use Rattle.std.specs.List.{fold}
 use Rattle.hex.specs.Hex.{decode_of, decode_sized}
 use Rattle.hex.specs.declared.error.FromHexError.{FromHexError}
 use Rattle.ug_types.specs.Reading.{after, ends_name}
 use Rattle.ug_types.specs.declared.reading.Reading.{Reading}
 use Rattle.ug_types.specs.declared.reading.Reading.TheVariants.{Start}
+use Rattle.ug_script.specs.declared.step.StepFault.{StepFault}
+use Rattle.ug_script.specs.declared.step.StepFault.TheVariants.{Bad, Memory}
 
 abbrev pub then_byte : Option Reading → ℕ → Option Reading
 then_byte None b = None
@@ -35,7 +37,7 @@ number_of digits = fold with_digit (Some 0) digits
 unfoldable pub moment_of : List ℕ → Option ℕ
 moment_of text =
     if nat_eq (length text) 0 then None
-    else if starts_with nat_eq text (codes "0") && nat_lt 1 (length text) then None
+    else if nat_eq (get_or text 0 0) 48 then if nat_eq (length text) 1 then Some 0 else None
     else number_of text
 
 abbrev pub from_pair : Result (List ℕ) FromHexError → Option ℕ
@@ -54,3 +56,9 @@ filled (Err e) = None
 -- an even number of hexadecimal digits of either case, at least two
 unfoldable pub bytes_of : List ℕ → Option (List ℕ)
 bytes_of text = filled (decode_of text)
+
+-- the bytes, or the fault of a text that writes none; want of memory may come at any text
+abbrev pub ReadsBytes : Option (List ℕ) → Result (List ℕ) StepFault → Type 0
+ReadsBytes asked (Ok bytes) = asked ≡ Some bytes
+ReadsBytes asked (Err Bad) = asked ≡ None
+ReadsBytes asked (Err Memory) = Unit {0}

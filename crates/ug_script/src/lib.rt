@@ -3,6 +3,7 @@
 
 mod parse;
 mod step;
+mod words;
 
 pub use parse::parse_line;
 pub use step::{Step, StepFault};

@@ -1,15 +1,15 @@
 // The steps of a script's lines.
-ghost use Rattle.std.specs.Prelude.{◌≡◌, nat_eq, Some, None};
+ghost use Rattle.std.specs.Prelude.{◌≡◌, nat_eq};
 ghost use Rattle.std.specs.List.{position};
-ghost use Rattle.ug_script.specs.Grammar.{Parses, step_of_line, plug_of, other_step, rule_of, split_name, with_name, with_start, with_descriptors};
-ghost use Rattle.ug_script.specs.Words.{name_of};
+ghost use Rattle.ug_script.specs.Grammar.{Parses, step_of_line, plug_of, other_step, rule_of, split_name, with_start, with_descriptors};
+ghost use Rattle.ug_script.specs.Words.{bytes_of};
 
 use crate::step::{Step, StepFault};
 use crate::words::{bytes, id, moment, name};
 use std::alloc::Global;
 use ug_core::IdRule;
 use ug_sysfs::Device;
-use ug_types::{NodeName, Target, Text};
+use ug_types::{Moment, NodeName, Target};
 
 /// `vvvv:pppp`.
 fn id_rule(target: Target, text: &[u8]) -> Option<Step>
@@ -53,7 +53,7 @@ fn other(line: &[u8]) -> Option<Step>
     if line.starts_with(b"sweep ") {
         return match moment(&line[6..]) {
             None => None,
-            Some(moment) => Some(Step::Sweep(moment)),
+            Some(moment) => Some(Step::Sweep(Moment(moment))),
         };
     }
     None

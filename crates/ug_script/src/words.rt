@@ -1,11 +1,11 @@
 // Names, numbers and hexadecimal words of a script's lines.
-ghost use Rattle.std.specs.Prelude.{◌≡◌, Some, None, Unit};
+ghost use Rattle.std.specs.Prelude.{◌≡◌, Some};
 ghost use Rattle.ug_script.specs.Words.{name_of, with_digit, number_of, moment_of, id_of, bytes_of, ReadsBytes};
 
 use crate::step::StepFault;
 use hex::FromHex;
 use std::alloc::Global;
-use ug_types::{Moment, NodeName, Text};
+use ug_types::{NodeName, Text};
 
 /// A node name of at most 31 bytes.
 pub fn name(text: &[u8]) -> Option<NodeName>
@@ -59,10 +59,7 @@ pub fn moment(text: &[u8]) -> Option<u64>
         return None;
     }
     if text[0] == b'0' {
-        return match text.len() {
-            1 => Some(0),
-            _ => None,
-        };
+        return if text.len() == 1 { Some(0) } else { None };
     }
     number(text)
 }
