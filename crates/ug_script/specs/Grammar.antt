@@ -3,9 +3,6 @@ use Rattle.std.specs.Prelude.{◌≡◌, ℕ, ◌+◌, ◌-◌, Bool, true, fals
 use Rattle.std.specs.List.{starts_with, ends_with, position}
 use Rattle.ug_types.specs.declared.verdict.Target.{Target}
 use Rattle.ug_types.specs.declared.verdict.Target.TheVariants.{Allow, Block}
-use Rattle.ug_types.specs.declared.verdict.Moment.{Moment}
-use Rattle.ug_kernel.specs.declared.device.Device.{Device}
-use Rattle.ug_core.specs.declared.policy.IdRule.{IdRule}
 use Rattle.ug_script.specs.declared.step.Step.{Step}
 use Rattle.ug_script.specs.declared.step.Step.TheVariants.{Skip, Rule, Plug, Unplug, Sweep}
 use Rattle.ug_script.specs.declared.step.StepFault.{StepFault}

@@ -12,6 +12,7 @@ use ug_sysfs::Device;
 use ug_types::{Moment, NodeName, Target};
 
 /// `vvvv:pppp`.
+#[tactic(auto, unfolding(crate::specs::Grammar::rule_of))]
 fn id_rule(target: Target, text: &[u8]) -> Option<Step>
     ensures { result ≡ rule_of target text.now }
 {
@@ -35,6 +36,7 @@ fn id_rule(target: Target, text: &[u8]) -> Option<Step>
 }
 
 /// A step that takes no memory.
+#[tactic(auto, unfolding(crate::specs::Grammar::other_step))]
 fn other(line: &[u8]) -> Option<Step>
     ensures { result ≡ other_step line.now }
 {
@@ -113,6 +115,7 @@ fn named(alloc: Global, text: &[u8]) -> Result<Step, StepFault>
 }
 
 /// `NAME START DESC - - -`.
+#[tactic(auto, unfolding(crate::specs::Grammar::plug_of, crate::specs::Grammar::no_texts))]
 fn plug(alloc: Global, text: &[u8]) -> Result<Step, StepFault>
     ensures { Parses (plug_of text.now) result }
 {
@@ -125,6 +128,7 @@ fn plug(alloc: Global, text: &[u8]) -> Result<Step, StepFault>
 /// Reads a line that is not the first. An empty line and a comment are skipped.
 /// `rule allow` and `rule block` take `vvvv:pppp`, in hexadecimal. `plug` takes a name, `1` where the device starts authorised, else `0`,
 /// its descriptors in hexadecimal, and ` - - -` for its texts. `unplug` takes a name, `sweep` a moment up to 250,000,000,000.
+#[tactic(auto, unfolding(crate::specs::Grammar::step_of_line))]
 pub fn parse_line(alloc: Global, line: &[u8]) -> Result<Step, StepFault>
     ensures { Parses (step_of_line line.now) result }
 {

@@ -52,6 +52,7 @@ fn number(digits: &[u8]) -> Option<u64>
 }
 
 /// A decimal number without sign or leading zero, up to 250,000,000,000.
+#[tactic(auto, unfolding(crate::specs::Words::moment_of))]
 pub fn moment(text: &[u8]) -> Option<u64>
     ensures { result ≡ moment_of text.now }
 {
@@ -65,6 +66,7 @@ pub fn moment(text: &[u8]) -> Option<u64>
 }
 
 /// Four hexadecimal digits of either case.
+#[tactic(auto, unfolding(crate::specs::Words::id_of))]
 pub fn id(text: &[u8]) -> Option<u16>
     ensures { result ≡ id_of text.now }
 {
@@ -75,6 +77,7 @@ pub fn id(text: &[u8]) -> Option<u16>
 }
 
 /// The bytes that an even number of hexadecimal digits write, at least two.
+#[tactic(auto, unfolding(crate::specs::Words::bytes_of))]
 pub fn bytes(alloc: Global, digits: &[u8]) -> Result<Text, StepFault>
     ensures { ReadsBytes (bytes_of digits.now) result }
 {
