@@ -1,6 +1,8 @@
 -- A text is read as a name where it is one.
-use Rattle.std.proofs.Common.{◌≡◌, ℕ, ◌<◌, ◌≤◌, Bool, true, false, List, [], ◌∷◌, length, take, get_or, suc, Option, None, Some, Result, Ok, Err, nat_le, refl, ap, ◌∙◌, arith, inl, inr, ◌⊎◌, ◌↔◌, IfOk}
+use Rattle.std.proofs.Common.{◌≡◌, ℕ, ◌<◌, ◌≤◌, Bool, true, false, List, [], ◌∷◌, length, take, get_or, suc, Option, None, Some, Result, Ok, Err, nat_le, refl, ap, ◌∙◌, arith, inl, inr, ◌⊎◌, ◌↔◌, IfOk, true≢false, ◌&&◌, sym}
+use Rattle.std.proofs.lemmas.Bool.{and_parts, leb-true}
 use Rattle.std.proofs.lemmas.Bool.Decides.{nat_tests}
+use Rattle.std.proofs.lemmas.Option.{cond_some}
 use Rattle.std.proofs.lemmas.List.{take_all}
 use Rattle.std.specs.List.{fold}
 use Rattle.ug_types.specs.declared.reading.Reading.{Reading}
@@ -68,3 +70,14 @@ name-read t n (Err m) h k e = let none : ⊥ = cc in absurd none
 
 pub name-refused : (t : List ℕ) (e : NameFault) (r : Answer) → ((r ≡ Ok t) ↔ (IsNodeName t × (length t ≤ 31))) → r ≡ Err e → None ≡ name_of t
 name-refused t e r h k = name-none t (λ w. let p : r ≡ Ok t = h.1 w in let none : ⊥ = cc in absurd none)
+
+pub name_text : (t n : List ℕ) → (name_of t ≡ Some n) ↔ (IsNodeName t × (length t ≤ 31) × (n ≡ t))
+unfolding name_of
+name_text t n = (
+  λ h.
+      let p : ((is_whole (reading_of t) && nat_le (length t) 31) ≡ true) × (t ≡ n) = cond_some (is_whole (reading_of t) && nat_le (length t) 31) t n h in
+      let q : (is_whole (reading_of t) ≡ true) × (nat_le (length t) 31 ≡ true) = and_parts (is_whole (reading_of t)) (nat_le (length t) 31) p.0 in
+      let named : IsNodeName t = elim (whole t) [ inl w ↦ w.0 | inr w ↦ absurd (true≢false (sym q.0 ∙ w.1)) ] in
+      (named, leb-true (length t) 31 q.1, sym p.1),
+  λ h. sym (name-some t h.0 h.1) ∙ ap Some (sym h.2),
+)
