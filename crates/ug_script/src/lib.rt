@@ -3,11 +3,15 @@
 
 mod laws;
 mod parse;
+mod runner;
+mod running;
 mod step;
+mod text;
 mod words;
 
-pub use laws::words_law;
+pub use laws::{script_law, words_law};
 pub use parse::parse_line;
+pub use runner::Runner;
 pub use step::{Step, StepFault};
 
 #[cfg(test)]
