@@ -4,3 +4,6 @@
 mod replay;
 
 pub use replay::run_replay;
+
+#[cfg(test)]
+mod tests;
