@@ -1,5 +1,5 @@
 -- From the law of a sweep to that of an event.
-use Rattle.std.proofs.Common.{◌≡◌, ℕ, ◌+◌, List, [], ◌∷◌, ◌++◌, subst}
+use Rattle.std.proofs.Common.{◌≡◌, ◌+◌, List, [], ◌∷◌, ◌++◌, subst}
 use Rattle.ug_types.specs.declared.verdict.Moment.{Moment}
 use Rattle.ug_kernel.specs.Kernel.{Kernel}
 use Rattle.ug_audit.specs.declared.entry.Entry.{Entry}
@@ -15,5 +15,5 @@ handled moment d k l v es e first law last number = record {
   swept = v;
   law = subst (λ (x : List Entry). Swept policy_answer policy_later k (record d.sweep { entries = x }) l v) first law;
   entries = last;
-  event = number
+  event = number;
 }

@@ -29,9 +29,7 @@ impl Daemon {
         let mut entries = Entries::new(alloc);
         entries.reserve(64)?;
         Ok(Daemon {
-            policy: Policy {
-                rules,
-            },
+            policy: Policy { rules },
             table: Table::new(alloc),
             next_event: first,
             report: Report { event: 0, entries },

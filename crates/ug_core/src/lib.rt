@@ -5,6 +5,8 @@ mod calls;
 mod daemon;
 mod policy;
 mod report;
+#[cfg(test)]
+mod tests;
 
 pub use daemon::{Daemon, Event};
 pub use policy::{IdRule, Policy};

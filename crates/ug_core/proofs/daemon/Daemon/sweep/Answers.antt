@@ -1,17 +1,19 @@
 use Rattle.std.proofs.Common.{refl, sym, ap, ◌∙◌, List, ◌++◌, ◌∷◌, []}
 use Rattle.ug_audit.specs.declared.entry.Entry.{Entry}
 use Rattle.ug_audit.specs.declared.entry.Entry.TheVariants as entry
-use Rattle.ug_table.specs.State.{State, state_of}
+use Rattle.ug_table.specs.State.{state_of}
 use Rattle.ug_core.specs.Event.{daemon_of}
 use Rattle.ug_core.proofs.Handled.{handled}
 use Rattle.ug_core.proofs.daemon.Daemon.sweep.Goals as goal
 
 pub returns-clause-law : goal.returns-clause-law
 returns-clause-law g c = λ l e.
-    let q = c.sweep.ensures.swept l e in
-    (q.0, sym (g.met.Y.Sysfs.began c.args.sysfs.now c.begin.new.self c.begin.ensures).0 ∙ q.1,
-    λ sound stand. handled c.args.moment (daemon_of c.args.self.now) q.0 l (state_of c.sweep.new.self c.sweep.new.judge c.sweep.new.out.entries) c.push.new.self.entries _
-    (c.push.ensures.entries ∙ ap (λ (es : List Entry). es ++ entry.Event c.args.self.now.next_event c.args.moment ∷ []) c.clear.ensures.entries)
-    (q.2 sound stand)
-    (ap (λ (es : List Entry). record (state_of c.sweep.new.self c.sweep.new.judge c.sweep.new.out.entries) { entries = es }) c.push-2.ensures.entries)
-    refl)
+    let q = c.sweep.ensures.swept l e in (
+      q.0,
+      sym (g.met.Y.Sysfs.began c.args.sysfs.now c.begin.new.self c.begin.ensures).0 ∙ q.1,
+      λ sound stand. handled c.args.moment (daemon_of c.args.self.now) q.0 l (state_of c.sweep.new.self c.sweep.new.judge c.sweep.new.out.entries) c.push.new.self.entries _
+          (c.push.ensures.entries ∙ ap (λ (es : List Entry). es ++ entry.Event c.args.self.now.next_event c.args.moment ∷ []) c.clear.ensures.entries)
+          (q.2 sound stand)
+          (ap (λ (es : List Entry). record (state_of c.sweep.new.self c.sweep.new.judge c.sweep.new.out.entries) { entries = es }) c.push-2.ensures.entries)
+          refl,
+    )

@@ -1,0 +1,100 @@
+// Events over a kernel in memory: the journal's lines of each.
+use crate::{Daemon, Event, IdRule, line_of};
+use std::alloc::Global;
+use std::test::Fail;
+use ug_sysfs::{Device, SimKernel, Sysfs};
+use ug_types::{List, Moment, NodeName, Target, Text};
+
+// A device descriptor alone: vendor 1050, product 11.
+const KEY: [u8; 18] = [
+    0x12, 0x01, 0x00, 0x02, 0x00, 0x00, 0x00, 0x40, 0x50, 0x10, 0x11, 0x00, 0x00, 0x01, 0x00, 0x00,
+    0x00, 0x01,
+];
+
+fn device(alloc: Global, name: &[u8], on: bool) -> Result<Device, Fail> {
+    Ok(Device {
+        name: NodeName::parse(name)?,
+        parent: None,
+        descriptors: Text::of(alloc, &KEY)?,
+        product: None,
+        serial: None,
+        connect: None,
+        gone: false,
+        on,
+    })
+}
+
+fn rule(target: Target, product: u16) -> IdRule {
+    IdRule {
+        target,
+        vendor: 0x1050,
+        product,
+    }
+}
+
+fn notes(daemon: &Daemon, lines: &[&[u8]]) -> bool {
+    let entries = daemon.report().entries.as_slice();
+    let same = entries
+        .iter()
+        .zip(lines.iter())
+        .all(|(entry, line)| line_of(entry).bytes() == *line);
+    same && entries.len() == lines.len()
+}
+
+#[test]
+fn keeps_a_hub_and_allows_by_a_rule(rt: HostRuntime) -> Result<(), Fail> {
+    let alloc = rt.alloc();
+    let mut kernel = SimKernel::new(alloc);
+    kernel.plug(device(alloc, b"usb1", true)?)?;
+    kernel.plug(device(alloc, b"1-1", false)?)?;
+    let mut rules = List::new(alloc);
+    rules.push(rule(Target::Block, 0x12))?;
+    rules.push(rule(Target::Allow, 0x11))?;
+    let mut daemon = Daemon::start(alloc, rules, 7)?;
+    assert!(rt; daemon.has_numbers(kernel.faults(), 0));
+    daemon.handle(alloc, &Event::Sweep(Moment(1700000000)), &mut kernel);
+    let lines: [&[u8]; 6] = [
+        b"event 7 sweep 1700000000",
+        b"judged 1 usb1 allow keep",
+        b"judged 2 1-1 allow rule 2",
+        b"intent 2 1-1 on",
+        b"wrote 2 1-1 on done",
+        b"end 7",
+    ];
+    assert!(rt; notes(&daemon, &lines));
+    Ok(())
+}
+
+#[test]
+fn judges_anew_after_a_replug(rt: HostRuntime) -> Result<(), Fail> {
+    let alloc = rt.alloc();
+    let mut kernel = SimKernel::new(alloc);
+    kernel.plug(device(alloc, b"usb1", false)?)?;
+    kernel.plug(device(alloc, b"1-1", true)?)?;
+    let mut daemon = Daemon::start(alloc, List::new(alloc), 1)?;
+    assert!(rt; daemon.has_numbers(kernel.faults(), 0));
+    daemon.handle(alloc, &Event::Sweep(Moment(5)), &mut kernel);
+    let blocked: [&[u8]; 6] = [
+        b"event 1 sweep 5",
+        b"judged 1 usb1 block keep",
+        b"judged 2 1-1 block implicit",
+        b"intent 2 1-1 off",
+        b"wrote 2 1-1 off done",
+        b"end 1",
+    ];
+    assert!(rt; notes(&daemon, &blocked));
+    kernel.unplug(&NodeName::parse(b"1-1")?);
+    kernel.plug(device(alloc, b"1-1", true)?)?;
+    assert!(rt; daemon.has_numbers(kernel.faults(), 0));
+    daemon.handle(alloc, &Event::Sweep(Moment(6)), &mut kernel);
+    let anew: [&[u8]; 6] = [
+        b"event 2 sweep 6",
+        b"gone 2 1-1",
+        b"judged 3 1-1 block implicit",
+        b"intent 3 1-1 off",
+        b"wrote 3 1-1 off done",
+        b"end 2",
+    ];
+    assert!(rt; notes(&daemon, &anew));
+    Ok(())
+}
