@@ -1,0 +1,135 @@
+-- Each line keeps the kernel sound and each standing of a device.
+use Rattle.std.proofs.Common.{◌≡◌, ℕ, Bool, true, false, ◌&&◌, if◌then◌else◌, nat_eq, nat_lt, List, [], ◌∷◌, length, Option, Some, None, refl, sym, ◌∙◌, subst}
+use Rattle.std.specs.Cmp.Lexicographic.{pointwise}
+use Rattle.std.proofs.lemmas.Option.{same_Some}
+use Rattle.ug_types.specs.declared.verdict.Moment.{Moment}
+use Rattle.ug_kernel.specs.Kernel.{Kernel, IsKernel, Moves}
+use Rattle.ug_kernel.proofs.Grow.{quiet_grows}
+use Rattle.ug_kernel.proofs.Quiet.{moves_quiet}
+use Rattle.ug_sysfs.specs.Devices.{plugged, unplugged}
+use Rattle.ug_sysfs.specs.World.{World, Gives, begun, over, told}
+use Rattle.ug_sysfs.specs.Law.{does_what_it_may}
+use Rattle.ug_sysfs.specs.Begins.{plugged_moves, unplugged_moves, happened_moves}
+use Rattle.ug_sysfs.specs.Sound.{plugged_sound, unplugged_sound, happened_sound}
+use Rattle.ug_table.specs.State.{State}
+use Rattle.ug_table.specs.Sweep.{sweeping}
+use Rattle.ug_table.specs.Laws.{Stand, Swept}
+use Rattle.ug_table.specs.declared.standing.Standing.{Standing}
+use Rattle.ug_table.proofs.Devices.{stand_stays}
+use Rattle.ug_table.proofs.Swept.{told_swept}
+use Rattle.ug_play.specs.Play.{play}
+use Rattle.ug_play.proofs.Plays.{play_runs, play_told, play_then}
+use Rattle.ug_core.specs.Event as event
+use Rattle.ug_core.specs.Event.{DaemonState, handling, has_numbers, policy_answer, policy_later}
+use Rattle.ug_core.specs.Laws.{Handled}
+use Rattle.ug_core.specs.declared.policy.Policy.{Policy}
+use Rattle.ug_lines.specs.Fold.{BadLine, Outcome, Writes, Refused, Stage, Going, Halted, is_within, stage_after, advance, plays}
+use Rattle.ug_script.specs.declared.step.Step.{Step}
+use Rattle.ug_script.specs.declared.step.Step.TheVariants.{Skip, Rule, Plug, Unplug, Sweep}
+use Rattle.ug_script.specs.Grammar.{step_of_line}
+use Rattle.ug_script.specs.Replay.{Script, with_rule, header, fresh, quiet, bad, rules_of, with_devices, after_event, taken, taken_if, script_step}
+use Rattle.ug_script.specs.Laws.{StaysLawful}
+
+record Holds (standings : List Standing) (next : ℕ) (w : World) : Type 0 where
+  told : w.ran_out ≡ false
+  sound : IsKernel w.kernel
+  stand : Stand w.kernel standings next
+
+abbrev HoldsIn : Option Script × World → Type 0
+HoldsIn (None, w) = Holds [] 1 w
+HoldsIn (Some s, w) = Holds s.daemon.sweep.standings s.daemon.sweep.next w
+
+abbrev HoldsAfter : Outcome (Option Script × World) → Type 0
+HoldsAfter (Writes text p) = HoldsIn p
+HoldsAfter (Refused fault p) = HoldsIn p
+
+abbrev HoldsAt : Stage (Option Script × World) → Type 0
+HoldsAt (Going n text p) = HoldsIn p
+HoldsAt (Halted fault n text p) = HoldsIn p
+
+moves_on : (ss : List Standing) (next : ℕ) (k l : Kernel) → Moves k l → Stand k ss next → Stand l ss next
+moves_on ss next k l m s = stand_stays k l ss next (quiet_grows k l (moves_quiet k l m)) s
+
+plays_sweep : (moment : Moment) (d : DaemonState) (w : World) → play (handling moment d) (begun w) ≡ play (event.ended d (play (sweeping policy_answer policy_later (event.begun d moment)) (begun w)).0) (play (sweeping policy_answer policy_later (event.begun d moment)) (begun w)).1
+unfolding handling
+plays_sweep moment d w = play_then (sweeping policy_answer policy_later (event.begun d moment)) (event.ended d) (begun w)
+
+told_at : (w : World) → w.ran_out ≡ false → told w ≡ Some w.kernel
+told_at w e = rw e refl
+
+-- an event from a kernel that is told
+handled : (moment : Moment) (d : DaemonState) (w : World) → Holds d.sweep.standings d.sweep.next w → Handled moment w.kernel d (play (handling moment d) (begun w)).1.kernel (play (handling moment d) (begun w)).0
+handled moment d w h =
+    let p = sweeping policy_answer policy_later (event.begun d moment) in
+    let v : State Policy = (play p (begun w)).0 in
+    let t : World = (play p (begun w)).1 in
+    let run : t.ran_out ≡ false = play_told p (begun w) h.told in
+    let swept = told_swept Gives told does_what_it_may policy_answer policy_later (begun w) (event.begun d moment) t v (play_runs p (begun w)) t.kernel (told_at t run) in
+    let same : swept.0 ≡ w.kernel = same_Some swept.0 w.kernel (sym swept.1 ∙ told_at w h.told) in
+    rw (plays_sweep moment d w) (record {
+      swept = v;
+      law = subst (λ (k : Kernel). Swept policy_answer policy_later k (event.begun d moment) t.kernel v) same (swept.2 (rw same h.sound) (rw same h.stand));
+      entries = refl;
+      event = refl;
+    })
+
+swept_holds : (moment : Moment) (d : DaemonState) (w : World) → Holds d.sweep.standings d.sweep.next w → HoldsAfter (after_event (play (handling moment d) (begun w)))
+swept_holds moment d w h =
+    let p = play (handling moment d) (begun w) in
+    let law = handled moment d w h in
+    record {
+      told = play_told (handling moment d) (begun w) h.told;
+      sound = happened_sound p.1.moves p.1.kernel law.law.fair.sound;
+      stand = moves_on p.0.sweep.standings p.0.sweep.next p.1.kernel (over p.1).kernel (happened_moves p.1.moves p.1.kernel) (rw law.entries law.law.fair.stand);
+    }
+
+when : (b : Bool) (o p : Outcome (Option Script × World)) → HoldsAfter o → HoldsAfter p → HoldsAfter (if b then o else p)
+when true o p x y = x
+when false o p x y = y
+
+taken_holds : (step : Step) (s : Script) (w : World) → HoldsIn (Some s, w) → HoldsAfter (taken step s w)
+taken_holds Skip s w h = h
+taken_holds (Rule rule) s w h = when (s.setup && nat_lt (length (rules_of s)) 65536) (quiet (record s { daemon = with_rule rule s.daemon }) w) (bad s w) h h
+taken_holds (Plug device) s w h = record {
+  told = h.told;
+  sound = plugged_sound device w.kernel h.sound;
+  stand = moves_on s.daemon.sweep.standings s.daemon.sweep.next w.kernel (with_devices (plugged device w.kernel.devices) w).kernel (plugged_moves device w.kernel) h.stand;
+}
+taken_holds (Unplug name) s w h = record {
+  told = h.told;
+  sound = unplugged_sound name w.kernel h.sound;
+  stand = moves_on s.daemon.sweep.standings s.daemon.sweep.next w.kernel (with_devices (unplugged name w.kernel.devices) w).kernel (unplugged_moves name w.kernel) h.stand;
+}
+taken_holds (Sweep moment) s w h = when (has_numbers s.daemon w.faults 0) (after_event (play (handling moment s.daemon) (begun w))) (bad s w) (swept_holds moment s.daemon w h) h
+
+taken_if_holds : (step : Option Step) (s : Script) (w : World) → HoldsIn (Some s, w) → HoldsAfter (taken_if step s w)
+taken_if_holds None s w h = h
+taken_if_holds (Some step) s w h = taken_holds step s w h
+
+step_holds : (p : Option Script × World) (line : List ℕ) → HoldsIn p → HoldsAfter (script_step p line)
+step_holds (None, w) line h = when (pointwise nat_eq line header) (quiet fresh w) (Refused BadLine (None, w)) h h
+step_holds (Some s, w) line h = taken_if_holds (step_of_line line) s w h
+
+after_holds : (n : ℕ) (text : List ℕ) (o : Outcome (Option Script × World)) → HoldsAfter o → HoldsAt (stage_after n text o)
+after_holds n text (Writes more next) h = h
+after_holds n text (Refused fault next) h = h
+
+if_within : (b : Bool) (o p : Stage (Option Script × World)) → HoldsAt o → HoldsAt p → HoldsAt (if b then o else p)
+if_within true o p x y = x
+if_within false o p x y = y
+
+advance_holds : (stage : Stage (Option Script × World)) (line : List ℕ) → HoldsAt stage → HoldsAt (advance script_step stage line)
+advance_holds (Going n text p) line h = if_within (is_within n line) (stage_after n text (script_step p line)) (Halted BadLine n text p) (after_holds n text (script_step p line) (step_holds p line h)) h
+advance_holds (Halted fault n text p) line h = h
+
+plays_hold : (lines : List (List ℕ)) (stage : Stage (Option Script × World)) → HoldsAt stage → HoldsAt (plays script_step stage lines)
+plays_hold [] stage h = h
+plays_hold (line ∷ lines) stage h = plays_hold lines (advance script_step stage line) (advance_holds stage line h)
+
+no_standing : (k : Kernel) → Stand k [] 1
+no_standing k = record { devices = λ s a. absurd a; numbers = λ s a. absurd a; names = tt }
+
+pub stays_lawful : (w : World) → w.ran_out ≡ false → IsKernel w.kernel → StaysLawful w
+stays_lawful w run sound lines n text s v e =
+    let h : HoldsAt (Going n text (Some s, v)) = subst HoldsAt e (plays_hold lines (Going 0 [] (None, w)) (record { told = run; sound = sound; stand = no_standing w.kernel })) in
+    record { sound = h.sound; stand = h.stand; events = λ moment. handled moment s.daemon v h }

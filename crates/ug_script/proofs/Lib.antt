@@ -1,0 +1,5 @@
+pub mod Digits
+pub mod Moments
+pub mod NamesRead
+pub mod Events
+pub mod Lawful

@@ -1,0 +1,4 @@
+pub mod Grammar
+pub mod Words
+pub mod Replay
+pub mod Laws

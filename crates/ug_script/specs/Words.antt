@@ -1,0 +1,64 @@
+-- Names, numbers and hexadecimal words of a script's lines.
+use Rattle.std.specs.Prelude.{◌≡◌, ℕ, ◌+◌, ◌-◌, ◌*◌, Bool, false, ◌&&◌, nat_eq, nat_le, if◌then◌else◌, List, [], ◌∷◌, length, get_or, Option, Some, None, Result, Ok, Err}
+use Rattle.std.specs.List.{fold}
+use Rattle.hex.specs.Hex.{decode_of, decode_sized}
+use Rattle.hex.specs.declared.error.FromHexError.{FromHexError}
+use Rattle.ug_types.specs.Reading.{after, ends_name}
+use Rattle.ug_types.specs.declared.reading.Reading.{Reading}
+use Rattle.ug_types.specs.declared.reading.Reading.TheVariants.{Start}
+use Rattle.ug_script.specs.declared.step.StepFault.{StepFault}
+use Rattle.ug_script.specs.declared.step.StepFault.TheVariants.{Bad, Memory}
+
+abbrev pub then_byte : Option Reading → ℕ → Option Reading
+then_byte None b = None
+then_byte (Some reading) b = after reading b
+
+-- what the bytes of a node name lead to
+abbrev pub reading_of : List ℕ → Option Reading
+reading_of text = fold then_byte (Some Start) text
+
+abbrev pub is_whole : Option Reading → Bool
+is_whole None = false
+is_whole (Some reading) = ends_name reading
+
+-- a node name of at most 31 bytes
+unfoldable pub name_of : List ℕ → Option (List ℕ)
+name_of text = if is_whole (reading_of text) && nat_le (length text) 31 then Some text else None
+
+-- one more decimal digit, up to the limit
+abbrev pub with_digit : Option ℕ → ℕ → Option ℕ
+with_digit None b = None
+with_digit (Some n) b = if nat_le 48 b && nat_le b 57 && nat_le (n * 10 + (b - 48)) 250000000000 then Some (n * 10 + (b - 48)) else None
+
+abbrev pub number_of : List ℕ → Option ℕ
+number_of digits = fold with_digit (Some 0) digits
+
+-- a decimal number without sign or leading zero, up to the limit
+unfoldable pub moment_of : List ℕ → Option ℕ
+moment_of text =
+    if nat_eq (length text) 0 then None
+    else if nat_eq (get_or text 0 0) 48 then if nat_eq (length text) 1 then Some 0 else None
+    else number_of text
+
+abbrev pub from_pair : Result (List ℕ) FromHexError → Option ℕ
+from_pair (Ok bytes) = Some (get_or bytes 0 0 * 256 + get_or bytes 1 0)
+from_pair (Err e) = None
+
+-- four hexadecimal digits of either case
+unfoldable pub id_of : List ℕ → Option ℕ
+id_of text = from_pair (decode_sized text 2)
+
+abbrev pub filled : Result (List ℕ) FromHexError → Option (List ℕ)
+filled (Ok []) = None
+filled (Ok (b ∷ bytes)) = Some (b ∷ bytes)
+filled (Err e) = None
+
+-- an even number of hexadecimal digits of either case, at least two
+unfoldable pub bytes_of : List ℕ → Option (List ℕ)
+bytes_of text = filled (decode_of text)
+
+-- the bytes, or the fault of a text that writes none; want of memory may come at any text
+abbrev pub ReadsBytes : Option (List ℕ) → Result (List ℕ) StepFault → Type 0
+ReadsBytes asked (Ok bytes) = asked ≡ Some bytes
+ReadsBytes asked (Err Bad) = asked ≡ None
+ReadsBytes asked (Err Memory) = Unit {0}

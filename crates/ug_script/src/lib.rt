@@ -1,0 +1,18 @@
+// A script of rules, devices and sweeps, run by the daemon.
+#![tactic(auto)]
+
+mod laws;
+mod parse;
+mod runner;
+mod running;
+mod step;
+mod text;
+mod words;
+
+pub use laws::{script_law, words_law};
+pub use parse::parse_line;
+pub use runner::Runner;
+pub use step::{Step, StepFault};
+
+#[cfg(test)]
+mod parse_tests;

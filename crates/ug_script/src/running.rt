@@ -1,0 +1,116 @@
+// A script whose first line was read.
+ghost use Rattle.std.specs.Prelude.{◌≡◌, ◌≤◌, ◌&&◌, true, nat_lt, length, Some, IfOk};
+ghost use Rattle.ug_types.specs.Ends.{Rose};
+ghost use Rattle.ug_lines.specs.Runs.{Steps};
+ghost use Rattle.ug_play.specs.Play.{IsPlayed};
+ghost use Rattle.ug_core.specs.Event.{daemon_of, handling, has_numbers};
+ghost use Rattle.ug_sysfs.specs.World.{begun};
+ghost use Rattle.ug_script.specs.Replay.{fresh, rules_of, script_of, sweep_step, taken, tells};
+
+use crate::step::Step;
+use crate::text::{put, tells_memory, text_of};
+use std::alloc::Global;
+use ug_core::{Daemon, Event};
+use ug_lines::Ran;
+use ug_sysfs::{SimKernel, Sysfs};
+use ug_types::{List, Moment, NoMemory, Sink};
+
+const RULES: usize = 65536;
+
+/// Whether rules may still come, and the daemon.
+#[derive(Drop)]
+pub struct Running {
+    pub setup: bool,
+    pub daemon: Daemon,
+}
+
+/// An event, which the kernel's script fixes unless it is told that memory was wanting.
+fn handle(alloc: Global, daemon: &mut Daemon, moment: Moment, kernel: &mut SimKernel)
+    requires { has_numbers (daemon_of daemon.old) kernel.old.faults 0 ≡ true }
+    ensures { IsPlayed tells (handling moment (daemon_of daemon.old)) (begun kernel.old) (daemon_of daemon.new) kernel.new }
+{
+    daemon.handle(alloc, &Event::Sweep(moment), kernel);
+}
+
+impl Running {
+    pub fn start(alloc: Global) -> Result<Running, NoMemory>
+        ensures { IfOk result (λ r. script_of r ≡ fresh) }
+    {
+        Ok(Running {
+            setup: true,
+            daemon: Daemon::start(alloc, List::new(alloc), 1)?,
+        })
+    }
+
+    fn takes_rules(&self) -> bool
+        ensures { result ≡ (self.now.setup && nat_lt (length (rules_of (script_of self.now))) 65536) }
+    {
+        self.setup && self.daemon.policy.rules.as_slice().len() < RULES
+    }
+
+    fn sweep<K: Sink>(
+        &mut self,
+        alloc: Global,
+        moment: Moment,
+        kernel: &mut SimKernel,
+        out: &mut K,
+    ) -> Ran
+        ensures ran { Steps (sweep_step moment (script_of self.old) kernel.old) (Some (script_of self.new), kernel.new) (K.held out.old) (K.held out.new) result }
+        ensures counted { K.faults out.old ≤ K.faults out.new }
+        ensures cause { result ≡ Ran.SinkFailed → Rose (K.faults out.old) (K.faults out.new) }
+    {
+        if !self.daemon.has_numbers(kernel.faults(), 0) {
+            return Ran::Bad;
+        }
+        self.setup = false;
+        handle(alloc, &mut self.daemon, moment, kernel);
+        let entries = self.daemon.report().entries.as_slice();
+        if kernel.ran_out() || tells_memory(entries) {
+            return Ran::Memory;
+        }
+        kernel.end_event();
+        match text_of(alloc, entries) {
+            Ok(text) => put(out, text.as_slice()),
+            Err(_) => Ran::Memory,
+        }
+    }
+
+    /// Takes a line's step, and writes its text.
+    pub fn take<K: Sink>(
+        &mut self,
+        alloc: Global,
+        step: Step,
+        kernel: &mut SimKernel,
+        out: &mut K,
+    ) -> Ran
+        ensures ran { Steps (taken step (script_of self.old) kernel.old) (Some (script_of self.new), kernel.new) (K.held out.old) (K.held out.new) result }
+        ensures counted { K.faults out.old ≤ K.faults out.new }
+        ensures cause { result ≡ Ran.SinkFailed → Rose (K.faults out.old) (K.faults out.new) }
+    {
+        match step {
+            Step::Skip => Ran::Done,
+            Step::Rule(rule) => {
+                if !self.takes_rules() {
+                    return Ran::Bad;
+                }
+                match self.daemon.policy.rules.push(rule) {
+                    Ok(()) => Ran::Done,
+                    Err(_) => Ran::Memory,
+                }
+            }
+            Step::Plug(device) => {
+                self.setup = false;
+                match kernel.plug(device) {
+                    Ok(()) => Ran::Done,
+                    Err(_) => Ran::Memory,
+                }
+            }
+            Step::Unplug(name) => {
+                self.setup = false;
+                kernel.unplug(&name);
+                Ran::Done
+            }
+            Step::Sweep(moment) => self.sweep(alloc, moment, kernel, out),
+        }
+    }
+}

@@ -1,0 +1,28 @@
+// What a line of a script asks for.
+use ug_core::IdRule;
+use ug_sysfs::Device;
+use ug_types::{Moment, NodeName};
+
+/// One line's step.
+#[derive(Drop)]
+pub enum Step {
+    /// An empty line or a comment.
+    Skip,
+    /// One more rule behind those before.
+    Rule(IdRule),
+    /// A device is plugged in. It has no parent yet.
+    Plug(Device),
+    /// The device of that name is unplugged.
+    Unplug(NodeName),
+    /// A sweep at that moment.
+    Sweep(Moment),
+}
+
+/// Why a line gives no step.
+#[derive(Clone, Copy, Debug, PartialEq, Eq)]
+pub enum StepFault {
+    /// The line is none of the grammar.
+    Bad,
+    /// There was no memory for its device.
+    Memory,
+}

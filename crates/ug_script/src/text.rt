@@ -1,0 +1,60 @@
+// The text of an event.
+ghost use Rattle.std.specs.Prelude.{◌≡◌, ◌≤◌, ◌++◌, Some, IfOk, OnOk};
+ghost use Rattle.ug_types.specs.Ends.{Rose};
+ghost use Rattle.ug_lines.specs.Runs.{Closes};
+ghost use Rattle.ug_play.specs.Play as play;
+ghost use Rattle.ug_script.specs.Replay.{terminated, lines_text};
+
+use std::alloc::Global;
+use ug_core::{Entry, Fault, line_of};
+use ug_lines::Ran;
+use ug_types::{NoMemory, Put, Sink};
+
+fn push_line(text: &mut Vec<u8>, entry: &Entry) -> Result<(), NoMemory>
+    ensures { OnOk result (text.new.items ≡ text.old.items ++ terminated entry.now) }
+{
+    text.extend_from_slice(line_of(entry).bytes())?;
+    text.push(b'\n')?;
+    Ok(())
+}
+
+/// The lines of the entries, each with its newline.
+pub fn text_of(alloc: Global, entries: &[Entry]) -> Result<Vec<u8>, NoMemory>
+    ensures { IfOk result (λ text. text.items ≡ lines_text entries.now) }
+{
+    let mut text = Vec::new(alloc);
+    for entry in entries {
+        push_line(&mut text, entry)?;
+    }
+    Ok(text)
+}
+
+fn entry_tells_memory(entry: &Entry) -> bool
+    ensures { result ≡ play.entry_tells_memory entry.now }
+{
+    match entry {
+        Entry::Unsettled { fault, .. } | Entry::UnsettledAll { fault } => {
+            matches!(fault, Fault::Memory)
+        }
+        _ => false,
+    }
+}
+
+/// Whether one of the entries tells want of memory.
+pub fn tells_memory(entries: &[Entry]) -> bool
+    ensures { result ≡ play.tells_memory entries.now }
+{
+    entries.iter().any(|entry| entry_tells_memory(entry))
+}
+
+/// Writes a text.
+pub fn put<K: Sink>(out: &mut K, text: &[u8]) -> Ran
+    ensures ran { Closes (Some text.now) (K.held out.old) (K.held out.new) result }
+    ensures counted { K.faults out.old ≤ K.faults out.new }
+    ensures cause { result ≡ Ran.SinkFailed → Rose (K.faults out.old) (K.faults out.new) }
+{
+    match out.put(text) {
+        Put::Done => Ran::Done,
+        Put::Failed => Ran::SinkFailed,
+    }
+}

@@ -1,0 +1,94 @@
+// Names, numbers and hexadecimal words of a script's lines.
+ghost use Rattle.std.specs.Prelude.{◌≡◌, Some};
+ghost use Rattle.ug_script.specs.Words.{name_of, with_digit, number_of, moment_of, id_of, bytes_of, ReadsBytes};
+
+use crate::step::StepFault;
+use hex::FromHex;
+use std::alloc::Global;
+use ug_types::{NodeName, Text};
+
+/// A node name of at most 31 bytes.
+pub fn name(text: &[u8]) -> Option<NodeName>
+    ensures { result ≡ name_of text.now }
+{
+    match NodeName::parse(text) {
+        Ok(name) => Some(name),
+        Err(_) => None,
+    }
+}
+
+/// The number with one more digit, up to the limit of a moment.
+fn digit_onto(number: u64, byte: u8) -> Option<u64>
+    ensures { result ≡ with_digit (Some number) byte }
+{
+    if byte < b'0' {
+        return None;
+    }
+    if byte > b'9' {
+        return None;
+    }
+    if number > 250_000_000_000 {
+        return None;
+    }
+    let longer = number * 10 + u64::from(byte - b'0');
+    if longer > 250_000_000_000 {
+        return None;
+    }
+    Some(longer)
+}
+
+/// The number that the digits write.
+fn number(digits: &[u8]) -> Option<u64>
+    ensures { result ≡ number_of digits.now }
+{
+    let mut number: u64 = 0;
+    for byte in digits {
+        match digit_onto(number, *byte) {
+            Some(longer) => number = longer,
+            None => return None,
+        }
+    }
+    Some(number)
+}
+
+/// A decimal number without sign or leading zero, up to 250,000,000,000.
+#[tactic(auto, unfolding(crate::specs::Words::moment_of))]
+pub fn moment(text: &[u8]) -> Option<u64>
+    ensures { result ≡ moment_of text.now }
+{
+    if text.is_empty() {
+        return None;
+    }
+    if text[0] == b'0' {
+        return if text.len() == 1 { Some(0) } else { None };
+    }
+    number(text)
+}
+
+/// Four hexadecimal digits of either case.
+#[tactic(auto, unfolding(crate::specs::Words::id_of))]
+pub fn id(text: &[u8]) -> Option<u16>
+    ensures { result ≡ id_of text.now }
+{
+    match <[u8; 2] as FromHex>::from_hex(text) {
+        Ok(bytes) => Some(u16::from(bytes[0]) * 256 + u16::from(bytes[1])),
+        Err(_) => None,
+    }
+}
+
+/// The bytes that an even number of hexadecimal digits write, at least two.
+#[tactic(auto, unfolding(crate::specs::Words::bytes_of))]
+pub fn bytes(alloc: Global, digits: &[u8]) -> Result<Text, StepFault>
+    ensures { ReadsBytes (bytes_of digits.now) result }
+{
+    match hex::decode(alloc, digits) {
+        Ok(bytes) => {
+            if bytes.is_empty() {
+                return Err(StepFault::Bad);
+            }
+            Ok(Text::from_vec(bytes))
+        }
+        Err(hex::FromHexError::OutOfMemory) => Err(StepFault::Memory),
+        Err(_) => Err(StepFault::Bad),
+    }
+}
