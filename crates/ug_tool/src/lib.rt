@@ -1,0 +1,6 @@
+// The commands.
+#![tactic(auto)]
+
+mod replay;
+
+pub use replay::run_replay;
