@@ -1,9 +1,8 @@
 // The program: the real objects and the top call.
 #![tactic(auto)]
 
-use std::env;
-use std::io;
 use std::process::ExitCode;
+use std::{env, io};
 use ug_sysfs::SimKernel;
 use ug_tool::run_replay;
 use ug_types::{ReaderSource, WriterSink};
