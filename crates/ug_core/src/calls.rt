@@ -24,7 +24,8 @@ fn low(n: u64) -> bool
 impl Daemon {
     /// A daemon with these rules, whose first event has that number. It makes the room of an event's entries.
     pub fn start(alloc: Global, rules: List<IdRule>, first: u64) -> Result<Daemon, NoMemory>
-        ensures { IfOk result (λ d. IsStarted rules first (daemon_of d)) }
+        ensures started { IfOk result (λ d. IsStarted rules first (daemon_of d)) }
+        ensures number { IfOk result (λ d. d.report.event ≡ 0) }
     {
         let mut entries = Entries::new(alloc);
         entries.reserve(64)?;
@@ -55,6 +56,7 @@ impl Daemon {
         requires { IsTrue (has_numbers (daemon_of self.old) (Y.faults sysfs.old) 0) }
         ensures runs { RunsEvent Y.begins Y.gives sysfs.old (moment_of event.now) (daemon_of self.old) sysfs.new (daemon_of self.new) }
         ensures law { Handles Y.told (moment_of event.now) sysfs.old (daemon_of self.old) sysfs.new (daemon_of self.new) }
+        ensures number { self.new.report.event ≡ self.old.next_event }
     {
         let Event::Sweep(moment) = event;
         self.sweep(alloc, *moment, sysfs);
@@ -65,6 +67,7 @@ impl Daemon {
         requires { IsTrue (has_numbers (daemon_of self.old) (Y.faults sysfs.old) 0) }
         ensures runs { RunsEvent Y.begins Y.gives sysfs.old moment (daemon_of self.old) sysfs.new (daemon_of self.new) }
         ensures law { Handles Y.told moment sysfs.old (daemon_of self.old) sysfs.new (daemon_of self.new) }
+        ensures number { self.new.report.event ≡ self.old.next_event }
     {
         let number = self.next_event;
         sysfs.begin();

@@ -3,7 +3,7 @@ use ug_audit::Entries;
 
 #[derive(Drop)]
 pub struct Report {
-    /// The event's number, or that of the event before the first.
+    /// The event's number, or 0 before the first.
     pub event: u64,
     pub entries: Entries,
 }
