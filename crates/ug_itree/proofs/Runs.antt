@@ -2,9 +2,6 @@
 use Rattle.std.proofs.Common.{refl, subst}
 use Rattle.ug_kernel.specs.Calls.{Call, Answer}
 use Rattle.ug_itree.specs.Tree.{Prog, Return, Ask, Room, Runs, then}
-use Rattle.ug_itree.specs.Paths.{Asked, Had, Paths, Chain}
-use Rattle.std.specs.Prelude.{◌≡◌, List, [], ◌∷◌, ◌++◌}
-use Rattle.std.proofs.Common.{ap}
 
 pub runs_then : {S A B : Type 0} (gives : S → (call : Call) → Answer call → S → Type 0) (s : S) (p : Prog A) (f : A → Prog B) (a : A) (u : S) (r : B) (t : S) → Runs gives s p a u → Runs gives u (f a) r t → Runs gives s (then p f) r t
 runs_then gives s (Return value) f a u r t h k = subst (λ (v : _). Runs gives s (f v) r t) h.0 (subst (λ (v : _). Runs gives v (f a) r t) h.1 k)
@@ -15,15 +12,3 @@ pub runs_split : {S A B : Type 0} (gives : S → (call : Call) → Answer call �
 runs_split gives s (Return value) f r t h = (value, s, (refl, refl), h)
 runs_split gives s (Ask call next) f r t h = let k = runs_split gives h.1 (next h.0) f r t h.3 in (k.0, k.1, (h.0, h.1, h.2, k.2), k.3)
 runs_split gives s (Room next) f r t h = let k = runs_split gives s (next h.0) f r t h.1 in (k.0, k.1, (h.0, k.2), k.3)
-
--- a run goes by calls that lead from its first state to its last
-pub run_path : {S R : Type 0} (gives : S → (call : Call) → Answer call → S → Type 0) (p : Prog R) (s : S) (r : R) (t : S) → Runs gives s p r t → (xs : List Asked) × Chain gives s xs t × Paths p xs r
-run_path gives (Return value) s r t h = ([], h.1, h.0)
-run_path gives (Ask call next) s r t h = let k = run_path gives (next h.0) h.1 r t h.3 in (Had call h.0 ∷ k.0, (h.1, h.2, k.1), (h.0, refl, k.2))
-run_path gives (Room next) s r t h = let k = run_path gives (next h.0) s r t h.1 in (k.0, k.1, (h.0, k.2))
-
-pub paths_split : {A B : Type 0} (p : Prog A) (f : A → Prog B) (xs : List Asked) (r : B) → Paths (then p f) xs r → (a : A) × (ys : List Asked) × (zs : List Asked) × (xs ≡ ys ++ zs) × Paths p ys a × Paths (f a) zs r
-paths_split (Return value) f xs r h = (value, [], xs, refl, refl, h)
-paths_split (Ask call next) f [] r h = absurd h
-paths_split (Ask call next) f (x ∷ xs) r h = let k = paths_split (next h.0) f xs r h.2 in (k.0, x ∷ k.1, k.2, ap (λ v. x ∷ v) k.3, (h.0, h.1, k.4), k.5)
-paths_split (Room next) f xs r h = let k = paths_split (next h.0) f xs r h.1 in (k.0, k.1, k.2, k.3, (h.0, k.4), k.5)

@@ -27,7 +27,7 @@ pub struct Known {
 #[derive(Clone, Copy, Debug, PartialEq, Eq)]
 pub enum Settled {
     Stands,
-    /// No device of the name lived through the call.
+    /// Nothing stands for the name.
     Nobody,
     /// The number of the failed call in its event, and the count of failed calls after it.
     Fault { call: u64, count: u64 },
