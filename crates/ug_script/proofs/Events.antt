@@ -39,11 +39,11 @@ written p e t before after TooLong u v c = c
 written p e t before after SinkFailed u v c = (same_places u v, subst (λ (x : DaemonState). Puts before after (lines_text x.sweep.entries) Failed) u c)
 written p e t before after Memory u v c = c
 
-pub swept_steps : (moment : Moment) (s : Script) (w : World) (e : DaemonState) (t : World) (before after : Option (List ℕ)) (r : Ran) → has_numbers s.daemon w.faults 0 ≡ true → IsPlayed tells (handling moment s.daemon) (begun w) e t → tells_memory e.sweep.entries ≡ false → t.ran_out ≡ false → Closes (Some (lines_text e.sweep.entries)) before after r → Steps (sweep_step moment s w) (Some (record { setup = false; daemon = e }), over t) before after r
-swept_steps moment s w e t before after r n played quiet ran c = rw n (elim played [
+pub swept_steps : {u : World} (moment : Moment) (s : Script) (w : World) (e : DaemonState) (t : World) (before after : Option (List ℕ)) (r : Ran) → has_numbers s.daemon w.faults 0 ≡ true → IsPlayed tells (handling moment s.daemon) (begun w) e t → tells_memory e.sweep.entries ≡ false → t.ran_out ≡ false → Closes (Some (lines_text e.sweep.entries)) before after r → u ≡ over t → Steps (sweep_step moment s w) (Some (record { setup = false; daemon = e }), u) before after r
+swept_steps {u = u} moment s w e t before after r n played quiet ran c ended = rw ended (rw n (elim played [
   | inl q ↦ written (play (handling moment s.daemon) (begun w)) e t before after r q.0 q.1 c
   | inr x ↦ elim x [
     | inl y ↦ absurd (both_ways (tells_memory e.sweep.entries) quiet y)
     | inr y ↦ absurd (both_ways t.ran_out ran y)
   ]
-])
+]))

@@ -8,6 +8,6 @@ use Rattle.ug_script.proofs.running.Running.sweep.Goals as goal
 pub returns-in-Ok-clause-ran : goal.returns-in-Ok-clause-ran
 returns-in-Ok-clause-ran g c =
     let text : c.as_slice.result.now ≡ lines_text c.handle.new.daemon.report.entries.entries = c.as_slice.ensures.value ∙ c.in-Ok.ensures ∙ ap lines_text (search rules) in
-    rw c.end_event.ensures
-    (swept_steps c.args.moment (script_of c.args.self.now) c.args.kernel.now (daemon_of c.handle.new.daemon) c.handle.new.kernel (g.K.Sink.held c.args.out.now) (g.K.Sink.held c.put.new.out) c.put.result (search rules) c.handle.ensures (search rules) (search rules)
-    (subst (λ (x : List ℕ). Closes (Some x) (g.K.Sink.held c.args.out.now) (g.K.Sink.held c.put.new.out) c.put.result) text c.put.ensures.ran))
+    swept_steps c.args.moment (script_of c.args.self.now) c.args.kernel.now (daemon_of c.handle.new.daemon) c.handle.new.kernel (g.K.Sink.held c.args.out.now) (g.K.Sink.held c.put.new.out) c.put.result (search rules) c.handle.ensures (search rules) (search rules)
+    (subst (λ (x : List ℕ). Closes (Some x) (g.K.Sink.held c.args.out.now) (g.K.Sink.held c.put.new.out) c.put.result) text c.put.ensures.ran)
+    (search rules)
