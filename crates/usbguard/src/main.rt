@@ -5,21 +5,40 @@ use std::process::ExitCode;
 use std::{env, io};
 use ug_sysfs::SimKernel;
 use ug_tool::run_replay;
-use ug_types::{ReaderSource, WriterSink};
+use ug_types::{Put, ReaderSource, Sink, WriterSink};
 
-fn main(rt: HostRuntime) -> io::Result<ExitCode> {
+/// Writes a fault line, and gives its status, or that of a failed write.
+fn end_with<K: Sink>(out: &mut K, line: &[u8], status: u8) -> ExitCode {
+    match out.put(line) {
+        Put::Done => ExitCode::from(status),
+        Put::Failed => ExitCode::from(5),
+    }
+}
+
+fn main(rt: HostRuntime) -> ExitCode {
     let alloc = rt.alloc();
-    let mut texts = Vec::new(alloc);
-    for text in env::args(&rt)?.skip(1) {
-        texts.push(text)?;
+    let mut out = WriterSink::new(io::writer(&rt));
+    let texts = match env::args(&rt) {
+        Ok(texts) => texts,
+        Err(e) if e.kind() == io::ErrorKind::OutOfMemory => {
+            return end_with(&mut out, b"no memory\n", 6);
+        }
+        Err(_) => return end_with(&mut out, b"bad words\n", 1),
+    };
+    let mut kept = Vec::new(alloc);
+    for text in texts.skip(1) {
+        if kept.push(text).is_err() {
+            return end_with(&mut out, b"no memory\n", 6);
+        }
     }
     let mut words = Vec::new(alloc);
-    for text in texts.iter() {
-        words.push(text.as_str())?;
+    for text in kept.iter() {
+        if words.push(text.as_str()).is_err() {
+            return end_with(&mut out, b"no memory\n", 6);
+        }
     }
     let mut input = ReaderSource::new(rt.reader());
-    let mut out = WriterSink::new(io::writer(&rt));
     let mut kernel = SimKernel::new(alloc);
-    let status = run_replay(alloc, words.as_slice(), &mut input, &mut out, &mut kernel);
-    Ok(ExitCode::from(status))
+    let status = run_replay(alloc, &words, &mut input, &mut out, &mut kernel);
+    ExitCode::from(status)
 }
