@@ -151,9 +151,6 @@ counted_has x (y ∷ ys) (inl e) =
     omega (arith, times-cons x y ys)
 counted_has x (y ∷ ys) (inr h) = omega (arith, times-cons x y ys, counted_has x ys h)
 
-pub from_sweep_order : (names : List (List ℕ)) (x : List ℕ) → Has (in_sweep_order names) x → Has names x
-from_sweep_order names x h = has_counted x names (subst (λ (n : ℕ). 0 < n) (times_in_order x names) (counted_has x (in_sweep_order names) h))
-
 pub to_sweep_order : (names : List (List ℕ)) (x : List ℕ) → Has names x → Has (in_sweep_order names) x
 to_sweep_order names x h = has_counted x (in_sweep_order names) (subst (λ (n : ℕ). 0 < n) (sym (times_in_order x names)) (counted_has x names h))
 

@@ -4,8 +4,10 @@
 mod host;
 mod laws;
 mod line;
+mod link;
 mod list;
 mod marks;
+mod mem_link;
 mod memory;
 mod name;
 #[cfg(test)]
@@ -17,18 +19,22 @@ mod rule;
 mod sink;
 mod source;
 mod text;
+mod text_fault;
 mod verdict;
 
 pub use host::{ReaderSource, WriterSink};
 pub use laws::parents_law;
 pub use line::Line;
+pub use link::{Dialled, Link};
 pub use list::List;
+pub use mem_link::MemLink;
 pub use memory::{MemSink, MemSource};
 pub use name::{NameFault, NodeName, sort_names, sweep_order};
 pub use no_memory::NoMemory;
 pub use record::{Attrs, DeviceRecord, Judged, Triple};
-pub use rule::{Cond, CondKind, Conds, Id, Iface, Op, Query, Rule, Values};
+pub use rule::{After, Cond, CondKind, Conds, Id, Iface, Op, Query, Rule, Values};
 pub use sink::{Put, Sink};
 pub use source::{Source, Taken};
 pub use text::Text;
+pub use text_fault::{FileFault, TextFault};
 pub use verdict::{Cause, Held, Moment, Target};

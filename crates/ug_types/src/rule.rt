@@ -82,3 +82,12 @@ pub struct Rule {
     pub query: Query,
     pub conds: Option<Conds>,
 }
+
+/// Where a rule is put among others: usbguard(1), append-rule.
+#[derive(Clone, Copy, Debug, PartialEq, Eq)]
+pub enum After {
+    End,
+    Front,
+    /// Behind the rule of that id.
+    Rule(u64),
+}
