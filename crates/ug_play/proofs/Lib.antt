@@ -4,3 +4,4 @@ pub mod Played
 pub mod Bindings
 pub mod Journals
 pub mod Sweeps
+pub mod Fine

@@ -10,7 +10,7 @@ play_runs (Return value) s = (refl, refl)
 play_runs (Ask call next) s = ((answer_of s call).0, (answer_of s call).1, inl (refl, refl), play_runs (next (answer_of s call).0) (answer_of s call).1)
 play_runs (Room next) s = (true, play_runs (next true) s)
 
-told_unless : (out : Bool) (s : World) (c : Call) → out ≡ false → s.ran_out ≡ false → (answer_unless out s c).1.ran_out ≡ false
+pub told_unless : (out : Bool) (s : World) (c : Call) → out ≡ false → s.ran_out ≡ false → (answer_unless out s c).1.ran_out ≡ false
 told_unless out s (Close held) o e = e
 told_unless false s Names o e = e
 told_unless false s (Open name control) o e = e

@@ -34,3 +34,12 @@ TellsMemory before after = (rest : List Entry) × (after ≡ before ++ rest) × 
 -- the result and the world at the end are those that the script fixes, or the result tells want of memory, or the kernel has run out
 abbrev pub IsPlayed : {R : Type 0} → (R → Type 0) → Prog R → World → R → World → Type 0
 IsPlayed tells p s r t = ((r ≡ (play p s).0) × (t ≡ (play p s).1)) ⊎ (tells r ⊎ (t.ran_out ≡ true))
+
+-- an entry that names somebody as unsettled
+abbrev pub names_somebody : Entry → Bool
+names_somebody (entry.Unsettled name why) = true
+names_somebody (entry.UnsettledAll why) = true
+names_somebody e = false
+
+abbrev pub NameNobody : List Entry → Type 0
+NameNobody entries = list_any names_somebody entries ≡ false

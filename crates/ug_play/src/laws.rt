@@ -1,11 +1,11 @@
 // What a script fixes.
-ghost use Rattle.std.specs.Prelude.{◌≡◌, true, false, ◌⊎◌, List, ◌++◌};
+ghost use Rattle.std.specs.Prelude.{◌≡◌, true, false, ◌⊎◌, List, [], ◌++◌};
 ghost use Rattle.ug_itree.specs.Tree.{Prog, Runs};
 ghost use Rattle.ug_sysfs.specs.World.{World, Gives};
 ghost use Rattle.ug_audit.specs.declared.entry.Entry.{Entry};
 ghost use Rattle.ug_table.specs.State.{State};
 ghost use Rattle.ug_table.specs.Sweep.{sweeping};
-ghost use Rattle.ug_play.specs.Play.{play, tells_memory};
+ghost use Rattle.ug_play.specs.Play.{play, tells_memory, NameNobody};
 
 use ug_table::Judge;
 
@@ -21,4 +21,9 @@ pub fn sweep_law<A: Judge>()
     ensures { (w : State A) (s : World) (v : State A) (t : World) → Runs Gives s (sweeping A.answer A.later w) v t
         → ((v ≡ (play (sweeping A.answer A.later w) s).0) × (t ≡ (play (sweeping A.answer A.later w) s).1))
         ⊎ (((rest : List Entry) × (v.entries ≡ w.entries ++ rest) × (tells_memory rest ≡ true)) ⊎ (t.ran_out ≡ true)) }
+{}
+
+/// Where no call is to fail, a sweep that the script fixes names nobody as unsettled.
+pub fn quiet_law<A: Judge>()
+    ensures { (w : State A) (s : World) → s.ran_out ≡ false → s.fails ≡ [] → NameNobody w.entries → NameNobody (play (sweeping A.answer A.later w) s).0.entries }
 {}

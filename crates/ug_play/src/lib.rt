@@ -3,4 +3,4 @@
 
 mod laws;
 
-pub use laws::{play_law, sweep_law};
+pub use laws::{play_law, quiet_law, sweep_law};

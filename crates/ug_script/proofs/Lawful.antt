@@ -30,16 +30,16 @@ use Rattle.ug_script.specs.Grammar.{step_of_line}
 use Rattle.ug_script.specs.Replay.{Script, with_rule, header, fresh, quiet, bad, rules_of, with_devices, after_event, taken, taken_if, script_step}
 use Rattle.ug_script.specs.Laws.{StaysLawful}
 
-record Holds (standings : List Standing) (next : ℕ) (w : World) : Type 0 where
-  told : w.ran_out ≡ false
-  sound : IsKernel w.kernel
-  stand : Stand w.kernel standings next
+pub record Holds (standings : List Standing) (next : ℕ) (w : World) : Type 0 where
+  pub told : w.ran_out ≡ false
+  pub sound : IsKernel w.kernel
+  pub stand : Stand w.kernel standings next
 
-abbrev HoldsIn : Option Script × World → Type 0
+abbrev pub HoldsIn : Option Script × World → Type 0
 HoldsIn (None, w) = Holds [] 1 w
 HoldsIn (Some s, w) = Holds s.daemon.sweep.standings s.daemon.sweep.next w
 
-abbrev HoldsAfter : Outcome (Option Script × World) → Type 0
+abbrev pub HoldsAfter : Outcome (Option Script × World) → Type 0
 HoldsAfter (Writes text p) = HoldsIn p
 HoldsAfter (Refused fault p) = HoldsIn p
 
@@ -50,7 +50,7 @@ HoldsAt (Halted fault n text p) = HoldsIn p
 moves_on : (ss : List Standing) (next : ℕ) (k l : Kernel) → Moves k l → Stand k ss next → Stand l ss next
 moves_on ss next k l m s = stand_stays k l ss next (quiet_grows k l (moves_quiet k l m)) s
 
-plays_sweep : (moment : Moment) (d : DaemonState) (w : World) → play (handling moment d) (begun w) ≡ play (event.ended d (play (sweeping policy_answer policy_later (event.begun d moment)) (begun w)).0) (play (sweeping policy_answer policy_later (event.begun d moment)) (begun w)).1
+pub plays_sweep : (moment : Moment) (d : DaemonState) (w : World) → play (handling moment d) (begun w) ≡ play (event.ended d (play (sweeping policy_answer policy_later (event.begun d moment)) (begun w)).0) (play (sweeping policy_answer policy_later (event.begun d moment)) (begun w)).1
 unfolding handling
 plays_sweep moment d w = play_then (sweeping policy_answer policy_later (event.begun d moment)) (event.ended d) (begun w)
 
@@ -58,7 +58,7 @@ told_at : (w : World) → w.ran_out ≡ false → told w ≡ Some w.kernel
 told_at w e = rw e refl
 
 -- an event from a kernel that is told
-handled : (moment : Moment) (d : DaemonState) (w : World) → Holds d.sweep.standings d.sweep.next w → Handled moment w.kernel d (play (handling moment d) (begun w)).1.kernel (play (handling moment d) (begun w)).0
+pub handled : (moment : Moment) (d : DaemonState) (w : World) → Holds d.sweep.standings d.sweep.next w → Handled moment w.kernel d (play (handling moment d) (begun w)).1.kernel (play (handling moment d) (begun w)).0
 handled moment d w h =
     let p = sweeping policy_answer policy_later (event.begun d moment) in
     let v : State Policy = (play p (begun w)).0 in
@@ -73,7 +73,7 @@ handled moment d w h =
       event = refl;
     })
 
-swept_holds : (moment : Moment) (d : DaemonState) (w : World) → Holds d.sweep.standings d.sweep.next w → HoldsAfter (after_event (play (handling moment d) (begun w)))
+pub swept_holds : (moment : Moment) (d : DaemonState) (w : World) → Holds d.sweep.standings d.sweep.next w → HoldsAfter (after_event (play (handling moment d) (begun w)))
 swept_holds moment d w h =
     let p = play (handling moment d) (begun w) in
     let law = handled moment d w h in
@@ -87,7 +87,7 @@ when : (b : Bool) (o p : Outcome (Option Script × World)) → HoldsAfter o → 
 when true o p x y = x
 when false o p x y = y
 
-taken_holds : (step : Step) (s : Script) (w : World) → HoldsIn (Some s, w) → HoldsAfter (taken step s w)
+pub taken_holds : (step : Step) (s : Script) (w : World) → HoldsIn (Some s, w) → HoldsAfter (taken step s w)
 taken_holds Skip s w h = h
 taken_holds (Rule rule) s w h = when (s.setup && nat_lt (length (rules_of s)) 65536) (quiet (record s { daemon = with_rule rule s.daemon }) w) (bad s w) h h
 taken_holds (Plug device) s w h = record {
@@ -126,7 +126,7 @@ plays_hold : (lines : List (List ℕ)) (stage : Stage (Option Script × World)) 
 plays_hold [] stage h = h
 plays_hold (line ∷ lines) stage h = plays_hold lines (advance script_step stage line) (advance_holds stage line h)
 
-no_standing : (k : Kernel) → Stand k [] 1
+pub no_standing : (k : Kernel) → Stand k [] 1
 no_standing k = record { devices = λ s a. absurd a; numbers = λ s a. absurd a; names = tt }
 
 pub stays_lawful : (w : World) → w.ran_out ≡ false → IsKernel w.kernel → StaysLawful w

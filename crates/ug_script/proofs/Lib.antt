@@ -3,3 +3,5 @@ pub mod Moments
 pub mod NamesRead
 pub mod Events
 pub mod Lawful
+pub mod Accounts
+pub mod Recorded

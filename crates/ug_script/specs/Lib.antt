@@ -2,3 +2,4 @@ pub mod Grammar
 pub mod Words
 pub mod Replay
 pub mod Laws
+pub mod Journal

@@ -3,6 +3,7 @@ ghost use Rattle.std.specs.Prelude.{◌≡◌, ◌≤◌, ◌↔◌, ℕ, false,
 ghost use Rattle.ug_types.specs.NodeNames.{IsNodeName};
 ghost use Rattle.ug_kernel.specs.Kernel.{IsKernel};
 ghost use Rattle.ug_sysfs.specs.World.{World};
+ghost use Rattle.ug_script.specs.Journal.{StaysRecorded};
 ghost use Rattle.ug_script.specs.Laws.{StaysLawful};
 ghost use Rattle.ug_script.specs.Words.{moment_of, name_of};
 
@@ -12,7 +13,9 @@ pub fn words_law()
     ensures moments { (text : List ℕ) (moment : ℕ) → (moment_of text ≡ Some moment) ↔ ((text ≡ decimal moment) × (moment ≤ 250000000000)) }
 {}
 
-/// From a sound kernel each event of a script is fair and leaves each device settled or named.
+/// From a sound kernel each event of a script is fair and leaves each device settled or named, and the journal of all events
+/// explains each write.
 pub fn script_law()
-    ensures { (w : World) → w.ran_out ≡ false → IsKernel w.kernel → StaysLawful w }
+    ensures lawful { (w : World) → w.ran_out ≡ false → IsKernel w.kernel → StaysLawful w }
+    ensures recorded { (w : World) → w.ran_out ≡ false → IsKernel w.kernel → StaysRecorded w }
 {}

@@ -1,5 +1,9 @@
 use Rattle.ug_script.proofs.Lawful.{stays_lawful}
+use Rattle.ug_script.proofs.Recorded.{stays_recorded}
 use Rattle.ug_script.proofs.laws.script_law.Goals as goal
 
-pub returns : goal.returns
-returns c = stays_lawful
+pub returns-clause-lawful : goal.returns-clause-lawful
+returns-clause-lawful c = stays_lawful
+
+pub returns-clause-recorded : goal.returns-clause-recorded
+returns-clause-recorded c = stays_recorded

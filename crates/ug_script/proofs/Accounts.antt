@@ -1,0 +1,178 @@
+-- What the account of a sweep says of its verdicts and of its writes, where rules judge.
+use Rattle.std.proofs.Common.{◌≡◌, ℕ, ◌+◌, Bool, is_none, List, [], ◌∷◌, ◌++◌, ◌⊎◌, inl, inr, refl, sym, ◌∙◌, ap, subst, append_assoc, append-nil}
+use Rattle.ug_types.specs.Elements.{Has}
+use Rattle.ug_types.specs.Names.{parent_of}
+use Rattle.ug_types.specs.declared.record.Judged.{Judged}
+use Rattle.ug_types.specs.declared.verdict.Held.{Held}
+use Rattle.ug_types.specs.declared.verdict.Target.{Target}
+use Rattle.ug_types.specs.declared.verdict.Cause.{Cause}
+use Rattle.ug_kernel.specs.declared.device.Effect.{Effect}
+use Rattle.ug_kernel.specs.declared.calls.Write.{Write}
+use Rattle.ug_kernel.specs.declared.calls.Wrote.{Wrote}
+use Rattle.ug_kernel.specs.Kernel.{Kernel}
+use Rattle.ug_audit.specs.declared.entry.Entry.{Entry}
+use Rattle.ug_audit.specs.declared.entry.Entry.TheVariants as entry
+use Rattle.ug_table.specs.Bring.{write_of}
+use Rattle.ug_table.specs.Laws.{IsDevice, TellsNeither, MayHave, HasVerdict, wrote_entries, Account, Start, Note, Judge, Had, Had_not}
+use Rattle.ug_table.specs.declared.standing.Standing.{Standing}
+use Rattle.ug_table.proofs.Elements.{has_cases}
+use Rattle.ug_core.specs.declared.policy.IdRule.{IdRule}
+use Rattle.ug_core.specs.declared.policy.Policy.{Policy}
+use Rattle.ug_core.specs.Policy.{verdict_of}
+use Rattle.ug_core.specs.Event.{policy_answer, policy_later}
+use Rattle.ug_script.specs.Journal.{numbers_of, Follow}
+
+-- the rules stay
+pub judge_stays : (k : Kernel) (before : List Standing) (log0 : List Effect) (judge0 : Policy) (next0 : ℕ) (es : List Entry) (log : List Effect) (judge : Policy) (next : ℕ) → Account policy_answer policy_later k before log0 judge0 next0 es log judge next → judge ≡ judge0
+judge_stays k before log0 judge0 next0 es log judge next Start = refl
+judge_stays k before log0 judge0 next0 es log judge next (Note fs m j n e t h) = judge_stays k before log0 judge0 next0 fs m j n h
+judge_stays k before log0 judge0 next0 es log judge next (Judge fs m j n i name held judged present on d h) = judge_stays k before log0 judge0 next0 fs m j n h
+judge_stays k before log0 judge0 next0 es log judge next (Had fs m j n i number name held judged verdict outcome d v may h) = judge_stays k before log0 judge0 next0 fs m j n h
+judge_stays k before log0 judge0 next0 es log judge next (Had_not fs m j n i number name held judged verdict outcome d v may h) = judge_stays k before log0 judge0 next0 fs m j n h
+
+-- the rules give that verdict on the record of the very device of the held file
+pub record IsGiven (rules : List IdRule) (k : Kernel) (name : List ℕ) (held : Held) (verdict : Target) (cause : Cause) : Type 0 where
+  pub i : ℕ
+  pub judged : Judged
+  pub present : Bool
+  pub on : Bool
+  pub device : IsDevice k i name held judged
+  pub given : verdict_of rules judged (is_none (parent_of name)) present on ≡ (verdict, cause)
+
+same_pair : (p : Target × Cause) (b : Target) (d : Cause) → p.0 ≡ b → p.1 ≡ d → p ≡ (b, d)
+same_pair p b d e f = subst (λ (v : Target). p ≡ (v, d)) e (subst (λ (v : Cause). p ≡ (p.0, v)) f refl)
+
+given_by : (rules : List IdRule) (k : Kernel) (i number : ℕ) (name : List ℕ) (held : Held) (judged : Judged) (present on : Bool) → IsDevice k i name held judged → (m : ℕ) (other : List ℕ) (file : Held) (verdict : Target) (cause : Cause)
+    → entry.Judged number name held (verdict_of rules judged (is_none (parent_of name)) present on).0 (verdict_of rules judged (is_none (parent_of name)) present on).1 ≡ entry.Judged m other file verdict cause → IsGiven rules k other file verdict cause
+given_by rules k i number name held judged present on d m other file verdict cause e =
+    let p : Target × Cause = verdict_of rules judged (is_none (parent_of name)) present on in
+    let names : name ≡ other = cc in
+    let files : held ≡ file = cc in
+    let targets : p.0 ≡ verdict = cc in
+    let causes : p.1 ≡ cause = cc in
+    let given : IsGiven rules k name held verdict cause = record { i = i; judged = judged; present = present; on = on; device = d; given = same_pair p verdict cause targets causes } in
+    subst (λ (v : List ℕ). IsGiven rules k v file verdict cause) names (subst (λ (v : Held). IsGiven rules k name v verdict cause) files given)
+
+-- the entries of a write tell no verdict
+no_verdict : (n : ℕ) (title : List ℕ) (write : Write) (outcome : Wrote) (number : ℕ) (name : List ℕ) (held : Held) (verdict : Target) (cause : Cause) → Has (wrote_entries n title write outcome) (entry.Judged number name held verdict cause) → ⊥
+no_verdict n title write outcome number name held verdict cause (inl e) = let none : ⊥ = cc in none
+no_verdict n title write outcome number name held verdict cause (inr (inl e)) = let none : ⊥ = cc in none
+no_verdict n title write outcome number name held verdict cause (inr (inr h)) = h
+
+-- each verdict that is told was given so
+pub judged_given : (k : Kernel) (before : List Standing) (log0 : List Effect) (judge0 : Policy) (next0 : ℕ) (es : List Entry) (log : List Effect) (judge : Policy) (next : ℕ) → Account policy_answer policy_later k before log0 judge0 next0 es log judge next
+    → (number : ℕ) (name : List ℕ) (held : Held) (verdict : Target) (cause : Cause) → Has es (entry.Judged number name held verdict cause) → IsGiven judge0.rules k name held verdict cause
+judged_given k before log0 judge0 next0 es log judge next Start number name held verdict cause h = absurd h
+judged_given k before log0 judge0 next0 es log judge next (Note fs m j n e t a) number name held verdict cause h = elim (has_cases fs (e ∷ []) (entry.Judged number name held verdict cause) h) [
+  | inl x ↦ judged_given k before log0 judge0 next0 fs m j n a number name held verdict cause x
+  | inr y ↦ elim y [ inl same ↦ absurd (subst TellsNeither same t) | inr none ↦ absurd none ]
+]
+judged_given k before log0 judge0 next0 es log judge next (Judge fs m j n i other file judged present on d a) number name held verdict cause h = elim (has_cases fs _ (entry.Judged number name held verdict cause) h) [
+  | inl x ↦ judged_given k before log0 judge0 next0 fs m j n a number name held verdict cause x
+  | inr y ↦ elim y [
+    | inl same ↦ subst (λ (p : Policy). IsGiven p.rules k name held verdict cause) (judge_stays k before log0 judge0 next0 fs m j n a) (given_by j.rules k i n other file judged present on d number name held verdict cause same)
+    | inr none ↦ absurd none
+  ]
+]
+judged_given k before log0 judge0 next0 es log judge next (Had fs m j n i other title file judged target outcome d v may a) number name held verdict cause h = elim (has_cases fs (wrote_entries other title (write_of target) outcome) (entry.Judged number name held verdict cause) h) [
+  | inl x ↦ judged_given k before log0 judge0 next0 fs m j n a number name held verdict cause x
+  | inr y ↦ absurd (no_verdict other title (write_of target) outcome number name held verdict cause y)
+]
+judged_given k before log0 judge0 next0 es log judge next (Had_not fs m j n i other title file judged target outcome d v may a) number name held verdict cause h = elim (has_cases fs (wrote_entries other title (write_of target) outcome) (entry.Judged number name held verdict cause) h) [
+  | inl x ↦ judged_given k before log0 judge0 next0 fs m j n a number name held verdict cause x
+  | inr y ↦ absurd (no_verdict other title (write_of target) outcome number name held verdict cause y)
+]
+
+-- an effect is that of a write that is told, which the verdict of its number wants
+pub record WasWritten (before : List Standing) (entries : List Entry) (k : Kernel) (effect : Effect) : Type 0 where
+  pub number : ℕ
+  pub name : List ℕ
+  pub held : Held
+  pub judged : Judged
+  pub verdict : Target
+  pub outcome : Wrote
+  pub front : List Entry
+  pub back : List Entry
+  pub at : entries ≡ front ++ (wrote_entries number name effect.write outcome ++ back)
+  pub may : MayHave outcome
+  pub wanted : effect.write ≡ write_of verdict
+  pub device : IsDevice k effect.device name held judged
+  pub had : HasVerdict before front number name held verdict
+
+written_more : (before : List Standing) (es fs : List Entry) (k : Kernel) (e : Effect) → WasWritten before es k e → WasWritten before (es ++ fs) k e
+written_more before es fs k e w =
+    let two : List Entry = wrote_entries w.number w.name e.write w.outcome in
+    record {
+      number = w.number; name = w.name; held = w.held; judged = w.judged; verdict = w.verdict; outcome = w.outcome; front = w.front; back = w.back ++ fs;
+      at = ap (λ (l : List Entry). l ++ fs) w.at ∙ append_assoc w.front (two ++ w.back) fs ∙ ap (λ (l : List Entry). w.front ++ l) (append_assoc two w.back fs);
+      may = w.may; wanted = w.wanted; device = w.device; had = w.had;
+    }
+
+-- these effects were added to a log
+pub record Added (before : List Standing) (entries : List Entry) (k : Kernel) (log0 log : List Effect) : Type 0 where
+  pub effects : List Effect
+  pub log_is : log ≡ log0 ++ effects
+  pub each : (e : Effect) → Has effects e → WasWritten before entries k e
+
+added_more : (before : List Standing) (es fs : List Entry) (k : Kernel) (log0 log : List Effect) → Added before es k log0 log → Added before (es ++ fs) k log0 log
+added_more before es fs k log0 log a = record { effects = a.effects; log_is = a.log_is; each = λ e h. written_more before es fs k e (a.each e h) }
+
+pub all_added : (k : Kernel) (before : List Standing) (log0 : List Effect) (judge0 : Policy) (next0 : ℕ) (es : List Entry) (log : List Effect) (judge : Policy) (next : ℕ) → Account policy_answer policy_later k before log0 judge0 next0 es log judge next → Added before es k log0 log
+all_added k before log0 judge0 next0 es log judge next Start = record { effects = []; log_is = sym (append-nil log0); each = λ e h. absurd h }
+all_added k before log0 judge0 next0 es log judge next (Note fs m j n e t a) = added_more before fs (e ∷ []) k log0 m (all_added k before log0 judge0 next0 fs m j n a)
+all_added k before log0 judge0 next0 es log judge next (Judge fs m j n i name held judged present on d a) = added_more before fs _ k log0 m (all_added k before log0 judge0 next0 fs m j n a)
+all_added k before log0 judge0 next0 es log judge next (Had_not fs m j n i number name held judged verdict outcome d v may a) = added_more before fs (wrote_entries number name (write_of verdict) outcome) k log0 m (all_added k before log0 judge0 next0 fs m j n a)
+all_added k before log0 judge0 next0 es log judge next (Had fs m j n i number name held judged verdict outcome d v may a) =
+    let two : List Entry = wrote_entries number name (write_of verdict) outcome in
+    let new : Effect = record { device = i; write = write_of verdict } in
+    let old : Added before (fs ++ two) k log0 m = added_more before fs two k log0 m (all_added k before log0 judge0 next0 fs m j n a) in
+    let this : WasWritten before (fs ++ two) k new = record { number = number; name = name; held = held; judged = judged; verdict = verdict; outcome = outcome; front = fs; back = []; at = ap (λ (l : List Entry). fs ++ l) (sym (append-nil two)); may = may; wanted = refl; device = d; had = v } in
+    record {
+      effects = old.effects ++ new ∷ [];
+      log_is = ap (λ (l : List Effect). l ++ new ∷ []) old.log_is ∙ append_assoc log0 old.effects (new ∷ []);
+      each = λ e h. elim (has_cases old.effects (new ∷ []) e h) [
+        | inl x ↦ old.each e x
+        | inr y ↦ elim y [ inl same ↦ subst (λ (x : Effect). WasWritten before (fs ++ two) k x) same this | inr none ↦ absurd none ]
+      ];
+    }
+
+-- numbers
+
+pub numbers_append : (es fs : List Entry) → numbers_of (es ++ fs) ≡ numbers_of es ++ numbers_of fs
+numbers_append [] fs = refl
+numbers_append (entry.Event number moment ∷ es) fs = numbers_append es fs
+numbers_append (entry.Judged number name held verdict cause ∷ es) fs = ap (λ (l : List ℕ). number ∷ l) (numbers_append es fs)
+numbers_append (entry.Intent number name write ∷ es) fs = numbers_append es fs
+numbers_append (entry.Wrote number name write outcome ∷ es) fs = numbers_append es fs
+numbers_append (entry.Gone number name ∷ es) fs = numbers_append es fs
+numbers_append (entry.Unsettled name why ∷ es) fs = numbers_append es fs
+numbers_append (entry.UnsettledAll why ∷ es) fs = numbers_append es fs
+numbers_append (entry.End number ∷ es) fs = numbers_append es fs
+
+pub follow_append : (a : ℕ) (xs ys : List ℕ) (b c : ℕ) → Follow a xs b → Follow b ys c → Follow a (xs ++ ys) c
+follow_append a [] ys b c f g = subst (λ (v : ℕ). Follow v ys c) f g
+follow_append a (x ∷ xs) ys b c f g = (f.0, follow_append (a + 1) xs ys b c f.1 g)
+
+numbers_none : (e : Entry) → TellsNeither e → numbers_of (e ∷ []) ≡ []
+numbers_none (entry.Event number moment) t = refl
+numbers_none (entry.Judged number name held verdict cause) t = absurd t
+numbers_none (entry.Intent number name write) t = refl
+numbers_none (entry.Wrote number name write outcome) t = refl
+numbers_none (entry.Gone number name) t = refl
+numbers_none (entry.Unsettled name why) t = refl
+numbers_none (entry.UnsettledAll why) t = refl
+numbers_none (entry.End number) t = refl
+
+-- entries that bear no number
+follow_none : (a b : ℕ) (es fs : List Entry) → numbers_of fs ≡ [] → Follow a (numbers_of es) b → Follow a (numbers_of (es ++ fs)) b
+follow_none a b es fs none f =
+    let same : numbers_of (es ++ fs) ≡ numbers_of es = numbers_append es fs ∙ ap (λ (l : List ℕ). numbers_of es ++ l) none ∙ append-nil (numbers_of es) in
+    subst (λ (l : List ℕ). Follow a l b) (sym same) f
+
+pub numbers_follow : (k : Kernel) (before : List Standing) (log0 : List Effect) (judge0 : Policy) (next0 : ℕ) (es : List Entry) (log : List Effect) (judge : Policy) (next : ℕ) → Account policy_answer policy_later k before log0 judge0 next0 es log judge next → Follow next0 (numbers_of es) next
+numbers_follow k before log0 judge0 next0 es log judge next Start = refl
+numbers_follow k before log0 judge0 next0 es log judge next (Note fs m j n e t a) = follow_none next0 n fs (e ∷ []) (numbers_none e t) (numbers_follow k before log0 judge0 next0 fs m j n a)
+numbers_follow k before log0 judge0 next0 es log judge next (Judge fs m j n i name held judged present on d a) =
+    subst (λ (l : List ℕ). Follow next0 l (n + 1)) (sym (numbers_append fs _)) (follow_append next0 (numbers_of fs) (n ∷ []) n (n + 1) (numbers_follow k before log0 judge0 next0 fs m j n a) (refl, refl))
+numbers_follow k before log0 judge0 next0 es log judge next (Had fs m j n i number name held judged verdict outcome d v may a) = follow_none next0 n fs (wrote_entries number name (write_of verdict) outcome) refl (numbers_follow k before log0 judge0 next0 fs m j n a)
+numbers_follow k before log0 judge0 next0 es log judge next (Had_not fs m j n i number name held judged verdict outcome d v may a) = follow_none next0 n fs (wrote_entries number name (write_of verdict) outcome) refl (numbers_follow k before log0 judge0 next0 fs m j n a)

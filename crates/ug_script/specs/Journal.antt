@@ -1,0 +1,107 @@
+-- What a script notes from its first line on, and what that says of each write and of each device.
+use Rattle.std.specs.Prelude.{◌≡◌, ℕ, ◌+◌, Bool, true, false, is_none, if◌then◌else◌, List, [], ◌∷◌, ◌++◌, Option, Some, None, slice_get}
+use Rattle.ug_types.specs.Elements.{Has}
+use Rattle.ug_types.specs.Names.{parent_of}
+use Rattle.ug_types.specs.declared.record.Judged.{Judged}
+use Rattle.ug_types.specs.declared.verdict.Held.{Held}
+use Rattle.ug_types.specs.declared.verdict.Target.{Target}
+use Rattle.ug_types.specs.declared.verdict.Cause.{Cause}
+use Rattle.ug_types.specs.declared.verdict.Moment.{Moment}
+use Rattle.ug_kernel.specs.declared.device.Device.{Device}
+use Rattle.ug_kernel.specs.declared.device.Effect.{Effect}
+use Rattle.ug_kernel.specs.declared.calls.Control.TheVariants.{Authorized}
+use Rattle.ug_kernel.specs.declared.calls.Wrote.{Wrote}
+use Rattle.ug_kernel.specs.Kernel.{Kernel, Live}
+use Rattle.ug_sysfs.specs.World.{World, begun}
+use Rattle.ug_audit.specs.declared.entry.Entry.{Entry}
+use Rattle.ug_audit.specs.declared.entry.Entry.TheVariants as entry
+use Rattle.ug_table.specs.Bring.{write_of}
+use Rattle.ug_table.specs.Laws.{IsDevice, MayHave, wrote_entries, IsAsJudged}
+use Rattle.ug_table.specs.declared.standing.Standing.{Standing}
+use Rattle.ug_play.specs.Play.{play, NameNobody}
+use Rattle.ug_core.specs.declared.policy.IdRule.{IdRule}
+use Rattle.ug_core.specs.Policy.{verdict_of}
+use Rattle.ug_core.specs.Event.{DaemonState, handling, has_numbers}
+use Rattle.ug_lines.specs.Fold.{Outcome, Writes, Refused, Going, plays}
+use Rattle.ug_script.specs.declared.step.Step.{Step}
+use Rattle.ug_script.specs.declared.step.Step.TheVariants.{Skip, Rule, Plug, Unplug, Sweep}
+use Rattle.ug_script.specs.Grammar.{step_of_line}
+use Rattle.ug_script.specs.Replay.{Script, rules_of, lines_text, script_step}
+
+-- what the event of a step notes
+abbrev pub noted_by : Option Step → Script → World → List Entry
+noted_by None s w = []
+noted_by (Some Skip) s w = []
+noted_by (Some (Rule rule)) s w = []
+noted_by (Some (Plug device)) s w = []
+noted_by (Some (Unplug name)) s w = []
+noted_by (Some (Sweep moment)) s w = if has_numbers s.daemon w.faults 0 then (play (handling moment s.daemon) (begun w)).0.sweep.entries else []
+
+abbrev pub noted : Option Script × World → List ℕ → List Entry
+noted (None, w) line = []
+noted (Some s, w) line = noted_by (step_of_line line) s w
+
+-- where a line leads
+abbrev pub left_by : {M : Type 0} → Outcome M → M
+left_by (Writes text next) = next
+left_by (Refused fault next) = next
+
+-- the entries of all events, in order
+abbrev pub journal : Option Script × World → List (List ℕ) → List Entry
+journal p [] = []
+journal p (line ∷ lines) = noted p line ++ journal (left_by (script_step p line)) lines
+
+-- it is told that the number got that verdict, and the rules gave it, on the record of the very device of the held file
+pub record WasJudged (rules : List IdRule) (entries : List Entry) (k : Kernel) (i number : ℕ) (name : List ℕ) (held : Held) (verdict : Target) : Type 0 where
+  pub cause : Cause
+  pub judged : Judged
+  pub present : Bool
+  pub on : Bool
+  pub device : IsDevice k i name held judged
+  pub given : verdict_of rules judged (is_none (parent_of name)) present on ≡ (verdict, cause)
+  pub told : Has entries (entry.Judged number name held verdict cause)
+
+-- The effect is that of a write that is told. Before its intent it was told that the very device got that verdict from the
+-- rules, and the write is the one that the verdict wants.
+pub record IsExplained (rules : List IdRule) (entries : List Entry) (k : Kernel) (effect : Effect) : Type 0 where
+  pub number : ℕ
+  pub name : List ℕ
+  pub held : Held
+  pub verdict : Target
+  pub outcome : Wrote
+  pub before : List Entry
+  pub after : List Entry
+  pub at : entries ≡ before ++ (wrote_entries number name effect.write outcome ++ after)
+  pub may : MayHave outcome
+  pub wanted : effect.write ≡ write_of verdict
+  pub judged : WasJudged rules before k effect.device number name held verdict
+
+-- each effect since the first kernel is explained
+pub record AllExplained (rules : List IdRule) (entries : List Entry) (first k : Kernel) : Type 0 where
+  pub added : List Effect
+  pub log : k.log ≡ first.log ++ added
+  pub each : (effect : Effect) → Has added effect → IsExplained rules entries k effect
+
+-- the numbers under which verdicts were told
+abbrev pub numbers_of : List Entry → List ℕ
+numbers_of [] = []
+numbers_of (entry.Judged number name held verdict cause ∷ es) = number ∷ numbers_of es
+numbers_of (e ∷ es) = numbers_of es
+
+-- these numbers follow one another from the first one on, and the next comes behind the last
+abbrev pub Follow : ℕ → List ℕ → ℕ → Type 0
+Follow first [] next = next ≡ first
+Follow first (n ∷ ns) next = (n ≡ first) × Follow (first + 1) ns next
+
+-- wherever lines have led: what was written is the text of the journal, each effect is explained, each number was given out
+-- once, and where nothing is scheduled nobody is named as unsettled
+pub record Recorded (first : World) (entries : List Entry) (text : List ℕ) (s : Script) (w : World) : Type 0 where
+  pub written : text ≡ lines_text entries
+  pub explained : AllExplained (rules_of s) entries first.kernel w.kernel
+  pub numbers : Follow 1 (numbers_of entries) s.daemon.sweep.next
+  pub nobody : first.fails ≡ [] → NameNobody entries
+
+-- the same of all lines
+abbrev pub StaysRecorded : World → Type 0
+StaysRecorded first = (lines : List (List ℕ)) (n : ℕ) (text : List ℕ) (s : Script) (w : World)
+    → plays script_step (Going 0 [] (None, first)) lines ≡ Going n text (Some s, w) → Recorded first (journal (None, first) lines) text s w
