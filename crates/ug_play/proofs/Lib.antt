@@ -5,3 +5,4 @@ pub mod Bindings
 pub mod Journals
 pub mod Sweeps
 pub mod Fine
+pub mod Still
