@@ -1,5 +1,5 @@
 -- What is known of a device stays, whatever the kernel does.
-use Rattle.std.proofs.Common.{◌≡◌, ℕ, List, Option, Some, None, sym, ◌∙◌, ap, subst}
+use Rattle.std.proofs.Common.{◌≡◌, ℕ, Bool, List, Option, Some, None, sym, ◌∙◌, ap, subst}
 use Rattle.ug_types.specs.declared.record.Attrs.{Attrs}
 use Rattle.ug_types.specs.declared.record.Judged.{Judged}
 use Rattle.ug_types.specs.declared.verdict.Held.{Held}
@@ -7,9 +7,10 @@ use Rattle.ug_kernel.specs.declared.device.Device.{Device}
 use Rattle.ug_kernel.specs.declared.calls.Control.TheVariants.{Authorized}
 use Rattle.ug_kernel.specs.Kernel.{Kernel, Stays}
 use Rattle.ug_kernel.specs.Quiet.{Grows}
+use Rattle.ug_kernel.proofs.Grow.{grows_trans}
 use Rattle.ug_record.specs.Records.{judged_of}
 use Rattle.ug_node.specs.Bound.{attrs_of, parent_attrs_of, IsParentRead}
-use Rattle.ug_table.specs.Laws.{IsRecordOf, IsDevice, Stand}
+use Rattle.ug_table.specs.Laws.{IsRecordOf, IsDevice, IsGone, IsProbed, Stand}
 use Rattle.ug_table.specs.declared.standing.Standing.{Standing}
 
 attrs_stay : (d e : Device) → Stays d e → attrs_of d ≡ attrs_of e
@@ -45,9 +46,19 @@ device_stays k l i name held judged g h =
       of = record_stays k l h.d x.0 judged g x.2 h.of;
     }
 
+pub gone_stays : (k l : Kernel) (i : ℕ) → Grows k l → IsGone k i → IsGone l i
+gone_stays k l i g h = let x = g.devices i h.0 h.1 in (x.0, x.1, x.2.gone h.2)
+
+pub probed_stays : (start k l : Kernel) (name : List ℕ) (held i : ℕ) (on : Bool) → Grows k l → IsProbed start k name held i on → IsProbed start l name held i on
+probed_stays start k l name held i on g h = record { first = h.first; last = h.last; since = h.since; lived = h.lived; until = grows_trans h.last k l h.until g }
+
+pub probed_from : (start mid k : Kernel) (name : List ℕ) (held i : ℕ) (on : Bool) → Grows start mid → IsProbed mid k name held i on → IsProbed start k name held i on
+probed_from start mid k name held i on g h = record { first = h.first; last = h.last; since = grows_trans start mid h.first g h.since; lived = h.lived; until = h.until }
+
 pub stand_stays : (k l : Kernel) (ss : List Standing) (next : ℕ) → Grows k l → Stand k ss next → Stand l ss next
 stand_stays k l ss next g h = record {
   devices = λ s a. let x = h.devices s a in (x.0, device_stays k l x.0 s.name s.held s.judged g x.1);
   numbers = h.numbers;
   names = h.names;
+  distinct = h.distinct;
 }

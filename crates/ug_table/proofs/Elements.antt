@@ -1,5 +1,5 @@
 -- The elements of lists that were made of others.
-use Rattle.std.proofs.Common.{◌≡◌, ℕ, Bool, true, false, List, [], ◌∷◌, ◌++◌, map, cond, take, drop, ◌⊎◌, inl, inr, refl, sym, ap, subst}
+use Rattle.std.proofs.Common.{◌≡◌, ℕ, Bool, true, false, List, [], ◌∷◌, ◌++◌, map, cond, take, drop, ◌⊎◌, inl, inr, refl, sym, ◌∙◌, ap, subst}
 use Rattle.std.proofs.lemmas.List.{take-append-drop}
 use Rattle.std.specs.List.{filter, insert}
 use Rattle.ug_types.specs.Elements.{Has, AllDistinct}
@@ -97,3 +97,20 @@ pub distinct_insert : {X Y : Type 0} (f : X → Y) (xs : List X) (i : ℕ) (y : 
 distinct_insert f xs i y h n =
     let same = sym (take-append-drop i xs) in
     distinct_between f (take i xs) (drop i xs) y (subst (λ v. AllDistinct (map f v)) same h) (λ a. n (subst (λ v. Has (map f v) (f y)) (take-append-drop i xs) a))
+
+pub distinct_one : {X Y : Type 0} (f : X → Y) (xs : List X) (x y : X) → AllDistinct (map f xs) → Has xs x → Has xs y → f x ≡ f y → x ≡ y
+distinct_one f [] x y d a b e = absurd a
+distinct_one f (z ∷ zs) x y d (inl a) (inl b) e = sym a ∙ b
+distinct_one f (z ∷ zs) x y d (inl a) (inr b) e = absurd (d.0 (subst (λ v. Has (map f zs) v) (sym e ∙ ap f (sym a)) (has_map f zs y b)))
+distinct_one f (z ∷ zs) x y d (inr a) (inl b) e = absurd (d.0 (subst (λ v. Has (map f zs) v) (e ∙ ap f (sym b)) (has_map f zs x a)))
+distinct_one f (z ∷ zs) x y d (inr a) (inr b) e = distinct_one f zs x y d.1 a b e
+
+-- of what was put at an end
+pub only_left : {X : Type 0} (xs ys : List X) (x : X) → (Has ys x → ⊥) → Has (xs ++ ys) x → Has xs x
+only_left xs ys x none h = elim (has_cases xs ys x h) [ inl a ↦ a | inr b ↦ absurd (none b) ]
+
+pub last_is : {X : Type 0} (xs : List X) (y x : X) → Has (xs ++ y ∷ []) x → Has xs x ⊎ (y ≡ x)
+last_is xs y x h = elim (has_cases xs (y ∷ []) x h) [
+  | inl a ↦ inl a
+  | inr b ↦ elim b [ inl e ↦ inr e | inr n ↦ absurd n ]
+]

@@ -1,10 +1,21 @@
 -- The sweep is fair.
-use Rattle.std.proofs.Common.{ℕ, Bool, true, false, not, List, [], ◌∷◌, ◌++◌, cond, ap}
+use Rattle.std.proofs.Common.{◌≡◌, ℕ, Bool, true, false, not, List, [], ◌∷◌, ◌++◌, ◌⊎◌, Some, cond, slice_get, inl, inr, refl, sym, ◌∙◌, ap, subst, append_assoc, append-nil, true≢false, arith}
+use Rattle.std.specs.List.{filter}
+use Rattle.ug_types.specs.Elements.{Has}
 use Rattle.ug_types.specs.Sweep.{in_sweep_order}
+use Rattle.ug_types.specs.declared.verdict.Held.{Held}
+use Rattle.ug_types.specs.declared.verdict.Target.{Target}
+use Rattle.ug_types.specs.declared.verdict.Cause.{Cause}
+use Rattle.ug_types.proofs.Sorting.{to_sweep_order}
+use Rattle.ug_kernel.specs.declared.device.Effect.{Effect}
 use Rattle.ug_kernel.specs.declared.calls.Listing.{Listing}
 use Rattle.ug_kernel.specs.declared.calls.Listing.TheVariants as listing
 use Rattle.ug_kernel.specs.Calls.{Names}
-use Rattle.ug_kernel.specs.Kernel.{Kernel, IsKernel}
+use Rattle.ug_kernel.specs.Kernel.{Kernel, Live, IsKernel}
+use Rattle.ug_kernel.specs.Called.{says_listing}
+use Rattle.ug_kernel.specs.Quiet.{Grows}
+use Rattle.ug_kernel.proofs.Grow.{grows_refl, called_grows}
+use Rattle.ug_kernel.proofs.Held.{live_before}
 use Rattle.ug_itree.specs.Tree.{Runs, calls}
 use Rattle.ug_itree.proofs.Runs.{runs_split}
 use Rattle.ug_audit.specs.declared.entry.Entry.{Entry}
@@ -15,56 +26,145 @@ use Rattle.ug_table.specs.State.{State, Kept, kept_of, with_kept}
 use Rattle.ug_table.specs.Standings.{lists, farewells}
 use Rattle.ug_table.specs.Settle.{settling, resettling}
 use Rattle.ug_table.specs.Sweep.{settling_all, resettling_all, parted, names_of, resumed, unlisted, marked_listed, if_room, after_list, sweeping}
-use Rattle.ug_table.specs.Laws.{Stand, IsFair}
+use Rattle.ug_table.specs.Laws.{IsDevice, IsGone, Stand, Account, Start, Went, IsOne, IsFair}
 use Rattle.ug_table.specs.declared.standing.Standing.{Standing}
 use Rattle.ug_table.specs.declared.standing.Settled.{Settled}
+use Rattle.ug_table.proofs.Elements.{filter_has, has_filter, distinct_filter, distinct_one}
+use Rattle.ug_table.proofs.Values.{file_same, file_later}
+use Rattle.ug_table.proofs.Standings.{is_same}
 use Rattle.ug_table.proofs.Account.{Answers, Laters}
-use Rattle.ug_table.proofs.Steps.{TellNeither, fair_refl, fair_end, then_called, then_note, then_notes, then_fewer}
+use Rattle.ug_table.proofs.Joined.{FairFrom, fair_trans}
+use Rattle.ug_table.proofs.Steps.{one_itself, stand_of, fair_refl, fair_end, then_called, then_note, gone_device}
 use Rattle.ug_table.proofs.Fair.{then_settling, then_resettling}
 
-pub then_settling_all : {J : Type 0} {answer : Answers J} {later : Laters J} {k : Kernel} {w : State J} (names : List (List ℕ)) (present : Bool) (m l : Kernel) (u v : State J) → IsFair answer later k w m u → Runs calls m (settling_all answer later names present u) v l → IsFair answer later k w l v
-then_settling_all [] present m l u v h r = fair_end l v r.0 r.1 h
-then_settling_all {J} {answer} {later} (name ∷ names) present m l u v h r =
+then_settling_all : {J : Type 0} {answer : Answers J} {later : Laters J} {present : Bool} {k : Kernel} {w : State J} (names : List (List ℕ)) (m l : Kernel) (u v : State J) → FairFrom answer later present k w m u → Runs calls m (settling_all answer later names present u) v l → FairFrom answer later present k w l v
+then_settling_all [] m l u v h r = fair_end l v r.0 r.1 h
+then_settling_all {J} {answer} {later} {present} (name ∷ names) m l u v h r =
     let cut = runs_split calls m (settling answer later name present u) (λ (p : Settled × State J). settling_all answer later names present p.1) v l r in
-    then_settling_all names present cut.1 l cut.0.1 v (then_settling cut.1 name present cut.0 h cut.2) cut.3
+    then_settling_all names cut.1 l cut.0.1 v (then_settling cut.1 name cut.0 h cut.2) cut.3
 
-pub then_resettling_all : {J : Type 0} {answer : Answers J} {later : Laters J} {k : Kernel} {w : State J} (u : State J) (names : List (List ℕ)) (m l : Kernel) (x y : Kept) → IsFair answer later k w m (with_kept u x) → Runs calls m (resettling_all names x) y l → IsFair answer later k w l (with_kept u y)
+then_resettling_all : {J : Type 0} {answer : Answers J} {later : Laters J} {present : Bool} {k : Kernel} {w : State J} (u : State J) (names : List (List ℕ)) (m l : Kernel) (x y : Kept) → FairFrom answer later present k w m (with_kept u x) → Runs calls m (resettling_all names x) y l → FairFrom answer later present k w l (with_kept u y)
 then_resettling_all u [] m l x y h r = fair_end l (with_kept u y) (ap (λ (v : Kept). with_kept u v) r.0) r.1 h
 then_resettling_all u (name ∷ names) m l x y h r =
     let cut = runs_split calls m (resettling name x) (λ (p : Settled × Kept). resettling_all names p.1) y l r in
     then_resettling_all u names cut.1 l cut.0.1 y (then_resettling u cut.1 name x cut.0 h cut.2) cut.3
 
-pub then_unlisted : {J : Type 0} {answer : Answers J} {later : Laters J} {k m : Kernel} {w u : State J} (l : Kernel) (why : Fault) (v : State J) → IsFair answer later k w m u → Runs calls m (unlisted why u) v l → IsFair answer later k w l v
-then_unlisted {J} {answer} {later} {k} {m} {w} {u} l why v h r =
+then_unlisted : {J : Type 0} {answer : Answers J} {later : Laters J} {present : Bool} {k m : Kernel} {w u : State J} (l : Kernel) (why : Fault) (v : State J) → FairFrom answer later present k w m u → Runs calls m (unlisted why u) v l → FairFrom answer later present k w l v
+then_unlisted {J} {answer} {later} {present} {k} {m} {w} {u} l why v h r =
     let x = kept_of u.standings (u.entries ++ entry.UnsettledAll why ∷ []) in
     let cut = runs_split calls m (resettling_all (names_of u.standings) x) (resumed u) v l r in
     fair_end l v cut.3.0 cut.3.1 (then_resettling_all u (names_of u.standings) m cut.1 x cut.0 (then_note (entry.UnsettledAll why) tt h) cut.2)
 
-farewell_neither : (b : Bool) (number : ℕ) (name : List ℕ) (es : List Entry) → TellNeither es → TellNeither (cond b es (entry.Gone number name ∷ es))
-farewell_neither true number name es h = h
-farewell_neither false number name es h = (tt, h)
+-- an entry for each standing that isn't listed
+farewell_has : (names : List (List ℕ)) (ss : List Standing) (e : Entry) → Has (farewells names ss) e → (t : Standing) × Has ss t × (lists names t.name ≡ false) × (entry.Gone t.number t.name ≡ e)
+farewell_has names [] e a = absurd a
+farewell_has names (s ∷ ss) e a =
+    let more : Has (farewells names ss) e → (t : Standing) × Has (s ∷ ss) t × (lists names t.name ≡ false) × (entry.Gone t.number t.name ≡ e) = λ b. let t = farewell_has names ss e b in (t.0, inr t.1, t.2, t.3) in
+    (elim (lists names s.name) as (λ (b : Bool). lists names s.name ≡ b → Has (cond b (farewells names ss) (entry.Gone s.number s.name ∷ farewells names ss)) e → (t : Standing) × Has (s ∷ ss) t × (lists names t.name ≡ false) × (entry.Gone t.number t.name ≡ e)) [
+      | true ↦ λ q h. more h
+      | false ↦ λ q h. elim h [ inl is ↦ (s, inl refl, q, is) | inr b ↦ more b ]
+    ]) refl a
 
-farewells_neither : (names : List (List ℕ)) (ss : List Standing) → TellNeither (farewells names ss)
-farewells_neither names [] = tt
-farewells_neither names (s ∷ ss) = farewell_neither (lists names s.name) s.number s.name (farewells names ss) (farewells_neither names ss)
+has_farewell : (names : List (List ℕ)) (ss : List Standing) (t : Standing) → Has ss t → lists names t.name ≡ false → Has (farewells names ss) (entry.Gone t.number t.name)
+has_farewell names [] t a f = absurd a
+has_farewell names (s ∷ ss) t (inl e) f =
+    let same : s.name ≡ t.name = ap (λ (v : Standing). v.name) e in
+    let out : lists names s.name ≡ false = ap (λ (v : List ℕ). lists names v) same ∙ f in
+    let told : entry.Gone s.number s.name ≡ entry.Gone t.number t.name = ap (λ (v : Standing). entry.Gone v.number v.name) e in
+    subst (λ (b : Bool). Has (cond b (farewells names ss) (entry.Gone s.number s.name ∷ farewells names ss)) (entry.Gone t.number t.name)) (sym out) (inl told)
+has_farewell names (s ∷ ss) t (inr a) f =
+    let rest = has_farewell names ss t a f in
+    elim (lists names s.name) as (λ (b : Bool). Has (cond b (farewells names ss) (entry.Gone s.number s.name ∷ farewells names ss)) (entry.Gone t.number t.name)) [ true ↦ rest | false ↦ inr rest ]
 
-pub then_parted : {J : Type 0} {answer : Answers J} {later : Laters J} {k m : Kernel} {w u : State J} (names : List (List ℕ)) → IsFair answer later k w m u → IsFair answer later k w m (parted names u)
-then_parted {J} {answer} {later} {k} {m} {w} {u} names h =
-    then_fewer (λ (s : Standing). lists names s.name) (then_notes answer later k m w u (farewells names u.standings) (farewells_neither names u.standings) h)
+-- the device of each standing that isn't listed is gone
+abbrev AreGone : Kernel → List (List ℕ) → List Standing → Type 0
+AreGone m names ss = (s : Standing) (i : ℕ) → Has ss s → IsDevice m i s.name s.held s.judged → lists names s.name ≡ false → IsGone m i
 
-then_listed : {J : Type 0} {answer : Answers J} {later : Laters J} {k m : Kernel} {w u : State J} → IsFair answer later k w m u → IsFair answer later k w m (marked_listed u)
-then_listed h = record { sound = h.sound; grows = h.grows; rest = h.rest; entries = h.entries; stand = h.stand; account = h.account; told = h.told }
+farewell_account : {J : Type 0} (answer : Answers J) (later : Laters J) (present : Bool) (m : Kernel) (names : List (List ℕ)) (before : List Standing) (log : List Effect) (judge : J) (next : ℕ) (ss : List Standing) (es : List Entry) → Stand m before next → AreGone m names before → ((s : Standing) → Has ss s → Has before s) → Account answer later present m m before log judge next es log judge next → Account answer later present m m before log judge next (es ++ farewells names ss) log judge next
+farewell_account answer later present m names before log judge next [] es stand gone sub a = subst (λ (v : List Entry). Account answer later present m m before log judge next v log judge next) (sym (append-nil es)) a
+farewell_account {J} answer later present m names before log judge next (s ∷ ss) es stand gone sub a =
+    let e = entry.Gone s.number s.name in
+    let A : List Entry → Type 0 = λ v. Account answer later present m m before log judge next v log judge next in
+    let rec : (fs : List Entry) → A fs → A (fs ++ farewells names ss) = λ fs b. farewell_account answer later present m names before log judge next ss fs stand gone (λ t h. sub t (inr h)) b in
+    let has = sub s (inl refl) in
+    let d = stand.devices s has in
+    (elim (lists names s.name) as (λ (b : Bool). lists names s.name ≡ b → A (es ++ cond b (farewells names ss) (e ∷ farewells names ss))) [
+      | true ↦ λ q. rec es a
+      | false ↦ λ q. subst (λ (v : List Entry). A v) (append_assoc es (e ∷ []) (farewells names ss)) (rec (es ++ e ∷ []) (Went es log judge next d.0 s.number s.name s.held s.judged s.verdict d.1 (gone s d.0 has d.1 q) (inl (s, has, refl, refl, refl, refl)) a))
+    ]) refl
 
-if_room_fair : {J : Type 0} {answer : Answers J} {later : Laters J} {k m : Kernel} {w u : State J} (l : Kernel) (names : List (List ℕ)) (room : Bool) (v : State J) → IsFair answer later k w m u → Runs calls m (if_room answer later names u room) v l → IsFair answer later k w l v
-if_room_fair {m = m} {u = u} l names true v h r = then_settling_all names (not u.listed) m l (marked_listed (parted names u)) v (then_listed (then_parted names h)) r
-if_room_fair l names false v h r = then_unlisted l fault.Memory v h r
+parted_fair : {J : Type 0} (answer : Answers J) (later : Laters J) (present : Bool) (m : Kernel) (u : State J) (names : List (List ℕ)) → IsKernel m → Stand m u.standings u.next → AreGone m names u.standings → FairFrom answer later present m u m (parted names u)
+parted_fair answer later present m u names sound stand gone =
+    let ss = u.standings in
+    let listed : Standing → Bool = λ s. lists names s.name in
+    let rs = filter listed ss in
+    let there : (s : Standing) → Has rs s → IsOne ss s = λ s a. one_itself ss s (filter_has listed ss s a).0 in
+    let none : (number : ℕ) (name : List ℕ) (held : Held) (verdict : Target) (cause : Cause) → Has (farewells names ss) (entry.Judged number name held verdict cause) → ⊥ = λ number name held verdict cause a. let t = farewell_has names ss (entry.Judged number name held verdict cause) a in let e = t.3 in let none : ⊥ = cc in none in
+    let fair : IsFair answer later present m u m (parted names u) = record {
+      sound = sound;
+      grows = grows_refl m;
+      rest = farewells names ss;
+      entries = refl;
+      stand = stand_of m ss rs u.next there (distinct_filter (λ (s : Standing). s.name) listed ss stand.names) (distinct_filter (λ (s : Standing). s.number) listed ss stand.distinct) stand;
+      account = farewell_account answer later present m names ss m.log u.judge u.next ss [] stand gone (λ s a. a) Start;
+      told = λ s a. inl (there s a);
+      kept = λ s a.
+          (elim (lists names s.name) as (λ (b : Bool). lists names s.name ≡ b → IsOne rs s ⊎ Has (farewells names ss) (entry.Gone s.number s.name)) [
+            | true ↦ λ q. inl (one_itself rs s (has_filter listed ss s a q))
+            | false ↦ λ q. inr (has_farewell names ss s a q)
+          ]) refl;
+      judged = λ number name held verdict cause a. absurd (none number name held verdict cause a);
+      ended = λ s name a g.
+          let t = farewell_has names ss (entry.Gone s.number name) g in
+          let e = t.3 in
+          let number : t.0.number ≡ s.number = cc in
+          let f = filter_has listed ss s a in
+          let same : t.0 ≡ s = distinct_one (λ (v : Standing). v.number) ss t.0 s stand.distinct t.1 f.0 number in
+          let was : true ≡ false = sym f.1 ∙ sym (ap (λ (v : Standing). lists names v.name) same) ∙ t.2 in
+          true≢false was;
+      once = λ i a b p q. absurd (none a p.name p.held p.verdict p.cause p.has);
+      unjudged = λ i a h p. none a p.name p.held p.verdict p.cause p.has;
+    } in
+    record { stood = stand; fair = fair }
 
-after_list_fair : {J : Type 0} {answer : Answers J} {later : Laters J} {k m : Kernel} {w u : State J} (l : Kernel) (a : Listing) (number count : ℕ) (v : State J) → IsFair answer later k w m u → Runs calls m (after_list answer later u a number count) v l → IsFair answer later k w l v
-after_list_fair l (listing.Names names) number count v h r = if_room_fair l (in_sweep_order names) r.0 v h r.1
-after_list_fair l listing.Failed number count v h r = then_unlisted l (fault.Call number count) v h r
-after_list_fair l listing.Memory number count v h r = then_unlisted l fault.Memory v h r
+then_parted : {J : Type 0} {answer : Answers J} {later : Laters J} {present : Bool} {k m : Kernel} {w u : State J} (names : List (List ℕ)) → AreGone m names u.standings → FairFrom answer later present k w m u → FairFrom answer later present k w m (parted names u)
+then_parted {J} {answer} {later} {present} {k} {m} {w} {u} names gone h = fair_trans h (parted_fair answer later present m u names h.fair.sound h.fair.stand gone)
 
-pub sweeping_fair : {J : Type 0} (answer : Answers J) (later : Laters J) (w : State J) (k l : Kernel) (v : State J) → IsKernel k → Stand k w.standings w.next → Runs calls k (sweeping answer later w) v l → IsFair answer later k w l v
+-- what isn't listed is gone
+
+listed_is : (names : List (List ℕ)) (name : List ℕ) → Has names name → lists names name ≡ true
+listed_is [] name a = absurd a
+listed_is (n ∷ names) name (inl e) = let same = is_same n name e in grind (arith, same)
+listed_is (n ∷ names) name (inr a) = let rest = listed_is names name a in grind (arith, rest)
+
+listing_gone : (k m : Kernel) (names : List (List ℕ)) (ss : List Standing) (next : ℕ) → Grows k m → says_listing (listing.Names names) k m → Stand k ss next → AreGone m (in_sweep_order names) ss
+listing_gone k m names ss next g says stand s i a d out =
+    let dead : Live m.devices i d.d → ⊥ = λ live.
+    let x = stand.devices s a in
+    let is : x.0 ≡ i = file_same m s.held.0 x.0 i (file_later k m s.held.0 x.0 g x.1.file) d.file in
+    let first = live_before k m i x.1.d d.d g (subst (λ (v : ℕ). slice_get k.devices v ≡ Some x.1.d) is x.1.device) live in
+    let has : Has names s.name = subst (λ (v : List ℕ). Has names v) x.1.named (says.0 i x.1.d (record { entry = first.0; exit = (d.d, live) })) in
+    true≢false (sym (listed_is (in_sweep_order names) s.name (to_sweep_order names s.name has)) ∙ out) in
+    gone_device m i s.name s.held s.judged d dead
+
+-- a listing succeeded
+then_listed : {J : Type 0} {answer : Answers J} {later : Laters J} {present : Bool} {k m : Kernel} {w u : State J} → FairFrom answer later present k w m u → FairFrom answer later present k w m (marked_listed u)
+then_listed {J} {answer} {later} {present} {k} {m} {w} {u} h =
+    let x = h.fair in
+    let fair : IsFair answer later present k w m (marked_listed u) = record { sound = x.sound; grows = x.grows; rest = x.rest; entries = x.entries; stand = x.stand; account = x.account; told = x.told; kept = x.kept; judged = x.judged; ended = x.ended; once = x.once; unjudged = x.unjudged } in
+    record { stood = h.stood; fair = fair }
+
+if_room_fair : {J : Type 0} {answer : Answers J} {later : Laters J} {k m : Kernel} {w u : State J} (l : Kernel) (names : List (List ℕ)) (room : Bool) (v : State J) → AreGone m names u.standings → FairFrom answer later (not u.listed) k w m u → Runs calls m (if_room answer later names u room) v l → FairFrom answer later (not u.listed) k w l v
+if_room_fair {m = m} {u = u} l names true v gone h r = then_settling_all names m l (marked_listed (parted names u)) v (then_listed (then_parted names gone h)) r
+if_room_fair l names false v gone h r = then_unlisted l fault.Memory v h r
+
+after_list_fair : {J : Type 0} (answer : Answers J) (later : Laters J) (w : State J) (k m l : Kernel) (a : Listing) (number count : ℕ) (v : State J) → Grows k m → says_listing a k m → FairFrom answer later (not w.listed) k w m w → Runs calls m (after_list answer later w a number count) v l → FairFrom answer later (not w.listed) k w l v
+after_list_fair answer later w k m l (listing.Names names) number count v g says h r = if_room_fair l (in_sweep_order names) r.0 v (listing_gone k m names w.standings w.next g says h.stood) h r.1
+after_list_fair answer later w k m l listing.Failed number count v g says h r = then_unlisted l (fault.Call number count) v h r
+after_list_fair answer later w k m l listing.Memory number count v g says h r = then_unlisted l fault.Memory v h r
+
+pub sweeping_fair : {J : Type 0} (answer : Answers J) (later : Laters J) (w : State J) (k l : Kernel) (v : State J) → IsKernel k → Stand k w.standings w.next → Runs calls k (sweeping answer later w) v l → IsFair answer later (not w.listed) k w l v
 unfolding sweeping
 sweeping_fair answer later w k l v sound stand r =
-    after_list_fair l r.0.answer r.0.number r.0.count v (then_called Names r.0 r.1 tt r.2 (fair_refl answer later k w sound stand)) r.3
+    let h = after_list_fair answer later w k r.1 l r.0.answer r.0.number r.0.count v (called_grows Names r.0 k r.1 r.2) r.2.says (then_called Names r.0 r.1 tt r.2 (fair_refl answer later (not w.listed) k w sound stand)) r.3 in
+    h.fair

@@ -3,6 +3,8 @@ pub mod Loops
 pub mod Devices
 pub mod Standings
 pub mod Account
+pub mod Says
+pub mod Joined
 pub mod Steps
 pub mod Written
 pub mod Fair

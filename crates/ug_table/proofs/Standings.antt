@@ -4,6 +4,7 @@ use Rattle.std.specs.Cmp.Lexicographic.{bytes_decides}
 use Rattle.ug_types.specs.Elements.{Has}
 use Rattle.ug_table.specs.Standings.{same_name, known_of, standing_of, without, marked}
 use Rattle.ug_table.specs.Sweep.{names_of}
+use Rattle.ug_table.specs.Laws.{numbers_of}
 use Rattle.ug_table.specs.declared.standing.Standing.{Standing}
 use Rattle.ug_table.specs.declared.standing.Known.{Known}
 use Rattle.ug_table.proofs.Elements.{filter_has, map_has}
@@ -49,3 +50,7 @@ missing_without name ss a =
 pub names_marked : (name : List ℕ) (mark : Bool) (ss : List Standing) → names_of (map (marked name mark) ss) ≡ names_of ss
 names_marked name mark [] = refl
 names_marked name mark (s ∷ ss) = ap (λ (v : List (List ℕ)). s.name ∷ v) (names_marked name mark ss)
+
+pub numbers_marked : (name : List ℕ) (mark : Bool) (ss : List Standing) → numbers_of (map (marked name mark) ss) ≡ numbers_of ss
+numbers_marked name mark [] = refl
+numbers_marked name mark (s ∷ ss) = ap (λ (v : List ℕ). s.number ∷ v) (numbers_marked name mark ss)

@@ -1,5 +1,5 @@
 -- What a sweep does, in the words of devices and journal.
-use Rattle.std.specs.Prelude.{◌≡◌, ℕ, ◌+◌, ◌<◌, Bool, is_none, List, [], ◌∷◌, ◌++◌, Option, Some, ◌⊎◌, slice_get}
+use Rattle.std.specs.Prelude.{◌≡◌, ℕ, ◌+◌, ◌<◌, Bool, true, not, is_none, map, List, [], ◌∷◌, ◌++◌, Option, Some, ◌⊎◌, slice_get}
 use Rattle.ug_types.specs.Elements.{Has, AllDistinct}
 use Rattle.ug_types.specs.Names.{parent_of}
 use Rattle.ug_types.specs.declared.record.Attrs.{Attrs}
@@ -17,7 +17,7 @@ use Rattle.ug_kernel.specs.Kernel.{Kernel, IsKernel}
 use Rattle.ug_kernel.specs.Called.{Lived}
 use Rattle.ug_kernel.specs.Quiet.{Grows}
 use Rattle.ug_record.specs.Records.{judged_of}
-use Rattle.ug_node.specs.Bound.{attrs_of, IsParentRead}
+use Rattle.ug_node.specs.Bound.{attrs_of, IsParentRead, LivedUntilProbe}
 use Rattle.ug_audit.specs.declared.entry.Entry.{Entry}
 use Rattle.ug_audit.specs.declared.entry.Entry.TheVariants as entry
 use Rattle.ug_audit.specs.declared.entry.Fault.{Fault}
@@ -38,17 +38,35 @@ pub record IsDevice (k : Kernel) (i : ℕ) (name : List ℕ) (held : Held) (judg
   pub named : d.name ≡ name
   pub of : IsRecordOf k d judged
 
--- each standing is of a device, its number was given out, and no name has two
+-- the device of that identity is gone
+abbrev pub IsGone : Kernel → ℕ → Type 0
+IsGone k i = (d : Device) × (slice_get k.devices i ≡ Some d) × (d.gone ≡ true)
+
+-- between the kernels start and now, the device of that identity lived from the opening of its held file to the probe that
+-- gave this value
+pub record IsProbed (start now : Kernel) (name : List ℕ) (held i : ℕ) (on : Bool) : Type 0 where
+  pub first : Kernel
+  pub last : Kernel
+  pub since : Grows start first
+  pub lived : LivedUntilProbe name first last held i on
+  pub until : Grows last now
+
+abbrev pub numbers_of : List Standing → List ℕ
+numbers_of ss = map (λ s. s.number) ss
+
+-- each standing is of a device, its number was given out, and no name and no number has two
 pub record Stand (k : Kernel) (ss : List Standing) (next : ℕ) : Type 0 where
   pub devices : (s : Standing) → Has ss s → (i : ℕ) × IsDevice k i s.name s.held s.judged
   pub numbers : (s : Standing) → Has ss s → s.number < next
   pub names : AllDistinct (names_of ss)
+  pub distinct : AllDistinct (numbers_of ss)
 
--- an entry that tells neither a verdict nor a write
+-- an entry that tells no verdict, no write and no end of a standing
 abbrev pub TellsNeither : Entry → Type 0
 TellsNeither (entry.Judged number name held verdict cause) = ⊥
 TellsNeither (entry.Intent number name write) = ⊥
 TellsNeither (entry.Wrote number name write outcome) = ⊥
+TellsNeither (entry.Gone number name) = ⊥
 TellsNeither e = Unit {0}
 
 -- whether a write of that outcome may have had its effect, and whether it may not
@@ -73,35 +91,29 @@ abbrev pub wrote_entries : ℕ → List ℕ → Write → Wrote → List Entry
 wrote_entries number name write outcome = entry.Intent number name write ∷ entry.Wrote number name write outcome ∷ []
 
 -- The entries since a sweep began, in order, with what they say of the log, of the judge and of the next number.
--- Each verdict is the judge's on the record of the very device of the held file, under the next number. Each entry that was
--- added to the log is that of a write that is told, with its intent directly before it, to the very device of its number,
--- and is what the verdict of that number wants.
-pub data Account {J : Type 0} (answer : J → Judged → Bool → Bool → Bool → Target × Cause) (later : J → Judged → Bool → Bool → Bool → J) (k : Kernel) (before : List Standing) (log0 : List Effect) (judge0 : J) (next0 : ℕ) : List Entry → List Effect → J → ℕ → Type 0 where
-  Start : Account answer later k before log0 judge0 next0 [] log0 judge0 next0
-  Note : (es : List Entry) (log : List Effect) (judge : J) (next : ℕ) (e : Entry) → TellsNeither e → Account answer later k before log0 judge0 next0 es log judge next → Account answer later k before log0 judge0 next0 (es ++ e ∷ []) log judge next
-  Judge : (es : List Entry) (log : List Effect) (judge : J) (next i : ℕ) (name : List ℕ) (held : Held) (judged : Judged) (present on : Bool) → IsDevice k i name held judged → Account answer later k before log0 judge0 next0 es log judge next → Account answer later k before log0 judge0 next0 (es ++ entry.Judged next name held (answer judge judged (is_none (parent_of name)) present on).0 (answer judge judged (is_none (parent_of name)) present on).1 ∷ []) log (later judge judged (is_none (parent_of name)) present on) (next + 1)
-  Had : (es : List Entry) (log : List Effect) (judge : J) (next i number : ℕ) (name : List ℕ) (held : Held) (judged : Judged) (verdict : Target) (outcome : Wrote) → IsDevice k i name held judged → HasVerdict before es number name held verdict → MayHave outcome → Account answer later k before log0 judge0 next0 es log judge next → Account answer later k before log0 judge0 next0 (es ++ wrote_entries number name (write_of verdict) outcome) (log ++ record { device = i; write = write_of verdict } ∷ []) judge next
-  Had_not : (es : List Entry) (log : List Effect) (judge : J) (next i number : ℕ) (name : List ℕ) (held : Held) (judged : Judged) (verdict : Target) (outcome : Wrote) → IsDevice k i name held judged → HasVerdict before es number name held verdict → MayHaveNot outcome → Account answer later k before log0 judge0 next0 es log judge next → Account answer later k before log0 judge0 next0 (es ++ wrote_entries number name (write_of verdict) outcome) log judge next
+-- Each verdict is the judge's on the record of the very device of the held file, under the next number; and that device, in this
+-- sweep, lived from the opening of the file to the probe that gave its value. Whether it was present at the start is one answer for
+-- the sweep. Each entry that was added to the log is that of a write that is told, with its intent directly before it, to the very
+-- device of its number, and is what the verdict of that number wants. A number that is told gone had a verdict, and its device is gone.
+pub data Account {J : Type 0} (answer : J → Judged → Bool → Bool → Bool → Target × Cause) (later : J → Judged → Bool → Bool → Bool → J) (present : Bool) (start k : Kernel) (before : List Standing) (log0 : List Effect) (judge0 : J) (next0 : ℕ) : List Entry → List Effect → J → ℕ → Type 0 where
+  Start : Account answer later present start k before log0 judge0 next0 [] log0 judge0 next0
+  Note : (es : List Entry) (log : List Effect) (judge : J) (next : ℕ) (e : Entry) → TellsNeither e → Account answer later present start k before log0 judge0 next0 es log judge next → Account answer later present start k before log0 judge0 next0 (es ++ e ∷ []) log judge next
+  Judge : (es : List Entry) (log : List Effect) (judge : J) (next i : ℕ) (name : List ℕ) (held : Held) (judged : Judged) (on : Bool) → IsDevice k i name held judged → IsProbed start k name held.0 i on → Account answer later present start k before log0 judge0 next0 es log judge next → Account answer later present start k before log0 judge0 next0 (es ++ entry.Judged next name held (answer judge judged (is_none (parent_of name)) present on).0 (answer judge judged (is_none (parent_of name)) present on).1 ∷ []) log (later judge judged (is_none (parent_of name)) present on) (next + 1)
+  Had : (es : List Entry) (log : List Effect) (judge : J) (next i number : ℕ) (name : List ℕ) (held : Held) (judged : Judged) (verdict : Target) (outcome : Wrote) → IsDevice k i name held judged → HasVerdict before es number name held verdict → MayHave outcome → Account answer later present start k before log0 judge0 next0 es log judge next → Account answer later present start k before log0 judge0 next0 (es ++ wrote_entries number name (write_of verdict) outcome) (log ++ record { device = i; write = write_of verdict } ∷ []) judge next
+  Had_not : (es : List Entry) (log : List Effect) (judge : J) (next i number : ℕ) (name : List ℕ) (held : Held) (judged : Judged) (verdict : Target) (outcome : Wrote) → IsDevice k i name held judged → HasVerdict before es number name held verdict → MayHaveNot outcome → Account answer later present start k before log0 judge0 next0 es log judge next → Account answer later present start k before log0 judge0 next0 (es ++ wrote_entries number name (write_of verdict) outcome) log judge next
+  Went : (es : List Entry) (log : List Effect) (judge : J) (next i number : ℕ) (name : List ℕ) (held : Held) (judged : Judged) (verdict : Target) → IsDevice k i name held judged → IsGone k i → HasVerdict before es number name held verdict → Account answer later present start k before log0 judge0 next0 es log judge next → Account answer later present start k before log0 judge0 next0 (es ++ entry.Gone number name ∷ []) log judge next
+
+-- the standing is one of those, its mark aside
+abbrev pub IsOne : List Standing → Standing → Type 0
+IsOne ss s = (b : Standing) × Has ss b × (s.number ≡ b.number) × (s.name ≡ b.name) × (s.held ≡ b.held) × (s.judged ≡ b.judged) × (s.verdict ≡ b.verdict) × (s.cause ≡ b.cause)
 
 -- a standing at the end was there before, or its verdict was told since
 abbrev pub IsTold : List Standing → List Entry → Standing → Type 0
-IsTold before entries s =
-    ((b : Standing) × Has before b × (s.number ≡ b.number) × (s.name ≡ b.name) × (s.held ≡ b.held) × (s.judged ≡ b.judged) × (s.verdict ≡ b.verdict) × (s.cause ≡ b.cause))
-    ⊎ Has entries (entry.Judged s.number s.name s.held s.verdict s.cause)
+IsTold before entries s = IsOne before s ⊎ Has entries (entry.Judged s.number s.name s.held s.verdict s.cause)
 
--- from the state w over the kernel k to the state v over the kernel l
-pub record IsFair {J : Type 0} (answer : J → Judged → Bool → Bool → Bool → Target × Cause) (later : J → Judged → Bool → Bool → Bool → J) (k : Kernel) (w : State J) (l : Kernel) (v : State J) : Type 0 where
-  pub sound : IsKernel l
-  pub grows : Grows k l
-  pub rest : List Entry
-  pub entries : v.entries ≡ w.entries ++ rest
-  pub stand : Stand l v.standings v.next
-  pub account : Account answer later l w.standings k.log w.judge w.next rest l.log v.judge v.next
-  pub told : (s : Standing) → Has v.standings s → IsTold w.standings rest s
-
--- the name is told as unsettled
-abbrev pub IsNamed : List Entry → List ℕ → Type 0
-IsNamed entries name = (why : Fault) × Has entries (entry.Unsettled name why)
+-- the verdict stands
+abbrev pub Stands : List Standing → ℕ → List ℕ → Held → Target → Cause → Type 0
+Stands ss number name held verdict cause = (s : Standing) × Has ss s × (s.number ≡ number) × (s.name ≡ name) × (s.held ≡ held) × (s.verdict ≡ verdict) × (s.cause ≡ cause)
 
 -- the device has a standing
 pub record HasStanding (k : Kernel) (ss : List Standing) (i : ℕ) : Type 0 where
@@ -109,7 +121,37 @@ pub record HasStanding (k : Kernel) (ss : List Standing) (i : ℕ) : Type 0 wher
   pub has : Has ss s
   pub file : slice_get k.held s.held.0 ≡ Some (record { device = i; control = Authorized })
 
--- and its value is the one that the verdict wants
+-- the device was judged under that number
+pub record IsJudged (k : Kernel) (entries : List Entry) (number i : ℕ) : Type 0 where
+  pub name : List ℕ
+  pub held : Held
+  pub verdict : Target
+  pub cause : Cause
+  pub has : Has entries (entry.Judged number name held verdict cause)
+  pub file : slice_get k.held held.0 ≡ Some (record { device = i; control = Authorized })
+
+-- From the state w over the kernel k to the state v over the kernel l. A standing from before and a verdict that was told since
+-- stand at the end, or their number is told gone; and no standing has a number that is told gone. No device is judged twice, and
+-- none that had a standing before.
+pub record IsFair {J : Type 0} (answer : J → Judged → Bool → Bool → Bool → Target × Cause) (later : J → Judged → Bool → Bool → Bool → J) (present : Bool) (k : Kernel) (w : State J) (l : Kernel) (v : State J) : Type 0 where
+  pub sound : IsKernel l
+  pub grows : Grows k l
+  pub rest : List Entry
+  pub entries : v.entries ≡ w.entries ++ rest
+  pub stand : Stand l v.standings v.next
+  pub account : Account answer later present k l w.standings k.log w.judge w.next rest l.log v.judge v.next
+  pub told : (s : Standing) → Has v.standings s → IsTold w.standings rest s
+  pub kept : (b : Standing) → Has w.standings b → IsOne v.standings b ⊎ Has rest (entry.Gone b.number b.name)
+  pub judged : (number : ℕ) (name : List ℕ) (held : Held) (verdict : Target) (cause : Cause) → Has rest (entry.Judged number name held verdict cause) → Stands v.standings number name held verdict cause ⊎ Has rest (entry.Gone number name)
+  pub ended : (s : Standing) (name : List ℕ) → Has v.standings s → Has rest (entry.Gone s.number name) → ⊥
+  pub once : (i a b : ℕ) → IsJudged l rest a i → IsJudged l rest b i → a ≡ b
+  pub unjudged : (i a : ℕ) → HasStanding l w.standings i → IsJudged l rest a i → ⊥
+
+-- the name is told as unsettled
+abbrev pub IsNamed : List Entry → List ℕ → Type 0
+IsNamed entries name = (why : Fault) × Has entries (entry.Unsettled name why)
+
+-- the device has a standing, and its value is the one that the verdict wants
 pub record IsAsJudged (k : Kernel) (ss : List Standing) (i : ℕ) : Type 0 where
   pub standing : HasStanding k ss i
   pub d : Device
@@ -121,9 +163,10 @@ abbrev pub IsSettled : Kernel → Kernel → List Standing → List Entry → Ty
 IsSettled k l ss entries = (i : ℕ) (d : Device) → Lived k.devices l.devices i d
     → IsAsJudged l ss i ⊎ (IsNamed entries d.name ⊎ (((why : Fault) × Has entries (entry.UnsettledAll why)) × (HasStanding l ss i → ⊥)))
 
--- the sweep is fair, and each device is settled or named
+-- the sweep is fair, where devices were present at the start just if no listing had succeeded before it; and each device is
+-- settled or named
 pub record Swept {J : Type 0} (answer : J → Judged → Bool → Bool → Bool → Target × Cause) (later : J → Judged → Bool → Bool → Bool → J) (k : Kernel) (w : State J) (l : Kernel) (v : State J) : Type 0 where
-  pub fair : IsFair answer later k w l v
+  pub fair : IsFair answer later (not w.listed) k w l v
   pub settled : IsSettled k l v.standings fair.rest
 
 -- where a kernel is told at the end of a sweep, one was told at its start; and where that is sound and the standings are of

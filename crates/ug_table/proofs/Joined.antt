@@ -1,0 +1,162 @@
+-- One fair part of a sweep after another.
+use Rattle.std.proofs.Common.{◌≡◌, ℕ, Bool, true, false, List, ◌++◌, ◌⊎◌, inl, inr, Some, slice_get, refl, sym, ◌∙◌, ap, subst, append_assoc, arith}
+use Rattle.ug_types.specs.Elements.{Has}
+use Rattle.ug_types.specs.declared.record.Judged.{Judged}
+use Rattle.ug_types.specs.declared.verdict.Held.{Held}
+use Rattle.ug_types.specs.declared.verdict.Target.{Target}
+use Rattle.ug_types.specs.declared.verdict.Cause.{Cause}
+use Rattle.ug_kernel.specs.declared.device.Device.{Device}
+use Rattle.ug_kernel.specs.Kernel.{Kernel}
+use Rattle.ug_kernel.specs.Quiet.{Grows}
+use Rattle.ug_kernel.proofs.Grow.{some_same, quiet_grows, grows_trans}
+use Rattle.ug_kernel.proofs.Quiet.{moves_quiet}
+use Rattle.ug_audit.specs.declared.entry.Entry.{Entry}
+use Rattle.ug_audit.specs.declared.entry.Entry.TheVariants as entry
+use Rattle.ug_table.specs.State.{State}
+use Rattle.ug_table.specs.Laws.{IsDevice, IsGone, IsProbed, Stand, HasVerdict, IsOne, Stands, HasStanding, IsJudged, IsFair}
+use Rattle.ug_table.specs.declared.standing.Standing.{Standing}
+use Rattle.ug_table.proofs.Elements.{has_left, has_right, has_cases}
+use Rattle.ug_table.proofs.Values.{IsFileOf, file_same, file_later}
+use Rattle.ug_table.proofs.Account.{Answers, Laters, account_stays, account_trans, told_before}
+use Rattle.ug_table.proofs.Says.{Says, account_says, one_held}
+
+-- a fair part, with the standings that it began with
+pub record FairFrom {J : Type 0} (answer : Answers J) (later : Laters J) (present : Bool) (k : Kernel) (w : State J) (l : Kernel) (v : State J) : Type 0 where
+  pub stood : Stand k w.standings w.next
+  pub fair : IsFair answer later present k w l v
+
+says_of : {J : Type 0} {answer : Answers J} {later : Laters J} {present : Bool} {k l : Kernel} {w v : State J} (a : FairFrom answer later present k w l v) → Says k l w.standings w.next a.fair.rest v.next
+says_of {J} {answer} {later} {present} {k} {l} {w} {v} a = account_says answer later present k l w.standings k.log w.judge w.next a.fair.rest l.log v.judge v.next a.stood.numbers a.fair.account
+
+pub gone_as : (es : List Entry) (number n : ℕ) (name m : List ℕ) → number ≡ n → name ≡ m → Has es (entry.Gone number name) → Has es (entry.Gone n m)
+gone_as es number n name m e f h = let same : entry.Gone number name ≡ entry.Gone n m = cc in subst (λ (v : Entry). Has es v) same h
+
+device_is : (m l : Kernel) (j i : ℕ) (name : List ℕ) (held : Held) (judged : Judged) → Grows m l → IsDevice m j name held judged → IsFileOf l held.0 i → j ≡ i
+device_is m l j i name held judged g d f = file_same l held.0 j i (file_later m l held.0 j g d.file) f
+
+-- what was judged in a part was live then
+probed_lives : (m l : Kernel) (name : List ℕ) (held i : ℕ) (on : Bool) → IsProbed m l name held i on → IsGone m i → ⊥
+probed_lives m l name held i on p gone =
+    let before = p.lived.before in
+    let g = grows_trans m p.first before p.since (quiet_grows p.first before (moves_quiet p.first before p.lived.start)) in
+    let x = g.devices i gone.0 gone.1 in
+    let at : slice_get before.devices i ≡ Some p.lived.opened.d = subst (λ (v : ℕ). slice_get before.devices v ≡ Some p.lived.opened.d) p.lived.is p.lived.opened.live.at in
+    let same : x.0 ≡ p.lived.opened.d = some_same (slice_get before.devices i) x.0 p.lived.opened.d x.1 at in
+    let was : true ≡ false = sym (x.2.gone gone.2) ∙ ap (λ (v : Device). v.gone) same ∙ p.lived.opened.live.here in
+    let none : ⊥ = cc in none
+
+judged_lives : {J : Type 0} {answer : Answers J} {later : Laters J} {present : Bool} {m l : Kernel} {u v : State J} (b : FairFrom answer later present m u l v) (i n : ℕ) → IsJudged l b.fair.rest n i → IsGone m i → ⊥
+judged_lives {m = m} {l = l} b i n x gone =
+    let j = (says_of b).judged n x.name x.held x.verdict x.cause x.has in
+    let is : j.i ≡ i = file_same l x.held.0 j.i i j.device.file x.file in
+    probed_lives m l x.name x.held.0 j.i j.on j.probed (subst (λ (y : ℕ). IsGone m y) (sym is) gone)
+
+-- a verdict of the part, or from before it, stands after it, or its number is told gone
+stands_or_gone : {J : Type 0} {answer : Answers J} {later : Laters J} {present : Bool} {k m : Kernel} {w u : State J} (a : FairFrom answer later present k w m u) (number : ℕ) (name : List ℕ) (held : Held) (verdict : Target) → HasVerdict w.standings a.fair.rest number name held verdict → ((s : Standing) × Has u.standings s × (s.held ≡ held)) ⊎ Has a.fair.rest (entry.Gone number name)
+stands_or_gone a number name held verdict (inl h) = elim (a.fair.kept h.0 h.1) [
+  | inl t ↦ inl (t.0, t.1, sym t.4 ∙ h.4)
+  | inr g ↦ inr (gone_as a.fair.rest h.0.number number h.0.name name h.2 h.3 g)
+]
+stands_or_gone a number name held verdict (inr h) = elim (a.fair.judged number name held verdict h.0 h.1) [
+  | inl t ↦ inl (t.0, t.1, t.4)
+  | inr g ↦ inr g
+]
+
+-- so its device has a standing, or is gone
+had_before : {J : Type 0} {answer : Answers J} {later : Laters J} {present : Bool} {k m : Kernel} {w u : State J} (a : FairFrom answer later present k w m u) (l : Kernel) (i number : ℕ) (name : List ℕ) (held : Held) (verdict : Target) → Grows m l → HasVerdict w.standings a.fair.rest number name held verdict → IsFileOf l held.0 i → HasStanding l u.standings i ⊎ IsGone m i
+had_before {k = k} {m = m} {w = w} {u = u} a l i number name held verdict g v file = elim (stands_or_gone a number name held verdict v) [
+  | inl t ↦ inl (record { s = t.0; has = t.1; file = subst (λ (x : Held). IsFileOf l x.0 i) (sym t.2) file })
+  | inr e ↦
+      let says = says_of a in
+      let x = says.gone number name e in
+      let same : x.held ≡ held = one_held k m w.standings w.next a.fair.rest u.next number name name x.held held x.verdict verdict a.stood.numbers a.stood.distinct says x.had v in
+      let is : x.i ≡ i = device_is m l x.i i name x.held x.judged g x.device (subst (λ (y : Held). IsFileOf l y.0 i) (sym same) file) in
+      inr (subst (λ (y : ℕ). IsGone m y) is x.gone)
+]
+
+-- so it isn't judged later
+judged_before : {J : Type 0} {answer : Answers J} {later : Laters J} {present : Bool} {k m l : Kernel} {w u v : State J} (a : FairFrom answer later present k w m u) (b : FairFrom answer later present m u l v) (i number n : ℕ) (name : List ℕ) (held : Held) (verdict : Target) → HasVerdict w.standings a.fair.rest number name held verdict → IsFileOf l held.0 i → IsJudged l b.fair.rest n i → ⊥
+judged_before {l = l} a b i number n name held verdict v file x = elim (had_before a l i number name held verdict b.fair.grows v file) [
+  | inl s ↦ b.fair.unjudged i n s x
+  | inr gone ↦ judged_lives b i n x gone
+]
+
+judged_split : (l : Kernel) (es fs : List Entry) (n i : ℕ) → IsJudged l (es ++ fs) n i → IsJudged l es n i ⊎ IsJudged l fs n i
+judged_split l es fs n i x = elim (has_cases es fs (entry.Judged n x.name x.held x.verdict x.cause) x.has) [
+  | inl h ↦ inl (record { name = x.name; held = x.held; verdict = x.verdict; cause = x.cause; has = h; file = x.file })
+  | inr h ↦ inr (record { name = x.name; held = x.held; verdict = x.verdict; cause = x.cause; has = h; file = x.file })
+]
+
+judged_back : {J : Type 0} {answer : Answers J} {later : Laters J} {present : Bool} {k m : Kernel} {w u : State J} (a : FairFrom answer later present k w m u) (l : Kernel) (n i : ℕ) → Grows m l → IsJudged l a.fair.rest n i → IsJudged m a.fair.rest n i
+judged_back {m = m} a l n i g x =
+    let j = (says_of a).judged n x.name x.held x.verdict x.cause x.has in
+    let is : j.i ≡ i = device_is m l j.i i x.name x.held j.judged g j.device x.file in
+    record { name = x.name; held = x.held; verdict = x.verdict; cause = x.cause; has = x.has; file = subst (λ (y : ℕ). IsFileOf m x.held.0 y) is j.device.file }
+
+standing_back : (k m l : Kernel) (ss : List Standing) (next i : ℕ) → Stand k ss next → Grows k m → Grows m l → HasStanding l ss i → HasStanding m ss i
+standing_back k m l ss next i stand g j h =
+    let x = stand.devices h.s h.has in
+    let is : x.0 ≡ i = device_is k l x.0 i h.s.name h.s.held h.s.judged (grows_trans k m l g j) x.1 h.file in
+    record { s = h.s; has = h.has; file = subst (λ (y : ℕ). IsFileOf m h.s.held.0 y) is (file_later k m h.s.held.0 x.0 g x.1.file) }
+
+once_by : {J : Type 0} {answer : Answers J} {later : Laters J} {present : Bool} {k m l : Kernel} {w u v : State J} (a : FairFrom answer later present k w m u) (b : FairFrom answer later present m u l v) (i x y : ℕ) → IsJudged l a.fair.rest x i ⊎ IsJudged l b.fair.rest x i → IsJudged l a.fair.rest y i ⊎ IsJudged l b.fair.rest y i → x ≡ y
+once_by {l = l} a b i x y (inl p) (inl q) = a.fair.once i x y (judged_back a l x i b.fair.grows p) (judged_back a l y i b.fair.grows q)
+once_by a b i x y (inl p) (inr q) = absurd (judged_before a b i x y p.name p.held p.verdict (inr (p.cause, p.has)) p.file q)
+once_by a b i x y (inr p) (inl q) = absurd (judged_before a b i y x q.name q.held q.verdict (inr (q.cause, q.has)) q.file p)
+once_by a b i x y (inr p) (inr q) = b.fair.once i x y p q
+
+unjudged_by : {J : Type 0} {answer : Answers J} {later : Laters J} {present : Bool} {k m l : Kernel} {w u v : State J} (a : FairFrom answer later present k w m u) (b : FairFrom answer later present m u l v) (i n : ℕ) → HasStanding l w.standings i → IsJudged l a.fair.rest n i ⊎ IsJudged l b.fair.rest n i → ⊥
+unjudged_by {k = k} {m = m} {l = l} {w = w} a b i n h (inl p) = a.fair.unjudged i n (standing_back k m l w.standings w.next i a.stood a.fair.grows b.fair.grows h) (judged_back a l n i b.fair.grows p)
+unjudged_by a b i n h (inr p) = judged_before a b i h.s.number n h.s.name h.s.held h.s.verdict (inl (h.s, h.has, refl, refl, refl, refl)) h.file p
+
+kept_by : (ss rs : List Standing) (es fs : List Entry) (x : Standing) → ((t : Standing) → Has ss t → IsOne rs t ⊎ Has fs (entry.Gone t.number t.name)) → IsOne ss x ⊎ Has es (entry.Gone x.number x.name) → IsOne rs x ⊎ Has (es ++ fs) (entry.Gone x.number x.name)
+kept_by ss rs es fs x kept (inl t) = elim (kept t.0 t.1) [
+  | inl s ↦ inl (s.0, s.1, t.2 ∙ s.2, t.3 ∙ s.3, t.4 ∙ s.4, t.5 ∙ s.5, t.6 ∙ s.6, t.7 ∙ s.7)
+  | inr g ↦ inr (has_right es fs (entry.Gone x.number x.name) (gone_as fs t.0.number x.number t.0.name x.name (sym t.2) (sym t.3) g))
+]
+kept_by ss rs es fs x kept (inr g) = inr (has_left es fs (entry.Gone x.number x.name) g)
+
+stands_by : (ss rs : List Standing) (es fs : List Entry) (number : ℕ) (name : List ℕ) (held : Held) (verdict : Target) (cause : Cause) → ((t : Standing) → Has ss t → IsOne rs t ⊎ Has fs (entry.Gone t.number t.name)) → Stands ss number name held verdict cause ⊎ Has es (entry.Gone number name) → Stands rs number name held verdict cause ⊎ Has (es ++ fs) (entry.Gone number name)
+stands_by ss rs es fs number name held verdict cause kept (inl t) = elim (kept t.0 t.1) [
+  | inl s ↦ inl (s.0, s.1, sym s.2 ∙ t.2, sym s.3 ∙ t.3, sym s.4 ∙ t.4, sym s.6 ∙ t.5, sym s.7 ∙ t.6)
+  | inr g ↦ inr (has_right es fs (entry.Gone number name) (gone_as fs t.0.number number t.0.name name t.2 t.3 g))
+]
+stands_by ss rs es fs number name held verdict cause kept (inr g) = inr (has_left es fs (entry.Gone number name) g)
+
+judged_by : {J : Type 0} {answer : Answers J} {later : Laters J} {present : Bool} {k m l : Kernel} {w u v : State J} (a : FairFrom answer later present k w m u) (b : FairFrom answer later present m u l v) (number : ℕ) (name : List ℕ) (held : Held) (verdict : Target) (cause : Cause) → Has a.fair.rest (entry.Judged number name held verdict cause) ⊎ Has b.fair.rest (entry.Judged number name held verdict cause) → Stands v.standings number name held verdict cause ⊎ Has (a.fair.rest ++ b.fair.rest) (entry.Gone number name)
+judged_by {u = u} {v = v} a b number name held verdict cause (inl h) = stands_by u.standings v.standings a.fair.rest b.fair.rest number name held verdict cause b.fair.kept (a.fair.judged number name held verdict cause h)
+judged_by a b number name held verdict cause (inr h) = elim (b.fair.judged number name held verdict cause h) [
+  | inl s ↦ inl s
+  | inr g ↦ inr (has_right a.fair.rest b.fair.rest (entry.Gone number name) g)
+]
+
+ended_by : {J : Type 0} {answer : Answers J} {later : Laters J} {present : Bool} {k m l : Kernel} {w u v : State J} (a : FairFrom answer later present k w m u) (b : FairFrom answer later present m u l v) (s : Standing) (name : List ℕ) → Has v.standings s → Has a.fair.rest (entry.Gone s.number name) ⊎ Has b.fair.rest (entry.Gone s.number name) → ⊥
+ended_by a b s name h (inl g) = elim (b.fair.told s h) [
+  | inl t ↦ a.fair.ended t.0 name t.1 (gone_as a.fair.rest s.number t.0.number name name t.2 refl g)
+  | inr j ↦
+      let after = ((says_of b).judged s.number s.name s.held s.verdict s.cause j).after in
+      let below = ((says_of a).gone s.number name g).below in
+      let none : ⊥ = omega (arith, after, below) in none
+]
+ended_by a b s name h (inr g) = b.fair.ended s name h g
+
+pub fair_trans : {J : Type 0} {answer : Answers J} {later : Laters J} {present : Bool} {k m l : Kernel} {w u v : State J} → FairFrom answer later present k w m u → FairFrom answer later present m u l v → FairFrom answer later present k w l v
+fair_trans {J} {answer} {later} {present} {k} {m} {l} {w} {u} {v} a b =
+    let es = a.fair.rest in
+    let fs = b.fair.rest in
+    let account = account_stays answer later present k m l w.standings k.log w.judge w.next es m.log u.judge u.next b.fair.grows a.fair.account in
+    let fair : IsFair answer later present k w l v = record {
+      sound = b.fair.sound;
+      grows = grows_trans k m l a.fair.grows b.fair.grows;
+      rest = es ++ fs;
+      entries = b.fair.entries ∙ ap (λ (x : List Entry). x ++ fs) a.fair.entries ∙ append_assoc w.entries es fs;
+      stand = b.fair.stand;
+      account = account_trans answer later present k m l w.standings u.standings k.log m.log w.judge u.judge w.next u.next es l.log v.judge v.next fs a.fair.grows a.fair.told account b.fair.account;
+      told = λ s h. told_before w.standings u.standings es fs s a.fair.told (b.fair.told s h);
+      kept = λ x h. kept_by u.standings v.standings es fs x b.fair.kept (a.fair.kept x h);
+      judged = λ number name held verdict cause h. judged_by a b number name held verdict cause (has_cases es fs (entry.Judged number name held verdict cause) h);
+      ended = λ s name h g. ended_by a b s name h (has_cases es fs (entry.Gone s.number name) g);
+      once = λ i x y p q. once_by a b i x y (judged_split l es fs x i p) (judged_split l es fs y i q);
+      unjudged = λ i n h p. unjudged_by a b i n h (judged_split l es fs n i p);
+    } in
+    record { stood = a.stood; fair = fair }

@@ -1,0 +1,210 @@
+-- What an account says of the numbers that it tells.
+use Rattle.std.proofs.Common.{◌≡◌, ℕ, ◌+◌, ◌<◌, ◌≤◌, Bool, ◌⊎◌, List, [], ◌∷◌, ◌++◌, inl, inr, refl, sym, ◌∙◌, subst, arith}
+use Rattle.ug_types.specs.Elements.{Has, AllDistinct}
+use Rattle.ug_types.specs.declared.record.Judged.{Judged}
+use Rattle.ug_types.specs.declared.verdict.Held.{Held}
+use Rattle.ug_types.specs.declared.verdict.Target.{Target}
+use Rattle.ug_types.specs.declared.verdict.Cause.{Cause}
+use Rattle.ug_kernel.specs.declared.device.Effect.{Effect}
+use Rattle.ug_kernel.specs.declared.calls.Write.{Write}
+use Rattle.ug_kernel.specs.declared.calls.Wrote.{Wrote}
+use Rattle.ug_kernel.specs.Kernel.{Kernel}
+use Rattle.ug_audit.specs.declared.entry.Entry.{Entry}
+use Rattle.ug_audit.specs.declared.entry.Entry.TheVariants as entry
+use Rattle.ug_table.specs.Bring.{write_of}
+use Rattle.ug_table.specs.Laws.{IsDevice, IsGone, IsProbed, TellsNeither, HasVerdict, wrote_entries, Account, Start, Note, Judge, Had, Had_not, Went, numbers_of}
+use Rattle.ug_table.specs.declared.standing.Standing.{Standing}
+use Rattle.ug_table.proofs.Elements.{has_left, only_left, last_is, distinct_one}
+use Rattle.ug_table.proofs.Account.{Answers, Laters}
+
+-- entries that tell no verdict and no end of a standing
+pub record Plain (es : List Entry) : Type 0 where
+  pub judged : (number : ℕ) (name : List ℕ) (held : Held) (verdict : Target) (cause : Cause) → Has es (entry.Judged number name held verdict cause) → ⊥
+  pub gone : (number : ℕ) (name : List ℕ) → Has es (entry.Gone number name) → ⊥
+
+pub plain_none : Plain []
+plain_none = record { judged = λ number name held verdict cause a. a; gone = λ number name a. a }
+
+one_neither : (e x : Entry) → TellsNeither e → Has (e ∷ []) x → TellsNeither x
+one_neither e x t (inl is) = subst (λ (v : Entry). TellsNeither v) is t
+one_neither e x t (inr none) = absurd none
+
+pub plain_note : (e : Entry) → TellsNeither e → Plain (e ∷ [])
+plain_note e t = record {
+  judged = λ number name held verdict cause a. one_neither e (entry.Judged number name held verdict cause) t a;
+  gone = λ number name a. one_neither e (entry.Gone number name) t a;
+}
+
+wrote_judged : (number n : ℕ) (name m : List ℕ) (write : Write) (outcome : Wrote) (held : Held) (verdict : Target) (cause : Cause) → Has (wrote_entries number name write outcome) (entry.Judged n m held verdict cause) → ⊥
+wrote_judged number n name m write outcome held verdict cause (inl e) = let none : ⊥ = cc in none
+wrote_judged number n name m write outcome held verdict cause (inr (inl e)) = let none : ⊥ = cc in none
+wrote_judged number n name m write outcome held verdict cause (inr (inr none)) = none
+
+wrote_gone : (number n : ℕ) (name m : List ℕ) (write : Write) (outcome : Wrote) → Has (wrote_entries number name write outcome) (entry.Gone n m) → ⊥
+wrote_gone number n name m write outcome (inl e) = let none : ⊥ = cc in none
+wrote_gone number n name m write outcome (inr (inl e)) = let none : ⊥ = cc in none
+wrote_gone number n name m write outcome (inr (inr none)) = none
+
+pub plain_wrote : (number : ℕ) (name : List ℕ) (write : Write) (outcome : Wrote) → Plain (wrote_entries number name write outcome)
+plain_wrote number name write outcome = record {
+  judged = λ n m held verdict cause a. wrote_judged number n name m write outcome held verdict cause a;
+  gone = λ n m a. wrote_gone number n name m write outcome a;
+}
+
+-- a device was judged under a number that was new
+pub record WasJudged (start k : Kernel) (next0 next number : ℕ) (name : List ℕ) (held : Held) : Type 0 where
+  pub after : next0 ≤ number
+  pub below : number < next
+  pub i : ℕ
+  pub judged : Judged
+  pub on : Bool
+  pub device : IsDevice k i name held judged
+  pub probed : IsProbed start k name held.0 i on
+
+-- a number's device is gone
+pub record WentAway (k : Kernel) (before : List Standing) (es : List Entry) (next number : ℕ) (name : List ℕ) : Type 0 where
+  pub below : number < next
+  pub i : ℕ
+  pub held : Held
+  pub judged : Judged
+  pub verdict : Target
+  pub device : IsDevice k i name held judged
+  pub gone : IsGone k i
+  pub had : HasVerdict before es number name held verdict
+
+pub record Says (start k : Kernel) (before : List Standing) (next0 : ℕ) (es : List Entry) (next : ℕ) : Type 0 where
+  pub rises : next0 ≤ next
+  pub judged : (number : ℕ) (name : List ℕ) (held : Held) (verdict : Target) (cause : Cause) → Has es (entry.Judged number name held verdict cause) → WasJudged start k next0 next number name held
+  pub gone : (number : ℕ) (name : List ℕ) → Has es (entry.Gone number name) → WentAway k before es next number name
+  pub one : (number : ℕ) (n m : List ℕ) (h g : Held) (v u : Target) (c d : Cause) → Has es (entry.Judged number n h v c) → Has es (entry.Judged number m g u d) → h ≡ g
+
+verdict_more : (before : List Standing) (es fs : List Entry) (number : ℕ) (name : List ℕ) (held : Held) (verdict : Target) → HasVerdict before es number name held verdict → HasVerdict before (es ++ fs) number name held verdict
+verdict_more before es fs number name held verdict (inl h) = inl h
+verdict_more before es fs number name held verdict (inr h) = inr (h.0, has_left es fs (entry.Judged number name held verdict h.0) h.1)
+
+went_more : (k : Kernel) (before : List Standing) (es fs : List Entry) (next later number : ℕ) (name : List ℕ) → next ≤ later → WentAway k before es next number name → WentAway k before (es ++ fs) later number name
+went_more k before es fs next later number name le h = record {
+  below = let b = h.below in omega (arith, b);
+  i = h.i;
+  held = h.held;
+  judged = h.judged;
+  verdict = h.verdict;
+  device = h.device;
+  gone = h.gone;
+  had = verdict_more before es fs number name h.held h.verdict h.had;
+}
+
+judged_more : (start k : Kernel) (next0 next number : ℕ) (name : List ℕ) (held : Held) → WasJudged start k next0 next number name held → WasJudged start k next0 (next + 1) number name held
+judged_more start k next0 next number name held h = record { after = h.after; below = let b = h.below in omega (arith, b); i = h.i; judged = h.judged; on = h.on; device = h.device; probed = h.probed }
+
+says_plain : (start k : Kernel) (before : List Standing) (next0 : ℕ) (es fs : List Entry) (next : ℕ) → Plain fs → Says start k before next0 es next → Says start k before next0 (es ++ fs) next
+says_plain start k before next0 es fs next p h = record {
+  rises = h.rises;
+  judged = λ number name held verdict cause a. h.judged number name held verdict cause (only_left es fs (entry.Judged number name held verdict cause) (p.judged number name held verdict cause) a);
+  gone = λ number name a. went_more k before es fs next next number name (omega arith) (h.gone number name (only_left es fs (entry.Gone number name) (p.gone number name) a));
+  one = λ number n m x y v u c d a b. h.one number n m x y v u c d (only_left es fs (entry.Judged number n x v c) (p.judged number n x v c) a) (only_left es fs (entry.Judged number m y u d) (p.judged number m y u d) b);
+}
+
+judged_as : (start k : Kernel) (next0 next n : ℕ) (name m : List ℕ) (held g : Held) (verdict u : Target) (cause d : Cause) → WasJudged start k next0 (next + 1) next name held → entry.Judged next name held verdict cause ≡ entry.Judged n m g u d → WasJudged start k next0 (next + 1) n m g
+judged_as start k next0 next n name m held g verdict u cause d h e =
+    let number : next ≡ n = cc in
+    let named : name ≡ m = cc in
+    let file : held ≡ g = cc in
+    subst (λ (x : Held). WasJudged start k next0 (next + 1) n m x) file (subst (λ (x : List ℕ). WasJudged start k next0 (next + 1) n x held) named (subst (λ (x : ℕ). WasJudged start k next0 (next + 1) x name held) number h))
+
+one_judged : (start k : Kernel) (before : List Standing) (next0 : ℕ) (es : List Entry) (next : ℕ) (name : List ℕ) (held : Held) (verdict : Target) (cause : Cause) (number : ℕ) (n m : List ℕ) (x y : Held) (v u : Target) (c d : Cause) → Says start k before next0 es next → Has es (entry.Judged number n x v c) ⊎ (entry.Judged next name held verdict cause ≡ entry.Judged number n x v c) → Has es (entry.Judged number m y u d) ⊎ (entry.Judged next name held verdict cause ≡ entry.Judged number m y u d) → x ≡ y
+one_judged start k before next0 es next name held verdict cause number n m x y v u c d h (inl a) (inl b) = h.one number n m x y v u c d a b
+one_judged start k before next0 es next name held verdict cause number n m x y v u c d h (inl a) (inr b) =
+    let low = (h.judged number n x v c a).below in
+    let same : next ≡ number = cc in
+    let none : ⊥ = omega (arith, low, same) in absurd none
+one_judged start k before next0 es next name held verdict cause number n m x y v u c d h (inr a) (inl b) =
+    let low = (h.judged number m y u d b).below in
+    let same : next ≡ number = cc in
+    let none : ⊥ = omega (arith, low, same) in absurd none
+one_judged start k before next0 es next name held verdict cause number n m x y v u c d h (inr a) (inr b) =
+    let first : held ≡ x = cc in
+    let second : held ≡ y = cc in
+    sym first ∙ second
+
+says_judged : (start k : Kernel) (before : List Standing) (next0 : ℕ) (es : List Entry) (next i : ℕ) (name : List ℕ) (held : Held) (judged : Judged) (on : Bool) (verdict : Target) (cause : Cause) → IsDevice k i name held judged → IsProbed start k name held.0 i on → Says start k before next0 es next → Says start k before next0 (es ++ entry.Judged next name held verdict cause ∷ []) (next + 1)
+says_judged start k before next0 es next i name held judged on verdict cause device probed h =
+    let e = entry.Judged next name held verdict cause in
+    let rises = h.rises in
+    let new : WasJudged start k next0 (next + 1) next name held = record { after = h.rises; below = omega arith; i = i; judged = judged; on = on; device = device; probed = probed } in
+    record {
+      rises = omega (arith, rises);
+      judged = λ n m g u d a. elim (last_is es e (entry.Judged n m g u d) a) [
+        | inl x ↦ judged_more start k next0 next n m g (h.judged n m g u d x)
+        | inr is ↦ judged_as start k next0 next n name m held g verdict u cause d new is
+      ];
+      gone = λ n m a. elim (last_is es e (entry.Gone n m) a) [
+        | inl x ↦ went_more k before es (e ∷ []) next (next + 1) n m (omega arith) (h.gone n m x)
+        | inr is ↦ absurd (let none : ⊥ = cc in none)
+      ];
+      one = λ number n m x y v u c d a b. one_judged start k before next0 es next name held verdict cause number n m x y v u c d h (last_is es e (entry.Judged number n x v c) a) (last_is es e (entry.Judged number m y u d) b);
+    }
+
+went_as : (k : Kernel) (before : List Standing) (es : List Entry) (next number n : ℕ) (name m : List ℕ) → WentAway k before es next number name → entry.Gone number name ≡ entry.Gone n m → WentAway k before es next n m
+went_as k before es next number n name m h e =
+    let same : number ≡ n = cc in
+    let named : name ≡ m = cc in
+    subst (λ (x : List ℕ). WentAway k before es next n x) named (subst (λ (x : ℕ). WentAway k before es next x name) same h)
+
+says_went : (start k : Kernel) (before : List Standing) (next0 : ℕ) (es : List Entry) (next number : ℕ) (name : List ℕ) → WentAway k before es next number name → Says start k before next0 es next → Says start k before next0 (es ++ entry.Gone number name ∷ []) next
+says_went start k before next0 es next number name w h =
+    let e = entry.Gone number name in
+    let left : (n : ℕ) (m : List ℕ) (g : Held) (u : Target) (d : Cause) → Has (es ++ e ∷ []) (entry.Judged n m g u d) → Has es (entry.Judged n m g u d) = λ n m g u d a. elim (last_is es e (entry.Judged n m g u d) a) [ inl x ↦ x | inr is ↦ absurd (let none : ⊥ = cc in none) ] in
+    record {
+      rises = h.rises;
+      judged = λ n m g u d a. h.judged n m g u d (left n m g u d a);
+      gone = λ n m a. elim (last_is es e (entry.Gone n m) a) [
+        | inl x ↦ went_more k before es (e ∷ []) next next n m (omega arith) (h.gone n m x)
+        | inr is ↦ went_more k before es (e ∷ []) next next n m (omega arith) (went_as k before es next number n name m w is)
+      ];
+      one = λ number n m x y v u c d a b. h.one number n m x y v u c d (left number n x v c a) (left number m y u d b);
+    }
+
+-- numbers from before are below the next
+abbrev pub AreLow : List Standing → ℕ → Type 0
+AreLow before next = (s : Standing) → Has before s → s.number < next
+
+verdict_low : (start k : Kernel) (before : List Standing) (next0 : ℕ) (es : List Entry) (next number : ℕ) (name : List ℕ) (held : Held) (verdict : Target) → AreLow before next0 → Says start k before next0 es next → HasVerdict before es number name held verdict → number < next
+verdict_low start k before next0 es next number name held verdict low h (inl a) =
+    let rises = h.rises in
+    let below = low a.0 a.1 in
+    let same = a.2 in
+    omega (arith, rises, below, same)
+verdict_low start k before next0 es next number name held verdict low h (inr a) = (h.judged number name held verdict a.0 a.1).below
+
+pub account_says : {J : Type 0} (answer : Answers J) (later : Laters J) (present : Bool) (start k : Kernel) (before : List Standing) (log0 : List Effect) (judge0 : J) (next0 : ℕ) (es : List Entry) (log : List Effect) (judge : J) (next : ℕ) → AreLow before next0 → Account answer later present start k before log0 judge0 next0 es log judge next → Says start k before next0 es next
+account_says answer later present start k before log0 judge0 next0 es log judge next low Start = record {
+  rises = omega arith;
+  judged = λ number name held verdict cause a. absurd a;
+  gone = λ number name a. absurd a;
+  one = λ number n m x y v u c d a b. absurd a;
+}
+account_says answer later present start k before log0 judge0 next0 es log judge next low (Note fs m j n e t h) = says_plain start k before next0 fs (e ∷ []) n (plain_note e t) (account_says answer later present start k before log0 judge0 next0 fs m j n low h)
+account_says answer later present start k before log0 judge0 next0 es log judge next low (Judge fs m j n i name held judged on d b h) = says_judged start k before next0 fs n i name held judged on _ _ d b (account_says answer later present start k before log0 judge0 next0 fs m j n low h)
+account_says answer later present start k before log0 judge0 next0 es log judge next low (Had fs m j n i number name held judged verdict outcome d v may h) = says_plain start k before next0 fs (wrote_entries number name (write_of verdict) outcome) n (plain_wrote number name (write_of verdict) outcome) (account_says answer later present start k before log0 judge0 next0 fs m j n low h)
+account_says answer later present start k before log0 judge0 next0 es log judge next low (Had_not fs m j n i number name held judged verdict outcome d v may h) = says_plain start k before next0 fs (wrote_entries number name (write_of verdict) outcome) n (plain_wrote number name (write_of verdict) outcome) (account_says answer later present start k before log0 judge0 next0 fs m j n low h)
+account_says answer later present start k before log0 judge0 next0 es log judge next low (Went fs m j n i number name held judged verdict d o v h) =
+    let says = account_says answer later present start k before log0 judge0 next0 fs m j n low h in
+    says_went start k before next0 fs n number name (record { below = verdict_low start k before next0 fs n number name held verdict low says v; i = i; held = held; judged = judged; verdict = verdict; device = d; gone = o; had = v }) says
+
+-- a number has one held file
+pub one_held : (start k : Kernel) (before : List Standing) (next0 : ℕ) (es : List Entry) (next number : ℕ) (n m : List ℕ) (x y : Held) (v u : Target) → AreLow before next0 → AllDistinct (numbers_of before) → Says start k before next0 es next → HasVerdict before es number n x v → HasVerdict before es number m y u → x ≡ y
+one_held start k before next0 es next number n m x y v u low distinct h (inl a) (inl b) =
+    let same : a.0 ≡ b.0 = distinct_one (λ (s : Standing). s.number) before a.0 b.0 distinct a.1 b.1 (a.2 ∙ sym b.2) in
+    sym a.4 ∙ subst (λ (s : Standing). a.0.held ≡ s.held) same refl ∙ b.4
+one_held start k before next0 es next number n m x y v u low distinct h (inl a) (inr b) =
+    let below = low a.0 a.1 in
+    let same = a.2 in
+    let after = (h.judged number m y u b.0 b.1).after in
+    let none : ⊥ = omega (arith, below, same, after) in absurd none
+one_held start k before next0 es next number n m x y v u low distinct h (inr a) (inl b) =
+    let below = low b.0 b.1 in
+    let same = b.2 in
+    let after = (h.judged number n x v a.0 a.1).after in
+    let none : ⊥ = omega (arith, below, same, after) in absurd none
+one_held start k before next0 es next number n m x y v u low distinct h (inr a) (inr b) = h.one number n m x y v u a.0 b.0 a.1 b.1
