@@ -13,74 +13,66 @@ use Rattle.ug_kernel.specs.Kernel.{Kernel}
 use Rattle.ug_audit.specs.declared.entry.Entry.{Entry}
 use Rattle.ug_audit.specs.declared.entry.Entry.TheVariants as entry
 use Rattle.ug_table.specs.Bring.{write_of}
-use Rattle.ug_table.specs.Laws.{IsDevice, TellsNeither, MayHave, HasVerdict, wrote_entries, Account, Start, Note, Judge, Had, Had_not}
+use Rattle.ug_table.specs.Laws.{IsDevice, IsProbed, TellsNeither, MayHave, HasVerdict, wrote_entries, Account, Start, Note, Judge, Had, Had_not, Went}
 use Rattle.ug_table.specs.declared.standing.Standing.{Standing}
-use Rattle.ug_table.proofs.Elements.{has_cases}
+use Rattle.ug_table.proofs.Elements.{only_left, last_is}
+use Rattle.ug_table.proofs.Says.{plain_note, plain_wrote}
 use Rattle.ug_core.specs.declared.policy.IdRule.{IdRule}
 use Rattle.ug_core.specs.declared.policy.Policy.{Policy}
 use Rattle.ug_core.specs.Policy.{verdict_of}
 use Rattle.ug_core.specs.Event.{policy_answer, policy_later}
-use Rattle.ug_script.specs.Journal.{numbers_of, Follow}
+use Rattle.ug_script.specs.Journal.{told_numbers, Follow}
 
 -- the rules stay
-pub judge_stays : (k : Kernel) (before : List Standing) (log0 : List Effect) (judge0 : Policy) (next0 : ℕ) (es : List Entry) (log : List Effect) (judge : Policy) (next : ℕ) → Account policy_answer policy_later k before log0 judge0 next0 es log judge next → judge ≡ judge0
-judge_stays k before log0 judge0 next0 es log judge next Start = refl
-judge_stays k before log0 judge0 next0 es log judge next (Note fs m j n e t h) = judge_stays k before log0 judge0 next0 fs m j n h
-judge_stays k before log0 judge0 next0 es log judge next (Judge fs m j n i name held judged present on d h) = judge_stays k before log0 judge0 next0 fs m j n h
-judge_stays k before log0 judge0 next0 es log judge next (Had fs m j n i number name held judged verdict outcome d v may h) = judge_stays k before log0 judge0 next0 fs m j n h
-judge_stays k before log0 judge0 next0 es log judge next (Had_not fs m j n i number name held judged verdict outcome d v may h) = judge_stays k before log0 judge0 next0 fs m j n h
+pub judge_stays : (present : Bool) (start k : Kernel) (before : List Standing) (log0 : List Effect) (judge0 : Policy) (next0 : ℕ) (es : List Entry) (log : List Effect) (judge : Policy) (next : ℕ) → Account policy_answer policy_later present start k before log0 judge0 next0 es log judge next → judge ≡ judge0
+judge_stays present start k before log0 judge0 next0 es log judge next Start = refl
+judge_stays present start k before log0 judge0 next0 es log judge next (Note fs m j n e t h) = judge_stays present start k before log0 judge0 next0 fs m j n h
+judge_stays present start k before log0 judge0 next0 es log judge next (Judge fs m j n i name held judged on d b h) = judge_stays present start k before log0 judge0 next0 fs m j n h
+judge_stays present start k before log0 judge0 next0 es log judge next (Had fs m j n i number name held judged verdict outcome d v may h) = judge_stays present start k before log0 judge0 next0 fs m j n h
+judge_stays present start k before log0 judge0 next0 es log judge next (Had_not fs m j n i number name held judged verdict outcome d v may h) = judge_stays present start k before log0 judge0 next0 fs m j n h
+judge_stays present start k before log0 judge0 next0 es log judge next (Went fs m j n i number name held judged verdict d o v h) = judge_stays present start k before log0 judge0 next0 fs m j n h
 
--- the rules give that verdict on the record of the very device of the held file
-pub record IsGiven (rules : List IdRule) (k : Kernel) (name : List ℕ) (held : Held) (verdict : Target) (cause : Cause) : Type 0 where
+-- the rules give that verdict on the record of the very device of the held file, which lived until it was probed
+pub record IsGiven (rules : List IdRule) (start k : Kernel) (name : List ℕ) (held : Held) (verdict : Target) (cause : Cause) : Type 0 where
   pub i : ℕ
   pub judged : Judged
   pub present : Bool
   pub on : Bool
   pub device : IsDevice k i name held judged
+  pub probed : IsProbed start k name held.0 i on
   pub given : verdict_of rules judged (is_none (parent_of name)) present on ≡ (verdict, cause)
 
 same_pair : (p : Target × Cause) (b : Target) (d : Cause) → p.0 ≡ b → p.1 ≡ d → p ≡ (b, d)
 same_pair p b d e f = subst (λ (v : Target). p ≡ (v, d)) e (subst (λ (v : Cause). p ≡ (p.0, v)) f refl)
 
-given_by : (rules : List IdRule) (k : Kernel) (i number : ℕ) (name : List ℕ) (held : Held) (judged : Judged) (present on : Bool) → IsDevice k i name held judged → (m : ℕ) (other : List ℕ) (file : Held) (verdict : Target) (cause : Cause)
-    → entry.Judged number name held (verdict_of rules judged (is_none (parent_of name)) present on).0 (verdict_of rules judged (is_none (parent_of name)) present on).1 ≡ entry.Judged m other file verdict cause → IsGiven rules k other file verdict cause
-given_by rules k i number name held judged present on d m other file verdict cause e =
+given_by : (rules : List IdRule) (start k : Kernel) (i number : ℕ) (name : List ℕ) (held : Held) (judged : Judged) (present on : Bool) → IsDevice k i name held judged → IsProbed start k name held.0 i on → (m : ℕ) (other : List ℕ) (file : Held) (verdict : Target) (cause : Cause)
+    → entry.Judged number name held (verdict_of rules judged (is_none (parent_of name)) present on).0 (verdict_of rules judged (is_none (parent_of name)) present on).1 ≡ entry.Judged m other file verdict cause → IsGiven rules start k other file verdict cause
+given_by rules start k i number name held judged present on d b m other file verdict cause e =
     let p : Target × Cause = verdict_of rules judged (is_none (parent_of name)) present on in
     let names : name ≡ other = cc in
     let files : held ≡ file = cc in
     let targets : p.0 ≡ verdict = cc in
     let causes : p.1 ≡ cause = cc in
-    let given : IsGiven rules k name held verdict cause = record { i = i; judged = judged; present = present; on = on; device = d; given = same_pair p verdict cause targets causes } in
-    subst (λ (v : List ℕ). IsGiven rules k v file verdict cause) names (subst (λ (v : Held). IsGiven rules k name v verdict cause) files given)
-
--- the entries of a write tell no verdict
-no_verdict : (n : ℕ) (title : List ℕ) (write : Write) (outcome : Wrote) (number : ℕ) (name : List ℕ) (held : Held) (verdict : Target) (cause : Cause) → Has (wrote_entries n title write outcome) (entry.Judged number name held verdict cause) → ⊥
-no_verdict n title write outcome number name held verdict cause (inl e) = let none : ⊥ = cc in none
-no_verdict n title write outcome number name held verdict cause (inr (inl e)) = let none : ⊥ = cc in none
-no_verdict n title write outcome number name held verdict cause (inr (inr h)) = h
+    let given : IsGiven rules start k name held verdict cause = record { i = i; judged = judged; present = present; on = on; device = d; probed = b; given = same_pair p verdict cause targets causes } in
+    subst (λ (v : List ℕ). IsGiven rules start k v file verdict cause) names (subst (λ (v : Held). IsGiven rules start k name v verdict cause) files given)
 
 -- each verdict that is told was given so
-pub judged_given : (k : Kernel) (before : List Standing) (log0 : List Effect) (judge0 : Policy) (next0 : ℕ) (es : List Entry) (log : List Effect) (judge : Policy) (next : ℕ) → Account policy_answer policy_later k before log0 judge0 next0 es log judge next
-    → (number : ℕ) (name : List ℕ) (held : Held) (verdict : Target) (cause : Cause) → Has es (entry.Judged number name held verdict cause) → IsGiven judge0.rules k name held verdict cause
-judged_given k before log0 judge0 next0 es log judge next Start number name held verdict cause h = absurd h
-judged_given k before log0 judge0 next0 es log judge next (Note fs m j n e t a) number name held verdict cause h = elim (has_cases fs (e ∷ []) (entry.Judged number name held verdict cause) h) [
-  | inl x ↦ judged_given k before log0 judge0 next0 fs m j n a number name held verdict cause x
-  | inr y ↦ elim y [ inl same ↦ absurd (subst TellsNeither same t) | inr none ↦ absurd none ]
+pub judged_given : (present : Bool) (start k : Kernel) (before : List Standing) (log0 : List Effect) (judge0 : Policy) (next0 : ℕ) (es : List Entry) (log : List Effect) (judge : Policy) (next : ℕ) → Account policy_answer policy_later present start k before log0 judge0 next0 es log judge next
+    → (number : ℕ) (name : List ℕ) (held : Held) (verdict : Target) (cause : Cause) → Has es (entry.Judged number name held verdict cause) → IsGiven judge0.rules start k name held verdict cause
+judged_given present start k before log0 judge0 next0 es log judge next Start number name held verdict cause h = absurd h
+judged_given present start k before log0 judge0 next0 es log judge next (Note fs m j n e t a) number name held verdict cause h =
+    judged_given present start k before log0 judge0 next0 fs m j n a number name held verdict cause (only_left fs (e ∷ []) (entry.Judged number name held verdict cause) ((plain_note e t).judged number name held verdict cause) h)
+judged_given present start k before log0 judge0 next0 es log judge next (Judge fs m j n i other file judged on d b a) number name held verdict cause h = elim (last_is fs _ (entry.Judged number name held verdict cause) h) [
+  | inl x ↦ judged_given present start k before log0 judge0 next0 fs m j n a number name held verdict cause x
+  | inr same ↦ subst (λ (p : Policy). IsGiven p.rules start k name held verdict cause) (judge_stays present start k before log0 judge0 next0 fs m j n a) (given_by j.rules start k i n other file judged present on d b number name held verdict cause same)
 ]
-judged_given k before log0 judge0 next0 es log judge next (Judge fs m j n i other file judged present on d a) number name held verdict cause h = elim (has_cases fs _ (entry.Judged number name held verdict cause) h) [
-  | inl x ↦ judged_given k before log0 judge0 next0 fs m j n a number name held verdict cause x
-  | inr y ↦ elim y [
-    | inl same ↦ subst (λ (p : Policy). IsGiven p.rules k name held verdict cause) (judge_stays k before log0 judge0 next0 fs m j n a) (given_by j.rules k i n other file judged present on d number name held verdict cause same)
-    | inr none ↦ absurd none
-  ]
-]
-judged_given k before log0 judge0 next0 es log judge next (Had fs m j n i other title file judged target outcome d v may a) number name held verdict cause h = elim (has_cases fs (wrote_entries other title (write_of target) outcome) (entry.Judged number name held verdict cause) h) [
-  | inl x ↦ judged_given k before log0 judge0 next0 fs m j n a number name held verdict cause x
-  | inr y ↦ absurd (no_verdict other title (write_of target) outcome number name held verdict cause y)
-]
-judged_given k before log0 judge0 next0 es log judge next (Had_not fs m j n i other title file judged target outcome d v may a) number name held verdict cause h = elim (has_cases fs (wrote_entries other title (write_of target) outcome) (entry.Judged number name held verdict cause) h) [
-  | inl x ↦ judged_given k before log0 judge0 next0 fs m j n a number name held verdict cause x
-  | inr y ↦ absurd (no_verdict other title (write_of target) outcome number name held verdict cause y)
+judged_given present start k before log0 judge0 next0 es log judge next (Had fs m j n i other title file judged target outcome d v may a) number name held verdict cause h =
+    judged_given present start k before log0 judge0 next0 fs m j n a number name held verdict cause (only_left fs (wrote_entries other title (write_of target) outcome) (entry.Judged number name held verdict cause) ((plain_wrote other title (write_of target) outcome).judged number name held verdict cause) h)
+judged_given present start k before log0 judge0 next0 es log judge next (Had_not fs m j n i other title file judged target outcome d v may a) number name held verdict cause h =
+    judged_given present start k before log0 judge0 next0 fs m j n a number name held verdict cause (only_left fs (wrote_entries other title (write_of target) outcome) (entry.Judged number name held verdict cause) ((plain_wrote other title (write_of target) outcome).judged number name held verdict cause) h)
+judged_given present start k before log0 judge0 next0 es log judge next (Went fs m j n i other title file judged target d o v a) number name held verdict cause h = elim (last_is fs (entry.Gone other title) (entry.Judged number name held verdict cause) h) [
+  | inl x ↦ judged_given present start k before log0 judge0 next0 fs m j n a number name held verdict cause x
+  | inr same ↦ absurd (let none : ⊥ = cc in none)
 ]
 
 -- an effect is that of a write that is told, which the verdict of its number wants
@@ -117,28 +109,29 @@ pub record Added (before : List Standing) (entries : List Entry) (k : Kernel) (l
 added_more : (before : List Standing) (es fs : List Entry) (k : Kernel) (log0 log : List Effect) → Added before es k log0 log → Added before (es ++ fs) k log0 log
 added_more before es fs k log0 log a = record { effects = a.effects; log_is = a.log_is; each = λ e h. written_more before es fs k e (a.each e h) }
 
-pub all_added : (k : Kernel) (before : List Standing) (log0 : List Effect) (judge0 : Policy) (next0 : ℕ) (es : List Entry) (log : List Effect) (judge : Policy) (next : ℕ) → Account policy_answer policy_later k before log0 judge0 next0 es log judge next → Added before es k log0 log
-all_added k before log0 judge0 next0 es log judge next Start = record { effects = []; log_is = sym (append-nil log0); each = λ e h. absurd h }
-all_added k before log0 judge0 next0 es log judge next (Note fs m j n e t a) = added_more before fs (e ∷ []) k log0 m (all_added k before log0 judge0 next0 fs m j n a)
-all_added k before log0 judge0 next0 es log judge next (Judge fs m j n i name held judged present on d a) = added_more before fs _ k log0 m (all_added k before log0 judge0 next0 fs m j n a)
-all_added k before log0 judge0 next0 es log judge next (Had_not fs m j n i number name held judged verdict outcome d v may a) = added_more before fs (wrote_entries number name (write_of verdict) outcome) k log0 m (all_added k before log0 judge0 next0 fs m j n a)
-all_added k before log0 judge0 next0 es log judge next (Had fs m j n i number name held judged verdict outcome d v may a) =
+pub all_added : (present : Bool) (start k : Kernel) (before : List Standing) (log0 : List Effect) (judge0 : Policy) (next0 : ℕ) (es : List Entry) (log : List Effect) (judge : Policy) (next : ℕ) → Account policy_answer policy_later present start k before log0 judge0 next0 es log judge next → Added before es k log0 log
+all_added present start k before log0 judge0 next0 es log judge next Start = record { effects = []; log_is = sym (append-nil log0); each = λ e h. absurd h }
+all_added present start k before log0 judge0 next0 es log judge next (Note fs m j n e t a) = added_more before fs (e ∷ []) k log0 m (all_added present start k before log0 judge0 next0 fs m j n a)
+all_added present start k before log0 judge0 next0 es log judge next (Judge fs m j n i name held judged on d b a) = added_more before fs _ k log0 m (all_added present start k before log0 judge0 next0 fs m j n a)
+all_added present start k before log0 judge0 next0 es log judge next (Went fs m j n i number name held judged verdict d o v a) = added_more before fs (entry.Gone number name ∷ []) k log0 m (all_added present start k before log0 judge0 next0 fs m j n a)
+all_added present start k before log0 judge0 next0 es log judge next (Had_not fs m j n i number name held judged verdict outcome d v may a) = added_more before fs (wrote_entries number name (write_of verdict) outcome) k log0 m (all_added present start k before log0 judge0 next0 fs m j n a)
+all_added present start k before log0 judge0 next0 es log judge next (Had fs m j n i number name held judged verdict outcome d v may a) =
     let two : List Entry = wrote_entries number name (write_of verdict) outcome in
     let new : Effect = record { device = i; write = write_of verdict } in
-    let old : Added before (fs ++ two) k log0 m = added_more before fs two k log0 m (all_added k before log0 judge0 next0 fs m j n a) in
+    let old : Added before (fs ++ two) k log0 m = added_more before fs two k log0 m (all_added present start k before log0 judge0 next0 fs m j n a) in
     let this : WasWritten before (fs ++ two) k new = record { number = number; name = name; held = held; judged = judged; verdict = verdict; outcome = outcome; front = fs; back = []; at = ap (λ (l : List Entry). fs ++ l) (sym (append-nil two)); may = may; wanted = refl; device = d; had = v } in
     record {
       effects = old.effects ++ new ∷ [];
       log_is = ap (λ (l : List Effect). l ++ new ∷ []) old.log_is ∙ append_assoc log0 old.effects (new ∷ []);
-      each = λ e h. elim (has_cases old.effects (new ∷ []) e h) [
+      each = λ e h. elim (last_is old.effects new e h) [
         | inl x ↦ old.each e x
-        | inr y ↦ elim y [ inl same ↦ subst (λ (x : Effect). WasWritten before (fs ++ two) k x) same this | inr none ↦ absurd none ]
+        | inr same ↦ subst (λ (x : Effect). WasWritten before (fs ++ two) k x) same this
       ];
     }
 
 -- numbers
 
-pub numbers_append : (es fs : List Entry) → numbers_of (es ++ fs) ≡ numbers_of es ++ numbers_of fs
+pub numbers_append : (es fs : List Entry) → told_numbers (es ++ fs) ≡ told_numbers es ++ told_numbers fs
 numbers_append [] fs = refl
 numbers_append (entry.Event number moment ∷ es) fs = numbers_append es fs
 numbers_append (entry.Judged number name held verdict cause ∷ es) fs = ap (λ (l : List ℕ). number ∷ l) (numbers_append es fs)
@@ -153,7 +146,7 @@ pub follow_append : (a : ℕ) (xs ys : List ℕ) (b c : ℕ) → Follow a xs b �
 follow_append a [] ys b c f g = subst (λ (v : ℕ). Follow v ys c) f g
 follow_append a (x ∷ xs) ys b c f g = (f.0, follow_append (a + 1) xs ys b c f.1 g)
 
-numbers_none : (e : Entry) → TellsNeither e → numbers_of (e ∷ []) ≡ []
+numbers_none : (e : Entry) → TellsNeither e → told_numbers (e ∷ []) ≡ []
 numbers_none (entry.Event number moment) t = refl
 numbers_none (entry.Judged number name held verdict cause) t = absurd t
 numbers_none (entry.Intent number name write) t = refl
@@ -164,15 +157,16 @@ numbers_none (entry.UnsettledAll why) t = refl
 numbers_none (entry.End number) t = refl
 
 -- entries that bear no number
-follow_none : (a b : ℕ) (es fs : List Entry) → numbers_of fs ≡ [] → Follow a (numbers_of es) b → Follow a (numbers_of (es ++ fs)) b
+follow_none : (a b : ℕ) (es fs : List Entry) → told_numbers fs ≡ [] → Follow a (told_numbers es) b → Follow a (told_numbers (es ++ fs)) b
 follow_none a b es fs none f =
-    let same : numbers_of (es ++ fs) ≡ numbers_of es = numbers_append es fs ∙ ap (λ (l : List ℕ). numbers_of es ++ l) none ∙ append-nil (numbers_of es) in
+    let same : told_numbers (es ++ fs) ≡ told_numbers es = numbers_append es fs ∙ ap (λ (l : List ℕ). told_numbers es ++ l) none ∙ append-nil (told_numbers es) in
     subst (λ (l : List ℕ). Follow a l b) (sym same) f
 
-pub numbers_follow : (k : Kernel) (before : List Standing) (log0 : List Effect) (judge0 : Policy) (next0 : ℕ) (es : List Entry) (log : List Effect) (judge : Policy) (next : ℕ) → Account policy_answer policy_later k before log0 judge0 next0 es log judge next → Follow next0 (numbers_of es) next
-numbers_follow k before log0 judge0 next0 es log judge next Start = refl
-numbers_follow k before log0 judge0 next0 es log judge next (Note fs m j n e t a) = follow_none next0 n fs (e ∷ []) (numbers_none e t) (numbers_follow k before log0 judge0 next0 fs m j n a)
-numbers_follow k before log0 judge0 next0 es log judge next (Judge fs m j n i name held judged present on d a) =
-    subst (λ (l : List ℕ). Follow next0 l (n + 1)) (sym (numbers_append fs _)) (follow_append next0 (numbers_of fs) (n ∷ []) n (n + 1) (numbers_follow k before log0 judge0 next0 fs m j n a) (refl, refl))
-numbers_follow k before log0 judge0 next0 es log judge next (Had fs m j n i number name held judged verdict outcome d v may a) = follow_none next0 n fs (wrote_entries number name (write_of verdict) outcome) refl (numbers_follow k before log0 judge0 next0 fs m j n a)
-numbers_follow k before log0 judge0 next0 es log judge next (Had_not fs m j n i number name held judged verdict outcome d v may a) = follow_none next0 n fs (wrote_entries number name (write_of verdict) outcome) refl (numbers_follow k before log0 judge0 next0 fs m j n a)
+pub numbers_follow : (present : Bool) (start k : Kernel) (before : List Standing) (log0 : List Effect) (judge0 : Policy) (next0 : ℕ) (es : List Entry) (log : List Effect) (judge : Policy) (next : ℕ) → Account policy_answer policy_later present start k before log0 judge0 next0 es log judge next → Follow next0 (told_numbers es) next
+numbers_follow present start k before log0 judge0 next0 es log judge next Start = refl
+numbers_follow present start k before log0 judge0 next0 es log judge next (Note fs m j n e t a) = follow_none next0 n fs (e ∷ []) (numbers_none e t) (numbers_follow present start k before log0 judge0 next0 fs m j n a)
+numbers_follow present start k before log0 judge0 next0 es log judge next (Judge fs m j n i name held judged on d b a) =
+    subst (λ (l : List ℕ). Follow next0 l (n + 1)) (sym (numbers_append fs _)) (follow_append next0 (told_numbers fs) (n ∷ []) n (n + 1) (numbers_follow present start k before log0 judge0 next0 fs m j n a) (refl, refl))
+numbers_follow present start k before log0 judge0 next0 es log judge next (Had fs m j n i number name held judged verdict outcome d v may a) = follow_none next0 n fs (wrote_entries number name (write_of verdict) outcome) refl (numbers_follow present start k before log0 judge0 next0 fs m j n a)
+numbers_follow present start k before log0 judge0 next0 es log judge next (Had_not fs m j n i number name held judged verdict outcome d v may a) = follow_none next0 n fs (wrote_entries number name (write_of verdict) outcome) refl (numbers_follow present start k before log0 judge0 next0 fs m j n a)
+numbers_follow present start k before log0 judge0 next0 es log judge next (Went fs m j n i number name held judged verdict d o v a) = follow_none next0 n fs (entry.Gone number name ∷ []) refl (numbers_follow present start k before log0 judge0 next0 fs m j n a)

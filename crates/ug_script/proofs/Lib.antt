@@ -5,3 +5,4 @@ pub mod Events
 pub mod Lawful
 pub mod Accounts
 pub mod Recorded
+pub mod Journals

@@ -9,14 +9,13 @@ use Rattle.ug_types.specs.declared.verdict.Cause.{Cause}
 use Rattle.ug_types.specs.declared.verdict.Moment.{Moment}
 use Rattle.ug_kernel.specs.declared.device.Device.{Device}
 use Rattle.ug_kernel.specs.declared.device.Effect.{Effect}
-use Rattle.ug_kernel.specs.declared.calls.Control.TheVariants.{Authorized}
 use Rattle.ug_kernel.specs.declared.calls.Wrote.{Wrote}
 use Rattle.ug_kernel.specs.Kernel.{Kernel, Live}
 use Rattle.ug_sysfs.specs.World.{World, begun}
 use Rattle.ug_audit.specs.declared.entry.Entry.{Entry}
 use Rattle.ug_audit.specs.declared.entry.Entry.TheVariants as entry
 use Rattle.ug_table.specs.Bring.{write_of}
-use Rattle.ug_table.specs.Laws.{IsDevice, MayHave, wrote_entries, IsAsJudged}
+use Rattle.ug_table.specs.Laws.{IsDevice, IsProbed, MayHave, wrote_entries, IsJudged, IsAsJudged}
 use Rattle.ug_table.specs.declared.standing.Standing.{Standing}
 use Rattle.ug_play.specs.Play.{play, NameNobody}
 use Rattle.ug_core.specs.declared.policy.IdRule.{IdRule}
@@ -51,19 +50,21 @@ abbrev pub journal : Option Script × World → List (List ℕ) → List Entry
 journal p [] = []
 journal p (line ∷ lines) = noted p line ++ journal (left_by (script_step p line)) lines
 
--- it is told that the number got that verdict, and the rules gave it, on the record of the very device of the held file
-pub record WasJudged (rules : List IdRule) (entries : List Entry) (k : Kernel) (i number : ℕ) (name : List ℕ) (held : Held) (verdict : Target) : Type 0 where
+-- It is told that the number got that verdict. The rules gave it on the record of the very device of the held file, and that device
+-- lived, since the first kernel, from the opening of that file to the probe that gave its value.
+pub record WasJudged (rules : List IdRule) (entries : List Entry) (first k : Kernel) (i number : ℕ) (name : List ℕ) (held : Held) (verdict : Target) : Type 0 where
   pub cause : Cause
   pub judged : Judged
   pub present : Bool
   pub on : Bool
   pub device : IsDevice k i name held judged
+  pub probed : IsProbed first k name held.0 i on
   pub given : verdict_of rules judged (is_none (parent_of name)) present on ≡ (verdict, cause)
   pub told : Has entries (entry.Judged number name held verdict cause)
 
 -- The effect is that of a write that is told. Before its intent it was told that the very device got that verdict from the
 -- rules, and the write is the one that the verdict wants.
-pub record IsExplained (rules : List IdRule) (entries : List Entry) (k : Kernel) (effect : Effect) : Type 0 where
+pub record IsExplained (rules : List IdRule) (entries : List Entry) (first k : Kernel) (effect : Effect) : Type 0 where
   pub number : ℕ
   pub name : List ℕ
   pub held : Held
@@ -74,32 +75,44 @@ pub record IsExplained (rules : List IdRule) (entries : List Entry) (k : Kernel)
   pub at : entries ≡ before ++ (wrote_entries number name effect.write outcome ++ after)
   pub may : MayHave outcome
   pub wanted : effect.write ≡ write_of verdict
-  pub judged : WasJudged rules before k effect.device number name held verdict
+  pub judged : WasJudged rules before first k effect.device number name held verdict
 
 -- each effect since the first kernel is explained
 pub record AllExplained (rules : List IdRule) (entries : List Entry) (first k : Kernel) : Type 0 where
   pub added : List Effect
   pub log : k.log ≡ first.log ++ added
-  pub each : (effect : Effect) → Has added effect → IsExplained rules entries k effect
+  pub each : (effect : Effect) → Has added effect → IsExplained rules entries first k effect
 
 -- the numbers under which verdicts were told
-abbrev pub numbers_of : List Entry → List ℕ
-numbers_of [] = []
-numbers_of (entry.Judged number name held verdict cause ∷ es) = number ∷ numbers_of es
-numbers_of (e ∷ es) = numbers_of es
+abbrev pub told_numbers : List Entry → List ℕ
+told_numbers [] = []
+told_numbers (entry.Judged number name held verdict cause ∷ es) = number ∷ told_numbers es
+told_numbers (e ∷ es) = told_numbers es
 
 -- these numbers follow one another from the first one on, and the next comes behind the last
 abbrev pub Follow : ℕ → List ℕ → ℕ → Type 0
 Follow first [] next = next ≡ first
 Follow first (n ∷ ns) next = (n ≡ first) × Follow (first + 1) ns next
 
--- wherever lines have led: what was written is the text of the journal, each effect is explained, each number was given out
--- once, and where nothing is scheduled nobody is named as unsettled
+-- the device was judged under the number of its standing and under no other, and stands as judged
+pub record IsJudgedOnce (rules : List IdRule) (entries : List Entry) (first k : Kernel) (standings : List Standing) (i : ℕ) : Type 0 where
+  pub stands : IsAsJudged k standings i
+  pub judged : WasJudged rules entries first k i stands.standing.s.number stands.standing.s.name stands.standing.s.held stands.standing.s.verdict
+  pub once : (number : ℕ) → IsJudged k entries number i → number ≡ stands.standing.s.number
+
+-- each device that is live at the end of an event of that moment was judged just once since the first kernel, and stands as judged
+abbrev pub JudgesOnce : List IdRule → List Entry → Kernel → DaemonState × World → Type 0
+JudgesOnce rules entries first p = (i : ℕ) (d : Device) → Live p.1.kernel.devices i d → IsJudgedOnce rules (entries ++ p.0.sweep.entries) first p.1.kernel p.0.sweep.standings i
+
+-- Wherever lines have led: what was written is the text of the journal; each effect is explained; the numbers follow one another.
+-- And where nothing is scheduled, nobody is named as unsettled, and after an event that comes next each live device was judged just
+-- once and stands as judged.
 pub record Recorded (first : World) (entries : List Entry) (text : List ℕ) (s : Script) (w : World) : Type 0 where
   pub written : text ≡ lines_text entries
   pub explained : AllExplained (rules_of s) entries first.kernel w.kernel
-  pub numbers : Follow 1 (numbers_of entries) s.daemon.sweep.next
+  pub numbers : Follow 1 (told_numbers entries) s.daemon.sweep.next
   pub nobody : first.fails ≡ [] → NameNobody entries
+  pub once : first.fails ≡ [] → first.moves ≡ [] → (moment : Moment) → JudgesOnce (rules_of s) entries first.kernel (play (handling moment s.daemon) (begun w))
 
 -- the same of all lines
 abbrev pub StaysRecorded : World → Type 0

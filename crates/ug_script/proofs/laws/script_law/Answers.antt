@@ -1,5 +1,5 @@
 use Rattle.ug_script.proofs.Lawful.{stays_lawful}
-use Rattle.ug_script.proofs.Recorded.{stays_recorded}
+use Rattle.ug_script.proofs.Journals.{stays_recorded}
 use Rattle.ug_script.proofs.laws.script_law.Goals as goal
 
 pub returns-clause-lawful : goal.returns-clause-lawful

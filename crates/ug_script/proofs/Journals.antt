@@ -1,0 +1,278 @@
+-- What is written is the text of the journal, each effect is explained, numbers follow one another, and a script without
+-- failures names nobody and judges each device once.
+use Rattle.std.proofs.Common.{◌≡◌, ℕ, ◌+◌, Bool, true, false, not, ◌&&◌, ◌||◌, cond, nat_eq, nat_lt, List, [], ◌∷◌, ◌++◌, ◌⊎◌, length, Option, Some, None, inl, inr, refl, sym, ◌∙◌, ap, subst, append_assoc, append-nil}
+use Rattle.std.specs.Cmp.Lexicographic.{pointwise}
+use Rattle.std.specs.List.{list_any}
+use Rattle.ug_types.specs.Elements.{Has}
+use Rattle.ug_types.specs.declared.verdict.Moment.{Moment}
+use Rattle.ug_kernel.specs.declared.device.Device.{Device}
+use Rattle.ug_kernel.specs.Kernel.{Kernel, IsKernel, Moves, Live}
+use Rattle.ug_kernel.specs.Quiet.{Grows}
+use Rattle.ug_kernel.proofs.Grow.{quiet_grows, grows_trans, grows_refl}
+use Rattle.ug_kernel.proofs.Quiet.{moves_quiet}
+use Rattle.ug_sysfs.specs.Devices.{plugged, unplugged}
+use Rattle.ug_sysfs.specs.World.{World, begun, over}
+use Rattle.ug_sysfs.specs.Begins.{plugged_moves, unplugged_moves, happened_moves}
+use Rattle.ug_audit.specs.declared.entry.Entry.{Entry}
+use Rattle.ug_audit.specs.declared.entry.Entry.TheVariants as entry
+use Rattle.ug_table.specs.State.{State}
+use Rattle.ug_table.specs.Sweep.{sweeping}
+use Rattle.ug_table.specs.Laws.{Stand, IsAsJudged}
+use Rattle.ug_table.specs.declared.standing.Standing.{Standing}
+use Rattle.ug_play.specs.Play.{play, names_somebody, NameNobody}
+use Rattle.ug_play.proofs.Fine.{quiet_sweep, nobody_more}
+use Rattle.ug_play.proofs.Still.{lived_in_play}
+use Rattle.ug_core.specs.Event as event
+use Rattle.ug_core.specs.Event.{DaemonState, handling, has_numbers, policy_answer, policy_later}
+use Rattle.ug_core.specs.Laws.{Handled}
+use Rattle.ug_core.specs.declared.policy.IdRule.{IdRule}
+use Rattle.ug_core.specs.declared.policy.Policy.{Policy}
+use Rattle.ug_lines.specs.Fold.{Fault, BadLine, Outcome, Writes, Refused, Stage, Going, Halted, is_within, stage_after, plays}
+use Rattle.ug_script.specs.declared.step.Step.{Step}
+use Rattle.ug_script.specs.declared.step.Step.TheVariants.{Skip, Rule, Plug, Unplug, Sweep}
+use Rattle.ug_script.specs.Grammar.{step_of_line}
+use Rattle.ug_script.specs.Replay.{Script, with_rule, header, fresh, terminated, lines_text, quiet, bad, rules_of, with_devices, after_event, taken, taken_if, script_step}
+use Rattle.ug_script.specs.Journal.{noted_by, noted, left_by, journal, IsExplained, IsJudgedOnce, JudgesOnce, Recorded, StaysRecorded}
+use Rattle.ug_script.proofs.Accounts.{judge_stays}
+use Rattle.ug_script.proofs.Recorded.{explained_nowhere, Facts, facts_grow, framed, swept_facts, judged_once}
+use Rattle.ug_script.proofs.Lawful.{Holds, HoldsIn, HoldsAfter, plays_sweep, handled, swept_holds, taken_holds, no_standing}
+
+lines_more : (es fs : List Entry) → lines_text (es ++ fs) ≡ lines_text es ++ lines_text fs
+lines_more [] fs = refl
+lines_more (e ∷ es) fs = ap (λ (l : List ℕ). terminated e ++ l) (lines_more es fs) ∙ sym (append_assoc (terminated e) (lines_text es) (lines_text fs))
+
+record Kept (first : World) (entries : List Entry) (text : List ℕ) (s : Script) (w : World) : Type 0 where
+  holds : HoldsIn (Some s, w)
+  since : Grows first.kernel w.kernel
+  setup : s.setup ≡ true → (entries ≡ []) × (s.daemon.sweep.standings ≡ [])
+  facts : Facts (rules_of s) first.kernel entries w.kernel s.daemon.sweep.standings s.daemon.sweep.next
+  written : text ≡ lines_text entries
+  nobody : first.fails ≡ [] → NameNobody entries
+  unscheduled : first.fails ≡ [] → w.fails ≡ []
+  unmoved : first.moves ≡ [] → w.moves ≡ []
+
+abbrev KeptIn : World → List Entry → List ℕ → Option Script × World → Type 0
+KeptIn first es text (None, w) = HoldsIn (None, w) × (es ≡ []) × (text ≡ []) × (w ≡ first)
+KeptIn first es text (Some s, w) = Kept first es text s w
+
+-- where a line that notes these leads
+abbrev KeptAfter : World → List Entry → List ℕ → List Entry → Outcome (Option Script × World) → Type 0
+KeptAfter first es text new (Writes more p) = KeptIn first (es ++ new) (text ++ more) p
+KeptAfter first es text new (Refused fault p) = Unit {0}
+
+abbrev KeptAt : World → List Entry → Stage (Option Script × World) → Type 0
+KeptAt first es (Going n text p) = KeptIn first es text p
+KeptAt first es (Halted fault n text p) = Unit {0}
+
+-- nothing is noted and nothing is written
+kept_still : (first : World) (es : List Entry) (text : List ℕ) (p : Option Script × World) → KeptIn first es text p → KeptIn first (es ++ []) (text ++ []) p
+kept_still first es text p h = subst (λ (v : List Entry). KeptIn first v (text ++ []) p) (sym (append-nil es)) (subst (λ (v : List ℕ). KeptIn first es v p) (sym (append-nil text)) h)
+
+-- a rule more, before anything else
+kept_rule : (first : World) (es : List Entry) (text : List ℕ) (rule : IdRule) (s : Script) (w : World) → s.setup ≡ true → Kept first es text s w → Kept first es text (record s { daemon = with_rule rule s.daemon }) w
+kept_rule first es text rule s w setup h =
+    let none = h.setup setup in
+    let f = h.facts in
+    record {
+      holds = h.holds; since = h.since;
+      setup = λ _. none;
+      facts = record {
+        judged = λ x a. absurd (subst (λ (v : List Standing). Has v x) none.1 a);
+        explained = record { added = f.explained.added; log = f.explained.log; each = λ e a. absurd (explained_nowhere (rules_of s) first.kernel w.kernel e (subst (λ (v : List Entry). IsExplained (rules_of s) v first.kernel w.kernel e) none.0 (f.explained.each e a))) };
+        numbers = f.numbers;
+        known = f.known;
+      };
+      written = h.written; nobody = h.nobody; unscheduled = h.unscheduled; unmoved = h.unmoved;
+    }
+
+both : (a b : Bool) → (a && b) ≡ true → a ≡ true
+both true b e = refl
+both false b e = let none : ⊥ = cc in absurd none
+
+kept_rule_if : (first : World) (es : List Entry) (text : List ℕ) (rule : IdRule) (s : Script) (w : World) (b : Bool) → (b ≡ true → s.setup ≡ true) → Kept first es text s w → KeptAfter first es text [] (cond b (quiet (record s { daemon = with_rule rule s.daemon }) w) (bad s w))
+kept_rule_if first es text rule s w true f h = kept_still first es text (Some (record s { daemon = with_rule rule s.daemon }), w) (kept_rule first es text rule s w (f refl) h)
+kept_rule_if first es text rule s w false f h = tt
+
+-- devices come and go
+kept_moves : (first : World) (es : List Entry) (text : List ℕ) (s : Script) (w v : World) → HoldsIn (Some s, v) → Moves w.kernel v.kernel → v.fails ≡ w.fails → v.moves ≡ w.moves → Kept first es text s w → Kept first es text (record s { setup = false }) v
+kept_moves first es text s w v holds m fails moves h =
+    let g = quiet_grows w.kernel v.kernel (moves_quiet w.kernel v.kernel m) in
+    record {
+      holds = holds;
+      since = grows_trans first.kernel w.kernel v.kernel h.since g;
+      setup = λ e. let none : ⊥ = cc in absurd none;
+      facts = facts_grow (rules_of s) first.kernel es w.kernel v.kernel s.daemon.sweep.standings s.daemon.sweep.next g m.log h.facts;
+      written = h.written; nobody = h.nobody;
+      unscheduled = λ e. fails ∙ h.unscheduled e;
+      unmoved = λ e. moves ∙ h.unmoved e;
+    }
+
+-- an event
+
+nobody_in_event : (moment : Moment) (d : DaemonState) (w : World) → w.ran_out ≡ false → w.fails ≡ [] → NameNobody (play (handling moment d) (begun w)).0.sweep.entries
+nobody_in_event moment d w run none =
+    let p = sweeping policy_answer policy_later (event.begun d moment) in
+    rw (plays_sweep moment d w) (nobody_more (play p (begun w)).0.entries (entry.End d.event ∷ []) (quiet_sweep policy_answer policy_later (event.begun d moment) (begun w) run none refl) refl)
+
+-- the facts at the end of an event over these kernels
+event_facts : (first : Kernel) (es : List Entry) (moment : Moment) (k l : Kernel) (d e : DaemonState) → Grows first k → Stand k d.sweep.standings d.sweep.next → Facts d.sweep.judge.rules first es k d.sweep.standings d.sweep.next → Handled moment k d l e → Facts e.sweep.judge.rules first (es ++ e.sweep.entries) l e.sweep.standings e.sweep.next
+event_facts first es moment k l d e since stood facts law =
+    let v : State Policy = law.swept in
+    let y : Entry = entry.End d.event in
+    let at = swept_facts first es (not d.sweep.listed) k l (event.begun d moment) v d.event d.event moment since stood facts law.law.fair in
+    let framed_at : Facts v.judge.rules first (es ++ (v.entries ++ y ∷ [])) l v.standings v.next = subst (λ (z : List Entry). Facts v.judge.rules first (es ++ (z ++ y ∷ [])) l v.standings v.next) (sym law.law.fair.entries) at in
+    subst (λ (z : State Policy). Facts z.judge.rules first (es ++ z.entries) l z.standings z.next) (sym law.entries) framed_at
+
+event_rules : (moment : Moment) (k l : Kernel) (d e : DaemonState) → Handled moment k d l e → e.sweep.judge ≡ d.sweep.judge
+event_rules moment k l d e law =
+    let v : State Policy = law.swept in
+    ap (λ (z : State Policy). z.judge) law.entries ∙ judge_stays (not d.sweep.listed) k l d.sweep.standings k.log d.sweep.judge d.sweep.next law.law.fair.rest l.log v.judge v.next law.law.fair.account
+
+event_kept : (first : World) (es : List Entry) (text : List ℕ) (moment : Moment) (s : Script) (w : World) → HoldsAfter (after_event (play (handling moment s.daemon) (begun w))) → Kept first es text s w → KeptAfter first es text (play (handling moment s.daemon) (begun w)).0.sweep.entries (after_event (play (handling moment s.daemon) (begun w)))
+event_kept first es text moment s w holds h =
+    let p = play (handling moment s.daemon) (begun w) in
+    let law = handled moment s.daemon w h.holds in
+    let m = happened_moves p.1.moves p.1.kernel in
+    let g : Grows p.1.kernel (over p.1).kernel = quiet_grows p.1.kernel (over p.1).kernel (moves_quiet p.1.kernel (over p.1).kernel m) in
+    let facts = event_facts first.kernel es moment w.kernel p.1.kernel s.daemon p.0 h.since h.holds.stand h.facts law in
+    record {
+      holds = holds;
+      since = grows_trans first.kernel w.kernel (over p.1).kernel h.since (grows_trans w.kernel p.1.kernel (over p.1).kernel law.law.fair.grows g);
+      setup = λ e. let none : ⊥ = cc in absurd none;
+      facts = facts_grow p.0.sweep.judge.rules first.kernel (es ++ p.0.sweep.entries) p.1.kernel (over p.1).kernel p.0.sweep.standings p.0.sweep.next g m.log facts;
+      written = ap (λ (z : List ℕ). z ++ lines_text p.0.sweep.entries) h.written ∙ sym (lines_more es p.0.sweep.entries);
+      nobody = λ q. nobody_more es p.0.sweep.entries (h.nobody q) (nobody_in_event moment s.daemon w h.holds.told (h.unscheduled q));
+      unscheduled = λ q. refl;
+      unmoved = λ q. refl;
+    }
+
+neither : (a b : Bool) → (a || b) ≡ false → (a ≡ false) × (b ≡ false)
+neither false b e = (refl, e)
+neither true b e = let none : ⊥ = cc in absurd none
+
+named_nowhere : (es : List Entry) (e : Entry) → NameNobody es → names_somebody e ≡ true → Has es e → ⊥
+named_nowhere [] e n t h = h
+named_nowhere (x ∷ es) e n t (inl same) =
+    let none : true ≡ false = sym t ∙ ap names_somebody (sym same) ∙ (neither (names_somebody x) (list_any names_somebody es) n).0 in
+    let no_one : ⊥ = cc in no_one
+named_nowhere (x ∷ es) e n t (inr h) = named_nowhere es e (neither (names_somebody x) (list_any names_somebody es) n).1 t h
+
+nobody_left : (es fs : List Entry) → NameNobody (es ++ fs) → NameNobody es
+nobody_left [] fs n = refl
+nobody_left (e ∷ es) fs n =
+    let x = neither (names_somebody e) (list_any names_somebody (es ++ fs)) n in
+    ap (λ (b : Bool). b || list_any names_somebody es) x.0 ∙ nobody_left es fs x.1
+
+-- where nobody is named, each live device was judged once and stands as judged
+event_once : (first : World) (es : List Entry) (text : List ℕ) (s : Script) (w : World) → Kept first es text s w → first.fails ≡ [] → first.moves ≡ [] → (moment : Moment) → JudgesOnce (rules_of s) es first.kernel (play (handling moment s.daemon) (begun w))
+event_once first es text s w h fails moves moment i d live =
+    let p = play (handling moment s.daemon) (begun w) in
+    let l : Kernel = p.1.kernel in
+    let law = handled moment s.daemon w h.holds in
+    let facts = event_facts first.kernel es moment w.kernel l s.daemon p.0 h.since h.holds.stand h.facts law in
+    let stood : Stand l p.0.sweep.standings p.0.sweep.next = rw law.entries law.law.fair.stand in
+    let lived = lived_in_play (handling moment s.daemon) (begun w) (h.unmoved moves) law.law.fair.grows i d live in
+    let y : Entry = entry.End s.daemon.event in
+    let x : Entry = entry.Event s.daemon.event moment in
+    let rest : List Entry = law.law.fair.rest in
+    let all : p.0.sweep.entries ≡ framed x rest y = ap (λ (z : State Policy). z.entries) law.entries ∙ ap (λ (z : List Entry). z ++ y ∷ []) law.law.fair.entries in
+    let quiet : NameNobody ((x ∷ []) ++ rest) = nobody_left ((x ∷ []) ++ rest) (y ∷ []) (subst NameNobody all (nobody_in_event moment s.daemon w h.holds.told (h.unscheduled fails))) in
+    let as_judged : IsAsJudged l law.swept.standings i = elim (law.law.settled i lived.0 lived.1) [
+      | inl a ↦ a
+      | inr named ↦ elim named [
+        | inl n ↦ absurd (named_nowhere ((x ∷ []) ++ rest) (entry.Unsettled lived.0.name n.0) quiet refl (inr n.1))
+        | inr a ↦ absurd (named_nowhere ((x ∷ []) ++ rest) (entry.UnsettledAll a.0.0) quiet refl (inr a.0.1))
+      ]
+    ] in
+    let here : IsAsJudged l p.0.sweep.standings i = subst (λ (z : State Policy). IsAsJudged l z.standings i) (sym law.entries) as_judged in
+    let once = judged_once p.0.sweep.judge.rules first.kernel (es ++ p.0.sweep.entries) l p.0.sweep.standings p.0.sweep.next i d stood facts live here in
+    subst (λ (z : Policy). IsJudgedOnce z.rules (es ++ p.0.sweep.entries) first.kernel l p.0.sweep.standings i) (event_rules moment w.kernel l s.daemon p.0 law) once
+
+recorded : (first : World) (es : List Entry) (text : List ℕ) (s : Script) (w : World) → Kept first es text s w → Recorded first es text s w
+recorded first es text s w h = record {
+  written = h.written;
+  explained = h.facts.explained;
+  numbers = h.facts.numbers;
+  nobody = h.nobody;
+  once = event_once first es text s w h;
+}
+
+-- a line
+
+kept_if : (first : World) (es : List Entry) (text : List ℕ) (new other : List Entry) (b : Bool) (o p : Outcome (Option Script × World)) → (b ≡ true → KeptAfter first es text new o) → (b ≡ false → KeptAfter first es text other p) → KeptAfter first es text (cond b new other) (cond b o p)
+kept_if first es text new other true o p x y = x refl
+kept_if first es text new other false o p x y = y refl
+
+step_kept : (first : World) (es : List Entry) (text : List ℕ) (step : Step) (s : Script) (w : World) → Kept first es text s w → KeptAfter first es text (noted_by (Some step) s w) (taken step s w)
+step_kept first es text Skip s w h = kept_still first es text (Some s, w) h
+step_kept first es text (Rule rule) s w h = kept_rule_if first es text rule s w (s.setup && nat_lt (length (rules_of s)) 65536) (λ e. both s.setup (nat_lt (length (rules_of s)) 65536) e) h
+step_kept first es text (Plug device) s w h =
+    let v : World = with_devices (plugged device w.kernel.devices) w in
+    kept_still first es text (Some (record s { setup = false }), v) (kept_moves first es text s w v (taken_holds (Plug device) s w h.holds) (plugged_moves device w.kernel) refl refl h)
+step_kept first es text (Unplug name) s w h =
+    let v : World = with_devices (unplugged name w.kernel.devices) w in
+    kept_still first es text (Some (record s { setup = false }), v) (kept_moves first es text s w v (taken_holds (Unplug name) s w h.holds) (unplugged_moves name w.kernel) refl refl h)
+step_kept first es text (Sweep moment) s w h =
+    let p = play (handling moment s.daemon) (begun w) in
+    kept_if first es text p.0.sweep.entries [] (has_numbers s.daemon w.faults 0) (after_event p) (bad s w) (λ e. event_kept first es text moment s w (swept_holds moment s.daemon w h.holds) h) (λ e. tt)
+
+line_kept : (first : World) (es : List Entry) (text : List ℕ) (step : Option Step) (s : Script) (w : World) → Kept first es text s w → KeptAfter first es text (noted_by step s w) (taken_if step s w)
+line_kept first es text None s w h = tt
+line_kept first es text (Some step) s w h = step_kept first es text step s w h
+
+kept_fresh : (first : World) → Holds [] 1 first → Kept first [] [] fresh first
+kept_fresh first h = record {
+  holds = h;
+  since = grows_refl first.kernel;
+  setup = λ e. (refl, refl);
+  facts = record {
+    judged = λ x a. absurd a;
+    explained = record { added = []; log = sym (append-nil first.kernel.log); each = λ e a. absurd a };
+    numbers = refl;
+    known = λ number name held verdict cause a. absurd a;
+  };
+  written = refl;
+  nobody = λ q. refl;
+  unscheduled = λ q. q;
+  unmoved = λ q. q;
+}
+
+first_kept : (first : World) (b : Bool) → Holds [] 1 first → KeptAfter first [] [] [] (cond b (quiet fresh first) (Refused BadLine (None, first)))
+first_kept first true h = kept_fresh first h
+first_kept first false h = tt
+
+take_kept : (first : World) (es : List Entry) (text : List ℕ) (p : Option Script × World) (line : List ℕ) → KeptIn first es text p → KeptAfter first es text (noted p line) (script_step p line)
+take_kept first es text (None, w) line h =
+    subst (λ (v : World). KeptAfter first es text [] (script_step (None, v) line)) (sym h.3)
+    (subst (λ (v : List Entry). KeptAfter first v text [] (script_step (None, first) line)) (sym h.1)
+    (subst (λ (v : List ℕ). KeptAfter first [] v [] (script_step (None, first) line)) (sym h.2)
+    (first_kept first (pointwise nat_eq line header) (subst (λ (v : World). Holds [] 1 v) h.3 h.0))))
+take_kept first es text (Some s, w) line h = line_kept first es text (step_of_line line) s w h
+
+-- lines one after another
+
+halted : (fault : Fault) (n : ℕ) (text : List ℕ) (p : Option Script × World) (lines : List (List ℕ)) → plays script_step (Halted fault n text p) lines ≡ Halted fault n text p
+halted fault n text p [] = refl
+halted fault n text p (line ∷ lines) = halted fault n text p lines
+
+-- behind a refused line nothing is taken
+never : (fault : Fault) (n : ℕ) (text : List ℕ) (p : Option Script × World) (lines : List (List ℕ)) (m : ℕ) (out : List ℕ) (q : Option Script × World) → plays script_step (Halted fault n text p) lines ≡ Going m out q → ⊥
+never fault n text p lines m out q e = let h : Halted fault n text p ≡ Going m out q = sym (halted fault n text p lines) ∙ e in let none : ⊥ = cc in none
+
+rest_kept : (first : World) (es : List Entry) (n : ℕ) (text : List ℕ) (p : Option Script × World) (new : List Entry) (lines : List (List ℕ)) (m : ℕ) (out : List ℕ) (s : Script) (w : World)
+    → ((fs : List Entry) (more : List ℕ) (q : Option Script × World) → KeptIn first fs more q → plays script_step (Going (n + 1) more q) lines ≡ Going m out (Some s, w) → Kept first (fs ++ journal q lines) out s w)
+    → (b : Bool) (o : Outcome (Option Script × World)) → KeptAfter first es text new o → plays script_step (cond b (stage_after n text o) (Halted BadLine n text p)) lines ≡ Going m out (Some s, w) → Kept first (es ++ (new ++ journal (left_by o) lines)) out s w
+rest_kept first es n text p new lines m out s w again true (Writes more next) k e = subst (λ (v : List Entry). Kept first v out s w) (append_assoc es new (journal next lines)) (again (es ++ new) (text ++ more) next k e)
+rest_kept first es n text p new lines m out s w again true (Refused fault next) k e = absurd (never fault n text next lines m out (Some s, w) e)
+rest_kept first es n text p new lines m out s w again false o k e = absurd (never BadLine n text p lines m out (Some s, w) e)
+
+lines_kept : (first : World) (lines : List (List ℕ)) (es : List Entry) (n : ℕ) (text : List ℕ) (p : Option Script × World) (m : ℕ) (out : List ℕ) (s : Script) (w : World) → KeptIn first es text p → plays script_step (Going n text p) lines ≡ Going m out (Some s, w) → Kept first (es ++ journal p lines) out s w
+lines_kept first [] es n text p m out s w h e =
+    subst (λ (v : List Entry). Kept first v out s w) (sym (append-nil es)) (subst (λ (v : Stage (Option Script × World)). KeptAt first es v) e h)
+lines_kept first (line ∷ lines) es n text p m out s w h e =
+    rest_kept first es n text p (noted p line) lines m out s w (λ fs more q k f. lines_kept first lines fs (n + 1) more q m out s w k f) (is_within n line) (script_step p line) (take_kept first es text p line h) e
+
+pub stays_recorded : (w : World) → w.ran_out ≡ false → IsKernel w.kernel → StaysRecorded w
+stays_recorded first run sound lines n text s w e =
+    let journalled : List Entry = journal (None, first) lines in
+    recorded first journalled text s w (lines_kept first lines [] 0 [] (None, first) n text s w (record { told = run; sound = sound; stand = no_standing first.kernel }, refl, refl, refl) e)
