@@ -27,7 +27,7 @@ use Rattle.ug_table.specs.Laws.{Stand, IsNamed, HasStanding, IsAsJudged, IsSettl
 use Rattle.ug_table.specs.declared.standing.Standing.{Standing}
 use Rattle.ug_table.specs.declared.standing.Known.{Known}
 use Rattle.ug_table.specs.declared.standing.Settled.{Settled}
-use Rattle.ug_table.proofs.Elements.{has_left, filter_has, has_map}
+use Rattle.ug_table.proofs.Elements.{cancel, has_left, filter_has, has_map}
 use Rattle.ug_table.proofs.Values.{file_later, LiveAs, lives_between, lived, open_named}
 use Rattle.ug_table.proofs.Standings.{same_is, is_same, found, missing}
 use Rattle.ug_table.proofs.Account.{Answers, Laters}
@@ -98,12 +98,6 @@ resettling_all_well (n ∷ names) name i es w k l v sound f first live a c r =
     resettling_all_well names name i es x u l v (runs_sound (resettling n w) k cut.0 u sound cut.2) apart.files mid live (appends_trans es w.entries x.entries a apart.entries)
     (step P Q n name names (same_name n name) refl own (λ ne h. well_apart n name i es k w.standings w.entries u x.standings x.entries ne f first g apart back h) c)
     cut.3
-
--- of what was added
-
-cancel : (es fs gs : List Entry) → es ++ fs ≡ es ++ gs → fs ≡ gs
-cancel [] fs gs e = e
-cancel (x ∷ es) fs gs e = let rest : es ++ fs ≡ es ++ gs = cc in cancel es fs gs rest
 
 -- what is said of a device at the end of a sweep
 abbrev Ended : Kernel → List Standing → List Entry → ℕ → List ℕ → Type 0
