@@ -17,4 +17,5 @@ pub mod Again
 pub mod Lived
 pub mod Told
 pub mod Marks
+pub mod Spared
 pub mod Swept

@@ -136,7 +136,7 @@ unlisted_ended {J} why w k l v rest i name sound f e first live r =
 
 -- the whole sweep
 
-parted_files : {J : Type 0} (k : Kernel) (names : List (List ℕ)) (w : State J) → Files k w.standings → Files k (parted names w).standings
+pub parted_files : {J : Type 0} (k : Kernel) (names : List (List ℕ)) (w : State J) → Files k w.standings → Files k (parted names w).standings
 parted_files k names w f s a = f s (filter_has (λ (v : Standing). lists names v.name) w.standings s a).0
 
 if_room_ended : {J : Type 0} (answer : Answers J) (later : Laters J) (names : List (List ℕ)) (w : State J) (room : Bool) (k l : Kernel) (v : State J) (rest : List Entry) (i : ℕ) (name : List ℕ) → Has names name → IsKernel k → Files k w.standings → v.entries ≡ w.entries ++ rest → LiveAs k i name → LiveAs l i name → Runs calls k (if_room answer later names w room) v l → Ended l v.standings rest i name
@@ -159,16 +159,16 @@ sweeping_ended answer later w k l v rest i name f e first live r =
     let mid = lives_between k r.1 l i name g (runs_grow (after_list answer later w r.0.answer r.0.number r.0.count) r.1 v l r.3) first live in
     after_list_ended answer later w r.0.answer r.0.number r.0.count k r.1 l v rest i name (files_later k r.1 w.standings g f) e first mid live r.2 r.3
 
-lives_first : (k l : Kernel) (i : ℕ) (d : Device) → Lived k.devices l.devices i d → LiveAs k i d.name
+pub lives_first : (k l : Kernel) (i : ℕ) (d : Device) → Lived k.devices l.devices i d → LiveAs k i d.name
 lives_first k l i d lives = record { d = d; live = lives.entry; named = refl }
 
-lives_last : (k l : Kernel) (i : ℕ) (d : Device) → Grows k l → Lived k.devices l.devices i d → LiveAs l i d.name
+pub lives_last : (k l : Kernel) (i : ℕ) (d : Device) → Grows k l → Lived k.devices l.devices i d → LiveAs l i d.name
 lives_last k l i d g lives =
     let x = g.devices i d lives.entry.at in
     let same : x.0 ≡ lives.exit.0 = some_same (slice_get l.devices i) x.0 lives.exit.0 x.1 lives.exit.1.at in
     record { d = lives.exit.0; live = lives.exit.1; named = ap (λ (v : Device). v.name) (sym same) ∙ x.2.name }
 
-stand_files : (k : Kernel) (ss : List Standing) (next : ℕ) → Stand k ss next → Files k ss
+pub stand_files : (k : Kernel) (ss : List Standing) (next : ℕ) → Stand k ss next → Files k ss
 stand_files k ss next h s a = let x = h.devices s a in record { i = x.0; d = x.1.d; file = x.1.file; device = x.1.device; named = x.1.named }
 
 -- whatever the entries that were added

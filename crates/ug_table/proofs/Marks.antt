@@ -140,7 +140,7 @@ order_distinct (name ∷ names) d = place_distinct name (in_sweep_order names) (
 abbrev Ends : {J : Type 0} → State J → State J → List Entry → Type 0
 Ends w v rest = IsListed rest w.listed v.listed × ((s : Standing) → Has v.standings s → IsMarked rest s)
 
-farewell_none : (names : List (List ℕ)) (ss : List Standing) → Each NamesNone (farewells names ss)
+pub farewell_none : (names : List (List ℕ)) (ss : List Standing) → Each NamesNone (farewells names ss)
 farewell_none names [] = tt
 farewell_none names (s ∷ ss) =
     let rest = farewell_none names ss in

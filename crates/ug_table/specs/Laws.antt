@@ -21,6 +21,7 @@ use Rattle.ug_node.specs.Bound.{attrs_of, IsParentRead, LivedUntilProbe}
 use Rattle.ug_audit.specs.declared.entry.Entry.{Entry}
 use Rattle.ug_audit.specs.declared.entry.Entry.TheVariants as entry
 use Rattle.ug_audit.specs.declared.entry.Fault.{Fault}
+use Rattle.ug_audit.specs.declared.entry.Fault.TheVariants as fault
 use Rattle.ug_table.specs.Bring.{wants, write_of}
 use Rattle.ug_table.specs.State.{State}
 use Rattle.ug_table.specs.Sweep.{names_of}
@@ -175,6 +176,10 @@ IsListed entries before after = ((IsUnlisted entries → ⊥) × (after ≡ true
 abbrev pub IsMarked : List Entry → Standing → Type 0
 IsMarked entries s = ((s.settled ≡ true) × (IsNamed entries s.name → ⊥)) ⊎ ((s.settled ≡ false) × IsNamed entries s.name)
 
+-- no device that had a standing before and lived through is named for want of memory
+abbrev pub IsSpared : Kernel → Kernel → List Standing → List Entry → Type 0
+IsSpared k l before entries = (i : ℕ) (d : Device) → Lived k.devices l.devices i d → HasStanding k before i → Has entries (entry.Unsettled d.name fault.Memory) → ⊥
+
 -- the sweep is fair, where devices were present at the start just if no listing had succeeded before it; each device is settled
 -- or named; and so say the marks
 pub record Swept {J : Type 0} (answer : J → Judged → Bool → Bool → Bool → Target × Cause) (later : J → Judged → Bool → Bool → Bool → J) (k : Kernel) (w : State J) (l : Kernel) (v : State J) : Type 0 where
@@ -182,6 +187,7 @@ pub record Swept {J : Type 0} (answer : J → Judged → Bool → Bool → Bool 
   pub settled : IsSettled k l v.standings fair.rest
   pub listed : IsListed fair.rest w.listed v.listed
   pub marks : (s : Standing) → Has v.standings s → IsMarked fair.rest s
+  pub spared : IsSpared k l w.standings fair.rest
 
 -- where a kernel is told at the end of a sweep, one was told at its start; and where that is sound and the standings are of
 -- its devices, that is so
