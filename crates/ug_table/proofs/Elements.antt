@@ -114,3 +114,8 @@ last_is xs y x h = elim (has_cases xs (y ∷ []) x h) [
   | inl a ↦ inl a
   | inr b ↦ elim b [ inl e ↦ inr e | inr n ↦ absurd n ]
 ]
+
+-- of what was added
+pub cancel : {X : Type 0} (xs ys zs : List X) → xs ++ ys ≡ xs ++ zs → ys ≡ zs
+cancel [] ys zs e = e
+cancel (x ∷ xs) ys zs e = let rest : xs ++ ys ≡ xs ++ zs = cc in cancel xs ys zs rest

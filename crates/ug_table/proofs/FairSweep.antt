@@ -1,5 +1,5 @@
 -- The sweep is fair.
-use Rattle.std.proofs.Common.{◌≡◌, ℕ, Bool, true, false, not, List, [], ◌∷◌, ◌++◌, ◌⊎◌, Some, cond, slice_get, inl, inr, refl, sym, ◌∙◌, ap, subst, append_assoc, append-nil, true≢false, arith}
+use Rattle.std.proofs.Common.{◌≡◌, ℕ, Bool, true, false, not, List, [], ◌∷◌, ◌++◌, ◌⊎◌, Some, cond, slice_get, inl, inr, refl, sym, ◌∙◌, ap, subst, append_assoc, append-nil, true≢false}
 use Rattle.std.specs.List.{filter}
 use Rattle.ug_types.specs.Elements.{Has}
 use Rattle.ug_types.specs.Sweep.{in_sweep_order}
@@ -31,7 +31,7 @@ use Rattle.ug_table.specs.declared.standing.Standing.{Standing}
 use Rattle.ug_table.specs.declared.standing.Settled.{Settled}
 use Rattle.ug_table.proofs.Elements.{filter_has, has_filter, distinct_filter, distinct_one}
 use Rattle.ug_table.proofs.Values.{file_same, file_later}
-use Rattle.ug_table.proofs.Standings.{is_same}
+use Rattle.ug_table.proofs.Standings.{listed_is}
 use Rattle.ug_table.proofs.Account.{Answers, Laters}
 use Rattle.ug_table.proofs.Joined.{FairFrom, fair_trans}
 use Rattle.ug_table.proofs.Steps.{one_itself, stand_of, fair_refl, fair_end, then_called, then_note, gone_device}
@@ -131,11 +131,6 @@ then_parted : {J : Type 0} {answer : Answers J} {later : Laters J} {present : Bo
 then_parted {J} {answer} {later} {present} {k} {m} {w} {u} names gone h = fair_trans h (parted_fair answer later present m u names h.fair.sound h.fair.stand gone)
 
 -- what isn't listed is gone
-
-listed_is : (names : List (List ℕ)) (name : List ℕ) → Has names name → lists names name ≡ true
-listed_is [] name a = absurd a
-listed_is (n ∷ names) name (inl e) = let same = is_same n name e in grind (arith, same)
-listed_is (n ∷ names) name (inr a) = let rest = listed_is names name a in grind (arith, rest)
 
 listing_gone : (k m : Kernel) (names : List (List ℕ)) (ss : List Standing) (next : ℕ) → Grows k m → says_listing (listing.Names names) k m → Stand k ss next → AreGone m (in_sweep_order names) ss
 listing_gone k m names ss next g says stand s i a d out =

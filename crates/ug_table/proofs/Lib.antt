@@ -15,4 +15,7 @@ pub mod Apart
 pub mod Own
 pub mod Again
 pub mod Lived
+pub mod Told
+pub mod Marks
+pub mod Spared
 pub mod Swept

@@ -27,7 +27,7 @@ use Rattle.ug_table.specs.Laws.{Stand, IsNamed, HasStanding, IsAsJudged, IsSettl
 use Rattle.ug_table.specs.declared.standing.Standing.{Standing}
 use Rattle.ug_table.specs.declared.standing.Known.{Known}
 use Rattle.ug_table.specs.declared.standing.Settled.{Settled}
-use Rattle.ug_table.proofs.Elements.{has_left, filter_has, has_map}
+use Rattle.ug_table.proofs.Elements.{cancel, has_left, filter_has, has_map}
 use Rattle.ug_table.proofs.Values.{file_later, LiveAs, lives_between, lived, open_named}
 use Rattle.ug_table.proofs.Standings.{same_is, is_same, found, missing}
 use Rattle.ug_table.proofs.Account.{Answers, Laters}
@@ -99,12 +99,6 @@ resettling_all_well (n ∷ names) name i es w k l v sound f first live a c r =
     (step P Q n name names (same_name n name) refl own (λ ne h. well_apart n name i es k w.standings w.entries u x.standings x.entries ne f first g apart back h) c)
     cut.3
 
--- of what was added
-
-cancel : (es fs gs : List Entry) → es ++ fs ≡ es ++ gs → fs ≡ gs
-cancel [] fs gs e = e
-cancel (x ∷ es) fs gs e = let rest : es ++ fs ≡ es ++ gs = cc in cancel es fs gs rest
-
 -- what is said of a device at the end of a sweep
 abbrev Ended : Kernel → List Standing → List Entry → ℕ → List ℕ → Type 0
 Ended l ss rest i name = IsAsJudged l ss i ⊎ (IsNamed rest name ⊎ (((why : Fault) × Has rest (entry.UnsettledAll why)) × (HasStanding l ss i → ⊥)))
@@ -142,7 +136,7 @@ unlisted_ended {J} why w k l v rest i name sound f e first live r =
 
 -- the whole sweep
 
-parted_files : {J : Type 0} (k : Kernel) (names : List (List ℕ)) (w : State J) → Files k w.standings → Files k (parted names w).standings
+pub parted_files : {J : Type 0} (k : Kernel) (names : List (List ℕ)) (w : State J) → Files k w.standings → Files k (parted names w).standings
 parted_files k names w f s a = f s (filter_has (λ (v : Standing). lists names v.name) w.standings s a).0
 
 if_room_ended : {J : Type 0} (answer : Answers J) (later : Laters J) (names : List (List ℕ)) (w : State J) (room : Bool) (k l : Kernel) (v : State J) (rest : List Entry) (i : ℕ) (name : List ℕ) → Has names name → IsKernel k → Files k w.standings → v.entries ≡ w.entries ++ rest → LiveAs k i name → LiveAs l i name → Runs calls k (if_room answer later names w room) v l → Ended l v.standings rest i name
@@ -165,16 +159,16 @@ sweeping_ended answer later w k l v rest i name f e first live r =
     let mid = lives_between k r.1 l i name g (runs_grow (after_list answer later w r.0.answer r.0.number r.0.count) r.1 v l r.3) first live in
     after_list_ended answer later w r.0.answer r.0.number r.0.count k r.1 l v rest i name (files_later k r.1 w.standings g f) e first mid live r.2 r.3
 
-lives_first : (k l : Kernel) (i : ℕ) (d : Device) → Lived k.devices l.devices i d → LiveAs k i d.name
+pub lives_first : (k l : Kernel) (i : ℕ) (d : Device) → Lived k.devices l.devices i d → LiveAs k i d.name
 lives_first k l i d lives = record { d = d; live = lives.entry; named = refl }
 
-lives_last : (k l : Kernel) (i : ℕ) (d : Device) → Grows k l → Lived k.devices l.devices i d → LiveAs l i d.name
+pub lives_last : (k l : Kernel) (i : ℕ) (d : Device) → Grows k l → Lived k.devices l.devices i d → LiveAs l i d.name
 lives_last k l i d g lives =
     let x = g.devices i d lives.entry.at in
     let same : x.0 ≡ lives.exit.0 = some_same (slice_get l.devices i) x.0 lives.exit.0 x.1 lives.exit.1.at in
     record { d = lives.exit.0; live = lives.exit.1; named = ap (λ (v : Device). v.name) (sym same) ∙ x.2.name }
 
-stand_files : (k : Kernel) (ss : List Standing) (next : ℕ) → Stand k ss next → Files k ss
+pub stand_files : (k : Kernel) (ss : List Standing) (next : ℕ) → Stand k ss next → Files k ss
 stand_files k ss next h s a = let x = h.devices s a in record { i = x.0; d = x.1.d; file = x.1.file; device = x.1.device; named = x.1.named }
 
 -- whatever the entries that were added

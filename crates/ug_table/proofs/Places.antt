@@ -53,7 +53,7 @@ kept_new ss x how e = subst (λ (v : Settled). (s : Standing) × Has (kept_stand
 
 -- a standing that is tried again
 
-marked_other : (name : List ℕ) (b : Bool) (s : Standing) → (s.name ≡ name → ⊥) → marked name b s ≡ s
+pub marked_other : (name : List ℕ) (b : Bool) (s : Standing) → (s.name ≡ name → ⊥) → marked name b s ≡ s
 marked_other name b s ne = ap (λ (t : Bool). let v : Standing = record s { settled = if t then b else s.settled } in v) (other_test s.name name ne)
 
 marked_has : (ss : List Standing) (name : List ℕ) (b : Bool) (s : Standing) → Has ss s → (s.name ≡ name → ⊥) → Has (map (marked name b) ss) s

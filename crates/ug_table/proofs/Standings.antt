@@ -1,8 +1,8 @@
 -- The standings of names.
-use Rattle.std.proofs.Common.{◌≡◌, ℕ, Bool, true, false, not, List, [], ◌∷◌, Some, None, map, cond, ◌⊎◌, inl, inr, refl, ap, arith}
+use Rattle.std.proofs.Common.{◌≡◌, ℕ, Bool, true, false, not, ◌||◌, List, [], ◌∷◌, Some, None, map, cond, ◌⊎◌, inl, inr, refl, ap, arith}
 use Rattle.std.specs.Cmp.Lexicographic.{bytes_decides}
 use Rattle.ug_types.specs.Elements.{Has}
-use Rattle.ug_table.specs.Standings.{same_name, known_of, standing_of, without, marked}
+use Rattle.ug_table.specs.Standings.{same_name, known_of, standing_of, without, marked, lists}
 use Rattle.ug_table.specs.Sweep.{names_of}
 use Rattle.ug_table.specs.Laws.{numbers_of}
 use Rattle.ug_table.specs.declared.standing.Standing.{Standing}
@@ -54,3 +54,25 @@ names_marked name mark (s ∷ ss) = ap (λ (v : List (List ℕ)). s.name ∷ v) 
 pub numbers_marked : (name : List ℕ) (mark : Bool) (ss : List Standing) → numbers_of (map (marked name mark) ss) ≡ numbers_of ss
 numbers_marked name mark [] = refl
 numbers_marked name mark (s ∷ ss) = ap (λ (v : List ℕ). s.number ∷ v) (numbers_marked name mark ss)
+
+-- names of a list
+
+pub listed_is : (names : List (List ℕ)) (name : List ℕ) → Has names name → lists names name ≡ true
+listed_is [] name a = absurd a
+listed_is (n ∷ names) name (inl e) = let same = is_same n name e in grind (arith, same)
+listed_is (n ∷ names) name (inr a) = let rest = listed_is names name a in grind (arith, rest)
+
+lists_has_by : (n : List ℕ) (names : List (List ℕ)) (name : List ℕ) (b : Bool) → same_name n name ≡ b → (lists names name ≡ true → Has names name) → (b || lists names name) ≡ true → Has (n ∷ names) name
+lists_has_by n names name true e f h = inl (same_is n name e)
+lists_has_by n names name false e f h = inr (f h)
+
+pub lists_has : (names : List (List ℕ)) (name : List ℕ) → lists names name ≡ true → Has names name
+lists_has [] name e = let none : ⊥ = cc in absurd none
+lists_has (n ∷ names) name e = lists_has_by n names name (same_name n name) refl (λ h. lists_has names name h) e
+
+either_by : (names : List (List ℕ)) (name : List ℕ) (b : Bool) → lists names name ≡ b → Has names name ⊎ (Has names name → ⊥)
+either_by names name true e = inl (lists_has names name e)
+either_by names name false e = inr (λ h. let same = listed_is names name h in let none : ⊥ = cc in none)
+
+pub either_listed : (names : List (List ℕ)) (name : List ℕ) → Has names name ⊎ (Has names name → ⊥)
+either_listed names name = either_by names name (lists names name) refl

@@ -11,11 +11,14 @@ use Rattle.ug_table.specs.Laws.{Stand, Swept, Sweeps}
 use Rattle.ug_table.proofs.Account.{Answers, Laters}
 use Rattle.ug_table.proofs.FairSweep.{sweeping_fair}
 use Rattle.ug_table.proofs.Lived.{sweeping_settled}
+use Rattle.ug_table.proofs.Marks.{sweeping_marks}
+use Rattle.ug_table.proofs.Spared.{sweeping_spared}
 
 sweeping_swept : {J : Type 0} (answer : Answers J) (later : Laters J) (w : State J) (k l : Kernel) (v : State J) → IsKernel k → Stand k w.standings w.next → Runs calls k (sweeping answer later w) v l → Swept answer later k w l v
 sweeping_swept answer later w k l v sound stand r =
     let fair = sweeping_fair answer later w k l v sound stand r in
-    record { fair = fair; settled = sweeping_settled answer later w k l v fair.rest stand r fair.entries }
+    let marks = sweeping_marks answer later w k l v fair.rest stand.names r fair.entries in
+    record { fair = fair; settled = sweeping_settled answer later w k l v fair.rest stand r fair.entries; listed = marks.0; marks = marks.1; spared = sweeping_spared answer later w k l v fair.rest stand r fair.entries }
 
 pub told_swept : {S J : Type 0} (gives : S → (call : Call) → Answer call → S → Type 0) (told : S → Option Kernel) (did : (s : S) (call : Call) (answer : Answer call) (t : S) (l : Kernel) → gives s call answer t → told t ≡ Some l → Follows call answer (told s) l) (answer : Answers J) (later : Laters J) (s : S) (w : State J) (t : S) (v : State J) → Runs gives s (sweeping answer later w) v t → Sweeps told answer later s w t v
 told_swept gives told did answer later s w t v r = λ l e.

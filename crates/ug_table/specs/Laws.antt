@@ -1,5 +1,5 @@
 -- What a sweep does, in the words of devices and journal.
-use Rattle.std.specs.Prelude.{◌≡◌, ℕ, ◌+◌, ◌<◌, Bool, true, not, is_none, map, List, [], ◌∷◌, ◌++◌, Option, Some, ◌⊎◌, slice_get}
+use Rattle.std.specs.Prelude.{◌≡◌, ℕ, ◌+◌, ◌<◌, Bool, true, false, not, is_none, map, List, [], ◌∷◌, ◌++◌, Option, Some, ◌⊎◌, slice_get}
 use Rattle.ug_types.specs.Elements.{Has, AllDistinct}
 use Rattle.ug_types.specs.Names.{parent_of}
 use Rattle.ug_types.specs.declared.record.Attrs.{Attrs}
@@ -21,6 +21,7 @@ use Rattle.ug_node.specs.Bound.{attrs_of, IsParentRead, LivedUntilProbe}
 use Rattle.ug_audit.specs.declared.entry.Entry.{Entry}
 use Rattle.ug_audit.specs.declared.entry.Entry.TheVariants as entry
 use Rattle.ug_audit.specs.declared.entry.Fault.{Fault}
+use Rattle.ug_audit.specs.declared.entry.Fault.TheVariants as fault
 use Rattle.ug_table.specs.Bring.{wants, write_of}
 use Rattle.ug_table.specs.State.{State}
 use Rattle.ug_table.specs.Sweep.{names_of}
@@ -158,16 +159,35 @@ pub record IsAsJudged (k : Kernel) (ss : List Standing) (i : ℕ) : Type 0 where
   pub device : slice_get k.devices i ≡ Some d
   pub value : d.on ≡ wants standing.s.verdict
 
+-- the listing is told as one that didn't succeed
+abbrev pub IsUnlisted : List Entry → Type 0
+IsUnlisted entries = (why : Fault) × Has entries (entry.UnsettledAll why)
+
 -- each device that lived through is as judged, or its name is told, or it has no standing and the listing is told
 abbrev pub IsSettled : Kernel → Kernel → List Standing → List Entry → Type 0
 IsSettled k l ss entries = (i : ℕ) (d : Device) → Lived k.devices l.devices i d
-    → IsAsJudged l ss i ⊎ (IsNamed entries d.name ⊎ (((why : Fault) × Has entries (entry.UnsettledAll why)) × (HasStanding l ss i → ⊥)))
+    → IsAsJudged l ss i ⊎ (IsNamed entries d.name ⊎ (IsUnlisted entries × (HasStanding l ss i → ⊥)))
 
--- the sweep is fair, where devices were present at the start just if no listing had succeeded before it; and each device is
--- settled or named
+-- where no listing is told so, one has succeeded; else whether one has is as before
+abbrev pub IsListed : List Entry → Bool → Bool → Type 0
+IsListed entries before after = ((IsUnlisted entries → ⊥) × (after ≡ true)) ⊎ (IsUnlisted entries × (after ≡ before))
+
+-- the standing is marked as settled just where its name isn't told
+abbrev pub IsMarked : List Entry → Standing → Type 0
+IsMarked entries s = ((s.settled ≡ true) × (IsNamed entries s.name → ⊥)) ⊎ ((s.settled ≡ false) × IsNamed entries s.name)
+
+-- no device that had a standing before and lived through is named for want of memory
+abbrev pub IsSpared : Kernel → Kernel → List Standing → List Entry → Type 0
+IsSpared k l before entries = (i : ℕ) (d : Device) → Lived k.devices l.devices i d → HasStanding k before i → Has entries (entry.Unsettled d.name fault.Memory) → ⊥
+
+-- the sweep is fair, where devices were present at the start just if no listing had succeeded before it; each device is settled
+-- or named; and so say the marks
 pub record Swept {J : Type 0} (answer : J → Judged → Bool → Bool → Bool → Target × Cause) (later : J → Judged → Bool → Bool → Bool → J) (k : Kernel) (w : State J) (l : Kernel) (v : State J) : Type 0 where
   pub fair : IsFair answer later (not w.listed) k w l v
   pub settled : IsSettled k l v.standings fair.rest
+  pub listed : IsListed fair.rest w.listed v.listed
+  pub marks : (s : Standing) → Has v.standings s → IsMarked fair.rest s
+  pub spared : IsSpared k l w.standings fair.rest
 
 -- where a kernel is told at the end of a sweep, one was told at its start; and where that is sound and the standings are of
 -- its devices, that is so

@@ -1,0 +1,209 @@
+-- The marks at the end of a sweep, and whether a listing has succeeded.
+use Rattle.std.proofs.Common.{◌≡◌, ℕ, Bool, true, false, not, List, [], ◌∷◌, ◌++◌, cond, ◌⊎◌, inl, inr, refl, sym, ◌∙◌, ap, subst, append_assoc, append-nil}
+use Rattle.std.specs.List.{filter}
+use Rattle.std.specs.Ordering.{is_gt}
+use Rattle.ug_types.specs.Elements.{Has, AllDistinct}
+use Rattle.ug_types.specs.Names.{sweep_cmp}
+use Rattle.ug_types.specs.Sweep.{in_place, in_sweep_order}
+use Rattle.ug_kernel.specs.declared.calls.Listing.{Listing}
+use Rattle.ug_kernel.specs.declared.calls.Listing.TheVariants as listing
+use Rattle.ug_kernel.specs.Kernel.{Kernel}
+use Rattle.ug_kernel.specs.Called.{says_listing}
+use Rattle.ug_itree.specs.Tree.{Runs, calls}
+use Rattle.ug_itree.proofs.Runs.{runs_split}
+use Rattle.ug_audit.specs.declared.entry.Entry.{Entry}
+use Rattle.ug_audit.specs.declared.entry.Entry.TheVariants as entry
+use Rattle.ug_audit.specs.declared.entry.Fault.{Fault}
+use Rattle.ug_audit.specs.declared.entry.Fault.TheVariants as fault
+use Rattle.ug_table.specs.State.{State, Kept, kept_of}
+use Rattle.ug_table.specs.Standings.{lists, farewells}
+use Rattle.ug_table.specs.Settle.{settling, resettling}
+use Rattle.ug_table.specs.Sweep.{settling_all, resettling_all, parted, names_of, resumed, unlisted, marked_listed, if_room, after_list, sweeping}
+use Rattle.ug_table.specs.Laws.{IsNamed, IsUnlisted, IsListed, IsMarked}
+use Rattle.ug_table.specs.declared.standing.Standing.{Standing}
+use Rattle.ug_table.specs.declared.standing.Settled.{Settled}
+use Rattle.ug_table.proofs.Elements.{cancel, has_cases, has_map, filter_has}
+use Rattle.ug_table.proofs.Standings.{lists_has, either_listed}
+use Rattle.ug_table.proofs.Account.{Answers, Laters}
+use Rattle.ug_table.proofs.Told.{EndsSo, ends_run, ends_then, ends_map, Each, each_has, each_append, each_map, NamesOnly, NamesNone, none_named, Part, PartOf, KeptPart, marked_left, marked_right, settling_part, resettling_part}
+
+-- it names none but these as unsettled, and no listing
+abbrev NamesIn : List (List ℕ) → Entry → Type 0
+NamesIn names (entry.Unsettled n why) = Has names n
+NamesIn names (entry.UnsettledAll why) = ⊥
+NamesIn names e = Unit {0}
+
+-- what settling these names tells, and how it leaves the marks
+pub record Parts (names : List (List ℕ)) (ss : List Standing) (es : List Entry) (rs : List Standing) (fs : List Entry) : Type 0 where
+  pub rest : List Entry
+  pub entries : fs ≡ es ++ rest
+  pub only : Each (NamesIn names) rest
+  pub others : (s : Standing) → Has rs s → (Has names s.name → ⊥) → Has ss s
+  pub mark : (s : Standing) → Has rs s → Has names s.name → IsMarked rest s
+
+pub named_in : (names : List (List ℕ)) (es : List Entry) (name : List ℕ) → Each (NamesIn names) es → IsNamed es name → Has names name
+named_in names es name h a = each_has (NamesIn names) es (entry.Unsettled name a.0) h a.1
+
+pub named_only : (n name : List ℕ) (es : List Entry) → Each (NamesOnly n) es → IsNamed es name → name ≡ n
+named_only n name es h a = each_has (NamesOnly n) es (entry.Unsettled name a.0) h a.1
+
+only_first : (n : List ℕ) (names : List (List ℕ)) (e : Entry) → NamesOnly n e → NamesIn (n ∷ names) e
+only_first n names (entry.Unsettled m why) h = inl (sym h)
+only_first n names (entry.UnsettledAll why) h = h
+only_first n names (entry.Event number moment) h = h
+only_first n names (entry.Judged number name held verdict cause) h = h
+only_first n names (entry.Intent number name write) h = h
+only_first n names (entry.Wrote number name write outcome) h = h
+only_first n names (entry.Gone number name) h = h
+only_first n names (entry.End number) h = h
+
+only_later : (n : List ℕ) (names : List (List ℕ)) (e : Entry) → NamesIn names e → NamesIn (n ∷ names) e
+only_later n names (entry.Unsettled m why) h = inr h
+only_later n names (entry.UnsettledAll why) h = h
+only_later n names (entry.Event number moment) h = h
+only_later n names (entry.Judged number name held verdict cause) h = h
+only_later n names (entry.Intent number name write) h = h
+only_later n names (entry.Wrote number name write outcome) h = h
+only_later n names (entry.Gone number name) h = h
+only_later n names (entry.End number) h = h
+
+none_parts : (ss : List Standing) (es : List Entry) → Parts [] ss es ss es
+none_parts ss es = record { rest = []; entries = sym (append-nil es); only = tt; others = λ s a ne. a; mark = λ s a h. absurd h }
+
+-- one name more
+parts_more : (n : List ℕ) (names : List (List ℕ)) (ss ms rs : List Standing) (es gs fs : List Entry) → AllDistinct (n ∷ names) → Part n ss es ms gs → Parts names ms gs rs fs → Parts (n ∷ names) ss es rs fs
+parts_more n names ss ms rs es gs fs distinct a b =
+    let mark : (s : Standing) → Has rs s → (n ≡ s.name) ⊎ Has names s.name → IsMarked (a.rest ++ b.rest) s = λ s h c. elim c [
+      | inl e ↦
+          let apart : Has names s.name → ⊥ = λ x. distinct.0 (subst (λ (v : List ℕ). Has names v) (sym e) x) in
+          marked_right a.rest b.rest s (λ x. apart (named_in names b.rest s.name b.only x)) (a.mark s (b.others s h apart) (sym e))
+      | inr x ↦ marked_left a.rest b.rest s (λ y. distinct.0 (subst (λ (v : List ℕ). Has names v) (named_only n s.name a.rest a.only y) x)) (b.mark s h x)
+    ] in
+    record {
+      rest = a.rest ++ b.rest;
+      entries = b.entries ∙ ap (λ (v : List Entry). v ++ b.rest) a.entries ∙ append_assoc es a.rest b.rest;
+      only = each_append (NamesIn (n ∷ names)) a.rest b.rest (each_map (NamesOnly n) (NamesIn (n ∷ names)) a.rest (only_first n names) a.only) (each_map (NamesIn names) (NamesIn (n ∷ names)) b.rest (only_later n names) b.only);
+      others = λ s h ne. a.others s (b.others s h (λ x. ne (inr x))) (λ e. ne (inl (sym e)));
+      mark = λ s h c. mark s h c;
+    }
+
+abbrev pub PartsOf : {J : Type 0} → List (List ℕ) → State J → State J → Type 0
+PartsOf names w v = Parts names w.standings w.entries v.standings v.entries × (v.listed ≡ w.listed)
+
+pub settling_all_parts : {J : Type 0} (answer : Answers J) (later : Laters J) (names : List (List ℕ)) (present : Bool) (w : State J) → AllDistinct names → EndsSo (PartsOf names w) (settling_all answer later names present w)
+settling_all_parts answer later [] present w distinct = (none_parts w.standings w.entries, refl)
+settling_all_parts {J} answer later (n ∷ names) present w distinct =
+    ends_then (PartOf n w) (PartsOf (n ∷ names) w) (settling answer later n present w) (λ (p : Settled × State J). settling_all answer later names present p.1) (settling_part answer later n present w)
+    (λ p a.
+    ends_map (PartsOf names p.1) (PartsOf (n ∷ names) w) (settling_all answer later names present p.1)
+    (λ v b. (parts_more n names w.standings p.1.standings v.standings w.entries p.1.entries v.entries distinct a.0 b.0, b.1 ∙ a.1))
+    (settling_all_parts answer later names present p.1 distinct.1))
+
+resettling_all_parts : (names : List (List ℕ)) (w : Kept) → AllDistinct names → EndsSo (λ (v : Kept). Parts names w.standings w.entries v.standings v.entries) (resettling_all names w)
+resettling_all_parts [] w distinct = none_parts w.standings w.entries
+resettling_all_parts (n ∷ names) w distinct =
+    let P : List (List ℕ) → Kept → Kept → Type 0 = λ ns u v. Parts ns u.standings u.entries v.standings v.entries in
+    ends_then (KeptPart n w) (P (n ∷ names) w) (resettling n w) (λ (p : Settled × Kept). resettling_all names p.1) (resettling_part n w)
+    (λ p a.
+    ends_map (P names p.1) (P (n ∷ names) w) (resettling_all names p.1)
+    (λ v b. parts_more n names w.standings p.1.standings v.standings w.entries p.1.entries v.entries distinct a b)
+    (resettling_all_parts names p.1 distinct.1))
+
+-- the order of a sweep has each name once
+
+place_has : (name : List ℕ) (names : List (List ℕ)) (x : List ℕ) → Has (in_place name names) x → (name ≡ x) ⊎ Has names x
+place_has name [] x h = h
+place_has name (first ∷ names) x h =
+    let rest = place_has name names x in
+    (elim (is_gt (sweep_cmp name first)) as (λ (b : Bool). Has (cond b (first ∷ in_place name names) (name ∷ first ∷ names)) x → (name ≡ x) ⊎ Has (first ∷ names) x) [
+      | true ↦ λ k. elim k [ inl e ↦ inr (inl e) | inr a ↦ elim (rest a) [ inl e ↦ inl e | inr b ↦ inr (inr b) ] ]
+      | false ↦ λ k. k
+    ]) h
+
+place_distinct : (name : List ℕ) (names : List (List ℕ)) → (Has names name → ⊥) → AllDistinct names → AllDistinct (in_place name names)
+place_distinct name [] none d = (none, d)
+place_distinct name (first ∷ names) none d =
+    let rest = place_distinct name names (λ a. none (inr a)) d.1 in
+    let apart : Has (in_place name names) first → ⊥ = λ a. elim (place_has name names first a) [ inl e ↦ none (inl (sym e)) | inr b ↦ d.0 b ] in
+    elim (is_gt (sweep_cmp name first)) as (λ (b : Bool). AllDistinct (cond b (first ∷ in_place name names) (name ∷ first ∷ names))) [ true ↦ (apart, rest) | false ↦ (none, d) ]
+
+order_has : (names : List (List ℕ)) (x : List ℕ) → Has (in_sweep_order names) x → Has names x
+order_has [] x h = h
+order_has (name ∷ names) x h = elim (place_has name (in_sweep_order names) x h) [ inl e ↦ inl e | inr a ↦ inr (order_has names x a) ]
+
+pub order_distinct : (names : List (List ℕ)) → AllDistinct names → AllDistinct (in_sweep_order names)
+order_distinct [] d = tt
+order_distinct (name ∷ names) d = place_distinct name (in_sweep_order names) (λ a. d.0 (order_has names name a)) (order_distinct names d.1)
+
+-- the whole sweep
+
+abbrev Ends : {J : Type 0} → State J → State J → List Entry → Type 0
+Ends w v rest = IsListed rest w.listed v.listed × ((s : Standing) → Has v.standings s → IsMarked rest s)
+
+pub farewell_none : (names : List (List ℕ)) (ss : List Standing) → Each NamesNone (farewells names ss)
+farewell_none names [] = tt
+farewell_none names (s ∷ ss) =
+    let rest = farewell_none names ss in
+    elim (lists names s.name) as (λ (b : Bool). Each NamesNone (cond b (farewells names ss) (entry.Gone s.number s.name ∷ farewells names ss))) [ true ↦ rest | false ↦ (tt, rest) ]
+
+none_unlisted : (es : List Entry) → Each NamesNone es → IsUnlisted es → ⊥
+none_unlisted es h a = each_has NamesNone es (entry.UnsettledAll a.0) h a.1
+
+in_unlisted : (names : List (List ℕ)) (es : List Entry) → Each (NamesIn names) es → IsUnlisted es → ⊥
+in_unlisted names es h a = each_has (NamesIn names) es (entry.UnsettledAll a.0) h a.1
+
+-- each standing at the end has one of the names
+stands_listed : (names : List (List ℕ)) (ss rs : List Standing) → ((s : Standing) → Has rs s → (Has names s.name → ⊥) → Has (filter (λ (v : Standing). lists names v.name) ss) s) → (s : Standing) → Has rs s → Has names s.name
+stands_listed names ss rs others s a = elim (either_listed names s.name) [
+  | inl h ↦ h
+  | inr ne ↦ lists_has names s.name (filter_has (λ (v : Standing). lists names v.name) ss s (others s a ne)).1
+]
+
+stands_known : (ss rs : List Standing) → ((s : Standing) → Has rs s → (Has (names_of ss) s.name → ⊥) → Has ss s) → (s : Standing) → Has rs s → Has (names_of ss) s.name
+stands_known ss rs others s a = elim (either_listed (names_of ss) s.name) [
+  | inl h ↦ h
+  | inr ne ↦ has_map (λ (v : Standing). v.name) ss s (others s a ne)
+]
+
+listed_ends : {J : Type 0} (answer : Answers J) (later : Laters J) (names : List (List ℕ)) (w : State J) (k l : Kernel) (v : State J) (rest : List Entry) → AllDistinct names → Runs calls k (settling_all answer later names (not w.listed) (marked_listed (parted names w))) v l → v.entries ≡ w.entries ++ rest → Ends w v rest
+listed_ends answer later names w k l v rest distinct r e =
+    let x = marked_listed (parted names w) in
+    let bye = farewells names w.standings in
+    let h = ends_run (PartsOf names x) (settling_all answer later names (not w.listed) x) k v l (settling_all_parts answer later names (not w.listed) x distinct) r in
+    let same : bye ++ h.0.rest ≡ rest = cancel w.entries (bye ++ h.0.rest) rest (sym (append_assoc w.entries bye h.0.rest) ∙ sym h.0.entries ∙ e) in
+    let none = farewell_none names w.standings in
+    let listed : IsUnlisted (bye ++ h.0.rest) → ⊥ = λ a. elim (has_cases bye h.0.rest (entry.UnsettledAll a.0) a.1) [ inl b ↦ none_unlisted bye none (a.0, b) | inr b ↦ in_unlisted names h.0.rest h.0.only (a.0, b) ] in
+    let marks : (s : Standing) → Has v.standings s → IsMarked (bye ++ h.0.rest) s = λ s a. marked_left bye h.0.rest s (none_named bye s.name none) (h.0.mark s a (stands_listed names w.standings v.standings h.0.others s a)) in
+    subst (λ (y : List Entry). Ends w v y) same (inl (listed, h.1), marks)
+
+unlisted_ends : {J : Type 0} (why : Fault) (w : State J) (k l : Kernel) (v : State J) (rest : List Entry) → AllDistinct (names_of w.standings) → Runs calls k (unlisted why w) v l → v.entries ≡ w.entries ++ rest → Ends w v rest
+unlisted_ends {J} why w k l v rest distinct r e =
+    let all = entry.UnsettledAll why in
+    let names = names_of w.standings in
+    let x = kept_of w.standings (w.entries ++ all ∷ []) in
+    let P : Kept → Type 0 = λ y. Parts names x.standings x.entries y.standings y.entries in
+    let cut = runs_split calls k (resettling_all names x) (resumed w) v l r in
+    let h = ends_run P (resettling_all names x) k cut.0 cut.1 (resettling_all_parts names x distinct) cut.2 in
+    let z = cut.0 in
+    let entries : v.entries ≡ z.entries = ap (λ (y : State J). y.entries) cut.3.0 in
+    let standings : v.standings ≡ z.standings = ap (λ (y : State J). y.standings) cut.3.0 in
+    let same : all ∷ h.rest ≡ rest = cancel w.entries (all ∷ h.rest) rest (sym (append_assoc w.entries (all ∷ []) h.rest) ∙ sym h.entries ∙ sym entries ∙ e) in
+    let kept : (s : Standing) → Has z.standings s → Has names s.name = λ s a. stands_known w.standings z.standings h.others s a in
+    let marks : (s : Standing) → Has v.standings s → IsMarked (all ∷ h.rest) s = λ s a.
+    let b = subst (λ (y : List Standing). Has y s) standings a in
+    marked_left (all ∷ []) h.rest s (λ n. elim n.1 [ inl q ↦ let none : ⊥ = cc in none | inr none ↦ none ]) (h.mark s b (kept s b)) in
+    subst (λ (y : List Entry). Ends w v y) same (inr ((why, inl refl), ap (λ (y : State J). y.listed) cut.3.0), marks)
+
+if_room_ends : {J : Type 0} (answer : Answers J) (later : Laters J) (names : List (List ℕ)) (w : State J) (room : Bool) (k l : Kernel) (v : State J) (rest : List Entry) → AllDistinct names → AllDistinct (names_of w.standings) → Runs calls k (if_room answer later names w room) v l → v.entries ≡ w.entries ++ rest → Ends w v rest
+if_room_ends answer later names w true k l v rest distinct known r e = listed_ends answer later names w k l v rest distinct r e
+if_room_ends answer later names w false k l v rest distinct known r e = unlisted_ends fault.Memory w k l v rest known r e
+
+after_list_ends : {J : Type 0} (answer : Answers J) (later : Laters J) (w : State J) (a : Listing) (call count : ℕ) (k m l : Kernel) (v : State J) (rest : List Entry) → says_listing a k m → AllDistinct (names_of w.standings) → Runs calls m (after_list answer later w a call count) v l → v.entries ≡ w.entries ++ rest → Ends w v rest
+after_list_ends answer later w (listing.Names names) call count k m l v rest says known r e = if_room_ends answer later (in_sweep_order names) w r.0 m l v rest (order_distinct names says.1) known r.1 e
+after_list_ends answer later w listing.Failed call count k m l v rest says known r e = unlisted_ends (fault.Call call count) w m l v rest known r e
+after_list_ends answer later w listing.Memory call count k m l v rest says known r e = unlisted_ends fault.Memory w m l v rest known r e
+
+-- whatever the entries that were added
+pub sweeping_marks : {J : Type 0} (answer : Answers J) (later : Laters J) (w : State J) (k l : Kernel) (v : State J) (rest : List Entry) → AllDistinct (names_of w.standings) → Runs calls k (sweeping answer later w) v l → v.entries ≡ w.entries ++ rest → Ends w v rest
+unfolding sweeping
+sweeping_marks answer later w k l v rest known r e = after_list_ends answer later w r.0.answer r.0.number r.0.count k r.1 l v rest r.2.says known r.3 e
