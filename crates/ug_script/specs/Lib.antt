@@ -3,3 +3,4 @@ pub mod Words
 pub mod Replay
 pub mod Laws
 pub mod Journal
+pub mod Example

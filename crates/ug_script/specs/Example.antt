@@ -1,0 +1,66 @@
+-- Events worked by hand: a root hub that was there at the start, a device below it that a rule allows, and another device that takes
+-- its place.
+use Rattle.std.specs.Prelude.{ℕ, true, false, List, [], ◌∷◌, Option, Some, None, codes}
+use Rattle.ug_types.specs.declared.verdict.Target.TheVariants.{Allow}
+use Rattle.ug_kernel.specs.declared.device.Device.{Device}
+use Rattle.ug_sysfs.specs.declared.script.Failing.{Failing}
+use Rattle.ug_sysfs.specs.declared.script.Move.TheVariants.{Plug, Unplug}
+use Rattle.ug_sysfs.specs.declared.script.Scheduled.{Scheduled}
+use Rattle.ug_sysfs.specs.Devices.{plugged}
+use Rattle.ug_sysfs.specs.World.{World, begun, over}
+use Rattle.ug_play.specs.Play.{play}
+use Rattle.ug_core.specs.Event.{DaemonState, handling}
+use Rattle.ug_script.specs.Replay.{fresh, with_rule, with_devices}
+
+-- a device with nothing but its descriptors
+abbrev pub device_of : List ℕ → List ℕ → Device
+device_of name descriptors = record { name = name; parent = None; descriptors = descriptors; product = None; serial = None; connect = None; gone = false; on = false }
+
+-- a root hub, 1d6b:0002
+abbrev pub hub_bytes : List ℕ
+hub_bytes = 18 ∷ 1 ∷ 0 ∷ 2 ∷ 9 ∷ 0 ∷ 1 ∷ 64 ∷ 107 ∷ 29 ∷ 2 ∷ 0 ∷ 6 ∷ 6 ∷ 3 ∷ 2 ∷ 1 ∷ 1 ∷ 9 ∷ 2 ∷ 25 ∷ 0 ∷ 1 ∷ 1 ∷ 0 ∷ 224 ∷ 0 ∷ 9 ∷ 4 ∷ 0 ∷ 0 ∷ 1 ∷ 9 ∷ 0 ∷ 0 ∷ 0 ∷ 7 ∷ 5 ∷ 129 ∷ 3 ∷ 4 ∷ 0 ∷ 12 ∷ []
+
+-- 1050:0011 and 1050:0012
+abbrev pub key_bytes : List ℕ
+key_bytes = 18 ∷ 1 ∷ 0 ∷ 2 ∷ 0 ∷ 0 ∷ 0 ∷ 64 ∷ 80 ∷ 16 ∷ 17 ∷ 0 ∷ 0 ∷ 1 ∷ 0 ∷ 0 ∷ 0 ∷ 1 ∷ []
+
+abbrev pub other_bytes : List ℕ
+other_bytes = 18 ∷ 1 ∷ 0 ∷ 2 ∷ 0 ∷ 0 ∷ 0 ∷ 64 ∷ 80 ∷ 16 ∷ 18 ∷ 0 ∷ 0 ∷ 1 ∷ 0 ∷ 0 ∷ 0 ∷ 1 ∷ []
+
+abbrev pub hub : Device
+hub = record (device_of (codes "usb1") hub_bytes) { on = true }
+
+abbrev pub key : Device
+key = device_of (codes "1-1") key_bytes
+
+abbrev pub other : Device
+other = device_of (codes "1-1") other_bytes
+
+abbrev pub hub_world : World
+hub_world = record { kernel = record { devices = plugged hub []; held = []; log = [] }; moves = []; fails = []; calls = 0; faults = 0; made = []; ran_out = false }
+
+-- a daemon with the one rule that allows 1050:0011
+abbrev pub ruled : DaemonState
+ruled = with_rule (record { target = Allow; vendor = 4176; product = 17 }) fresh.daemon
+
+-- an event at that moment
+abbrev pub event_at : ℕ → DaemonState × World → DaemonState × World
+event_at moment p = play (handling (record { 0 = moment }) p.0) (begun (over p.1))
+
+-- the same with what is scheduled for it
+abbrev pub event_with : ℕ → List Scheduled → List Failing → DaemonState × World → DaemonState × World
+event_with moment moves fails p = play (handling (record { 0 = moment }) p.0) (begun (record (over p.1) { moves = moves; fails = fails }))
+
+-- an event over the root hub alone, and then the key is plugged in
+abbrev pub plugged_in : DaemonState × World
+plugged_in =
+    let p : DaemonState × World = event_at 100 (ruled, hub_world) in
+    (p.0, with_devices (plugged key (over p.1).kernel.devices) (over p.1))
+
+-- the key goes and the other device takes its name, just before the twelfth call
+abbrev pub replaced : List Scheduled
+replaced = record { call = 12; after = false; action = Unplug (codes "1-1") } ∷ record { call = 12; after = false; action = Plug other } ∷ []
+
+-- the twelfth call fails, and has its effect all the same
+abbrev pub failing : List Failing
+failing = record { call = 12; effect = true } ∷ []
