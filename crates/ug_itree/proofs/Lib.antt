@@ -2,3 +2,4 @@ pub mod Runs
 pub mod Told
 pub mod Kernels
 pub mod Counted
+pub mod Walks

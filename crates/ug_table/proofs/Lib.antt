@@ -14,3 +14,4 @@ pub mod Own
 pub mod Again
 pub mod Lived
 pub mod Swept
+pub mod Walked
