@@ -25,6 +25,11 @@ walks_then may see P q (Return value) f w = w
 walks_then may see P q (Ask call next) f w = (w.0, λ a. walks_then may see P (see q call a) (next a) f (w.1 a))
 walks_then may see P q (Room next) f w = λ b. walks_then may see P q (next b) f (w b)
 
+pub walks_more : {Q R : Type 0} (may : Q → Call → Type 0) (see : Q → (call : Call) → Answer call → Q) (P P2 : Q → R → Type 0) (q : Q) (p : Prog R) → ((t : Q) (r : R) → P t r → P2 t r) → Walks may see q p P → Walks may see q p P2
+walks_more may see P P2 q (Return value) f w = f q value w
+walks_more may see P P2 q (Ask call next) f w = (w.0, λ a. walks_more may see P P2 (see q call a) (next a) f (w.1 a))
+walks_more may see P P2 q (Room next) f w = λ b. walks_more may see P P2 q (next b) f (w b)
+
 -- a run that went along such calls
 pub record Walked {S Q R : Type 0} (gives : S → (call : Call) → Answer call → S → Type 0) (may : Q → Call → Type 0) (see : Q → (call : Call) → Answer call → Q) (P : Q → R → Type 0) (q : Q) (s : S) (r : R) (t : S) : Type 0 where
   pub made : List Made

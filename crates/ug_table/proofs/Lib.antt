@@ -15,3 +15,5 @@ pub mod Again
 pub mod Lived
 pub mod Swept
 pub mod Walked
+pub mod OtherNames
+pub mod OnePart

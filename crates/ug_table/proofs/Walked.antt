@@ -162,8 +162,21 @@ opened_goes name held parent first last files P is some_ no_ =
     (λ m attrs. to_parent_goes name held attrs parent first (Some m) files P is some_ no_)
     (λ m why. stopped_goes first m (held ∷ files) why P no_))
 
-after_open_goes : (name : List ℕ) (parent : Option (List ℕ)) (first : Made) (files : List ℕ) (P : Seen → Binding → Type 0) (r : Opened) (number count : ℕ) (q : Seen) → q ≡ see (seen_of (Some first) None files [] []) (Open name Authorized) (record { answer = r; number = number; count = count }) → parent_of name ≡ parent → IfBound first files P → IfUnbound first P → Goes name q (after_open name parent r number count) P
-after_open_goes name parent first files P (opened.Token held) number count q e is some_ no_ = subst (λ v. Goes name v (then (reading_own name held.0) (after_own held.0 parent)) P) (sym e) (opened_goes name held.0 parent first _ files P is some_ no_)
-after_open_goes name parent first files P opened.Absent number count q e is some_ no_ = subst (λ v. P v bound.Absent) (sym e) (no_ _ _ bound.Absent tt)
-after_open_goes name parent first files P opened.Failed number count q e is some_ no_ = subst (λ v. P v (bound.Failed number count)) (sym e) (no_ _ _ (bound.Failed number count) tt)
-after_open_goes name parent first files P opened.Memory number count q e is some_ no_ = subst (λ v. P v bound.Memory) (sym e) (no_ _ _ bound.Memory tt)
+after_open_goes : (name : List ℕ) (parent : Option (List ℕ)) (first : Made) (files : List ℕ) (P : Seen → Binding → Type 0) (r : Opened) (number count : ℕ) → parent_of name ≡ parent → IfBound first files P → IfUnbound first P → Goes name (see (seen_of (Some first) None files [] []) (Open name Authorized) (record { answer = r; number = number; count = count })) (after_open name parent r number count) P
+after_open_goes name parent first files P (opened.Token held) number count is some_ no_ = opened_goes name held.0 parent first _ files P is some_ no_
+after_open_goes name parent first files P opened.Absent number count is some_ no_ = no_ _ _ bound.Absent tt
+after_open_goes name parent first files P opened.Failed number count is some_ no_ = no_ _ _ (bound.Failed number count) tt
+after_open_goes name parent first files P opened.Memory number count is some_ no_ = no_ _ _ bound.Memory tt
+
+-- a part that begins with this call, or went on from that one
+abbrev pub IsFirst : Option Made → Made → Type 0
+IsFirst None m = Unit {0}
+IsFirst (Some f) m = m ≡ f
+
+pub binding_goes : (name : List ℕ) (start last : Option Made) (files : List ℕ) (P : Seen → Binding → Type 0) → ((first : Made) → IsFirst start first → IfBound first files P × IfUnbound first P) → Goes name (seen_of start last files [] []) (binding name (parent_of name)) P
+unfolding binding
+binding_goes name start last files P k = ((refl, inl refl, tt), λ a. next start k a)
+  where
+    next : (start : Option Made) → ((first : Made) → IsFirst start first → IfBound first files P × IfUnbound first P) → (a : Told Opened) → Goes name (see (seen_of start last files [] []) (Open name Authorized) a) (after_open name (parent_of name) a.answer a.number a.count) P
+    next None k a = let ks = k (answered (Open name Authorized) a) tt in after_open_goes name (parent_of name) (answered (Open name Authorized) a) files P a.answer a.number a.count refl ks.0 ks.1
+    next (Some f) k a = let ks = k f refl in after_open_goes name (parent_of name) f files P a.answer a.number a.count refl ks.0 ks.1
