@@ -17,3 +17,4 @@ pub mod Swept
 pub mod Walked
 pub mod OtherNames
 pub mod OnePart
+pub mod Parted
