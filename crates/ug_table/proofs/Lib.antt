@@ -18,3 +18,4 @@ pub mod Walked
 pub mod OtherNames
 pub mod OnePart
 pub mod Parted
+pub mod Faults

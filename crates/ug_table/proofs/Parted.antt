@@ -93,7 +93,7 @@ went_part gives name ss es standings entries s r t w =
     }
 
 -- and along all of them
-record WentParts {S : Type 0} (gives : S → (call : Call) → Answer call → S → Type 0) (names : List (List ℕ)) (s : S) (ss : List Standing) (es : List Entry) (t : S) (rs : List Standing) (fs : List Entry) : Type 0 where
+pub record WentParts {S : Type 0} (gives : S → (call : Call) → Answer call → S → Type 0) (names : List (List ℕ)) (s : S) (ss : List Standing) (es : List Entry) (t : S) (rs : List Standing) (fs : List Entry) : Type 0 where
   pub calls : List Made
   pub along : Along gives s calls t
   pub rest : List Entry
@@ -109,7 +109,7 @@ one_more gives name names s u t ss ms rs es gs fs a b = record {
   parts = (ms, a.calls, b.calls, a.rest, b.rest, refl, refl, a.part, b.parts);
 }
 
-settling_all_went : {S J : Type 0} (gives : S → (call : Call) → Answer call → S → Type 0) (answer : Answers J) (later : Laters J) (names : List (List ℕ)) (present : Bool) (w : State J) (s : S) (v : State J) (t : S) → Runs gives s (settling_all answer later names present w) v t → WentParts gives names s w.standings w.entries t v.standings v.entries
+pub settling_all_went : {S J : Type 0} (gives : S → (call : Call) → Answer call → S → Type 0) (answer : Answers J) (later : Laters J) (names : List (List ℕ)) (present : Bool) (w : State J) (s : S) (v : State J) (t : S) → Runs gives s (settling_all answer later names present w) v t → WentParts gives names s w.standings w.entries t v.standings v.entries
 settling_all_went {S} {J} gives answer later [] present w s v t h = record {
   calls = [];
   along = h.1;
@@ -126,7 +126,7 @@ settling_all_went {S} {J} gives answer later (name ∷ names) present w s v t h 
     (walked gives (May name) see P q (settling answer later name present w) s k.0 k.1 (settling_goes answer later name present w) k.2))
     (settling_all_went gives answer later names present k.0.1 k.1 v t k.3)
 
-resettling_all_went : {S : Type 0} (gives : S → (call : Call) → Answer call → S → Type 0) (names : List (List ℕ)) (w : Kept) (s : S) (v : Kept) (t : S) → Runs gives s (resettling_all names w) v t → WentParts gives names s w.standings w.entries t v.standings v.entries
+pub resettling_all_went : {S : Type 0} (gives : S → (call : Call) → Answer call → S → Type 0) (names : List (List ℕ)) (w : Kept) (s : S) (v : Kept) (t : S) → Runs gives s (resettling_all names w) v t → WentParts gives names s w.standings w.entries t v.standings v.entries
 resettling_all_went {S} gives [] w s v t h = record {
   calls = [];
   along = h.1;
