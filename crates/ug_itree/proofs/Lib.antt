@@ -3,3 +3,4 @@ pub mod Told
 pub mod Kernels
 pub mod Counted
 pub mod Walks
+pub mod Rises

@@ -7,8 +7,9 @@ use Rattle.ug_kernel.specs.declared.calls.Listing.{Listing}
 use Rattle.ug_kernel.specs.declared.calls.Listing.TheVariants as listing
 use Rattle.ug_kernel.specs.Calls.{Call, Names, Told, Answer}
 use Rattle.ug_itree.specs.Tree.{Runs}
-use Rattle.ug_itree.specs.Along.{Made, answered, Failure, failure, failures}
+use Rattle.ug_itree.specs.Along.{Made, answered, Failure, failure, failures, Rises}
 use Rattle.ug_itree.proofs.Runs.{runs_split}
+use Rattle.ug_itree.proofs.Rises.{Counting, along_numbered, along_rises}
 use Rattle.ug_audit.specs.declared.entry.Entry.{Entry}
 use Rattle.ug_audit.specs.declared.entry.Entry.TheVariants as entry
 use Rattle.ug_audit.specs.declared.entry.Fault.{Fault}
@@ -94,8 +95,10 @@ farewells_name_none names [] = refl
 farewells_name_none names (s ∷ ss) = unnamed_by (lists names s.name) (entry.Gone s.number s.name) (farewells names ss) refl (farewells_name_none names ss)
 
 -- a listing, and the parts that it leads to
-from_parts : {S J : Type 0} (gives : S → (call : Call) → Answer call → S → Type 0) (s : S) (w : State J) (a : Told Listing) (u t : S) (v : State J) (head : List Entry) (left : List Standing) (names : List (List ℕ)) → gives s Names a u → Begins a.answer a.number a.count w.standings head left names → failures_told head ≡ failure Names a → unsettled_names head ≡ [] → WentParts gives names u left (w.entries ++ head) t v.standings v.entries → TellsFaults gives s w t v
-from_parts {S} {J} gives s w a u t v head left names g b told none p = record {
+from_parts : {S J : Type 0} (gives : S → (call : Call) → Answer call → S → Type 0) (calls faults : S → ℕ) (counted : Counting gives calls faults) (s : S) (w : State J) (a : Told Listing) (u t : S) (v : State J) (head : List Entry) (left : List Standing) (names : List (List ℕ)) → gives s Names a u → Begins a.answer a.number a.count w.standings head left names → failures_told head ≡ failure Names a → unsettled_names head ≡ [] → WentParts gives names u left (w.entries ++ head) t v.standings v.entries → TellsFaults gives calls faults s w t v
+from_parts {S} {J} gives calls faults counted s w a u t v head left names g b told none p =
+    let whole = told_more head p.rest ∙ ap (λ (x : List Failure). x ++ failures_told p.rest) told ∙ ap (λ (x : List Failure). failure Names a ++ x) (exact_parts names left v.standings p.calls p.rest p.parts) in
+    record {
   listed = a;
   calls = p.calls;
   along = (u, g, p.along);
@@ -106,7 +109,9 @@ from_parts {S} {J} gives s w a u t v head left names g b told none p = record {
   names = names;
   begins = b;
   parts = p.parts;
-  exact = told_more head p.rest ∙ ap (λ (x : List Failure). x ++ failures_told p.rest) told ∙ ap (λ (x : List Failure). failure Names a ++ x) (exact_parts names left v.standings p.calls p.rest p.parts);
+  exact = whole;
+  numbered = along_numbered gives calls faults counted (answered Names a ∷ p.calls) s t (u, g, p.along);
+  rises = λ low. subst (Rises (calls s) (faults s)) (sym whole) (along_rises gives calls faults counted (answered Names a ∷ p.calls) s t low (u, g, p.along));
   once = λ d. subst AllDistinct (sym (names_more head p.rest ∙ ap (λ (x : List (List ℕ)). x ++ unsettled_names p.rest) none)) (once_parts names left v.standings p.calls p.rest p.parts d);
 }
 
@@ -117,26 +122,26 @@ unlisted_went {S} {J} gives why w u v t h =
     let P : S → State J → Type 0 = λ (x : S) (y : State J). WentParts gives (names_of w.standings) u w.standings (w.entries ++ entry.UnsettledAll why ∷ []) x y.standings y.entries in
     subst (λ (x : S). P x v) (sym k.3.1) (subst (λ (y : State J). P k.1 y) (sym k.3.0) went)
 
-if_room_tells : {S J : Type 0} (gives : S → (call : Call) → Answer call → S → Type 0) (answer : Answers J) (later : Laters J) (s : S) (w : State J) (names : List (List ℕ)) (call count : ℕ) (room : Bool) (u : S) (v : State J) (t : S) → gives s Names (record { answer = listing.Names names; number = call; count = count }) u → Runs gives u (if_room answer later (in_sweep_order names) w room) v t → TellsFaults gives s w t v
-if_room_tells {S} {J} gives answer later s w names call count true u v t g h =
+if_room_tells : {S J : Type 0} (gives : S → (call : Call) → Answer call → S → Type 0) (calls faults : S → ℕ) (counted : Counting gives calls faults) (answer : Answers J) (later : Laters J) (s : S) (w : State J) (names : List (List ℕ)) (call count : ℕ) (room : Bool) (u : S) (v : State J) (t : S) → gives s Names (record { answer = listing.Names names; number = call; count = count }) u → Runs gives u (if_room answer later (in_sweep_order names) w room) v t → TellsFaults gives calls faults s w t v
+if_room_tells {S} {J} gives calls faults counted answer later s w names call count true u v t g h =
     let a : Told Listing = record { answer = listing.Names names; number = call; count = count } in
     let ns : List (List ℕ) = in_sweep_order names in
-    from_parts gives s w a u t v (farewells ns w.standings) (filter (λ (x : Standing). lists ns x.name) w.standings) ns g (inl (refl, refl, refl)) (farewells_tell_none ns w.standings) (farewells_name_none ns w.standings)
+    from_parts gives calls faults counted s w a u t v (farewells ns w.standings) (filter (λ (x : Standing). lists ns x.name) w.standings) ns g (inl (refl, refl, refl)) (farewells_tell_none ns w.standings) (farewells_name_none ns w.standings)
     (settling_all_went gives answer later ns (not w.listed) (marked_listed (parted ns w)) u v t h)
-if_room_tells {S} {J} gives answer later s w names call count false u v t g h =
+if_room_tells {S} {J} gives calls faults counted answer later s w names call count false u v t g h =
     let a : Told Listing = record { answer = listing.Names names; number = call; count = count } in
-    from_parts gives s w a u t v (entry.UnsettledAll fault.Memory ∷ []) w.standings (names_of w.standings) g (inr (refl, refl, refl)) refl refl (unlisted_went gives fault.Memory w u v t h)
+    from_parts gives calls faults counted s w a u t v (entry.UnsettledAll fault.Memory ∷ []) w.standings (names_of w.standings) g (inr (refl, refl, refl)) refl refl (unlisted_went gives fault.Memory w u v t h)
 
-after_list_tells : {S J : Type 0} (gives : S → (call : Call) → Answer call → S → Type 0) (answer : Answers J) (later : Laters J) (s : S) (w : State J) (r : Listing) (call count : ℕ) (u : S) (v : State J) (t : S) → gives s Names (record { answer = r; number = call; count = count }) u → Runs gives u (after_list answer later w r call count) v t → TellsFaults gives s w t v
-after_list_tells gives answer later s w (listing.Names names) call count u v t g h = if_room_tells gives answer later s w names call count h.0 u v t g h.1
-after_list_tells gives answer later s w listing.Failed call count u v t g h =
+after_list_tells : {S J : Type 0} (gives : S → (call : Call) → Answer call → S → Type 0) (calls faults : S → ℕ) (counted : Counting gives calls faults) (answer : Answers J) (later : Laters J) (s : S) (w : State J) (r : Listing) (call count : ℕ) (u : S) (v : State J) (t : S) → gives s Names (record { answer = r; number = call; count = count }) u → Runs gives u (after_list answer later w r call count) v t → TellsFaults gives calls faults s w t v
+after_list_tells gives calls faults counted answer later s w (listing.Names names) call count u v t g h = if_room_tells gives calls faults counted answer later s w names call count h.0 u v t g h.1
+after_list_tells gives calls faults counted answer later s w listing.Failed call count u v t g h =
     let a : Told Listing = record { answer = listing.Failed; number = call; count = count } in
-    from_parts gives s w a u t v (entry.UnsettledAll (fault.Call call count) ∷ []) w.standings (names_of w.standings) g (refl, refl, refl) refl refl (unlisted_went gives (fault.Call call count) w u v t h)
-after_list_tells gives answer later s w listing.Memory call count u v t g h =
+    from_parts gives calls faults counted s w a u t v (entry.UnsettledAll (fault.Call call count) ∷ []) w.standings (names_of w.standings) g (refl, refl, refl) refl refl (unlisted_went gives (fault.Call call count) w u v t h)
+after_list_tells gives calls faults counted answer later s w listing.Memory call count u v t g h =
     let a : Told Listing = record { answer = listing.Memory; number = call; count = count } in
-    from_parts gives s w a u t v (entry.UnsettledAll fault.Memory ∷ []) w.standings (names_of w.standings) g (refl, refl, refl) refl refl (unlisted_went gives fault.Memory w u v t h)
+    from_parts gives calls faults counted s w a u t v (entry.UnsettledAll fault.Memory ∷ []) w.standings (names_of w.standings) g (refl, refl, refl) refl refl (unlisted_went gives fault.Memory w u v t h)
 
 -- a sweep tells each call that failed, and no other
-pub sweeping_tells : {S J : Type 0} (gives : S → (call : Call) → Answer call → S → Type 0) (answer : Answers J) (later : Laters J) (s : S) (w : State J) (t : S) (v : State J) → Runs gives s (sweeping answer later w) v t → TellsFaults gives s w t v
+pub sweeping_tells : {S J : Type 0} (gives : S → (call : Call) → Answer call → S → Type 0) (calls faults : S → ℕ) (counted : Counting gives calls faults) (answer : Answers J) (later : Laters J) (s : S) (w : State J) (t : S) (v : State J) → Runs gives s (sweeping answer later w) v t → TellsFaults gives calls faults s w t v
 unfolding sweeping
-sweeping_tells gives answer later s w t v h = after_list_tells gives answer later s w h.0.answer h.0.number h.0.count h.1 v t h.2 h.3
+sweeping_tells gives calls faults counted answer later s w t v h = after_list_tells gives calls faults counted answer later s w h.0.answer h.0.number h.0.count h.1 v t h.2 h.3

@@ -1,5 +1,5 @@
 -- A sweep's calls, in parts: the listing, and a part for each name; and which failed calls its `unsettled` entries tell.
-use Rattle.std.specs.Prelude.{◌≡◌, ℕ, Bool, List, [], ◌∷◌, ◌++◌, Option, Some, None, ◌⊎◌}
+use Rattle.std.specs.Prelude.{◌≡◌, ℕ, ◌^◌, ◌<◌, Bool, List, [], ◌∷◌, ◌++◌, Option, Some, None, ◌⊎◌}
 use Rattle.std.specs.List.{filter}
 use Rattle.ug_types.specs.Elements.{Has, AllDistinct}
 use Rattle.ug_types.specs.Names.{parent_of}
@@ -16,7 +16,7 @@ use Rattle.ug_kernel.specs.declared.calls.Probe.TheVariants as probe
 use Rattle.ug_kernel.specs.declared.calls.Wrote.{Wrote}
 use Rattle.ug_kernel.specs.Calls.{Call, Names, Open, Read, Ask_alive, Put, Close, Told, Answer}
 use Rattle.ug_kernel.specs.Called.{value_after}
-use Rattle.ug_itree.specs.Along.{Made, answered, Along, Failure, failure, failures}
+use Rattle.ug_itree.specs.Along.{Made, answered, Along, Failure, failure, failures, AreNumbered, Rises}
 use Rattle.ug_audit.specs.declared.entry.Entry.{Entry}
 use Rattle.ug_audit.specs.declared.entry.Entry.TheVariants as entry
 use Rattle.ug_audit.specs.declared.entry.Fault.{Fault}
@@ -197,9 +197,10 @@ Begins (listing.Names listed) call count ss entries left names = IsListed listed
 Begins listing.Failed call count ss entries left names = IsUnlisted (fault.Call call count) ss entries left names
 Begins listing.Memory call count ss entries left names = IsUnlisted fault.Memory ss entries left names
 
--- The calls of a sweep are the listing and then the names' parts, and so are its entries. Each call that failed is told, with
--- its number and the count of faults after it, and no other. Where no two parts are of one name, none is told twice.
-pub record TellsFaults {S J : Type 0} (gives : S → (call : Call) → Answer call → S → Type 0) (s : S) (w : State J) (t : S) (v : State J) : Type 0 where
+-- The calls of a sweep are the listing and then the names' parts, and so are its entries. Each call that failed is told with
+-- its number and the count of faults after it, and no other; and calls are numbered on, so that both numbers rise. Where no two
+-- parts are of one name, no name is told twice.
+pub record TellsFaults {S J : Type 0} (gives : S → (call : Call) → Answer call → S → Type 0) (calls_of faults_of : S → ℕ) (s : S) (w : State J) (t : S) (v : State J) : Type 0 where
   pub listed : Told Listing
   pub calls : List Made
   pub along : Along gives s (answered Names listed ∷ calls) t
@@ -211,4 +212,6 @@ pub record TellsFaults {S J : Type 0} (gives : S → (call : Call) → Answer ca
   pub begins : Begins listed.answer listed.number listed.count w.standings head left names
   pub parts : InParts names left v.standings calls rest
   pub exact : failures_told (head ++ rest) ≡ failures (answered Names listed ∷ calls)
+  pub numbered : AreNumbered (calls_of s) (answered Names listed ∷ calls)
+  pub rises : calls_of s < 2 ^ 64 → Rises (calls_of s) (faults_of s) (failures_told (head ++ rest))
   pub once : AllDistinct names → AllDistinct (unsettled_names (head ++ rest))
