@@ -19,3 +19,4 @@ pub mod OtherNames
 pub mod OnePart
 pub mod Parted
 pub mod Faults
+pub mod Once

@@ -18,7 +18,7 @@ use Rattle.ug_table.specs.State.{State, Kept, kept_of}
 use Rattle.ug_table.specs.Standings.{standing_of, lists, farewells}
 use Rattle.ug_table.specs.Settle.{settling, resettling}
 use Rattle.ug_table.specs.Sweep.{settling_all, resettling_all, parted, names_of, resumed, unlisted, marked_listed, if_room, after_list, sweeping}
-use Rattle.ug_table.specs.Parts.{failures_told, name_in, unsettled_names, AreAbout, EndsAtFailure, AreDue, puts_of, put_of, writes_in, TellsWrites, EndsUnsettled, IsBoundAnew, files_of, Part, InParts, Begins, TellsFaults}
+use Rattle.ug_table.specs.Parts.{failures_told, name_in, unsettled_names, AreAbout, EndsAtFailure, AreDue, puts_of, put_of, writes_in, TellsWrites, EndsUnsettled, IsBoundAnew, files_of, Part, InParts, Begins, GoesInParts}
 use Rattle.ug_table.specs.declared.standing.Standing.{Standing}
 use Rattle.ug_table.specs.declared.standing.Known.{Known}
 use Rattle.ug_table.specs.declared.standing.Settled.{Settled}
@@ -93,7 +93,7 @@ went_part gives name ss es standings entries s r t w =
     }
 
 -- and along all of them
-pub record WentParts {S : Type 0} (gives : S → (call : Call) → Answer call → S → Type 0) (names : List (List ℕ)) (s : S) (ss : List Standing) (es : List Entry) (t : S) (rs : List Standing) (fs : List Entry) : Type 0 where
+record WentParts {S : Type 0} (gives : S → (call : Call) → Answer call → S → Type 0) (names : List (List ℕ)) (s : S) (ss : List Standing) (es : List Entry) (t : S) (rs : List Standing) (fs : List Entry) : Type 0 where
   pub calls : List Made
   pub along : Along gives s calls t
   pub rest : List Entry
@@ -109,7 +109,7 @@ one_more gives name names s u t ss ms rs es gs fs a b = record {
   parts = (ms, a.calls, b.calls, a.rest, b.rest, refl, refl, a.part, b.parts);
 }
 
-pub settling_all_went : {S J : Type 0} (gives : S → (call : Call) → Answer call → S → Type 0) (answer : Answers J) (later : Laters J) (names : List (List ℕ)) (present : Bool) (w : State J) (s : S) (v : State J) (t : S) → Runs gives s (settling_all answer later names present w) v t → WentParts gives names s w.standings w.entries t v.standings v.entries
+settling_all_went : {S J : Type 0} (gives : S → (call : Call) → Answer call → S → Type 0) (answer : Answers J) (later : Laters J) (names : List (List ℕ)) (present : Bool) (w : State J) (s : S) (v : State J) (t : S) → Runs gives s (settling_all answer later names present w) v t → WentParts gives names s w.standings w.entries t v.standings v.entries
 settling_all_went {S} {J} gives answer later [] present w s v t h = record {
   calls = [];
   along = h.1;
@@ -126,7 +126,7 @@ settling_all_went {S} {J} gives answer later (name ∷ names) present w s v t h 
     (walked gives (May name) see P q (settling answer later name present w) s k.0 k.1 (settling_goes answer later name present w) k.2))
     (settling_all_went gives answer later names present k.0.1 k.1 v t k.3)
 
-pub resettling_all_went : {S : Type 0} (gives : S → (call : Call) → Answer call → S → Type 0) (names : List (List ℕ)) (w : Kept) (s : S) (v : Kept) (t : S) → Runs gives s (resettling_all names w) v t → WentParts gives names s w.standings w.entries t v.standings v.entries
+resettling_all_went : {S : Type 0} (gives : S → (call : Call) → Answer call → S → Type 0) (names : List (List ℕ)) (w : Kept) (s : S) (v : Kept) (t : S) → Runs gives s (resettling_all names w) v t → WentParts gives names s w.standings w.entries t v.standings v.entries
 resettling_all_went {S} gives [] w s v t h = record {
   calls = [];
   along = h.1;
@@ -142,3 +142,49 @@ resettling_all_went {S} gives (name ∷ names) w s v t h =
     (went_part gives name w.standings w.entries (λ (r : Settled × Kept). r.1.standings) (λ (r : Settled × Kept). r.1.entries) s k.0 k.1
     (walked gives (May name) see P q (resettling name w) s k.0 k.1 (resettling_goes name w) k.2))
     (resettling_all_went gives names k.0.1 k.1 v t k.3)
+
+-- a listing, and the parts that it leads to
+from_parts : {S J : Type 0} (gives : S → (call : Call) → Answer call → S → Type 0) (s : S) (w : State J) (a : Told Listing) (u t : S) (v : State J) (head : List Entry) (left : List Standing) (names : List (List ℕ)) → gives s Names a u → Begins a.answer a.number a.count w.standings head left names → WentParts gives names u left (w.entries ++ head) t v.standings v.entries → GoesInParts gives s w t v
+from_parts {S} {J} gives s w a u t v head left names g b p = record {
+  listed = a;
+  later = p.calls;
+  along = (u, g, p.along);
+  head = head;
+  rest = p.rest;
+  entries = p.entries ∙ append_assoc w.entries head p.rest;
+  left = left;
+  names = names;
+  begins = b;
+  parts = p.parts;
+}
+
+unlisted_went : {S J : Type 0} (gives : S → (call : Call) → Answer call → S → Type 0) (why : Fault) (w : State J) (u : S) (v : State J) (t : S) → Runs gives u (unlisted why w) v t → WentParts gives (names_of w.standings) u w.standings (w.entries ++ entry.UnsettledAll why ∷ []) t v.standings v.entries
+unlisted_went {S} {J} gives why w u v t h =
+    let k = runs_split gives u (resettling_all (names_of w.standings) (kept_of w.standings (w.entries ++ entry.UnsettledAll why ∷ []))) (resumed w) v t h in
+    let went = resettling_all_went gives (names_of w.standings) (kept_of w.standings (w.entries ++ entry.UnsettledAll why ∷ [])) u k.0 k.1 k.2 in
+    let P : S → State J → Type 0 = λ (x : S) (y : State J). WentParts gives (names_of w.standings) u w.standings (w.entries ++ entry.UnsettledAll why ∷ []) x y.standings y.entries in
+    subst (λ (x : S). P x v) (sym k.3.1) (subst (λ (y : State J). P k.1 y) (sym k.3.0) went)
+
+if_room_goes : {S J : Type 0} (gives : S → (call : Call) → Answer call → S → Type 0) (answer : Answers J) (later : Laters J) (s : S) (w : State J) (names : List (List ℕ)) (call count : ℕ) (room : Bool) (u : S) (v : State J) (t : S) → gives s Names (record { answer = listing.Names names; number = call; count = count }) u → Runs gives u (if_room answer later (in_sweep_order names) w room) v t → GoesInParts gives s w t v
+if_room_goes {S} {J} gives answer later s w names call count true u v t g h =
+    let a : Told Listing = record { answer = listing.Names names; number = call; count = count } in
+    let ns : List (List ℕ) = in_sweep_order names in
+    from_parts gives s w a u t v (farewells ns w.standings) (filter (λ (x : Standing). lists ns x.name) w.standings) ns g (inl (refl, refl, refl))
+    (settling_all_went gives answer later ns (not w.listed) (marked_listed (parted ns w)) u v t h)
+if_room_goes {S} {J} gives answer later s w names call count false u v t g h =
+    let a : Told Listing = record { answer = listing.Names names; number = call; count = count } in
+    from_parts gives s w a u t v (entry.UnsettledAll fault.Memory ∷ []) w.standings (names_of w.standings) g (inr (refl, refl, refl)) (unlisted_went gives fault.Memory w u v t h)
+
+after_list_goes : {S J : Type 0} (gives : S → (call : Call) → Answer call → S → Type 0) (answer : Answers J) (later : Laters J) (s : S) (w : State J) (r : Listing) (call count : ℕ) (u : S) (v : State J) (t : S) → gives s Names (record { answer = r; number = call; count = count }) u → Runs gives u (after_list answer later w r call count) v t → GoesInParts gives s w t v
+after_list_goes gives answer later s w (listing.Names names) call count u v t g h = if_room_goes gives answer later s w names call count h.0 u v t g h.1
+after_list_goes gives answer later s w listing.Failed call count u v t g h =
+    let a : Told Listing = record { answer = listing.Failed; number = call; count = count } in
+    from_parts gives s w a u t v (entry.UnsettledAll (fault.Call call count) ∷ []) w.standings (names_of w.standings) g (refl, refl, refl) (unlisted_went gives (fault.Call call count) w u v t h)
+after_list_goes gives answer later s w listing.Memory call count u v t g h =
+    let a : Told Listing = record { answer = listing.Memory; number = call; count = count } in
+    from_parts gives s w a u t v (entry.UnsettledAll fault.Memory ∷ []) w.standings (names_of w.standings) g (refl, refl, refl) (unlisted_went gives fault.Memory w u v t h)
+
+-- a run of a sweep goes in parts
+pub sweeping_goes : {S J : Type 0} (gives : S → (call : Call) → Answer call → S → Type 0) (answer : Answers J) (later : Laters J) (s : S) (w : State J) (t : S) (v : State J) → Runs gives s (sweeping answer later w) v t → GoesInParts gives s w t v
+unfolding sweeping
+sweeping_goes gives answer later s w t v h = after_list_goes gives answer later s w h.0.answer h.0.number h.0.count h.1 v t h.2 h.3

@@ -15,6 +15,7 @@ use Rattle.ug_kernel.specs.declared.calls.Probe.{Probe}
 use Rattle.ug_kernel.specs.declared.calls.Probe.TheVariants as probe
 use Rattle.ug_kernel.specs.declared.calls.Wrote.{Wrote}
 use Rattle.ug_kernel.specs.Calls.{Call, Names, Open, Read, Ask_alive, Put, Close, Told, Answer}
+use Rattle.ug_kernel.specs.Kernel.{Kernel, IsKernel}
 use Rattle.ug_kernel.specs.Called.{value_after}
 use Rattle.ug_itree.specs.Along.{Made, answered, Along, Failure, failure, failures, AreNumbered, Rises}
 use Rattle.ug_audit.specs.declared.entry.Entry.{Entry}
@@ -24,7 +25,7 @@ use Rattle.ug_audit.specs.declared.entry.Fault.TheVariants as fault
 use Rattle.ug_table.specs.State.{State}
 use Rattle.ug_table.specs.Standings.{standing_of, lists, farewells}
 use Rattle.ug_table.specs.Sweep.{names_of}
-use Rattle.ug_table.specs.Laws.{wrote_entries}
+use Rattle.ug_table.specs.Laws.{Stand, wrote_entries}
 use Rattle.ug_table.specs.declared.standing.Standing.{Standing}
 use Rattle.ug_table.specs.declared.standing.Known.{Known}
 
@@ -197,21 +198,28 @@ Begins (listing.Names listed) call count ss entries left names = IsListed listed
 Begins listing.Failed call count ss entries left names = IsUnlisted (fault.Call call count) ss entries left names
 Begins listing.Memory call count ss entries left names = IsUnlisted fault.Memory ss entries left names
 
--- The calls of a sweep are the listing and then the names' parts, and so are its entries. Each call that failed is told with
--- its number and the count of faults after it, and no other; and calls are numbered on, so that both numbers rise. Where no two
--- parts are of one name, no name is told twice.
-pub record TellsFaults {S J : Type 0} (gives : S → (call : Call) → Answer call → S → Type 0) (calls_of faults_of : S → ℕ) (s : S) (w : State J) (t : S) (v : State J) : Type 0 where
+-- A sweep's calls are the listing and then the names' parts, and so are its entries.
+pub record GoesInParts {S J : Type 0} (gives : S → (call : Call) → Answer call → S → Type 0) (s : S) (w : State J) (t : S) (v : State J) : Type 0 where
   pub listed : Told Listing
-  pub calls : List Made
-  pub along : Along gives s (answered Names listed ∷ calls) t
+  pub later : List Made
+  pub along : Along gives s (answered Names listed ∷ later) t
   pub head : List Entry
   pub rest : List Entry
   pub entries : v.entries ≡ w.entries ++ (head ++ rest)
   pub left : List Standing
   pub names : List (List ℕ)
   pub begins : Begins listed.answer listed.number listed.count w.standings head left names
-  pub parts : InParts names left v.standings calls rest
-  pub exact : failures_told (head ++ rest) ≡ failures (answered Names listed ∷ calls)
-  pub numbered : AreNumbered (calls_of s) (answered Names listed ∷ calls)
-  pub rises : calls_of s < 2 ^ 64 → Rises (calls_of s) (faults_of s) (failures_told (head ++ rest))
-  pub once : AllDistinct names → AllDistinct (unsettled_names (head ++ rest))
+  pub parts : InParts names left v.standings later rest
+
+-- In a sweep in parts each call that failed is told with its number and the count of faults after it, and no other is; and calls
+-- are numbered on, so that both numbers rise.
+pub record TellsFaults {S J : Type 0} (gives : S → (call : Call) → Answer call → S → Type 0) (calls faults : S → ℕ) (s : S) (w : State J) (t : S) (v : State J) : Type 0 where
+  pub goes : GoesInParts gives s w t v
+  pub exact : failures_told (goes.head ++ goes.rest) ≡ failures (answered Names goes.listed ∷ goes.later)
+  pub numbered : AreNumbered (calls s) (answered Names goes.listed ∷ goes.later)
+  pub rises : calls s < 2 ^ 64 → Rises (calls s) (faults s) (failures_told (goes.head ++ goes.rest))
+
+-- where a kernel is told at the end of a sweep, one was told at its start; and where that is sound and the standings are of
+-- its devices, each name has at most one `unsettled` entry
+abbrev pub NamesOnce : {S J : Type 0} → (S → Option Kernel) → S → State J → S → State J → Type 0
+NamesOnce told s w t v = (l : Kernel) → told t ≡ Some l → (k : Kernel) × (told s ≡ Some k) × (IsKernel k → Stand k w.standings w.next → (rest : List Entry) × (v.entries ≡ w.entries ++ rest) × AllDistinct (unsettled_names rest))
