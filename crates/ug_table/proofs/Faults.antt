@@ -20,7 +20,7 @@ failures_more : (ms ns : List Made) → failures (ms ++ ns) ≡ failures ms ++ f
 failures_more [] ns = refl
 failures_more (m ∷ ms) ns = ap (λ (v : List Failure). failure m.call m.answer ++ v) (failures_more ms ns) ∙ sym (append_assoc (failure m.call m.answer) (failures ms) (failures ns))
 
-told_more : (es fs : List Entry) → failures_told (es ++ fs) ≡ failures_told es ++ failures_told fs
+pub told_more : (es fs : List Entry) → failures_told (es ++ fs) ≡ failures_told es ++ failures_told fs
 told_more [] fs = refl
 told_more (e ∷ es) fs = ap (λ (v : List Failure). failure_in e ++ v) (told_more es fs) ∙ sym (append_assoc (failure_in e) (failures_told es) (failures_told fs))
 
