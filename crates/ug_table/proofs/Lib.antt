@@ -19,3 +19,9 @@ pub mod Told
 pub mod Marks
 pub mod Spared
 pub mod Swept
+pub mod Walked
+pub mod OtherNames
+pub mod OnePart
+pub mod Parted
+pub mod Faults
+pub mod Once

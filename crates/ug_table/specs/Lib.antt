@@ -4,3 +4,4 @@ pub mod State
 pub mod Settle
 pub mod Sweep
 pub mod Laws
+pub mod Parts

@@ -1,0 +1,69 @@
+-- Which failed calls a sweep tells.
+use Rattle.std.proofs.Common.{◌≡◌, ℕ, Bool, true, false, cond, List, [], ◌∷◌, ◌++◌, inl, inr, refl, sym, ◌∙◌, ap, subst, append_assoc}
+use Rattle.ug_kernel.specs.declared.calls.Listing.{Listing}
+use Rattle.ug_kernel.specs.declared.calls.Listing.TheVariants as listing
+use Rattle.ug_kernel.specs.Calls.{Call, Names, Told, Answer}
+use Rattle.ug_itree.specs.Tree.{Runs}
+use Rattle.ug_itree.specs.Along.{Made, answered, Failure, failure, failures, Rises}
+use Rattle.ug_itree.proofs.Rises.{Counting, along_numbered, along_rises}
+use Rattle.ug_audit.specs.declared.entry.Entry.{Entry}
+use Rattle.ug_audit.specs.declared.entry.Entry.TheVariants as entry
+use Rattle.ug_table.specs.State.{State}
+use Rattle.ug_table.specs.Standings.{lists, farewells}
+use Rattle.ug_table.specs.Sweep.{sweeping}
+use Rattle.ug_table.specs.Parts.{failure_in, failures_told, InParts, Begins, TellsFaults}
+use Rattle.ug_table.specs.declared.standing.Standing.{Standing}
+use Rattle.ug_table.proofs.Account.{Answers, Laters}
+use Rattle.ug_table.proofs.Parted.{sweeping_goes}
+
+failures_more : (ms ns : List Made) → failures (ms ++ ns) ≡ failures ms ++ failures ns
+failures_more [] ns = refl
+failures_more (m ∷ ms) ns = ap (λ (v : List Failure). failure m.call m.answer ++ v) (failures_more ms ns) ∙ sym (append_assoc (failure m.call m.answer) (failures ms) (failures ns))
+
+pub told_more : (es fs : List Entry) → failures_told (es ++ fs) ≡ failures_told es ++ failures_told fs
+told_more [] fs = refl
+told_more (e ∷ es) fs = ap (λ (v : List Failure). failure_in e ++ v) (told_more es fs) ∙ sym (append_assoc (failure_in e) (failures_told es) (failures_told fs))
+
+-- each failed call is told in its part
+exact_parts : (names : List (List ℕ)) (ss rs : List Standing) (ms : List Made) (es : List Entry) → InParts names ss rs ms es → failures_told es ≡ failures ms
+exact_parts [] ss rs ms es h = ap failures_told h.2 ∙ sym (ap failures h.1)
+exact_parts (name ∷ names) ss rs ms es h =
+    let rest = exact_parts names h.0 rs h.2 h.4 h.8 in
+    ap failures_told h.6
+    ∙ told_more h.3 h.4
+    ∙ ap (λ (v : List Failure). v ++ failures_told h.4) h.7.told
+    ∙ ap (λ (v : List Failure). failures h.1 ++ v) rest
+    ∙ sym (failures_more h.1 h.2)
+    ∙ sym (ap failures h.5)
+
+-- `gone` tells no failure
+farewell_by : (b : Bool) (e : Entry) (es : List Entry) → failure_in e ≡ [] → failures_told es ≡ [] → failures_told (cond b es (e ∷ es)) ≡ []
+farewell_by true e es f h = h
+farewell_by false e es f h = ap (λ (v : List Failure). v ++ failures_told es) f ∙ h
+
+farewells_tell_none : (names : List (List ℕ)) (ss : List Standing) → failures_told (farewells names ss) ≡ []
+farewells_tell_none names [] = refl
+farewells_tell_none names (s ∷ ss) = farewell_by (lists names s.name) (entry.Gone s.number s.name) (farewells names ss) refl (farewells_tell_none names ss)
+
+begins_tell : (r : Listing) (call count : ℕ) (ss : List Standing) (head : List Entry) (left : List Standing) (names : List (List ℕ)) → Begins r call count ss head left names → failures_told head ≡ failure Names (record { answer = r; number = call; count = count })
+begins_tell (listing.Names found) call count ss head left names (inl b) = ap failures_told b.1 ∙ farewells_tell_none names ss
+begins_tell (listing.Names found) call count ss head left names (inr b) = ap failures_told b.1
+begins_tell listing.Failed call count ss head left names b = ap failures_told b.1
+begins_tell listing.Memory call count ss head left names b = ap failures_told b.1
+
+-- a sweep tells each call that failed, and no other
+pub sweeping_tells : {S J : Type 0} (gives : S → (call : Call) → Answer call → S → Type 0) (calls faults : S → ℕ) (counted : Counting gives calls faults) (answer : Answers J) (later : Laters J) (s : S) (w : State J) (t : S) (v : State J) → Runs gives s (sweeping answer later w) v t → TellsFaults gives calls faults s w t v
+sweeping_tells {S} {J} gives calls faults counted answer later s w t v h =
+    let g = sweeping_goes gives answer later s w t v h in
+    let a : Told Listing = g.listed in
+    let ms : List Made = answered Names a ∷ g.later in
+    let exact : failures_told (g.head ++ g.rest) ≡ failures ms =
+        told_more g.head g.rest
+        ∙ ap (λ (x : List Failure). x ++ failures_told g.rest) (begins_tell a.answer a.number a.count w.standings g.head g.left g.names g.begins)
+        ∙ ap (λ (x : List Failure). failure Names a ++ x) (exact_parts g.names g.left v.standings g.later g.rest g.parts) in
+    record {
+      goes = g;
+      exact = exact;
+      numbered = along_numbered gives calls faults counted ms s t g.along;
+      rises = λ low. subst (λ (x : List Failure). Rises (calls s) (faults s) x) (sym exact) (along_rises gives calls faults counted ms s t low g.along);
+    }

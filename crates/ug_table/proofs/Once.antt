@@ -1,0 +1,123 @@
+-- Each name is told once.
+use Rattle.std.proofs.Common.{◌≡◌, ℕ, Bool, true, false, cond, List, [], ◌∷◌, ◌++◌, Option, Some, ◌⊎◌, inl, inr, refl, sym, ◌∙◌, ap, subst, append_assoc}
+use Rattle.ug_types.specs.Elements.{Has, AllDistinct}
+use Rattle.ug_types.specs.Names.{sweep_cmp}
+use Rattle.ug_types.specs.Sweep.{in_place, in_sweep_order}
+use Rattle.std.specs.Ordering.{is_gt}
+use Rattle.ug_kernel.specs.declared.calls.Listing.{Listing}
+use Rattle.ug_kernel.specs.declared.calls.Listing.TheVariants as listing
+use Rattle.ug_kernel.specs.Calls.{Call, Answer}
+use Rattle.ug_kernel.specs.Kernel.{Kernel, IsKernel}
+use Rattle.ug_kernel.specs.Called.{says_listing, Follows}
+use Rattle.ug_itree.specs.Tree.{Runs, calls}
+use Rattle.ug_itree.specs.Along.{Made}
+use Rattle.ug_itree.proofs.Told.{told_run}
+use Rattle.ug_audit.specs.declared.entry.Entry.{Entry}
+use Rattle.ug_audit.specs.declared.entry.Entry.TheVariants as entry
+use Rattle.ug_table.specs.State.{State}
+use Rattle.ug_table.specs.Standings.{lists, farewells}
+use Rattle.ug_table.specs.Sweep.{names_of, sweeping}
+use Rattle.ug_table.specs.Laws.{Stand}
+use Rattle.ug_table.specs.Parts.{name_in, unsettled_names, EndsUnsettled, InParts, Begins, NamesOnce}
+use Rattle.ug_table.specs.declared.standing.Standing.{Standing}
+use Rattle.ug_table.proofs.Account.{Answers, Laters}
+use Rattle.ug_table.proofs.Elements.{has_cases}
+use Rattle.ug_table.proofs.Parted.{sweeping_goes}
+
+pub names_more : (es fs : List Entry) → unsettled_names (es ++ fs) ≡ unsettled_names es ++ unsettled_names fs
+names_more [] fs = refl
+names_more (e ∷ es) fs = ap (λ (v : List (List ℕ)). name_in e ++ v) (names_more es fs) ∙ sym (append_assoc (name_in e) (unsettled_names es) (unsettled_names fs))
+
+-- the names that a part tells
+part_name : (name : List ℕ) (es : List Entry) → EndsUnsettled name es → (unsettled_names es ≡ []) ⊎ (unsettled_names es ≡ name ∷ [])
+part_name name [] h = inl refl
+part_name name (entry.Unsettled other why ∷ es) h = inr (ap (λ (v : List ℕ). v ∷ unsettled_names es) h.0.0 ∙ ap (λ (v : List Entry). name ∷ unsettled_names v) h.0.1)
+part_name name (entry.UnsettledAll why ∷ es) h = absurd h.0
+part_name name (e ∷ es) h = part_name name es h.1
+
+names_of_parts : (names : List (List ℕ)) (ss rs : List Standing) (ms : List Made) (es : List Entry) (name : List ℕ) → InParts names ss rs ms es → Has (unsettled_names es) name → Has names name
+names_of_parts [] ss rs ms es name h a = subst (λ (v : List Entry). Has (unsettled_names v) name) h.2 a
+names_of_parts (n ∷ names) ss rs ms es name h a =
+    let b = subst (λ (v : List (List ℕ)). Has v name) (ap unsettled_names h.6 ∙ names_more h.3 h.4) a in
+    elim (has_cases (unsettled_names h.3) (unsettled_names h.4) name b) [
+      | inl x ↦ elim (part_name n h.3 h.7.last) [
+        | inl e ↦ absurd (subst (λ (v : List (List ℕ)). Has v name) e x)
+        | inr e ↦ elim (subst (λ (v : List (List ℕ)). Has v name) e x) [ inl same ↦ inl same | inr none ↦ absurd none ]
+      ]
+      | inr y ↦ inr (names_of_parts names h.0 rs h.2 h.4 name h.8 y)
+    ]
+
+-- none is told twice
+once_parts : (names : List (List ℕ)) (ss rs : List Standing) (ms : List Made) (es : List Entry) → InParts names ss rs ms es → AllDistinct names → AllDistinct (unsettled_names es)
+once_parts [] ss rs ms es h d = subst (λ (v : List Entry). AllDistinct (unsettled_names v)) (sym h.2) tt
+once_parts (name ∷ names) ss rs ms es h d =
+    let rest = once_parts names h.0 rs h.2 h.4 h.8 d.1 in
+    let whole : AllDistinct (unsettled_names h.3 ++ unsettled_names h.4) = elim (part_name name h.3 h.7.last) [
+      | inl e ↦ subst (λ (v : List (List ℕ)). AllDistinct (v ++ unsettled_names h.4)) (sym e) rest
+      | inr e ↦ subst (λ (v : List (List ℕ)). AllDistinct (v ++ unsettled_names h.4)) (sym e) (λ a. d.0 (names_of_parts names h.0 rs h.2 h.4 name h.8 a), rest)
+    ] in
+    subst AllDistinct (sym (ap unsettled_names h.6 ∙ names_more h.3 h.4)) whole
+
+unnamed_by : (b : Bool) (e : Entry) (es : List Entry) → name_in e ≡ [] → unsettled_names es ≡ [] → unsettled_names (cond b es (e ∷ es)) ≡ []
+unnamed_by true e es f h = h
+unnamed_by false e es f h = ap (λ (v : List (List ℕ)). v ++ unsettled_names es) f ∙ h
+
+farewells_name_none : (names : List (List ℕ)) (ss : List Standing) → unsettled_names (farewells names ss) ≡ []
+farewells_name_none names [] = refl
+farewells_name_none names (s ∷ ss) = unnamed_by (lists names s.name) (entry.Gone s.number s.name) (farewells names ss) refl (farewells_name_none names ss)
+
+-- the order of a sweep keeps names apart
+placed_by : (x y z : List ℕ) (ys : List (List ℕ)) (b : Bool) → (Has (in_place x ys) z → (x ≡ z) ⊎ Has ys z) → Has (cond b (y ∷ in_place x ys) (x ∷ y ∷ ys)) z → (x ≡ z) ⊎ ((y ≡ z) ⊎ Has ys z)
+placed_by x y z ys true f (inl e) = inr (inl e)
+placed_by x y z ys true f (inr h) = elim (f h) [ inl e ↦ inl e | inr a ↦ inr (inr a) ]
+placed_by x y z ys false f h = h
+
+placed : (x z : List ℕ) (ys : List (List ℕ)) → Has (in_place x ys) z → (x ≡ z) ⊎ Has ys z
+placed x z [] h = h
+placed x z (y ∷ ys) h = placed_by x y z ys (is_gt (sweep_cmp x y)) (placed x z ys) h
+
+ordered : (z : List ℕ) (ys : List (List ℕ)) → Has (in_sweep_order ys) z → Has ys z
+ordered z [] h = h
+ordered z (y ∷ ys) h = elim (placed y z (in_sweep_order ys) h) [ inl e ↦ inl e | inr a ↦ inr (ordered z ys a) ]
+
+distinct_by : (x y : List ℕ) (ys : List (List ℕ)) (b : Bool) → ((x ≡ y) ⊎ Has ys x → ⊥) → (Has ys y → ⊥) → AllDistinct ys → AllDistinct (in_place x ys) → AllDistinct (cond b (y ∷ in_place x ys) (x ∷ y ∷ ys))
+distinct_by x y ys true n m d h = (λ a. elim (placed x y ys a) [ inl e ↦ n (inl e) | inr b ↦ m b ], h)
+distinct_by x y ys false n m d h = (λ a. elim a [ inl e ↦ n (inl (sym e)) | inr b ↦ n (inr b) ], (m, d))
+
+distinct_placed : (x : List ℕ) (ys : List (List ℕ)) → (Has ys x → ⊥) → AllDistinct ys → AllDistinct (in_place x ys)
+distinct_placed x [] n d = (n, tt)
+distinct_placed x (y ∷ ys) n d = distinct_by x y ys (is_gt (sweep_cmp x y)) (λ a. elim a [ inl e ↦ n (inl (sym e)) | inr b ↦ n (inr b) ]) d.0 d.1 (distinct_placed x ys (λ a. n (inr a)) d.1)
+
+distinct_ordered : (ys : List (List ℕ)) → AllDistinct ys → AllDistinct (in_sweep_order ys)
+distinct_ordered [] d = tt
+distinct_ordered (y ∷ ys) d = distinct_placed y (in_sweep_order ys) (λ a. d.0 (ordered y ys a)) (distinct_ordered ys d.1)
+
+-- no two parts are of one name
+begins_distinct : (k l : Kernel) (r : Listing) (call count : ℕ) (ss : List Standing) (head : List Entry) (left : List Standing) (names : List (List ℕ)) → says_listing r k l → AllDistinct (names_of ss) → Begins r call count ss head left names → AllDistinct names
+begins_distinct k l (listing.Names found) call count ss head left names says d (inl b) = subst (λ (v : List (List ℕ)). AllDistinct v) (sym b.0) (distinct_ordered found says.1)
+begins_distinct k l (listing.Names found) call count ss head left names says d (inr b) = subst (λ (v : List (List ℕ)). AllDistinct v) (sym b.0) d
+begins_distinct k l listing.Failed call count ss head left names says d b = subst (λ (v : List (List ℕ)). AllDistinct v) (sym b.0) d
+begins_distinct k l listing.Memory call count ss head left names says d b = subst (λ (v : List (List ℕ)). AllDistinct v) (sym b.0) d
+
+begins_unnamed : (r : Listing) (call count : ℕ) (ss : List Standing) (head : List Entry) (left : List Standing) (names : List (List ℕ)) → Begins r call count ss head left names → unsettled_names head ≡ []
+begins_unnamed (listing.Names found) call count ss head left names (inl b) = ap unsettled_names b.1 ∙ farewells_name_none names ss
+begins_unnamed (listing.Names found) call count ss head left names (inr b) = ap unsettled_names b.1
+begins_unnamed listing.Failed call count ss head left names b = ap unsettled_names b.1
+begins_unnamed listing.Memory call count ss head left names b = ap unsettled_names b.1
+
+sweeping_once : {J : Type 0} (answer : Answers J) (later : Laters J) (k : Kernel) (w : State J) (l : Kernel) (v : State J) → AllDistinct (names_of w.standings) → Runs calls k (sweeping answer later w) v l → (rest : List Entry) × (v.entries ≡ w.entries ++ rest) × AllDistinct (unsettled_names rest)
+sweeping_once {J} answer later k w l v d h =
+    let g = sweeping_goes calls answer later k w l v h in
+    let a = g.listed in
+    let apart = begins_distinct k g.along.0 a.answer a.number a.count w.standings g.head g.left g.names g.along.1.says d g.begins in
+    let none = begins_unnamed a.answer a.number a.count w.standings g.head g.left g.names g.begins in
+    (
+      g.head ++ g.rest,
+      g.entries,
+      subst (λ (v : List (List ℕ)). AllDistinct v) (sym (names_more g.head g.rest ∙ ap (λ (x : List (List ℕ)). x ++ unsettled_names g.rest) none)) (once_parts g.names g.left v.standings g.later g.rest g.parts apart),
+    )
+
+pub told_once : {S J : Type 0} (gives : S → (call : Call) → Answer call → S → Type 0) (told : S → Option Kernel) (did : (s : S) (call : Call) (answer : Answer call) (t : S) (l : Kernel) → gives s call answer t → told t ≡ Some l → Follows call answer (told s) l) (answer : Answers J) (later : Laters J) (s : S) (w : State J) (t : S) (v : State J) → Runs gives s (sweeping answer later w) v t → NamesOnce told s w t v
+told_once gives told did answer later s w t v r = λ l e.
+    let m = told_run gives told did (sweeping answer later w) s v t l r e in
+    (m.kernel, m.was, λ sound stand. sweeping_once answer later m.kernel w l v stand.names (m.run sound).0)

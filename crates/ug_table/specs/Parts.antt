@@ -1,0 +1,225 @@
+-- A sweep's calls, in parts: the listing, and a part for each name; and which failed calls its `unsettled` entries tell.
+use Rattle.std.specs.Prelude.{◌≡◌, ℕ, ◌^◌, ◌<◌, Bool, List, [], ◌∷◌, ◌++◌, Option, Some, None, ◌⊎◌}
+use Rattle.std.specs.List.{filter}
+use Rattle.ug_types.specs.Elements.{Has, AllDistinct}
+use Rattle.ug_types.specs.Names.{parent_of}
+use Rattle.ug_types.specs.Sweep.{in_sweep_order}
+use Rattle.ug_kernel.specs.declared.calls.Control.{Control}
+use Rattle.ug_kernel.specs.declared.calls.Control.TheVariants.{Authorized, Remove}
+use Rattle.ug_kernel.specs.declared.calls.Write.{Write}
+use Rattle.ug_kernel.specs.declared.calls.Listing.{Listing}
+use Rattle.ug_kernel.specs.declared.calls.Listing.TheVariants as listing
+use Rattle.ug_kernel.specs.declared.calls.Opened.{Opened}
+use Rattle.ug_kernel.specs.declared.calls.Opened.TheVariants as opened
+use Rattle.ug_kernel.specs.declared.calls.Probe.{Probe}
+use Rattle.ug_kernel.specs.declared.calls.Probe.TheVariants as probe
+use Rattle.ug_kernel.specs.declared.calls.Wrote.{Wrote}
+use Rattle.ug_kernel.specs.Calls.{Call, Names, Open, Read, Ask_alive, Put, Close, Told, Answer}
+use Rattle.ug_kernel.specs.Kernel.{Kernel, IsKernel}
+use Rattle.ug_kernel.specs.Called.{value_after}
+use Rattle.ug_itree.specs.Along.{Made, answered, Along, Failure, failure, failures, AreNumbered, Rises}
+use Rattle.ug_audit.specs.declared.entry.Entry.{Entry}
+use Rattle.ug_audit.specs.declared.entry.Entry.TheVariants as entry
+use Rattle.ug_audit.specs.declared.entry.Fault.{Fault}
+use Rattle.ug_audit.specs.declared.entry.Fault.TheVariants as fault
+use Rattle.ug_table.specs.State.{State}
+use Rattle.ug_table.specs.Standings.{standing_of, lists, farewells}
+use Rattle.ug_table.specs.Sweep.{names_of}
+use Rattle.ug_table.specs.Laws.{Stand, wrote_entries}
+use Rattle.ug_table.specs.declared.standing.Standing.{Standing}
+use Rattle.ug_table.specs.declared.standing.Known.{Known}
+
+-- the failed call that an `unsettled` entry tells
+abbrev pub told_by : Fault → List Failure
+told_by (fault.Call call count) = record { call = call; count = count } ∷ []
+told_by fault.Memory = []
+
+abbrev pub failure_in : Entry → List Failure
+failure_in (entry.Unsettled name why) = told_by why
+failure_in (entry.UnsettledAll why) = told_by why
+failure_in e = []
+
+-- the failed calls that entries tell, in their order
+abbrev pub failures_told : List Entry → List Failure
+failures_told [] = []
+failures_told (e ∷ es) = failure_in e ++ failures_told es
+
+-- the name of an `unsettled` entry that has one
+abbrev pub name_in : Entry → List (List ℕ)
+name_in (entry.Unsettled name why) = name ∷ []
+name_in e = []
+
+abbrev pub unsettled_names : List Entry → List (List ℕ)
+unsettled_names [] = []
+unsettled_names (e ∷ es) = name_in e ++ unsettled_names es
+
+-- the file that a call opened through which a device is authorised
+abbrev pub opened_by : Control → Opened → List ℕ
+opened_by Authorized (opened.Token held) = held.0 ∷ []
+opened_by Authorized opened.Absent = []
+opened_by Authorized opened.Failed = []
+opened_by Authorized opened.Memory = []
+opened_by Remove answer = []
+
+abbrev pub file_of : (call : Call) → Answer call → List ℕ
+file_of (Open name control) answer = opened_by control answer.answer
+file_of Names answer = []
+file_of (Read name attr) answer = []
+file_of (Ask_alive held) answer = []
+file_of (Put held write) answer = []
+file_of (Close held) answer = []
+
+-- the call is about the name, whose held files these are: it goes to the name, or reads its parent's files, or goes to one of these
+abbrev pub IsAbout : List ℕ → List ℕ → Call → Type 0
+IsAbout name files Names = ⊥
+IsAbout name files (Open other control) = other ≡ name
+IsAbout name files (Read other attr) = (other ≡ name) ⊎ (parent_of name ≡ Some other)
+IsAbout name files (Ask_alive held) = Has files held
+IsAbout name files (Put held write) = Has files held
+IsAbout name files (Close held) = Has files held
+
+-- each of the calls is; a file that one of them opened is the name's from then on
+abbrev pub AreAbout : List ℕ → List ℕ → List Made → Type 0
+AreAbout name files [] = Unit {0}
+AreAbout name files (m ∷ ms) = IsAbout name files m.call × AreAbout name (file_of m.call m.answer ++ files) ms
+
+abbrev pub IsClosing : Call → Type 0
+IsClosing (Close held) = Unit {0}
+IsClosing Names = ⊥
+IsClosing (Open name control) = ⊥
+IsClosing (Read name attr) = ⊥
+IsClosing (Ask_alive held) = ⊥
+IsClosing (Put held write) = ⊥
+
+-- behind a call that failed there are closings alone
+abbrev pub EndsAtFailure : List Failure → List Made → Type 0
+EndsAtFailure before [] = Unit {0}
+EndsAtFailure before (m ∷ ms) = ((before ≡ []) ⊎ IsClosing m.call) × EndsAtFailure (before ++ failure m.call m.answer) ms
+
+-- a write stands directly behind a probe of its held file that found the other value
+abbrev pub IsDue : Option Made → Call → Type 0
+IsDue last (Put held write) = (t : Told Probe) × (on : Bool) × (last ≡ Some (answered (Ask_alive held) t)) × (t.answer ≡ probe.Alive on) × (value_after write on ≡ on → ⊥)
+IsDue last Names = Unit {0}
+IsDue last (Open name control) = Unit {0}
+IsDue last (Read name attr) = Unit {0}
+IsDue last (Ask_alive held) = Unit {0}
+IsDue last (Close held) = Unit {0}
+
+abbrev pub AreDue : Option Made → List Made → Type 0
+AreDue last [] = Unit {0}
+AreDue last (m ∷ ms) = IsDue last m.call × AreDue (Some m) ms
+
+-- a write with its outcome
+pub record Put_out : Type 0 where
+  pub write : Write
+  pub outcome : Wrote
+
+abbrev pub put_of : (call : Call) → Answer call → List Put_out
+put_of (Put held write) answer = record { write = write; outcome = answer.answer } ∷ []
+put_of Names answer = []
+put_of (Open name control) answer = []
+put_of (Read name attr) answer = []
+put_of (Ask_alive held) answer = []
+put_of (Close held) answer = []
+
+-- the writes among calls, in their order
+abbrev pub puts_of : List Made → List Put_out
+puts_of [] = []
+puts_of (m ∷ ms) = put_of m.call m.answer ++ puts_of ms
+
+-- an entry that tells of a write
+abbrev pub write_in : Entry → List Entry
+write_in (entry.Intent number name write) = entry.Intent number name write ∷ []
+write_in (entry.Wrote number name write outcome) = entry.Wrote number name write outcome ∷ []
+write_in e = []
+
+abbrev pub writes_in : List Entry → List Entry
+writes_in [] = []
+writes_in (e ∷ es) = write_in e ++ writes_in es
+
+-- two entries for each write of the name, and no more
+abbrev pub TellsWrites : List ℕ → List Put_out → List Entry → Type 0
+TellsWrites name [] es = es ≡ []
+TellsWrites name (p ∷ ps) es = (number : ℕ) × (rest : List Entry) × (es ≡ wrote_entries number name p.write p.outcome ++ rest) × TellsWrites name ps rest
+
+-- an `unsettled` entry bears the name, and is the last
+abbrev pub IsLast : List ℕ → Entry → List Entry → Type 0
+IsLast name (entry.Unsettled other why) rest = (other ≡ name) × (rest ≡ [])
+IsLast name (entry.UnsettledAll why) rest = ⊥
+IsLast name e rest = Unit {0}
+
+abbrev pub EndsUnsettled : List ℕ → List Entry → Type 0
+EndsUnsettled name [] = Unit {0}
+EndsUnsettled name (e ∷ es) = IsLast name e es × EndsUnsettled name es
+
+-- a call that found the device of a standing gone
+abbrev pub FoundGone : Option Known → Made → Type 0
+FoundGone stands m = (known : Known) × (t : Told Probe) × (stands ≡ Some known) × (m ≡ answered (Ask_alive known.held.0) t) × (t.answer ≡ probe.Gone)
+
+-- the name has no standing, or the first call finds that its device is gone
+abbrev pub IsBoundAnew : Option Known → List Made → Type 0
+IsBoundAnew stands calls = (stands ≡ None) ⊎ ((m : Made) × (later : List Made) × (calls ≡ m ∷ later) × FoundGone stands m)
+
+abbrev pub files_of : Option Known → List ℕ
+files_of None = []
+files_of (Some known) = known.held.0 ∷ []
+
+-- One name's part of a sweep, from the standings before it to those after it: its calls are about the name, and are over with
+-- one that fails; its entries tell that failure, and no other; what is told of want of memory is of a new device; each write
+-- is due, and is told; and the standings of other names stay.
+pub record Part (name : List ℕ) (before after : List Standing) (calls : List Made) (entries : List Entry) : Type 0 where
+  pub about : AreAbout name (files_of (standing_of name before)) calls
+  pub ends : EndsAtFailure [] calls
+  pub told : failures_told entries ≡ failures calls
+  pub last : EndsUnsettled name entries
+  pub memory : Has entries (entry.Unsettled name fault.Memory) → IsBoundAnew (standing_of name before) calls
+  pub due : AreDue None calls
+  pub writes : TellsWrites name (puts_of calls) (writes_in entries)
+  pub others : (other : List ℕ) → (other ≡ name → ⊥) → standing_of other after ≡ standing_of other before
+
+-- a part for each name, in this order
+abbrev pub InParts : List (List ℕ) → List Standing → List Standing → List Made → List Entry → Type 0
+InParts [] before after calls entries = (after ≡ before) × (calls ≡ []) × (entries ≡ [])
+InParts (name ∷ names) before after calls entries =
+    (mid : List Standing) × (now later : List Made) × (first rest : List Entry)
+    × (calls ≡ now ++ later) × (entries ≡ first ++ rest) × Part name before mid now first × InParts names mid after later rest
+
+-- the names that were listed have parts, and `gone` stands for each standing of another
+abbrev pub IsListed : List (List ℕ) → List Standing → List Entry → List Standing → List (List ℕ) → Type 0
+IsListed listed ss entries left names = (names ≡ in_sweep_order listed) × (entries ≡ farewells names ss) × (left ≡ filter (λ s. lists names s.name) ss)
+
+-- the names that stand have parts, and `unsettled *` tells why
+abbrev pub IsUnlisted : Fault → List Standing → List Entry → List Standing → List (List ℕ) → Type 0
+IsUnlisted why ss entries left names = (names ≡ names_of ss) × (entries ≡ entry.UnsettledAll why ∷ []) × (left ≡ ss)
+
+-- what the answer to the listing leads to; where it has names, memory can be short for what is noted of them
+abbrev pub Begins : Listing → ℕ → ℕ → List Standing → List Entry → List Standing → List (List ℕ) → Type 0
+Begins (listing.Names listed) call count ss entries left names = IsListed listed ss entries left names ⊎ IsUnlisted fault.Memory ss entries left names
+Begins listing.Failed call count ss entries left names = IsUnlisted (fault.Call call count) ss entries left names
+Begins listing.Memory call count ss entries left names = IsUnlisted fault.Memory ss entries left names
+
+-- A sweep's calls are the listing and then the names' parts, and so are its entries.
+pub record GoesInParts {S J : Type 0} (gives : S → (call : Call) → Answer call → S → Type 0) (s : S) (w : State J) (t : S) (v : State J) : Type 0 where
+  pub listed : Told Listing
+  pub later : List Made
+  pub along : Along gives s (answered Names listed ∷ later) t
+  pub head : List Entry
+  pub rest : List Entry
+  pub entries : v.entries ≡ w.entries ++ (head ++ rest)
+  pub left : List Standing
+  pub names : List (List ℕ)
+  pub begins : Begins listed.answer listed.number listed.count w.standings head left names
+  pub parts : InParts names left v.standings later rest
+
+-- In a sweep in parts each call that failed is told with its number and the count of faults after it, and no other is; and calls
+-- are numbered on, so that both numbers rise.
+pub record TellsFaults {S J : Type 0} (gives : S → (call : Call) → Answer call → S → Type 0) (calls faults : S → ℕ) (s : S) (w : State J) (t : S) (v : State J) : Type 0 where
+  pub goes : GoesInParts gives s w t v
+  pub exact : failures_told (goes.head ++ goes.rest) ≡ failures (answered Names goes.listed ∷ goes.later)
+  pub numbered : AreNumbered (calls s) (answered Names goes.listed ∷ goes.later)
+  pub rises : calls s < 2 ^ 64 → Rises (calls s) (faults s) (failures_told (goes.head ++ goes.rest))
+
+-- where a kernel is told at the end of a sweep, one was told at its start; and where that is sound and the standings are of
+-- its devices, each name has at most one `unsettled` entry
+abbrev pub NamesOnce : {S J : Type 0} → (S → Option Kernel) → S → State J → S → State J → Type 0
+NamesOnce told s w t v = (l : Kernel) → told t ≡ Some l → (k : Kernel) × (told s ≡ Some k) × (IsKernel k → Stand k w.standings w.next → (rest : List Entry) × (v.entries ≡ w.entries ++ rest) × AllDistinct (unsettled_names rest))
