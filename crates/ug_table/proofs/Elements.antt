@@ -119,3 +119,7 @@ last_is xs y x h = elim (has_cases xs (y ∷ []) x h) [
 pub cancel : {X : Type 0} (xs ys zs : List X) → xs ++ ys ≡ xs ++ zs → ys ≡ zs
 cancel [] ys zs e = e
 cancel (x ∷ xs) ys zs e = let rest : xs ++ ys ≡ xs ++ zs = cc in cancel xs ys zs rest
+
+pub distinct_append : {X : Type 0} (xs ys : List X) → AllDistinct xs → AllDistinct ys → ((x : X) → Has xs x → Has ys x → ⊥) → AllDistinct (xs ++ ys)
+distinct_append [] ys d e apart = e
+distinct_append (x ∷ xs) ys d e apart = (λ a. elim (has_cases xs ys x a) [ inl b ↦ d.0 b | inr b ↦ apart x (inl refl) b ], distinct_append xs ys d.1 e (λ y a b. apart y (inr a) b))

@@ -133,6 +133,7 @@ judged_fair answer later present n m u name held i judged on sound q d probed ab
           let x = judged_same u.next number name m file held given.0 verdict given.1 cause a in
           inl (s, has_new u.standings (place_for name u.standings) s, x.0, x.1, x.2, x.3, x.4);
       ended = λ t other a g. elim g [ inl is ↦ let none : ⊥ = cc in none | inr none ↦ none ];
+      gone = tt;
       once = λ j a b x y. sym (judged_same u.next a name x.name file x.held given.0 x.verdict given.1 x.cause x.has).0 ∙ (judged_same u.next b name y.name file y.held given.0 y.verdict given.1 y.cause y.has).0;
       unjudged = λ j a h x.
           let same = (judged_same u.next a name x.name file x.held given.0 x.verdict given.1 x.cause x.has).2 in

@@ -1,7 +1,7 @@
 -- The sweep is fair.
 use Rattle.std.proofs.Common.{◌≡◌, ℕ, Bool, true, false, not, List, [], ◌∷◌, ◌++◌, ◌⊎◌, Some, cond, slice_get, inl, inr, refl, sym, ◌∙◌, ap, subst, append_assoc, append-nil, true≢false}
 use Rattle.std.specs.List.{filter}
-use Rattle.ug_types.specs.Elements.{Has}
+use Rattle.ug_types.specs.Elements.{Has, AllDistinct}
 use Rattle.ug_types.specs.Sweep.{in_sweep_order}
 use Rattle.ug_types.specs.declared.verdict.Held.{Held}
 use Rattle.ug_types.specs.declared.verdict.Target.{Target}
@@ -26,13 +26,14 @@ use Rattle.ug_table.specs.State.{State, Kept, kept_of, with_kept}
 use Rattle.ug_table.specs.Standings.{lists, farewells}
 use Rattle.ug_table.specs.Settle.{settling, resettling}
 use Rattle.ug_table.specs.Sweep.{settling_all, resettling_all, parted, names_of, resumed, unlisted, marked_listed, if_room, after_list, sweeping}
-use Rattle.ug_table.specs.Laws.{IsDevice, IsGone, Stand, Account, Start, Went, IsOne, IsFair}
+use Rattle.ug_table.specs.Laws.{IsDevice, IsGone, Stand, Account, Start, Went, IsOne, numbers_of, gone_of, IsFair}
 use Rattle.ug_table.specs.declared.standing.Standing.{Standing}
 use Rattle.ug_table.specs.declared.standing.Settled.{Settled}
-use Rattle.ug_table.proofs.Elements.{filter_has, has_filter, distinct_filter, distinct_one}
+use Rattle.ug_table.proofs.Elements.{filter_has, has_filter, has_map, distinct_filter, distinct_one}
 use Rattle.ug_table.proofs.Values.{file_same, file_later}
 use Rattle.ug_table.proofs.Standings.{listed_is}
 use Rattle.ug_table.proofs.Account.{Answers, Laters}
+use Rattle.ug_table.proofs.Says.{gone_has}
 use Rattle.ug_table.proofs.Joined.{FairFrom, fair_trans}
 use Rattle.ug_table.proofs.Steps.{one_itself, stand_of, fair_refl, fair_end, then_called, then_note, gone_device}
 use Rattle.ug_table.proofs.Fair.{then_settling, then_resettling}
@@ -75,6 +76,21 @@ has_farewell names (s ∷ ss) t (inl e) f =
 has_farewell names (s ∷ ss) t (inr a) f =
     let rest = has_farewell names ss t a f in
     elim (lists names s.name) as (λ (b : Bool). Has (cond b (farewells names ss) (entry.Gone s.number s.name ∷ farewells names ss)) (entry.Gone t.number t.name)) [ true ↦ rest | false ↦ inr rest ]
+
+farewell_number : (names : List (List ℕ)) (ss : List Standing) (number : ℕ) → Has (gone_of (farewells names ss)) number → Has (numbers_of ss) number
+farewell_number names ss number a =
+    let h = gone_has (farewells names ss) number a in
+    let t = farewell_has names ss (entry.Gone number h.0) h.1 in
+    let e = t.3 in
+    let same : t.0.number ≡ number = cc in
+    subst (λ (v : ℕ). Has (numbers_of ss) v) same (has_map (λ (s : Standing). s.number) ss t.0 t.1)
+
+farewell_distinct : (names : List (List ℕ)) (ss : List Standing) → AllDistinct (numbers_of ss) → AllDistinct (gone_of (farewells names ss))
+farewell_distinct names [] d = tt
+farewell_distinct names (s ∷ ss) d =
+    let rest = farewell_distinct names ss d.1 in
+    let apart : Has (gone_of (farewells names ss)) s.number → ⊥ = λ a. d.0 (farewell_number names ss s.number a) in
+    elim (lists names s.name) as (λ (b : Bool). AllDistinct (gone_of (cond b (farewells names ss) (entry.Gone s.number s.name ∷ farewells names ss)))) [ true ↦ rest | false ↦ (apart, rest) ]
 
 -- the device of each standing that isn't listed is gone
 abbrev AreGone : Kernel → List (List ℕ) → List Standing → Type 0
@@ -122,6 +138,7 @@ parted_fair answer later present m u names sound stand gone =
           let same : t.0 ≡ s = distinct_one (λ (v : Standing). v.number) ss t.0 s stand.distinct t.1 f.0 number in
           let was : true ≡ false = sym f.1 ∙ sym (ap (λ (v : Standing). lists names v.name) same) ∙ t.2 in
           true≢false was;
+      gone = farewell_distinct names ss stand.distinct;
       once = λ i a b p q. absurd (none a p.name p.held p.verdict p.cause p.has);
       unjudged = λ i a h p. none a p.name p.held p.verdict p.cause p.has;
     } in
@@ -146,7 +163,7 @@ listing_gone k m names ss next g says stand s i a d out =
 then_listed : {J : Type 0} {answer : Answers J} {later : Laters J} {present : Bool} {k m : Kernel} {w u : State J} → FairFrom answer later present k w m u → FairFrom answer later present k w m (marked_listed u)
 then_listed {J} {answer} {later} {present} {k} {m} {w} {u} h =
     let x = h.fair in
-    let fair : IsFair answer later present k w m (marked_listed u) = record { sound = x.sound; grows = x.grows; rest = x.rest; entries = x.entries; stand = x.stand; account = x.account; told = x.told; kept = x.kept; judged = x.judged; ended = x.ended; once = x.once; unjudged = x.unjudged } in
+    let fair : IsFair answer later present k w m (marked_listed u) = record { sound = x.sound; grows = x.grows; rest = x.rest; entries = x.entries; stand = x.stand; account = x.account; told = x.told; kept = x.kept; judged = x.judged; ended = x.ended; gone = x.gone; once = x.once; unjudged = x.unjudged } in
     record { stood = h.stood; fair = fair }
 
 if_room_fair : {J : Type 0} {answer : Answers J} {later : Laters J} {k m : Kernel} {w u : State J} (l : Kernel) (names : List (List ℕ)) (room : Bool) (v : State J) → AreGone m names u.standings → FairFrom answer later (not u.listed) k w m u → Runs calls m (if_room answer later names u room) v l → FairFrom answer later (not u.listed) k w l v

@@ -1,6 +1,6 @@
 -- One fair part of a sweep after another.
 use Rattle.std.proofs.Common.{◌≡◌, ℕ, Bool, true, false, List, ◌++◌, ◌⊎◌, inl, inr, Some, slice_get, refl, sym, ◌∙◌, ap, subst, append_assoc, arith}
-use Rattle.ug_types.specs.Elements.{Has}
+use Rattle.ug_types.specs.Elements.{Has, AllDistinct}
 use Rattle.ug_types.specs.declared.record.Judged.{Judged}
 use Rattle.ug_types.specs.declared.verdict.Held.{Held}
 use Rattle.ug_types.specs.declared.verdict.Target.{Target}
@@ -13,12 +13,12 @@ use Rattle.ug_kernel.proofs.Quiet.{moves_quiet}
 use Rattle.ug_audit.specs.declared.entry.Entry.{Entry}
 use Rattle.ug_audit.specs.declared.entry.Entry.TheVariants as entry
 use Rattle.ug_table.specs.State.{State}
-use Rattle.ug_table.specs.Laws.{IsDevice, IsGone, IsProbed, Stand, HasVerdict, IsOne, Stands, HasStanding, IsJudged, IsFair}
+use Rattle.ug_table.specs.Laws.{IsDevice, IsGone, IsProbed, Stand, HasVerdict, IsOne, Stands, HasStanding, IsJudged, gone_of, IsFair}
 use Rattle.ug_table.specs.declared.standing.Standing.{Standing}
-use Rattle.ug_table.proofs.Elements.{has_left, has_right, has_cases}
+use Rattle.ug_table.proofs.Elements.{has_left, has_right, has_cases, distinct_append}
 use Rattle.ug_table.proofs.Values.{IsFileOf, file_same, file_later}
 use Rattle.ug_table.proofs.Account.{Answers, Laters, account_stays, account_trans, told_before}
-use Rattle.ug_table.proofs.Says.{Says, account_says, one_held}
+use Rattle.ug_table.proofs.Says.{Says, gone_has, gone_append, account_says, one_held}
 
 -- a fair part, with the standings that it began with
 pub record FairFrom {J : Type 0} (answer : Answers J) (later : Laters J) (present : Bool) (k : Kernel) (w : State J) (l : Kernel) (v : State J) : Type 0 where
@@ -140,6 +140,20 @@ ended_by a b s name h (inl g) = elim (b.fair.told s h) [
 ]
 ended_by a b s name h (inr g) = b.fair.ended s name h g
 
+-- a number that was told gone has no verdict later, so it isn't told so again
+gone_by : {J : Type 0} {answer : Answers J} {later : Laters J} {present : Bool} {k m l : Kernel} {w u v : State J} (a : FairFrom answer later present k w m u) (b : FairFrom answer later present m u l v) (number : ℕ) → Has (gone_of a.fair.rest) number → Has (gone_of b.fair.rest) number → ⊥
+gone_by a b number x y =
+    let p = gone_has a.fair.rest number x in
+    let q = gone_has b.fair.rest number y in
+    elim ((says_of b).gone number q.0 q.1).had [
+      | inl t ↦ a.fair.ended t.0 p.0 t.1 (gone_as a.fair.rest number t.0.number p.0 p.0 (sym t.2) refl p.1)
+      | inr j ↦
+          let w = (says_of b).gone number q.0 q.1 in
+          let after = ((says_of b).judged number q.0 w.held w.verdict j.0 j.1).after in
+          let below = ((says_of a).gone number p.0 p.1).below in
+          let none : ⊥ = omega (arith, after, below) in none
+    ]
+
 pub fair_trans : {J : Type 0} {answer : Answers J} {later : Laters J} {present : Bool} {k m l : Kernel} {w u v : State J} → FairFrom answer later present k w m u → FairFrom answer later present m u l v → FairFrom answer later present k w l v
 fair_trans {J} {answer} {later} {present} {k} {m} {l} {w} {u} {v} a b =
     let es = a.fair.rest in
@@ -156,6 +170,7 @@ fair_trans {J} {answer} {later} {present} {k} {m} {l} {w} {u} {v} a b =
       kept = λ x h. kept_by u.standings v.standings es fs x b.fair.kept (a.fair.kept x h);
       judged = λ number name held verdict cause h. judged_by a b number name held verdict cause (has_cases es fs (entry.Judged number name held verdict cause) h);
       ended = λ s name h g. ended_by a b s name h (has_cases es fs (entry.Gone s.number name) g);
+      gone = subst (λ (x : List ℕ). AllDistinct x) (sym (gone_append es fs)) (distinct_append (gone_of es) (gone_of fs) a.fair.gone b.fair.gone (λ n x y. gone_by a b n x y));
       once = λ i x y p q. once_by a b i x y (judged_split l es fs x i p) (judged_split l es fs y i q);
       unjudged = λ i n h p. unjudged_by a b i n h (judged_split l es fs n i p);
     } in

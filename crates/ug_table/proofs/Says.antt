@@ -1,5 +1,5 @@
 -- What an account says of the numbers that it tells.
-use Rattle.std.proofs.Common.{◌≡◌, ℕ, ◌+◌, ◌<◌, ◌≤◌, Bool, ◌⊎◌, List, [], ◌∷◌, ◌++◌, inl, inr, refl, sym, ◌∙◌, subst, arith}
+use Rattle.std.proofs.Common.{◌≡◌, ℕ, ◌+◌, ◌<◌, ◌≤◌, Bool, ◌⊎◌, List, [], ◌∷◌, ◌++◌, inl, inr, refl, sym, ◌∙◌, ap, subst, arith}
 use Rattle.ug_types.specs.Elements.{Has, AllDistinct}
 use Rattle.ug_types.specs.declared.record.Judged.{Judged}
 use Rattle.ug_types.specs.declared.verdict.Held.{Held}
@@ -12,7 +12,7 @@ use Rattle.ug_kernel.specs.Kernel.{Kernel}
 use Rattle.ug_audit.specs.declared.entry.Entry.{Entry}
 use Rattle.ug_audit.specs.declared.entry.Entry.TheVariants as entry
 use Rattle.ug_table.specs.Bring.{write_of}
-use Rattle.ug_table.specs.Laws.{IsDevice, IsGone, IsProbed, TellsNeither, HasVerdict, wrote_entries, Account, Start, Note, Judge, Had, Had_not, Went, numbers_of}
+use Rattle.ug_table.specs.Laws.{IsDevice, IsGone, IsProbed, TellsNeither, HasVerdict, wrote_entries, Account, Start, Note, Judge, Had, Had_not, Went, numbers_of, gone_of}
 use Rattle.ug_table.specs.declared.standing.Standing.{Standing}
 use Rattle.ug_table.proofs.Elements.{has_left, only_left, last_is, distinct_one}
 use Rattle.ug_table.proofs.Account.{Answers, Laters}
@@ -21,6 +21,38 @@ use Rattle.ug_table.proofs.Account.{Answers, Laters}
 pub record Plain (es : List Entry) : Type 0 where
   pub judged : (number : ℕ) (name : List ℕ) (held : Held) (verdict : Target) (cause : Cause) → Has es (entry.Judged number name held verdict cause) → ⊥
   pub gone : (number : ℕ) (name : List ℕ) → Has es (entry.Gone number name) → ⊥
+
+-- a number that is told gone has an entry
+pub gone_has : (es : List Entry) (number : ℕ) → Has (gone_of es) number → (name : List ℕ) × Has es (entry.Gone number name)
+gone_has [] number a = absurd a
+gone_has (entry.Gone n name ∷ es) number (inl e) = (name, inl (ap (λ (v : ℕ). entry.Gone v name) e))
+gone_has (entry.Gone n name ∷ es) number (inr a) = let h = gone_has es number a in (h.0, inr h.1)
+gone_has (entry.Event n moment ∷ es) number a = let h = gone_has es number a in (h.0, inr h.1)
+gone_has (entry.Judged n name held verdict cause ∷ es) number a = let h = gone_has es number a in (h.0, inr h.1)
+gone_has (entry.Intent n name write ∷ es) number a = let h = gone_has es number a in (h.0, inr h.1)
+gone_has (entry.Wrote n name write outcome ∷ es) number a = let h = gone_has es number a in (h.0, inr h.1)
+gone_has (entry.Unsettled name why ∷ es) number a = let h = gone_has es number a in (h.0, inr h.1)
+gone_has (entry.UnsettledAll why ∷ es) number a = let h = gone_has es number a in (h.0, inr h.1)
+gone_has (entry.End n ∷ es) number a = let h = gone_has es number a in (h.0, inr h.1)
+
+pub gone_append : (es fs : List Entry) → gone_of (es ++ fs) ≡ gone_of es ++ gone_of fs
+gone_append [] fs = refl
+gone_append (entry.Gone n name ∷ es) fs = ap (λ (v : List ℕ). n ∷ v) (gone_append es fs)
+gone_append (entry.Event n moment ∷ es) fs = gone_append es fs
+gone_append (entry.Judged n name held verdict cause ∷ es) fs = gone_append es fs
+gone_append (entry.Intent n name write ∷ es) fs = gone_append es fs
+gone_append (entry.Wrote n name write outcome ∷ es) fs = gone_append es fs
+gone_append (entry.Unsettled name why ∷ es) fs = gone_append es fs
+gone_append (entry.UnsettledAll why ∷ es) fs = gone_append es fs
+gone_append (entry.End n ∷ es) fs = gone_append es fs
+
+distinct_none : (ns : List ℕ) → ((n : ℕ) → Has ns n → ⊥) → AllDistinct ns
+distinct_none [] none = tt
+distinct_none (n ∷ ns) none = absurd (none n (inl refl))
+
+-- plain entries tell none gone
+pub plain_distinct : (es : List Entry) → Plain es → AllDistinct (gone_of es)
+plain_distinct es p = distinct_none (gone_of es) (λ n a. let h = gone_has es n a in p.gone n h.0 h.1)
 
 pub plain_none : Plain []
 plain_none = record { judged = λ number name held verdict cause a. a; gone = λ number name a. a }

@@ -25,7 +25,7 @@ use Rattle.ug_table.proofs.Elements.{filter_has, has_filter, map_has, has_map, d
 use Rattle.ug_table.proofs.Devices.{stand_stays}
 use Rattle.ug_table.proofs.Standings.{same_is, is_same, names_marked, numbers_marked}
 use Rattle.ug_table.proofs.Account.{Answers, Laters}
-use Rattle.ug_table.proofs.Says.{Plain, plain_none, plain_note}
+use Rattle.ug_table.proofs.Says.{Plain, plain_none, plain_note, plain_distinct}
 use Rattle.ug_table.proofs.Joined.{FairFrom, gone_as, fair_trans}
 
 -- the standings are the same, their marks aside
@@ -78,6 +78,7 @@ plain_fair answer later present m l u rs fs sound g stand same plain account =
       kept = λ s h. inl (same.kept s h);
       judged = λ number name held verdict cause h. absurd (plain.judged number name held verdict cause h);
       ended = λ s name h a. plain.gone s.number name a;
+      gone = plain_distinct fs plain;
       once = λ i a b p q. absurd (plain.judged a p.name p.held p.verdict p.cause p.has);
       unjudged = λ i a h p. plain.judged a p.name p.held p.verdict p.cause p.has;
     } in
@@ -143,6 +144,7 @@ went_fair answer later present m u x rs sound stand has less gone =
       ];
       judged = λ number name held verdict cause h. absurd (none number name held verdict cause h);
       ended = λ s name h a. elim a [ inl is ↦ less.apart s h (let same : s.number ≡ x.number = cc in same) | inr n ↦ n ];
+      gone = (λ n. n, tt);
       once = λ i a b p q. absurd (none a p.name p.held p.verdict p.cause p.has);
       unjudged = λ i a h p. none a p.name p.held p.verdict p.cause p.has;
     } in

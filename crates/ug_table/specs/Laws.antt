@@ -131,9 +131,15 @@ pub record IsJudged (k : Kernel) (entries : List Entry) (number i : ℕ) : Type 
   pub has : Has entries (entry.Judged number name held verdict cause)
   pub file : slice_get k.held held.0 ≡ Some (record { device = i; control = Authorized })
 
--- From the state w over the kernel k to the state v over the kernel l. A standing from before and a verdict that was told since
--- stand at the end, or their number is told gone; and no standing has a number that is told gone. No device is judged twice, and
--- none that had a standing before.
+-- the numbers that are told gone
+abbrev pub gone_of : List Entry → List ℕ
+gone_of [] = []
+gone_of (entry.Gone number name ∷ entries) = number ∷ gone_of entries
+gone_of (e ∷ entries) = gone_of entries
+
+-- From the state w over the kernel k to the state v over the kernel l. Each standing from before and each verdict that was told
+-- since stands at the end, or its number is told gone. No standing has a number that is told gone, and none is told so twice. No
+-- device is judged twice, and none that had a standing before.
 pub record IsFair {J : Type 0} (answer : J → Judged → Bool → Bool → Bool → Target × Cause) (later : J → Judged → Bool → Bool → Bool → J) (present : Bool) (k : Kernel) (w : State J) (l : Kernel) (v : State J) : Type 0 where
   pub sound : IsKernel l
   pub grows : Grows k l
@@ -145,6 +151,7 @@ pub record IsFair {J : Type 0} (answer : J → Judged → Bool → Bool → Bool
   pub kept : (b : Standing) → Has w.standings b → IsOne v.standings b ⊎ Has rest (entry.Gone b.number b.name)
   pub judged : (number : ℕ) (name : List ℕ) (held : Held) (verdict : Target) (cause : Cause) → Has rest (entry.Judged number name held verdict cause) → Stands v.standings number name held verdict cause ⊎ Has rest (entry.Gone number name)
   pub ended : (s : Standing) (name : List ℕ) → Has v.standings s → Has rest (entry.Gone s.number name) → ⊥
+  pub gone : AllDistinct (gone_of rest)
   pub once : (i a b : ℕ) → IsJudged l rest a i → IsJudged l rest b i → a ≡ b
   pub unjudged : (i a : ℕ) → HasStanding l w.standings i → IsJudged l rest a i → ⊥
 
