@@ -1,13 +1,17 @@
 -- From the failures that a sweep tells to those of an event.
-use Rattle.std.proofs.Common.{◌≡◌, ℕ, List, [], ◌∷◌, ◌++◌, refl, sym, ◌∙◌, ap, subst, append-nil, arith}
+use Rattle.std.proofs.Common.{◌≡◌, ℕ, List, [], ◌∷◌, ◌++◌, inl, inr, refl, sym, ◌∙◌, ap, subst, append-nil, arith}
 use Rattle.ug_types.specs.Elements.{AllDistinct}
 use Rattle.ug_types.specs.declared.verdict.Moment.{Moment}
 use Rattle.ug_kernel.specs.Calls.{Call, Names, Answer}
+use Rattle.ug_kernel.specs.Kernel.{Kernel}
 use Rattle.ug_itree.specs.Along.{Made, answered, Failure, failures, AreNumbered, Rises}
 use Rattle.ug_audit.specs.declared.entry.Entry.{Entry}
 use Rattle.ug_audit.specs.declared.entry.Entry.TheVariants as entry
+use Rattle.ug_audit.specs.declared.entry.Fault.TheVariants as fault
 use Rattle.ug_table.specs.State.{State}
-use Rattle.ug_table.specs.Parts.{failures_told, unsettled_names, TellsFaults}
+use Rattle.ug_table.specs.Parts.{failures_told, unsettled_names, TellsFaults, ToldOnce}
+use Rattle.ug_table.specs.declared.standing.Standing.{Standing}
+use Rattle.ug_table.proofs.Elements.{has_cases}
 use Rattle.ug_table.proofs.Faults.{told_more}
 use Rattle.ug_table.proofs.Once.{names_more}
 use Rattle.ug_core.specs.Event.{DaemonState, begun}
@@ -36,8 +40,18 @@ event_tells {S} begins gives calls faults moment s u d t v es e b none same firs
     }
 
 -- the first entry and the last name nothing
-pub event_names : (moment : Moment) (number : ℕ) (es rest whole : List Entry) → es ≡ (entry.Event number moment ∷ []) ++ rest → whole ≡ es ++ entry.End number ∷ [] → AllDistinct (unsettled_names rest) → AllDistinct (unsettled_names whole)
-event_names moment number es rest whole first last h =
-    subst (λ (v : List (List ℕ)). AllDistinct v)
-    (sym (ap (λ (x : List Entry). unsettled_names x) last ∙ ap (λ (x : List Entry). unsettled_names (x ++ entry.End number ∷ [])) first ∙ names_more rest (entry.End number ∷ []) ∙ append-nil (unsettled_names rest)))
-    h
+event_once : (moment : Moment) (number : ℕ) (k : Kernel) (ss : List Standing) (l : Kernel) (rest : List Entry) → ToldOnce k ss l rest → ToldOnce k ss l (entry.Event number moment ∷ rest ++ entry.End number ∷ [])
+event_once moment number k ss l rest h = record {
+  once = subst (λ (v : List (List ℕ)). AllDistinct v) (sym (names_more rest (entry.End number ∷ []) ∙ append-nil (unsettled_names rest))) h.once;
+  spared = λ i d lived stands a. elim a [
+    | inl e ↦ let none : ⊥ = cc in none
+    | inr b ↦ elim (has_cases rest (entry.End number ∷ []) (entry.Unsettled d.name fault.Memory) b) [
+      | inl x ↦ h.spared i d lived stands x
+      | inr y ↦ elim y [ inl e ↦ let none : ⊥ = cc in none | inr n ↦ n ]
+    ]
+  ];
+}
+
+pub whole_once : (moment : Moment) (number : ℕ) (k : Kernel) (ss : List Standing) (l : Kernel) (es rest whole : List Entry) → es ≡ (entry.Event number moment ∷ []) ++ rest → whole ≡ es ++ entry.End number ∷ [] → ToldOnce k ss l rest → ToldOnce k ss l whole
+whole_once moment number k ss l es rest whole first last h =
+    subst (λ (v : List Entry). ToldOnce k ss l v) (sym (last ∙ ap (λ (x : List Entry). x ++ entry.End number ∷ []) first)) (event_once moment number k ss l rest h)

@@ -1,6 +1,5 @@
 -- What an event does, in the words of devices and journal.
 use Rattle.std.specs.Prelude.{◌≡◌, ℕ, ◌+◌, [], ◌∷◌, ◌++◌, Option, Some}
-use Rattle.ug_types.specs.Elements.{AllDistinct}
 use Rattle.ug_types.specs.declared.verdict.Moment.{Moment}
 use Rattle.ug_kernel.specs.Calls.{Call, Names, Answer}
 use Rattle.ug_kernel.specs.Kernel.{Kernel, IsKernel}
@@ -8,7 +7,7 @@ use Rattle.ug_itree.specs.Along.{answered, failures, AreNumbered, Rises}
 use Rattle.ug_audit.specs.declared.entry.Entry.TheVariants as entry
 use Rattle.ug_table.specs.State.{State}
 use Rattle.ug_table.specs.Laws.{Stand, Swept}
-use Rattle.ug_table.specs.Parts.{failures_told, unsettled_names, GoesInParts}
+use Rattle.ug_table.specs.Parts.{failures_told, GoesInParts, ToldOnce}
 use Rattle.ug_core.specs.Event.{DaemonState, begun, policy_answer, policy_later}
 
 -- an event over kernels from k to l: a sweep that is fair and leaves each device settled or named, between its first entry and its last
@@ -36,6 +35,6 @@ pub record TellsEvent {S : Type 0} (begins : S → S → Type 0) (gives : S → 
   pub rises : Rises 0 (faults s) (failures_told e.sweep.entries)
 
 -- where a kernel is told after the event, one was told before it; and where that is sound and the standings are of its devices,
--- each name has at most one `unsettled` entry
-abbrev pub NamesOnceIn : {S : Type 0} → (S → Option Kernel) → S → DaemonState → S → DaemonState → Type 0
-NamesOnceIn told s d t e = (l : Kernel) → told t ≡ Some l → (k : Kernel) × (told s ≡ Some k) × (IsKernel k → Stand k d.sweep.standings d.sweep.next → AllDistinct (unsettled_names e.sweep.entries))
+-- its entries name each device at most once
+abbrev pub TellsOnceIn : {S : Type 0} → (S → Option Kernel) → S → DaemonState → S → DaemonState → Type 0
+TellsOnceIn told s d t e = (l : Kernel) → told t ≡ Some l → (k : Kernel) × (told s ≡ Some k) × (IsKernel k → Stand k d.sweep.standings d.sweep.next → ToldOnce k d.sweep.standings l e.sweep.entries)

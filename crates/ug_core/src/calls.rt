@@ -2,7 +2,7 @@
 ghost use Rattle.std.specs.Prelude.{◌≡◌, ◌≤◌, ◌<◌, ◌+◌, ◌-◌, ◌*◌, ◌^◌, [], IsTrue, length, IfOk, vec_len};
 ghost use Rattle.ug_itree.specs.Tree.{Runs};
 ghost use Rattle.ug_core.specs.Event.{daemon_of, IsStarted, moment_of, RunsEvent, handling, has_numbers, is_low};
-ghost use Rattle.ug_core.specs.Laws.{Handles, TellsEvent, NamesOnceIn};
+ghost use Rattle.ug_core.specs.Laws.{Handles, TellsEvent, TellsOnceIn};
 
 use crate::daemon::{Daemon, Event};
 use crate::policy::{IdRule, Policy};
@@ -57,7 +57,7 @@ impl Daemon {
         ensures runs { RunsEvent Y.begins Y.gives sysfs.old (moment_of event.now) (daemon_of self.old) sysfs.new (daemon_of self.new) }
         ensures law { Handles Y.told (moment_of event.now) sysfs.old (daemon_of self.old) sysfs.new (daemon_of self.new) }
         ensures faults { TellsEvent Y.begins Y.gives Y.faults (moment_of event.now) sysfs.old (daemon_of self.old) sysfs.new (daemon_of self.new) }
-        ensures once { NamesOnceIn Y.told sysfs.old (daemon_of self.old) sysfs.new (daemon_of self.new) }
+        ensures once { TellsOnceIn Y.told sysfs.old (daemon_of self.old) sysfs.new (daemon_of self.new) }
         ensures number { self.new.report.event ≡ self.old.next_event }
     {
         let Event::Sweep(moment) = event;
@@ -70,7 +70,7 @@ impl Daemon {
         ensures runs { RunsEvent Y.begins Y.gives sysfs.old moment (daemon_of self.old) sysfs.new (daemon_of self.new) }
         ensures law { Handles Y.told moment sysfs.old (daemon_of self.old) sysfs.new (daemon_of self.new) }
         ensures faults { TellsEvent Y.begins Y.gives Y.faults moment sysfs.old (daemon_of self.old) sysfs.new (daemon_of self.new) }
-        ensures once { NamesOnceIn Y.told sysfs.old (daemon_of self.old) sysfs.new (daemon_of self.new) }
+        ensures once { TellsOnceIn Y.told sysfs.old (daemon_of self.old) sysfs.new (daemon_of self.new) }
         ensures number { self.new.report.event ≡ self.old.next_event }
     {
         let number = self.next_event;

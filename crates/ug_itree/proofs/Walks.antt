@@ -47,3 +47,7 @@ walked gives may see P q (Room next) s r t w h = walked gives may see P q (next 
 pub along_more : {S : Type 0} (gives : S → (call : Call) → Answer call → S → Type 0) (ms ns : List Made) (s u t : S) → Along gives s ms u → Along gives u ns t → Along gives s (ms ++ ns) t
 along_more gives [] ns s u t a b = subst (λ v. Along gives v ns t) a b
 along_more gives (m ∷ ms) ns s u t a b = (a.0, a.1, along_more gives ms ns a.0 u t a.2 b)
+
+pub along_split : {S : Type 0} (gives : S → (call : Call) → Answer call → S → Type 0) (ms ns : List Made) (s t : S) → Along gives s (ms ++ ns) t → (u : S) × Along gives s ms u × Along gives u ns t
+along_split gives [] ns s t h = (s, refl, h)
+along_split gives (m ∷ ms) ns s t h = let k = along_split gives ms ns h.0 t h.2 in (k.0, (h.0, h.1, k.1), k.2)

@@ -20,3 +20,4 @@ pub mod OnePart
 pub mod Parted
 pub mod Faults
 pub mod Once
+pub mod Spared

@@ -18,7 +18,7 @@ use Rattle.ug_table.specs.State.{State, Kept, kept_of}
 use Rattle.ug_table.specs.Standings.{standing_of, lists, farewells}
 use Rattle.ug_table.specs.Settle.{settling, resettling}
 use Rattle.ug_table.specs.Sweep.{settling_all, resettling_all, parted, names_of, resumed, unlisted, marked_listed, if_room, after_list, sweeping}
-use Rattle.ug_table.specs.Parts.{failures_told, name_in, unsettled_names, AreAbout, EndsAtFailure, AreDue, puts_of, put_of, writes_in, TellsWrites, EndsUnsettled, IsBoundAnew, files_of, Part, InParts, Begins, GoesInParts}
+use Rattle.ug_table.specs.Parts.{failures_told, name_in, unsettled_names, AreAbout, EndsAtFailure, AreDue, puts_of, put_of, writes_in, TellsWrites, EndsUnsettled, IsBoundAnew, files_of, Part, InParts, AfterListing, GoesInParts}
 use Rattle.ug_table.specs.declared.standing.Standing.{Standing}
 use Rattle.ug_table.specs.declared.standing.Known.{Known}
 use Rattle.ug_table.specs.declared.standing.Settled.{Settled}
@@ -144,7 +144,7 @@ resettling_all_went {S} gives (name ∷ names) w s v t h =
     (resettling_all_went gives names k.0.1 k.1 v t k.3)
 
 -- a listing, and the parts that it leads to
-from_parts : {S J : Type 0} (gives : S → (call : Call) → Answer call → S → Type 0) (s : S) (w : State J) (a : Told Listing) (u t : S) (v : State J) (head : List Entry) (left : List Standing) (names : List (List ℕ)) → gives s Names a u → Begins a.answer a.number a.count w.standings head left names → WentParts gives names u left (w.entries ++ head) t v.standings v.entries → GoesInParts gives s w t v
+from_parts : {S J : Type 0} (gives : S → (call : Call) → Answer call → S → Type 0) (s : S) (w : State J) (a : Told Listing) (u t : S) (v : State J) (head : List Entry) (left : List Standing) (names : List (List ℕ)) → gives s Names a u → AfterListing a.answer a.number a.count w.standings head left names → WentParts gives names u left (w.entries ++ head) t v.standings v.entries → GoesInParts gives s w t v
 from_parts {S} {J} gives s w a u t v head left names g b p = record {
   listed = a;
   later = p.calls;

@@ -4,6 +4,7 @@ use Rattle.std.specs.List.{filter}
 use Rattle.ug_types.specs.Elements.{Has, AllDistinct}
 use Rattle.ug_types.specs.Names.{parent_of}
 use Rattle.ug_types.specs.Sweep.{in_sweep_order}
+use Rattle.ug_kernel.specs.declared.device.Device.{Device}
 use Rattle.ug_kernel.specs.declared.calls.Control.{Control}
 use Rattle.ug_kernel.specs.declared.calls.Control.TheVariants.{Authorized, Remove}
 use Rattle.ug_kernel.specs.declared.calls.Write.{Write}
@@ -16,7 +17,7 @@ use Rattle.ug_kernel.specs.declared.calls.Probe.TheVariants as probe
 use Rattle.ug_kernel.specs.declared.calls.Wrote.{Wrote}
 use Rattle.ug_kernel.specs.Calls.{Call, Names, Open, Read, Ask_alive, Put, Close, Told, Answer}
 use Rattle.ug_kernel.specs.Kernel.{Kernel, IsKernel}
-use Rattle.ug_kernel.specs.Called.{value_after}
+use Rattle.ug_kernel.specs.Called.{value_after, Lived}
 use Rattle.ug_itree.specs.Along.{Made, answered, Along, Failure, failure, failures, AreNumbered, Rises}
 use Rattle.ug_audit.specs.declared.entry.Entry.{Entry}
 use Rattle.ug_audit.specs.declared.entry.Entry.TheVariants as entry
@@ -25,7 +26,7 @@ use Rattle.ug_audit.specs.declared.entry.Fault.TheVariants as fault
 use Rattle.ug_table.specs.State.{State}
 use Rattle.ug_table.specs.Standings.{standing_of, lists, farewells}
 use Rattle.ug_table.specs.Sweep.{names_of}
-use Rattle.ug_table.specs.Laws.{Stand, wrote_entries}
+use Rattle.ug_table.specs.Laws.{Stand, HasStanding, wrote_entries}
 use Rattle.ug_table.specs.declared.standing.Standing.{Standing}
 use Rattle.ug_table.specs.declared.standing.Known.{Known}
 
@@ -193,10 +194,10 @@ abbrev pub IsUnlisted : Fault → List Standing → List Entry → List Standing
 IsUnlisted why ss entries left names = (names ≡ names_of ss) × (entries ≡ entry.UnsettledAll why ∷ []) × (left ≡ ss)
 
 -- what the answer to the listing leads to; where it has names, memory can be short for what is noted of them
-abbrev pub Begins : Listing → ℕ → ℕ → List Standing → List Entry → List Standing → List (List ℕ) → Type 0
-Begins (listing.Names listed) call count ss entries left names = IsListed listed ss entries left names ⊎ IsUnlisted fault.Memory ss entries left names
-Begins listing.Failed call count ss entries left names = IsUnlisted (fault.Call call count) ss entries left names
-Begins listing.Memory call count ss entries left names = IsUnlisted fault.Memory ss entries left names
+abbrev pub AfterListing : Listing → ℕ → ℕ → List Standing → List Entry → List Standing → List (List ℕ) → Type 0
+AfterListing (listing.Names listed) call count ss entries left names = IsListed listed ss entries left names ⊎ IsUnlisted fault.Memory ss entries left names
+AfterListing listing.Failed call count ss entries left names = IsUnlisted (fault.Call call count) ss entries left names
+AfterListing listing.Memory call count ss entries left names = IsUnlisted fault.Memory ss entries left names
 
 -- A sweep's calls are the listing and then the names' parts, and so are its entries.
 pub record GoesInParts {S J : Type 0} (gives : S → (call : Call) → Answer call → S → Type 0) (s : S) (w : State J) (t : S) (v : State J) : Type 0 where
@@ -208,7 +209,7 @@ pub record GoesInParts {S J : Type 0} (gives : S → (call : Call) → Answer ca
   pub entries : v.entries ≡ w.entries ++ (head ++ rest)
   pub left : List Standing
   pub names : List (List ℕ)
-  pub begins : Begins listed.answer listed.number listed.count w.standings head left names
+  pub begins : AfterListing listed.answer listed.number listed.count w.standings head left names
   pub parts : InParts names left v.standings later rest
 
 -- In a sweep in parts each call that failed is told with its number and the count of faults after it, and no other is; and calls
@@ -219,7 +220,12 @@ pub record TellsFaults {S J : Type 0} (gives : S → (call : Call) → Answer ca
   pub numbered : AreNumbered (calls s) (answered Names goes.listed ∷ goes.later)
   pub rises : calls s < 2 ^ 64 → Rises (calls s) (faults s) (failures_told (goes.head ++ goes.rest))
 
+-- each name has at most one `unsettled` entry; and none tells want of memory for a device that had a standing and lived through
+pub record ToldOnce (k : Kernel) (ss : List Standing) (l : Kernel) (entries : List Entry) : Type 0 where
+  pub once : AllDistinct (unsettled_names entries)
+  pub spared : (i : ℕ) (d : Device) → Lived k.devices l.devices i d → HasStanding k ss i → Has entries (entry.Unsettled d.name fault.Memory) → ⊥
+
 -- where a kernel is told at the end of a sweep, one was told at its start; and where that is sound and the standings are of
--- its devices, each name has at most one `unsettled` entry
-abbrev pub NamesOnce : {S J : Type 0} → (S → Option Kernel) → S → State J → S → State J → Type 0
-NamesOnce told s w t v = (l : Kernel) → told t ≡ Some l → (k : Kernel) × (told s ≡ Some k) × (IsKernel k → Stand k w.standings w.next → (rest : List Entry) × (v.entries ≡ w.entries ++ rest) × AllDistinct (unsettled_names rest))
+-- its devices, that is so of the entries since
+abbrev pub TellsOnce : {S J : Type 0} → (S → Option Kernel) → S → State J → S → State J → Type 0
+TellsOnce told s w t v = (l : Kernel) → told t ≡ Some l → (k : Kernel) × (told s ≡ Some k) × (IsKernel k → Stand k w.standings w.next → (rest : List Entry) × (v.entries ≡ w.entries ++ rest) × ToldOnce k w.standings l rest)

@@ -7,7 +7,7 @@ ghost use Rattle.ug_table.specs.State.{state_of, kept_of};
 ghost use Rattle.ug_table.specs.Standings.{lists, farewells};
 ghost use Rattle.ug_table.specs.Sweep.{settling_all, resettling_all, parted, unlisted, sweeping, names_of};
 ghost use Rattle.ug_table.specs.Laws.{Sweeps};
-ghost use Rattle.ug_table.specs.Parts.{TellsFaults, NamesOnce};
+ghost use Rattle.ug_table.specs.Parts.{TellsFaults, TellsOnce};
 
 use crate::judge::Judge;
 use crate::settle::resettle;
@@ -155,7 +155,7 @@ impl Table {
         ensures spare { 0 < out.new.spare }
         ensures room { 8 * vec_len self.old.standings + 64 ≤ out.old.room → 8 * vec_len self.new.standings + 64 ≤ out.new.room }
         ensures swept { Sweeps Y.told A.answer A.later sysfs.old (state_of self.old judge.old out.old.entries) sysfs.new (state_of self.new judge.new out.new.entries) }
-        ensures once { NamesOnce Y.told sysfs.old (state_of self.old judge.old out.old.entries) sysfs.new (state_of self.new judge.new out.new.entries) }
+        ensures once { TellsOnce Y.told sysfs.old (state_of self.old judge.old out.old.entries) sysfs.new (state_of self.new judge.new out.new.entries) }
         ensures faults { TellsFaults Y.gives Y.calls Y.faults sysfs.old (state_of self.old judge.old out.old.entries) sysfs.new (state_of self.new judge.new out.new.entries) }
     {
         self.sweep_names(alloc, sysfs, judge, out);

@@ -4,7 +4,7 @@ use Rattle.ug_audit.specs.declared.entry.Entry.TheVariants as entry
 use Rattle.ug_table.specs.State.{state_of}
 use Rattle.ug_core.specs.Event.{daemon_of}
 use Rattle.ug_core.proofs.Handled.{handled}
-use Rattle.ug_core.proofs.Failures.{event_tells, event_names}
+use Rattle.ug_core.proofs.Failures.{event_tells, whole_once}
 use Rattle.ug_core.proofs.daemon.Daemon.sweep.Goals as goal
 
 pub returns-clause-law : goal.returns-clause-law
@@ -34,7 +34,7 @@ returns-clause-once g c = λ l e.
       sym (g.met.Y.Sysfs.began c.args.sysfs.now c.begin.new.self c.begin.ensures).0 ∙ q.1,
       λ sound stand.
           let r = q.2 sound stand in
-          event_names c.args.moment c.args.self.now.next_event c.sweep.new.out.entries r.0 _
+          whole_once c.args.moment c.args.self.now.next_event q.0 c.args.self.now.table.standings.items l c.sweep.new.out.entries r.0 _
           (r.1 ∙ ap (λ (es : List Entry). es ++ r.0) (c.push.ensures.entries ∙ ap (λ (es : List Entry). es ++ entry.Event c.args.self.now.next_event c.args.moment ∷ []) c.clear.ensures.entries))
           c.push-2.ensures.entries
           r.2,

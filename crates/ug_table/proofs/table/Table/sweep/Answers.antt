@@ -1,5 +1,5 @@
 use Rattle.ug_table.proofs.Faults.{sweeping_tells}
-use Rattle.ug_table.proofs.Once.{told_once}
+use Rattle.ug_table.proofs.Spared.{told_once}
 use Rattle.ug_table.proofs.Swept.{told_swept}
 use Rattle.ug_table.proofs.table.Table.sweep.Goals as goal
 
