@@ -24,10 +24,10 @@ event_tells {S} begins gives calls faults moment s u d t v es e b none same firs
     let ms : List Made = answered Names h.goes.listed ∷ h.goes.later in
     let es : List Entry = h.goes.head ++ h.goes.rest in
     let whole : failures_told e.sweep.entries ≡ failures_told es =
-        ap (λ (x : State Policy). failures_told x.entries) last
-        ∙ ap (λ (x : List Entry). failures_told (x ++ entry.End d.event ∷ [])) h.goes.entries
-        ∙ told_more es (entry.End d.event ∷ [])
-        ∙ append-nil (failures_told es) in
+    ap (λ (x : State Policy). failures_told x.entries) last
+    ∙ ap (λ (x : List Entry). failures_told (x ++ entry.End d.event ∷ [])) h.goes.entries
+    ∙ told_more es (entry.End d.event ∷ [])
+    ∙ append-nil (failures_told es) in
     record {
       start = u;
       begun_there = b;

@@ -58,9 +58,9 @@ sweeping_tells {S} {J} gives calls faults counted answer later s w t v h =
     let a : Told Listing = g.listed in
     let ms : List Made = answered Names a ∷ g.later in
     let exact : failures_told (g.head ++ g.rest) ≡ failures ms =
-        told_more g.head g.rest
-        ∙ ap (λ (x : List Failure). x ++ failures_told g.rest) (begins_tell a.answer a.number a.count w.standings g.head g.left g.names g.begins)
-        ∙ ap (λ (x : List Failure). failure Names a ++ x) (exact_parts g.names g.left v.standings g.later g.rest g.parts) in
+    told_more g.head g.rest
+    ∙ ap (λ (x : List Failure). x ++ failures_told g.rest) (begins_tell a.answer a.number a.count w.standings g.head g.left g.names g.begins)
+    ∙ ap (λ (x : List Failure). failure Names a ++ x) (exact_parts g.names g.left v.standings g.later g.rest g.parts) in
     record {
       goes = g;
       exact = exact;

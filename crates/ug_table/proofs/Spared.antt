@@ -141,28 +141,31 @@ sweeping_once {J} answer later k w l v sound stand h =
     let u : Kernel = g.along.0 in
     let apart = begins_distinct k u a.answer a.number a.count w.standings g.head g.left g.names g.along.1.says stand.names g.begins in
     let none = begins_unnamed a.answer a.number a.count w.standings g.head g.left g.names g.begins in
-    let same = names_more g.head g.rest ∙ ap (λ (x : List (List ℕ)). x ++ unsettled_names g.rest) none in
-    (g.head ++ g.rest, g.entries, record {
-      once = subst (λ (x : List (List ℕ)). AllDistinct x) (sym same) (once_parts g.names g.left v.standings g.later g.rest g.parts apart);
-      spared = λ i d lived stands a.
-          let name : List ℕ = d.name in
-          let named = standing_name k w.standings w.next i d stand lived.entry stands in
-          let first : LiveAs k i name = record { d = d; live = lived.entry; named = refl } in
-          let whole = grows_trans k u l (called_grows _ _ k u g.along.1) (along_grows g.later u l g.along.2) in
-          let kept = whole.devices i d lived.entry.at in
-          let end : kept.0 ≡ lived.exit.0 = some_same (slice_get l.devices i) kept.0 lived.exit.0 kept.1 lived.exit.1.at in
-          let last : LiveAs l i name = record { d = lived.exit.0; live = lived.exit.1; named = ap (λ (x : Device). x.name) (sym end) ∙ kept.2.name } in
-          let mid : LiveAs u i name = lives_between k u l i name (called_grows _ _ k u g.along.1) (along_grows g.later u l g.along.2) first last in
-          let now : standing_of name w.standings ≡ Some (known_of stands.s) = subst (λ (x : List ℕ). standing_of x w.standings ≡ Some (known_of stands.s)) named (stands_itself stands.s w.standings stand.names stands.has) in
-          let file = file_later k u stands.s.held.0 i (called_grows _ _ k u g.along.1) stands.file in
-          elim (has_cases g.head g.rest (entry.Unsettled name fault.Memory) a) [
-            | inl x ↦ absurd (subst (λ (y : List (List ℕ)). Has y name) none (named_in name fault.Memory g.head x))
-            | inr x ↦
-                let has = names_of_parts g.names g.left v.standings g.later g.rest name g.parts (named_in name fault.Memory g.rest x) in
-                spared_parts g.names g.left v.standings g.later g.rest u l i name (known_of stands.s) g.parts g.along.2 apart mid last file
-                (left_stands g.listed.answer g.listed.number g.listed.count w.standings g.head g.left g.names name g.begins has ∙ now) x
-          ];
-    })
+    let same = names_more g.head g.rest ∙ ap (λ (x : List (List ℕ)). x ++ unsettled_names g.rest) none in (
+      g.head ++ g.rest,
+      g.entries,
+      record {
+        once = subst (λ (x : List (List ℕ)). AllDistinct x) (sym same) (once_parts g.names g.left v.standings g.later g.rest g.parts apart);
+        spared = λ i d lived stands a.
+            let name : List ℕ = d.name in
+            let named = standing_name k w.standings w.next i d stand lived.entry stands in
+            let first : LiveAs k i name = record { d = d; live = lived.entry; named = refl } in
+            let whole = grows_trans k u l (called_grows _ _ k u g.along.1) (along_grows g.later u l g.along.2) in
+            let kept = whole.devices i d lived.entry.at in
+            let end : kept.0 ≡ lived.exit.0 = some_same (slice_get l.devices i) kept.0 lived.exit.0 kept.1 lived.exit.1.at in
+            let last : LiveAs l i name = record { d = lived.exit.0; live = lived.exit.1; named = ap (λ (x : Device). x.name) (sym end) ∙ kept.2.name } in
+            let mid : LiveAs u i name = lives_between k u l i name (called_grows _ _ k u g.along.1) (along_grows g.later u l g.along.2) first last in
+            let now : standing_of name w.standings ≡ Some (known_of stands.s) = subst (λ (x : List ℕ). standing_of x w.standings ≡ Some (known_of stands.s)) named (stands_itself stands.s w.standings stand.names stands.has) in
+            let file = file_later k u stands.s.held.0 i (called_grows _ _ k u g.along.1) stands.file in
+            elim (has_cases g.head g.rest (entry.Unsettled name fault.Memory) a) [
+              | inl x ↦ absurd (subst (λ (y : List (List ℕ)). Has y name) none (named_in name fault.Memory g.head x))
+              | inr x ↦
+                  let has = names_of_parts g.names g.left v.standings g.later g.rest name g.parts (named_in name fault.Memory g.rest x) in
+                  spared_parts g.names g.left v.standings g.later g.rest u l i name (known_of stands.s) g.parts g.along.2 apart mid last file
+                  (left_stands g.listed.answer g.listed.number g.listed.count w.standings g.head g.left g.names name g.begins has ∙ now) x
+            ];
+      },
+    )
 
 pub told_once : {S J : Type 0} (gives : S → (call : Call) → Answer call → S → Type 0) (told : S → Option Kernel) (did : (s : S) (call : Call) (answer : Answer call) (t : S) (l : Kernel) → gives s call answer t → told t ≡ Some l → Follows call answer (told s) l) (answer : Answers J) (later : Laters J) (s : S) (w : State J) (t : S) (v : State J) → Runs gives s (sweeping answer later w) v t → TellsOnce told s w t v
 told_once gives told did answer later s w t v r = λ l e.
