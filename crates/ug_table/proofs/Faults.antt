@@ -11,7 +11,7 @@ use Rattle.ug_audit.specs.declared.entry.Entry.TheVariants as entry
 use Rattle.ug_table.specs.State.{State}
 use Rattle.ug_table.specs.Standings.{lists, farewells}
 use Rattle.ug_table.specs.Sweep.{sweeping}
-use Rattle.ug_table.specs.Parts.{failure_in, failures_told, InParts, Begins, TellsFaults}
+use Rattle.ug_table.specs.Parts.{failure_in, failures_told, InParts, AfterListing, TellsFaults}
 use Rattle.ug_table.specs.declared.standing.Standing.{Standing}
 use Rattle.ug_table.proofs.Account.{Answers, Laters}
 use Rattle.ug_table.proofs.Parted.{sweeping_goes}
@@ -45,7 +45,7 @@ farewells_tell_none : (names : List (List ℕ)) (ss : List Standing) → failure
 farewells_tell_none names [] = refl
 farewells_tell_none names (s ∷ ss) = farewell_by (lists names s.name) (entry.Gone s.number s.name) (farewells names ss) refl (farewells_tell_none names ss)
 
-begins_tell : (r : Listing) (call count : ℕ) (ss : List Standing) (head : List Entry) (left : List Standing) (names : List (List ℕ)) → Begins r call count ss head left names → failures_told head ≡ failure Names (record { answer = r; number = call; count = count })
+begins_tell : (r : Listing) (call count : ℕ) (ss : List Standing) (head : List Entry) (left : List Standing) (names : List (List ℕ)) → AfterListing r call count ss head left names → failures_told head ≡ failure Names (record { answer = r; number = call; count = count })
 begins_tell (listing.Names found) call count ss head left names (inl b) = ap failures_told b.1 ∙ farewells_tell_none names ss
 begins_tell (listing.Names found) call count ss head left names (inr b) = ap failures_told b.1
 begins_tell listing.Failed call count ss head left names b = ap failures_told b.1
@@ -58,9 +58,9 @@ sweeping_tells {S} {J} gives calls faults counted answer later s w t v h =
     let a : Told Listing = g.listed in
     let ms : List Made = answered Names a ∷ g.later in
     let exact : failures_told (g.head ++ g.rest) ≡ failures ms =
-        told_more g.head g.rest
-        ∙ ap (λ (x : List Failure). x ++ failures_told g.rest) (begins_tell a.answer a.number a.count w.standings g.head g.left g.names g.begins)
-        ∙ ap (λ (x : List Failure). failure Names a ++ x) (exact_parts g.names g.left v.standings g.later g.rest g.parts) in
+    told_more g.head g.rest
+    ∙ ap (λ (x : List Failure). x ++ failures_told g.rest) (begins_tell a.answer a.number a.count w.standings g.head g.left g.names g.begins)
+    ∙ ap (λ (x : List Failure). failure Names a ++ x) (exact_parts g.names g.left v.standings g.later g.rest g.parts) in
     record {
       goes = g;
       exact = exact;

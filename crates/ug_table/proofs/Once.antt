@@ -1,4 +1,4 @@
--- Each name is told once.
+-- The names that a sweep tells.
 use Rattle.std.proofs.Common.{◌≡◌, ℕ, Bool, true, false, cond, List, [], ◌∷◌, ◌++◌, Option, Some, ◌⊎◌, inl, inr, refl, sym, ◌∙◌, ap, subst, append_assoc}
 use Rattle.ug_types.specs.Elements.{Has, AllDistinct}
 use Rattle.ug_types.specs.Names.{sweep_cmp}
@@ -18,7 +18,7 @@ use Rattle.ug_table.specs.State.{State}
 use Rattle.ug_table.specs.Standings.{lists, farewells}
 use Rattle.ug_table.specs.Sweep.{names_of, sweeping}
 use Rattle.ug_table.specs.Laws.{Stand}
-use Rattle.ug_table.specs.Parts.{name_in, unsettled_names, EndsUnsettled, InParts, Begins, NamesOnce}
+use Rattle.ug_table.specs.Parts.{name_in, unsettled_names, EndsUnsettled, InParts, AfterListing, NamesOnce}
 use Rattle.ug_table.specs.declared.standing.Standing.{Standing}
 use Rattle.ug_table.proofs.Account.{Answers, Laters}
 use Rattle.ug_table.proofs.Elements.{has_cases}
@@ -93,13 +93,13 @@ distinct_ordered [] d = tt
 distinct_ordered (y ∷ ys) d = distinct_placed y (in_sweep_order ys) (λ a. d.0 (ordered y ys a)) (distinct_ordered ys d.1)
 
 -- no two parts are of one name
-begins_distinct : (k l : Kernel) (r : Listing) (call count : ℕ) (ss : List Standing) (head : List Entry) (left : List Standing) (names : List (List ℕ)) → says_listing r k l → AllDistinct (names_of ss) → Begins r call count ss head left names → AllDistinct names
+begins_distinct : (k l : Kernel) (r : Listing) (call count : ℕ) (ss : List Standing) (head : List Entry) (left : List Standing) (names : List (List ℕ)) → says_listing r k l → AllDistinct (names_of ss) → AfterListing r call count ss head left names → AllDistinct names
 begins_distinct k l (listing.Names found) call count ss head left names says d (inl b) = subst (λ (v : List (List ℕ)). AllDistinct v) (sym b.0) (distinct_ordered found says.1)
 begins_distinct k l (listing.Names found) call count ss head left names says d (inr b) = subst (λ (v : List (List ℕ)). AllDistinct v) (sym b.0) d
 begins_distinct k l listing.Failed call count ss head left names says d b = subst (λ (v : List (List ℕ)). AllDistinct v) (sym b.0) d
 begins_distinct k l listing.Memory call count ss head left names says d b = subst (λ (v : List (List ℕ)). AllDistinct v) (sym b.0) d
 
-begins_unnamed : (r : Listing) (call count : ℕ) (ss : List Standing) (head : List Entry) (left : List Standing) (names : List (List ℕ)) → Begins r call count ss head left names → unsettled_names head ≡ []
+begins_unnamed : (r : Listing) (call count : ℕ) (ss : List Standing) (head : List Entry) (left : List Standing) (names : List (List ℕ)) → AfterListing r call count ss head left names → unsettled_names head ≡ []
 begins_unnamed (listing.Names found) call count ss head left names (inl b) = ap unsettled_names b.1 ∙ farewells_name_none names ss
 begins_unnamed (listing.Names found) call count ss head left names (inr b) = ap unsettled_names b.1
 begins_unnamed listing.Failed call count ss head left names b = ap unsettled_names b.1

@@ -31,7 +31,7 @@ use Rattle.ug_table.specs.State.{State, Kept}
 use Rattle.ug_table.specs.Standings.{standing_of, without}
 use Rattle.ug_table.specs.Bring.{wants, write_of, after_write, to_write, to_bring, bringing}
 use Rattle.ug_table.specs.Settle.{to_keep, no_room, standing_for, known_in, judged_entry, judging, if_place, if_record, admitting, after_bind, entering, to_mark, dropped, after_known, from_standing, settling, to_keep_mark, after_again, again, resettling}
-use Rattle.ug_table.specs.Parts.{IsDue, Put_out, failures_told, EndsUnsettled, TellsWrites, writes_in, FoundGone, files_of}
+use Rattle.ug_table.specs.Parts.{IsDue, AtMostOne, PutMade, failures_told, EndsUnsettled, TellsWrites, writes_in, FoundGone, known_files}
 use Rattle.ug_table.specs.declared.standing.Standing.{Standing}
 use Rattle.ug_table.specs.declared.standing.Known.{Known}
 use Rattle.ug_table.specs.declared.standing.Settled.{Settled}
@@ -62,6 +62,7 @@ no_want name (e ∷ es) n (inr h) = no_want name es n.1 h
 pub record Tells (name : List ℕ) (F : Option Made → Type 0) (q : Seen) (es : List Entry) : Type 0 where
   pub told : failures_told es ≡ q.failures
   pub last : EndsUnsettled name es
+  pub single : AtMostOne q.puts
   pub writes : TellsWrites name q.puts (writes_in es)
   pub memory : Has es (entry.Unsettled name fault.Memory) → F q.first
 
@@ -89,7 +90,7 @@ after_write_goes name number held what entries first last files P wrote.Done cal
     let q : Seen = see (seen_of (Some first) last files [] []) (Put held what) (record { answer = wrote.Done; number = call; count = count }) in
     let es : List Entry = i ∷ o ∷ [] in
     subst (λ (v : List Entry). P q (settled.Stands, v)) (sym (behind entries i (o ∷ [])))
-    (k q settled.Stands es (record { told = refl; last = (tt, (tt, tt)); writes = (number, [], refl, refl); memory = no_want name es (tt, (tt, tt)) }))
+    (k q settled.Stands es (record { told = refl; last = (tt, (tt, tt)); single = tt; writes = (number, [], refl, refl); memory = no_want name es (tt, (tt, tt)) }))
 after_write_goes name number held what entries first last files P wrote.Gone call count k =
     let i : Entry = entry.Intent number name what in
     let o : Entry = entry.Wrote number name what wrote.Gone in
@@ -97,7 +98,7 @@ after_write_goes name number held what entries first last files P wrote.Gone cal
     let q : Seen = see (seen_of (Some first) last files [] []) (Put held what) (record { answer = wrote.Gone; number = call; count = count }) in
     let es : List Entry = i ∷ o ∷ g ∷ [] in
     subst (λ (v : List Entry). P q (settled.Nobody, v)) (sym (behind (entries ++ i ∷ []) o (g ∷ []) ∙ behind entries i (o ∷ g ∷ [])))
-    (k q settled.Nobody es (record { told = refl; last = (tt, (tt, (tt, tt))); writes = (number, [], refl, refl); memory = no_want name es (tt, (tt, (tt, tt))) }))
+    (k q settled.Nobody es (record { told = refl; last = (tt, (tt, (tt, tt))); single = tt; writes = (number, [], refl, refl); memory = no_want name es (tt, (tt, (tt, tt))) }))
 after_write_goes name number held what entries first last files P wrote.Failed call count k =
     let i : Entry = entry.Intent number name what in
     let o : Entry = entry.Wrote number name what wrote.Failed in
@@ -105,7 +106,7 @@ after_write_goes name number held what entries first last files P wrote.Failed c
     let q : Seen = see (seen_of (Some first) last files [] []) (Put held what) (record { answer = wrote.Failed; number = call; count = count }) in
     let es : List Entry = i ∷ o ∷ g ∷ [] in
     subst (λ (v : List Entry). P q (settled.Fault call count, v)) (sym (behind (entries ++ i ∷ []) o (g ∷ []) ∙ behind entries i (o ∷ g ∷ [])))
-    (k q (settled.Fault call count) es (record { told = refl; last = (tt, (tt, ((refl, refl), tt))); writes = (number, [], refl, refl); memory = no_want name es (tt, (tt, (tt, tt))) }))
+    (k q (settled.Fault call count) es (record { told = refl; last = (tt, (tt, ((refl, refl), tt))); single = tt; writes = (number, [], refl, refl); memory = no_want name es (tt, (tt, (tt, tt))) }))
 
 to_write_goes : (name : List ℕ) (known : Known) (on : Bool) (entries : List Entry) (first : Made) (t : Told Probe) (files : List ℕ) (P : Seen → Settled × List Entry → Type 0) → t.answer ≡ probe.Alive on → Has files known.held.0 → (value_after (write_of known.verdict) on ≡ on → ⊥) → Brings name entries P → Goes name (seen_of (Some first) (Some (answered (Ask_alive known.held.0) t)) files [] []) (to_write name known (write_of known.verdict) entries) P
 to_write_goes name known on entries first t files P alive has other k = (
@@ -120,7 +121,7 @@ sets_wanted target.Block on = refl
 sets_wanted target.Reject on = refl
 
 nothing_brought : (name : List ℕ) (how : Settled) (entries : List Entry) (first last : Option Made) (files : List ℕ) (P : Seen → Settled × List Entry → Type 0) → Brings name entries P → P (seen_of first last files [] []) (how, entries)
-nothing_brought name how entries first last files P k = subst (λ (v : List Entry). P (seen_of first last files [] []) (how, v)) (append-nil entries) (k (seen_of first last files [] []) how [] (record { told = refl; last = tt; writes = refl; memory = λ h. h }))
+nothing_brought name how entries first last files P k = subst (λ (v : List Entry). P (seen_of first last files [] []) (how, v)) (append-nil entries) (k (seen_of first last files [] []) how [] (record { told = refl; last = tt; single = tt; writes = refl; memory = λ h. h }))
 
 to_bring_goes : (name : List ℕ) (known : Known) (entries : List Entry) (a b : Bool) (first : Made) (t : Told Probe) (files : List ℕ) (P : Seen → Settled × List Entry → Type 0) → wants known.verdict ≡ a → t.answer ≡ probe.Alive b → Has files known.held.0 → Brings name entries P → Goes name (seen_of (Some first) (Some (answered (Ask_alive known.held.0) t)) files [] []) (to_bring name known entries a b) P
 to_bring_goes name known entries true true first t files P want alive has k = nothing_brought name settled.Stands entries (Some first) _ files P k
@@ -137,17 +138,21 @@ abbrev LeavesState : {J : Type 0} → List ℕ → (Option Made → Type 0) → 
 LeavesState name F w q r = Leaves name F w.standings w.entries q r.1.standings r.1.entries
 
 no_room_goes : {J : Type 0} (name : List ℕ) (F : Option Made → Type 0) (w : State J) (held : ℕ) (first : Made) (last : Option Made) (files : List ℕ) → Has files held → F (Some first) → Goes name (seen_of (Some first) last files [] []) (no_room w name held) (LeavesState name F w)
-no_room_goes name F w held first last files has f = ((has, inl refl, tt), λ closed. record {
-  rest = entry.Unsettled name fault.Memory ∷ [];
-  entries = refl;
-  tells = record { told = refl; last = ((refl, refl), tt); writes = refl; memory = λ h. f };
-  others = others_stand name w.standings;
-})
+no_room_goes name F w held first last files has f = (
+  (has, inl refl, tt),
+  λ closed. record {
+    rest = entry.Unsettled name fault.Memory ∷ [];
+    entries = refl;
+    tells = record { told = refl; last = ((refl, refl), tt); single = tt; writes = refl; memory = λ h. f };
+    others = others_stand name w.standings;
+  },
+)
 
 tells_judged : (name : List ℕ) (F : Option Made → Type 0) (q : Seen) (number : ℕ) (held : ℕ) (given : Target × Cause) (es : List Entry) → Tells name Never q es → Tells name F q (entry.Judged number name (record { 0 = held }) given.0 given.1 ∷ es)
 tells_judged name F q number held given es h = record {
   told = h.told;
   last = (tt, h.last);
+  single = h.single;
   writes = h.writes;
   memory = λ x. elim x [ inl e ↦ let none : ⊥ = cc in absurd none | inr y ↦ absurd (h.memory y) ];
 }
@@ -173,21 +178,24 @@ admitting_goes {J} answer later name F present w b first t files alive has f = r
   where
     judged : Judged
     judged = judged_of name b.attrs b.parent
+
     last : Option Made
     last = Some (answered (Ask_alive b.held.0) t)
+
     place_room : (room : Bool) → Goes name (seen_of (Some first) last files [] []) (if_place answer later name present w b judged room) (LeavesState name F w)
     place_room true = judging_goes (later w.judge judged (is_none (parent_of name)) present b.on) name F w b.held.0 judged b.on (answer w.judge judged (is_none (parent_of name)) present b.on) first t files alive has
     place_room false = no_room_goes name F w b.held.0 first last files has f
+
     record_room : (room : Bool) → Goes name (seen_of (Some first) last files [] []) (if_record answer later name present w b room) (LeavesState name F w)
     record_room true = place_room
     record_room false = no_room_goes name F w b.held.0 first last files has f
 
 after_bind_goes : {J : Type 0} (answer : Answers J) (later : Laters J) (name : List ℕ) (F : Option Made → Type 0) (present : Bool) (w : State J) (first : Made) (last : Option Made) (files : List ℕ) (r : Binding) → IsUnbound r → F (Some first) → Goes name (seen_of (Some first) last files (binding_failures r) []) (after_bind answer later name present w r) (LeavesState name F w)
 after_bind_goes answer later name F present w first last files (bound.Bound b) u f = absurd u
-after_bind_goes answer later name F present w first last files bound.Absent u f = record { rest = []; entries = sym (append-nil w.entries); tells = record { told = refl; last = tt; writes = refl; memory = λ h. absurd h }; others = others_stand name w.standings }
-after_bind_goes answer later name F present w first last files bound.Vanished u f = record { rest = []; entries = sym (append-nil w.entries); tells = record { told = refl; last = tt; writes = refl; memory = λ h. absurd h }; others = others_stand name w.standings }
-after_bind_goes answer later name F present w first last files (bound.Failed call count) u f = record { rest = entry.Unsettled name (fault.Call call count) ∷ []; entries = refl; tells = record { told = refl; last = ((refl, refl), tt); writes = refl; memory = λ h. f }; others = others_stand name w.standings }
-after_bind_goes answer later name F present w first last files bound.Memory u f = record { rest = entry.Unsettled name fault.Memory ∷ []; entries = refl; tells = record { told = refl; last = ((refl, refl), tt); writes = refl; memory = λ h. f }; others = others_stand name w.standings }
+after_bind_goes answer later name F present w first last files bound.Absent u f = record { rest = []; entries = sym (append-nil w.entries); tells = record { told = refl; last = tt; single = tt; writes = refl; memory = λ h. absurd h }; others = others_stand name w.standings }
+after_bind_goes answer later name F present w first last files bound.Vanished u f = record { rest = []; entries = sym (append-nil w.entries); tells = record { told = refl; last = tt; single = tt; writes = refl; memory = λ h. absurd h }; others = others_stand name w.standings }
+after_bind_goes answer later name F present w first last files (bound.Failed call count) u f = record { rest = entry.Unsettled name (fault.Call call count) ∷ []; entries = refl; tells = record { told = refl; last = ((refl, refl), tt); single = tt; writes = refl; memory = λ h. f }; others = others_stand name w.standings }
+after_bind_goes answer later name F present w first last files bound.Memory u f = record { rest = entry.Unsettled name fault.Memory ∷ []; entries = refl; tells = record { told = refl; last = ((refl, refl), tt); single = tt; writes = refl; memory = λ h. f }; others = others_stand name w.standings }
 
 entering_goes : {J : Type 0} (answer : Answers J) (later : Laters J) (name : List ℕ) (F : Option Made → Type 0) (present : Bool) (w : State J) (start last : Option Made) (files : List ℕ) → ((first : Made) → IsFirst start first → F (Some first)) → Goes name (seen_of start last files [] []) (entering answer later name present w) (LeavesState name F w)
 unfolding entering
@@ -208,6 +216,7 @@ leaves_gone name F number ss es q rs fs h = record {
   tells = record {
     told = h.tells.told;
     last = (tt, h.tells.last);
+    single = h.tells.single;
     writes = h.tells.writes;
     memory = λ x. elim x [ inl e ↦ let none : ⊥ = cc in absurd none | inr y ↦ h.tells.memory y ];
   };
@@ -215,7 +224,7 @@ leaves_gone name F number ss es q rs fs h = record {
 }
 
 tells_weaker : (name : List ℕ) (F : Option Made → Type 0) (q : Seen) (es : List Entry) → Tells name Never q es → Tells name F q es
-tells_weaker name F q es h = record { told = h.told; last = h.last; writes = h.writes; memory = λ x. absurd (h.memory x) }
+tells_weaker name F q es h = record { told = h.told; last = h.last; single = h.single; writes = h.writes; memory = λ x. absurd (h.memory x) }
 
 -- the first call leads to a binding: none stands, or its device is gone
 abbrev pub Anew : Option Known → Option Made → Type 0
@@ -240,15 +249,15 @@ after_known_goes {J} answer later name present w known probe.Gone call count =
 after_known_goes answer later name present w known probe.Failed call count = record {
   rest = entry.Unsettled name (fault.Call call count) ∷ [];
   entries = refl;
-  tells = record { told = refl; last = ((refl, refl), tt); writes = refl; memory = λ h. absurd (no_want name (entry.Unsettled name (fault.Call call count) ∷ []) (tt, tt) h) };
+  tells = record { told = refl; last = ((refl, refl), tt); single = tt; writes = refl; memory = λ h. absurd (no_want name (entry.Unsettled name (fault.Call call count) ∷ []) (tt, tt) h) };
   others = tried_stand name w.standings (settled.Fault call count);
 }
 
-from_standing_goes : {J : Type 0} (answer : Answers J) (later : Laters J) (name : List ℕ) (present : Bool) (w : State J) (stands : Option Known) → Goes name (seen_of None None (files_of stands) [] []) (from_standing answer later name present w stands) (LeavesState name (Anew stands) w)
+from_standing_goes : {J : Type 0} (answer : Answers J) (later : Laters J) (name : List ℕ) (present : Bool) (w : State J) (stands : Option Known) → Goes name (seen_of None None (known_files stands) [] []) (from_standing answer later name present w stands) (LeavesState name (Anew stands) w)
 from_standing_goes answer later name present w (Some known) = ((inl refl, inl refl, tt), λ a. after_known_goes answer later name present w known a.answer a.number a.count)
 from_standing_goes answer later name present w None = entering_goes answer later name (Anew None) present w None None [] (λ first is. inl refl)
 
-pub settling_goes : {J : Type 0} (answer : Answers J) (later : Laters J) (name : List ℕ) (present : Bool) (w : State J) → Goes name (seen_of None None (files_of (standing_of name w.standings)) [] []) (settling answer later name present w) (λ q r. Leaves name (Anew (standing_of name w.standings)) w.standings w.entries q r.1.standings r.1.entries)
+pub settling_goes : {J : Type 0} (answer : Answers J) (later : Laters J) (name : List ℕ) (present : Bool) (w : State J) → Goes name (seen_of None None (known_files (standing_of name w.standings)) [] []) (settling answer later name present w) (λ q r. Leaves name (Anew (standing_of name w.standings)) w.standings w.entries q r.1.standings r.1.entries)
 unfolding settling
 settling_goes answer later name present w = from_standing_goes answer later name present w (standing_of name w.standings)
 
@@ -267,20 +276,20 @@ after_again_goes name k known (probe.Alive on) call count =
 after_again_goes name k known probe.Gone call count = record {
   rest = entry.Gone known.number name ∷ [];
   entries = refl;
-  tells = record { told = refl; last = (tt, tt); writes = refl; memory = λ h. absurd (no_want name (entry.Gone known.number name ∷ []) (tt, tt) h) };
+  tells = record { told = refl; last = (tt, tt); single = tt; writes = refl; memory = λ h. absurd (no_want name (entry.Gone known.number name ∷ []) (tt, tt) h) };
   others = λ other n. without_stand name other k.standings n;
 }
 after_again_goes name k known probe.Failed call count = record {
   rest = entry.Unsettled name (fault.Call call count) ∷ [];
   entries = refl;
-  tells = record { told = refl; last = ((refl, refl), tt); writes = refl; memory = λ h. absurd (no_want name (entry.Unsettled name (fault.Call call count) ∷ []) (tt, tt) h) };
+  tells = record { told = refl; last = ((refl, refl), tt); single = tt; writes = refl; memory = λ h. absurd (no_want name (entry.Unsettled name (fault.Call call count) ∷ []) (tt, tt) h) };
   others = tried_stand name k.standings (settled.Fault call count);
 }
 
-again_goes : (name : List ℕ) (k : Kept) (stands : Option Known) → Goes name (seen_of None None (files_of stands) [] []) (again name k stands) (LeavesKept name (Anew stands) k)
+again_goes : (name : List ℕ) (k : Kept) (stands : Option Known) → Goes name (seen_of None None (known_files stands) [] []) (again name k stands) (LeavesKept name (Anew stands) k)
 again_goes name k (Some known) = ((inl refl, inl refl, tt), λ a. after_again_goes name k known a.answer a.number a.count)
-again_goes name k None = record { rest = []; entries = sym (append-nil k.entries); tells = record { told = refl; last = tt; writes = refl; memory = λ h. absurd h }; others = others_stand name k.standings }
+again_goes name k None = record { rest = []; entries = sym (append-nil k.entries); tells = record { told = refl; last = tt; single = tt; writes = refl; memory = λ h. absurd h }; others = others_stand name k.standings }
 
-pub resettling_goes : (name : List ℕ) (k : Kept) → Goes name (seen_of None None (files_of (standing_of name k.standings)) [] []) (resettling name k) (λ q r. Leaves name (Anew (standing_of name k.standings)) k.standings k.entries q r.1.standings r.1.entries)
+pub resettling_goes : (name : List ℕ) (k : Kept) → Goes name (seen_of None None (known_files (standing_of name k.standings)) [] []) (resettling name k) (λ q r. Leaves name (Anew (standing_of name k.standings)) k.standings k.entries q r.1.standings r.1.entries)
 unfolding resettling
 resettling_goes name k = again_goes name k (standing_of name k.standings)

@@ -18,7 +18,7 @@ use Rattle.ug_table.specs.State.{State, Kept, kept_of}
 use Rattle.ug_table.specs.Standings.{standing_of, lists, farewells}
 use Rattle.ug_table.specs.Settle.{settling, resettling}
 use Rattle.ug_table.specs.Sweep.{settling_all, resettling_all, parted, names_of, resumed, unlisted, marked_listed, if_room, after_list, sweeping}
-use Rattle.ug_table.specs.Parts.{failures_told, name_in, unsettled_names, AreAbout, EndsAtFailure, AreDue, puts_of, put_of, writes_in, TellsWrites, EndsUnsettled, IsBoundAnew, files_of, Part, InParts, Begins, GoesInParts}
+use Rattle.ug_table.specs.Parts.{failures_told, name_in, unsettled_names, AreAbout, EndsAtFailure, AreDue, AtMostOne, PutMade, puts_of, put_of, writes_in, TellsWrites, EndsUnsettled, IsBoundAnew, known_files, Part, InParts, AfterListing, GoesInParts}
 use Rattle.ug_table.specs.declared.standing.Standing.{Standing}
 use Rattle.ug_table.specs.declared.standing.Known.{Known}
 use Rattle.ug_table.specs.declared.standing.Settled.{Settled}
@@ -71,9 +71,9 @@ record WentPart {S : Type 0} (gives : S → (call : Call) → Answer call → S 
   pub entries : fs ≡ es ++ rest
   pub part : Part name ss rs calls rest
 
-went_part : {S R : Type 0} (gives : S → (call : Call) → Answer call → S → Type 0) (name : List ℕ) (ss : List Standing) (es : List Entry) (standings : R → List Standing) (entries : R → List Entry) (s : S) (r : R) (t : S) → Walked gives (May name) see (λ q v. Leaves name (Anew (standing_of name ss)) ss es q (standings v) (entries v)) (seen_of None None (files_of (standing_of name ss)) [] []) s r t → WentPart gives name s ss es t (standings r) (entries r)
+went_part : {S R : Type 0} (gives : S → (call : Call) → Answer call → S → Type 0) (name : List ℕ) (ss : List Standing) (es : List Entry) (standings : R → List Standing) (entries : R → List Entry) (s : S) (r : R) (t : S) → Walked gives (May name) see (λ q v. Leaves name (Anew (standing_of name ss)) ss es q (standings v) (entries v)) (seen_of None None (known_files (standing_of name ss)) [] []) s r t → WentPart gives name s ss es t (standings r) (entries r)
 went_part gives name ss es standings entries s r t w =
-    let files : List ℕ = files_of (standing_of name ss) in
+    let files : List ℕ = known_files (standing_of name ss) in
     let q : Seen = seen_of None None files [] [] in
     record {
       calls = w.made;
@@ -87,6 +87,7 @@ went_part gives name ss es standings entries s r t w =
         last = w.result.tells.last;
         memory = λ h. anew (standing_of name ss) files w.made (w.result.tells.memory h);
         due = are_due name q w.made w.mays;
+        single = subst (λ (v : List PutMade). AtMostOne v) (puts_seen q w.made) w.result.tells.single;
         writes = subst (λ v. TellsWrites name v (writes_in w.result.rest)) (puts_seen q w.made) w.result.tells.writes;
         others = w.result.others;
       };
@@ -120,7 +121,7 @@ settling_all_went {S} {J} gives answer later [] present w s v t h = record {
 settling_all_went {S} {J} gives answer later (name ∷ names) present w s v t h =
     let k = runs_split gives s (settling answer later name present w) (λ (p : Settled × State J). settling_all answer later names present p.1) v t h in
     let P : Seen → Settled × State J → Type 0 = λ (q : Seen) (r : Settled × State J). Leaves name (Anew (standing_of name w.standings)) w.standings w.entries q r.1.standings r.1.entries in
-    let q : Seen = seen_of None None (files_of (standing_of name w.standings)) [] [] in
+    let q : Seen = seen_of None None (known_files (standing_of name w.standings)) [] [] in
     one_more gives name names s k.1 t w.standings k.0.1.standings v.standings w.entries k.0.1.entries v.entries
     (went_part gives name w.standings w.entries (λ (r : Settled × State J). r.1.standings) (λ (r : Settled × State J). r.1.entries) s k.0 k.1
     (walked gives (May name) see P q (settling answer later name present w) s k.0 k.1 (settling_goes answer later name present w) k.2))
@@ -137,14 +138,14 @@ resettling_all_went {S} gives [] w s v t h = record {
 resettling_all_went {S} gives (name ∷ names) w s v t h =
     let k = runs_split gives s (resettling name w) (λ (p : Settled × Kept). resettling_all names p.1) v t h in
     let P : Seen → Settled × Kept → Type 0 = λ (q : Seen) (r : Settled × Kept). Leaves name (Anew (standing_of name w.standings)) w.standings w.entries q r.1.standings r.1.entries in
-    let q : Seen = seen_of None None (files_of (standing_of name w.standings)) [] [] in
+    let q : Seen = seen_of None None (known_files (standing_of name w.standings)) [] [] in
     one_more gives name names s k.1 t w.standings k.0.1.standings v.standings w.entries k.0.1.entries v.entries
     (went_part gives name w.standings w.entries (λ (r : Settled × Kept). r.1.standings) (λ (r : Settled × Kept). r.1.entries) s k.0 k.1
     (walked gives (May name) see P q (resettling name w) s k.0 k.1 (resettling_goes name w) k.2))
     (resettling_all_went gives names k.0.1 k.1 v t k.3)
 
 -- a listing, and the parts that it leads to
-from_parts : {S J : Type 0} (gives : S → (call : Call) → Answer call → S → Type 0) (s : S) (w : State J) (a : Told Listing) (u t : S) (v : State J) (head : List Entry) (left : List Standing) (names : List (List ℕ)) → gives s Names a u → Begins a.answer a.number a.count w.standings head left names → WentParts gives names u left (w.entries ++ head) t v.standings v.entries → GoesInParts gives s w t v
+from_parts : {S J : Type 0} (gives : S → (call : Call) → Answer call → S → Type 0) (s : S) (w : State J) (a : Told Listing) (u t : S) (v : State J) (head : List Entry) (left : List Standing) (names : List (List ℕ)) → gives s Names a u → AfterListing a.answer a.number a.count w.standings head left names → WentParts gives names u left (w.entries ++ head) t v.standings v.entries → GoesInParts gives s w t v
 from_parts {S} {J} gives s w a u t v head left names g b p = record {
   listed = a;
   later = p.calls;

@@ -24,7 +24,7 @@ use Rattle.ug_node.specs.declared.files.Stop.TheVariants as stop
 use Rattle.ug_node.specs.declared.identity.Bound.{Bound}
 use Rattle.ug_node.specs.declared.identity.Binding.{Binding}
 use Rattle.ug_node.specs.declared.identity.Binding.TheVariants as bound
-use Rattle.ug_table.specs.Parts.{IsAbout, IsClosing, IsDue, file_of, Put_out, put_of}
+use Rattle.ug_table.specs.Parts.{IsAbout, IsClosing, IsDue, opened_file, PutMade, put_of}
 
 -- what is seen of a part's calls: its first and its last, the name's held files, the failures and the writes
 pub record Seen : Type 0 where
@@ -32,9 +32,9 @@ pub record Seen : Type 0 where
   pub last : Option Made
   pub files : List ℕ
   pub failures : List Failure
-  pub puts : List Put_out
+  pub puts : List PutMade
 
-abbrev pub seen_of : Option Made → Option Made → List ℕ → List Failure → List Put_out → Seen
+abbrev pub seen_of : Option Made → Option Made → List ℕ → List Failure → List PutMade → Seen
 seen_of first last files failures puts = record { first = first; last = last; files = files; failures = failures; puts = puts }
 
 abbrev pub first_of : Option Made → Made → Option Made
@@ -45,7 +45,7 @@ abbrev pub see : Seen → (call : Call) → Answer call → Seen
 see q call answer = record {
   first = first_of q.first (answered call answer);
   last = Some (answered call answer);
-  files = file_of call answer ++ q.files;
+  files = opened_file call answer ++ q.files;
   failures = q.failures ++ failure call answer;
   puts = q.puts ++ put_of call answer;
 }

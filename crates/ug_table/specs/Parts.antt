@@ -4,6 +4,7 @@ use Rattle.std.specs.List.{filter}
 use Rattle.ug_types.specs.Elements.{Has, AllDistinct}
 use Rattle.ug_types.specs.Names.{parent_of}
 use Rattle.ug_types.specs.Sweep.{in_sweep_order}
+use Rattle.ug_kernel.specs.declared.device.Device.{Device}
 use Rattle.ug_kernel.specs.declared.calls.Control.{Control}
 use Rattle.ug_kernel.specs.declared.calls.Control.TheVariants.{Authorized, Remove}
 use Rattle.ug_kernel.specs.declared.calls.Write.{Write}
@@ -61,13 +62,13 @@ opened_by Authorized opened.Failed = []
 opened_by Authorized opened.Memory = []
 opened_by Remove answer = []
 
-abbrev pub file_of : (call : Call) → Answer call → List ℕ
-file_of (Open name control) answer = opened_by control answer.answer
-file_of Names answer = []
-file_of (Read name attr) answer = []
-file_of (Ask_alive held) answer = []
-file_of (Put held write) answer = []
-file_of (Close held) answer = []
+abbrev pub opened_file : (call : Call) → Answer call → List ℕ
+opened_file (Open name control) answer = opened_by control answer.answer
+opened_file Names answer = []
+opened_file (Read name attr) answer = []
+opened_file (Ask_alive held) answer = []
+opened_file (Put held write) answer = []
+opened_file (Close held) answer = []
 
 -- the call is about the name, whose held files these are: it goes to the name, or reads its parent's files, or goes to one of these
 abbrev pub IsAbout : List ℕ → List ℕ → Call → Type 0
@@ -81,7 +82,7 @@ IsAbout name files (Close held) = Has files held
 -- each of the calls is; a file that one of them opened is the name's from then on
 abbrev pub AreAbout : List ℕ → List ℕ → List Made → Type 0
 AreAbout name files [] = Unit {0}
-AreAbout name files (m ∷ ms) = IsAbout name files m.call × AreAbout name (file_of m.call m.answer ++ files) ms
+AreAbout name files (m ∷ ms) = IsAbout name files m.call × AreAbout name (opened_file m.call m.answer ++ files) ms
 
 abbrev pub IsClosing : Call → Type 0
 IsClosing (Close held) = Unit {0}
@@ -110,11 +111,11 @@ AreDue last [] = Unit {0}
 AreDue last (m ∷ ms) = IsDue last m.call × AreDue (Some m) ms
 
 -- a write with its outcome
-pub record Put_out : Type 0 where
+pub record PutMade : Type 0 where
   pub write : Write
   pub outcome : Wrote
 
-abbrev pub put_of : (call : Call) → Answer call → List Put_out
+abbrev pub put_of : (call : Call) → Answer call → List PutMade
 put_of (Put held write) answer = record { write = write; outcome = answer.answer } ∷ []
 put_of Names answer = []
 put_of (Open name control) answer = []
@@ -123,9 +124,14 @@ put_of (Ask_alive held) answer = []
 put_of (Close held) answer = []
 
 -- the writes among calls, in their order
-abbrev pub puts_of : List Made → List Put_out
+abbrev pub puts_of : List Made → List PutMade
 puts_of [] = []
 puts_of (m ∷ ms) = put_of m.call m.answer ++ puts_of ms
+
+abbrev pub AtMostOne : {X : Type 0} → List X → Type 0
+AtMostOne [] = Unit {0}
+AtMostOne (x ∷ []) = Unit {0}
+AtMostOne (x ∷ y ∷ ys) = ⊥
 
 -- an entry that tells of a write
 abbrev pub write_in : Entry → List Entry
@@ -138,7 +144,7 @@ writes_in [] = []
 writes_in (e ∷ es) = write_in e ++ writes_in es
 
 -- two entries for each write of the name, and no more
-abbrev pub TellsWrites : List ℕ → List Put_out → List Entry → Type 0
+abbrev pub TellsWrites : List ℕ → List PutMade → List Entry → Type 0
 TellsWrites name [] es = es ≡ []
 TellsWrites name (p ∷ ps) es = (number : ℕ) × (rest : List Entry) × (es ≡ wrote_entries number name p.write p.outcome ++ rest) × TellsWrites name ps rest
 
@@ -160,20 +166,21 @@ FoundGone stands m = (known : Known) × (t : Told Probe) × (stands ≡ Some kno
 abbrev pub IsBoundAnew : Option Known → List Made → Type 0
 IsBoundAnew stands calls = (stands ≡ None) ⊎ ((m : Made) × (later : List Made) × (calls ≡ m ∷ later) × FoundGone stands m)
 
-abbrev pub files_of : Option Known → List ℕ
-files_of None = []
-files_of (Some known) = known.held.0 ∷ []
+abbrev pub known_files : Option Known → List ℕ
+known_files None = []
+known_files (Some known) = known.held.0 ∷ []
 
 -- One name's part of a sweep, from the standings before it to those after it: its calls are about the name, and are over with
 -- one that fails; its entries tell that failure, and no other; what is told of want of memory is of a new device; each write
--- is due, and is told; and the standings of other names stay.
+-- is due and told, and there is one at most; and the standings of other names stay.
 pub record Part (name : List ℕ) (before after : List Standing) (calls : List Made) (entries : List Entry) : Type 0 where
-  pub about : AreAbout name (files_of (standing_of name before)) calls
+  pub about : AreAbout name (known_files (standing_of name before)) calls
   pub ends : EndsAtFailure [] calls
   pub told : failures_told entries ≡ failures calls
   pub last : EndsUnsettled name entries
   pub memory : Has entries (entry.Unsettled name fault.Memory) → IsBoundAnew (standing_of name before) calls
   pub due : AreDue None calls
+  pub single : AtMostOne (puts_of calls)
   pub writes : TellsWrites name (puts_of calls) (writes_in entries)
   pub others : (other : List ℕ) → (other ≡ name → ⊥) → standing_of other after ≡ standing_of other before
 
@@ -185,18 +192,18 @@ InParts (name ∷ names) before after calls entries =
     × (calls ≡ now ++ later) × (entries ≡ first ++ rest) × Part name before mid now first × InParts names mid after later rest
 
 -- the names that were listed have parts, and `gone` stands for each standing of another
-abbrev pub IsListed : List (List ℕ) → List Standing → List Entry → List Standing → List (List ℕ) → Type 0
-IsListed listed ss entries left names = (names ≡ in_sweep_order listed) × (entries ≡ farewells names ss) × (left ≡ filter (λ s. lists names s.name) ss)
+abbrev pub BeginsListed : List (List ℕ) → List Standing → List Entry → List Standing → List (List ℕ) → Type 0
+BeginsListed listed ss entries left names = (names ≡ in_sweep_order listed) × (entries ≡ farewells names ss) × (left ≡ filter (λ s. lists names s.name) ss)
 
 -- the names that stand have parts, and `unsettled *` tells why
-abbrev pub IsUnlisted : Fault → List Standing → List Entry → List Standing → List (List ℕ) → Type 0
-IsUnlisted why ss entries left names = (names ≡ names_of ss) × (entries ≡ entry.UnsettledAll why ∷ []) × (left ≡ ss)
+abbrev pub BeginsUnlisted : Fault → List Standing → List Entry → List Standing → List (List ℕ) → Type 0
+BeginsUnlisted why ss entries left names = (names ≡ names_of ss) × (entries ≡ entry.UnsettledAll why ∷ []) × (left ≡ ss)
 
 -- what the answer to the listing leads to; where it has names, memory can be short for what is noted of them
-abbrev pub Begins : Listing → ℕ → ℕ → List Standing → List Entry → List Standing → List (List ℕ) → Type 0
-Begins (listing.Names listed) call count ss entries left names = IsListed listed ss entries left names ⊎ IsUnlisted fault.Memory ss entries left names
-Begins listing.Failed call count ss entries left names = IsUnlisted (fault.Call call count) ss entries left names
-Begins listing.Memory call count ss entries left names = IsUnlisted fault.Memory ss entries left names
+abbrev pub AfterListing : Listing → ℕ → ℕ → List Standing → List Entry → List Standing → List (List ℕ) → Type 0
+AfterListing (listing.Names listed) call count ss entries left names = BeginsListed listed ss entries left names ⊎ BeginsUnlisted fault.Memory ss entries left names
+AfterListing listing.Failed call count ss entries left names = BeginsUnlisted (fault.Call call count) ss entries left names
+AfterListing listing.Memory call count ss entries left names = BeginsUnlisted fault.Memory ss entries left names
 
 -- A sweep's calls are the listing and then the names' parts, and so are its entries.
 pub record GoesInParts {S J : Type 0} (gives : S → (call : Call) → Answer call → S → Type 0) (s : S) (w : State J) (t : S) (v : State J) : Type 0 where
@@ -208,7 +215,7 @@ pub record GoesInParts {S J : Type 0} (gives : S → (call : Call) → Answer ca
   pub entries : v.entries ≡ w.entries ++ (head ++ rest)
   pub left : List Standing
   pub names : List (List ℕ)
-  pub begins : Begins listed.answer listed.number listed.count w.standings head left names
+  pub begins : AfterListing listed.answer listed.number listed.count w.standings head left names
   pub parts : InParts names left v.standings later rest
 
 -- In a sweep in parts each call that failed is told with its number and the count of faults after it, and no other is; and calls
