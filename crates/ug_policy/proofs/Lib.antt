@@ -1,0 +1,4 @@
+pub mod Places
+pub mod Numbers
+pub mod Stands
+pub mod Judged

@@ -1,0 +1,10 @@
+// The list of rules and its first match: usbguard-rules.conf(5).
+#![tactic(auto)]
+
+mod edits;
+mod entry;
+mod judging;
+mod list;
+
+pub use entry::{InsertFault, NoRule, RuleEntry};
+pub use list::RuleList;
