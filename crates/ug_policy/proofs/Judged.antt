@@ -15,6 +15,7 @@ use Rattle.ug_policy.specs.Rules.{ids, IsNumbered}
 use Rattle.ug_policy.specs.Matching.{matched, IsDeciding, NoneDecides, answer_by, answered, noted, judged}
 use Rattle.ug_policy.specs.Kept.{StandsFor, judgement_by, judgement_of}
 use Rattle.ug_policy.proofs.Places.{FirstAt, NonePasses, find_first, find_none, first_or_none}
+use Rattle.ug_policy.proofs.Numbers.{numbered_same}
 use Rattle.ug_policy.proofs.Stands.{stands_first, stands_none}
 
 pub judged_first : (dev : DeviceRecord) (moment : Moment) (es : List RuleEntry) (i : ℕ) (e : RuleEntry) → FirstAt (matched dev) es i e → judged dev moment es ≡ set es i (noted moment e)
@@ -26,9 +27,16 @@ pub judged_none : (dev : DeviceRecord) (moment : Moment) (es : List RuleEntry) �
 judged_none dev moment [] h = refl
 judged_none dev moment (e ∷ es) h = cond-false (matched dev e) (noted moment e ∷ es) (e ∷ judged dev moment es) h.0 ∙ ap (λ v. e ∷ v) (judged_none dev moment es h.1)
 
-pub ids_judged : (dev : DeviceRecord) (moment : Moment) (es : List RuleEntry) → ids (judged dev moment es) ≡ ids es
+ids_judged : (dev : DeviceRecord) (moment : Moment) (es : List RuleEntry) → ids (judged dev moment es) ≡ ids es
 ids_judged dev moment [] = refl
 ids_judged dev moment (e ∷ es) = elim (matched dev e) as (λ (b : Bool). ids (cond b (noted moment e ∷ es) (e ∷ judged dev moment es)) ≡ e.id ∷ ids es) [ true ↦ refl | false ↦ ap (λ v. e.id ∷ v) (ids_judged dev moment es) ]
+
+length_judged : (dev : DeviceRecord) (moment : Moment) (es : List RuleEntry) → length (judged dev moment es) ≡ length es
+length_judged dev moment [] = refl
+length_judged dev moment (e ∷ es) = elim (matched dev e) as (λ (b : Bool). length (cond b (noted moment e ∷ es) (e ∷ judged dev moment es)) ≡ suc (length es)) [ true ↦ refl | false ↦ ap suc (length_judged dev moment es) ]
+
+pub numbered_judged : (dev : DeviceRecord) (moment : Moment) (es : List RuleEntry) (next : ℕ) → IsNumbered es next → IsNumbered (judged dev moment es) next
+numbered_judged dev moment es next n = numbered_same es (judged dev moment es) next (ids_judged dev moment es) (length_judged dev moment es) n
 
 -- from the first that passes to the rule that decides, and back
 not_true : (b : Bool) → ¬ IsTrue b → b ≡ false

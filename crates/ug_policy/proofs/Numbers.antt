@@ -2,7 +2,8 @@
 use Rattle.std.proofs.Common.{◌≡◌, ℕ, zero, suc, ◌<◌, ◌≤◌, ◌+◌, ◌∷◌, ◌++◌, [], List, length, take, drop, set, get_or, map, Bool, true, false, not, cond, nat_eq, arith, refl, sym, ap, ◌∙◌, subst, inl, inr, ◌⊎◌}
 use Rattle.std.specs.List.{filter, flat_map, insert, remove}
 use Rattle.std.proofs.lemmas.Bool.{cond-true, cond-false, eqb-true, eqb-false, eq-eqb, ne_eqb}
-use Rattle.std.proofs.lemmas.List.{take-append-drop}
+use Rattle.std.proofs.lemmas.List.{length-map}
+use Rattle.std.proofs.lemmas.List.Edits.{length-insert}
 use Rattle.ug_types.specs.Elements.{Has, AllDistinct}
 use Rattle.ug_types.specs.declared.verdict.Target.{Target}
 use Rattle.ug_policy.specs.declared.entry.RuleEntry.{RuleEntry}
@@ -104,8 +105,8 @@ distinct_insert (x ∷ xs) zero y d n = (n, d)
 distinct_insert (x ∷ xs) (suc i) y d n = (λ m. elim (insert_has xs i y x m) [ inl same ↦ n (inl (sym same)) | inr h ↦ d.0 h ], distinct_insert xs i y d.1 (λ h. n (inr h)))
 
 -- the numbering stays one
-pub numbered_insert : (es : List RuleEntry) (next i : ℕ) (y : RuleEntry) → IsNumbered es next → y.id ≡ next → length (insert es i y) ≤ 65536 → IsNumbered (insert es i y) (next + 1)
-numbered_insert es next i y n same few =
+pub numbered_insert : (es : List RuleEntry) (next i : ℕ) (y : RuleEntry) → IsNumbered es next → y.id ≡ next → i ≤ length es → length es < 65536 → IsNumbered (insert es i y) (next + 1)
+numbered_insert es next i y n same within few =
     let fresh : Has (ids es) y.id → ⊥ = λ m. let low : y.id < next = n.below y.id m in omega arith in
     record {
       distinct = subst (λ v. AllDistinct v) (sym (ids_insert es i y)) (distinct_insert (ids es) i y.id n.distinct fresh);
@@ -113,7 +114,7 @@ numbered_insert es next i y n same few =
         | inl e ↦ omega arith
         | inr h ↦ let low : id < next = n.below id h in omega arith
       ];
-      few = few;
+      few = omega (arith, length-insert es i y within);
     }
 
 pub filter_has : {X : Type 0} (p : X → Bool) (xs : List X) (x : X) → Has (filter p xs) x → Has xs x
@@ -163,8 +164,11 @@ numbered_same es fs next same long n = record {
   few = omega (arith, n.few);
 }
 
-pub ids_retargeted : (id : ℕ) (target : Target) (es : List RuleEntry) → ids (retargeted id target es) ≡ ids es
+ids_retargeted : (id : ℕ) (target : Target) (es : List RuleEntry) → ids (retargeted id target es) ≡ ids es
 ids_retargeted id target [] = refl
 ids_retargeted id target (e ∷ es) =
     let same : (b : Bool) → (cond b (aimed target e) e).id ≡ e.id = λ b. elim b as (λ (c : Bool). (cond c (aimed target e) e).id ≡ e.id) [ true ↦ refl | false ↦ refl ] in
     ap (λ v. v ∷ ids (retargeted id target es)) (same (has_id id e)) ∙ ap (λ v. e.id ∷ v) (ids_retargeted id target es)
+
+pub numbered_retargeted : (id : ℕ) (target : Target) (es : List RuleEntry) (next : ℕ) → IsNumbered es next → IsNumbered (retargeted id target es) next
+numbered_retargeted id target es next n = numbered_same es (retargeted id target es) next (ids_retargeted id target es) (length-map es (λ e. with_target id target e)) n

@@ -1,5 +1,5 @@
 // Changes of a list of rules.
-ghost use Rattle.std.specs.Prelude.{◌≡◌, ◌≤◌, ◌+◌, None, IfSome, OnOk, OnErr, insert, length, position, vec_len, vec_capacity};
+ghost use Rattle.std.specs.Prelude.{◌≡◌, ◌≤◌, ◌<◌, ◌+◌, None, IfSome, OnOk, OnErr, insert, length, position, vec_len, vec_capacity};
 ghost use Rattle.ug_types.specs.Elements.{Has, AllDistinct};
 ghost use Rattle.ug_policy.specs.declared.entry.RuleEntry.{RuleEntry as Entry};
 ghost use Rattle.ug_policy.specs.Rules.{ids};
@@ -31,6 +31,17 @@ pub fn place_after(entries: &[RuleEntry], after: After) -> Option<usize>
             None => None,
         },
     }
+}
+
+/// Puts a rule at a place, for which there is room.
+pub fn put_rule(entries: &mut Vec<RuleEntry>, place: usize, entry: RuleEntry)
+    requires place { place ≤ vec_len entries.old }
+    requires room { vec_len entries.old < vec_capacity entries.old }
+    ensures entries { entries.new.items ≡ insert entries.old.items place entry }
+    ensures len { vec_len entries.new ≡ vec_len entries.old + 1 }
+    ensures capacity { vec_capacity entries.new ≡ vec_capacity entries.old }
+{
+    let _put = entries.insert(place, entry);
 }
 
 /// Takes out the rule with that id.

@@ -4,7 +4,9 @@
 mod edits;
 mod entry;
 mod judging;
+mod laws;
 mod list;
 
 pub use entry::{InsertFault, NoRule, RuleEntry};
+pub use laws::deciding_law;
 pub use list::RuleList;

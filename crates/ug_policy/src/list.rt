@@ -8,7 +8,7 @@ ghost use Rattle.ug_policy.specs.Edits.{IsThere, inserted, new_entry, removed, r
 ghost use Rattle.ug_policy.specs.Matching.{IsDeciding, NoneDecides, answered, judged, noted};
 ghost use Rattle.ug_policy.specs.Kept.{StandsFor, judgement_of};
 
-use crate::edits::{place_after, remove_rule, set_rule_target};
+use crate::edits::{place_after, put_rule, remove_rule, set_rule_target};
 use crate::entry::{InsertFault, NoRule, RuleEntry};
 use crate::judging::judge_by;
 use std::alloc::Global;
@@ -125,7 +125,7 @@ impl RuleList {
             temporary,
             history,
         };
-        let _put = self.entries.insert(place, entry);
+        put_rule(&mut self.entries, place, entry);
         self.next_id += 1;
         Ok(id)
     }
