@@ -62,6 +62,34 @@ followed_first id added [] i e d h = absurd h
 followed_first id added (f ∷ es) zero e d h = ap (λ v. v ++ flat_map (followed id added) es) (cond-true (has_id id f) (f ∷ added ∷ []) (f ∷ []) h.1) ∙ ap (λ v. f ∷ added ∷ v) (followed_none id added es (lacking_rest id f es d h.1))
 followed_first id added (f ∷ es) (suc i) e d h = ap (λ v. v ++ flat_map (followed id added) es) (cond-false (has_id id f) (f ∷ added ∷ []) (f ∷ []) h.0) ∙ ap (λ v. f ∷ v) (followed_first id added es i e d.1 h.1)
 
+-- a change at a rule that stands between others
+passed : (front back : List RuleEntry) (e : RuleEntry) → AllDistinct (ids (front ++ e ∷ back)) → FirstAt (has_id e.id) (front ++ e ∷ back) (length front) e
+passed [] back e d = (refl, eq-eqb e.id e.id refl)
+passed (f ∷ front) back e d = (ne_eqb f.id e.id (λ same. d.0 (subst (λ v. Has (ids (front ++ e ∷ back)) v) (sym same) (has_first e.id (front ++ e ∷ back) (length front) e (passed front back e d.1)))), passed front back e d.1)
+
+pub inserted_between : (front back : List RuleEntry) (e added : RuleEntry) → AllDistinct (ids (front ++ e ∷ back)) → flat_map (followed e.id added) (front ++ e ∷ back) ≡ front ++ e ∷ added ∷ back
+inserted_between front back e added d = followed_first e.id added (front ++ e ∷ back) (length front) e d (passed front back e d) ∙ put front where
+  put : (front : List RuleEntry) → insert (front ++ e ∷ back) (suc (length front)) added ≡ front ++ e ∷ added ∷ back
+  put [] = refl
+  put (f ∷ front) = ap (λ v. f ∷ v) (put front)
+
+pub removed_between : (front back : List RuleEntry) (e : RuleEntry) → AllDistinct (ids (front ++ e ∷ back)) → removed e.id (front ++ e ∷ back) ≡ front ++ back
+removed_between front back e d = removed_first e.id (front ++ e ∷ back) (length front) e d (passed front back e d) ∙ taken front where
+  taken : (front : List RuleEntry) → remove (front ++ e ∷ back) (length front) ≡ front ++ back
+  taken [] = refl
+  taken (f ∷ front) = ap (λ v. f ∷ v) (taken front)
+
+pub retargeted_between : (front back : List RuleEntry) (e : RuleEntry) (target : Target) → AllDistinct (ids (front ++ e ∷ back)) → retargeted e.id target (front ++ e ∷ back) ≡ front ++ aimed target e ∷ back
+retargeted_between front back e target d = retargeted_first e.id target (front ++ e ∷ back) (length front) e d (passed front back e d) ∙ set_there front where
+  set_there : (front : List RuleEntry) → set (front ++ e ∷ back) (length front) (aimed target e) ≡ front ++ aimed target e ∷ back
+  set_there [] = refl
+  set_there (f ∷ front) = ap (λ v. f ∷ v) (set_there front)
+
+pub standing : (es : List RuleEntry) (id : ℕ) → Has (ids es) id → (front : List RuleEntry) × (e : RuleEntry) × (back : List RuleEntry) × (es ≡ front ++ e ∷ back) × (e.id ≡ id)
+standing [] id h = absurd h
+standing (e ∷ es) id (inl same) = ([], e, es, refl, same)
+standing (e ∷ es) id (inr h) = let k = standing es id h in (e ∷ k.0, k.1, k.2, ap (λ v. e ∷ v) k.3, k.4)
+
 -- elements of lists that were made of others
 pub has_left : {X : Type 0} (xs ys : List X) (x : X) → Has xs x → Has (xs ++ ys) x
 has_left [] ys x h = absurd h

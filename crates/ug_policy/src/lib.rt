@@ -6,7 +6,9 @@ mod entry;
 mod judging;
 mod laws;
 mod list;
+#[cfg(test)]
+mod tests;
 
 pub use entry::{InsertFault, NoRule, RuleEntry};
-pub use laws::deciding_law;
+pub use laws::{deciding_law, edits_law};
 pub use list::RuleList;
