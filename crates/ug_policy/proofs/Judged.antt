@@ -1,11 +1,9 @@
 -- A list after a judgement.
-use Rattle.std.proofs.Common.{◌≡◌, ℕ, zero, suc, ◌<◌, ◌≤◌, ◌+◌, ◌∷◌, ◌++◌, [], List, length, map, set, Bool, true, false, cond, Option, Some, None, arith, refl, sym, ap, ◌∙◌, subst, inl, inr, ◌⊎◌}
-use Rattle.std.specs.Prelude.{IsTrue, find, slice_get}
+use Rattle.std.proofs.Common.{◌≡◌, ℕ, zero, suc, ◌<◌, ◌∷◌, ◌++◌, [], List, length, set, Bool, true, false, cond, Option, Some, None, arith, refl, sym, ap, ◌∙◌, subst, inl, inr, ◌⊎◌}
+use Rattle.std.specs.Prelude.{IsTrue, slice_get}
 use Rattle.std.proofs.lemmas.Bool.{cond-true, cond-false}
 use Rattle.std.proofs.lemmas.Option.{same_Some, none-some}
-use Rattle.ug_types.specs.Elements.{Has, AllDistinct}
 use Rattle.ug_types.specs.declared.record.DeviceRecord.{DeviceRecord}
-use Rattle.ug_types.specs.declared.verdict.Cause.{Cause}
 use Rattle.ug_types.specs.declared.verdict.Cause.TheVariants as cause
 use Rattle.ug_types.specs.declared.verdict.Moment.{Moment}
 use Rattle.ug_types.specs.declared.verdict.Target.{Target}
@@ -15,7 +13,7 @@ use Rattle.ug_policy.specs.Rules.{ids, IsNumbered}
 use Rattle.ug_policy.specs.Matching.{matched, IsDeciding, NoneDecides, answer_by, answered, noted, judged}
 use Rattle.ug_policy.specs.Kept.{StandsFor, judgement_by, judgement_of}
 use Rattle.ug_policy.proofs.Places.{FirstAt, NonePasses, find_first, find_none, first_or_none}
-use Rattle.ug_policy.proofs.Numbers.{numbered_same}
+use Rattle.ug_policy.proofs.Numbering.{numbered_same}
 use Rattle.ug_policy.proofs.Stands.{stands_first, stands_none}
 
 pub judged_first : (dev : DeviceRecord) (moment : Moment) (es : List RuleEntry) (i : ℕ) (e : RuleEntry) → FirstAt (matched dev) es i e → judged dev moment es ≡ set es i (noted moment e)
@@ -105,8 +103,8 @@ pub stands_judged : (dev : DeviceRecord) (moment : Moment) (es : List RuleEntry)
 stands_judged dev moment es next js n s = elim (first_or_none (matched dev) es) [
   | inl k ↦
       subst (λ (o : Option RuleEntry). StandsFor (judged dev moment es) next (js ++ judgement_by moment o ∷ [])) (sym (find_first (matched dev) es k.0 k.1 k.2))
-        (subst (λ (v : List RuleEntry). StandsFor v next (js ++ judgement_by moment (Some k.1) ∷ [])) (sym (judged_first dev moment es k.0 k.1 k.2)) (stands_first dev es next moment k.0 k.1 js n k.2 s))
+      (subst (λ (v : List RuleEntry). StandsFor v next (js ++ judgement_by moment (Some k.1) ∷ [])) (sym (judged_first dev moment es k.0 k.1 k.2)) (stands_first dev es next moment k.0 k.1 js n k.2 s))
   | inr none ↦
       subst (λ (o : Option RuleEntry). StandsFor (judged dev moment es) next (js ++ judgement_by moment o ∷ [])) (sym (find_none (matched dev) es none))
-        (subst (λ (v : List RuleEntry). StandsFor v next (js ++ judgement_by moment None ∷ [])) (sym (judged_none dev moment es none)) (stands_none es next moment js s))
+      (subst (λ (v : List RuleEntry). StandsFor v next (js ++ judgement_by moment None ∷ [])) (sym (judged_none dev moment es none)) (stands_none es next moment js s))
 ]

@@ -1,8 +1,7 @@
 -- What histories stand for, through the changes of a list.
-use Rattle.std.proofs.Common.{◌≡◌, ℕ, zero, suc, ◌<◌, ◌≤◌, ◌+◌, ◌∷◌, ◌++◌, [], List, length, map, set, Bool, true, false, cond, Option, Some, None, find, arith, refl, sym, ap, ◌∙◌, subst, inl, inr, ◌⊎◌}
+use Rattle.std.proofs.Common.{◌≡◌, ℕ, zero, suc, ◌<◌, ◌≤◌, ◌+◌, ◌∷◌, ◌++◌, [], List, set, Bool, true, false, cond, Option, Some, None, arith, refl, sym, ap, ◌∙◌, subst, inl, inr, ◌⊎◌}
 use Rattle.std.specs.List.{insert}
 use Rattle.std.specs.Prelude.{nat_le}
-use Rattle.std.proofs.lemmas.Bool.{cond-true, cond-false, eqb-true, eqb-false, eq-eqb, ne_eqb}
 use Rattle.ug_types.specs.Elements.{Has, AllDistinct}
 use Rattle.ug_types.specs.declared.record.DeviceRecord.{DeviceRecord}
 use Rattle.ug_types.specs.declared.rule.Rule as types
@@ -12,17 +11,10 @@ use Rattle.ug_cond.specs.Judgements.{Judgement, WasEvaluated, WasApplied, IsGrea
 use Rattle.ug_policy.specs.declared.entry.RuleEntry.{RuleEntry}
 use Rattle.ug_policy.specs.Rules.{ids, IsNumbered}
 use Rattle.ug_policy.specs.Edits.{has_id, new_entry, removed, aimed, retargeted}
-use Rattle.ug_policy.specs.Matching.{matched, greatest, noted, judged}
-use Rattle.ug_policy.specs.Kept.{StandsFor, judgement_by, judgement_of}
-use Rattle.ug_policy.proofs.Places.{FirstAt, NonePasses, find_first, find_none}
-use Rattle.ug_policy.proofs.Numbers.{has_left, has_right, has_cases, has_ids, insert_has, filter_has}
-
-pub stands_new : StandsFor [] 1 []
-stands_new = record {
-  evaluated = λ j id m h. absurd m;
-  applied = λ j id m h. absurd m;
-  histories = λ e m. absurd m;
-}
+use Rattle.ug_policy.specs.Matching.{matched, greatest, noted}
+use Rattle.ug_policy.specs.Kept.{StandsFor, judgement_by}
+use Rattle.ug_policy.proofs.Places.{FirstAt}
+use Rattle.ug_policy.proofs.Members.{has_left, has_right, has_cases, has_ids, insert_has, filter_has}
 
 -- a rule whose id is new has no past
 pub stands_insert : (es : List RuleEntry) (next i : ℕ) (rule : types.Rule) (temporary : Bool) (js : List Judgement) → StandsFor es next js → StandsFor (insert es i (new_entry next rule temporary)) (next + 1) js
@@ -101,35 +93,34 @@ still_applied js last id m w = (w.0, has_left js (last ∷ []) w.0 w.1, w.2, w.3
 apart_history : (js : List Judgement) (last : Judgement) (e : RuleEntry) → (Has last.evaluated e.id → ⊥) → (last.applied ≡ Some e.id → ⊥) → IsHistory js e.id e.history → IsHistory (js ++ last ∷ []) e.id e.history
 apart_history js last e not_evaluated not_applied h = (
   same_greatest (WasEvaluated js e.id) (WasEvaluated (js ++ last ∷ []) e.id) e.history.evaluated (still_evaluated js last e.id)
-    (λ m w. elim (last_cases js last w.0 w.1) [
-      | inl a ↦ (w.0, a, w.2, w.3)
-      | inr same ↦ absurd (not_evaluated (subst (λ (v : Judgement). Has v.evaluated e.id) (sym same) w.2))
-    ]) h.0,
+      (λ m w. elim (last_cases js last w.0 w.1) [
+        | inl a ↦ (w.0, a, w.2, w.3)
+        | inr same ↦ absurd (not_evaluated (subst (λ (v : Judgement). Has v.evaluated e.id) (sym same) w.2))
+      ]) h.0,
   same_greatest (WasApplied js e.id) (WasApplied (js ++ last ∷ []) e.id) e.history.applied (still_applied js last e.id)
-    (λ m w. elim (last_cases js last w.0 w.1) [
-      | inl a ↦ (w.0, a, w.2, w.3)
-      | inr same ↦ absurd (not_applied (subst (λ (v : Judgement). v.applied ≡ Some e.id) (sym same) w.2))
-    ]) h.1,
+      (λ m w. elim (last_cases js last w.0 w.1) [
+        | inl a ↦ (w.0, a, w.2, w.3)
+        | inr same ↦ absurd (not_applied (subst (λ (v : Judgement). v.applied ≡ Some e.id) (sym same) w.2))
+      ]) h.1,
 )
 
 -- a judgement by the rule
 own_history : (js : List Judgement) (moment : Moment) (e : RuleEntry) → IsHistory js e.id e.history → IsHistory (js ++ judgement_by moment (Some e) ∷ []) e.id (noted moment e).history
 own_history js moment e h =
     let last : Judgement = judgement_by moment (Some e) in
-    let there : Has (js ++ last ∷ []) last = has_right js (last ∷ []) last (inl refl) in
-    (
+    let there : Has (js ++ last ∷ []) last = has_right js (last ∷ []) last (inl refl) in (
       more_greatest (WasEvaluated js e.id) (WasEvaluated (js ++ last ∷ []) e.id) e.history.evaluated moment (still_evaluated js last e.id)
-        (λ m w. elim (last_cases js last w.0 w.1) [
-          | inl a ↦ inl (w.0, a, w.2, w.3)
-          | inr same ↦ inr (ap (λ (v : Judgement). v.moment) same ∙ w.3)
-        ])
-        (last, there, inl refl, refl) h.0,
+          (λ m w. elim (last_cases js last w.0 w.1) [
+            | inl a ↦ inl (w.0, a, w.2, w.3)
+            | inr same ↦ inr (ap (λ (v : Judgement). v.moment) same ∙ w.3)
+          ])
+          (last, there, inl refl, refl) h.0,
       more_greatest (WasApplied js e.id) (WasApplied (js ++ last ∷ []) e.id) e.history.applied moment (still_applied js last e.id)
-        (λ m w. elim (last_cases js last w.0 w.1) [
-          | inl a ↦ inl (w.0, a, w.2, w.3)
-          | inr same ↦ inr (ap (λ (v : Judgement). v.moment) same ∙ w.3)
-        ])
-        (last, there, refl, refl) h.1,
+          (λ m w. elim (last_cases js last w.0 w.1) [
+            | inl a ↦ inl (w.0, a, w.2, w.3)
+            | inr same ↦ inr (ap (λ (v : Judgement). v.moment) same ∙ w.3)
+          ])
+          (last, there, refl, refl) h.1,
     )
 
 -- a judgement that evaluates and applies nothing

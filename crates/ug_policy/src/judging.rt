@@ -17,13 +17,7 @@ fn greatest(kept: Option<Moment>, moment: Moment) -> Moment
     ensures { result ≡ matching.greatest kept moment }
 {
     match kept {
-        Some(kept) => {
-            if kept.0 <= moment.0 {
-                moment
-            } else {
-                kept
-            }
-        }
+        Some(kept) => { if kept.0 <= moment.0 { moment } else { kept } }
         None => moment,
     }
 }

@@ -91,12 +91,7 @@ impl RuleList {
 
     /// Adds a rule and gives its id. There is room for it, so that it takes no memory. An unknown id is refused before a
     /// full list is, and a refusal changes nothing.
-    pub fn insert(
-        &mut self,
-        after: After,
-        rule: Rule,
-        temporary: bool,
-    ) -> Result<u64, InsertFault>
+    pub fn insert(&mut self, after: After, rule: Rule, temporary: bool) -> Result<u64, InsertFault>
         requires spare { 0 < self.old.spare }
         requires next { self.old.next < 2 ^ 64 - 1 }
         ensures id { IfOk result (λ id. id ≡ self.old.next) }
@@ -158,12 +153,7 @@ impl RuleList {
 
     /// Judges a device by the first rule that matches it, or by the implicit target. That rule's history gets the moment
     /// where it is greater than the one that is kept. It takes no memory.
-    pub fn judge(
-        &mut self,
-        dev: &DeviceRecord,
-        moment: Moment,
-        implicit: Target,
-    ) -> (Target, Cause)
+    pub fn judge(&mut self, dev: &DeviceRecord, moment: Moment, implicit: Target) -> (Target, Cause)
         requires { All (λ e. e.rule.conds ≡ None) self.old.entries }
         ensures rule { (place : ℕ) (entry : stored.RuleEntry) → IsDeciding dev.now self.old.entries place entry → (result ≡ (entry.rule.target, Cause.Rule entry.id)) × (self.new.entries ≡ slice_set self.old.entries place (noted moment entry)) }
         ensures implicit { NoneDecides dev.now self.old.entries → (result ≡ (implicit, Cause.Implicit)) × (self.new.entries ≡ self.old.entries) }

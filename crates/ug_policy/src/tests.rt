@@ -1,4 +1,5 @@
-ghost use Rattle.std.specs.Prelude.{◌≡◌, ℕ, ◌<◌, None, All};
+ghost use Rattle.std.specs.Prelude.{◌≡◌, None, IsTrue, slice_index_or};
+ghost use Rattle.ug_policy.specs.declared.entry.RuleEntry.{RuleEntry as Entry};
 
 use crate::{InsertFault, NoRule, RuleList};
 use std::alloc::Global;
@@ -65,6 +66,15 @@ fn add(
     Ok(list.insert(after, rule, false))
 }
 
+fn has_no_conditions(list: &RuleList, i: usize) -> bool
+    ensures { IsTrue result → (d : Entry) → (slice_index_or list.now.entries i d).rule.conds ≡ None }
+{
+    match list.entry(i) {
+        Some(entry) => entry.rule.conds.is_none(),
+        None => false,
+    }
+}
+
 fn verdict(
     rt: &impl Abort,
     list: &mut RuleList,
@@ -72,9 +82,7 @@ fn verdict(
     moment: u64,
 ) -> (Target, Cause) {
     for i in 0..list.len() {
-        if let Some(entry) = list.entry(i) {
-            assert!(rt; entry.rule.conds.is_none());
-        }
+        assert!(rt; has_no_conditions(list, i));
     }
     list.judge(device, Moment(moment), Target::Reject)
 }
@@ -194,7 +202,12 @@ fn a_full_list(rt: HostRuntime) -> Result<(), Fail> {
     assert!(rt; list.len() == 65536);
     let one_more = add(&rt, &mut list, After::End, any_device(Target::Block))?;
     assert!(rt; one_more == Err(InsertFault::Full));
-    let unknown = add(&rt, &mut list, After::Rule(65537), any_device(Target::Block))?;
+    let unknown = add(
+        &rt,
+        &mut list,
+        After::Rule(65537),
+        any_device(Target::Block),
+    )?;
     assert!(rt; unknown == Err(InsertFault::NoRule));
     assert!(rt; list.remove(1) == Ok(()));
     assert!(rt; add(&rt, &mut list, After::End, any_device(Target::Block))? == Ok(65537));

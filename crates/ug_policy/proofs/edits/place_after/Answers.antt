@@ -1,12 +1,9 @@
-use Rattle.std.proofs.Common.{◌≡◌, ℕ, ◌+◌, suc, add-one, ◌∙◌, sym, subst}
+use Rattle.std.proofs.Common.{◌≡◌, ◌+◌, add-one, ◌∙◌, sym, subst}
 use Rattle.std.specs.List.{insert}
-use Rattle.ug_types.specs.Elements.{Has}
 use Rattle.ug_types.specs.declared.rule.After.{After}
-use Rattle.ug_policy.specs.declared.entry.RuleEntry.{RuleEntry}
-use Rattle.ug_policy.specs.Rules.{ids}
 use Rattle.ug_policy.specs.Edits.{IsThere, has_id, inserted}
 use Rattle.ug_policy.proofs.Places.{first_some, none_passes}
-use Rattle.ug_policy.proofs.Numbers.{followed_first, has_first, lacks}
+use Rattle.ug_policy.proofs.Changes.{followed_first, has_first, lacks}
 use Rattle.ug_policy.proofs.edits.place_after.Goals as goal
 
 pub returns-in-Some-clause-place : goal.returns-in-Some-clause-place
@@ -16,7 +13,7 @@ returns-in-Some-clause-place c = λ added.
     let place = c.in-Some.place in
     let first = first_some (has_id id) es place (sym c.place_of.ensures ∙ c.in-Some.is) in
     subst (λ (a : After). inserted a added es ≡ insert es (place + 1) added) (sym c.in-Rule.is)
-      (rw add-one (followed_first id added es place first.0 c.requires first.1))
+    (rw add-one (followed_first id added es place first.0 c.requires first.1))
 
 pub returns-in-Some-clause-there : goal.returns-in-Some-clause-there
 returns-in-Some-clause-there c =

@@ -1,8 +1,7 @@
-use Rattle.std.proofs.Common.{◌≡◌, ◌∙◌, sym, subst, Option, Some, ℕ, ap}
-use Rattle.std.specs.List.{position}
+use Rattle.std.proofs.Common.{◌∙◌, sym}
 use Rattle.ug_policy.specs.Edits.{has_id}
 use Rattle.ug_policy.proofs.Places.{first_some, none_passes}
-use Rattle.ug_policy.proofs.Numbers.{removed_first, removed_none, has_first, lacks}
+use Rattle.ug_policy.proofs.Changes.{removed_first, removed_none, has_first, lacks}
 use Rattle.ug_policy.proofs.edits.remove_rule.Goals as goal
 
 pub returns-in-Some-clause-entries : goal.returns-in-Some-clause-entries

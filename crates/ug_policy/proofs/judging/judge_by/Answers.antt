@@ -1,6 +1,5 @@
-use Rattle.std.proofs.Common.{◌≡◌, ◌∙◌, sym, ap}
-use Rattle.ug_types.specs.declared.verdict.Moment.{Moment}
-use Rattle.ug_policy.specs.Matching.{matched, noted}
+use Rattle.std.proofs.Common.{◌∙◌, sym}
+use Rattle.ug_policy.specs.Matching.{matched}
 use Rattle.ug_policy.proofs.Places.{first_at, none_passes}
 use Rattle.ug_policy.proofs.Judged.{answered_first, answered_none, judged_first, judged_none}
 use Rattle.ug_policy.proofs.judging.judge_by.Goals as goal

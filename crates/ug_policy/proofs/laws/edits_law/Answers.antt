@@ -1,4 +1,4 @@
-use Rattle.ug_policy.proofs.Numbers.{inserted_between, removed_between, retargeted_between, standing, lacking, removed_none, retargeted_none}
+use Rattle.ug_policy.proofs.Changes.{inserted_between, removed_between, retargeted_between, standing, lacking, removed_none, retargeted_none}
 use Rattle.ug_policy.proofs.laws.edits_law.Goals as goal
 
 pub returns : goal.returns

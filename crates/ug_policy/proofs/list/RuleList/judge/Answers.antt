@@ -1,7 +1,5 @@
 use Rattle.std.proofs.Common.{◌≡◌, ◌∙◌, ◌∷◌, ◌++◌, [], ℕ, List, length, take, drop, sym, ap, subst}
 use Rattle.std.proofs.lemmas.List.{take_at}
-use Rattle.ug_types.specs.declared.verdict.Cause.{Cause}
-use Rattle.ug_types.specs.declared.verdict.Target.{Target}
 use Rattle.ug_policy.specs.declared.entry.RuleEntry.{RuleEntry}
 use Rattle.ug_policy.specs.Rules.{Rules, IsNumbered}
 use Rattle.ug_policy.specs.Kept.{StandsFor, judgement_of}
@@ -65,4 +63,4 @@ returns-clause-history c = λ js s.
     let before : StandsFor es next js = subst (λ (v : List RuleEntry). StandsFor v next js) (sym as_seen) (subst (λ (n : ℕ). StandsFor c.args.self.now.entries n js) (sym next_seen) s) in
     let after = stands_judged dev moment es next js c.self.invariant before in
     subst (λ (v : List RuleEntry). StandsFor v next (js ++ judgement_of dev moment c.args.self.now.entries ∷ [])) (sym now)
-      (subst (λ (v : List RuleEntry). StandsFor (judged dev moment es) next (js ++ judgement_of dev moment v ∷ [])) as_seen after)
+    (subst (λ (v : List RuleEntry). StandsFor (judged dev moment es) next (js ++ judgement_of dev moment v ∷ [])) as_seen after)

@@ -5,7 +5,7 @@ use Rattle.ug_policy.specs.declared.entry.RuleEntry.{RuleEntry}
 use Rattle.ug_policy.specs.Rules.{Rules, IsNumbered}
 use Rattle.ug_policy.specs.Kept.{StandsFor}
 use Rattle.ug_policy.proofs.Lists.{same_rules}
-use Rattle.ug_policy.proofs.Numbers.{numbered_removed}
+use Rattle.ug_policy.proofs.Numbering.{numbered_removed}
 use Rattle.ug_policy.proofs.Stands.{stands_removed}
 use Rattle.ug_policy.proofs.list.RuleList.remove.Goals as goal
 
@@ -14,8 +14,8 @@ invariant_of-self c = subst (λ (v : List RuleEntry). IsNumbered v c.self.inside
 
 pub returns-clause-err : goal.returns-clause-err
 returns-clause-err c = on_err_weaker c.remove_rule.result
-      (λ same. same_rules _ _ (ap (λ (v : Vec RuleEntry). v.items) same ∙ ap (λ (w : Rules). w.entries) c.self.view_is) (ap (λ (w : Rules). w.next) c.self.view_is) (ap (λ (v : Vec RuleEntry). v.cap - v.len) same ∙ ap (λ (w : Rules). w.spare) c.self.view_is))
-      c.remove_rule.ensures.same
+    (λ same. same_rules _ _ (ap (λ (v : Vec RuleEntry). v.items) same ∙ ap (λ (w : Rules). w.entries) c.self.view_is) (ap (λ (w : Rules). w.next) c.self.view_is) (ap (λ (v : Vec RuleEntry). v.cap - v.len) same ∙ ap (λ (w : Rules). w.spare) c.self.view_is))
+    c.remove_rule.ensures.same
 
 pub returns-clause-spare : goal.returns-clause-spare
 returns-clause-spare c =

@@ -5,7 +5,7 @@ use Rattle.ug_policy.specs.declared.entry.RuleEntry.{RuleEntry}
 use Rattle.ug_policy.specs.Rules.{Rules, IsNumbered}
 use Rattle.ug_policy.specs.Kept.{StandsFor}
 use Rattle.ug_policy.specs.Edits.{retargeted}
-use Rattle.ug_policy.proofs.Numbers.{numbered_retargeted}
+use Rattle.ug_policy.proofs.Numbering.{numbered_retargeted}
 use Rattle.ug_policy.proofs.Lists.{same_rules}
 use Rattle.ug_policy.proofs.Stands.{stands_retargeted}
 use Rattle.ug_policy.proofs.list.RuleList.set_target.Goals as goal
@@ -26,8 +26,8 @@ returns-clause-err c =
     let ys = c.set_rule_target.new.entries in
     let shown : take v.len (ys ++ drop (length ys) es) ≡ ys = take_at ys (drop (length ys) es) v.len (c.set_rule_target.ensures.len ∙ c.deref_mut.ensures.len) in
     on_err_weaker c.set_rule_target.result
-      (λ same. same_rules _ _ (shown ∙ (same ∙ (c.deref_mut.ensures.value ∙ ap (λ (w : Rules). w.entries) c.self.view_is))) (ap (λ (w : Rules). w.next) c.self.view_is) (ap (λ (w : Rules). w.spare) c.self.view_is))
-      c.set_rule_target.ensures.same
+    (λ same. same_rules _ _ (shown ∙ (same ∙ (c.deref_mut.ensures.value ∙ ap (λ (w : Rules). w.entries) c.self.view_is))) (ap (λ (w : Rules). w.next) c.self.view_is) (ap (λ (w : Rules). w.spare) c.self.view_is))
+    c.set_rule_target.ensures.same
 
 pub returns-clause-history : goal.returns-clause-history
 returns-clause-history c = λ js s.
