@@ -1,7 +1,6 @@
 use Rattle.std.proofs.Common.{◌≡◌, ◌<◌, ◌≤◌, ◌+◌, ℕ, List, length, sym, ap, subst, refl, arith}
 use Rattle.ug_policy.specs.declared.entry.RuleEntry.{RuleEntry}
 use Rattle.ug_policy.specs.Rules.{Rules, IsNumbered}
-use Rattle.ug_policy.specs.Edits.{new_entry}
 use Rattle.ug_policy.specs.Kept.{StandsFor}
 use Rattle.ug_policy.proofs.Numbering.{numbered_insert}
 use Rattle.ug_policy.proofs.Stands.{stands_insert}
@@ -15,7 +14,7 @@ invariant_of-self c =
     let within : c.in-Some.place ≤ length es = omega (arith, c.in-Some.ensures.within) in
     let few : length es < 65536 = omega (arith, c.self.invariant.few) in
     subst (λ (v : List RuleEntry). IsNumbered v (next + 1)) (sym c.put_rule.ensures.entries)
-    (numbered_insert es next c.in-Some.place (new_entry next c.args.rule c.args.temporary) c.self.invariant refl within few)
+    (numbered_insert es next c.in-Some.place _ c.self.invariant refl within few)
 
 pub returns-clause-history : goal.returns-clause-history
 returns-clause-history c = λ js s.
