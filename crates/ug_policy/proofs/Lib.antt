@@ -1,0 +1,7 @@
+pub mod Places
+pub mod Changes
+pub mod Members
+pub mod Numbering
+pub mod Stands
+pub mod Judged
+pub mod Lists

@@ -1,0 +1,4 @@
+pub mod Rules
+pub mod Edits
+pub mod Matching
+pub mod Kept

@@ -1,0 +1,44 @@
+-- The rule that decides.
+use Rattle.std.specs.Prelude.{◌≡◌, ℕ, ◌<◌, List, [], ◌∷◌, Bool, if◌then◌else◌, nat_le, IsTrue, Option, Some, None, find, slice_get}
+use Rattle.ug_types.specs.declared.record.DeviceRecord.{DeviceRecord}
+use Rattle.ug_types.specs.declared.verdict.Cause.{Cause}
+use Rattle.ug_types.specs.declared.verdict.Cause.TheVariants as cause
+use Rattle.ug_types.specs.declared.verdict.Moment.{Moment}
+use Rattle.ug_types.specs.declared.verdict.Target.{Target}
+use Rattle.ug_match.specs.Queries.{query_matches}
+use Rattle.ug_policy.specs.declared.entry.RuleEntry.{RuleEntry}
+
+abbrev pub matched : DeviceRecord → RuleEntry → Bool
+matched dev e = query_matches e.rule.query dev
+
+-- the rule at that place matches, and none before it does
+pub record IsDeciding (dev : DeviceRecord) (entries : List RuleEntry) (place : ℕ) (entry : RuleEntry) : Type 0 where
+  pub there : slice_get entries place ≡ Some entry
+  pub matching : IsTrue (matched dev entry)
+  pub first : (k : ℕ) (e : RuleEntry) → k < place → slice_get entries k ≡ Some e → ¬ IsTrue (matched dev e)
+
+-- no rule matches
+abbrev pub NoneDecides : DeviceRecord → List RuleEntry → Type 0
+NoneDecides dev entries = (k : ℕ) (e : RuleEntry) → slice_get entries k ≡ Some e → ¬ IsTrue (matched dev e)
+
+-- the verdict of the rule that decides, if one does
+abbrev pub answer_by : Target → Option RuleEntry → Target × Cause
+answer_by implicit None = (implicit, cause.Implicit)
+answer_by implicit (Some e) = (e.rule.target, cause.Rule e.id)
+
+abbrev pub answered : DeviceRecord → Target → List RuleEntry → Target × Cause
+answered dev implicit entries = answer_by implicit (find (matched dev) entries)
+
+-- the greater of a kept moment and another
+abbrev pub greatest : Option Moment → Moment → Moment
+greatest None moment = moment
+greatest (Some kept) moment = if nat_le kept.0 moment.0 then moment else kept
+
+-- the rule was evaluated and applied at that moment
+abbrev pub noted : Moment → RuleEntry → RuleEntry
+noted moment e = record e { history = record { evaluated = Some (greatest e.history.evaluated moment); applied = Some (greatest e.history.applied moment) } }
+
+-- the rules, of which the one that decides was noted
+abbrev pub judged : DeviceRecord → Moment → List RuleEntry → List RuleEntry
+judged dev moment [] = []
+judged dev moment (e ∷ entries) = if matched dev e then noted moment e ∷ entries else e ∷ judged dev moment entries

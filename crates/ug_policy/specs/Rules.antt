@@ -1,0 +1,19 @@
+-- Rules in their order.
+use Rattle.std.specs.Prelude.{ℕ, ◌<◌, ◌≤◌, List, map, length}
+use Rattle.ug_types.specs.Elements.{Has, AllDistinct}
+use Rattle.ug_policy.specs.declared.entry.RuleEntry.{RuleEntry}
+
+-- the rules in order, the id of the next one, and the number of those for which there is room
+pub record Rules : Type 0 where
+  pub entries : List RuleEntry
+  pub next : ℕ
+  pub spare : ℕ
+
+abbrev pub ids : List RuleEntry → List ℕ
+ids entries = map (λ e. e.id) entries
+
+-- no two rules have one id, each id was given before the next one, and there are at most 65,536 rules
+pub record IsNumbered (entries : List RuleEntry) (next : ℕ) : Type 0 where
+  pub distinct : AllDistinct (ids entries)
+  pub below : (id : ℕ) → Has (ids entries) id → id < next
+  pub few : length entries ≤ 65536

@@ -1,0 +1,14 @@
+// The list of rules and its first match: usbguard-rules.conf(5).
+#![tactic(auto)]
+
+mod edits;
+mod entry;
+mod judging;
+mod laws;
+mod list;
+#[cfg(test)]
+mod tests;
+
+pub use entry::{InsertFault, NoRule, RuleEntry};
+pub use laws::{deciding_law, edits_law};
+pub use list::RuleList;

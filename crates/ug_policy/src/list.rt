@@ -1,0 +1,168 @@
+// The list of rules.
+ghost use Rattle.std.specs.Prelude.{◌≡◌, ◌≤◌, ◌<◌, ◌↔◌, ℕ, ◌+◌, ◌-◌, ◌^◌, List, [], ◌∷◌, ◌++◌, None, IfOk, IsNone, OnOk, OnErr, All, length, slice_get, slice_set, option_copied};
+ghost use Rattle.ug_types.specs.Elements.{Has, AllDistinct};
+ghost use Rattle.ug_cond.specs.Judgements.{Judgement};
+ghost use Rattle.ug_policy.specs.declared.entry.RuleEntry as stored;
+ghost use Rattle.ug_policy.specs.Rules.{ids};
+ghost use Rattle.ug_policy.specs.Edits.{IsThere, inserted, new_entry, removed, retargeted};
+ghost use Rattle.ug_policy.specs.Matching.{IsDeciding, NoneDecides, answered, judged, noted};
+ghost use Rattle.ug_policy.specs.Kept.{StandsFor, judgement_of};
+
+use crate::edits::{place_after, put_rule, remove_rule, set_rule_target};
+use crate::entry::{InsertFault, NoRule, RuleEntry};
+use crate::judging::judge_by;
+use std::alloc::Global;
+use std::marker::Model;
+use ug_cond::History;
+use ug_types::{After, Cause, DeviceRecord, Moment, NoMemory, Rule, Target};
+
+const MAX_RULES: usize = 65536;
+
+/// At most 65,536 rules in order, the id of the next one, and room for more.
+#[derive(Drop)]
+pub struct RuleList {
+    entries: Vec<RuleEntry>,
+    next_id: u64,
+}
+
+impl Model for RuleList {
+    ghost use Rattle.std.specs.Prelude.{◌-◌, vec_len, vec_capacity};
+    ghost use Rattle.ug_policy.specs.Rules.{Rules, IsNumbered};
+
+    ghost Value = { Rules };
+
+    ghost view = { λ l. record { entries = l.entries.items; next = l.next_id; spare = vec_capacity l.entries - vec_len l.entries } };
+
+    ghost invariant = { λ l. IsNumbered l.entries.items l.next_id };
+}
+
+impl RuleList {
+    /// No rules. It takes no memory.
+    pub fn new(alloc: Global) -> RuleList
+        ensures entries { result.entries ≡ [] }
+        ensures next { result.next ≡ 1 }
+        ensures history { StandsFor result.entries result.next [] }
+    {
+        RuleList {
+            entries: Vec::new(alloc),
+            next_id: 1,
+        }
+    }
+
+    /// The number of rules.
+    pub fn len(&self) -> usize
+        ensures value { result ≡ length self.now.entries }
+        ensures few { length self.now.entries ≤ 65536 }
+    {
+        let _numbered = &self.next_id;
+        self.entries.len()
+    }
+
+    /// The id that the next rule gets. No rule of the list has it, and ids are never given twice.
+    pub fn next_id(&self) -> u64
+        ensures value { result ≡ self.now.next }
+        ensures fresh { (id : ℕ) → Has (ids self.now.entries) id → id < self.now.next }
+        ensures distinct { AllDistinct (ids self.now.entries) }
+    {
+        self.next_id
+    }
+
+    /// The rule at that place, from 0.
+    pub fn entry(&self, i: usize) -> Option<&RuleEntry>
+        ensures value { option_copied result ≡ slice_get self.now.entries i }
+        ensures none { IsNone result ↔ (length self.now.entries ≤ i) }
+    {
+        self.entries.get(i)
+    }
+
+    /// Makes room for one rule more. A refusal changes nothing.
+    pub fn reserve(&mut self) -> Result<(), NoMemory>
+        ensures entries { self.new.entries ≡ self.old.entries }
+        ensures next { self.new.next ≡ self.old.next }
+        ensures ok { OnOk result (0 < self.new.spare) }
+        ensures more { self.old.spare ≤ self.new.spare }
+        ensures err { OnErr result (self.new ≡ self.old) }
+    {
+        match self.entries.reserve(1) {
+            Ok(()) => Ok(()),
+            Err(_) => Err(NoMemory),
+        }
+    }
+
+    /// Adds a rule and gives its id. There is room for it, so that it takes no memory. An unknown id is refused before a
+    /// full list is, and a refusal changes nothing.
+    pub fn insert(&mut self, after: After, rule: Rule, temporary: bool) -> Result<u64, InsertFault>
+        requires spare { 0 < self.old.spare }
+        requires next { self.old.next < 2 ^ 64 - 1 }
+        ensures id { IfOk result (λ id. id ≡ self.old.next) }
+        ensures entries { OnOk result (self.new.entries ≡ inserted after (new_entry self.old.next rule temporary) self.old.entries) }
+        ensures next { OnOk result (self.new.next ≡ self.old.next + 1) }
+        ensures spare { OnOk result (self.new.spare + 1 ≡ self.old.spare) }
+        ensures no_rule { (result ≡ Err InsertFault.NoRule) ↔ (¬ IsThere after self.old.entries) }
+        ensures full { (result ≡ Err InsertFault.Full) ↔ (IsThere after self.old.entries × (length self.old.entries ≡ 65536)) }
+        ensures err { OnErr result (self.new ≡ self.old) }
+        ensures history { (judgements : List Judgement) → StandsFor self.old.entries self.old.next judgements → StandsFor self.new.entries self.new.next judgements }
+    {
+        let Some(place) = place_after(self.entries.as_slice(), after) else {
+            return Err(InsertFault::NoRule);
+        };
+        if self.entries.len() == MAX_RULES {
+            return Err(InsertFault::Full);
+        }
+        let id = self.next_id;
+        let history = History {
+            evaluated: None,
+            applied: None,
+        };
+        let entry = RuleEntry {
+            id,
+            rule,
+            temporary,
+            history,
+        };
+        put_rule(&mut self.entries, place, entry);
+        self.next_id += 1;
+        Ok(id)
+    }
+
+    /// Takes out the rule of that id.
+    pub fn remove(&mut self, id: u64) -> Result<(), NoRule>
+        ensures entries { self.new.entries ≡ removed id self.old.entries }
+        ensures next { self.new.next ≡ self.old.next }
+        ensures ok { OnOk result (Has (ids self.old.entries) id) }
+        ensures spare { OnOk result (self.new.spare ≡ self.old.spare + 1) }
+        ensures no_rule { OnErr result (¬ Has (ids self.old.entries) id) }
+        ensures err { OnErr result (self.new ≡ self.old) }
+        ensures history { (judgements : List Judgement) → StandsFor self.old.entries self.old.next judgements → StandsFor self.new.entries self.new.next judgements }
+    {
+        remove_rule(&mut self.entries, id)
+    }
+
+    /// Gives the rule of that id another target.
+    pub fn set_target(&mut self, id: u64, target: Target) -> Result<(), NoRule>
+        ensures entries { self.new.entries ≡ retargeted id target self.old.entries }
+        ensures next { self.new.next ≡ self.old.next }
+        ensures spare { self.new.spare ≡ self.old.spare }
+        ensures ok { OnOk result (Has (ids self.old.entries) id) }
+        ensures no_rule { OnErr result (¬ Has (ids self.old.entries) id) }
+        ensures err { OnErr result (self.new ≡ self.old) }
+        ensures history { (judgements : List Judgement) → StandsFor self.old.entries self.old.next judgements → StandsFor self.new.entries self.new.next judgements }
+    {
+        set_rule_target(&mut self.entries, id, target)
+    }
+
+    /// Judges a device by the first rule that matches it, or by the implicit target. That rule's history gets the moment
+    /// where it is greater than the one that is kept. It takes no memory.
+    pub fn judge(&mut self, dev: &DeviceRecord, moment: Moment, implicit: Target) -> (Target, Cause)
+        requires { All (λ e. e.rule.conds ≡ None) self.old.entries }
+        ensures rule { (place : ℕ) (entry : stored.RuleEntry) → IsDeciding dev.now self.old.entries place entry → (result ≡ (entry.rule.target, Cause.Rule entry.id)) × (self.new.entries ≡ slice_set self.old.entries place (noted moment entry)) }
+        ensures implicit { NoneDecides dev.now self.old.entries → (result ≡ (implicit, Cause.Implicit)) × (self.new.entries ≡ self.old.entries) }
+        ensures answer { result ≡ answered dev.now implicit self.old.entries }
+        ensures entries { self.new.entries ≡ judged dev.now moment self.old.entries }
+        ensures next { self.new.next ≡ self.old.next }
+        ensures spare { self.new.spare ≡ self.old.spare }
+        ensures history { (judgements : List Judgement) → StandsFor self.old.entries self.old.next judgements → StandsFor self.new.entries self.new.next (judgements ++ judgement_of dev.now moment self.old.entries ∷ []) }
+    {
+        judge_by(&mut self.entries, dev, moment, implicit)
+    }
+}
