@@ -9,8 +9,8 @@ use crate::string::string;
 use crate::token::TokenKind;
 use std::alloc::Global;
 
-#[tactic(auto, unfolding(crate::specs::Lexing::front_of), using(crate::proofs::Steps::opened, crate::proofs::Steps::rest_is))]
 /// Reads the token that begins at a place, or says what else stands there.
+#[tactic(auto, unfolding(crate::specs::Lexing::front_of), using(crate::proofs::Steps::opened, crate::proofs::Steps::rest_is))]
 pub fn front(alloc: Global, line: &[u8], at: usize) -> Result<Front, LexFault>
     requires { at < length line.now }
     ensures read { Answers result (front_of at (drop at line.now)) }

@@ -1,5 +1,8 @@
 // Tokens read from a line.
-ghost use Rattle.ug_lex.specs.Lexing.{Answers, tokens_from, tokens_of};
+ghost use Rattle.std.specs.Prelude.{List, Ok, Err, IfOk, IfErr};
+ghost use Rattle.ug_lex.specs.declared.token.Token.{Token};
+ghost use Rattle.ug_lex.specs.Lexing.{Answers, Fault, tokens_from, tokens_of};
+ghost use Rattle.ug_lex.specs.Grammar.{Good, Bad, IfLexical};
 
 use crate::fault::LexFault;
 use crate::front::front;
@@ -12,6 +15,10 @@ use ug_types::List;
 /// line. Linear in the number of bytes.
 #[tactic(auto, unfolding(crate::specs::Lexing::tokens_of))]
 pub fn tokens(alloc: Global, line: &[u8]) -> Result<List<Token>, LexFault>
+    ensures good { IfOk result (λ tokens. Good line.now tokens) }
+    ensures only_good { (tokens : List Token) → Good line.now tokens → Answers result (Ok tokens) }
+    ensures bad { IfErr result (λ e. IfLexical e (Bad line.now)) }
+    ensures only_bad { (fault : Fault) → Bad line.now fault → Answers result (Err fault) }
     ensures exact { Answers result (tokens_of line.now) }
 {
     read(alloc, line)
