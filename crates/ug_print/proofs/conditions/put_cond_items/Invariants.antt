@@ -1,0 +1,6 @@
+use Rattle.std.proofs.Common.{◌≡◌, ◌++◌, map, take}
+use Rattle.ug_print.specs.Words.{cond_text}
+use Rattle.ug_print.proofs.conditions.put_cond_items.Given as goal
+
+abbrev pub invariant-loop-cond : goal.invariant-loop-cond
+invariant-loop-cond l = l.words ≡ l.fn.words ++ map cond_text (take l.cond-index l.conds)

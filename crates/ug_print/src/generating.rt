@@ -1,0 +1,115 @@
+// Rules made of devices.
+ghost use Rattle.std.specs.Prelude.{◌≡◌, ◌++◌, ◌∷◌, [], IfOk, OnOk, List, None, if◌then◌else◌, map, true};
+ghost use Rattle.ug_print.specs.Generated.{equals, generated_of, interface_of, interfaces_of, query_of};
+ghost use Rattle.ug_print.specs.Words.{rule_text};
+
+use crate::printing::print_rule;
+use std::alloc::Global;
+use ug_types::{
+    DeviceRecord, Id, Iface, List, NoMemory, Op, Query, Rule, Target, Text, Triple, Values,
+};
+
+fn one_id(alloc: Global, id: Id) -> Result<Option<Values<Id>>, NoMemory>
+    ensures { IfOk result (λ values. values ≡ equals (id ∷ [])) }
+{
+    let mut items = List::new(alloc);
+    items.push(id)?;
+    Ok(Some(Values {
+        op: Op::Equals,
+        items,
+    }))
+}
+
+fn one_text(alloc: Global, text: &[u8]) -> Result<Option<Values<Text>>, NoMemory>
+    ensures { IfOk result (λ values. values ≡ equals (text.now ∷ [])) }
+{
+    let mut items = List::new(alloc);
+    items.push(Text::of(alloc, text)?)?;
+    Ok(Some(Values {
+        op: Op::Equals,
+        items,
+    }))
+}
+
+fn port_if(alloc: Global, port: &[u8], with_port: bool) -> Result<Option<Values<Text>>, NoMemory>
+    ensures { IfOk result (λ values. values ≡ (if with_port then equals (port.now ∷ []) else None)) }
+{
+    if with_port {
+        return one_text(alloc, port);
+    }
+    Ok(None)
+}
+
+fn put_interfaces(items: &mut List<Iface>, triples: &[Triple]) -> Result<(), NoMemory>
+    ensures { OnOk result (items.new ≡ items.old ++ map interface_of triples.now) }
+{
+    for triple in triples {
+        items.push(Iface {
+            class: triple.class,
+            subclass: Some(triple.subclass),
+            protocol: Some(triple.protocol),
+        })?;
+    }
+    Ok(())
+}
+
+fn interfaces(alloc: Global, triples: &[Triple]) -> Result<Option<Values<Iface>>, NoMemory>
+    ensures { IfOk result (λ values. values ≡ interfaces_of triples.now) }
+{
+    if triples.is_empty() {
+        return Ok(None);
+    }
+    let mut items = List::new(alloc);
+    put_interfaces(&mut items, triples)?;
+    Ok(Some(Values {
+        op: Op::Equals,
+        items,
+    }))
+}
+
+#[tactic(auto, unfolding(crate::specs::Generated::query_of))]
+fn query(alloc: Global, device: &DeviceRecord, with_port: bool) -> Result<Query, NoMemory>
+    ensures { IfOk result (λ query. query ≡ query_of device.now with_port) }
+{
+    let id = Id {
+        vendor: Some(device.vendor),
+        product: Some(device.product),
+    };
+    Ok(Query {
+        id: one_id(alloc, id)?,
+        serial: one_text(alloc, device.serial.bytes())?,
+        name: one_text(alloc, device.name.bytes())?,
+        hash: one_text(alloc, &device.hash)?,
+        parent_hash: one_text(alloc, device.parent_hash.bytes())?,
+        via_port: port_if(alloc, device.via_port.bytes(), with_port)?,
+        interface: interfaces(alloc, device.interfaces.as_slice())?,
+        connect: one_text(alloc, device.connect.bytes())?,
+        label: None,
+    })
+}
+
+/// The rule that is made of a device: all that is known of it, each with `equals`, and its port only if that is asked
+/// for. Interfaces stand in the device's order; without any the attribute isn't given.
+#[tactic(auto, unfolding(crate::specs::Generated::generated_of))]
+pub fn generated_rule(
+    alloc: Global,
+    device: &DeviceRecord,
+    target: Target,
+    with_port: bool,
+) -> Result<Rule, NoMemory>
+    ensures { IfOk result (λ rule. rule ≡ generated_of device.now target with_port) }
+{
+    Ok(Rule {
+        target,
+        query: query(alloc, device, with_port)?,
+        conds: None,
+    })
+}
+
+/// The line of a list of devices: the text of the rule that is made of the device with its verdict and its port.
+pub fn device_line(alloc: Global, device: &DeviceRecord, verdict: Target) -> Result<Text, NoMemory>
+    ensures { IfOk result (λ text. text ≡ rule_text (generated_of device.now verdict true)) }
+{
+    let rule = generated_rule(alloc, device, verdict, true)?;
+    print_rule(alloc, &rule)
+}

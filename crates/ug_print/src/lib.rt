@@ -1,0 +1,14 @@
+// Rules written as usbguard-rules.conf(5) has them, and rules made of devices.
+#![tactic(auto)]
+
+mod conditions;
+mod generating;
+mod items;
+mod printing;
+mod sets;
+
+pub use generating::{device_line, generated_rule};
+pub use printing::print_rule;
+
+#[cfg(test)]
+mod tests;
