@@ -52,20 +52,6 @@ fn malformed_bytes_have_a_kind_and_a_place(rt: HostRuntime) -> Result<(), AllocE
 }
 
 #[test]
-fn an_input_has_at_most_so_many_bytes(rt: HostRuntime) -> Result<(), AllocError> {
-    let alloc = rt.alloc();
-    let bytes = vec![in alloc; 0u8; 67108864]?;
-    let (status, text) = call(alloc, bytes, &[], &[])?;
-    assert_eq!(rt; status, 2);
-    assert_eq!(rt; text.as_slice(), b"bad descriptors kind 2 place 0\n".as_slice());
-    let bytes = vec![in alloc; 0u8; 67108865]?;
-    let (status, text) = call(alloc, bytes, &[], &[])?;
-    assert_eq!(rt; status, 2);
-    assert_eq!(rt; text.as_slice(), b"input too long\n".as_slice());
-    Ok(())
-}
-
-#[test]
 fn each_failing_call_ends_it(rt: HostRuntime) -> Result<(), AllocError> {
     let alloc = rt.alloc();
     for read in 1..3 {

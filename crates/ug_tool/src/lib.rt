@@ -2,8 +2,10 @@
 #![tactic(auto)]
 
 mod replay;
+mod tool;
 
 pub use replay::run_replay;
+pub use tool::run_tool;
 
 #[cfg(test)]
 mod tests;
