@@ -10,7 +10,8 @@ const KEY: [u8; 45] = [
     0x03, 0x01, 0x01, 0x00, 0x09, 0x04, 0x01, 0x00, 0x00, 0x03, 0x00, 0x00, 0x00,
 ];
 
-const LISTING: &[u8] = b"device 1050:0011 class 00:00:00 configurations 1\nconfiguration 1 interfaces 2\ninterface 0 alternate 0 class 03:01:01 endpoints 0\ninterface 1 alternate 0 class 03:00:00 endpoints 0\n";
+const LISTING: &[u8] =
+    b"device 1050:0011 class 00:00:00 configurations 1\nconfiguration 1 interfaces 2\ninterface 0 alternate 0 class 03:01:01 endpoints 0\ninterface 1 alternate 0 class 03:00:00 endpoints 0\n";
 
 // The status of a call, and what was written.
 fn call(
