@@ -2,8 +2,20 @@
 #![tactic(auto)]
 
 mod replay;
+mod tool;
 
 pub use replay::run_replay;
+pub use tool::run_tool;
 
 #[cfg(test)]
+mod fault_tests;
+#[cfg(test)]
+mod grammar_tests;
+#[cfg(test)]
+mod limit_tests;
+#[cfg(test)]
+mod sweep_tests;
+#[cfg(test)]
 mod tests;
+#[cfg(test)]
+mod tool_tests;

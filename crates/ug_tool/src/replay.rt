@@ -15,7 +15,7 @@ use ug_sysfs::SimKernel;
 use ug_types::{Put, Sink, Source};
 
 #[tactic(auto, unfolding(crate::specs::Replay::replay_words))]
-fn is_replay(words: &[&str]) -> bool
+pub fn is_replay(words: &[&str]) -> bool
     ensures { IsTrue result ↔ (map (λ word. word.now) words.now ≡ replay_words) }
 {
     match words {
@@ -25,7 +25,7 @@ fn is_replay(words: &[&str]) -> bool
 }
 
 #[tactic(auto, unfolding(crate::specs::Replay::bad_words))]
-fn refuse<K: Sink>(out: &mut K) -> u8
+pub fn refuse<K: Sink>(out: &mut K) -> u8
     ensures refused { IsRefused (K.held out.old) (K.held out.new) result }
     ensures written { result ≡ 5 → Rose (K.faults out.old) (K.faults out.new) }
 {

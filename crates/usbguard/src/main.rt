@@ -4,8 +4,8 @@
 use std::process::ExitCode;
 use std::{env, io};
 use ug_sysfs::SimKernel;
-use ug_tool::run_replay;
-use ug_types::{Put, ReaderSource, Sink, WriterSink};
+use ug_tool::{run_replay, run_tool};
+use ug_types::{MemLink, MemSink, MemSource, Put, ReaderSource, Sink, WriterSink};
 
 /// Writes a fault line, and gives its status, or that of a failed write.
 fn end_with<K: Sink>(out: &mut K, line: &[u8], status: u8) -> ExitCode {
@@ -38,7 +38,16 @@ fn main(rt: HostRuntime) -> ExitCode {
         }
     }
     let mut input = ReaderSource::new(rt.reader());
-    let mut kernel = SimKernel::new(alloc);
-    let status = run_replay(alloc, &words, &mut input, &mut out, &mut kernel);
+    let status = match words.as_slice() {
+        ["replay", ..] => {
+            let mut kernel = SimKernel::new(alloc);
+            run_replay(alloc, &words, &mut input, &mut out, &mut kernel)
+        }
+        _ => {
+            let coming = MemSource::new(Vec::new(alloc), Vec::new(alloc));
+            let mut link = MemLink::new(false, coming, MemSink::new(alloc, Vec::new(alloc)));
+            run_tool(alloc, &words, &mut input, &mut out, &mut link)
+        }
+    };
     ExitCode::from(status)
 }
