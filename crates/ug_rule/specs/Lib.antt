@@ -1,1 +1,5 @@
+pub mod Faults
+pub mod Keywords
+pub mod Tokens
+pub mod Values
 pub mod Words

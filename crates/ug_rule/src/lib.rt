@@ -1,6 +1,14 @@
 // Rules read from their text: usbguard-rules.conf(5).
 #![tactic(auto)]
 
+mod fault;
+mod keywords;
+mod tokens_left;
+mod values;
 mod words;
 
-pub use words::{DaySpan, Clock, chance, id, interface, past, span};
+pub use fault::{RuleFault, answer, Ending, required};
+pub use keywords::{attribute, condition, is_if, operator, target};
+pub use tokens_left::{Tokens, word, read};
+pub use values::{text, value, FromToken};
+pub use words::{Clock, DaySpan, chance, id, interface, past, span};
