@@ -1,5 +1,6 @@
 pub mod Faults
 pub mod Keywords
+pub mod Queries
 pub mod Tokens
 pub mod Values
 pub mod Words

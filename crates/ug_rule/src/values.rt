@@ -125,7 +125,7 @@ pub fn brace(tokens: &mut Tokens, ending: Ending, kind: FaultKind) -> Result<u64
     }
 }
 
-fn single<T: FromToken>(alloc: Global, line: &[u8], token: Token) -> Result<Values<T>, Stop>
+pub fn single<T: FromToken>(alloc: Global, line: &[u8], token: Token) -> Result<Values<T>, Stop>
     ensures { (rest : _) → Reads result rest (values.single_of (T.in_token line.now) token rest) }
 {
     let mut items = List::new(alloc);
