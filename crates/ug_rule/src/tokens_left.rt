@@ -1,7 +1,7 @@
 // The tokens that are still to be read.
-ghost use Rattle.std.specs.Prelude.{◌≡◌, [], ◌∷◌, ◌-◌, take, drop, IfSome, IfNone};
+ghost use Rattle.std.specs.Prelude.{◌≡◌, ◌≤◌, [], ◌∷◌, ◌-◌, length, take, drop, true, false, IfSome, IfNone};
 ghost use Rattle.ug_rule.specs.Faults.{Answers};
-ghost use Rattle.ug_rule.specs.Tokens.{word_of, first_word, starts_with_paren, tokens_read};
+ghost use Rattle.ug_rule.specs.Tokens.{word_of, first_word, starts_with_paren, behind_first, tokens_read};
 
 use crate::fault::{FaultKind, Stop};
 use std::alloc::Global;
@@ -72,14 +72,35 @@ impl Tokens {
         }
     }
 
-    /// Whether a `(` comes next.
-    pub fn opens_paren(&self) -> bool
+    /// Takes the first token, if there is one.
+    pub fn skip(&mut self)
+        ensures is { self.new ≡ behind_first self.old }
+        ensures shorter { length self.new ≤ length self.old }
+    {
+        let _ = self.next();
+    }
+
+    fn opens_paren(&self) -> bool
         ensures { result ≡ starts_with_paren self.now }
     {
         match self.items.front() {
             Some(token) => matches!(token.kind, TokenKind::ParenOpen),
             None => false,
         }
+    }
+
+    /// Takes a `(`, if it comes next.
+    pub fn take_paren(&mut self) -> bool
+        ensures is { result ≡ starts_with_paren self.old }
+        ensures taken { result ≡ true → self.new ≡ behind_first self.old }
+        ensures kept { result ≡ false → self.new ≡ self.old }
+        ensures shorter { length self.new ≤ length self.old }
+    {
+        if !self.opens_paren() {
+            return false;
+        }
+        self.skip();
+        true
     }
 }
 

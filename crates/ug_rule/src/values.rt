@@ -63,7 +63,7 @@ fn item<T: FromToken>(line: &[u8], token: Token) -> Result<T, Stop>
     required(T::from_token(line, token), FaultKind::BadValue, place)
 }
 
-fn filled<T: Drop>(items: List<T>, place: u64) -> Result<List<T>, Stop>
+pub fn filled<T: Drop>(items: List<T>, place: u64) -> Result<List<T>, Stop>
     ensures { (rest : _) → Reads result rest (values.filled items place rest) }
 {
     if items.as_slice().is_empty() {
