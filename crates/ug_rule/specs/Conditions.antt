@@ -43,13 +43,10 @@ argument_of reads line ending tokens =
     on_ok (required (reads (word_of line p.0)) BadCondition p.0.start) (λ x.
     on_ok (closed ending p.1) (λ q. Ok (x, q.1))))
 
-abbrev pub in_some : {X : Type 0} → X × List Token → Result (Option X × List Token) Fault
-in_some p = Ok (Some p.0, p.1)
-
 -- an argument in parentheses, or none
 unfoldable pub perhaps_of : {X : Type 0} → (List ℕ → Option X) → List ℕ → Ending → List Token → Result (Option X × List Token) Fault
-perhaps_of {X} reads line ending tokens =
-    if starts_with_paren tokens then on_ok (argument_of reads line ending (behind_first tokens)) (in_some {X})
+perhaps_of reads line ending tokens =
+    if starts_with_paren tokens then on_ok (argument_of reads line ending (behind_first tokens)) (λ p. Ok (Some p.0, p.1))
     else Ok (None, tokens)
 
 abbrev pub in_span : DaySpan × List Token → Result (CondKind × List Token) Fault
@@ -118,9 +115,15 @@ joined op conds = record { op = op; items = conds }
 unfoldable pub cond_set_of : List ℕ → Ending → Op → List Token → Result (Conds × List Token) Fault
 cond_set_of line ending op tokens = on_ok (conds_from (length tokens) line ending [] tokens) (λ p. Ok (joined op p.0, p.1))
 
+abbrev pub set_behind : List ℕ → Ending → Op → List Token → Result (Conds × List Token) Fault
+set_behind line ending op tokens = on_ok (brace_of BadCondition ending tokens) (λ p. cond_set_of line (within p.0 ending) op p.1)
+
+abbrev pub single_of : List ℕ → Ending → Token → List Token → Result (Conds × List Token) Fault
+single_of line ending token rest = on_ok (condition_from line ending token rest) (λ p. Ok (joined Equals (p.0 ∷ []), p.1))
+
 abbrev pub conditions_behind : List ℕ → Ending → Option Op → Token → List Token → Result (Conds × List Token) Fault
-conditions_behind line ending (Some op) token rest = on_ok (brace_of BadCondition ending rest) (λ p. cond_set_of line (within p.0 ending) op p.1)
-conditions_behind line ending None token rest = on_ok (condition_from line ending token rest) (λ p. Ok (joined Equals (p.0 ∷ []), p.1))
+conditions_behind line ending (Some op) token rest = set_behind line ending op rest
+conditions_behind line ending None token rest = single_of line ending token rest
 
 -- one condition, or a set of them in braces behind an operator or none
 unfoldable pub conditions_of : List ℕ → Ending → List Token → Result (Conds × List Token) Fault

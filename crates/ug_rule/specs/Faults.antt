@@ -44,7 +44,7 @@ abbrev pub within : ℕ → Ending → Ending
 within place ending = record { brace = outermost place ending.brace; length = ending.length }
 
 -- what a good reading goes on with
-abbrev pub on_ok : {X Y : Type 0} → Result X Fault → (X → Result Y Fault) → Result Y Fault
+abbrev pub on_ok : {X Y E : Type 0} → Result X E → (X → Result Y E) → Result Y E
 on_ok (Ok x) next = next x
 on_ok (Err fault) next = Err fault
 

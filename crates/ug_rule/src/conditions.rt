@@ -1,5 +1,5 @@
 // The conditions of a rule: usbguard-rules.conf(5).
-ghost use Rattle.std.specs.Prelude.{◌≡◌, ◌≤◌, [], length, Some, None};
+ghost use Rattle.std.specs.Prelude.{◌≡◌, ◌≤◌, [], length};
 ghost use Rattle.ug_rule.specs.Conditions as conditions;
 ghost use Rattle.ug_rule.specs.Faults.{Answers};
 ghost use Rattle.ug_rule.specs.Tokens.{Reads};
@@ -8,7 +8,7 @@ ghost use Rattle.ug_rule.specs.Words.{span_of, past_of, chance_of};
 use crate::fault::{Ending, FaultKind, Stop, required};
 use crate::keywords::{CondName, condition, operator};
 use crate::queries::{is_blank, query, stray};
-use crate::tokens_left::{Tokens, word};
+use crate::tokens_left::{Tokens, closes, opens, word};
 use crate::values::{brace, filled};
 use crate::words::{chance, past, span};
 use std::alloc::Global;
@@ -240,7 +240,7 @@ fn items(
 {
     let mut items = List::new(alloc);
     while let Some(token) = tokens.next() {
-        if matches!(token.kind, TokenKind::Close) {
+        if closes(&token) {
             return filled(items, token.start as u64);
         }
         match condition_from(alloc, line, tokens, ending, token) {
@@ -274,7 +274,7 @@ fn behind_operator(
     ending: Ending,
     op: Op,
 ) -> Result<Conds, Stop>
-    ensures is { (token : _) → Reads result tokens.new (conditions.conditions_behind line.now ending (Some op) token tokens.old) }
+    ensures is { Reads result tokens.new (conditions.set_behind line.now ending op tokens.old) }
     ensures shorter { length tokens.new ≤ length tokens.old }
 {
     let place = brace(tokens, ending, FaultKind::BadCondition)?;
@@ -288,7 +288,7 @@ fn single(
     ending: Ending,
     token: Token,
 ) -> Result<Conds, Stop>
-    ensures is { Reads result tokens.new (conditions.conditions_behind line.now ending None token tokens.old) }
+    ensures is { Reads result tokens.new (conditions.single_of line.now ending token tokens.old) }
     ensures shorter { length tokens.new ≤ length tokens.old }
 {
     let mut items = List::new(alloc);
@@ -312,7 +312,7 @@ pub fn conditions(
 {
     match tokens.next() {
         Some(token) => {
-            if matches!(token.kind, TokenKind::Open) {
+            if opens(&token) {
                 return set(
                     alloc,
                     line,

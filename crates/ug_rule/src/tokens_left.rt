@@ -1,7 +1,7 @@
 // The tokens that are still to be read.
 ghost use Rattle.std.specs.Prelude.{◌≡◌, ◌≤◌, [], ◌∷◌, ◌-◌, length, take, drop, true, false, IfSome, IfNone};
 ghost use Rattle.ug_rule.specs.Faults.{Answers};
-ghost use Rattle.ug_rule.specs.Tokens.{word_of, first_word, starts_with_paren, behind_first, tokens_read};
+ghost use Rattle.ug_rule.specs.Tokens.{word_of, first_word, is_open, is_close, starts_with_paren, behind_first, tokens_read};
 
 use crate::fault::{FaultKind, Stop};
 use std::alloc::Global;
@@ -43,6 +43,20 @@ pub fn word<'a>(line: &'a [u8], token: &Token) -> &'a [u8]
         TokenKind::Word => between(line, token.start, token.end),
         _ => &[],
     }
+}
+
+/// Whether the token is a `{`.
+pub fn opens(token: &Token) -> bool
+    ensures { result ≡ is_open token.now.kind }
+{
+    matches!(token.kind, TokenKind::Open)
+}
+
+/// Whether the token is a `}`.
+pub fn closes(token: &Token) -> bool
+    ensures { result ≡ is_close token.now.kind }
+{
+    matches!(token.kind, TokenKind::Close)
 }
 
 impl Tokens {

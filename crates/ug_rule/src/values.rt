@@ -6,7 +6,7 @@ ghost use Rattle.ug_rule.specs.Values as values;
 
 use crate::fault::{Ending, FaultKind, Stop, required};
 use crate::keywords::operator;
-use crate::tokens_left::{Tokens, word};
+use crate::tokens_left::{Tokens, closes, opens, word};
 use crate::words::{id, interface};
 use std::alloc::Global;
 use ug_lex::{Token, TokenKind};
@@ -85,7 +85,7 @@ fn items<T: FromToken>(
 {
     let mut items = List::new(alloc);
     while let Some(token) = tokens.next() {
-        if matches!(token.kind, TokenKind::Close) {
+        if closes(&token) {
             return filled(items, token.start as u64);
         }
         items.push(item(line, token)?)?;
@@ -115,7 +115,7 @@ pub fn brace(tokens: &mut Tokens, ending: Ending, kind: FaultKind) -> Result<u64
 {
     match tokens.next() {
         Some(token) => {
-            if matches!(token.kind, TokenKind::Open) {
+            if opens(&token) {
                 Ok(token.start as u64)
             } else {
                 Err(Stop::at(kind, token.start as u64))
@@ -163,7 +163,7 @@ pub fn value<T: FromToken>(
 {
     match tokens.next() {
         Some(token) => {
-            if matches!(token.kind, TokenKind::Open) {
+            if opens(&token) {
                 return set(
                     alloc,
                     line,
