@@ -1,5 +1,6 @@
 pub mod Conditions
 pub mod Faults
+pub mod Files
 pub mod Keywords
 pub mod Queries
 pub mod Rules

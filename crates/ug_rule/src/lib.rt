@@ -3,6 +3,7 @@
 
 mod conditions;
 mod fault;
+mod files;
 mod keywords;
 mod queries;
 mod rules;
@@ -11,4 +12,5 @@ mod values;
 mod words;
 
 pub use fault::RuleFault;
+pub use files::parse_file;
 pub use rules::{parse_query, parse_rule};
