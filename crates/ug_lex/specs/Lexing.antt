@@ -1,11 +1,15 @@
 -- The tokens of a line, read from the front, or the first fault: usbguard-rules.conf(5).
 use Rattle.std.specs.Prelude.{ℕ, zero, suc, ◌+◌, ◌-◌, ◌*◌, Bool, ◌&&◌, ◌||◌, nat_eq, nat_le, if◌then◌else◌, List, [], ◌∷◌, Option, None, Some, Result, Ok, Err, ◌≡◌}
+use Rattle.std.specs.Char.{is_ascii_alphanumeric}
+use Rattle.std.specs.Int.{is_in_range}
+use Rattle.std.specs.List.{prefix_len}
 use Rattle.ug_lex.specs.declared.fault.LexFault.{LexFault}
 use Rattle.ug_lex.specs.declared.fault.LexFault.TheVariants as lex
 use Rattle.ug_lex.specs.declared.pieces.Front.{Front}
 use Rattle.ug_lex.specs.declared.pieces.Front.TheVariants.{Blank, Comment, Piece}
 use Rattle.ug_lex.specs.declared.pieces.Inner.{Inner}
 use Rattle.ug_lex.specs.declared.pieces.Inner.TheVariants.{Quote, Newline, Stray, Byte}
+use Rattle.ug_lex.specs.declared.pieces.Quoted.{Quoted}
 use Rattle.ug_lex.specs.declared.token.Token.{Token}
 use Rattle.ug_lex.specs.declared.token.TokenKind.{TokenKind}
 use Rattle.ug_lex.specs.declared.token.TokenKind.TheVariants.{Word, Str, Open, Close, ParenOpen, ParenClose, Bang}
@@ -26,14 +30,9 @@ Lexed = Result (List Token) Fault
 abbrev pub is_blank : ℕ → Bool
 is_blank b = nat_eq b 32 || nat_eq b 9 || nat_eq b 13
 
-abbrev pub is_between : ℕ → ℕ → ℕ → Bool
-is_between low high b = nat_le low b && nat_le b high
-
 -- an ASCII letter or digit, a dash, an underscore, a colon, a star or a dot
 abbrev pub is_word_byte : ℕ → Bool
-is_word_byte b =
-    is_between 97 122 b || is_between 65 90 b || is_between 48 57 b
-    || nat_eq b 45 || nat_eq b 95 || nat_eq b 58 || nat_eq b 42 || nat_eq b 46
+is_word_byte b = is_ascii_alphanumeric b || nat_eq b 45 || nat_eq b 95 || nat_eq b 58 || nat_eq b 42 || nat_eq b 46
 
 -- a token of one byte
 abbrev pub mark_of : ℕ → Option TokenKind
@@ -44,17 +43,12 @@ mark_of b =
     if nat_eq b 41 then Some ParenClose else
     if nat_eq b 33 then Some Bang else None
 
--- how many bytes of a word stand at the front
-abbrev pub run_length : List ℕ → ℕ
-run_length [] = 0
-run_length (b ∷ bytes) = if is_word_byte b then suc (run_length bytes) else 0
-
 -- the value of a hexadecimal digit of either case
 abbrev pub digit_of : ℕ → Option ℕ
 digit_of b =
-    if is_between 48 57 b then Some (b - 48) else
-    if is_between 97 102 b then Some (b - 87) else
-    if is_between 65 70 b then Some (b - 55) else None
+    if is_in_range 48 57 b then Some (b - 48) else
+    if is_in_range 97 102 b then Some (b - 87) else
+    if is_in_range 65 70 b then Some (b - 55) else None
 
 -- two hexadecimal digits
 abbrev pub pair_of : Option ℕ → Option ℕ → Inner
@@ -89,11 +83,6 @@ more_of Newline = 0
 more_of Stray = 0
 more_of (Byte value more) = more
 
--- what a string spells, and how many bytes it takes behind its opening quote
-pub record Quoted : Type 0 where
-  pub text : List ℕ
-  pub more : ℕ
-
 abbrev pub spelled : ℕ → ℕ → Result Quoted Fault → Result Quoted Fault
 spelled value more (Ok quoted) = Ok (record { text = value ∷ quoted.text; more = 1 + more + quoted.more })
 spelled value more (Err fault) = Err fault
@@ -126,7 +115,7 @@ front_of at (b ∷ bytes) =
     if is_blank b then Ok Blank else
     if nat_eq b 35 then Ok Comment else
     if nat_eq b 34 then string_of (quoted_from at (at + 1) 0 bytes) else
-    if is_word_byte b then Ok (Piece Word (run_length bytes)) else
+    if is_word_byte b then Ok (Piece Word (prefix_len is_word_byte bytes)) else
     mark_at at (mark_of b)
 
 abbrev pub passed_by : Result Front Fault → ℕ

@@ -1,5 +1,9 @@
 // Why a line has no tokens.
+ghost use Rattle.std.specs.Prelude.{◌≡◌};
+ghost use Rattle.ug_lex.specs.declared.fault.LexFault.TheVariants.{Memory};
+
 use thiserror::Error;
+use ug_types::NoMemory;
 
 /// The first fault from the left, with its place as the number of bytes before it.
 #[derive(Clone, Copy, Debug, PartialEq, Eq, Error)]
@@ -15,4 +19,12 @@ pub enum LexFault {
     BadByte(u64),
     #[error("Memory")]
     Memory,
+}
+
+impl From<NoMemory> for LexFault {
+    ghost from_gives = { λ _ e. e ≡ Memory };
+
+    fn from(_e: NoMemory) -> LexFault {
+        LexFault::Memory
+    }
 }

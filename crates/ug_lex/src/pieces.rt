@@ -1,5 +1,6 @@
 // What stands at the front of a line's rest.
 use crate::token::TokenKind;
+use ug_types::Text;
 
 /// What begins a line's rest.
 #[derive(Drop)]
@@ -21,4 +22,11 @@ pub enum Inner {
     Stray,
     /// A byte that is spelled by so many bytes beside the first.
     Byte { value: u8, more: usize },
+}
+
+/// A string's text, and how many bytes it takes behind its opening quote.
+#[derive(Drop)]
+pub struct Quoted {
+    pub text: Text,
+    pub more: usize,
 }

@@ -1,15 +1,48 @@
 // Tokens read from a line.
-ghost use Rattle.ug_lex.specs.Lexing.{Answers, tokens_of};
+ghost use Rattle.std.specs.Prelude.{List, Ok, Err, IfOk, IfErr};
+ghost use Rattle.ug_lex.specs.declared.token.Token.{Token};
+ghost use Rattle.ug_lex.specs.Lexing.{Answers, Fault, tokens_from, tokens_of};
+ghost use Rattle.ug_lex.specs.Grammar.{Good, Bad, IfLexical};
 
 use crate::fault::LexFault;
+use crate::front::front;
+use crate::pieces::Front;
 use crate::token::Token;
 use std::alloc::Global;
 use ug_types::List;
 
 /// The tokens of a line, or its first fault. Space, tab and carriage return separate, and `#` outside a string ends the
 /// line. Linear in the number of bytes.
+#[tactic(auto, unfolding(crate::specs::Lexing::tokens_of))]
 pub fn tokens(alloc: Global, line: &[u8]) -> Result<List<Token>, LexFault>
+    ensures good { IfOk result (λ tokens. Good line.now tokens) }
+    ensures only_good { (tokens : List Token) → Good line.now tokens → Answers result (Ok tokens) }
+    ensures bad { IfErr result (λ e. IfLexical e (Bad line.now)) }
+    ensures only_bad { (fault : Fault) → Bad line.now fault → Answers result (Err fault) }
     ensures exact { Answers result (tokens_of line.now) }
 {
-    Err(LexFault::Memory)
+    read(alloc, line)
+}
+
+fn read(alloc: Global, line: &[u8]) -> Result<List<Token>, LexFault>
+    ensures { Answers result (tokens_from 0 0 line.now) }
+{
+    let mut tokens = List::new(alloc);
+    let mut at = 0;
+    while at < line.len() {
+        match front(alloc, line, at)? {
+            Front::Blank => at += 1,
+            Front::Comment => return Ok(tokens),
+            Front::Piece { kind, more } => {
+                let start = at;
+                at += 1 + more;
+                tokens.push(Token {
+                    kind,
+                    start,
+                    end: at,
+                })?;
+            }
+        }
+    }
+    Ok(tokens)
 }
