@@ -177,9 +177,7 @@ fn kind(
         CondName::LocalTime => localtime(line, tokens, ending),
         CondName::AllowedMatches => allowed_matches(alloc, line, tokens, ending),
         CondName::RuleApplied => Ok(CondKind::RuleApplied(perhaps_past(line, tokens, ending)?)),
-        CondName::RuleEvaluated => Ok(CondKind::RuleEvaluated(perhaps_past(
-            line, tokens, ending,
-        )?)),
+        CondName::RuleEvaluated => Ok(CondKind::RuleEvaluated(perhaps_past(line, tokens, ending)?)),
         CondName::Random => Ok(random(perhaps_chance(line, tokens, ending)?)),
         CondName::True => Ok(CondKind::True),
         CondName::False => Ok(CondKind::False),

@@ -40,12 +40,7 @@ fn read_line(alloc: Global, line: &[u8]) -> Result<Option<Rule>, Stop>
 }
 
 // Adds the rule of a line, if it has one.
-fn add_line(
-    alloc: Global,
-    line: &[u8],
-    number: u64,
-    rules: &mut Vec<Rule>,
-) -> Result<(), FileFault>
+fn add_line(alloc: Global, line: &[u8], number: u64, rules: &mut Vec<Rule>) -> Result<(), FileFault>
     ensures { files.Adds result rules.new.items (files.added number rules.old.items (files.line_read line.now)) }
 {
     match read_line(alloc, line) {

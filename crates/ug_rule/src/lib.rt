@@ -7,6 +7,8 @@ mod files;
 mod keywords;
 mod queries;
 mod rules;
+#[cfg(test)]
+mod tests;
 mod tokens_left;
 mod values;
 mod words;

@@ -191,12 +191,7 @@ fn bare_id(alloc: Global, line: &[u8], tokens: &mut Tokens) -> Result<Query, Sto
 
 /// A bare id or none, and attributes.
 #[tactic(auto, unfolding(crate::specs::Queries::query_of))]
-pub fn query(
-    alloc: Global,
-    line: &[u8],
-    tokens: &mut Tokens,
-    ending: Ending,
-) -> Result<Query, Stop>
+pub fn query(alloc: Global, line: &[u8], tokens: &mut Tokens, ending: Ending) -> Result<Query, Stop>
     ensures is { Reads result tokens.new (queries.query_of line.now ending tokens.old) }
     ensures shorter { length tokens.new ≤ length tokens.old }
 {

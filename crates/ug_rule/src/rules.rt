@@ -50,12 +50,7 @@ fn rule_ends(line: &[u8], tokens: &mut Tokens, rule: Rule) -> Result<Rule, Stop>
 
 // What stands behind the target.
 #[tactic(auto, unfolding(crate::specs::Rules::parts_of))]
-fn parts(
-    alloc: Global,
-    line: &[u8],
-    tokens: &mut Tokens,
-    target: Target,
-) -> Result<Rule, Stop>
+fn parts(alloc: Global, line: &[u8], tokens: &mut Tokens, target: Target) -> Result<Rule, Stop>
     ensures { Answers result (rules.parts_of line.now target tokens.old) }
 {
     let ending = end_of(line);

@@ -200,13 +200,7 @@ fn part(most: u32, text: &[u8]) -> Option<u32>
         return None;
     }
     match digits(text) {
-        Some(number) => {
-            if number <= most {
-                Some(number)
-            } else {
-                None
-            }
-        }
+        Some(number) => { if number <= most { Some(number) } else { None } }
         None => None,
     }
 }
