@@ -5,6 +5,7 @@ mod conditions;
 mod fault;
 mod files;
 mod keywords;
+mod laws;
 mod queries;
 mod rules;
 #[cfg(test)]
@@ -15,4 +16,5 @@ mod words;
 
 pub use fault::RuleFault;
 pub use files::parse_file;
+pub use laws::{one_meaning, values_law};
 pub use rules::{parse_query, parse_rule};
