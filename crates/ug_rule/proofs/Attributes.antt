@@ -15,7 +15,7 @@ abbrev Walk : Type 0
 Walk = Result (Query × List Token) Fault
 
 -- an attribute comes next
-named_first : (n : ℕ) (line : List ℕ) (ending : Ending) (query : Query) (tokens rest : List Token) (named : Named)
+pub named_first : (n : ℕ) (line : List ℕ) (ending : Ending) (query : Query) (tokens rest : List Token) (named : Named)
     → name_of line tokens ≡ (Some named, rest)
     → attributes_from (suc n) line ending query tokens ≡ on_ok (once line ending named query rest) (λ p. attributes_from n line ending p.0 p.1)
 unfolding attributes_from

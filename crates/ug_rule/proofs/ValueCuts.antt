@@ -89,15 +89,18 @@ set_cut reads ending op values tokens rest h =
     let s = by_step (items_of reads ending [] tokens) (λ p. Ok (valued op p.0, p.1)) (values, rest) h in
     let e = same_ok (valued op s.0.0, s.0.1) (values, rest) s.2 in
     let d : Ends reads [] s.0.0 tokens s.0.1 = items_end reads ending [] s.0.0 tokens s.0.1 s.1 in
-    let r : s.0.1 ≡ rest = ap (λ p. p.1) e in
-    (s.0.0, record {
-      inner = d.inner;
-      brace = d.brace;
-      cut = d.cut ∙ ap (λ l. d.inner ++ d.brace ∷ l) r;
-      closes = d.closes;
-      says = subst (AreItems reads d.inner) (sym d.is) d.says;
-      some = d.some;
-    }, sym (ap (λ p. p.0) e))
+    let r : s.0.1 ≡ rest = ap (λ p. p.1) e in (
+      s.0.0,
+      record {
+        inner = d.inner;
+        brace = d.brace;
+        cut = d.cut ∙ ap (λ l. d.inner ++ d.brace ∷ l) r;
+        closes = d.closes;
+        says = subst (AreItems reads d.inner) (sym d.is) d.says;
+        some = d.some;
+      },
+      sym (ap (λ p. p.0) e),
+    )
 
 set_reads : {X : Type 0} (reads : Token → Option X) (ending : Ending) (op : Op) (values : Values X) (items : List X) (tokens rest : List Token) → IsSet reads items tokens rest → values ≡ valued op items → set_of reads ending op tokens ≡ Ok (values, rest)
 set_reads reads ending op values items tokens rest s e =

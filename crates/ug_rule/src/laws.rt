@@ -3,7 +3,8 @@ ghost use Rattle.std.specs.Prelude.{◌≡◌, ◌↔◌, ◌⊎◌, ℕ, List};
 ghost use Rattle.ug_lex.specs.declared.token.Token.{Token};
 ghost use Rattle.ug_rule.specs.declared.fault.Ending.{Ending};
 ghost use Rattle.ug_rule.specs.declared.fault.Fault.{Fault};
-ghost use Rattle.ug_rule.specs.Grammar.{IsValue};
+ghost use Rattle.ug_rule.specs.Grammar.{AllAttributes, IsValue};
+ghost use Rattle.ug_rule.specs.Queries.{attributes_of};
 ghost use Rattle.ug_rule.specs.Rules.{rule_read, query_read};
 ghost use Rattle.ug_rule.specs.Values.{id_in, interface_in, string_in, value_of};
 
@@ -14,6 +15,11 @@ pub fn values_law()
     ensures ids { (line : List ℕ) (ending : Ending) (values : Values Id) (tokens rest : List Token) → (value_of line (id_in line) ending tokens ≡ Ok (values, rest)) ↔ IsValue line (id_in line) values tokens rest }
     ensures interfaces { (line : List ℕ) (ending : Ending) (values : Values Iface) (tokens rest : List Token) → (value_of line (interface_in line) ending tokens ≡ Ok (values, rest)) ↔ IsValue line (interface_in line) values tokens rest }
     ensures strings { (line : List ℕ) (ending : Ending) (values : Values (List ℕ)) (tokens rest : List Token) → (value_of line (string_in line) ending tokens ≡ Ok (values, rest)) ↔ IsValue line (string_in line) values tokens rest }
+{}
+
+/// Attributes are read exactly as their tokens are cut into names and values, in whatever order, each name once.
+pub fn attributes_law()
+    ensures { (line : List ℕ) (ending : Ending) (query all : Query) (tokens rest : List Token) → (attributes_of line ending query tokens ≡ Ok (all, rest)) ↔ AllAttributes line query all tokens rest }
 {}
 
 /// A line is one rule, or has one first fault, and never both. So it is with queries.
