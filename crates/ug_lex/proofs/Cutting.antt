@@ -1,7 +1,6 @@
 -- Lines read by their parts, and cut.
 use Rattle.std.proofs.Common.{◌≡◌, ℕ, zero, suc, ◌+◌, ◌<◌, ◌≤◌, ◌⊎◌, inl, inr, Bool, true, false, nat_eq, List, [], ◌∷◌, ◌++◌, length, length-append, drop, Option, None, Some, Result, Ok, Err, refl, sym, ap, subst, ◌∙◌, arith, append_assoc, add-zero}
 use Rattle.std.specs.Prelude.{◌≢◌}
-use Rattle.std.specs.List.{AllByRecursion, prefix_len}
 use Rattle.std.proofs.lemmas.List.{append-nil}
 use Rattle.std.proofs.Math.Seq.{drop-append_seam}
 use Rattle.ug_lex.specs.declared.pieces.Front.{Front}
@@ -12,7 +11,7 @@ use Rattle.ug_lex.specs.declared.token.TokenKind.TheVariants as kinds
 use Rattle.ug_lex.specs.Lexing.{Fault, BadEscape, OpenString, BadByte, Lexed, before, front_of, is_blank, is_word_byte, led_by, mark_of, passed_by, quoted_from, string_of, tokens_from}
 use Rattle.ug_lex.specs.Grammar.{AllStand, Faulty, Strange, Unclosed, Misspelled, IsComment, Part, Spells, Stands, Blank, Mark, Word, String, joined, placed, token_at, width}
 use Rattle.ug_lex.proofs.Begun.{Run, blank_front, comment_front, mark_front, other_number, run_length, run_of, same_number, strange_front, string_front, word_front}
-use Rattle.ug_lex.proofs.Spelling.{Closed, Ended, Misspelt, closed_read, cut_string, ended_read, misspelled_read, spelled_read}
+use Rattle.ug_lex.proofs.Spelling.{closed_read, cut_string, ended_read, misspelled_read, spelled_read}
 use Rattle.ug_lex.proofs.Steps.{behind, grown, line_step}
 
 -- what stands at the front is read

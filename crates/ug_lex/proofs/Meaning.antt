@@ -1,5 +1,5 @@
 -- What is read is what the cut into blanks, tokens and a comment says.
-use Rattle.std.proofs.Common.{◌≡◌, ℕ, zero, suc, ◌+◌, ◌<◌, ◌≤◌, ◌⊎◌, inl, inr, List, [], ◌∷◌, ◌++◌, length, length-append, Option, None, Some, Result, Ok, Err, refl, sym, ap, subst, ◌∙◌, arith}
+use Rattle.std.proofs.Common.{◌≡◌, ℕ, ◌+◌, ◌<◌, ◌≤◌, ◌⊎◌, inl, inr, List, [], ◌∷◌, ◌++◌, length, length-append, Option, None, Some, Result, Ok, Err, refl, sym, ap, subst, ◌∙◌, arith}
 use Rattle.std.specs.Prelude.{IfOk, IfErr}
 use Rattle.std.proofs.lemmas.List.{append-nil}
 use Rattle.ug_lex.specs.declared.fault.LexFault.{LexFault}
@@ -7,8 +7,8 @@ use Rattle.ug_lex.specs.declared.fault.LexFault.TheVariants as lex
 use Rattle.ug_lex.specs.declared.token.Token.{Token}
 use Rattle.ug_lex.specs.declared.token.TokenKind.{TokenKind}
 use Rattle.ug_lex.specs.Lexing.{Answers, Fault, BadEscape, OpenString, BadByte, Lexed, tokens_from, tokens_of}
-use Rattle.ug_lex.specs.Grammar.{AllStand, Bad, Faulty, Good, IfLexical, InOrder, IsComment, Part, Stands, Blank, Mark, Word, String, joined, placed, token_at, width}
-use Rattle.ug_lex.proofs.Cutting.{Stopped, Whole, all_read, comment_read, cut_line, faulty_read}
+use Rattle.ug_lex.specs.Grammar.{AllStand, Bad, Faulty, Good, IfLexical, InOrder, Part, Stands, Blank, Mark, Word, String, joined, placed, token_at, width}
+use Rattle.ug_lex.proofs.Cutting.{all_read, comment_read, cut_line, faulty_read}
 use Rattle.ug_lex.proofs.Steps.{behind}
 
 read_is : (line : List ℕ) → tokens_of line ≡ tokens_from 0 0 line

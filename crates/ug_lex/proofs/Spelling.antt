@@ -1,11 +1,10 @@
 -- Strings read by what they spell, and cut.
-use Rattle.std.proofs.Common.{◌≡◌, ℕ, zero, suc, ◌+◌, ◌*◌, ◌<◌, ◌≤◌, ◌⊎◌, inl, inr, Bool, true, false, ◌||◌, nat_eq, List, [], ◌∷◌, ◌++◌, length, length-append, drop, Option, None, Some, Result, Ok, Err, refl, sym, ap, subst, ◌∙◌, arith, append_assoc, add-zero}
+use Rattle.std.proofs.Common.{◌≡◌, ℕ, zero, suc, ◌+◌, ◌*◌, ◌≤◌, ◌⊎◌, inl, inr, Bool, true, false, nat_eq, List, [], ◌∷◌, ◌++◌, length, length-append, drop, Option, None, Some, Result, Ok, Err, refl, sym, ap, subst, ◌∙◌, arith, append_assoc, add-zero}
 use Rattle.std.specs.Prelude.{◌≢◌}
 use Rattle.std.proofs.Math.Seq.{drop-append_seam}
-use Rattle.ug_lex.specs.declared.pieces.Inner.{Inner}
-use Rattle.ug_lex.specs.declared.pieces.Inner.TheVariants.{Quote, Newline, Stray, Byte}
+use Rattle.ug_lex.specs.declared.pieces.Inner.TheVariants.{Stray, Byte}
 use Rattle.ug_lex.specs.declared.pieces.Quoted.{Quoted}
-use Rattle.ug_lex.specs.Lexing.{Fault, BadEscape, OpenString, digit_of, digits_of, escape_of, inner_of, pair_of, quoted_from, spelled, within}
+use Rattle.ug_lex.specs.Lexing.{Fault, BadEscape, OpenString, digit_of, digits_of, escape_of, inner_of, pair_of, quoted_from, spelled}
 use Rattle.ug_lex.specs.Grammar.{BeginsEscape, Plain, Digits, IsLineEnd, Spells, Empty, Itself, Escaped, Coded}
 use Rattle.ug_lex.proofs.Steps.{grown, string_step}
 

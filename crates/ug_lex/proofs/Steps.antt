@@ -1,10 +1,9 @@
 -- One step of the reading.
-use Rattle.std.proofs.Common.{◌≡◌, ℕ, zero, suc, ◌+◌, ◌-◌, ◌<◌, ◌≤◌, Bool, true, List, [], ◌∷◌, ◌++◌, length, take, drop, slice_index, Option, None, Some, Result, Ok, Err, refl, sym, ap, ◌∙◌, arith, add-zero, length-drop, append_assoc}
+use Rattle.std.proofs.Common.{◌≡◌, ℕ, zero, suc, ◌+◌, ◌-◌, ◌<◌, ◌≤◌, List, [], ◌∷◌, ◌++◌, length, take, drop, slice_index, Result, Ok, Err, refl, sym, ap, ◌∙◌, arith, add-zero, length-drop, append_assoc}
 use Rattle.std.proofs.lemmas.List.{take_all, drop_all, drop-drop, drop_more}
 use Rattle.ug_lex.specs.declared.pieces.Front.{Front}
-use Rattle.ug_lex.specs.declared.pieces.Front.TheVariants.{Blank, Comment, Piece}
+use Rattle.ug_lex.specs.declared.pieces.Front.TheVariants.{Piece}
 use Rattle.ug_lex.specs.declared.pieces.Inner.{Inner}
-use Rattle.ug_lex.specs.declared.pieces.Inner.TheVariants.{Quote, Newline, Stray, Byte}
 use Rattle.ug_lex.specs.declared.pieces.Quoted.{Quoted}
 use Rattle.ug_lex.specs.declared.fault.LexFault.{LexFault}
 use Rattle.ug_lex.specs.declared.fault.LexFault.TheVariants as lex

@@ -1,5 +1,5 @@
 -- One more attribute of a query.
-use Rattle.std.proofs.Common.{◌≡◌, ℕ, zero, suc, ◌<◌, ◌≤◌, List, [], ◌∷◌, length, Option, Some, None, Result, Ok, Err, refl, sym, ap, ◌∙◌, arith, add-one}
+use Rattle.std.proofs.Common.{◌≡◌, ℕ, zero, suc, ◌<◌, ◌≤◌, List, [], ◌∷◌, length, Option, Some, None, Result, Ok, Err, refl, sym, ap, ◌∙◌, arith}
 use Rattle.ug_lex.specs.declared.token.Token.{Token}
 use Rattle.ug_types.specs.declared.rule.Query.{Query}
 use Rattle.ug_rule.specs.declared.fault.Ending.{Ending}
@@ -8,7 +8,7 @@ use Rattle.ug_rule.specs.declared.fault.Stop.{Stop}
 use Rattle.ug_rule.specs.declared.fault.Stop.TheVariants.{Bad, Memory}
 use Rattle.ug_rule.specs.declared.queries.Named.{Named}
 use Rattle.ug_rule.specs.Faults.{on_ok}
-use Rattle.ug_rule.specs.Queries.{name_of, once, more_behind, attributes_from}
+use Rattle.ug_rule.specs.Queries.{name_of, once, attributes_from}
 use Rattle.ug_rule.specs.Tokens.{ReadsInto}
 
 abbrev Walk : Type 0

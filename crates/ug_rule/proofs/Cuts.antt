@@ -1,5 +1,5 @@
 -- A part of a line, whose ends may stand past the line's.
-use Rattle.std.proofs.Common.{◌≡◌, ℕ, ◌-◌, ◌≤◌, ◌<◌, Bool, true, false, nat_le, List, [], length, take, drop, min, refl, sym, ap, ◌∙◌, arith, length-drop, length-take}
+use Rattle.std.proofs.Common.{◌≡◌, ℕ, ◌-◌, ◌≤◌, ◌<◌, Bool, true, false, nat_le, List, length, take, drop, min, refl, sym, ap, ◌∙◌, arith, length-drop, length-take}
 use Rattle.std.proofs.lemmas.Bool.{leb-true}
 use Rattle.std.proofs.lemmas.Bool.Decides.{nat_tests}
 use Rattle.std.proofs.lemmas.List.{take_min, nil_from_length}

@@ -1,15 +1,14 @@
 -- A value is read as the grammar cuts it.
-use Rattle.std.proofs.Common.{◌≡◌, ℕ, ◌<◌, ◌⊎◌, inl, inr, Bool, true, false, List, [], ◌∷◌, ◌++◌, length, Option, Some, None, Result, Ok, Err, refl, sym, ap, subst, ◌∙◌, append_assoc, arith, if◌then◌else◌}
+use Rattle.std.proofs.Common.{◌≡◌, ℕ, ◌<◌, inl, inr, true, false, List, [], ◌∷◌, ◌++◌, length, Option, Some, None, Ok, Err, refl, sym, ap, subst, ◌∙◌, append_assoc, arith}
 use Rattle.std.proofs.lemmas.List.{append-nil}
 use Rattle.ug_lex.specs.declared.token.Token.{Token}
 use Rattle.ug_types.specs.declared.rule.Op.{Op}
 use Rattle.ug_types.specs.declared.rule.Op.TheVariants.{Equals}
 use Rattle.ug_types.specs.declared.rule.Values.{Values}
 use Rattle.ug_rule.specs.declared.fault.Ending.{Ending}
-use Rattle.ug_rule.specs.declared.fault.Fault.{Fault}
 use Rattle.ug_rule.specs.declared.fault.FaultKind.TheVariants.{BadValue}
-use Rattle.ug_rule.specs.Faults.{fault_at, on_ok, required, within}
-use Rattle.ug_rule.specs.Grammar.{AreItems, IsSet, IsSingle, IsPlainSet, IsOperatorSet, IsValue}
+use Rattle.ug_rule.specs.Faults.{fault_at, on_ok, within}
+use Rattle.ug_rule.specs.Grammar.{AreItems, IsSet, IsSingle, IsOperatorSet, IsValue}
 use Rattle.ug_rule.specs.Keywords.{operator_of}
 use Rattle.ug_rule.specs.Tokens.{word_of, is_open, is_close}
 use Rattle.ug_rule.specs.Values.{item_of, filled, items_of, valued, set_of, brace_of, behind_operator, single_of, value_behind, value_of}

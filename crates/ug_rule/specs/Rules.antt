@@ -1,18 +1,15 @@
 -- Rules and queries of whole lines, and the rules of a text: usbguard-rules.conf(5).
-use Rattle.std.specs.Prelude.{◌≡◌, ℕ, ◌+◌, Bool, nat_eq, if◌then◌else◌, List, [], ◌∷◌, ◌++◌, length, Option, Some, None, Result, Ok, Err}
+use Rattle.std.specs.Prelude.{ℕ, if◌then◌else◌, List, [], ◌∷◌, length, Option, Some, None, Result, Ok, Err}
 use Rattle.ug_lex.specs.declared.token.Token.{Token}
 use Rattle.ug_types.specs.declared.rule.Conds.{Conds}
 use Rattle.ug_types.specs.declared.rule.Query.{Query}
 use Rattle.ug_types.specs.declared.rule.Rule.{Rule}
-use Rattle.ug_types.specs.declared.text_fault.FileFault.{FileFault}
-use Rattle.ug_types.specs.declared.text_fault.FileFault.TheVariants.{Bad, Memory}
-use Rattle.ug_types.specs.declared.text_fault.TextFault.{TextFault}
 use Rattle.ug_types.specs.declared.verdict.Target.{Target}
 use Rattle.ug_rule.specs.declared.fault.Ending.{Ending}
 use Rattle.ug_rule.specs.declared.fault.Fault.{Fault}
 use Rattle.ug_rule.specs.declared.fault.FaultKind.TheVariants.{NoTarget, Repeated}
 use Rattle.ug_rule.specs.Conditions.{conditions_of}
-use Rattle.ug_rule.specs.Faults.{fault_at, kind_number, missing, on_ok, required}
+use Rattle.ug_rule.specs.Faults.{fault_at, on_ok, required}
 use Rattle.ug_rule.specs.Keywords.{target_of, is_if}
 use Rattle.ug_rule.specs.Queries.{attributes_of, query_of, query_ends, stray}
 use Rattle.ug_rule.specs.Tokens.{word_of, first_word, behind_first, tokens_read}

@@ -1,9 +1,8 @@
 // The conditions of a rule: usbguard-rules.conf(5).
 ghost use Rattle.std.specs.Prelude.{◌≡◌, ◌≤◌, [], length};
 ghost use Rattle.ug_rule.specs.Conditions as conditions;
-ghost use Rattle.ug_rule.specs.Faults.{Answers};
 ghost use Rattle.ug_rule.specs.Tokens.{Reads};
-ghost use Rattle.ug_rule.specs.Words.{span_of, past_of, chance_of};
+ghost use Rattle.ug_rule.specs.Words.{past_of, chance_of};
 
 use crate::fault::{Ending, FaultKind, Stop, required};
 use crate::keywords::{CondName, condition, operator};

@@ -1,5 +1,5 @@
 // The attributes of a rule: usbguard-rules.conf(5).
-ghost use Rattle.std.specs.Prelude.{◌≡◌, ◌≤◌, ◌<◌, length, nat_eq, IfSome};
+ghost use Rattle.std.specs.Prelude.{◌≡◌, ◌≤◌, ◌<◌, length, IfSome};
 ghost use Rattle.ug_rule.specs.Faults.{Answers};
 ghost use Rattle.ug_rule.specs.Tokens.{Reads, ReadsInto};
 ghost use Rattle.ug_rule.specs.Queries as queries;

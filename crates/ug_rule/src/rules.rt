@@ -1,5 +1,5 @@
 // Rules and queries of whole lines: usbguard-rules.conf(5).
-ghost use Rattle.std.specs.Prelude.{◌≡◌, ◌≤◌, length};
+ghost use Rattle.std.specs.Prelude.{◌≡◌};
 ghost use Rattle.ug_rule.specs.Faults.{Answers, Gives};
 ghost use Rattle.ug_rule.specs.Rules as rules;
 ghost use Rattle.ug_rule.specs.Tokens.{Reads};

@@ -1,7 +1,7 @@
 // Numbers and times in the words of a rule.
 ghost use Rattle.std.specs.Prelude.{◌≡◌, ◌≤◌, nat_eq, Some, IfSome};
 ghost use Rattle.std.specs.List.{position};
-ghost use Rattle.ug_rule.specs.Words.{two_of, four_of, has_colon, id_of, id_of_vendor, interface_of, interface_of_class, interface_of_subclass, with_digit, digits_of, number_of, part_of, minute_of, time_of, first_second, last_second, span_of, span_by_dash, past_of, billionths_of, chance_of};
+ghost use Rattle.ug_rule.specs.Words.{two_of, four_of, has_colon, id_of, id_of_vendor, interface_of, interface_of_class, interface_of_subclass, with_digit, digits_of, number_of, part_of, minute_of, time_of, first_second, last_second, span_of, past_of, billionths_of, chance_of};
 
 use hex::FromHex;
 use ug_types::{Id, Iface};

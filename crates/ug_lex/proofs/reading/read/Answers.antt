@@ -1,10 +1,9 @@
-use Rattle.std.proofs.Common.{◌≡◌, ◌+◌, ◌<◌, Ok, Err, Result, List, length, drop, sym, ap, ◌∙◌, arith, append_assoc}
+use Rattle.std.proofs.Common.{◌≡◌, ◌+◌, ◌<◌, Ok, Err, List, length, drop, sym, ap, ◌∙◌, arith}
 use Rattle.std.proofs.lemmas.List.{append-nil}
 use Rattle.std.proofs.lemmas.Result.{err_from_is_err_and}
-use Rattle.ug_lex.specs.declared.pieces.Front.{Front}
 use Rattle.ug_lex.specs.declared.pieces.Front.TheVariants.{Blank, Comment, Piece}
 use Rattle.ug_lex.specs.declared.token.Token.{Token}
-use Rattle.ug_lex.specs.Lexing.{Answers, Fault, front_of, passed_by, tokens_from}
+use Rattle.ug_lex.specs.Lexing.{front_of, tokens_from}
 use Rattle.ug_lex.proofs.Steps.{behind, handed_on, line_end, line_more, line_turn}
 use Rattle.ug_lex.proofs.reading.read.Goals as goal
 

@@ -1,9 +1,7 @@
-use Rattle.std.proofs.Common.{◌≡◌, ◌+◌, ◌-◌, ◌≤◌, ◌<◌, ◌++◌, ◌∷◌, [], Ok, ℕ, List, Result, length, drop, sym, ap, ◌∙◌, arith}
+use Rattle.std.proofs.Common.{◌≡◌, ◌+◌, ◌-◌, ◌<◌, ◌++◌, [], Ok, length, sym, ap, ◌∙◌, arith}
 use Rattle.std.proofs.lemmas.List.{append-nil}
 use Rattle.ug_lex.specs.declared.pieces.Inner.TheVariants.{Quote, Newline, Stray, Byte}
-use Rattle.ug_lex.specs.declared.pieces.Quoted.{Quoted}
-use Rattle.ug_lex.specs.Lexing.{Fault, inner_of, more_of, quoted_from}
-use Rattle.ug_lex.proofs.Steps.{grown, grown-spelled, rest_at, rest_length, string_end, string_more, string_turn}
+use Rattle.ug_lex.proofs.Steps.{grown, rest_at, rest_length, string_end, string_more, string_turn}
 use Rattle.ug_lex.proofs.string.string.Goals as goal
 
 pub returns-in-Quote-clause-read : goal.returns-in-Quote-clause-read
