@@ -1,0 +1,10 @@
+pub mod Conditions
+pub mod Faults
+pub mod Files
+pub mod Grammar
+pub mod Keywords
+pub mod Queries
+pub mod Rules
+pub mod Tokens
+pub mod Values
+pub mod Words

@@ -1,0 +1,62 @@
+-- Rules and queries of whole lines, and the rules of a text: usbguard-rules.conf(5).
+use Rattle.std.specs.Prelude.{ℕ, if◌then◌else◌, List, [], ◌∷◌, length, Option, Some, None, Result, Ok, Err}
+use Rattle.ug_lex.specs.declared.token.Token.{Token}
+use Rattle.ug_types.specs.declared.rule.Conds.{Conds}
+use Rattle.ug_types.specs.declared.rule.Query.{Query}
+use Rattle.ug_types.specs.declared.rule.Rule.{Rule}
+use Rattle.ug_types.specs.declared.verdict.Target.{Target}
+use Rattle.ug_rule.specs.declared.fault.Ending.{Ending}
+use Rattle.ug_rule.specs.declared.fault.Fault.{Fault}
+use Rattle.ug_rule.specs.declared.fault.FaultKind.TheVariants.{NoTarget, Repeated}
+use Rattle.ug_rule.specs.Conditions.{conditions_of}
+use Rattle.ug_rule.specs.Faults.{fault_at, on_ok, required}
+use Rattle.ug_rule.specs.Keywords.{target_of, is_if}
+use Rattle.ug_rule.specs.Queries.{attributes_of, query_of, query_ends, stray}
+use Rattle.ug_rule.specs.Tokens.{word_of, first_word, behind_first, tokens_read}
+
+-- no brace is open at the line's end
+abbrev pub end_of : List ℕ → Ending
+end_of line = record { brace = None; length = length line }
+
+-- ---- one rule
+
+abbrev pub some_conds : Conds × List Token → Result (Option Conds × List Token) Fault
+some_conds p = Ok (Some p.0, p.1)
+
+-- `if` and its conditions, or none
+unfoldable pub conds_of : List ℕ → Ending → List Token → Result (Option Conds × List Token) Fault
+conds_of line ending tokens =
+    if is_if (first_word line tokens) then on_ok (conditions_of line ending (behind_first tokens)) some_conds
+    else Ok (None, tokens)
+
+-- nothing stands behind the parts of a rule
+abbrev pub rule_ends : List ℕ → Rule → List Token → Result Rule Fault
+rule_ends line rule [] = Ok rule
+rule_ends line rule (token ∷ rest) = Err (stray Repeated line token)
+
+-- attributes, conditions, attributes: an `if` stands at most once
+unfoldable pub parts_of : List ℕ → Target → List Token → Result Rule Fault
+parts_of line target tokens =
+    on_ok (query_of line (end_of line) tokens) (λ p.
+    on_ok (conds_of line (end_of line) p.1) (λ q.
+    on_ok (attributes_of line (end_of line) p.0 q.1) (λ r.
+    rule_ends line (record { target = target; query = r.0; conds = q.0 }) r.1)))
+
+-- the rule that tokens are
+unfoldable pub rule_of : List ℕ → List Token → Result Rule Fault
+rule_of line [] = Err (fault_at NoTarget (length line))
+rule_of line (token ∷ rest) =
+    on_ok (required (target_of (word_of line token)) NoTarget token.start) (λ target. parts_of line target rest)
+
+-- the rule of a line, or its first fault
+abbrev pub rule_read : List ℕ → Result Rule Fault
+rule_read line = on_ok (tokens_read line) (rule_of line)
+
+-- ---- one query
+
+unfoldable pub whole_query : List ℕ → List Token → Result Query Fault
+whole_query line tokens = on_ok (query_of line (end_of line) tokens) (λ p. query_ends line (end_of line) p.0 p.1)
+
+-- the query of a line, or its first fault
+abbrev pub query_read : List ℕ → Result Query Fault
+query_read line = on_ok (tokens_read line) (whole_query line)

@@ -1,0 +1,33 @@
+// Laws of the meaning of a rule's text.
+ghost use Rattle.std.specs.Prelude.{◌≡◌, ◌↔◌, ◌⊎◌, ℕ, List};
+ghost use Rattle.ug_lex.specs.declared.token.Token.{Token};
+ghost use Rattle.ug_rule.specs.declared.fault.Ending.{Ending};
+ghost use Rattle.ug_rule.specs.declared.fault.Fault.{Fault};
+ghost use Rattle.ug_rule.specs.Grammar.{AllAttributes, IsValue};
+ghost use Rattle.ug_rule.specs.Queries.{attributes_of};
+ghost use Rattle.ug_rule.specs.Rules.{rule_read, query_read};
+ghost use Rattle.ug_rule.specs.Values.{id_in, interface_in, string_in, value_of};
+
+use ug_types::{Id, Iface, Query, Rule, Values};
+
+/// A value is read exactly as its tokens are cut into one item, or an operator or none and items in braces.
+pub fn values_law()
+    ensures ids { (line : List ℕ) (ending : Ending) (values : Values Id) (tokens rest : List Token) → (value_of line (id_in line) ending tokens ≡ Ok (values, rest)) ↔ IsValue line (id_in line) values tokens rest }
+    ensures interfaces { (line : List ℕ) (ending : Ending) (values : Values Iface) (tokens rest : List Token) → (value_of line (interface_in line) ending tokens ≡ Ok (values, rest)) ↔ IsValue line (interface_in line) values tokens rest }
+    ensures strings { (line : List ℕ) (ending : Ending) (values : Values (List ℕ)) (tokens rest : List Token) → (value_of line (string_in line) ending tokens ≡ Ok (values, rest)) ↔ IsValue line (string_in line) values tokens rest }
+{}
+
+/// Attributes are read exactly as their tokens are cut into names and values, in whatever order, each name once.
+pub fn attributes_law()
+    ensures { (line : List ℕ) (ending : Ending) (query all : Query) (tokens rest : List Token) → (attributes_of line ending query tokens ≡ Ok (all, rest)) ↔ AllAttributes line query all tokens rest }
+{}
+
+/// A line is one rule, or has one first fault, and never both. So it is with queries.
+pub fn one_meaning()
+    ensures some { (line : List ℕ) → ((rule : Rule) × (rule_read line ≡ Ok rule)) ⊎ ((fault : Fault) × (rule_read line ≡ Err fault)) }
+    ensures one_rule { (line : List ℕ) (a b : Rule) → rule_read line ≡ Ok a → rule_read line ≡ Ok b → a ≡ b }
+    ensures not_both { (line : List ℕ) (rule : Rule) (fault : Fault) → rule_read line ≡ Ok rule → rule_read line ≡ Err fault → ⊥ }
+    ensures some_query { (line : List ℕ) → ((query : Query) × (query_read line ≡ Ok query)) ⊎ ((fault : Fault) × (query_read line ≡ Err fault)) }
+    ensures one_query { (line : List ℕ) (a b : Query) → query_read line ≡ Ok a → query_read line ≡ Ok b → a ≡ b }
+    ensures never_both { (line : List ℕ) (query : Query) (fault : Fault) → query_read line ≡ Ok query → query_read line ≡ Err fault → ⊥ }
+{}

@@ -1,0 +1,20 @@
+// Rules read from their text: usbguard-rules.conf(5).
+#![tactic(auto)]
+
+mod conditions;
+mod fault;
+mod files;
+mod keywords;
+mod laws;
+mod queries;
+mod rules;
+#[cfg(test)]
+mod tests;
+mod tokens_left;
+mod values;
+mod words;
+
+pub use fault::RuleFault;
+pub use files::parse_file;
+pub use laws::{attributes_law, one_meaning, values_law};
+pub use rules::{parse_query, parse_rule};

@@ -1,0 +1,238 @@
+// The attributes of a rule: usbguard-rules.conf(5).
+ghost use Rattle.std.specs.Prelude.{◌≡◌, ◌≤◌, ◌<◌, length, IfSome};
+ghost use Rattle.ug_rule.specs.Faults.{Answers};
+ghost use Rattle.ug_rule.specs.Tokens.{Reads, ReadsInto};
+ghost use Rattle.ug_rule.specs.Queries as queries;
+
+use crate::fault::{Ending, FaultKind, Stop};
+use crate::keywords::{Attr, attribute, is_if};
+use crate::tokens_left::{Tokens, word};
+use crate::values::{single, text, value};
+use std::alloc::Global;
+use ug_lex::{Token, TokenKind};
+use ug_types::{Id, Query, Values};
+
+/// An attribute whose name was read, and where it stands.
+#[derive(Clone, Copy)]
+pub struct Named {
+    pub attr: Attr,
+    pub place: u64,
+}
+
+pub fn empty_query() -> Query
+    ensures { result ≡ queries.no_query }
+{
+    Query {
+        id: None,
+        serial: None,
+        name: None,
+        hash: None,
+        parent_hash: None,
+        via_port: None,
+        interface: None,
+        connect: None,
+        label: None,
+    }
+}
+
+fn is_given(attr: Attr, query: &Query) -> bool
+    ensures { result ≡ queries.is_given attr query.now }
+{
+    match attr {
+        Attr::Id => query.id.is_some(),
+        Attr::Serial => query.serial.is_some(),
+        Attr::Name => query.name.is_some(),
+        Attr::Hash => query.hash.is_some(),
+        Attr::ParentHash => query.parent_hash.is_some(),
+        Attr::ViaPort => query.via_port.is_some(),
+        Attr::Interface => query.interface.is_some(),
+        Attr::Connect => query.connect.is_some(),
+        Attr::Label => query.label.is_some(),
+    }
+}
+
+/// Whether no attribute is given.
+#[tactic(auto, unfolding(crate::specs::Queries::is_blank))]
+pub fn is_blank(query: &Query) -> bool
+    ensures { result ≡ queries.is_blank query.now }
+{
+    query.id.is_none()
+        && query.serial.is_none()
+        && query.name.is_none()
+        && query.hash.is_none()
+        && query.parent_hash.is_none()
+        && query.via_port.is_none()
+        && query.interface.is_none()
+        && query.connect.is_none()
+        && query.label.is_none()
+}
+
+#[tactic(auto, unfolding(crate::specs::Queries::with_attribute))]
+fn add_attribute(
+    alloc: Global,
+    line: &[u8],
+    tokens: &mut Tokens,
+    ending: Ending,
+    attr: Attr,
+    query: &mut Query,
+) -> Result<(), Stop>
+    ensures is { ReadsInto result query.new tokens.new (queries.with_attribute line.now ending attr query.old tokens.old) }
+    ensures shorter { length tokens.new ≤ length tokens.old }
+{
+    match attr {
+        Attr::Id => query.id = Some(value(alloc, line, tokens, ending)?),
+        Attr::Serial => query.serial = Some(value(alloc, line, tokens, ending)?),
+        Attr::Name => query.name = Some(value(alloc, line, tokens, ending)?),
+        Attr::Hash => query.hash = Some(value(alloc, line, tokens, ending)?),
+        Attr::ParentHash => query.parent_hash = Some(value(alloc, line, tokens, ending)?),
+        Attr::ViaPort => query.via_port = Some(value(alloc, line, tokens, ending)?),
+        Attr::Interface => query.interface = Some(value(alloc, line, tokens, ending)?),
+        Attr::Connect => query.connect = Some(value(alloc, line, tokens, ending)?),
+        Attr::Label => query.label = Some(text(line, tokens, ending)?),
+    }
+    Ok(())
+}
+
+// An attribute whose name was read stands for the first time.
+fn add_once(
+    alloc: Global,
+    line: &[u8],
+    tokens: &mut Tokens,
+    ending: Ending,
+    named: Named,
+    query: &mut Query,
+) -> Result<(), Stop>
+    ensures is { ReadsInto result query.new tokens.new (queries.once line.now ending named query.old tokens.old) }
+    ensures shorter { length tokens.new ≤ length tokens.old }
+{
+    if is_given(named.attr, query) {
+        return Err(Stop::at(FaultKind::Repeated, named.place));
+    }
+    add_attribute(alloc, line, tokens, ending, named.attr, query)
+}
+
+// The name of an attribute at the front.
+fn next_name(line: &[u8], tokens: &mut Tokens) -> Option<Named>
+    ensures is { queries.name_of line.now tokens.old ≡ (result, tokens.new) }
+    ensures shorter { IfSome result (λ _. length tokens.new < length tokens.old) }
+    ensures bound { length tokens.new ≤ length tokens.old }
+{
+    match attribute(tokens.first_word(line)) {
+        Some(attr) => match tokens.next() {
+            Some(token) => Some(Named {
+                attr,
+                place: token.start as u64,
+            }),
+            None => None,
+        },
+        None => None,
+    }
+}
+
+/// Adds the attributes that come next.
+pub fn add_attributes(
+    alloc: Global,
+    line: &[u8],
+    tokens: &mut Tokens,
+    ending: Ending,
+    query: &mut Query,
+) -> Result<(), Stop>
+    ensures is { ReadsInto result query.new tokens.new (queries.attributes_of line.now ending query.old tokens.old) }
+    ensures shorter { length tokens.new ≤ length tokens.old }
+{
+    while let Some(named) = next_name(line, tokens) {
+        match add_once(alloc, line, tokens, ending, named, query) {
+            Ok(()) => {}
+            Err(stop) => return Err(stop),
+        }
+    }
+    Ok(())
+}
+
+fn has_colon(word: &[u8]) -> bool
+    ensures { result ≡ queries.has_colon word.now }
+{
+    word.iter().any(|b| b':' == *b)
+}
+
+fn id_query(id: Values<Id>) -> Query
+    ensures { result ≡ queries.id_query id }
+{
+    Query {
+        id: Some(id),
+        serial: None,
+        name: None,
+        hash: None,
+        parent_hash: None,
+        via_port: None,
+        interface: None,
+        connect: None,
+        label: None,
+    }
+}
+
+// A first word with a colon is an id.
+#[tactic(auto, unfolding(crate::specs::Queries::bare_of))]
+fn bare_id(alloc: Global, line: &[u8], tokens: &mut Tokens) -> Result<Query, Stop>
+    ensures is { Reads result tokens.new (queries.bare_of line.now tokens.old) }
+    ensures shorter { length tokens.new ≤ length tokens.old }
+{
+    if !has_colon(tokens.first_word(line)) {
+        return Ok(empty_query());
+    }
+    match tokens.next() {
+        Some(token) => {
+            let id = single(alloc, line, token)?;
+            Ok(id_query(id))
+        }
+        None => Ok(empty_query()),
+    }
+}
+
+/// A bare id or none, and attributes.
+#[tactic(auto, unfolding(crate::specs::Queries::query_of))]
+pub fn query(alloc: Global, line: &[u8], tokens: &mut Tokens, ending: Ending) -> Result<Query, Stop>
+    ensures is { Reads result tokens.new (queries.query_of line.now ending tokens.old) }
+    ensures shorter { length tokens.new ≤ length tokens.old }
+{
+    let mut query = bare_id(alloc, line, tokens)?;
+    match add_attributes(alloc, line, tokens, ending, &mut query) {
+        Ok(()) => Ok(query),
+        Err(stop) => Err(stop),
+    }
+}
+
+/// What is wrong with a token that begins no attribute.
+#[tactic(auto, unfolding(crate::specs::Queries::stray))]
+pub fn stray(of_if: FaultKind, line: &[u8], token: &Token) -> Stop
+    ensures { result ≡ Stop.Bad (queries.stray of_if line.now token.now) }
+{
+    let place = token.start as u64;
+    if is_if(word(line, token)) {
+        return Stop::at(of_if, place);
+    }
+    match token.kind {
+        TokenKind::Word => Stop::at(FaultKind::UnknownWord, place),
+        _ => Stop::at(FaultKind::TrailingToken, place),
+    }
+}
+
+/// The line of a query ends behind its attributes.
+pub fn query_ends(
+    line: &[u8],
+    tokens: &mut Tokens,
+    ending: Ending,
+    query: Query,
+) -> Result<Query, Stop>
+    ensures { Answers result (queries.query_ends line.now ending query tokens.old) }
+{
+    match tokens.next() {
+        Some(token) => Err(stray(FaultKind::ConditionInQuery, line, &token)),
+        None => {
+            if is_blank(&query) {
+                return Err(ending.missing(FaultKind::BadValue));
+            }
+            Ok(query)
+        }
+    }
+}
