@@ -1,5 +1,5 @@
 -- The words of a rule in their order: usbguard-rules.conf(5).
-use Rattle.std.specs.Prelude.{ℕ, Bool, true, false, nat_eq, if◌then◌else◌, List, [], ◌∷◌, ◌++◌, length, map, Option, None, Some, codes, flat_map}
+use Rattle.std.specs.Prelude.{ℕ, Bool, false, nat_eq, if◌then◌else◌, List, [], ◌∷◌, ◌++◌, length, map, Option, None, Some, codes, flat_map}
 use Rattle.ug_types.specs.declared.rule.Cond.{Cond}
 use Rattle.ug_types.specs.declared.rule.CondKind.{CondKind}
 use Rattle.ug_types.specs.declared.rule.CondKind.TheVariants as kind

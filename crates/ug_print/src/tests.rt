@@ -79,45 +79,59 @@ fn with_cond(alloc: Global, negated: bool, kind: CondKind) -> Result<Vec<u8>, Fa
 }
 
 #[test]
-fn prints_attributes_in_order(rt: HostRuntime) -> Result<(), Fail> {
+fn prints_a_target(rt: HostRuntime) -> Result<(), Fail> {
+    let text = printed(rt.alloc(), Target::Block, any())?;
+    assert_eq!(rt; text.as_slice(), b"block".as_slice());
+    Ok(())
+}
+
+#[test]
+fn prints_an_id_and_a_name(rt: HostRuntime) -> Result<(), Fail> {
     let alloc = rt.alloc();
+    let mut query = any();
+    query.id = ids(alloc, &[id(Some(0x1050), Some(0x11))])?;
+    query.name = texts(alloc, Op::Equals, &[b"aA"])?;
+    let text = printed(alloc, Target::Allow, query)?;
     assert_eq!(rt;
-        printed(alloc, Target::Block, any())?.as_slice(),
-        b"block".as_slice()
-    );
-    let key = Query {
-        id: ids(alloc, &[id(Some(0x1050), Some(0x11))])?,
-        name: texts(alloc, Op::Equals, &[b"aA"])?,
-        ..any()
-    };
-    assert_eq!(rt;
-        printed(alloc, Target::Allow, key)?.as_slice(),
+        text.as_slice(),
         b"allow id 1050:0011 name \"aA\"".as_slice()
     );
-    let all = Query {
-        id: ids(alloc, &[id(Some(0xab_cd), None), id(None, None)])?,
-        serial: texts(alloc, Op::OneOf, &[b"s"])?,
-        name: texts(alloc, Op::NoneOf, &[b"n", b"m"])?,
-        hash: texts(alloc, Op::Equals, &[b"h"])?,
-        parent_hash: texts(alloc, Op::Equals, &[b"p"])?,
-        via_port: texts(alloc, Op::Equals, &[b"1-1"])?,
-        interface: interfaces(
-            alloc,
-            Op::EqualsOrdered,
-            &[
-                interface(3, Some(0xa), Some(1)),
-                interface(8, Some(6), None),
-                interface(0xe, None, None),
-            ],
-        )?,
-        connect: texts(alloc, Op::AllOf, &[b"hotplug"])?,
-        label: Some(Text::of(alloc, b"l")?),
-    };
-    let want =
-        b"reject id { abcd:* *:* } serial one-of { \"s\" } name none-of { \"n\" \"m\" } hash \"h\" parent-hash \"p\" via-port \"1-1\" with-interface equals-ordered { 03:0a:01 08:06:* 0e:*:* } with-connect-type all-of { \"hotplug\" } label \"l\"";
+    Ok(())
+}
+
+#[test]
+fn prints_ids_and_texts(rt: HostRuntime) -> Result<(), Fail> {
+    let alloc = rt.alloc();
+    let mut query = any();
+    query.hash = texts(alloc, Op::Equals, &[b"h"])?;
+    query.name = texts(alloc, Op::NoneOf, &[b"n", b"m"])?;
+    query.serial = texts(alloc, Op::OneOf, &[b"s"])?;
+    query.id = ids(alloc, &[id(Some(0xabcd), None), id(None, None)])?;
+    let text = printed(alloc, Target::Reject, query)?;
     assert_eq!(rt;
-        printed(alloc, Target::Reject, all)?.as_slice(),
-        want.as_slice()
+        text.as_slice(),
+        b"reject id { abcd:* *:* } serial one-of { \"s\" } name none-of { \"n\" \"m\" } hash \"h\"".as_slice()
+    );
+    Ok(())
+}
+
+#[test]
+fn prints_ports_and_interfaces(rt: HostRuntime) -> Result<(), Fail> {
+    let alloc = rt.alloc();
+    let values = [
+        interface(3, Some(0xa), Some(1)),
+        interface(8, Some(6), None),
+        interface(0xe, None, None),
+    ];
+    let mut query = any();
+    query.connect = texts(alloc, Op::AllOf, &[b"hotplug"])?;
+    query.interface = interfaces(alloc, Op::EqualsOrdered, &values)?;
+    query.via_port = texts(alloc, Op::Equals, &[b"1-1"])?;
+    query.parent_hash = texts(alloc, Op::Equals, &[b"p"])?;
+    let text = printed(alloc, Target::Reject, query)?;
+    assert_eq!(rt;
+        text.as_slice(),
+        b"reject parent-hash \"p\" via-port \"1-1\" with-interface equals-ordered { 03:0a:01 08:06:* 0e:*:* } with-connect-type all-of { \"hotplug\" }".as_slice()
     );
     Ok(())
 }
@@ -125,60 +139,68 @@ fn prints_attributes_in_order(rt: HostRuntime) -> Result<(), Fail> {
 #[test]
 fn prints_strings(rt: HostRuntime) -> Result<(), Fail> {
     let alloc = rt.alloc();
-    let query = Query {
-        label: Some(Text::of(alloc, b"\"\\ ~\x1f\x7f\xc3\n#")?),
-        ..any()
-    };
+    let mut query = any();
+    query.label = Some(Text::of(alloc, b"\"\\ ~\x1f\x7f\xc3\n#")?);
+    let text = printed(alloc, Target::Allow, query)?;
     assert_eq!(rt;
-        printed(alloc, Target::Allow, query)?.as_slice(),
+        text.as_slice(),
         b"allow label \"\\\"\\\\ ~\\x1f\\x7f\\xc3\\x0a#\"".as_slice()
     );
     Ok(())
 }
 
 #[test]
-fn prints_conditions(rt: HostRuntime) -> Result<(), Fail> {
+fn prints_times_and_queries(rt: HostRuntime) -> Result<(), Fail> {
     let alloc = rt.alloc();
-    let key = Query {
-        id: ids(alloc, &[id(Some(0x1050), None)])?,
-        serial: texts(alloc, Op::Equals, &[b""])?,
-        ..any()
-    };
     let night = CondKind::LocalTime {
         begin: 79_200,
         end: 21_659,
     };
-    let kinds: [(CondKind, &[u8]); 12] = [
-        (night, b"allow if localtime(22:00:00-06:00:59)"),
-        (
-            CondKind::AllowedMatches(key),
-            b"allow if allowed-matches(id 1050:* serial \"\")",
-        ),
-        (CondKind::RuleApplied(None), b"allow if rule-applied"),
-        (
-            CondKind::RuleApplied(Some(60)),
-            b"allow if rule-applied(60)",
-        ),
-        (
-            CondKind::RuleEvaluated(Some(4_294_967_295)),
-            b"allow if rule-evaluated(4294967295)",
-        ),
-        (CondKind::Random(0), b"allow if random(0)"),
-        (CondKind::Random(1_000_000_000), b"allow if random(1)"),
-        (CondKind::Random(500_000_000), b"allow if random(0.5)"),
-        (CondKind::Random(166_600_000), b"allow if random(0.1666)"),
-        (CondKind::Random(1), b"allow if random(0.000000001)"),
-        (CondKind::True, b"allow if true"),
-        (CondKind::False, b"allow if false"),
-    ];
-    for (kind, want) in kinds {
-        assert_eq!(rt; with_cond(alloc, false, kind)?.as_slice(), want);
-    }
-    let never = CondKind::RuleEvaluated(None);
+    let text = with_cond(alloc, false, night)?;
     assert_eq!(rt;
-        with_cond(alloc, true, never)?.as_slice(),
-        b"allow if !rule-evaluated".as_slice()
+        text.as_slice(),
+        b"allow if localtime(22:00:00-06:00:59)".as_slice()
     );
+    let mut query = any();
+    query.id = ids(alloc, &[id(Some(0x1050), None)])?;
+    query.serial = texts(alloc, Op::Equals, &[b""])?;
+    let text = with_cond(alloc, true, CondKind::AllowedMatches(query))?;
+    assert_eq!(rt;
+        text.as_slice(),
+        b"allow if !allowed-matches(id 1050:* serial \"\")".as_slice()
+    );
+    Ok(())
+}
+
+#[test]
+fn prints_pasts(rt: HostRuntime) -> Result<(), Fail> {
+    let alloc = rt.alloc();
+    let text = with_cond(alloc, false, CondKind::RuleApplied(None))?;
+    assert_eq!(rt; text.as_slice(), b"allow if rule-applied".as_slice());
+    let text = with_cond(alloc, false, CondKind::RuleEvaluated(Some(4_294_967_295)))?;
+    assert_eq!(rt;
+        text.as_slice(),
+        b"allow if rule-evaluated(4294967295)".as_slice()
+    );
+    let text = with_cond(alloc, true, CondKind::False)?;
+    assert_eq!(rt; text.as_slice(), b"allow if !false".as_slice());
+    Ok(())
+}
+
+#[test]
+fn prints_probabilities(rt: HostRuntime) -> Result<(), Fail> {
+    let alloc = rt.alloc();
+    let probabilities: [(u32, &[u8]); 5] = [
+        (0, b"allow if random(0)"),
+        (1, b"allow if random(0.000000001)"),
+        (166_600_000, b"allow if random(0.1666)"),
+        (500_000_000, b"allow if random(0.5)"),
+        (1_000_000_000, b"allow if random(1)"),
+    ];
+    for (n, want) in probabilities {
+        let text = with_cond(alloc, false, CondKind::Random(n))?;
+        assert_eq!(rt; text.as_slice(), want);
+    }
     Ok(())
 }
 
@@ -209,6 +231,14 @@ fn prints_sets_of_conditions(rt: HostRuntime) -> Result<(), Fail> {
     Ok(())
 }
 
+fn triple(subclass: u8) -> Triple {
+    Triple {
+        class: 14,
+        subclass,
+        protocol: 0,
+    }
+}
+
 fn device(alloc: Global, triples: &[Triple]) -> Result<DeviceRecord, Fail> {
     Ok(DeviceRecord {
         vendor: 0x046d,
@@ -224,27 +254,24 @@ fn device(alloc: Global, triples: &[Triple]) -> Result<DeviceRecord, Fail> {
 }
 
 #[test]
-fn prints_devices(rt: HostRuntime) -> Result<(), Fail> {
+fn prints_a_generated_rule(rt: HostRuntime) -> Result<(), Fail> {
     let alloc = rt.alloc();
-    let control = Triple {
-        class: 14,
-        subclass: 1,
-        protocol: 0,
-    };
-    let streaming = Triple {
-        class: 14,
-        subclass: 2,
-        protocol: 0,
-    };
-    let camera = device(alloc, &[control, streaming, streaming])?;
-    let rule = generated_rule(alloc, &camera, Target::Allow, false)?;
+    let triples = [triple(1), triple(2), triple(2)];
+    let rule = generated_rule(alloc, &device(alloc, &triples)?, Target::Allow, false)?;
+    let text = print_rule(alloc, &rule)?;
     assert_eq!(rt;
-        print_rule(alloc, &rule)?.bytes(),
+        text.bytes(),
         b"allow id 046d:0825 serial \"\" name \"USB Webcam\" hash \"hhhhhhhhhhhhhhhhhhhhhhhhhhhhhhhhhhhhhhhhhhhh\" parent-hash \"p\" with-interface { 0e:01:00 0e:02:00 0e:02:00 } with-connect-type \"hotplug\"".as_slice()
     );
-    let plain = device(alloc, &[])?;
+    Ok(())
+}
+
+#[test]
+fn prints_a_device(rt: HostRuntime) -> Result<(), Fail> {
+    let alloc = rt.alloc();
+    let text = device_line(alloc, &device(alloc, &[])?, Target::Block)?;
     assert_eq!(rt;
-        device_line(alloc, &plain, Target::Block)?.bytes(),
+        text.bytes(),
         b"block id 046d:0825 serial \"\" name \"USB Webcam\" hash \"hhhhhhhhhhhhhhhhhhhhhhhhhhhhhhhhhhhhhhhhhhhh\" parent-hash \"p\" via-port \"1-1\" with-connect-type \"hotplug\"".as_slice()
     );
     Ok(())
