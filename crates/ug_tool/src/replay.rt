@@ -5,6 +5,7 @@ ghost use Rattle.ug_lines.specs.Fold.{of_first};
 ghost use Rattle.ug_lines.specs.Statuses.{Answers, status_of};
 ghost use Rattle.ug_lines.specs.declared.call.Ended.{Ended};
 ghost use Rattle.ug_script.specs.Replay.{Script, script_step, script_end};
+ghost use Rattle.ug_script.specs.Journal.{StaysRecorded};
 ghost use Rattle.ug_script.specs.Laws.{StaysLawful};
 ghost use Rattle.ug_tool.specs.Replay.{new_world, replay_words, IsRefused};
 
@@ -51,6 +52,7 @@ pub fn run_replay<S: Source, K: Sink>(
     ensures replayed { map (λ word. word.now) words.now ≡ replay_words → (all base : List ℕ) → S.left input.old ≡ Some all → K.held out.old ≡ Some base
         → (script : Option Script) × Answers script_step (of_first script_end) (None, new_world) all base (S.left input.new) (K.held out.new) (script, kernel.new) result }
     ensures laws { StaysLawful new_world }
+    ensures recorded { StaysRecorded new_world }
     ensures ended { map (λ word. word.now) words.now ≡ replay_words → (ended : Ended) × (result ≡ status_of ended) }
     ensures read { result ≡ 4 → Rose (S.faults input.old) (S.faults input.new) }
     ensures written { result ≡ 5 → Rose (K.faults out.old) (K.faults out.new) }

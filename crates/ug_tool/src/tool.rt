@@ -6,6 +6,8 @@ ghost use Rattle.ug_lines.specs.Statuses.{status_of};
 ghost use Rattle.ug_lines.specs.Statuses as lines;
 ghost use Rattle.ug_lines.specs.declared.call.Ended.{Ended};
 ghost use Rattle.ug_sysfs.specs.World.{World};
+ghost use Rattle.ug_script.specs.Journal.{StaysRecorded};
+ghost use Rattle.ug_script.specs.Laws.{StaysLawful};
 ghost use Rattle.ug_script.specs.Replay.{Script, script_step, script_end};
 ghost use Rattle.ug_listing.specs.Listing as listing;
 ghost use Rattle.ug_tool.specs.Replay.{new_world, replay_words, IsRefused};
@@ -41,6 +43,8 @@ pub fn run_tool<S: Source, K: Sink, L: Link>(
     ensures refused { ¬ (map (λ word. word.now) words.now ≡ replay_words) → ¬ (map (λ word. word.now) words.now ≡ read_descriptor_words) → IsRefused (K.held out.old) (K.held out.new) result × (S.left input.new ≡ S.left input.old) }
     ensures replayed { map (λ word. word.now) words.now ≡ replay_words → (all base : List ℕ) → S.left input.old ≡ Some all → K.held out.old ≡ Some base
         → (script : Option Script) × (world : World) × lines.Answers script_step (of_first script_end) (None, new_world) all base (S.left input.new) (K.held out.new) (script, world) result }
+    ensures laws { StaysLawful new_world }
+    ensures recorded { StaysRecorded new_world }
     ensures listed { map (λ word. word.now) words.now ≡ read_descriptor_words → (all base : List ℕ) → S.left input.old ≡ Some all → K.held out.old ≡ Some base
         → listing.Answers all base (S.left input.new) (K.held out.new) result }
     ensures ended { (map (λ word. word.now) words.now ≡ replay_words) ⊎ (map (λ word. word.now) words.now ≡ read_descriptor_words) → (ended : Ended) × (result ≡ status_of ended) }

@@ -1,5 +1,6 @@
 use Rattle.std.proofs.Common.{refl}
 use Rattle.ug_sysfs.specs.Sound.{new_sound}
+use Rattle.ug_script.proofs.Journals.{stays_recorded}
 use Rattle.ug_script.proofs.Lawful.{stays_lawful}
 use Rattle.ug_tool.specs.Replay.{new_world}
 use Rattle.ug_tool.proofs.replay.run_replay.Goals as goal
@@ -12,3 +13,9 @@ returns-clause-replayed g c = λ is all base a b. (c.run.new.machine, rw c.new-r
 
 pub returns-clause-laws : goal.returns-clause-laws
 returns-clause-laws g c = stays_lawful new_world refl new_sound
+
+pub returns-then-not-is_replay-clause-recorded : goal.returns-then-not-is_replay-clause-recorded
+returns-then-not-is_replay-clause-recorded g c = stays_recorded new_world refl new_sound
+
+pub returns-clause-recorded : goal.returns-clause-recorded
+returns-clause-recorded g c = stays_recorded new_world refl new_sound

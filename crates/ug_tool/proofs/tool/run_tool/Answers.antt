@@ -1,4 +1,8 @@
-use Rattle.std.proofs.Common.{sym, ◌∙◌}
+use Rattle.std.proofs.Common.{refl, sym, ◌∙◌}
+use Rattle.ug_sysfs.specs.Sound.{new_sound}
+use Rattle.ug_script.proofs.Journals.{stays_recorded}
+use Rattle.ug_script.proofs.Lawful.{stays_lawful}
+use Rattle.ug_tool.specs.Replay.{new_world}
 use Rattle.ug_tool.proofs.Words.{commands_differ}
 use Rattle.ug_tool.proofs.tool.run_tool.Goals as goal
 
@@ -9,3 +13,15 @@ returns-then-is_replay-clause-replayed g c = λ e all base a b.
 
 pub returns-then-is_replay-clause-listed : goal.returns-then-is_replay-clause-listed
 returns-then-is_replay-clause-listed g c = λ e all base a b. absurd (commands_differ (sym (c.is_replay.ensures.0 c.if-is_replay.true) ∙ e))
+
+pub returns-then-is_read_descriptor-clause-laws : goal.returns-then-is_read_descriptor-clause-laws
+returns-then-is_read_descriptor-clause-laws g c = stays_lawful new_world refl new_sound
+
+pub returns-then-is_read_descriptor-clause-recorded : goal.returns-then-is_read_descriptor-clause-recorded
+returns-then-is_read_descriptor-clause-recorded g c = stays_recorded new_world refl new_sound
+
+pub returns-clause-laws : goal.returns-clause-laws
+returns-clause-laws g c = stays_lawful new_world refl new_sound
+
+pub returns-clause-recorded : goal.returns-clause-recorded
+returns-clause-recorded g c = stays_recorded new_world refl new_sound
