@@ -1,9 +1,9 @@
 -- From the failures that a sweep tells to those of an event.
-use Rattle.std.proofs.Common.{◌≡◌, ℕ, List, [], ◌∷◌, ◌++◌, refl, sym, ◌∙◌, ap, subst, append-nil, arith}
+use Rattle.std.proofs.Common.{◌≡◌, ℕ, List, [], ◌∷◌, ◌++◌, sym, ◌∙◌, ap, subst, append-nil, arith}
 use Rattle.ug_types.specs.Elements.{AllDistinct}
 use Rattle.ug_types.specs.declared.verdict.Moment.{Moment}
 use Rattle.ug_kernel.specs.Calls.{Call, Names, Answer}
-use Rattle.ug_itree.specs.Along.{Made, answered, Failure, failures, AreNumbered, Rises}
+use Rattle.ug_itree.specs.Along.{Made, answered, Failure, AreNumbered, Rises}
 use Rattle.ug_audit.specs.declared.entry.Entry.{Entry}
 use Rattle.ug_audit.specs.declared.entry.Entry.TheVariants as entry
 use Rattle.ug_table.specs.State.{State}
@@ -20,10 +20,10 @@ event_tells {S} begins gives calls faults moment s u d t v es e b none same firs
     let ms : List Made = answered Names h.goes.listed ∷ h.goes.later in
     let es : List Entry = h.goes.head ++ h.goes.rest in
     let whole : failures_told e.sweep.entries ≡ failures_told es =
-        ap (λ (x : State Policy). failures_told x.entries) last
-        ∙ ap (λ (x : List Entry). failures_told (x ++ entry.End d.event ∷ [])) h.goes.entries
-        ∙ told_more es (entry.End d.event ∷ [])
-        ∙ append-nil (failures_told es) in
+    ap (λ (x : State Policy). failures_told x.entries) last
+    ∙ ap (λ (x : List Entry). failures_told (x ++ entry.End d.event ∷ [])) h.goes.entries
+    ∙ told_more es (entry.End d.event ∷ [])
+    ∙ append-nil (failures_told es) in
     record {
       start = u;
       begun_there = b;

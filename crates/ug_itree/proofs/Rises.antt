@@ -1,5 +1,5 @@
 -- The numbers of calls and of failures rise along a run.
-use Rattle.std.proofs.Common.{◌≡◌, ℕ, ◌+◌, ◌-◌, ◌^◌, ◌<◌, ◌≤◌, Bool, true, false, cond, List, [], ◌∷◌, ◌++◌, refl, sym, subst, ◌∙◌, arith}
+use Rattle.std.proofs.Common.{◌≡◌, ℕ, ◌-◌, ◌^◌, ◌<◌, ◌≤◌, Bool, true, false, cond, List, [], ◌∷◌, ◌++◌, refl, sym, subst, ◌∙◌, arith}
 use Rattle.ug_kernel.specs.Calls.{Call, Names, Open, Read, Ask_alive, Put, Close, Told, Answer, Counted, Counts, failed_listing, failed_open, failed_read, failed_probe, failed_put}
 use Rattle.ug_itree.specs.Along.{Made, Along, Failure, failure_if, failure, failures, number_after, IsNext, AreNumbered, IsAbove, Rises}
 

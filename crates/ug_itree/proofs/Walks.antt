@@ -1,8 +1,8 @@
 -- Programs whose calls keep to a rule that speaks of what was seen of the calls before.
-use Rattle.std.proofs.Common.{◌≡◌, Bool, List, [], ◌∷◌, ◌++◌, refl, sym, ap, subst}
+use Rattle.std.proofs.Common.{Bool, List, [], ◌∷◌, ◌++◌, sym, subst}
 use Rattle.ug_kernel.specs.Calls.{Call, Answer}
 use Rattle.ug_itree.specs.Tree.{Prog, Return, Ask, Room, Runs, then}
-use Rattle.ug_itree.specs.Along.{Made, answered, Along, Failure, failure, failures}
+use Rattle.ug_itree.specs.Along.{Made, answered, Along}
 
 -- from what was seen, each call may be made, and each result with what is seen then has P
 abbrev pub Walks : {Q R : Type 0} → (Q → Call → Type 0) → (Q → (call : Call) → Answer call → Q) → Q → Prog R → (Q → R → Type 0) → Type 0

@@ -9,7 +9,6 @@ use Rattle.ug_types.specs.declared.record.Judged.{Judged}
 use Rattle.ug_types.specs.declared.verdict.Target.{Target}
 use Rattle.ug_types.specs.declared.verdict.Cause.{Cause}
 use Rattle.ug_kernel.specs.declared.device.Device.{Device}
-use Rattle.ug_kernel.specs.declared.device.HeldFile.{HeldFile}
 use Rattle.ug_kernel.specs.declared.calls.Control.{Control}
 use Rattle.ug_kernel.specs.declared.calls.Attr.{Attr}
 use Rattle.ug_kernel.specs.declared.calls.Attr.TheVariants as attr
@@ -30,8 +29,8 @@ use Rattle.ug_kernel.specs.Called.{within, text_within, read_of}
 use Rattle.ug_itree.specs.Tree.{Prog, Return, Ask, Room, then}
 use Rattle.ug_sysfs.specs.Devices.{find}
 use Rattle.ug_sysfs.specs.declared.script.Failing.{Failing}
-use Rattle.ug_sysfs.specs.World.{World, answer_of, answer_unless, answer_from, entered, fate, fate_of, act, effect, opened_at, read_from, read_at, alive_of, probed_at, put_at, live_held}
-use Rattle.ug_node.specs.Files.{giving_up, if_absent, after_read, reading, after_connect, after_serial, after_product, after_descriptors, reading_own, after_parent_serial, after_parent_product, after_parent_descriptors, reading_parent}
+use Rattle.ug_sysfs.specs.World.{World, answer_of, answer_unless, entered, fate, effect, opened_at, read_from, read_at, alive_of, probed_at, put_at, live_held}
+use Rattle.ug_node.specs.Files.{if_absent, after_read, reading, after_connect, after_serial, after_product, after_descriptors, reading_own, after_parent_serial, after_parent_product, after_parent_descriptors, reading_parent}
 use Rattle.ug_node.specs.Bind.{binding_of, after_probe, probing, after_parent, to_parent, after_own, after_open, binding}
 use Rattle.ug_node.specs.declared.files.File.{File}
 use Rattle.ug_node.specs.declared.files.Stop.{Stop}
@@ -42,11 +41,11 @@ use Rattle.ug_node.specs.declared.identity.Binding.TheVariants as bound
 use Rattle.ug_audit.specs.declared.entry.Entry.{Entry}
 use Rattle.ug_audit.specs.declared.entry.Entry.TheVariants as entry
 use Rattle.ug_record.specs.Records.{judged_of}
-use Rattle.ug_table.specs.State.{State, Kept, kept_of}
+use Rattle.ug_table.specs.State.{State}
 use Rattle.ug_table.specs.Standings.{standing_of, farewells, lists}
 use Rattle.ug_table.specs.Bring.{wants, write_of, after_write, to_write, to_bring, bringing}
-use Rattle.ug_table.specs.Settle.{to_keep, standing_for, known_in, judged_entry, judging, if_place, if_record, admitting, after_bind, entering, to_mark, dropped, after_known, from_standing, settling}
-use Rattle.ug_table.specs.Sweep.{settling_all, parted, marked_listed, if_room, after_list, sweeping}
+use Rattle.ug_table.specs.Settle.{to_keep, standing_for, known_in, judged_entry, judging, admitting, after_bind, entering, to_mark, dropped, after_known, from_standing, settling}
+use Rattle.ug_table.specs.Sweep.{settling_all, parted, marked_listed, after_list, sweeping}
 use Rattle.ug_table.specs.declared.standing.Standing.{Standing}
 use Rattle.ug_table.specs.declared.standing.Known.{Known}
 use Rattle.ug_table.specs.declared.standing.Settled.{Settled}

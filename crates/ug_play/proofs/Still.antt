@@ -1,5 +1,5 @@
 -- Where nothing is scheduled, no device comes or goes within an event.
-use Rattle.std.proofs.Common.{◌≡◌, ℕ, ◌<◌, Bool, true, false, cond, List, [], ◌∷◌, length, set, Option, Some, None, inl, inr, ◌⊎◌, refl, sym, ◌∙◌, ap, subst, arith}
+use Rattle.std.proofs.Common.{◌≡◌, ℕ, ◌<◌, Bool, true, false, List, [], length, Option, Some, None, inl, inr, refl, sym, ◌∙◌, ap, arith}
 use Rattle.std.specs.List.{slice_get}
 use Rattle.std.proofs.lemmas.List.{length-set}
 use Rattle.std.proofs.lemmas.Option.{slice_get_within, slice_get_cases, same_Some}
@@ -13,7 +13,6 @@ use Rattle.ug_kernel.specs.Quiet.{Grows}
 use Rattle.ug_itree.specs.Tree.{Prog, Return, Ask, Room}
 use Rattle.ug_sysfs.specs.Devices.{find}
 use Rattle.ug_sysfs.specs.declared.script.Scheduled.{Scheduled}
-use Rattle.ug_sysfs.specs.Reply.{Reply}
 use Rattle.ug_sysfs.specs.World.{World, happen, opened_at, switched_to, put_at, live_held, act, hidden, effect, shift, entered, fate_of, with_kernel, counted, answer_of, answer_unless, answer_from}
 use Rattle.ug_play.specs.Play.{play}
 

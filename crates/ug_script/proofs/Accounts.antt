@@ -1,5 +1,5 @@
 -- What the account of a sweep says of its verdicts and of its writes, where rules judge.
-use Rattle.std.proofs.Common.{◌≡◌, ℕ, ◌+◌, Bool, is_none, List, [], ◌∷◌, ◌++◌, ◌⊎◌, inl, inr, refl, sym, ◌∙◌, ap, subst, append_assoc, append-nil}
+use Rattle.std.proofs.Common.{◌≡◌, ℕ, ◌+◌, Bool, is_none, List, [], ◌∷◌, ◌++◌, inl, inr, refl, sym, ◌∙◌, ap, subst, append_assoc, append-nil}
 use Rattle.ug_types.specs.Elements.{Has}
 use Rattle.ug_types.specs.Names.{parent_of}
 use Rattle.ug_types.specs.declared.record.Judged.{Judged}
@@ -7,7 +7,6 @@ use Rattle.ug_types.specs.declared.verdict.Held.{Held}
 use Rattle.ug_types.specs.declared.verdict.Target.{Target}
 use Rattle.ug_types.specs.declared.verdict.Cause.{Cause}
 use Rattle.ug_kernel.specs.declared.device.Effect.{Effect}
-use Rattle.ug_kernel.specs.declared.calls.Write.{Write}
 use Rattle.ug_kernel.specs.declared.calls.Wrote.{Wrote}
 use Rattle.ug_kernel.specs.Kernel.{Kernel}
 use Rattle.ug_audit.specs.declared.entry.Entry.{Entry}
@@ -95,9 +94,19 @@ written_more : (before : List Standing) (es fs : List Entry) (k : Kernel) (e : E
 written_more before es fs k e w =
     let two : List Entry = wrote_entries w.number w.name e.write w.outcome in
     record {
-      number = w.number; name = w.name; held = w.held; judged = w.judged; verdict = w.verdict; outcome = w.outcome; front = w.front; back = w.back ++ fs;
+      number = w.number;
+      name = w.name;
+      held = w.held;
+      judged = w.judged;
+      verdict = w.verdict;
+      outcome = w.outcome;
+      front = w.front;
+      back = w.back ++ fs;
       at = ap (λ (l : List Entry). l ++ fs) w.at ∙ append_assoc w.front (two ++ w.back) fs ∙ ap (λ (l : List Entry). w.front ++ l) (append_assoc two w.back fs);
-      may = w.may; wanted = w.wanted; device = w.device; had = w.had;
+      may = w.may;
+      wanted = w.wanted;
+      device = w.device;
+      had = w.had;
     }
 
 -- these effects were added to a log

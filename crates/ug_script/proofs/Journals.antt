@@ -1,12 +1,11 @@
 -- What is written is the text of the journal, each effect is explained, numbers follow one another, and a script without
 -- failures names nobody and judges each device once.
-use Rattle.std.proofs.Common.{◌≡◌, ℕ, ◌+◌, Bool, true, false, not, ◌&&◌, ◌||◌, cond, nat_eq, nat_lt, List, [], ◌∷◌, ◌++◌, ◌⊎◌, length, Option, Some, None, inl, inr, refl, sym, ◌∙◌, ap, subst, append_assoc, append-nil}
+use Rattle.std.proofs.Common.{◌≡◌, ℕ, ◌+◌, Bool, true, false, not, ◌&&◌, ◌||◌, cond, nat_eq, nat_lt, List, [], ◌∷◌, ◌++◌, length, Option, Some, None, inl, inr, refl, sym, ◌∙◌, ap, subst, append_assoc, append-nil}
 use Rattle.std.specs.Cmp.Lexicographic.{pointwise}
 use Rattle.std.specs.List.{list_any}
 use Rattle.ug_types.specs.Elements.{Has}
 use Rattle.ug_types.specs.declared.verdict.Moment.{Moment}
-use Rattle.ug_kernel.specs.declared.device.Device.{Device}
-use Rattle.ug_kernel.specs.Kernel.{Kernel, IsKernel, Moves, Live}
+use Rattle.ug_kernel.specs.Kernel.{Kernel, IsKernel, Moves}
 use Rattle.ug_kernel.specs.Quiet.{Grows}
 use Rattle.ug_kernel.proofs.Grow.{quiet_grows, grows_trans, grows_refl}
 use Rattle.ug_kernel.proofs.Quiet.{moves_quiet}
@@ -74,7 +73,8 @@ kept_rule first es text rule s w setup h =
     let none = h.setup setup in
     let f = h.facts in
     record {
-      holds = h.holds; since = h.since;
+      holds = h.holds;
+      since = h.since;
       setup = λ _. none;
       facts = record {
         judged = λ x a. absurd (subst (λ (v : List Standing). Has v x) none.1 a);
@@ -82,7 +82,10 @@ kept_rule first es text rule s w setup h =
         numbers = f.numbers;
         known = f.known;
       };
-      written = h.written; nobody = h.nobody; unscheduled = h.unscheduled; unmoved = h.unmoved;
+      written = h.written;
+      nobody = h.nobody;
+      unscheduled = h.unscheduled;
+      unmoved = h.unmoved;
     }
 
 both : (a b : Bool) → (a && b) ≡ true → a ≡ true
@@ -102,7 +105,8 @@ kept_moves first es text s w v holds m fails moves h =
       since = grows_trans first.kernel w.kernel v.kernel h.since g;
       setup = λ e. let none : ⊥ = cc in absurd none;
       facts = facts_grow (rules_of s) first.kernel es w.kernel v.kernel s.daemon.sweep.standings s.daemon.sweep.next g m.log h.facts;
-      written = h.written; nobody = h.nobody;
+      written = h.written;
+      nobody = h.nobody;
       unscheduled = λ e. fails ∙ h.unscheduled e;
       unmoved = λ e. moves ∙ h.unmoved e;
     }

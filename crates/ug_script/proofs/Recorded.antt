@@ -1,5 +1,5 @@
 -- What an event's account says over a journal from before it.
-use Rattle.std.proofs.Common.{◌≡◌, ℕ, ◌+◌, Bool, true, false, List, [], ◌∷◌, ◌++◌, ◌⊎◌, Some, slice_get, inl, inr, refl, sym, ◌∙◌, ap, subst, append_assoc, append-nil}
+use Rattle.std.proofs.Common.{◌≡◌, ℕ, Bool, true, false, List, [], ◌∷◌, ◌++◌, ◌⊎◌, Some, slice_get, inl, inr, refl, sym, ◌∙◌, ap, subst, append_assoc, append-nil}
 use Rattle.ug_types.specs.Elements.{Has}
 use Rattle.ug_types.specs.declared.record.Judged.{Judged}
 use Rattle.ug_types.specs.declared.verdict.Held.{Held}
@@ -12,11 +12,11 @@ use Rattle.ug_kernel.specs.declared.device.Effect.{Effect}
 use Rattle.ug_kernel.specs.declared.calls.Control.TheVariants.{Authorized}
 use Rattle.ug_kernel.specs.Kernel.{Kernel, Live}
 use Rattle.ug_kernel.specs.Quiet.{Grows}
-use Rattle.ug_kernel.proofs.Grow.{grows_trans, some_same}
+use Rattle.ug_kernel.proofs.Grow.{some_same}
 use Rattle.ug_audit.specs.declared.entry.Entry.{Entry}
 use Rattle.ug_audit.specs.declared.entry.Entry.TheVariants as entry
 use Rattle.ug_table.specs.State.{State}
-use Rattle.ug_table.specs.Laws.{IsDevice, IsGone, IsProbed, Stand, HasVerdict, wrote_entries, IsOne, IsTold, IsJudged, IsFair, IsAsJudged}
+use Rattle.ug_table.specs.Laws.{IsDevice, IsGone, Stand, HasVerdict, wrote_entries, IsOne, IsTold, IsJudged, IsFair, IsAsJudged}
 use Rattle.ug_table.specs.declared.standing.Standing.{Standing}
 use Rattle.ug_table.proofs.Elements.{has_left, has_right, has_cases, distinct_one}
 use Rattle.ug_table.proofs.Devices.{device_stays, gone_stays, probed_stays, probed_from}
@@ -31,7 +31,10 @@ use Rattle.ug_script.proofs.Accounts.{judge_stays, IsGiven, judged_given, WasWri
 
 judged_later : (rules : List IdRule) (es fs : List Entry) (first k l : Kernel) (i number : ℕ) (name : List ℕ) (held : Held) (verdict : Target) → Grows k l → WasJudged rules es first k i number name held verdict → WasJudged rules (es ++ fs) first l i number name held verdict
 judged_later rules es fs first k l i number name held verdict g w = record {
-  cause = w.cause; judged = w.judged; present = w.present; on = w.on;
+  cause = w.cause;
+  judged = w.judged;
+  present = w.present;
+  on = w.on;
   device = device_stays k l i name held w.judged g w.device;
   probed = probed_stays first k l name held.0 i w.on g w.probed;
   given = w.given;
@@ -45,9 +48,16 @@ explained_later : (rules : List IdRule) (es fs : List Entry) (first k l : Kernel
 explained_later rules es fs first k l e g x =
     let two : List Entry = wrote_entries x.number x.name e.write x.outcome in
     record {
-      number = x.number; name = x.name; held = x.held; verdict = x.verdict; outcome = x.outcome; before = x.before; after = x.after ++ fs;
+      number = x.number;
+      name = x.name;
+      held = x.held;
+      verdict = x.verdict;
+      outcome = x.outcome;
+      before = x.before;
+      after = x.after ++ fs;
       at = ap (λ (v : List Entry). v ++ fs) x.at ∙ append_assoc x.before (two ++ x.after) fs ∙ ap (λ (v : List Entry). x.before ++ v) (append_assoc two x.after fs);
-      may = x.may; wanted = x.wanted;
+      may = x.may;
+      wanted = x.wanted;
       judged = judged_grows rules x.before first k l e.device x.number x.name x.held x.verdict g x.judged;
     }
 
@@ -176,11 +186,16 @@ written_explained rules first es k before next0 l after next rest x y e seen w =
     let two : List Entry = wrote_entries w.number w.name e.write w.outcome in
     let had = had_judged rules first es k before next0 l after next rest w.front (two ++ w.back) x w.number w.name w.held w.verdict seen w.at w.had in
     record {
-      number = w.number; name = w.name; held = w.held; verdict = w.verdict; outcome = w.outcome;
+      number = w.number;
+      name = w.name;
+      held = w.held;
+      verdict = w.verdict;
+      outcome = w.outcome;
       before = es ++ ((x ∷ []) ++ w.front);
       after = w.back ++ y ∷ [];
       at = ap (λ (v : List Entry). es ++ framed x v y) w.at ∙ split_in es w.front two w.back x y;
-      may = w.may; wanted = w.wanted;
+      may = w.may;
+      wanted = w.wanted;
       judged = at_device rules (es ++ ((x ∷ []) ++ w.front)) first l e.device had.0 w.number w.name w.held w.verdict w.device.file had.1;
     }
 
@@ -207,10 +222,15 @@ is_known rules first es k before next0 l after next rest event last moment seen 
   | inr b ↦
       let a = no_frame rest event last moment number name held verdict cause b in
       let g = seen.given number name held verdict cause a in
-      record { i = g.i; judged = g.judged; device = g.device; stands = elim (seen.judged number name held verdict cause a) [
-        | inl s ↦ inl s
-        | inr gone ↦ inr (told_gone k l before next0 rest next number name held verdict g.i name g.judged seen.stood seen.says (inr (cause, a)) g.device gone)
-      ] }
+      record {
+        i = g.i;
+        judged = g.judged;
+        device = g.device;
+        stands = elim (seen.judged number name held verdict cause a) [
+          | inl s ↦ inl s
+          | inr gone ↦ inr (told_gone k l before next0 rest next number name held verdict g.i name g.judged seen.stood seen.says (inr (cause, a)) g.device gone)
+        ];
+      }
 ]
 
 numbers_framed : (event last : ℕ) (moment : Moment) (rest : List Entry) → told_numbers (framed (entry.Event event moment) rest (entry.End last)) ≡ told_numbers rest
@@ -225,7 +245,11 @@ swept_facts first es present k l w v event last moment since stood facts fair =
     let rules : List IdRule = w.judge.rules in
     let all : List Entry = es ++ framed x rest y in
     let seen : Seen rules first es k w.standings w.next l v.standings v.next rest = record {
-      since = since; grows = fair.grows; stood = stood; facts = facts; told = fair.told;
+      since = since;
+      grows = fair.grows;
+      stood = stood;
+      facts = facts;
+      told = fair.told;
       given = judged_given present k l w.standings k.log w.judge w.next rest l.log v.judge v.next fair.account;
       kept = fair.kept;
       judged = λ number name held verdict cause a. elim (fair.judged number name held verdict cause a) [ inl s ↦ inl (s.0, s.1, s.2, s.4) | inr g ↦ inr g ];
@@ -233,10 +257,10 @@ swept_facts first es present k l w v event last moment since stood facts fair =
     } in
     let added = all_added present k l w.standings k.log w.judge w.next rest l.log v.judge v.next fair.account in
     let each : (e : Effect) → Has (facts.explained.added ++ added.effects) e → IsExplained rules all first l e = λ e a.
-        elim (has_cases facts.explained.added added.effects e a) [
-          | inl b ↦ explained_later rules es (framed x rest y) first k l e fair.grows (facts.explained.each e b)
-          | inr b ↦ written_explained rules first es k w.standings w.next l v.standings v.next rest x y e seen (added.each e b)
-        ] in
+    elim (has_cases facts.explained.added added.effects e a) [
+      | inl b ↦ explained_later rules es (framed x rest y) first k l e fair.grows (facts.explained.each e b)
+      | inr b ↦ written_explained rules first es k w.standings w.next l v.standings v.next rest x y e seen (added.each e b)
+    ] in
     let result : Facts rules first all l v.standings v.next = record {
       judged = λ s a. told_judged rules first es k w.standings w.next l v.standings v.next rest x y s seen (fair.told s a);
       explained = record {

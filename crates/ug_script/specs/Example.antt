@@ -1,6 +1,6 @@
 -- Events worked by hand: a root hub that was there at the start, a device below it that a rule allows, and another device that takes
 -- its place.
-use Rattle.std.specs.Prelude.{ℕ, true, false, List, [], ◌∷◌, Option, Some, None, codes}
+use Rattle.std.specs.Prelude.{ℕ, true, false, List, [], ◌∷◌, None, codes}
 use Rattle.ug_types.specs.declared.verdict.Target.TheVariants.{Allow}
 use Rattle.ug_kernel.specs.declared.device.Device.{Device}
 use Rattle.ug_sysfs.specs.declared.script.Failing.{Failing}

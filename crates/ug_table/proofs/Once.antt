@@ -7,7 +7,7 @@ use Rattle.std.specs.Ordering.{is_gt}
 use Rattle.ug_kernel.specs.declared.calls.Listing.{Listing}
 use Rattle.ug_kernel.specs.declared.calls.Listing.TheVariants as listing
 use Rattle.ug_kernel.specs.Calls.{Call, Answer}
-use Rattle.ug_kernel.specs.Kernel.{Kernel, IsKernel}
+use Rattle.ug_kernel.specs.Kernel.{Kernel}
 use Rattle.ug_kernel.specs.Called.{says_listing, Follows}
 use Rattle.ug_itree.specs.Tree.{Runs, calls}
 use Rattle.ug_itree.specs.Along.{Made}
@@ -17,7 +17,6 @@ use Rattle.ug_audit.specs.declared.entry.Entry.TheVariants as entry
 use Rattle.ug_table.specs.State.{State}
 use Rattle.ug_table.specs.Standings.{lists, farewells}
 use Rattle.ug_table.specs.Sweep.{names_of, sweeping}
-use Rattle.ug_table.specs.Laws.{Stand}
 use Rattle.ug_table.specs.Parts.{name_in, unsettled_names, EndsUnsettled, InParts, AfterListing, NamesOnce}
 use Rattle.ug_table.specs.declared.standing.Standing.{Standing}
 use Rattle.ug_table.proofs.Account.{Answers, Laters}
@@ -110,8 +109,7 @@ sweeping_once {J} answer later k w l v d h =
     let g = sweeping_goes calls answer later k w l v h in
     let a = g.listed in
     let apart = begins_distinct k g.along.0 a.answer a.number a.count w.standings g.head g.left g.names g.along.1.says d g.begins in
-    let none = begins_unnamed a.answer a.number a.count w.standings g.head g.left g.names g.begins in
-    (
+    let none = begins_unnamed a.answer a.number a.count w.standings g.head g.left g.names g.begins in (
       g.head ++ g.rest,
       g.entries,
       subst (λ (v : List (List ℕ)). AllDistinct v) (sym (names_more g.head g.rest ∙ ap (λ (x : List (List ℕ)). x ++ unsettled_names g.rest) none)) (once_parts g.names g.left v.standings g.later g.rest g.parts apart),

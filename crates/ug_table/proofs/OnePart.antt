@@ -1,25 +1,23 @@
 -- One name's part of a sweep, from its trees.
-use Rattle.std.proofs.Common.{◌≡◌, ℕ, ◌+◌, Bool, true, false, is_none, List, [], ◌∷◌, ◌++◌, Option, Some, None, ◌⊎◌, inl, inr, refl, sym, ◌∙◌, ap, subst, append_assoc, append-nil}
+use Rattle.std.proofs.Common.{◌≡◌, ℕ, ◌+◌, Bool, true, false, is_none, List, [], ◌∷◌, ◌++◌, Option, Some, None, ◌⊎◌, inl, inr, refl, sym, ◌∙◌, subst, append_assoc, append-nil}
 use Rattle.ug_types.specs.Elements.{Has}
 use Rattle.ug_types.specs.Names.{parent_of}
 use Rattle.ug_types.specs.declared.record.Judged.{Judged}
 use Rattle.ug_types.specs.declared.verdict.Target.{Target}
 use Rattle.ug_types.specs.declared.verdict.Target.TheVariants as target
 use Rattle.ug_types.specs.declared.verdict.Cause.{Cause}
-use Rattle.ug_kernel.specs.declared.calls.Opened.{Opened}
 use Rattle.ug_kernel.specs.declared.calls.Probe.{Probe}
 use Rattle.ug_kernel.specs.declared.calls.Probe.TheVariants as probe
 use Rattle.ug_kernel.specs.declared.calls.Write.{Write}
 use Rattle.ug_kernel.specs.declared.calls.Wrote.{Wrote}
 use Rattle.ug_kernel.specs.declared.calls.Wrote.TheVariants as wrote
-use Rattle.ug_kernel.specs.declared.calls.Control.TheVariants.{Authorized}
-use Rattle.ug_kernel.specs.Calls.{Call, Open, Ask_alive, Put, Close, Told, Answer}
+use Rattle.ug_kernel.specs.Calls.{Ask_alive, Put, Told}
 use Rattle.ug_kernel.specs.Called.{value_after}
-use Rattle.ug_itree.specs.Tree.{Prog, then}
-use Rattle.ug_itree.specs.Along.{Made, answered, Failure}
-use Rattle.ug_itree.proofs.Walks.{Walks, walks_then, walks_more}
+use Rattle.ug_itree.specs.Tree.{Prog}
+use Rattle.ug_itree.specs.Along.{Made, answered}
+use Rattle.ug_itree.proofs.Walks.{walks_then, walks_more}
 use Rattle.ug_record.specs.Records.{judged_of}
-use Rattle.ug_node.specs.Bind.{after_open, binding}
+use Rattle.ug_node.specs.Bind.{binding}
 use Rattle.ug_node.specs.declared.identity.Bound.{Bound}
 use Rattle.ug_node.specs.declared.identity.Binding.{Binding}
 use Rattle.ug_node.specs.declared.identity.Binding.TheVariants as bound
@@ -31,14 +29,14 @@ use Rattle.ug_table.specs.State.{State, Kept}
 use Rattle.ug_table.specs.Standings.{standing_of, without}
 use Rattle.ug_table.specs.Bring.{wants, write_of, after_write, to_write, to_bring, bringing}
 use Rattle.ug_table.specs.Settle.{to_keep, no_room, standing_for, known_in, judged_entry, judging, if_place, if_record, admitting, after_bind, entering, to_mark, dropped, after_known, from_standing, settling, to_keep_mark, after_again, again, resettling}
-use Rattle.ug_table.specs.Parts.{IsDue, AtMostOne, PutMade, failures_told, EndsUnsettled, TellsWrites, writes_in, FoundGone, known_files}
+use Rattle.ug_table.specs.Parts.{AtMostOne, failures_told, EndsUnsettled, TellsWrites, writes_in, FoundGone, known_files}
 use Rattle.ug_table.specs.declared.standing.Standing.{Standing}
 use Rattle.ug_table.specs.declared.standing.Known.{Known}
 use Rattle.ug_table.specs.declared.standing.Settled.{Settled}
 use Rattle.ug_table.specs.declared.standing.Settled.TheVariants as settled
 use Rattle.ug_table.proofs.Account.{Answers, Laters}
 use Rattle.ug_table.proofs.OtherNames.{OthersStand, others_stand, without_stand, kept_stand, tried_stand}
-use Rattle.ug_table.proofs.Walked.{Seen, seen_of, first_of, see, May, Goes, binding_failures, IsUnbound, IfBound, IfUnbound, IsFirst, binding_goes}
+use Rattle.ug_table.proofs.Walked.{Seen, seen_of, see, May, Goes, binding_failures, IsUnbound, IsFirst, binding_goes}
 
 -- no want of memory is told
 abbrev IsCall : Fault → Type 0

@@ -1,13 +1,12 @@
 -- A run of a sweep goes along its parts.
-use Rattle.std.proofs.Common.{◌≡◌, ℕ, Bool, true, false, not, List, [], ◌∷◌, ◌++◌, Option, Some, None, ◌⊎◌, inl, inr, refl, sym, ◌∙◌, ap, subst, append_assoc, append-nil}
+use Rattle.std.proofs.Common.{◌≡◌, ℕ, Bool, true, false, not, List, [], ◌∷◌, ◌++◌, Option, Some, None, inl, inr, refl, sym, ◌∙◌, ap, subst, append_assoc, append-nil}
 use Rattle.std.specs.List.{filter}
-use Rattle.ug_types.specs.Elements.{Has, AllDistinct}
 use Rattle.ug_types.specs.Sweep.{in_sweep_order}
 use Rattle.ug_kernel.specs.declared.calls.Listing.{Listing}
 use Rattle.ug_kernel.specs.declared.calls.Listing.TheVariants as listing
 use Rattle.ug_kernel.specs.Calls.{Call, Names, Told, Answer}
-use Rattle.ug_itree.specs.Tree.{Prog, Runs, then}
-use Rattle.ug_itree.specs.Along.{Made, answered, Along, Failure, failure, failures}
+use Rattle.ug_itree.specs.Tree.{Runs}
+use Rattle.ug_itree.specs.Along.{Made, answered, Along, failure, failures}
 use Rattle.ug_itree.proofs.Runs.{runs_split}
 use Rattle.ug_itree.proofs.Walks.{Mays, seen_after, Walked, walked, along_more}
 use Rattle.ug_audit.specs.declared.entry.Entry.{Entry}
@@ -18,12 +17,11 @@ use Rattle.ug_table.specs.State.{State, Kept, kept_of}
 use Rattle.ug_table.specs.Standings.{standing_of, lists, farewells}
 use Rattle.ug_table.specs.Settle.{settling, resettling}
 use Rattle.ug_table.specs.Sweep.{settling_all, resettling_all, parted, names_of, resumed, unlisted, marked_listed, if_room, after_list, sweeping}
-use Rattle.ug_table.specs.Parts.{failures_told, name_in, unsettled_names, AreAbout, EndsAtFailure, AreDue, AtMostOne, PutMade, puts_of, put_of, writes_in, TellsWrites, EndsUnsettled, IsBoundAnew, known_files, Part, InParts, AfterListing, GoesInParts}
+use Rattle.ug_table.specs.Parts.{AreAbout, EndsAtFailure, AreDue, AtMostOne, PutMade, puts_of, put_of, writes_in, TellsWrites, IsBoundAnew, known_files, Part, InParts, AfterListing, GoesInParts}
 use Rattle.ug_table.specs.declared.standing.Standing.{Standing}
 use Rattle.ug_table.specs.declared.standing.Known.{Known}
 use Rattle.ug_table.specs.declared.standing.Settled.{Settled}
 use Rattle.ug_table.proofs.Account.{Answers, Laters}
-use Rattle.ug_table.proofs.Elements.{has_cases}
 use Rattle.ug_table.proofs.Walked.{Seen, seen_of, first_of, see, May}
 use Rattle.ug_table.proofs.OnePart.{Leaves, Anew, settling_goes, resettling_goes}
 

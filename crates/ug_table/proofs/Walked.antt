@@ -1,5 +1,5 @@
 -- The calls of one name's part, from the tree.
-use Rattle.std.proofs.Common.{◌≡◌, ℕ, Bool, true, false, List, [], ◌∷◌, ◌++◌, Option, Some, None, Result, Ok, Err, ◌⊎◌, inl, inr, refl, sym, ap, subst}
+use Rattle.std.proofs.Common.{◌≡◌, ℕ, List, [], ◌∷◌, ◌++◌, Option, Some, None, Result, Ok, Err, ◌⊎◌, inl, inr, refl}
 use Rattle.ug_types.specs.Elements.{Has}
 use Rattle.ug_types.specs.Names.{parent_of}
 use Rattle.ug_types.specs.declared.record.Attrs.{Attrs}
@@ -12,7 +12,7 @@ use Rattle.ug_kernel.specs.declared.calls.Opened.TheVariants as opened
 use Rattle.ug_kernel.specs.declared.calls.Probe.{Probe}
 use Rattle.ug_kernel.specs.declared.calls.Probe.TheVariants as probe
 use Rattle.ug_kernel.specs.declared.calls.Control.TheVariants.{Authorized}
-use Rattle.ug_kernel.specs.Calls.{Call, Open, Read, Ask_alive, Put, Close, Closed, Told, Answer}
+use Rattle.ug_kernel.specs.Calls.{Call, Open, Read, Ask_alive, Close, Told, Answer}
 use Rattle.ug_itree.specs.Tree.{Prog, then}
 use Rattle.ug_itree.specs.Along.{Made, answered, Failure, failure}
 use Rattle.ug_itree.proofs.Walks.{Walks, walks_then}
