@@ -1,8 +1,6 @@
-use Rattle.std.proofs.Common.{◌∙◌, subst, sym, refl, List, ℕ}
+use Rattle.std.proofs.Common.{◌∙◌, refl}
 use Rattle.ug_lines.specs.Fold.{no_memory}
 use Rattle.ug_lines.specs.declared.call.Ended.TheVariants.{Bad, Memory}
-use Rattle.ug_listing.specs.Lines.{fault_line}
-use Rattle.ug_listing.specs.Listing.{Written}
 use Rattle.ug_listing.proofs.Outputs.{tells-said}
 use Rattle.ug_listing.proofs.listing.tell.Goals as goal
 
