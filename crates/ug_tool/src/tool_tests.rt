@@ -11,7 +11,7 @@ const KEY: [u8; 45] = [
 ];
 
 // The status of a call, and what was written.
-fn call(
+pub fn call(
     alloc: Global,
     words: &[&str],
     bytes: &[u8],
