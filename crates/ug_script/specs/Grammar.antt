@@ -1,29 +1,73 @@
 -- What each line of a script asks for.
-use Rattle.std.specs.Prelude.{◌≡◌, ℕ, ◌+◌, ◌-◌, Bool, true, false, ◌||◌, nat_eq, if◌then◌else◌, List, length, take, drop, get_or, Option, Some, None, Result, Ok, Err, codes}
+use Rattle.std.specs.Prelude.{◌≡◌, ℕ, ◌+◌, ◌-◌, Bool, true, false, ◌||◌, nat_eq, is_some, if◌then◌else◌, List, [], ◌∷◌, length, take, drop, Option, Some, None, Result, Ok, Err, codes}
 use Rattle.std.specs.List.{starts_with, ends_with, position}
 use Rattle.ug_types.specs.declared.verdict.Target.{Target}
-use Rattle.ug_types.specs.declared.verdict.Target.TheVariants.{Allow, Block}
+use Rattle.ug_types.specs.declared.verdict.Target.TheVariants.{Allow, Block, Reject}
+use Rattle.ug_types.specs.declared.rule.Id.{Id}
+use Rattle.ug_types.specs.declared.rule.Op.{Op}
+use Rattle.ug_types.specs.declared.rule.Op.TheVariants.{AllOf, OneOf, NoneOf, Equals, EqualsOrdered}
+use Rattle.ug_types.specs.declared.rule.Values.{Values}
+use Rattle.ug_types.specs.declared.rule.Query.{Query}
+use Rattle.ug_types.specs.declared.rule.Rule as types
+use Rattle.ug_rule.specs.declared.fault.Fault.{Fault}
+use Rattle.ug_rule.specs.Rules.{rule_read}
+use Rattle.ug_core.specs.declared.policy.IdRule.{IdRule}
 use Rattle.ug_script.specs.declared.step.Step.{Step}
 use Rattle.ug_script.specs.declared.step.Step.TheVariants.{Skip, Rule, Plug, Unplug, Sweep}
 use Rattle.ug_script.specs.declared.step.StepFault.{StepFault}
 use Rattle.ug_script.specs.declared.step.StepFault.TheVariants.{Bad, Memory}
-use Rattle.ug_script.specs.Words.{name_of, moment_of, id_of, bytes_of}
+use Rattle.ug_script.specs.Words.{name_of, moment_of, bytes_of}
 
 -- ---- rules
 
-abbrev pub with_product : Target → ℕ → Option ℕ → Option Step
-with_product target vendor None = None
-with_product target vendor (Some product) = Some (Rule (record { target = target; vendor = vendor; product = product }))
+abbrev pub is_reject : Target → Bool
+is_reject Allow = false
+is_reject Block = false
+is_reject Reject = true
 
-abbrev pub with_vendor : Target → Option ℕ → List ℕ → Option Step
-with_vendor target None text = None
-with_vendor target (Some vendor) text = with_product target vendor (id_of text)
+-- a vendor and a product, both given
+abbrev pub with_both : Target → Option ℕ → Option ℕ → Option IdRule
+with_both target None product = None
+with_both target (Some vendor) None = None
+with_both target (Some vendor) (Some product) = Some (record { target = target; vendor = vendor; product = product })
 
--- `vvvv:pppp`
-unfoldable pub rule_of : Target → List ℕ → Option Step
-rule_of target text =
-    if nat_eq (length text) 9 then if nat_eq (get_or text 4 0) 58 then with_vendor target (id_of (take 4 text)) (drop 5 text) else None
-    else None
+abbrev pub one_of : List Id → Option Id
+one_of [] = None
+one_of (id ∷ []) = Some id
+one_of (id ∷ other ∷ ids) = None
+
+-- the one id of a set, where the set is no more than that
+abbrev pub one_by : Op → List Id → Option Id
+one_by Equals ids = one_of ids
+one_by AllOf ids = None
+one_by OneOf ids = None
+one_by NoneOf ids = None
+one_by EqualsOrdered ids = None
+
+abbrev pub with_id : Target → Option Id → Option IdRule
+with_id target None = None
+with_id target (Some id) = with_both target id.vendor id.product
+
+abbrev pub with_ids : Target → Option (Values Id) → Option IdRule
+with_ids target None = None
+with_ids target (Some ids) = with_id target (one_by ids.op ids.items)
+
+-- an attribute other than the id is given
+abbrev pub has_others : Query → Bool
+has_others q = is_some q.serial || is_some q.name || is_some q.hash || is_some q.parent_hash || is_some q.via_port || is_some q.interface || is_some q.connect || is_some q.label
+
+-- the rule, where it allows or blocks, has an id with both numbers, no other attribute and no condition
+abbrev pub plain_rule : types.Rule → Option IdRule
+plain_rule r = if is_reject r.target || is_some r.conds || has_others r.query then None else with_ids r.target r.query.id
+
+abbrev pub rule_step : Option IdRule → Option Step
+rule_step None = None
+rule_step (Some rule) = Some (Rule rule)
+
+-- what a line that was read as a rule asks for
+abbrev pub step_of_rule : Result types.Rule Fault → Option Step
+step_of_rule (Ok rule) = rule_step (plain_rule rule)
+step_of_rule (Err fault) = None
 
 -- ---- devices
 
@@ -66,12 +110,10 @@ abbrev pub sweep_step : Option ℕ → Option Step
 sweep_step None = None
 sweep_step (Some moment) = Some (Sweep (record { 0 = moment }))
 
--- a line that is not empty, no comment and plugs nothing
+-- a line that is not empty, no comment, no rule and plugs nothing
 unfoldable pub other_step : List ℕ → Option Step
 other_step line =
-    if starts_with nat_eq line (codes "rule allow ") then rule_of Allow (drop 11 line)
-    else if starts_with nat_eq line (codes "rule block ") then rule_of Block (drop 11 line)
-    else if starts_with nat_eq line (codes "unplug ") then unplug_step (name_of (drop 7 line))
+    if starts_with nat_eq line (codes "unplug ") then unplug_step (name_of (drop 7 line))
     else if starts_with nat_eq line (codes "sweep ") then sweep_step (moment_of (drop 6 line))
     else None
 
@@ -80,6 +122,7 @@ unfoldable pub step_of_line : List ℕ → Option Step
 step_of_line line =
     if nat_eq (length line) 0 || starts_with nat_eq line (codes "#") then Some Skip
     else if starts_with nat_eq line (codes "plug ") then plug_of (drop 5 line)
+    else if starts_with nat_eq line (codes "rule ") then step_of_rule (rule_read (drop 5 line))
     else other_step line
 
 -- the step of the line, or the fault of a bad line; want of memory may come at any line

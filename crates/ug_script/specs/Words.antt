@@ -1,7 +1,7 @@
 -- Names, numbers and hexadecimal words of a script's lines.
 use Rattle.std.specs.Prelude.{◌≡◌, ℕ, ◌+◌, ◌-◌, ◌*◌, Bool, false, ◌&&◌, nat_eq, nat_le, if◌then◌else◌, List, [], ◌∷◌, length, get_or, Option, Some, None, Result, Ok, Err}
 use Rattle.std.specs.List.{fold}
-use Rattle.hex.specs.Hex.{decode_of, decode_sized}
+use Rattle.hex.specs.Hex.{decode_of}
 use Rattle.hex.specs.declared.error.FromHexError.{FromHexError}
 use Rattle.ug_types.specs.Reading.{after, ends_name}
 use Rattle.ug_types.specs.declared.reading.Reading.{Reading}
@@ -39,14 +39,6 @@ moment_of text =
     if nat_eq (length text) 0 then None
     else if nat_eq (get_or text 0 0) 48 then if nat_eq (length text) 1 then Some 0 else None
     else number_of text
-
-abbrev pub from_pair : Result (List ℕ) FromHexError → Option ℕ
-from_pair (Ok bytes) = Some (get_or bytes 0 0 * 256 + get_or bytes 1 0)
-from_pair (Err e) = None
-
--- four hexadecimal digits of either case
-unfoldable pub id_of : List ℕ → Option ℕ
-id_of text = from_pair (decode_sized text 2)
 
 abbrev pub filled : Result (List ℕ) FromHexError → Option (List ℕ)
 filled (Ok []) = None

@@ -3,13 +3,14 @@
 
 mod laws;
 mod parse;
+mod rule_lines;
 mod runner;
 mod running;
 mod step;
 mod text;
 mod words;
 
-pub use laws::{script_law, words_law};
+pub use laws::{script_law, words_law, worked_law};
 pub use parse::parse_line;
 pub use runner::Runner;
 pub use step::{Step, StepFault};

@@ -1,51 +1,21 @@
 // The steps of a script's lines.
 ghost use Rattle.std.specs.Prelude.{◌≡◌, nat_eq};
 ghost use Rattle.std.specs.List.{position};
-ghost use Rattle.ug_script.specs.Grammar.{Parses, step_of_line, plug_of, other_step, rule_of, split_name, with_start, with_descriptors};
+ghost use Rattle.ug_script.specs.Grammar.{Parses, step_of_line, plug_of, other_step, split_name, with_start, with_descriptors};
 ghost use Rattle.ug_script.specs.Words.{bytes_of};
 
+use crate::rule_lines::rule_line;
 use crate::step::{Step, StepFault};
-use crate::words::{bytes, id, moment, name};
+use crate::words::{bytes, moment, name};
 use std::alloc::Global;
-use ug_core::IdRule;
 use ug_sysfs::Device;
-use ug_types::{Moment, NodeName, Target};
-
-/// `vvvv:pppp`.
-#[tactic(auto, unfolding(crate::specs::Grammar::rule_of))]
-fn id_rule(target: Target, text: &[u8]) -> Option<Step>
-    ensures { result ≡ rule_of target text.now }
-{
-    if text.len() != 9 {
-        return None;
-    }
-    if text[4] != b':' {
-        return None;
-    }
-    match id(&text[..4]) {
-        None => None,
-        Some(vendor) => match id(&text[5..]) {
-            None => None,
-            Some(product) => Some(Step::Rule(IdRule {
-                target,
-                vendor,
-                product,
-            })),
-        },
-    }
-}
+use ug_types::{Moment, NodeName};
 
 /// A step that takes no memory.
 #[tactic(auto, unfolding(crate::specs::Grammar::other_step))]
 fn other(line: &[u8]) -> Option<Step>
     ensures { result ≡ other_step line.now }
 {
-    if line.starts_with(b"rule allow ") {
-        return id_rule(Target::Allow, &line[11..]);
-    }
-    if line.starts_with(b"rule block ") {
-        return id_rule(Target::Block, &line[11..]);
-    }
     if line.starts_with(b"unplug ") {
         return match name(&line[7..]) {
             None => None,
@@ -126,7 +96,7 @@ fn plug(alloc: Global, text: &[u8]) -> Result<Step, StepFault>
 }
 
 /// Reads a line that is not the first. An empty line and a comment are skipped.
-/// `rule allow` and `rule block` take `vvvv:pppp`, in hexadecimal. `plug` takes a name, `1` where the device starts authorised, else `0`,
+/// `rule` takes a rule of usbguard-rules.conf(5) that allows or blocks, with one whole id and nothing else. `plug` takes a name, `1` where the device starts authorised, else `0`,
 /// its descriptors in hexadecimal, and ` - - -` for its texts. `unplug` takes a name, `sweep` a moment up to 250,000,000,000.
 #[tactic(auto, unfolding(crate::specs::Grammar::step_of_line))]
 pub fn parse_line(alloc: Global, line: &[u8]) -> Result<Step, StepFault>
@@ -140,6 +110,9 @@ pub fn parse_line(alloc: Global, line: &[u8]) -> Result<Step, StepFault>
     }
     if line.starts_with(b"plug ") {
         return plug(alloc, &line[5..]);
+    }
+    if line.starts_with(b"rule ") {
+        return rule_line(alloc, &line[5..]);
     }
     match other(line) {
         Some(step) => Ok(step),

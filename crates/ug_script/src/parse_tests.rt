@@ -46,7 +46,15 @@ fn reads_lines(rt: HostRuntime) -> Result<(), Fail> {
         vendor: 0x1d6b,
         product: 0xab02,
     };
-    assert_eq!(rt; rule(alloc, b"rule block 1D6b:aB02"), Some(block));
+    let written: [&[u8]; 4] = [
+        b"rule block 1D6b:aB02",
+        b"rule block id 1d6b:ab02",
+        b"rule  block id equals { 1d6b:ab02 }",
+        b"rule block 1d6b:ab02 # a hub",
+    ];
+    for line in written {
+        assert_eq!(rt; rule(alloc, line), Some(block));
+    }
     assert_eq!(rt; moment(alloc, b"sweep 0"), Some(Moment(0)));
     assert_eq!(rt;
         moment(alloc, b"sweep 250000000000"),
@@ -65,13 +73,20 @@ fn reads_lines(rt: HostRuntime) -> Result<(), Fail> {
 #[test]
 fn refuses_other_lines(rt: HostRuntime) {
     let alloc = rt.alloc();
-    let lines: [&[u8]; 18] = [
+    let lines: [&[u8]; 24] = [
         b" ",
+        b"rule ",
+        b"rule allow",
         b"rule reject 1050:0011",
+        b"rule allow 1050:*",
+        b"rule allow *:*",
+        b"rule allow id { 1050:0011 1050:0012 }",
+        b"rule allow id none-of { 1050:0011 }",
+        b"rule allow 1050:0011 if true",
         b"rule allow 1050:001",
         b"rule allow 1050-0011",
         b"rule allow 1050:00g1",
-        b"rule  allow 1050:0011",
+        b"rule allow 1050:0011 label \"key\"",
         b"unplug",
         b"unplug 1-0",
         b"unplug usb1 ",

@@ -1,9 +1,8 @@
 // Names, numbers and hexadecimal words of a script's lines.
 ghost use Rattle.std.specs.Prelude.{◌≡◌, Some};
-ghost use Rattle.ug_script.specs.Words.{name_of, with_digit, number_of, moment_of, id_of, bytes_of, ReadsBytes};
+ghost use Rattle.ug_script.specs.Words.{name_of, with_digit, number_of, moment_of, bytes_of, ReadsBytes};
 
 use crate::step::StepFault;
-use hex::FromHex;
 use std::alloc::Global;
 use ug_types::{NodeName, Text};
 
@@ -63,17 +62,6 @@ pub fn moment(text: &[u8]) -> Option<u64>
         return if text.len() == 1 { Some(0) } else { None };
     }
     number(text)
-}
-
-/// Four hexadecimal digits of either case.
-#[tactic(auto, unfolding(crate::specs::Words::id_of))]
-pub fn id(text: &[u8]) -> Option<u16>
-    ensures { result ≡ id_of text.now }
-{
-    match <[u8; 2] as FromHex>::from_hex(text) {
-        Ok(bytes) => Some(u16::from(bytes[0]) * 256 + u16::from(bytes[1])),
-        Err(_) => None,
-    }
 }
 
 /// The bytes that an even number of hexadecimal digits write, at least two.
