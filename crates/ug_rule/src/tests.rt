@@ -22,6 +22,15 @@ fn rule(alloc: Global, line: &[u8]) -> Result<Rule, Fail> {
     Ok(parse_rule(alloc, line)?)
 }
 
+fn is_query(alloc: Global, line: &[u8]) -> bool {
+    parse_query(alloc, line).is_ok()
+}
+
+// How many rules a text has, or its first bad line.
+fn count(alloc: Global, text: &[u8]) -> Result<usize, FileFault> {
+    Ok(parse_file(alloc, text)?.len())
+}
+
 // The first id of a rule.
 fn first_id(rule: &Rule) -> Option<Id> {
     match &rule.query.id {
@@ -118,8 +127,7 @@ fn reads_escapes_and_comments(rt: HostRuntime) -> Result<(), Fail> {
     let name = names.items.as_slice().first().ok_or("empty")?;
     assert_eq!(rt; name.bytes(), b"aA".as_slice());
     let text = b"allow 1050:0011 name \"a\\x41\" # key\n\n # none\nblock\n";
-    let rules = parse_file(alloc, text)?;
-    assert_eq!(rt; rules.len(), 2);
+    assert_eq!(rt; count(alloc, text), Ok(2));
     Ok(())
 }
 
@@ -208,8 +216,8 @@ fn names_each_fault_and_its_place(rt: HostRuntime) -> Result<(), Fail> {
 #[test]
 fn reads_queries(rt: HostRuntime) -> Result<(), Fail> {
     let alloc = rt.alloc();
-    assert!(rt; parse_query(alloc, b"via-port \"1-1\"").is_ok());
-    assert!(rt; parse_query(alloc, b"1050:* label \"a\"").is_ok());
+    assert!(rt; is_query(alloc, b"via-port \"1-1\""));
+    assert!(rt; is_query(alloc, b"1050:* label \"a\""));
     assert_eq!(rt; query_fault(alloc, b"if true"), Some((11, 0)));
     assert_eq!(rt; query_fault(alloc, b" "), Some((7, 1)));
     assert_eq!(rt; query_fault(alloc, b"allow"), Some((5, 0)));
@@ -220,15 +228,14 @@ fn reads_queries(rt: HostRuntime) -> Result<(), Fail> {
 #[test]
 fn counts_lines_of_a_text(rt: HostRuntime) -> Result<(), Fail> {
     let alloc = rt.alloc();
-    match parse_file(alloc, b"allow\r\n\n#\nallow with-interface 08:*:50\nfrob") {
-        Err(FileFault::Bad(TextFault { line, kind, place })) => {
-            assert_eq!(rt; line, 4);
-            assert_eq!(rt; kind, 7);
-            assert_eq!(rt; place, 21);
-        }
-        _ => assert!(rt; false),
-    }
-    assert_eq!(rt; parse_file(alloc, b"")?.len(), 0);
+    let text = b"allow\r\n\n#\nallow with-interface 08:*:50\nfrob";
+    let fourth = TextFault {
+        line: 4,
+        kind: 7,
+        place: 21,
+    };
+    assert_eq!(rt; count(alloc, text), Err(FileFault::Bad(fourth)));
+    assert_eq!(rt; count(alloc, b""), Ok(0));
     Ok(())
 }
 
