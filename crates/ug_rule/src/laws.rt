@@ -8,6 +8,8 @@ ghost use Rattle.ug_rule.specs.Grammar.{AllAttributes, Asks, IsConditions, IsQue
 ghost use Rattle.ug_rule.specs.Queries.{attributes_of};
 ghost use Rattle.ug_rule.specs.Rules.{rule_of, rule_read, whole_query, query_read};
 ghost use Rattle.ug_rule.specs.Values.{id_in, interface_in, string_in, value_of};
+ghost use Rattle.ug_rule.specs.WordGrammar.{IsId, IsInterface};
+ghost use Rattle.ug_rule.specs.Words.{id_of, interface_of};
 
 use ug_types::{Conds, Id, Iface, Query, Rule, Values};
 
@@ -26,6 +28,12 @@ pub fn attributes_law()
 /// Conditions are read exactly as their tokens are cut into one condition, or an operator or none and conditions in braces.
 pub fn conditions_law()
     ensures { (line : List ℕ) (ending : Ending) (conds : Conds) (tokens rest : List Token) → (conditions_of line ending tokens ≡ Ok (conds, rest)) ↔ IsConditions line conds tokens rest }
+{}
+
+/// Words are read as ids and as interfaces exactly where their parts stand as usbguard-rules.conf(5) writes them.
+pub fn words_law()
+    ensures ids { (id : Id) (word : List ℕ) → (id_of word ≡ Some id) ↔ IsId id word }
+    ensures interfaces { (iface : Iface) (word : List ℕ) → (interface_of word ≡ Some iface) ↔ IsInterface iface word }
 {}
 
 /// Tokens are read as a rule exactly where they are a target, a bare id or none, and parts in any order, and as a query
