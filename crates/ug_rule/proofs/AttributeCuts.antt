@@ -75,12 +75,12 @@ attribute_tells line ending attr.Label query next tokens rest t =
 set_shorter : {X : Type 0} (reads : Token → Option X) (items : List X) (tokens rest : List Token) → IsSet reads items tokens rest → length rest < length tokens
 set_shorter reads items tokens rest s = omega (arith, ap length s.cut, length-append s.inner (s.brace ∷ rest))
 
-value_shorter : {X : Type 0} (line : List ℕ) (reads : Token → Option X) (values : Values X) (tokens rest : List Token) → IsValue line reads values tokens rest → length rest < length tokens
+pub value_shorter : {X : Type 0} (line : List ℕ) (reads : Token → Option X) (values : Values X) (tokens rest : List Token) → IsValue line reads values tokens rest → length rest < length tokens
 value_shorter line reads values tokens rest (inl s) = omega (arith, ap length s.cut)
 value_shorter line reads values tokens rest (inr (inl s)) = omega (arith, ap length s.cut, set_shorter reads s.items s.more rest s.set)
 value_shorter line reads values tokens rest (inr (inr s)) = omega (arith, ap length s.cut, set_shorter reads s.items s.more rest s.set)
 
-tells_shorter : (line : List ℕ) (attr : Attr) (query next : Query) (tokens rest : List Token) → Tells line attr query next tokens rest → length rest < length tokens
+pub tells_shorter : (line : List ℕ) (attr : Attr) (query next : Query) (tokens rest : List Token) → Tells line attr query next tokens rest → length rest < length tokens
 tells_shorter line attr.Id query next tokens rest t = value_shorter line (id_in line) t.0 tokens rest t.1
 tells_shorter line attr.Serial query next tokens rest t = value_shorter line (string_in line) t.0 tokens rest t.1
 tells_shorter line attr.Name query next tokens rest t = value_shorter line (string_in line) t.0 tokens rest t.1
@@ -100,7 +100,7 @@ none_named : (line : List ℕ) (tokens : List Token) → attribute_of (first_wor
 none_named line [] e = refl
 none_named line (token ∷ tokens) e = ap (λ o. name_by o token tokens) e
 
-no_word : (line : List ℕ) → attribute_of (first_word line []) ≡ None
+pub no_word : (line : List ℕ) → attribute_of (first_word line []) ≡ None
 unfolding attribute_of
 no_word line = refl
 

@@ -15,7 +15,7 @@ use Rattle.ug_rule.specs.Values.{filled}
 abbrev Walk : Type 0
 Walk = Result (List Cond × List Token) Fault
 
-behind : (n : ℕ) (line : List ℕ) (ending : Ending) (conds : List Cond) (tokens : List Token) (token : Token) (rest : List Token)
+pub behind : (n : ℕ) (line : List ℕ) (ending : Ending) (conds : List Cond) (tokens : List Token) (token : Token) (rest : List Token)
     → tokens ≡ token ∷ rest
     → conds_from (suc n) line ending conds tokens ≡ conds_behind line ending conds token rest (λ more left. conds_from n line ending more left)
 unfolding conds_from

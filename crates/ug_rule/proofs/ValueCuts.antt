@@ -65,7 +65,7 @@ items_end reads ending before all (token ∷ tokens) rest h = elim (by_test (is_
       longer reads before all s.0 token tokens rest p.0 (by_found (reads token) BadValue token.start s.0 s.1) (items_end reads ending (before ++ s.0 ∷ []) all tokens rest s.2)
 ]
 
-filled_some : {X : Type 0} (all : List X) (place : ℕ) (rest : List Token) → 0 < length all → filled all place rest ≡ Ok (all, rest)
+pub filled_some : {X : Type 0} (all : List X) (place : ℕ) (rest : List Token) → 0 < length all → filled all place rest ≡ Ok (all, rest)
 filled_some [] place rest h = absurd (omega arith)
 filled_some (item ∷ items) place rest h = refl
 

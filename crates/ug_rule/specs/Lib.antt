@@ -7,4 +7,5 @@ pub mod Queries
 pub mod Rules
 pub mod Tokens
 pub mod Values
+pub mod WordGrammar
 pub mod Words

@@ -3,12 +3,15 @@ ghost use Rattle.std.specs.Prelude.{◌≡◌, ◌↔◌, ◌⊎◌, ℕ, List};
 ghost use Rattle.ug_lex.specs.declared.token.Token.{Token};
 ghost use Rattle.ug_rule.specs.declared.fault.Ending.{Ending};
 ghost use Rattle.ug_rule.specs.declared.fault.Fault.{Fault};
-ghost use Rattle.ug_rule.specs.Grammar.{AllAttributes, IsValue};
+ghost use Rattle.ug_rule.specs.Conditions.{conditions_of};
+ghost use Rattle.ug_rule.specs.Grammar.{AllAttributes, Asks, IsConditions, IsQuery, IsRule, IsValue, Says, WellFormed};
 ghost use Rattle.ug_rule.specs.Queries.{attributes_of};
-ghost use Rattle.ug_rule.specs.Rules.{rule_read, query_read};
+ghost use Rattle.ug_rule.specs.Rules.{rule_of, rule_read, whole_query, query_read};
 ghost use Rattle.ug_rule.specs.Values.{id_in, interface_in, string_in, value_of};
+ghost use Rattle.ug_rule.specs.WordGrammar.{IsId, IsInterface};
+ghost use Rattle.ug_rule.specs.Words.{id_of, interface_of};
 
-use ug_types::{Id, Iface, Query, Rule, Values};
+use ug_types::{Conds, Id, Iface, Query, Rule, Values};
 
 /// A value is read exactly as its tokens are cut into one item, or an operator or none and items in braces.
 pub fn values_law()
@@ -20,6 +23,31 @@ pub fn values_law()
 /// Attributes are read exactly as their tokens are cut into names and values, in whatever order, each name once.
 pub fn attributes_law()
     ensures { (line : List ℕ) (ending : Ending) (query all : Query) (tokens rest : List Token) → (attributes_of line ending query tokens ≡ Ok (all, rest)) ↔ AllAttributes line query all tokens rest }
+{}
+
+/// Conditions are read exactly as their tokens are cut into one condition, or an operator or none and conditions in braces.
+pub fn conditions_law()
+    ensures { (line : List ℕ) (ending : Ending) (conds : Conds) (tokens rest : List Token) → (conditions_of line ending tokens ≡ Ok (conds, rest)) ↔ IsConditions line conds tokens rest }
+{}
+
+/// Words are read as ids and as interfaces exactly where their parts stand as usbguard-rules.conf(5) writes them.
+pub fn words_law()
+    ensures ids { (id : Id) (word : List ℕ) → (id_of word ≡ Some id) ↔ IsId id word }
+    ensures interfaces { (iface : Iface) (word : List ℕ) → (interface_of word ≡ Some iface) ↔ IsInterface iface word }
+{}
+
+/// Tokens are read as a rule exactly where they are a target, a bare id or none, and parts in any order, and as a query
+/// exactly where they are a bare id or none and attributes, at least one of them.
+pub fn rules_law()
+    ensures rules { (line : List ℕ) (rule : Rule) (tokens : List Token) → (rule_of line tokens ≡ Ok rule) ↔ IsRule line rule tokens }
+    ensures queries { (line : List ℕ) (query : Query) (tokens : List Token) → (whole_query line tokens ≡ Ok query) ↔ IsQuery line query tokens }
+{}
+
+/// A line reads as a rule exactly where it is cut into tokens that are this rule. So it is with queries.
+pub fn lines_law()
+    ensures rules { (line : List ℕ) (rule : Rule) → (rule_read line ≡ Ok rule) ↔ Says line rule }
+    ensures queries { (line : List ℕ) (query : Query) → (query_read line ≡ Ok query) ↔ Asks line query }
+    ensures well_formed { (rule : Rule) → WellFormed rule ↔ ((line : List ℕ) × (rule_read line ≡ Ok rule)) }
 {}
 
 /// A line is one rule, or has one first fault, and never both. So it is with queries.
