@@ -1,0 +1,10 @@
+// Whether a text holds rules, in one line.
+#![tactic(auto)]
+
+mod checking;
+mod lines;
+
+pub use checking::check_rules;
+
+#[cfg(test)]
+mod tests;
