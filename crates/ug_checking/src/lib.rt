@@ -2,9 +2,11 @@
 #![tactic(auto)]
 
 mod checking;
+mod laws;
 mod lines;
 
 pub use checking::check_rules;
+pub use laws::text_law;
 
 #[cfg(test)]
 mod tests;
