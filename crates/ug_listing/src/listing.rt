@@ -2,44 +2,20 @@
 ghost use Rattle.std.specs.Prelude.{◌≡◌, ◌≢◌, ◌≤◌, ◌+◌, ℕ, List, Option, Some, length};
 ghost use Rattle.std.specs.Io.KnownBytes.{IsAtEnd};
 ghost use Rattle.ug_types.specs.Ends.{Rose};
-ghost use Rattle.ug_lines.specs.Runs.{Says};
 ghost use Rattle.ug_lines.specs.Statuses.{status_of};
 ghost use Rattle.ug_lines.specs.declared.call.Ended.{Ended};
-ghost use Rattle.ug_listing.specs.Listing.{Answers, Lists, Tells, words_of, ended_of};
+ghost use Rattle.ug_listing.specs.Listing.{Answers, Completes, Tells};
 
 use crate::lines::line_of_fault;
 use crate::writing::write_listing;
 use std::alloc::Global;
 use ug_descr::{DescrFault, decode};
-use ug_input::{InputFault, read_input};
+use ug_input::{read_input, refuse, say};
 use ug_lines::{Ended, status};
 use ug_types::{Put, Sink, Source};
 
 /// The greatest number of bytes that are read.
 const MOST: usize = 67108864;
-
-/// Writes a fault line.
-fn say<K: Sink>(out: &mut K, words: &[u8], ended: Ended) -> Ended
-    ensures told { Says (K.held out.old) (K.held out.new) words.now ended result }
-    ensures cause { ended ≢ Ended.WriteFault → result ≡ Ended.WriteFault → Rose (K.faults out.old) (K.faults out.new) }
-{
-    match out.put(words) {
-        Put::Done => ended,
-        Put::Failed => Ended::WriteFault,
-    }
-}
-
-/// Writes the fault line of an input that wasn't read whole.
-fn refuse<K: Sink>(out: &mut K, fault: InputFault) -> Ended
-    ensures told { Says (K.held out.old) (K.held out.new) (words_of fault) (ended_of fault) result }
-    ensures cause { result ≡ Ended.WriteFault → Rose (K.faults out.old) (K.faults out.new) }
-{
-    match fault {
-        InputFault::TooLong => say(out, b"input too long\n", Ended::TooLong),
-        InputFault::Failed => say(out, b"read fault\n", Ended::ReadFault),
-        InputFault::Memory => say(out, b"no memory\n", Ended::Memory),
-    }
-}
 
 /// Writes what the bytes of an input say, whose end was reached.
 fn tell<K: Sink>(alloc: Global, bytes: &[u8], out: &mut K) -> Ended
@@ -61,7 +37,7 @@ fn tell<K: Sink>(alloc: Global, bytes: &[u8], out: &mut K) -> Ended
 }
 
 fn list_input<S: Source, K: Sink>(alloc: Global, input: &mut S, out: &mut K) -> Ended
-    ensures told { Lists (S.left input.old) (S.left input.new) (K.held out.old) (K.held out.new) result }
+    ensures told { Completes (S.left input.old) (S.left input.new) (K.held out.old) (K.held out.new) result }
     ensures read { result ≡ Ended.ReadFault → Rose (S.faults input.old) (S.faults input.new) }
     ensures written { result ≡ Ended.WriteFault → Rose (K.faults out.old) (K.faults out.new) }
 {

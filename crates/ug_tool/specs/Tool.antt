@@ -1,5 +1,8 @@
--- The words of the command `read-descriptor`.
+-- The words of the commands `read-descriptor` and `check-rules`.
 use Rattle.std.specs.Prelude.{ℕ, List, [], ◌∷◌, codes}
 
 unfoldable pub read_descriptor_words : List (List ℕ)
 read_descriptor_words = codes "read-descriptor" ∷ []
+
+unfoldable pub check_rules_words : List (List ℕ)
+check_rules_words = codes "check-rules" ∷ []

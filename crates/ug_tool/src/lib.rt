@@ -8,6 +8,8 @@ pub use replay::run_replay;
 pub use tool::run_tool;
 
 #[cfg(test)]
+mod checking_tests;
+#[cfg(test)]
 mod descriptor_tests;
 #[cfg(test)]
 mod fault_tests;

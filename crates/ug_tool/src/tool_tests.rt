@@ -17,7 +17,21 @@ pub fn call(
     bytes: &[u8],
     writes: &[u64],
 ) -> Result<(u8, Vec<u8>), AllocError> {
-    let mut input = MemSource::new(Vec::from_slice(alloc, bytes)?, Vec::new(alloc));
+    call_with(alloc, words, bytes, &[], writes)
+}
+
+// The same, where these calls of the source fail too.
+pub fn call_with(
+    alloc: Global,
+    words: &[&str],
+    bytes: &[u8],
+    reads: &[u64],
+    writes: &[u64],
+) -> Result<(u8, Vec<u8>), AllocError> {
+    let mut input = MemSource::new(
+        Vec::from_slice(alloc, bytes)?,
+        Vec::from_slice(alloc, reads)?,
+    );
     let mut out = MemSink::new(alloc, Vec::from_slice(alloc, writes)?);
     let coming = MemSource::new(Vec::new(alloc), Vec::new(alloc));
     let mut link = MemLink::new(false, coming, MemSink::new(alloc, Vec::new(alloc)));
@@ -52,11 +66,13 @@ fn a_script_is_run(rt: HostRuntime) -> Result<(), AllocError> {
 
 #[test]
 fn other_words_are_refused(rt: HostRuntime) -> Result<(), AllocError> {
-    let cases: [&[&str]; 4] = [
+    let cases: [&[&str]; 6] = [
         &[],
         &["--help"],
         &["read-descriptor", "read-descriptor"],
         &["read-descriptors"],
+        &["check-rules", "rules.conf"],
+        &["Check-rules"],
     ];
     for words in cases {
         let (status, text) = call(rt.alloc(), words, &KEY, &[])?;

@@ -3,7 +3,7 @@ use Rattle.ug_sysfs.specs.Sound.{new_sound}
 use Rattle.ug_script.proofs.Journals.{stays_recorded}
 use Rattle.ug_script.proofs.Lawful.{stays_lawful}
 use Rattle.ug_tool.specs.Replay.{new_world}
-use Rattle.ug_tool.proofs.Words.{commands_differ}
+use Rattle.ug_tool.proofs.Words.{commands_differ, check_rules_differs, checks_and_reads_differ}
 use Rattle.ug_tool.proofs.tool.run_tool.Goals as goal
 
 pub returns-then-is_replay-clause-replayed : goal.returns-then-is_replay-clause-replayed
@@ -25,3 +25,15 @@ returns-clause-laws g c = stays_lawful new_world refl new_sound
 
 pub returns-clause-recorded : goal.returns-clause-recorded
 returns-clause-recorded g c = stays_recorded new_world refl new_sound
+
+pub returns-then-is_replay-clause-checked : goal.returns-then-is_replay-clause-checked
+returns-then-is_replay-clause-checked g c = λ e all base a b. absurd (check_rules_differs (sym e ∙ c.is_replay.ensures.0 c.if-is_replay.true))
+
+pub returns-then-is_read_descriptor-clause-checked : goal.returns-then-is_read_descriptor-clause-checked
+returns-then-is_read_descriptor-clause-checked g c = λ e all base a b. absurd (checks_and_reads_differ (sym e ∙ c.is_read_descriptor.ensures.0 c.if-is_read_descriptor.true))
+
+pub returns-then-is_check_rules-clause-laws : goal.returns-then-is_check_rules-clause-laws
+returns-then-is_check_rules-clause-laws g c = stays_lawful new_world refl new_sound
+
+pub returns-then-is_check_rules-clause-recorded : goal.returns-then-is_check_rules-clause-recorded
+returns-then-is_check_rules-clause-recorded g c = stays_recorded new_world refl new_sound

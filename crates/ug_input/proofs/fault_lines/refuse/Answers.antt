@@ -2,8 +2,8 @@ use Rattle.std.proofs.Common.{sym, subst}
 use Rattle.ug_lines.specs.Fold.{input_too_long, read_fault, no_memory}
 use Rattle.ug_lines.specs.Runs.{Says}
 use Rattle.ug_input.specs.declared.read.InputFault.{InputFault}
-use Rattle.ug_listing.specs.Listing.{words_of, ended_of}
-use Rattle.ug_listing.proofs.listing.refuse.Goals as goal
+use Rattle.ug_input.specs.Outputs.{words_of, ended_of}
+use Rattle.ug_input.proofs.fault_lines.refuse.Goals as goal
 
 pub returns-in-TooLong-clause-told : goal.returns-in-TooLong-clause-told
 unfolding input_too_long

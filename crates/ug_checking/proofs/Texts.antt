@@ -1,0 +1,134 @@
+-- A text is read as its lines are, from the first on.
+use Rattle.std.proofs.Common.{◌≡◌, ℕ, suc, ◌+◌, List, [], ◌∷◌, ◌++◌, length, Option, Some, None, Result, Ok, Err, refl, sym, ap, subst, ◌∙◌, append_assoc, arith}
+use Rattle.std.proofs.lemmas.List.{append-nil}
+use Rattle.ug_types.specs.declared.rule.Rule.{Rule}
+use Rattle.ug_types.specs.declared.text_fault.TextFault.{TextFault}
+use Rattle.ug_rule.specs.declared.fault.Fault.{Fault}
+use Rattle.ug_rule.specs.Faults.{on_ok}
+use Rattle.ug_rule.specs.Files.{line_read, added, rules_from}
+use Rattle.ug_checking.specs.Texts.{AreRules, NoLines, Blank, OneMore, fault_on, IsFirstBad}
+
+one_more : (a b : ℕ) → a + 1 + b ≡ a + suc b
+one_more a b = omega arith
+
+-- what a line that reads so leads to
+next : (number : ℕ) (rules : List Rule) (line : List ℕ) (lines : List (List ℕ)) (read : Result (Option Rule) Fault) → line_read line ≡ read
+    → rules_from number rules (line ∷ lines) ≡ on_ok (added number rules read) (λ more. rules_from (number + 1) more lines)
+unfolding rules_from
+next number rules line lines read e = ap (λ (r : Result (Option Rule) Fault). on_ok (added number rules r) (λ more. rules_from (number + 1) more lines)) e
+
+-- good lines lead to what stands behind them
+pub past : (number : ℕ) (old : List Rule) (lines behind : List (List ℕ)) (rules : List Rule) → AreRules lines rules → rules_from number old (lines ++ behind) ≡ rules_from (number + length lines) (old ++ rules) behind
+past number old lines behind rules NoLines =
+    let n : number ≡ number + 0 = omega arith in
+    ap (λ (l : List Rule). rules_from number l behind) (sym (append-nil old)) ∙ ap (λ (k : ℕ). rules_from k (old ++ []) behind) n
+past number old lines behind rules (Blank line more same e r) =
+    next number old line (more ++ behind) (Ok None) e ∙ past (number + 1) old more behind rules r ∙ ap (λ (k : ℕ). rules_from k (old ++ rules) behind) (one_more number (length more))
+past number old lines behind rules (OneMore line rule more rest e r) =
+    next number old line (more ++ behind) (Ok (Some rule)) e ∙ past (number + 1) (old ++ rule ∷ []) more behind rest r
+    ∙ ap (λ (k : ℕ). rules_from k ((old ++ rule ∷ []) ++ rest) behind) (one_more number (length more))
+    ∙ ap (λ (l : List Rule). rules_from (number + suc (length more)) l behind) (append_assoc old (rule ∷ []) rest)
+
+-- rules that are read behind others
+record Good (old : List Rule) (lines : List (List ℕ)) (all : List Rule) : Type 0 where
+  rules : List Rule
+  good : AreRules lines rules
+  is : all ≡ old ++ rules
+
+end : (number : ℕ) (old : List Rule) → rules_from number old [] ≡ Ok old
+unfolding rules_from
+end number old = refl
+
+good-from : (number : ℕ) (old : List Rule) (lines : List (List ℕ)) (all : List Rule) → rules_from number old lines ≡ Ok all → Good old lines all
+good-from number old [] all e =
+    let q : Ok old ≡ Ok all = sym (end number old) ∙ e in
+    let p : all ≡ old = cc in
+    record { rules = []; good = NoLines; is = p ∙ sym (append-nil old) }
+good-from number old (line ∷ lines) all e = by (line_read line) refl (λ (o : List Rule) (h : rules_from (number + 1) o lines ≡ Ok all). good-from (number + 1) o lines all h)
+  where
+    by : (v : Result (Option Rule) Fault) → line_read line ≡ v → ((o : List Rule) → rules_from (number + 1) o lines ≡ Ok all → Good o lines all) → Good old (line ∷ lines) all
+    by (Ok None) q f = let g = f old (sym (next number old line lines (Ok None) q) ∙ e) in
+        record { rules = g.rules; good = Blank line lines g.rules q g.good; is = g.is }
+    by (Ok (Some rule)) q f = let g = f (old ++ rule ∷ []) (sym (next number old line lines (Ok (Some rule)) q) ∙ e) in
+        record { rules = rule ∷ g.rules; good = OneMore line rule lines g.rules q g.good; is = g.is ∙ append_assoc old (rule ∷ []) g.rules }
+    by (Err found) q f = let w = sym (next number old line lines (Err found) q) ∙ e in absurd (cc)
+
+-- the first bad line of lines that are numbered from a number on
+record BadFrom (number : ℕ) (lines : List (List ℕ)) (fault : TextFault) : Type 0 where
+  before : List (List ℕ)
+  line : List ℕ
+  behind : List (List ℕ)
+  rules : List Rule
+  found : Fault
+  split : lines ≡ before ++ line ∷ behind
+  good : AreRules before rules
+  bad : line_read line ≡ Err found
+  told : fault ≡ fault_on (number + length before) found
+
+bad-from : (number : ℕ) (old : List Rule) (lines : List (List ℕ)) (fault : TextFault) → rules_from number old lines ≡ Err fault → BadFrom number lines fault
+bad-from number old [] fault e = let w = sym (end number old) ∙ e in absurd (cc)
+bad-from number old (line ∷ lines) fault e = by (line_read line) refl (λ (o : List Rule) (h : rules_from (number + 1) o lines ≡ Err fault). bad-from (number + 1) o lines fault h)
+  where
+    by : (v : Result (Option Rule) Fault) → line_read line ≡ v → ((o : List Rule) → rules_from (number + 1) o lines ≡ Err fault → BadFrom (number + 1) lines fault) → BadFrom number (line ∷ lines) fault
+    by (Ok None) q f = let g = f old (sym (next number old line lines (Ok None) q) ∙ e) in record {
+      before = line ∷ g.before;
+      line = g.line;
+      behind = g.behind;
+      rules = g.rules;
+      found = g.found;
+      split = ap (λ (ls : List (List ℕ)). line ∷ ls) g.split;
+      good = Blank line g.before g.rules q g.good;
+      bad = g.bad;
+      told = g.told ∙ ap (λ (k : ℕ). fault_on k g.found) (one_more number (length g.before));
+    }
+    by (Ok (Some rule)) q f = let g = f (old ++ rule ∷ []) (sym (next number old line lines (Ok (Some rule)) q) ∙ e) in record {
+      before = line ∷ g.before;
+      line = g.line;
+      behind = g.behind;
+      rules = rule ∷ g.rules;
+      found = g.found;
+      split = ap (λ (ls : List (List ℕ)). line ∷ ls) g.split;
+      good = OneMore line rule g.before g.rules q g.good;
+      bad = g.bad;
+      told = g.told ∙ ap (λ (k : ℕ). fault_on k g.found) (one_more number (length g.before));
+    }
+    by (Err found) q f =
+        let w : Err (fault_on number found) ≡ Err fault = sym (next number old line lines (Err found) q) ∙ e in
+        let p : fault ≡ fault_on number found = cc in
+        let n : number ≡ number + 0 = omega arith in record {
+          before = [];
+          line = line;
+          behind = lines;
+          rules = [];
+          found = found;
+          split = refl;
+          good = NoLines;
+          bad = q;
+          told = p ∙ ap (λ (k : ℕ). fault_on k found) n;
+        }
+
+pub rules-read : (lines : List (List ℕ)) (rules : List Rule) → rules_from 1 [] lines ≡ Ok rules → AreRules lines rules
+rules-read lines rules e = let g = good-from 1 [] lines rules e in subst (λ (l : List Rule). AreRules lines l) (sym g.is) g.good
+
+pub read-rules : (lines : List (List ℕ)) (rules : List Rule) → AreRules lines rules → rules_from 1 [] lines ≡ Ok rules
+read-rules lines rules r = ap (λ (l : List (List ℕ)). rules_from 1 [] l) (sym (append-nil lines)) ∙ past 1 [] lines [] rules r ∙ end (1 + length lines) rules
+
+pub fault-read : (lines : List (List ℕ)) (fault : TextFault) → rules_from 1 [] lines ≡ Err fault → IsFirstBad lines fault
+fault-read lines fault e = let g = bad-from 1 [] lines fault e in record {
+  before = g.before;
+  line = g.line;
+  behind = g.behind;
+  rules = g.rules;
+  found = g.found;
+  split = g.split;
+  good = g.good;
+  bad = g.bad;
+  told = let n : 1 + length g.before ≡ length g.before + 1 = omega arith in g.told ∙ ap (λ (k : ℕ). fault_on k g.found) n;
+}
+
+pub read-fault : (lines : List (List ℕ)) (fault : TextFault) → IsFirstBad lines fault → rules_from 1 [] lines ≡ Err fault
+read-fault lines fault b =
+    let n : 1 + length b.before ≡ length b.before + 1 = omega arith in
+    ap (λ (l : List (List ℕ)). rules_from 1 [] l) b.split ∙ past 1 [] b.before (b.line ∷ b.behind) b.rules b.good
+    ∙ next (1 + length b.before) b.rules b.line b.behind (Err b.found) b.bad
+    ∙ ap (λ (k : ℕ). Err (fault_on k b.found)) n ∙ ap (λ (t : TextFault). Err t) (sym b.told)

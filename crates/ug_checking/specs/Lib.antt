@@ -1,0 +1,3 @@
+pub mod Checking
+pub mod Lines
+pub mod Texts
