@@ -16,5 +16,7 @@ mod words;
 
 pub use fault::RuleFault;
 pub use files::parse_file;
-pub use laws::{attributes_law, conditions_law, lines_law, one_meaning, rules_law, values_law, words_law};
+pub use laws::{
+    attributes_law, conditions_law, lines_law, one_meaning, rules_law, values_law, words_law,
+};
 pub use rules::{parse_query, parse_rule};
