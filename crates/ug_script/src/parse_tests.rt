@@ -73,7 +73,7 @@ fn reads_lines(rt: HostRuntime) -> Result<(), Fail> {
 #[test]
 fn refuses_other_lines(rt: HostRuntime) {
     let alloc = rt.alloc();
-    let lines: [&[u8]; 24] = [
+    let lines: [&[u8]; 25] = [
         b" ",
         b"rule ",
         b"rule allow",
