@@ -3,11 +3,7 @@
 # 6: its output is then a front of the whole one, cut at a line, and the line `no memory`.
 # It wants the built program (bin/usbguard builds it) and a C compiler as cc.
 set -eu
-root=$(cd "$(dirname "$0")/.." && pwd)
-program=$root/crates/usbguard/out/usbguard
-[ -x "$program" ] || "$root/bin/usbguard" replay </dev/null >/dev/null || true
-folder=$(mktemp -d)
-trap 'rm -rf "$folder"' EXIT
+. "$(dirname "$0")/program.sh"
 
 # malloc and realloc that count, and fail at one call
 cat >"$folder/fail.c" <<'C'

@@ -2,11 +2,7 @@
 # Times check-rules on 65,536 rules, without conditions and with some, and prints rules per second and peak memory.
 # It wants the built program (bin/usbguard builds it), awk, and GNU time as /usr/bin/time.
 set -eu
-root=$(cd "$(dirname "$0")/.." && pwd)
-program=$root/crates/usbguard/out/usbguard
-[ -x "$program" ] || "$root/bin/usbguard" replay </dev/null >/dev/null || true
-folder=$(mktemp -d)
-trap 'rm -rf "$folder"' EXIT
+. "$(dirname "$0")/program.sh"
 
 simple() {
     awk 'BEGIN { for (i = 0; i < 65536; i++) printf "allow id %04x:%04x\n", i, (i * 7) % 65536 }'

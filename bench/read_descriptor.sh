@@ -3,11 +3,7 @@
 # is timed on the 18 bytes of a device descriptor. The output goes to a file.
 # It wants the built program (bin/usbguard builds it), awk, and GNU date.
 set -eu
-root=$(cd "$(dirname "$0")/.." && pwd)
-program=$root/crates/usbguard/out/usbguard
-[ -x "$program" ] || "$root/bin/usbguard" replay </dev/null >/dev/null || true
-folder=$(mktemp -d)
-trap 'rm -rf "$folder"' EXIT
+. "$(dirname "$0")/program.sh"
 runs=${1:-200}
 
 printf '\022\001\000\002\000\000\000\100\120\020\021\000\000\001\000\000\000\001' >"$folder/device"

@@ -2,11 +2,7 @@
 # Times replay on scripts of many lines and of many live devices, and prints lines per second and peak memory.
 # It wants the built program (bin/usbguard builds it), awk, and GNU time as /usr/bin/time.
 set -eu
-root=$(cd "$(dirname "$0")/.." && pwd)
-program=$root/crates/usbguard/out/usbguard
-[ -x "$program" ] || "$root/bin/usbguard" replay </dev/null >/dev/null || true
-folder=$(mktemp -d)
-trap 'rm -rf "$folder"' EXIT
+. "$(dirname "$0")/program.sh"
 
 hub=12010002090001406b1d020006060302010109021900010100e0000904000001090000000705810304000c
 key=120100020000004050101100000100000001
