@@ -36,7 +36,9 @@ wrote_word wrote.Failed = codes "failed"
 unfoldable pub cause_words : Cause → List (List ℕ)
 cause_words (cause.Rule id) = codes "rule" ∷ decimal id ∷ []
 cause_words cause.Implicit = codes "implicit" ∷ []
+cause_words cause.Present = codes "present" ∷ []
 cause_words cause.Keep = codes "keep" ∷ []
+cause_words cause.Inserted = codes "inserted" ∷ []
 cause_words (cause.Malformed kind place) = codes "malformed" ∷ decimal kind ∷ decimal place ∷ []
 
 unfoldable pub fault_words : Fault → List (List ℕ)

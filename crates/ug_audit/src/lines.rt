@@ -97,7 +97,9 @@ fn push_cause(line: &mut Line, cause: Cause)
             push_number(line, id);
         }
         Cause::Implicit => push_word(line, b"implicit"),
+        Cause::Present => push_word(line, b"present"),
         Cause::Keep => push_word(line, b"keep"),
+        Cause::Inserted => push_word(line, b"inserted"),
         Cause::Malformed { kind, place } => {
             push_word(line, b"malformed");
             push_number(line, kind as u64);

@@ -9,7 +9,7 @@ use Rattle.ug_types.specs.declared.verdict.Target.{Target}
 use Rattle.ug_policy.specs.declared.entry.RuleEntry.{RuleEntry}
 use Rattle.ug_policy.specs.Rules.{ids, IsNumbered}
 use Rattle.ug_policy.specs.Edits.{has_id, removed, aimed, retargeted}
-use Rattle.ug_policy.proofs.Members.{insert_has}
+use Rattle.ug_types.proofs.Elements.{insert_has}
 
 ids_insert : (es : List RuleEntry) (i : ℕ) (y : RuleEntry) → ids (insert es i y) ≡ insert (ids es) i y.id
 ids_insert [] zero y = refl

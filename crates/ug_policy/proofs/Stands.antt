@@ -14,7 +14,8 @@ use Rattle.ug_policy.specs.Edits.{has_id, new_entry, removed, aimed, retargeted}
 use Rattle.ug_policy.specs.Matching.{matched, greatest, noted}
 use Rattle.ug_policy.specs.Kept.{StandsFor, judgement_by}
 use Rattle.ug_policy.proofs.Places.{FirstAt}
-use Rattle.ug_policy.proofs.Members.{has_left, has_right, has_cases, has_ids, insert_has, filter_has}
+use Rattle.ug_types.proofs.Elements.{has_left, has_right, has_cases, insert_has, filter_has}
+use Rattle.ug_policy.proofs.Members.{has_ids}
 
 -- a rule whose id is new has no past
 pub stands_insert : (es : List RuleEntry) (next i : ℕ) (rule : types.Rule) (temporary : Bool) (js : List Judgement) → StandsFor es next js → StandsFor (insert es i (new_entry next rule temporary)) (next + 1) js
@@ -34,7 +35,7 @@ pub stands_removed : (id : ℕ) (es : List RuleEntry) (next : ℕ) (js : List Ju
 stands_removed id es next js s = record {
   evaluated = s.evaluated;
   applied = s.applied;
-  histories = λ e m. s.histories e (filter_has _ es e m);
+  histories = λ e m. s.histories e (filter_has _ es e m).0;
 }
 
 retargeted_has : (id : ℕ) (target : Target) (es : List RuleEntry) (e : RuleEntry) → Has (retargeted id target es) e → (f : RuleEntry) × Has es f × (f.id ≡ e.id) × (f.history ≡ e.history)

@@ -14,7 +14,7 @@ use Rattle.ug_audit.specs.declared.entry.Entry.TheVariants as entry
 use Rattle.ug_table.specs.Bring.{write_of}
 use Rattle.ug_table.specs.Laws.{IsDevice, IsProbed, TellsNeither, MayHave, HasVerdict, wrote_entries, Account, Start, Note, Judge, Had, Had_not, Went}
 use Rattle.ug_table.specs.declared.standing.Standing.{Standing}
-use Rattle.ug_table.proofs.Elements.{only_left, last_is}
+use Rattle.ug_types.proofs.Elements.{only_left, last_is}
 use Rattle.ug_table.proofs.Says.{plain_note, plain_wrote}
 use Rattle.ug_core.specs.declared.policy.IdRule.{IdRule}
 use Rattle.ug_core.specs.declared.policy.Policy.{Policy}

@@ -18,7 +18,7 @@ use Rattle.ug_audit.specs.declared.entry.Entry.TheVariants as entry
 use Rattle.ug_table.specs.State.{State}
 use Rattle.ug_table.specs.Laws.{IsDevice, IsGone, Stand, HasVerdict, wrote_entries, IsOne, IsTold, IsJudged, IsFair, IsAsJudged}
 use Rattle.ug_table.specs.declared.standing.Standing.{Standing}
-use Rattle.ug_table.proofs.Elements.{has_left, has_right, has_cases, distinct_one}
+use Rattle.ug_types.proofs.Elements.{has_left, has_right, has_cases, distinct_one}
 use Rattle.ug_table.proofs.Devices.{device_stays, gone_stays, probed_stays, probed_from}
 use Rattle.ug_table.proofs.Says.{Says, account_says, one_held}
 use Rattle.ug_core.specs.Event.{policy_answer, policy_later}

@@ -14,7 +14,7 @@ use Rattle.ug_audit.specs.declared.entry.Entry.TheVariants as entry
 use Rattle.ug_table.specs.Bring.{write_of}
 use Rattle.ug_table.specs.Laws.{HasVerdict, wrote_entries, Account, Start, Note, Judge, Had, Had_not, Went, IsTold}
 use Rattle.ug_table.specs.declared.standing.Standing.{Standing}
-use Rattle.ug_table.proofs.Elements.{has_left, has_right}
+use Rattle.ug_types.proofs.Elements.{has_left, has_right}
 use Rattle.ug_table.proofs.Devices.{device_stays, gone_stays, probed_stays, probed_from}
 
 -- a judge's verdicts, and what it is after them

@@ -23,7 +23,7 @@ use Rattle.ug_table.specs.declared.standing.Known.{Known}
 use Rattle.ug_table.specs.declared.standing.Settled.{Settled}
 use Rattle.ug_table.specs.declared.standing.Settled.TheVariants as settled
 use Rattle.ug_table.proofs.Values.{IsFileOf, file_same, file_later, LiveAs, open_named}
-use Rattle.ug_table.proofs.Elements.{has_map}
+use Rattle.ug_types.proofs.Elements.{has_map}
 use Rattle.ug_table.proofs.Standings.{found, missing, missing_without}
 use Rattle.ug_table.proofs.Places.{Files, Was, tried_was}
 use Rattle.ug_table.proofs.Apart.{Appends, open_found, resettling_apart}

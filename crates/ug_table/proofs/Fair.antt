@@ -39,7 +39,7 @@ use Rattle.ug_table.specs.declared.standing.Standing.{Standing}
 use Rattle.ug_table.specs.declared.standing.Known.{Known}
 use Rattle.ug_table.specs.declared.standing.Settled.{Settled}
 use Rattle.ug_table.specs.declared.standing.Settled.TheVariants as settled
-use Rattle.ug_table.proofs.Elements.{map_has, has_map, insert_has, has_new, has_old, distinct_insert}
+use Rattle.ug_types.proofs.Elements.{map_has, has_map, insert_has, has_new, has_old, distinct_insert}
 use Rattle.ug_table.proofs.Values.{IsFileOf, file_same}
 use Rattle.ug_table.proofs.Devices.{stand_stays}
 use Rattle.ug_table.proofs.Standings.{found, missing, missing_without}

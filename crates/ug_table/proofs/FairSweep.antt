@@ -29,7 +29,7 @@ use Rattle.ug_table.specs.Sweep.{settling_all, resettling_all, parted, names_of,
 use Rattle.ug_table.specs.Laws.{IsDevice, IsGone, Stand, Account, Start, Went, IsOne, numbers_of, gone_of, IsFair}
 use Rattle.ug_table.specs.declared.standing.Standing.{Standing}
 use Rattle.ug_table.specs.declared.standing.Settled.{Settled}
-use Rattle.ug_table.proofs.Elements.{filter_has, has_filter, has_map, distinct_filter, distinct_one}
+use Rattle.ug_types.proofs.Elements.{filter_has, has_filter, has_map, distinct_filter, distinct_one}
 use Rattle.ug_table.proofs.Values.{file_same, file_later}
 use Rattle.ug_table.proofs.Standings.{listed_is}
 use Rattle.ug_table.proofs.Account.{Answers, Laters}

@@ -15,7 +15,7 @@ use Rattle.ug_audit.specs.declared.entry.Entry.TheVariants as entry
 use Rattle.ug_table.specs.State.{State}
 use Rattle.ug_table.specs.Laws.{IsDevice, IsGone, IsProbed, Stand, HasVerdict, IsOne, Stands, HasStanding, IsJudged, gone_of, IsFair}
 use Rattle.ug_table.specs.declared.standing.Standing.{Standing}
-use Rattle.ug_table.proofs.Elements.{has_left, has_right, has_cases, distinct_append}
+use Rattle.ug_types.proofs.Elements.{has_left, has_right, has_cases, distinct_append}
 use Rattle.ug_table.proofs.Values.{IsFileOf, file_same, file_later}
 use Rattle.ug_table.proofs.Account.{Answers, Laters, account_stays, account_trans, told_before}
 use Rattle.ug_table.proofs.Says.{Says, gone_has, gone_append, account_says, one_held}

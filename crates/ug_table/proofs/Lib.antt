@@ -1,4 +1,3 @@
-pub mod Elements
 pub mod Loops
 pub mod Devices
 pub mod Standings

@@ -27,7 +27,7 @@ use Rattle.ug_table.specs.Laws.{Stand, IsNamed, HasStanding, IsAsJudged, IsSettl
 use Rattle.ug_table.specs.declared.standing.Standing.{Standing}
 use Rattle.ug_table.specs.declared.standing.Known.{Known}
 use Rattle.ug_table.specs.declared.standing.Settled.{Settled}
-use Rattle.ug_table.proofs.Elements.{cancel, has_left, filter_has, has_map}
+use Rattle.ug_types.proofs.Elements.{cancel, has_left, filter_has, has_map}
 use Rattle.ug_table.proofs.Values.{file_later, LiveAs, lives_between, lived, open_named}
 use Rattle.ug_table.proofs.Standings.{same_is, is_same, found, missing}
 use Rattle.ug_table.proofs.Account.{Answers, Laters}

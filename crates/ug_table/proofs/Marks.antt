@@ -22,7 +22,7 @@ use Rattle.ug_table.specs.Sweep.{settling_all, resettling_all, parted, names_of,
 use Rattle.ug_table.specs.Laws.{IsNamed, IsUnlisted, IsListed, IsMarked}
 use Rattle.ug_table.specs.declared.standing.Standing.{Standing}
 use Rattle.ug_table.specs.declared.standing.Settled.{Settled}
-use Rattle.ug_table.proofs.Elements.{cancel, has_cases, has_map, filter_has}
+use Rattle.ug_types.proofs.Elements.{cancel, has_cases, has_map, filter_has}
 use Rattle.ug_table.proofs.Standings.{lists_has, either_listed}
 use Rattle.ug_table.proofs.Account.{Answers, Laters}
 use Rattle.ug_table.proofs.Told.{EndsSo, ends_run, ends_then, ends_map, Each, each_has, each_append, each_map, NamesOnly, NamesNone, none_named, Part, PartOf, KeptPart, marked_left, marked_right, settling_part, resettling_part}

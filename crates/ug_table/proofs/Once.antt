@@ -20,7 +20,7 @@ use Rattle.ug_table.specs.Sweep.{names_of, sweeping}
 use Rattle.ug_table.specs.Parts.{name_in, unsettled_names, EndsUnsettled, InParts, AfterListing, NamesOnce}
 use Rattle.ug_table.specs.declared.standing.Standing.{Standing}
 use Rattle.ug_table.proofs.Account.{Answers, Laters}
-use Rattle.ug_table.proofs.Elements.{has_cases}
+use Rattle.ug_types.proofs.Elements.{has_cases}
 use Rattle.ug_table.proofs.Parted.{sweeping_goes}
 
 pub names_more : (es fs : List Entry) → unsettled_names (es ++ fs) ≡ unsettled_names es ++ unsettled_names fs

@@ -38,7 +38,7 @@ use Rattle.ug_table.specs.declared.standing.Standing.{Standing}
 use Rattle.ug_table.specs.declared.standing.Known.{Known}
 use Rattle.ug_table.specs.declared.standing.Settled.{Settled}
 use Rattle.ug_table.specs.declared.standing.Settled.TheVariants as settled
-use Rattle.ug_table.proofs.Elements.{has_right}
+use Rattle.ug_types.proofs.Elements.{has_right}
 use Rattle.ug_table.proofs.Values.{IsFileOf, file_later, LiveAs, lives_between, lived, live_same, gone_no, Value, quiet_value, done_value, IsOpen, alive_open}
 use Rattle.ug_table.proofs.Standings.{found}
 use Rattle.ug_table.proofs.Account.{Answers, Laters}

@@ -9,7 +9,7 @@ use Rattle.ug_table.specs.Settle.{kept_standings, tried_standings}
 use Rattle.ug_table.specs.declared.standing.Standing.{Standing}
 use Rattle.ug_table.specs.declared.standing.Settled.{Settled}
 use Rattle.ug_table.specs.declared.standing.Settled.TheVariants as settled
-use Rattle.ug_table.proofs.Elements.{filter_has, has_filter, map_has, has_map, insert_has, has_new, has_old}
+use Rattle.ug_types.proofs.Elements.{filter_has, has_filter, map_has, has_map, insert_has, has_new, has_old}
 use Rattle.ug_table.proofs.Standings.{same_is}
 use Rattle.ug_table.proofs.Values.{IsOpen, open_later}
 

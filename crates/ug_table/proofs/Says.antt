@@ -14,7 +14,7 @@ use Rattle.ug_audit.specs.declared.entry.Entry.TheVariants as entry
 use Rattle.ug_table.specs.Bring.{write_of}
 use Rattle.ug_table.specs.Laws.{IsDevice, IsGone, IsProbed, TellsNeither, HasVerdict, wrote_entries, Account, Start, Note, Judge, Had, Had_not, Went, numbers_of, gone_of}
 use Rattle.ug_table.specs.declared.standing.Standing.{Standing}
-use Rattle.ug_table.proofs.Elements.{has_left, only_left, last_is, distinct_one}
+use Rattle.ug_types.proofs.Elements.{has_left, only_left, last_is, distinct_one}
 use Rattle.ug_table.proofs.Account.{Answers, Laters}
 
 -- entries that tell no verdict and no end of a standing

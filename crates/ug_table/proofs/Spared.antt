@@ -28,7 +28,7 @@ use Rattle.ug_table.specs.Laws.{Stand, IsSpared}
 use Rattle.ug_table.specs.declared.standing.Standing.{Standing}
 use Rattle.ug_table.specs.declared.standing.Known.{Known}
 use Rattle.ug_table.specs.declared.standing.Settled.{Settled}
-use Rattle.ug_table.proofs.Elements.{cancel, has_cases, has_map, filter_has, has_filter, distinct_one}
+use Rattle.ug_types.proofs.Elements.{cancel, has_cases, has_map, filter_has, has_filter, distinct_one}
 use Rattle.ug_table.proofs.Values.{IsFileOf, file_later, LiveAs, lives_between, lived, gone_no, open_named}
 use Rattle.ug_table.proofs.Standings.{found, missing, listed_is}
 use Rattle.ug_table.proofs.Account.{Answers, Laters}

@@ -7,7 +7,7 @@ use Rattle.ug_table.specs.Sweep.{names_of}
 use Rattle.ug_table.specs.Laws.{numbers_of}
 use Rattle.ug_table.specs.declared.standing.Standing.{Standing}
 use Rattle.ug_table.specs.declared.standing.Known.{Known}
-use Rattle.ug_table.proofs.Elements.{filter_has, map_has}
+use Rattle.ug_types.proofs.Elements.{filter_has, map_has}
 
 pub same_is : (a b : List ℕ) → same_name a b ≡ true → a ≡ b
 same_is a b e = (bytes_decides a b).0 e

@@ -21,7 +21,7 @@ use Rattle.ug_table.specs.Laws.{IsDevice, IsGone, Stand, numbers_of, TellsNeithe
 use Rattle.ug_table.specs.declared.standing.Standing.{Standing}
 use Rattle.ug_table.specs.declared.standing.Settled.{Settled}
 use Rattle.ug_table.specs.declared.standing.Settled.TheVariants as settled
-use Rattle.ug_table.proofs.Elements.{filter_has, has_filter, map_has, has_map, distinct_filter, distinct_one}
+use Rattle.ug_types.proofs.Elements.{filter_has, has_filter, map_has, has_map, distinct_filter, distinct_one}
 use Rattle.ug_table.proofs.Devices.{stand_stays}
 use Rattle.ug_table.proofs.Standings.{same_is, is_same, names_marked, numbers_marked}
 use Rattle.ug_table.proofs.Account.{Answers, Laters}

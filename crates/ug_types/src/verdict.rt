@@ -23,8 +23,12 @@ pub enum Cause {
     Rule(u64),
     /// No rule matched: ImplicitPolicyTarget of usbguard-daemon.conf(5).
     Implicit,
+    /// PresentControllerPolicy or PresentDevicePolicy of usbguard-daemon.conf(5).
+    Present,
     /// The device was present at the start and keeps what it had.
     Keep,
+    /// InsertedDevicePolicy of usbguard-daemon.conf(5).
+    Inserted,
     /// Its descriptors could not be read as USB 2.0, chapter 9, says.
     Malformed { kind: u8, place: u64 },
 }
