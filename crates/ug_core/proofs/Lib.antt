@@ -1,2 +1,4 @@
 pub mod Handled
 pub mod Failures
+pub mod Verdicts
+pub mod Plain

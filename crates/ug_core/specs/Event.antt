@@ -1,24 +1,20 @@
 -- An event of the daemon: its first entry, the sweep, and its last.
 use Rattle.std.specs.Prelude.{◌≡◌, false, ℕ, ◌+◌, ◌-◌, ◌^◌, Bool, ◌&&◌, nat_le, List, [], ◌∷◌, ◌++◌}
-use Rattle.ug_types.specs.declared.record.Judged.{Judged}
-use Rattle.ug_types.specs.declared.verdict.Target.{Target}
-use Rattle.ug_types.specs.declared.verdict.Cause.{Cause}
 use Rattle.ug_types.specs.declared.verdict.Moment.{Moment}
 use Rattle.ug_kernel.specs.Calls.{Call, Answer}
 use Rattle.ug_itree.specs.Tree.{Prog, Return, Runs, then}
 use Rattle.ug_audit.specs.declared.entry.Entry.TheVariants as entry
 use Rattle.ug_table.specs.State.{State}
 use Rattle.ug_table.specs.Sweep.{sweeping}
-use Rattle.ug_core.specs.Policy.{verdict_of}
-use Rattle.ug_core.specs.declared.policy.Policy.{Policy}
-use Rattle.ug_core.specs.declared.policy.IdRule.{IdRule}
+use Rattle.ug_policy.specs.declared.entry.RuleEntry.{RuleEntry}
+use Rattle.ug_core.specs.Policy.{Judging, policy_answer, policy_later}
 use Rattle.ug_core.specs.declared.daemon.Daemon.{Daemon}
 use Rattle.ug_core.specs.declared.daemon.Event.{Event}
 use Rattle.ug_core.specs.declared.daemon.Event.TheVariants.{Sweep}
 
 -- the standings and the judge, with the entries of the last event; and the number of the next event
 pub record DaemonState : Type 0 where
-  pub sweep : State Policy
+  pub sweep : State Judging
   pub event : ℕ
 
 abbrev pub daemon_of : Daemon → DaemonState
@@ -27,16 +23,11 @@ daemon_of d = record {
   event = d.next_event;
 }
 
-abbrev pub policy_answer : Policy → Judged → Bool → Bool → Bool → Target × Cause
-policy_answer p dev controller present on = verdict_of p.rules dev controller present on
+-- the judge is told the moment, and the first entry is noted
+abbrev pub begun : DaemonState → Moment → State Judging
+begun d moment = record d.sweep { judge = record d.sweep.judge { moment = moment }; entries = entry.Event d.event moment ∷ [] }
 
-abbrev pub policy_later : Policy → Judged → Bool → Bool → Bool → Policy
-policy_later p dev controller present on = p
-
-abbrev pub begun : DaemonState → Moment → State Policy
-begun d moment = record d.sweep { entries = entry.Event d.event moment ∷ [] }
-
-abbrev pub ended : DaemonState → State Policy → Prog DaemonState
+abbrev pub ended : DaemonState → State Judging → Prog DaemonState
 ended d v = Return (record { sweep = record v { entries = v.entries ++ entry.End d.event ∷ [] }; event = d.event + 1 })
 
 -- a sweep at a moment
@@ -58,9 +49,11 @@ moment_of (Sweep moment) = moment
 abbrev pub RunsEvent : {S : Type 0} → (S → S → Type 0) → (S → (call : Call) → Answer call → S → Type 0) → S → Moment → DaemonState → S → DaemonState → Type 0
 RunsEvent {S} begins gives s moment d t e = (u : S) × begins s u × Runs gives u (handling moment d) e t
 
--- a new daemon has no standing and has noted nothing
-pub record IsStarted (rules : List IdRule) (first : ℕ) (d : DaemonState) : Type 0 where
-  pub rules_same : d.sweep.judge.rules ≡ rules
+-- a new daemon has these rules and no standing, and has noted nothing
+pub record IsStarted (rules : List RuleEntry) (id first : ℕ) (d : DaemonState) : Type 0 where
+  pub rules_are : d.sweep.judge.rules ≡ rules
+  pub next_id : d.sweep.judge.next ≡ id
+  pub moment : d.sweep.judge.moment ≡ record { 0 = 0 }
   pub standings : d.sweep.standings ≡ []
   pub next : d.sweep.next ≡ 1
   pub listed : d.sweep.listed ≡ false

@@ -9,7 +9,8 @@ use Rattle.ug_audit.specs.declared.entry.Entry.TheVariants as entry
 use Rattle.ug_table.specs.State.{State}
 use Rattle.ug_table.specs.Laws.{Stand, Swept}
 use Rattle.ug_table.specs.Parts.{failures_told, unsettled_names, GoesInParts}
-use Rattle.ug_core.specs.Event.{DaemonState, begun, policy_answer, policy_later}
+use Rattle.ug_core.specs.Policy.{policy_answer, policy_later}
+use Rattle.ug_core.specs.Event.{DaemonState, begun}
 
 -- an event over kernels from k to l: a sweep that is fair and leaves each device settled or named, between its first entry and its last
 pub record Handled (moment : Moment) (k : Kernel) (d : DaemonState) (l : Kernel) (e : DaemonState) : Type 0 where

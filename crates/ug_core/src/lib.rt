@@ -3,12 +3,14 @@
 
 mod calls;
 mod daemon;
+mod laws;
 mod policy;
 mod report;
 #[cfg(test)]
 mod tests;
 
 pub use daemon::{Daemon, Event};
-pub use policy::{IdRule, Policy};
+pub use laws::verdict_law;
+pub use policy::Policy;
 pub use report::Report;
 pub use ug_audit::{Entries, Entry, Fault, line_of};

@@ -1,41 +1,29 @@
 // Verdicts by the rules and the daemon's settings.
-ghost use Rattle.std.specs.Prelude.{◌≡◌, ◌+◌, ◌<◌, ◌^◌, length};
-ghost use Rattle.ug_core.specs.Policy.{is_of, first_match, kept, verdict_of};
+ghost use Rattle.std.specs.Prelude.{◌≡◌, ◌<◌, ◌+◌, ◌-◌, ◌^◌, ◌++◌, ◌∷◌, [], false, None, All, OnOk, OnErr, length, nat_lt, ◌&&◌};
+ghost use Rattle.ug_policy.specs.Edits.{new_entry};
+ghost use Rattle.ug_core.specs.Policy.{by_class, kept, noted_by_class, policy_answer, policy_later};
 
+use std::marker::Model;
+use ug_policy::RuleList;
 use ug_table::Judge;
-use ug_types::{Cause, DeviceRecord, Judged, List, Target};
+use ug_types::{After, Cause, DeviceRecord, Judged, Moment, NoMemory, Rule, Target};
 
-/// A rule for one vendor and product.
-#[derive(Clone, Copy, Debug, PartialEq, Eq)]
-pub struct IdRule {
-    pub target: Target,
-    pub vendor: u16,
-    pub product: u16,
-}
-
-/// The rules in order. A rule's id is its place, from 1.
+/// The rules in order, none of which has conditions yet, and the moment of the event.
 #[derive(Drop)]
 pub struct Policy {
-    pub rules: List<IdRule>,
+    rules: RuleList,
+    moment: Moment,
 }
 
-fn fits(rule: &IdRule, device: &DeviceRecord) -> bool
-    ensures { result ≡ is_of rule.now device.now }
-{
-    rule.vendor == device.vendor && rule.product == device.product
-}
+impl Model for Policy {
+    ghost use Rattle.std.specs.Prelude.{◌≡◌, None, All};
+    ghost use Rattle.ug_core.specs.Policy.{Judging};
 
-/// The first rule that matches decides, else the implicit target, which is block.
-fn judge(rules: &[IdRule], device: &DeviceRecord) -> (Target, Cause)
-    requires { length rules.now < 2 ^ 63 }
-    ensures { result ≡ first_match 1 rules.now device.now }
-{
-    for (i, rule) in rules.iter().enumerate() {
-        if fits(rule, device) {
-            return (rule.target, Cause::Rule(i as u64 + 1));
-        }
-    }
-    (Target::Block, Cause::Implicit)
+    ghost Value = { Judging };
+
+    ghost view = { λ p. record { rules = p.rules.entries; next = p.rules.next; moment = p.moment } };
+
+    ghost invariant = { λ p. All (λ e. e.rule.conds ≡ None) p.rules.entries };
 }
 
 /// A root hub that was there at the start keeps what it had.
@@ -49,10 +37,86 @@ fn keep(on: bool) -> (Target, Cause)
     }
 }
 
-impl Judge for Policy {
-    ghost answer = { λ p dev controller present on. verdict_of p.rules dev controller present on };
+/// The verdict on a device whose descriptors can be read.
+fn judge(
+    rules: &mut RuleList,
+    moment: Moment,
+    device: &DeviceRecord,
+    controller: bool,
+    present: bool,
+    on: bool,
+) -> (Target, Cause)
+    requires { All (λ e. e.rule.conds ≡ None) rules.old.entries }
+    ensures answer { result ≡ by_class rules.old.entries device.now controller present on }
+    ensures rules { rules.new.entries ≡ noted_by_class rules.old.entries moment device.now controller present }
+    ensures next { rules.new.next ≡ rules.old.next }
+    ensures plain { All (λ e. e.rule.conds ≡ None) rules.new.entries }
+{
+    if controller && present {
+        return keep(on);
+    }
+    rules.judge(device, moment, Target::Block)
+}
 
-    ghost later = { λ p dev controller present on. p };
+/// Puts a rule behind the others. There are fewer than 65,536, and an id is left.
+fn append(rules: &mut RuleList, rule: Rule) -> Result<(), NoMemory>
+    requires plain { All (λ e. e.rule.conds ≡ None) rules.old.entries }
+    requires conds { rule.conds ≡ None }
+    requires few { length rules.old.entries < 65536 }
+    requires left { rules.old.next < 2 ^ 64 - 1 }
+    ensures rules { OnOk result (rules.new.entries ≡ rules.old.entries ++ new_entry rules.old.next rule false ∷ []) }
+    ensures next { OnOk result (rules.new.next ≡ rules.old.next + 1) }
+    ensures err { OnErr result (rules.new.entries ≡ rules.old.entries) }
+    ensures err_next { OnErr result (rules.new.next ≡ rules.old.next) }
+    ensures still_plain { All (λ e. e.rule.conds ≡ None) rules.new.entries }
+{
+    rules.reserve()?;
+    let _id = rules.insert(After::End, rule, false);
+    Ok(())
+}
+
+impl Policy {
+    /// These rules, at moment 0.
+    pub fn new(rules: RuleList) -> Policy
+        requires { All (λ e. e.rule.conds ≡ None) rules.entries }
+        ensures { result ≡ record { rules = rules.entries; next = rules.next; moment = record { 0 = 0 } } }
+    {
+        Policy {
+            rules,
+            moment: Moment(0),
+        }
+    }
+
+    /// Whether there are fewer than 65,536 rules and an id is left for one more.
+    pub fn has_place(&self) -> bool
+        ensures { result ≡ (nat_lt (length self.now.rules) 65536 && nat_lt self.now.next (2 ^ 64 - 1)) }
+    {
+        self.rules.len() < 65536 && self.rules.next_id() < u64::MAX
+    }
+
+    /// Puts a rule behind the others, which is permanent and has no history. A refusal changes nothing.
+    pub fn append(&mut self, rule: Rule) -> Result<(), NoMemory>
+        requires conds { rule.conds ≡ None }
+        requires few { length self.old.rules < 65536 }
+        requires left { self.old.next < 2 ^ 64 - 1 }
+        ensures ok { OnOk result (self.new ≡ record self.old { rules = self.old.rules ++ new_entry self.old.next rule false ∷ []; next = self.old.next + 1 }) }
+        ensures err { OnErr result (self.new ≡ self.old) }
+    {
+        append(&mut self.rules, rule)
+    }
+
+    /// The next verdicts are given at that moment.
+    pub fn set_moment(&mut self, moment: Moment)
+        ensures { self.new ≡ record self.old { moment = moment } }
+    {
+        self.moment = moment;
+    }
+}
+
+impl Judge for Policy {
+    ghost answer = { policy_answer };
+
+    ghost later = { policy_later };
 
     fn verdict(
         &mut self,
@@ -69,12 +133,14 @@ impl Judge for Policy {
                     place: *place,
                 },
             ),
-            Judged::Good(device) => {
-                if controller && present {
-                    return keep(on);
-                }
-                judge(self.rules.as_slice(), device)
-            }
+            Judged::Good(device) => judge(
+                &mut self.rules,
+                self.moment,
+                device,
+                controller,
+                present,
+                on,
+            ),
         }
     }
 }

@@ -1,9 +1,13 @@
 // Events over a kernel in memory: the journal's lines of each.
-use crate::{Daemon, Event, IdRule, line_of};
+ghost use Rattle.std.specs.Prelude.{◌≡◌, None, IfOk};
+
+use crate::{Daemon, Event, line_of};
 use std::alloc::Global;
+use std::process::Abort;
 use std::test::Fail;
+use ug_policy::RuleList;
 use ug_sysfs::{Device, SimKernel, Sysfs};
-use ug_types::{List, Moment, NodeName, Target, Text};
+use ug_types::{Id, List, Moment, NodeName, Op, Query, Rule, Target, Text, Values};
 
 // A device descriptor alone: vendor 1050, product 11.
 const KEY: [u8; 18] = [
@@ -24,12 +28,38 @@ fn device(alloc: Global, name: &[u8], on: bool) -> Result<Device, Fail> {
     })
 }
 
-fn rule(target: Target, product: u16) -> IdRule {
-    IdRule {
+fn rule(alloc: Global, target: Target, product: u16) -> Result<Rule, Fail>
+    ensures { IfOk result (λ r. r.conds ≡ None) }
+{
+    let id = Id {
+        vendor: Some(0x1050),
+        product: Some(product),
+    };
+    let items = List::from_vec(Vec::from_slice(alloc, &[id])?);
+    let op = Op::Equals;
+    Ok(Rule {
         target,
-        vendor: 0x1050,
-        product,
-    }
+        query: Query {
+            id: Some(Values { op, items }),
+            serial: None,
+            name: None,
+            hash: None,
+            parent_hash: None,
+            via_port: None,
+            interface: None,
+            connect: None,
+            label: None,
+        },
+        conds: None,
+    })
+}
+
+fn add(rt: &impl Abort, daemon: &mut Daemon, rule: Rule) -> Result<(), Fail>
+    requires { rule.conds ≡ None }
+{
+    assert!(rt; daemon.policy.has_place());
+    daemon.policy.append(rule)?;
+    Ok(())
 }
 
 fn notes(daemon: &Daemon, lines: &[&[u8]]) -> bool {
@@ -47,10 +77,10 @@ fn keeps_a_hub_and_allows_by_a_rule(rt: HostRuntime) -> Result<(), Fail> {
     let mut kernel = SimKernel::new(alloc);
     kernel.plug(device(alloc, b"usb1", true)?)?;
     kernel.plug(device(alloc, b"1-1", false)?)?;
-    let mut rules = List::new(alloc);
-    rules.push(rule(Target::Block, 0x12))?;
-    rules.push(rule(Target::Allow, 0x11))?;
-    let mut daemon = Daemon::start(alloc, rules, 7)?;
+    let mut daemon = Daemon::start(alloc, RuleList::new(alloc), 7)?;
+    add(&rt, &mut daemon, rule(alloc, Target::Block, 0x12)?)?;
+    add(&rt, &mut daemon, rule(alloc, Target::Allow, 0x11)?)?;
+    add(&rt, &mut daemon, rule(alloc, Target::Block, 0x11)?)?;
     assert!(rt; daemon.has_numbers(kernel.faults(), 0));
     daemon.handle(alloc, &Event::Sweep(Moment(1700000000)), &mut kernel);
     let lines: [&[u8]; 6] = [
@@ -71,7 +101,7 @@ fn judges_anew_after_a_replug(rt: HostRuntime) -> Result<(), Fail> {
     let mut kernel = SimKernel::new(alloc);
     kernel.plug(device(alloc, b"usb1", false)?)?;
     kernel.plug(device(alloc, b"1-1", true)?)?;
-    let mut daemon = Daemon::start(alloc, List::new(alloc), 1)?;
+    let mut daemon = Daemon::start(alloc, RuleList::new(alloc), 1)?;
     assert!(rt; daemon.has_numbers(kernel.faults(), 0));
     daemon.handle(alloc, &Event::Sweep(Moment(5)), &mut kernel);
     let blocked: [&[u8]; 6] = [

@@ -16,54 +16,55 @@ use Rattle.ug_table.specs.Laws.{IsDevice, IsProbed, TellsNeither, MayHave, HasVe
 use Rattle.ug_table.specs.declared.standing.Standing.{Standing}
 use Rattle.ug_types.proofs.Elements.{only_left, last_is}
 use Rattle.ug_table.proofs.Says.{plain_note, plain_wrote}
-use Rattle.ug_core.specs.declared.policy.IdRule.{IdRule}
-use Rattle.ug_core.specs.declared.policy.Policy.{Policy}
-use Rattle.ug_core.specs.Policy.{verdict_of}
-use Rattle.ug_core.specs.Event.{policy_answer, policy_later}
+use Rattle.ug_policy.specs.declared.entry.RuleEntry.{RuleEntry}
+use Rattle.ug_core.specs.Policy.{Judging, as_given, verdict_of, policy_answer, policy_later}
+use Rattle.ug_core.specs.Verdicts.{IsVerdict}
+use Rattle.ug_core.proofs.Verdicts.{verdict_given, is_verdict, rules_stay}
 use Rattle.ug_script.specs.Journal.{told_numbers, Follow}
 
--- the rules stay
-pub judge_stays : (present : Bool) (start k : Kernel) (before : List Standing) (log0 : List Effect) (judge0 : Policy) (next0 : ℕ) (es : List Entry) (log : List Effect) (judge : Policy) (next : ℕ) → Account policy_answer policy_later present start k before log0 judge0 next0 es log judge next → judge ≡ judge0
+-- the rules stay as they were given
+pub judge_stays : (present : Bool) (start k : Kernel) (before : List Standing) (log0 : List Effect) (judge0 : Judging) (next0 : ℕ) (es : List Entry) (log : List Effect) (judge : Judging) (next : ℕ) → Account policy_answer policy_later present start k before log0 judge0 next0 es log judge next → as_given judge.rules ≡ as_given judge0.rules
 judge_stays present start k before log0 judge0 next0 es log judge next Start = refl
 judge_stays present start k before log0 judge0 next0 es log judge next (Note fs m j n e t h) = judge_stays present start k before log0 judge0 next0 fs m j n h
-judge_stays present start k before log0 judge0 next0 es log judge next (Judge fs m j n i name held judged on d b h) = judge_stays present start k before log0 judge0 next0 fs m j n h
+judge_stays present start k before log0 judge0 next0 es log judge next (Judge fs m j n i name held judged on d b h) = rules_stay j.rules j.moment judged (is_none (parent_of name)) present ∙ judge_stays present start k before log0 judge0 next0 fs m j n h
 judge_stays present start k before log0 judge0 next0 es log judge next (Had fs m j n i number name held judged verdict outcome d v may h) = judge_stays present start k before log0 judge0 next0 fs m j n h
 judge_stays present start k before log0 judge0 next0 es log judge next (Had_not fs m j n i number name held judged verdict outcome d v may h) = judge_stays present start k before log0 judge0 next0 fs m j n h
 judge_stays present start k before log0 judge0 next0 es log judge next (Went fs m j n i number name held judged verdict d o v h) = judge_stays present start k before log0 judge0 next0 fs m j n h
 
 -- the rules give that verdict on the record of the very device of the held file, which lived until it was probed
-pub record IsGiven (rules : List IdRule) (start k : Kernel) (name : List ℕ) (held : Held) (verdict : Target) (cause : Cause) : Type 0 where
+pub record IsGiven (rules : List RuleEntry) (start k : Kernel) (name : List ℕ) (held : Held) (verdict : Target) (cause : Cause) : Type 0 where
   pub i : ℕ
   pub judged : Judged
   pub present : Bool
   pub on : Bool
   pub device : IsDevice k i name held judged
   pub probed : IsProbed start k name held.0 i on
-  pub given : verdict_of rules judged (is_none (parent_of name)) present on ≡ (verdict, cause)
+  pub given : IsVerdict rules judged (is_none (parent_of name)) present on verdict cause
 
 same_pair : (p : Target × Cause) (b : Target) (d : Cause) → p.0 ≡ b → p.1 ≡ d → p ≡ (b, d)
 same_pair p b d e f = subst (λ (v : Target). p ≡ (v, d)) e (subst (λ (v : Cause). p ≡ (p.0, v)) f refl)
 
-given_by : (rules : List IdRule) (start k : Kernel) (i number : ℕ) (name : List ℕ) (held : Held) (judged : Judged) (present on : Bool) → IsDevice k i name held judged → IsProbed start k name held.0 i on → (m : ℕ) (other : List ℕ) (file : Held) (verdict : Target) (cause : Cause)
-    → entry.Judged number name held (verdict_of rules judged (is_none (parent_of name)) present on).0 (verdict_of rules judged (is_none (parent_of name)) present on).1 ≡ entry.Judged m other file verdict cause → IsGiven rules start k other file verdict cause
+given_by : (rules : List RuleEntry) (start k : Kernel) (i number : ℕ) (name : List ℕ) (held : Held) (judged : Judged) (present on : Bool) → IsDevice k i name held judged → IsProbed start k name held.0 i on → (m : ℕ) (other : List ℕ) (file : Held) (verdict : Target) (cause : Cause)
+    → entry.Judged number name held (verdict_of rules judged (is_none (parent_of name)) present on).0 (verdict_of rules judged (is_none (parent_of name)) present on).1 ≡ entry.Judged m other file verdict cause → IsGiven (as_given rules) start k other file verdict cause
 given_by rules start k i number name held judged present on d b m other file verdict cause e =
     let p : Target × Cause = verdict_of rules judged (is_none (parent_of name)) present on in
     let names : name ≡ other = cc in
     let files : held ≡ file = cc in
     let targets : p.0 ≡ verdict = cc in
     let causes : p.1 ≡ cause = cc in
-    let given : IsGiven rules start k name held verdict cause = record { i = i; judged = judged; present = present; on = on; device = d; probed = b; given = same_pair p verdict cause targets causes } in
-    subst (λ (v : List ℕ). IsGiven rules start k v file verdict cause) names (subst (λ (v : Held). IsGiven rules start k name v verdict cause) files given)
+    let ruled : IsVerdict (as_given rules) judged (is_none (parent_of name)) present on verdict cause = is_verdict (as_given rules) judged (is_none (parent_of name)) present on verdict cause (verdict_given rules judged (is_none (parent_of name)) present on ∙ same_pair p verdict cause targets causes) in
+    let given : IsGiven (as_given rules) start k name held verdict cause = record { i = i; judged = judged; present = present; on = on; device = d; probed = b; given = ruled } in
+    subst (λ (v : List ℕ). IsGiven (as_given rules) start k v file verdict cause) names (subst (λ (v : Held). IsGiven (as_given rules) start k name v verdict cause) files given)
 
 -- each verdict that is told was given so
-pub judged_given : (present : Bool) (start k : Kernel) (before : List Standing) (log0 : List Effect) (judge0 : Policy) (next0 : ℕ) (es : List Entry) (log : List Effect) (judge : Policy) (next : ℕ) → Account policy_answer policy_later present start k before log0 judge0 next0 es log judge next
-    → (number : ℕ) (name : List ℕ) (held : Held) (verdict : Target) (cause : Cause) → Has es (entry.Judged number name held verdict cause) → IsGiven judge0.rules start k name held verdict cause
+pub judged_given : (present : Bool) (start k : Kernel) (before : List Standing) (log0 : List Effect) (judge0 : Judging) (next0 : ℕ) (es : List Entry) (log : List Effect) (judge : Judging) (next : ℕ) → Account policy_answer policy_later present start k before log0 judge0 next0 es log judge next
+    → (number : ℕ) (name : List ℕ) (held : Held) (verdict : Target) (cause : Cause) → Has es (entry.Judged number name held verdict cause) → IsGiven (as_given judge0.rules) start k name held verdict cause
 judged_given present start k before log0 judge0 next0 es log judge next Start number name held verdict cause h = absurd h
 judged_given present start k before log0 judge0 next0 es log judge next (Note fs m j n e t a) number name held verdict cause h =
     judged_given present start k before log0 judge0 next0 fs m j n a number name held verdict cause (only_left fs (e ∷ []) (entry.Judged number name held verdict cause) ((plain_note e t).judged number name held verdict cause) h)
 judged_given present start k before log0 judge0 next0 es log judge next (Judge fs m j n i other file judged on d b a) number name held verdict cause h = elim (last_is fs _ (entry.Judged number name held verdict cause) h) [
   | inl x ↦ judged_given present start k before log0 judge0 next0 fs m j n a number name held verdict cause x
-  | inr same ↦ subst (λ (p : Policy). IsGiven p.rules start k name held verdict cause) (judge_stays present start k before log0 judge0 next0 fs m j n a) (given_by j.rules start k i n other file judged present on d b number name held verdict cause same)
+  | inr same ↦ subst (λ (r : List RuleEntry). IsGiven r start k name held verdict cause) (judge_stays present start k before log0 judge0 next0 fs m j n a) (given_by j.rules start k i n other file judged present on d b number name held verdict cause same)
 ]
 judged_given present start k before log0 judge0 next0 es log judge next (Had fs m j n i other title file judged target outcome d v may a) number name held verdict cause h =
     judged_given present start k before log0 judge0 next0 fs m j n a number name held verdict cause (only_left fs (wrote_entries other title (write_of target) outcome) (entry.Judged number name held verdict cause) ((plain_wrote other title (write_of target) outcome).judged number name held verdict cause) h)
@@ -118,7 +119,7 @@ pub record Added (before : List Standing) (entries : List Entry) (k : Kernel) (l
 added_more : (before : List Standing) (es fs : List Entry) (k : Kernel) (log0 log : List Effect) → Added before es k log0 log → Added before (es ++ fs) k log0 log
 added_more before es fs k log0 log a = record { effects = a.effects; log_is = a.log_is; each = λ e h. written_more before es fs k e (a.each e h) }
 
-pub all_added : (present : Bool) (start k : Kernel) (before : List Standing) (log0 : List Effect) (judge0 : Policy) (next0 : ℕ) (es : List Entry) (log : List Effect) (judge : Policy) (next : ℕ) → Account policy_answer policy_later present start k before log0 judge0 next0 es log judge next → Added before es k log0 log
+pub all_added : (present : Bool) (start k : Kernel) (before : List Standing) (log0 : List Effect) (judge0 : Judging) (next0 : ℕ) (es : List Entry) (log : List Effect) (judge : Judging) (next : ℕ) → Account policy_answer policy_later present start k before log0 judge0 next0 es log judge next → Added before es k log0 log
 all_added present start k before log0 judge0 next0 es log judge next Start = record { effects = []; log_is = sym (append-nil log0); each = λ e h. absurd h }
 all_added present start k before log0 judge0 next0 es log judge next (Note fs m j n e t a) = added_more before fs (e ∷ []) k log0 m (all_added present start k before log0 judge0 next0 fs m j n a)
 all_added present start k before log0 judge0 next0 es log judge next (Judge fs m j n i name held judged on d b a) = added_more before fs _ k log0 m (all_added present start k before log0 judge0 next0 fs m j n a)
@@ -171,7 +172,7 @@ follow_none a b es fs none f =
     let same : told_numbers (es ++ fs) ≡ told_numbers es = numbers_append es fs ∙ ap (λ (l : List ℕ). told_numbers es ++ l) none ∙ append-nil (told_numbers es) in
     subst (λ (l : List ℕ). Follow a l b) (sym same) f
 
-pub numbers_follow : (present : Bool) (start k : Kernel) (before : List Standing) (log0 : List Effect) (judge0 : Policy) (next0 : ℕ) (es : List Entry) (log : List Effect) (judge : Policy) (next : ℕ) → Account policy_answer policy_later present start k before log0 judge0 next0 es log judge next → Follow next0 (told_numbers es) next
+pub numbers_follow : (present : Bool) (start k : Kernel) (before : List Standing) (log0 : List Effect) (judge0 : Judging) (next0 : ℕ) (es : List Entry) (log : List Effect) (judge : Judging) (next : ℕ) → Account policy_answer policy_later present start k before log0 judge0 next0 es log judge next → Follow next0 (told_numbers es) next
 numbers_follow present start k before log0 judge0 next0 es log judge next Start = refl
 numbers_follow present start k before log0 judge0 next0 es log judge next (Note fs m j n e t a) = follow_none next0 n fs (e ∷ []) (numbers_none e t) (numbers_follow present start k before log0 judge0 next0 fs m j n a)
 numbers_follow present start k before log0 judge0 next0 es log judge next (Judge fs m j n i name held judged on d b a) =

@@ -9,7 +9,8 @@ use Rattle.ug_play.specs.Play.{play, tells_memory, IsPlayed}
 use Rattle.ug_play.proofs.Journals.{appends_one}
 use Rattle.ug_play.proofs.Sweeps.{event_played}
 use Rattle.ug_core.specs.Event as event
-use Rattle.ug_core.specs.Event.{DaemonState, handling, has_numbers, policy_answer, policy_later, RunsEvent}
+use Rattle.ug_core.specs.Policy.{policy_answer, policy_later}
+use Rattle.ug_core.specs.Event.{DaemonState, handling, has_numbers, RunsEvent}
 use Rattle.std.specs.Io.KnownBytes.{Appends}
 use Rattle.ug_types.specs.Ends.{Puts}
 use Rattle.ug_types.specs.declared.sink.Put.TheVariants.{Failed}

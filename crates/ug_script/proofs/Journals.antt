@@ -4,6 +4,7 @@ use Rattle.std.proofs.Common.{◌≡◌, ℕ, ◌+◌, Bool, true, false, not, �
 use Rattle.std.specs.Cmp.Lexicographic.{pointwise}
 use Rattle.std.specs.List.{list_any}
 use Rattle.ug_types.specs.Elements.{Has}
+use Rattle.ug_types.specs.declared.rule.Rule as types
 use Rattle.ug_types.specs.declared.verdict.Moment.{Moment}
 use Rattle.ug_kernel.specs.Kernel.{Kernel, IsKernel, Moves}
 use Rattle.ug_kernel.specs.Quiet.{Grows}
@@ -22,15 +23,15 @@ use Rattle.ug_play.specs.Play.{play, names_somebody, NameNobody}
 use Rattle.ug_play.proofs.Fine.{quiet_sweep, nobody_more}
 use Rattle.ug_play.proofs.Still.{lived_in_play}
 use Rattle.ug_core.specs.Event as event
-use Rattle.ug_core.specs.Event.{DaemonState, handling, has_numbers, policy_answer, policy_later}
+use Rattle.ug_core.specs.Policy.{Judging, as_given, policy_answer, policy_later}
+use Rattle.ug_core.specs.Event.{DaemonState, handling, has_numbers}
 use Rattle.ug_core.specs.Laws.{Handled}
-use Rattle.ug_core.specs.declared.policy.IdRule.{IdRule}
-use Rattle.ug_core.specs.declared.policy.Policy.{Policy}
+use Rattle.ug_policy.specs.declared.entry.RuleEntry.{RuleEntry}
 use Rattle.ug_lines.specs.Fold.{Fault, BadLine, Outcome, Writes, Refused, Stage, Going, Halted, is_within, stage_after, plays}
 use Rattle.ug_script.specs.declared.step.Step.{Step}
 use Rattle.ug_script.specs.declared.step.Step.TheVariants.{Skip, Rule, Plug, Unplug, Sweep}
 use Rattle.ug_script.specs.Grammar.{step_of_line}
-use Rattle.ug_script.specs.Replay.{Script, with_rule, header, fresh, terminated, lines_text, quiet, bad, rules_of, with_devices, after_event, taken, taken_if, script_step}
+use Rattle.ug_script.specs.Replay.{Script, with_rule, header, fresh, terminated, lines_text, quiet, bad, rules_of, is_plain, has_place, with_devices, after_event, taken, taken_if, script_step}
 use Rattle.ug_script.specs.Journal.{noted_by, noted, left_by, journal, IsExplained, IsJudgedOnce, JudgesOnce, Recorded, StaysRecorded}
 use Rattle.ug_script.proofs.Accounts.{judge_stays}
 use Rattle.ug_script.proofs.Recorded.{explained_nowhere, Facts, facts_grow, framed, swept_facts, judged_once}
@@ -68,7 +69,7 @@ kept_still : (first : World) (es : List Entry) (text : List ℕ) (p : Option Scr
 kept_still first es text p h = subst (λ (v : List Entry). KeptIn first v (text ++ []) p) (sym (append-nil es)) (subst (λ (v : List ℕ). KeptIn first es v p) (sym (append-nil text)) h)
 
 -- a rule more, before anything else
-kept_rule : (first : World) (es : List Entry) (text : List ℕ) (rule : IdRule) (s : Script) (w : World) → s.setup ≡ true → Kept first es text s w → Kept first es text (record s { daemon = with_rule rule s.daemon }) w
+kept_rule : (first : World) (es : List Entry) (text : List ℕ) (rule : types.Rule) (s : Script) (w : World) → s.setup ≡ true → Kept first es text s w → Kept first es text (record s { daemon = with_rule rule s.daemon }) w
 kept_rule first es text rule s w setup h =
     let none = h.setup setup in
     let f = h.facts in
@@ -92,7 +93,7 @@ both : (a b : Bool) → (a && b) ≡ true → a ≡ true
 both true b e = refl
 both false b e = let none : ⊥ = cc in absurd none
 
-kept_rule_if : (first : World) (es : List Entry) (text : List ℕ) (rule : IdRule) (s : Script) (w : World) (b : Bool) → (b ≡ true → s.setup ≡ true) → Kept first es text s w → KeptAfter first es text [] (cond b (quiet (record s { daemon = with_rule rule s.daemon }) w) (bad s w))
+kept_rule_if : (first : World) (es : List Entry) (text : List ℕ) (rule : types.Rule) (s : Script) (w : World) (b : Bool) → (b ≡ true → s.setup ≡ true) → Kept first es text s w → KeptAfter first es text [] (cond b (quiet (record s { daemon = with_rule rule s.daemon }) w) (bad s w))
 kept_rule_if first es text rule s w true f h = kept_still first es text (Some (record s { daemon = with_rule rule s.daemon }), w) (kept_rule first es text rule s w (f refl) h)
 kept_rule_if first es text rule s w false f h = tt
 
@@ -119,18 +120,18 @@ nobody_in_event moment d w run none =
     rw (plays_sweep moment d w) (nobody_more (play p (begun w)).0.entries (entry.End d.event ∷ []) (quiet_sweep policy_answer policy_later (event.begun d moment) (begun w) run none refl) refl)
 
 -- the facts at the end of an event over these kernels
-event_facts : (first : Kernel) (es : List Entry) (moment : Moment) (k l : Kernel) (d e : DaemonState) → Grows first k → Stand k d.sweep.standings d.sweep.next → Facts d.sweep.judge.rules first es k d.sweep.standings d.sweep.next → Handled moment k d l e → Facts e.sweep.judge.rules first (es ++ e.sweep.entries) l e.sweep.standings e.sweep.next
+event_facts : (first : Kernel) (es : List Entry) (moment : Moment) (k l : Kernel) (d e : DaemonState) → Grows first k → Stand k d.sweep.standings d.sweep.next → Facts (as_given d.sweep.judge.rules) first es k d.sweep.standings d.sweep.next → Handled moment k d l e → Facts (as_given e.sweep.judge.rules) first (es ++ e.sweep.entries) l e.sweep.standings e.sweep.next
 event_facts first es moment k l d e since stood facts law =
-    let v : State Policy = law.swept in
+    let v : State Judging = law.swept in
     let y : Entry = entry.End d.event in
     let at = swept_facts first es (not d.sweep.listed) k l (event.begun d moment) v d.event d.event moment since stood facts law.law.fair in
-    let framed_at : Facts v.judge.rules first (es ++ (v.entries ++ y ∷ [])) l v.standings v.next = subst (λ (z : List Entry). Facts v.judge.rules first (es ++ (z ++ y ∷ [])) l v.standings v.next) (sym law.law.fair.entries) at in
-    subst (λ (z : State Policy). Facts z.judge.rules first (es ++ z.entries) l z.standings z.next) (sym law.entries) framed_at
+    let framed_at : Facts (as_given v.judge.rules) first (es ++ (v.entries ++ y ∷ [])) l v.standings v.next = subst (λ (z : List Entry). Facts (as_given v.judge.rules) first (es ++ (z ++ y ∷ [])) l v.standings v.next) (sym law.law.fair.entries) at in
+    subst (λ (z : State Judging). Facts (as_given z.judge.rules) first (es ++ z.entries) l z.standings z.next) (sym law.entries) framed_at
 
-event_rules : (moment : Moment) (k l : Kernel) (d e : DaemonState) → Handled moment k d l e → e.sweep.judge ≡ d.sweep.judge
+event_rules : (moment : Moment) (k l : Kernel) (d e : DaemonState) → Handled moment k d l e → as_given e.sweep.judge.rules ≡ as_given d.sweep.judge.rules
 event_rules moment k l d e law =
-    let v : State Policy = law.swept in
-    ap (λ (z : State Policy). z.judge) law.entries ∙ judge_stays (not d.sweep.listed) k l d.sweep.standings k.log d.sweep.judge d.sweep.next law.law.fair.rest l.log v.judge v.next law.law.fair.account
+    let v : State Judging = law.swept in
+    ap (λ (z : State Judging). as_given z.judge.rules) law.entries ∙ judge_stays (not d.sweep.listed) k l d.sweep.standings k.log (event.begun d moment).judge d.sweep.next law.law.fair.rest l.log v.judge v.next law.law.fair.account
 
 event_kept : (first : World) (es : List Entry) (text : List ℕ) (moment : Moment) (s : Script) (w : World) → HoldsAfter (after_event (play (handling moment s.daemon) (begun w))) → Kept first es text s w → KeptAfter first es text (play (handling moment s.daemon) (begun w)).0.sweep.entries (after_event (play (handling moment s.daemon) (begun w)))
 event_kept first es text moment s w holds h =
@@ -143,7 +144,7 @@ event_kept first es text moment s w holds h =
       holds = holds;
       since = grows_trans first.kernel w.kernel (over p.1).kernel h.since (grows_trans w.kernel p.1.kernel (over p.1).kernel law.law.fair.grows g);
       setup = λ e. let none : ⊥ = cc in absurd none;
-      facts = facts_grow p.0.sweep.judge.rules first.kernel (es ++ p.0.sweep.entries) p.1.kernel (over p.1).kernel p.0.sweep.standings p.0.sweep.next g m.log facts;
+      facts = facts_grow (as_given p.0.sweep.judge.rules) first.kernel (es ++ p.0.sweep.entries) p.1.kernel (over p.1).kernel p.0.sweep.standings p.0.sweep.next g m.log facts;
       written = ap (λ (z : List ℕ). z ++ lines_text p.0.sweep.entries) h.written ∙ sym (lines_more es p.0.sweep.entries);
       nobody = λ q. nobody_more es p.0.sweep.entries (h.nobody q) (nobody_in_event moment s.daemon w h.holds.told (h.unscheduled q));
       unscheduled = λ q. refl;
@@ -179,7 +180,7 @@ event_once first es text s w h fails moves moment i d live =
     let y : Entry = entry.End s.daemon.event in
     let x : Entry = entry.Event s.daemon.event moment in
     let rest : List Entry = law.law.fair.rest in
-    let all : p.0.sweep.entries ≡ framed x rest y = ap (λ (z : State Policy). z.entries) law.entries ∙ ap (λ (z : List Entry). z ++ y ∷ []) law.law.fair.entries in
+    let all : p.0.sweep.entries ≡ framed x rest y = ap (λ (z : State Judging). z.entries) law.entries ∙ ap (λ (z : List Entry). z ++ y ∷ []) law.law.fair.entries in
     let quiet : NameNobody ((x ∷ []) ++ rest) = nobody_left ((x ∷ []) ++ rest) (y ∷ []) (subst NameNobody all (nobody_in_event moment s.daemon w h.holds.told (h.unscheduled fails))) in
     let as_judged : IsAsJudged l law.swept.standings i = elim (law.law.settled i lived.0 lived.1) [
       | inl a ↦ a
@@ -188,9 +189,9 @@ event_once first es text s w h fails moves moment i d live =
         | inr a ↦ absurd (named_nowhere ((x ∷ []) ++ rest) (entry.UnsettledAll a.0.0) quiet refl (inr a.0.1))
       ]
     ] in
-    let here : IsAsJudged l p.0.sweep.standings i = subst (λ (z : State Policy). IsAsJudged l z.standings i) (sym law.entries) as_judged in
-    let once = judged_once p.0.sweep.judge.rules first.kernel (es ++ p.0.sweep.entries) l p.0.sweep.standings p.0.sweep.next i d stood facts live here in
-    subst (λ (z : Policy). IsJudgedOnce z.rules (es ++ p.0.sweep.entries) first.kernel l p.0.sweep.standings i) (event_rules moment w.kernel l s.daemon p.0 law) once
+    let here : IsAsJudged l p.0.sweep.standings i = subst (λ (z : State Judging). IsAsJudged l z.standings i) (sym law.entries) as_judged in
+    let once = judged_once (as_given p.0.sweep.judge.rules) first.kernel (es ++ p.0.sweep.entries) l p.0.sweep.standings p.0.sweep.next i d stood facts live here in
+    subst (λ (r : List RuleEntry). IsJudgedOnce r (es ++ p.0.sweep.entries) first.kernel l p.0.sweep.standings i) (event_rules moment w.kernel l s.daemon p.0 law) once
 
 recorded : (first : World) (es : List Entry) (text : List ℕ) (s : Script) (w : World) → Kept first es text s w → Recorded first es text s w
 recorded first es text s w h = record {
@@ -209,7 +210,7 @@ kept_if first es text new other false o p x y = y refl
 
 step_kept : (first : World) (es : List Entry) (text : List ℕ) (step : Step) (s : Script) (w : World) → Kept first es text s w → KeptAfter first es text (noted_by (Some step) s w) (taken step s w)
 step_kept first es text Skip s w h = kept_still first es text (Some s, w) h
-step_kept first es text (Rule rule) s w h = kept_rule_if first es text rule s w (s.setup && nat_lt (length (rules_of s)) 65536) (λ e. both s.setup (nat_lt (length (rules_of s)) 65536) e) h
+step_kept first es text (Rule rule) s w h = kept_rule_if first es text rule s w (s.setup && (is_plain rule && has_place s.daemon)) (λ e. both s.setup (is_plain rule && has_place s.daemon) e) h
 step_kept first es text (Plug device) s w h =
     let v : World = with_devices (plugged device w.kernel.devices) w in
     kept_still first es text (Some (record s { setup = false }), v) (kept_moves first es text s w v (taken_holds (Plug device) s w h.holds) (plugged_moves device w.kernel) refl refl h)

@@ -20,14 +20,14 @@ use Rattle.ug_table.proofs.Swept.{told_swept}
 use Rattle.ug_play.specs.Play.{play}
 use Rattle.ug_play.proofs.Plays.{play_runs, play_told, play_then}
 use Rattle.ug_core.specs.Event as event
-use Rattle.ug_core.specs.Event.{DaemonState, handling, has_numbers, policy_answer, policy_later}
+use Rattle.ug_core.specs.Policy.{Judging, policy_answer, policy_later}
+use Rattle.ug_core.specs.Event.{DaemonState, handling, has_numbers}
 use Rattle.ug_core.specs.Laws.{Handled}
-use Rattle.ug_core.specs.declared.policy.Policy.{Policy}
 use Rattle.ug_lines.specs.Fold.{BadLine, Outcome, Writes, Refused, Stage, Going, Halted, is_within, stage_after, advance, plays}
 use Rattle.ug_script.specs.declared.step.Step.{Step}
 use Rattle.ug_script.specs.declared.step.Step.TheVariants.{Skip, Rule, Plug, Unplug, Sweep}
 use Rattle.ug_script.specs.Grammar.{step_of_line}
-use Rattle.ug_script.specs.Replay.{Script, with_rule, header, fresh, quiet, bad, rules_of, with_devices, after_event, taken, taken_if, script_step}
+use Rattle.ug_script.specs.Replay.{Script, with_rule, header, fresh, quiet, bad, is_plain, has_place, with_devices, after_event, taken, taken_if, script_step}
 use Rattle.ug_script.specs.Laws.{StaysLawful}
 
 pub record Holds (standings : List Standing) (next : ℕ) (w : World) : Type 0 where
@@ -61,7 +61,7 @@ told_at w e = rw e refl
 pub handled : (moment : Moment) (d : DaemonState) (w : World) → Holds d.sweep.standings d.sweep.next w → Handled moment w.kernel d (play (handling moment d) (begun w)).1.kernel (play (handling moment d) (begun w)).0
 handled moment d w h =
     let p = sweeping policy_answer policy_later (event.begun d moment) in
-    let v : State Policy = (play p (begun w)).0 in
+    let v : State Judging = (play p (begun w)).0 in
     let t : World = (play p (begun w)).1 in
     let run : t.ran_out ≡ false = play_told p (begun w) h.told in
     let swept = told_swept Gives told does_what_it_may policy_answer policy_later (begun w) (event.begun d moment) t v (play_runs p (begun w)) t.kernel (told_at t run) in
@@ -89,7 +89,7 @@ when false o p x y = y
 
 pub taken_holds : (step : Step) (s : Script) (w : World) → HoldsIn (Some s, w) → HoldsAfter (taken step s w)
 taken_holds Skip s w h = h
-taken_holds (Rule rule) s w h = when (s.setup && nat_lt (length (rules_of s)) 65536) (quiet (record s { daemon = with_rule rule s.daemon }) w) (bad s w) h h
+taken_holds (Rule rule) s w h = when (s.setup && (is_plain rule && has_place s.daemon)) (quiet (record s { daemon = with_rule rule s.daemon }) w) (bad s w) h h
 taken_holds (Plug device) s w h = record {
   told = h.told;
   sound = plugged_sound device w.kernel h.sound;

@@ -21,15 +21,14 @@ use Rattle.ug_table.specs.declared.standing.Standing.{Standing}
 use Rattle.ug_types.proofs.Elements.{has_left, has_right, has_cases, distinct_one}
 use Rattle.ug_table.proofs.Devices.{device_stays, gone_stays, probed_stays, probed_from}
 use Rattle.ug_table.proofs.Says.{Says, account_says, one_held}
-use Rattle.ug_core.specs.Event.{policy_answer, policy_later}
-use Rattle.ug_core.specs.declared.policy.IdRule.{IdRule}
-use Rattle.ug_core.specs.declared.policy.Policy.{Policy}
+use Rattle.ug_policy.specs.declared.entry.RuleEntry.{RuleEntry}
+use Rattle.ug_core.specs.Policy.{Judging, as_given, policy_answer, policy_later}
 use Rattle.ug_script.specs.Journal.{WasJudged, IsExplained, AllExplained, told_numbers, Follow, IsJudgedOnce}
 use Rattle.ug_script.proofs.Accounts.{judge_stays, IsGiven, judged_given, WasWritten, all_added, numbers_append, follow_append, numbers_follow}
 
 -- in a longer journal and a later kernel
 
-judged_later : (rules : List IdRule) (es fs : List Entry) (first k l : Kernel) (i number : ℕ) (name : List ℕ) (held : Held) (verdict : Target) → Grows k l → WasJudged rules es first k i number name held verdict → WasJudged rules (es ++ fs) first l i number name held verdict
+judged_later : (rules : List RuleEntry) (es fs : List Entry) (first k l : Kernel) (i number : ℕ) (name : List ℕ) (held : Held) (verdict : Target) → Grows k l → WasJudged rules es first k i number name held verdict → WasJudged rules (es ++ fs) first l i number name held verdict
 judged_later rules es fs first k l i number name held verdict g w = record {
   cause = w.cause;
   judged = w.judged;
@@ -41,10 +40,10 @@ judged_later rules es fs first k l i number name held verdict g w = record {
   told = has_left es fs (entry.Judged number name held verdict w.cause) w.told;
 }
 
-judged_grows : (rules : List IdRule) (es : List Entry) (first k l : Kernel) (i number : ℕ) (name : List ℕ) (held : Held) (verdict : Target) → Grows k l → WasJudged rules es first k i number name held verdict → WasJudged rules es first l i number name held verdict
+judged_grows : (rules : List RuleEntry) (es : List Entry) (first k l : Kernel) (i number : ℕ) (name : List ℕ) (held : Held) (verdict : Target) → Grows k l → WasJudged rules es first k i number name held verdict → WasJudged rules es first l i number name held verdict
 judged_grows rules es first k l i number name held verdict g w = subst (λ (v : List Entry). WasJudged rules v first l i number name held verdict) (append-nil es) (judged_later rules es [] first k l i number name held verdict g w)
 
-explained_later : (rules : List IdRule) (es fs : List Entry) (first k l : Kernel) (e : Effect) → Grows k l → IsExplained rules es first k e → IsExplained rules (es ++ fs) first l e
+explained_later : (rules : List RuleEntry) (es fs : List Entry) (first k l : Kernel) (e : Effect) → Grows k l → IsExplained rules es first k e → IsExplained rules (es ++ fs) first l e
 explained_later rules es fs first k l e g x =
     let two : List Entry = wrote_entries x.number x.name e.write x.outcome in
     record {
@@ -61,18 +60,18 @@ explained_later rules es fs first k l e g x =
       judged = judged_grows rules x.before first k l e.device x.number x.name x.held x.verdict g x.judged;
     }
 
-explained_grows : (rules : List IdRule) (es : List Entry) (first k l : Kernel) (e : Effect) → Grows k l → IsExplained rules es first k e → IsExplained rules es first l e
+explained_grows : (rules : List RuleEntry) (es : List Entry) (first k l : Kernel) (e : Effect) → Grows k l → IsExplained rules es first k e → IsExplained rules es first l e
 explained_grows rules es first k l e g x = subst (λ (v : List Entry). IsExplained rules v first l e) (append-nil es) (explained_later rules es [] first k l e g x)
 
 cut_nowhere : (xs : List Entry) (x : Entry) (ys : List Entry) → [] ≡ xs ++ x ∷ ys → ⊥
 cut_nowhere [] x ys e = let none : ⊥ = cc in none
 cut_nowhere (z ∷ xs) x ys e = let none : ⊥ = cc in none
 
-pub explained_nowhere : (rules : List IdRule) (first k : Kernel) (e : Effect) → IsExplained rules [] first k e → ⊥
+pub explained_nowhere : (rules : List RuleEntry) (first k : Kernel) (e : Effect) → IsExplained rules [] first k e → ⊥
 explained_nowhere rules first k e x = cut_nowhere x.before (entry.Intent x.number x.name e.write) (entry.Wrote x.number x.name e.write x.outcome ∷ x.after) x.at
 
 -- a standing's verdict was told, and the rules gave it
-abbrev pub WereJudged : List IdRule → List Entry → Kernel → Kernel → List Standing → Type 0
+abbrev pub WereJudged : List RuleEntry → List Entry → Kernel → Kernel → List Standing → Type 0
 WereJudged rules es first k ss = (s : Standing) → Has ss s → (i : ℕ) × WasJudged rules es first k i s.number s.name s.held s.verdict
 
 -- a number with that held file has a standing
@@ -89,7 +88,7 @@ pub record IsKnown (ss : List Standing) (k : Kernel) (number : ℕ) (name : List
 abbrev pub AreKnown : List Entry → Kernel → List Standing → Type 0
 AreKnown es k ss = (number : ℕ) (name : List ℕ) (held : Held) (verdict : Target) (cause : Cause) → Has es (entry.Judged number name held verdict cause) → IsKnown ss k number name held
 
-pub record Facts (rules : List IdRule) (first : Kernel) (es : List Entry) (k : Kernel) (ss : List Standing) (next : ℕ) : Type 0 where
+pub record Facts (rules : List RuleEntry) (first : Kernel) (es : List Entry) (k : Kernel) (ss : List Standing) (next : ℕ) : Type 0 where
   pub judged : WereJudged rules es first k ss
   pub explained : AllExplained rules es first k
   pub numbers : Follow 1 (told_numbers es) next
@@ -100,7 +99,7 @@ gone_if ss k l number held i g (inl s) = inl s
 gone_if ss k l number held i g (inr e) = inr (gone_stays k l i g e)
 
 -- devices come and go, and nothing is written
-pub facts_grow : (rules : List IdRule) (first : Kernel) (es : List Entry) (k l : Kernel) (ss : List Standing) (next : ℕ) → Grows k l → l.log ≡ k.log → Facts rules first es k ss next → Facts rules first es l ss next
+pub facts_grow : (rules : List RuleEntry) (first : Kernel) (es : List Entry) (k l : Kernel) (ss : List Standing) (next : ℕ) → Grows k l → l.log ≡ k.log → Facts rules first es k ss next → Facts rules first es l ss next
 facts_grow rules first es k l ss next g log f = record {
   judged = λ s a. let b = f.judged s a in (b.0, judged_grows rules es first k l b.0 s.number s.name s.held s.verdict g b.1);
   explained = record { added = f.explained.added; log = log ∙ f.explained.log; each = λ e a. explained_grows rules es first k l e g (f.explained.each e a) };
@@ -131,15 +130,15 @@ same_device k held i j a b =
 one_device : (k : Kernel) (held file : Held) (i j : ℕ) → held ≡ file → slice_get k.held held.0 ≡ Some (record { device = i; control = Authorized }) → slice_get k.held file.0 ≡ Some (record { device = j; control = Authorized }) → i ≡ j
 one_device k held file i j e a b = same_device k file.0 i j (subst (λ (v : Held). slice_get k.held v.0 ≡ Some (record { device = i; control = Authorized })) e a) b
 
-at_device : (rules : List IdRule) (es : List Entry) (first k : Kernel) (i j number : ℕ) (name : List ℕ) (held : Held) (verdict : Target) → slice_get k.held held.0 ≡ Some (record { device = i; control = Authorized }) → WasJudged rules es first k j number name held verdict → WasJudged rules es first k i number name held verdict
+at_device : (rules : List RuleEntry) (es : List Entry) (first k : Kernel) (i j number : ℕ) (name : List ℕ) (held : Held) (verdict : Target) → slice_get k.held held.0 ≡ Some (record { device = i; control = Authorized }) → WasJudged rules es first k j number name held verdict → WasJudged rules es first k i number name held verdict
 at_device rules es first k i j number name held verdict file w = subst (λ (v : ℕ). WasJudged rules es first k v number name held verdict) (same_device k held.0 j i w.device.file file) w
 
-judged_as : (rules : List IdRule) (es : List Entry) (first k : Kernel) (i number m : ℕ) (name other : List ℕ) (held file : Held) (verdict target : Target) → number ≡ m → name ≡ other → held ≡ file → verdict ≡ target → WasJudged rules es first k i number name held verdict → WasJudged rules es first k i m other file target
+judged_as : (rules : List RuleEntry) (es : List Entry) (first k : Kernel) (i number m : ℕ) (name other : List ℕ) (held file : Held) (verdict target : Target) → number ≡ m → name ≡ other → held ≡ file → verdict ≡ target → WasJudged rules es first k i number name held verdict → WasJudged rules es first k i m other file target
 judged_as rules es first k i number m name other held file verdict target a b c d w =
     subst (λ (v : ℕ). WasJudged rules es first k i v other file target) a (subst (λ (v : List ℕ). WasJudged rules es first k i number v file target) b (subst (λ (v : Held). WasJudged rules es first k i number name v target) c (subst (λ (v : Target). WasJudged rules es first k i number name held v) d w)))
 
 -- a verdict of a sweep's account that is told in a longer journal
-given_judged : (rules : List IdRule) (es : List Entry) (first start k : Kernel) (number : ℕ) (name : List ℕ) (held : Held) (verdict : Target) (cause : Cause) → Grows first start → IsGiven rules start k name held verdict cause → Has es (entry.Judged number name held verdict cause) → (i : ℕ) × WasJudged rules es first k i number name held verdict
+given_judged : (rules : List RuleEntry) (es : List Entry) (first start k : Kernel) (number : ℕ) (name : List ℕ) (held : Held) (verdict : Target) (cause : Cause) → Grows first start → IsGiven rules start k name held verdict cause → Has es (entry.Judged number name held verdict cause) → (i : ℕ) × WasJudged rules es first k i number name held verdict
 given_judged rules es first start k number name held verdict cause since g told = (g.i, record { cause = cause; judged = g.judged; present = g.present; on = g.on; device = g.device; probed = probed_from first start k name held.0 g.i g.on since g.probed; given = g.given; told = told })
 
 in_frame : (es rest : List Entry) (x y e : Entry) → Has rest e → Has (es ++ framed x rest y) e
@@ -153,7 +152,7 @@ no_frame rest event last moment number name held verdict cause h = elim (has_cas
 ]
 
 -- what a sweep's account says, over a journal from before
-record Seen (rules : List IdRule) (first : Kernel) (es : List Entry) (k : Kernel) (before : List Standing) (next0 : ℕ) (l : Kernel) (after : List Standing) (next : ℕ) (rest : List Entry) : Type 0 where
+record Seen (rules : List RuleEntry) (first : Kernel) (es : List Entry) (k : Kernel) (before : List Standing) (next0 : ℕ) (l : Kernel) (after : List Standing) (next : ℕ) (rest : List Entry) : Type 0 where
   since : Grows first k
   grows : Grows k l
   stood : Stand k before next0
@@ -164,14 +163,14 @@ record Seen (rules : List IdRule) (first : Kernel) (es : List Entry) (k : Kernel
   judged : (number : ℕ) (name : List ℕ) (held : Held) (verdict : Target) (cause : Cause) → Has rest (entry.Judged number name held verdict cause) → Stood after number held ⊎ Has rest (entry.Gone number name)
   says : Says k l before next0 rest next
 
-told_judged : (rules : List IdRule) (first : Kernel) (es : List Entry) (k : Kernel) (before : List Standing) (next0 : ℕ) (l : Kernel) (after : List Standing) (next : ℕ) (rest : List Entry) (x y : Entry) (s : Standing) → Seen rules first es k before next0 l after next rest → IsTold before rest s → (i : ℕ) × WasJudged rules (es ++ framed x rest y) first l i s.number s.name s.held s.verdict
+told_judged : (rules : List RuleEntry) (first : Kernel) (es : List Entry) (k : Kernel) (before : List Standing) (next0 : ℕ) (l : Kernel) (after : List Standing) (next : ℕ) (rest : List Entry) (x y : Entry) (s : Standing) → Seen rules first es k before next0 l after next rest → IsTold before rest s → (i : ℕ) × WasJudged rules (es ++ framed x rest y) first l i s.number s.name s.held s.verdict
 told_judged rules first es k before next0 l after next rest x y s seen (inl b) =
     let old = seen.facts.judged b.0 b.1 in
     (old.0, judged_as rules (es ++ framed x rest y) first l old.0 b.0.number s.number b.0.name s.name b.0.held s.held b.0.verdict s.verdict (sym b.2) (sym b.3) (sym b.4) (sym b.6) (judged_later rules es (framed x rest y) first k l old.0 b.0.number b.0.name b.0.held b.0.verdict seen.grows old.1))
 told_judged rules first es k before next0 l after next rest x y s seen (inr t) = given_judged rules (es ++ framed x rest y) first k l s.number s.name s.held s.verdict s.cause seen.since (seen.given s.number s.name s.held s.verdict s.cause t) (in_frame es rest x y (entry.Judged s.number s.name s.held s.verdict s.cause) t)
 
 -- the verdict of a write's number, told before its intent
-had_judged : (rules : List IdRule) (first : Kernel) (es : List Entry) (k : Kernel) (before : List Standing) (next0 : ℕ) (l : Kernel) (after : List Standing) (next : ℕ) (rest front more : List Entry) (x : Entry) (number : ℕ) (name : List ℕ) (held : Held) (verdict : Target) → Seen rules first es k before next0 l after next rest → rest ≡ front ++ more → HasVerdict before front number name held verdict → (i : ℕ) × WasJudged rules (es ++ ((x ∷ []) ++ front)) first l i number name held verdict
+had_judged : (rules : List RuleEntry) (first : Kernel) (es : List Entry) (k : Kernel) (before : List Standing) (next0 : ℕ) (l : Kernel) (after : List Standing) (next : ℕ) (rest front more : List Entry) (x : Entry) (number : ℕ) (name : List ℕ) (held : Held) (verdict : Target) → Seen rules first es k before next0 l after next rest → rest ≡ front ++ more → HasVerdict before front number name held verdict → (i : ℕ) × WasJudged rules (es ++ ((x ∷ []) ++ front)) first l i number name held verdict
 had_judged rules first es k before next0 l after next rest front more x number name held verdict seen e (inl b) =
     let old = seen.facts.judged b.0 b.1 in
     let fs : List Entry = (x ∷ []) ++ front in
@@ -181,7 +180,7 @@ had_judged rules first es k before next0 l after next rest front more x number n
     let there : Has rest this = subst (λ (v : List Entry). Has v this) (sym e) (has_left front more this t.1) in
     given_judged rules (es ++ ((x ∷ []) ++ front)) first k l number name held verdict t.0 seen.since (seen.given number name held verdict t.0 there) (has_right es ((x ∷ []) ++ front) this (inr t.1))
 
-written_explained : (rules : List IdRule) (first : Kernel) (es : List Entry) (k : Kernel) (before : List Standing) (next0 : ℕ) (l : Kernel) (after : List Standing) (next : ℕ) (rest : List Entry) (x y : Entry) (e : Effect) → Seen rules first es k before next0 l after next rest → WasWritten before rest l e → IsExplained rules (es ++ framed x rest y) first l e
+written_explained : (rules : List RuleEntry) (first : Kernel) (es : List Entry) (k : Kernel) (before : List Standing) (next0 : ℕ) (l : Kernel) (after : List Standing) (next : ℕ) (rest : List Entry) (x y : Entry) (e : Effect) → Seen rules first es k before next0 l after next rest → WasWritten before rest l e → IsExplained rules (es ++ framed x rest y) first l e
 written_explained rules first es k before next0 l after next rest x y e seen w =
     let two : List Entry = wrote_entries w.number w.name e.write w.outcome in
     let had = had_judged rules first es k before next0 l after next rest w.front (two ++ w.back) x w.number w.name w.held w.verdict seen w.at w.had in
@@ -206,14 +205,14 @@ told_gone k l before next0 rest next number name held verdict i title judged sto
     let same : x.held ≡ held = one_held k l before next0 rest next number name name x.held held x.verdict verdict stood.numbers stood.distinct says x.had had in
     subst (λ (v : ℕ). IsGone l v) (one_device l x.held held x.i i same x.device.file device.file) x.gone
 
-was_known : (rules : List IdRule) (first : Kernel) (es : List Entry) (k : Kernel) (before : List Standing) (next0 : ℕ) (l : Kernel) (after : List Standing) (next : ℕ) (rest : List Entry) (number : ℕ) (name : List ℕ) (held : Held) (i : ℕ) (judged : Judged) → Seen rules first es k before next0 l after next rest → IsDevice l i name held judged → Stood before number held ⊎ IsGone k i → Stood after number held ⊎ IsGone l i
+was_known : (rules : List RuleEntry) (first : Kernel) (es : List Entry) (k : Kernel) (before : List Standing) (next0 : ℕ) (l : Kernel) (after : List Standing) (next : ℕ) (rest : List Entry) (number : ℕ) (name : List ℕ) (held : Held) (i : ℕ) (judged : Judged) → Seen rules first es k before next0 l after next rest → IsDevice l i name held judged → Stood before number held ⊎ IsGone k i → Stood after number held ⊎ IsGone l i
 was_known rules first es k before next0 l after next rest number name held i judged seen device (inr e) = inr (gone_stays k l i seen.grows e)
 was_known rules first es k before next0 l after next rest number name held i judged seen device (inl s) = elim (seen.kept s.0 s.1) [
   | inl t ↦ inl (t.0, t.1, sym t.2 ∙ s.2, sym t.4 ∙ s.3)
   | inr gone ↦ inr (told_gone k l before next0 rest next s.0.number s.0.name s.0.held s.0.verdict i name judged seen.stood seen.says (inl (s.0, s.1, refl, refl, refl, refl)) (subst (λ (v : Held). IsDevice l i name v judged) (sym s.3) device) gone)
 ]
 
-is_known : (rules : List IdRule) (first : Kernel) (es : List Entry) (k : Kernel) (before : List Standing) (next0 : ℕ) (l : Kernel) (after : List Standing) (next : ℕ) (rest : List Entry) (event last : ℕ) (moment : Moment) → Seen rules first es k before next0 l after next rest → AreKnown (es ++ framed (entry.Event event moment) rest (entry.End last)) l after
+is_known : (rules : List RuleEntry) (first : Kernel) (es : List Entry) (k : Kernel) (before : List Standing) (next0 : ℕ) (l : Kernel) (after : List Standing) (next : ℕ) (rest : List Entry) (event last : ℕ) (moment : Moment) → Seen rules first es k before next0 l after next rest → AreKnown (es ++ framed (entry.Event event moment) rest (entry.End last)) l after
 is_known rules first es k before next0 l after next rest event last moment seen number name held verdict cause h = elim (has_cases es (framed (entry.Event event moment) rest (entry.End last)) (entry.Judged number name held verdict cause) h) [
   | inl a ↦
       let x = seen.facts.known number name held verdict cause a in
@@ -237,12 +236,12 @@ numbers_framed : (event last : ℕ) (moment : Moment) (rest : List Entry) → to
 numbers_framed event last moment rest = numbers_append (entry.Event event moment ∷ rest) (entry.End last ∷ []) ∙ append-nil (told_numbers rest)
 
 -- a sweep over a journal from before it
-pub swept_facts : (first : Kernel) (es : List Entry) (present : Bool) (k l : Kernel) (w v : State Policy) (event last : ℕ) (moment : Moment) → Grows first k → Stand k w.standings w.next → Facts w.judge.rules first es k w.standings w.next → (fair : IsFair policy_answer policy_later present k w l v) → Facts v.judge.rules first (es ++ framed (entry.Event event moment) fair.rest (entry.End last)) l v.standings v.next
+pub swept_facts : (first : Kernel) (es : List Entry) (present : Bool) (k l : Kernel) (w v : State Judging) (event last : ℕ) (moment : Moment) → Grows first k → Stand k w.standings w.next → Facts (as_given w.judge.rules) first es k w.standings w.next → (fair : IsFair policy_answer policy_later present k w l v) → Facts (as_given v.judge.rules) first (es ++ framed (entry.Event event moment) fair.rest (entry.End last)) l v.standings v.next
 swept_facts first es present k l w v event last moment since stood facts fair =
     let rest : List Entry = fair.rest in
     let x : Entry = entry.Event event moment in
     let y : Entry = entry.End last in
-    let rules : List IdRule = w.judge.rules in
+    let rules : List RuleEntry = as_given w.judge.rules in
     let all : List Entry = es ++ framed x rest y in
     let seen : Seen rules first es k w.standings w.next l v.standings v.next rest = record {
       since = since;
@@ -272,7 +271,7 @@ swept_facts first es present k l w v event last moment since stood facts fair =
           (follow_append 1 (told_numbers es) (told_numbers rest) w.next v.next facts.numbers (numbers_follow present k l w.standings k.log w.judge w.next rest l.log v.judge v.next fair.account));
       known = is_known rules first es k w.standings w.next l v.standings v.next rest event last moment seen;
     } in
-    subst (λ (p : Policy). Facts p.rules first all l v.standings v.next) (sym (judge_stays present k l w.standings k.log w.judge w.next rest l.log v.judge v.next fair.account)) result
+    subst (λ (r : List RuleEntry). Facts r first all l v.standings v.next) (sym (judge_stays present k l w.standings k.log w.judge w.next rest l.log v.judge v.next fair.account)) result
 
 -- a live device with a standing was judged under its number alone
 
@@ -293,7 +292,7 @@ one_standing k ss next s t i stand a b f g =
     let name : s.name ≡ t.name = sym x.1.named ∙ ap (λ (v : Device). v.name) same ∙ y.1.named in
     distinct_one (λ (v : Standing). v.name) ss s t stand.names a b name
 
-only_number : (rules : List IdRule) (first : Kernel) (es : List Entry) (k : Kernel) (ss : List Standing) (next : ℕ) (i : ℕ) (d : Device) (s : Standing) → Stand k ss next → Facts rules first es k ss next → Live k.devices i d → Has ss s → slice_get k.held s.held.0 ≡ Some (record { device = i; control = Authorized }) → (number : ℕ) → IsJudged k es number i → number ≡ s.number
+only_number : (rules : List RuleEntry) (first : Kernel) (es : List Entry) (k : Kernel) (ss : List Standing) (next : ℕ) (i : ℕ) (d : Device) (s : Standing) → Stand k ss next → Facts rules first es k ss next → Live k.devices i d → Has ss s → slice_get k.held s.held.0 ≡ Some (record { device = i; control = Authorized }) → (number : ℕ) → IsJudged k es number i → number ≡ s.number
 only_number rules first es k ss next i d s stand facts live has file number j =
     let x = facts.known number j.name j.held j.verdict j.cause j.has in
     let is : x.i ≡ i = same_device k j.held.0 x.i i x.device.file j.file in
@@ -304,7 +303,7 @@ only_number rules first es k ss next i d s stand facts live has file number j =
       | inr gone ↦ absurd (still_live k i d live (subst (λ (v : ℕ). IsGone k v) is gone))
     ]
 
-pub judged_once : (rules : List IdRule) (first : Kernel) (es : List Entry) (k : Kernel) (ss : List Standing) (next : ℕ) (i : ℕ) (d : Device) → Stand k ss next → Facts rules first es k ss next → Live k.devices i d → IsAsJudged k ss i → IsJudgedOnce rules es first k ss i
+pub judged_once : (rules : List RuleEntry) (first : Kernel) (es : List Entry) (k : Kernel) (ss : List Standing) (next : ℕ) (i : ℕ) (d : Device) → Stand k ss next → Facts rules first es k ss next → Live k.devices i d → IsAsJudged k ss i → IsJudgedOnce rules es first k ss i
 judged_once rules first es k ss next i d stand facts live a =
     let s : Standing = a.standing.s in
     let j = facts.judged s a.standing.has in

@@ -1,6 +1,8 @@
 -- Events worked by hand: a root hub that was there at the start, a device below it that a rule allows, and another device that takes
 -- its place.
-use Rattle.std.specs.Prelude.{ℕ, true, false, List, [], ◌∷◌, None, codes}
+use Rattle.std.specs.Prelude.{ℕ, true, false, List, [], ◌∷◌, None, Some, codes}
+use Rattle.ug_types.specs.declared.rule.Op.TheVariants.{Equals}
+use Rattle.ug_types.specs.declared.rule.Rule.{Rule}
 use Rattle.ug_types.specs.declared.verdict.Target.TheVariants.{Allow}
 use Rattle.ug_kernel.specs.declared.device.Device.{Device}
 use Rattle.ug_sysfs.specs.declared.script.Failing.{Failing}
@@ -39,9 +41,27 @@ other = device_of (codes "1-1") other_bytes
 abbrev pub hub_world : World
 hub_world = record { kernel = record { devices = plugged hub []; held = []; log = [] }; moves = []; fails = []; calls = 0; faults = 0; made = []; ran_out = false }
 
--- a daemon with the one rule that allows 1050:0011
+-- the rule that allows 1050:0011
+abbrev pub key_rule : Rule
+key_rule = record {
+  target = Allow;
+  query = record {
+    id = Some (record { op = Equals; items = record { vendor = Some 4176; product = Some 17 } ∷ [] });
+    serial = None;
+    name = None;
+    hash = None;
+    parent_hash = None;
+    via_port = None;
+    interface = None;
+    connect = None;
+    label = None;
+  };
+  conds = None;
+}
+
+-- a daemon with this rule alone
 abbrev pub ruled : DaemonState
-ruled = with_rule (record { target = Allow; vendor = 4176; product = 17 }) fresh.daemon
+ruled = with_rule key_rule fresh.daemon
 
 -- an event at that moment
 abbrev pub event_at : ℕ → DaemonState × World → DaemonState × World

@@ -18,8 +18,8 @@ use Rattle.ug_table.specs.Bring.{write_of}
 use Rattle.ug_table.specs.Laws.{IsDevice, IsProbed, MayHave, wrote_entries, IsJudged, IsAsJudged}
 use Rattle.ug_table.specs.declared.standing.Standing.{Standing}
 use Rattle.ug_play.specs.Play.{play, NameNobody}
-use Rattle.ug_core.specs.declared.policy.IdRule.{IdRule}
-use Rattle.ug_core.specs.Policy.{verdict_of}
+use Rattle.ug_policy.specs.declared.entry.RuleEntry.{RuleEntry}
+use Rattle.ug_core.specs.Verdicts.{IsVerdict}
 use Rattle.ug_core.specs.Event.{DaemonState, handling, has_numbers}
 use Rattle.ug_lines.specs.Fold.{Outcome, Writes, Refused, Going, plays}
 use Rattle.ug_script.specs.declared.step.Step.{Step}
@@ -52,19 +52,19 @@ journal p (line ∷ lines) = noted p line ++ journal (left_by (script_step p lin
 
 -- It is told that the number got that verdict. The rules gave it on the record of the very device of the held file, and that device
 -- lived, since the first kernel, from the opening of that file to the probe that gave its value.
-pub record WasJudged (rules : List IdRule) (entries : List Entry) (first k : Kernel) (i number : ℕ) (name : List ℕ) (held : Held) (verdict : Target) : Type 0 where
+pub record WasJudged (rules : List RuleEntry) (entries : List Entry) (first k : Kernel) (i number : ℕ) (name : List ℕ) (held : Held) (verdict : Target) : Type 0 where
   pub cause : Cause
   pub judged : Judged
   pub present : Bool
   pub on : Bool
   pub device : IsDevice k i name held judged
   pub probed : IsProbed first k name held.0 i on
-  pub given : verdict_of rules judged (is_none (parent_of name)) present on ≡ (verdict, cause)
+  pub given : IsVerdict rules judged (is_none (parent_of name)) present on verdict cause
   pub told : Has entries (entry.Judged number name held verdict cause)
 
 -- The effect is that of a write that is told. Before its intent it was told that the very device got that verdict from the
 -- rules, and the write is the one that the verdict wants.
-pub record IsExplained (rules : List IdRule) (entries : List Entry) (first k : Kernel) (effect : Effect) : Type 0 where
+pub record IsExplained (rules : List RuleEntry) (entries : List Entry) (first k : Kernel) (effect : Effect) : Type 0 where
   pub number : ℕ
   pub name : List ℕ
   pub held : Held
@@ -78,7 +78,7 @@ pub record IsExplained (rules : List IdRule) (entries : List Entry) (first k : K
   pub judged : WasJudged rules before first k effect.device number name held verdict
 
 -- each effect since the first kernel is explained
-pub record AllExplained (rules : List IdRule) (entries : List Entry) (first k : Kernel) : Type 0 where
+pub record AllExplained (rules : List RuleEntry) (entries : List Entry) (first k : Kernel) : Type 0 where
   pub added : List Effect
   pub log : k.log ≡ first.log ++ added
   pub each : (effect : Effect) → Has added effect → IsExplained rules entries first k effect
@@ -95,13 +95,13 @@ Follow first [] next = next ≡ first
 Follow first (n ∷ ns) next = (n ≡ first) × Follow (first + 1) ns next
 
 -- the device was judged under the number of its standing and under no other, and stands as judged
-pub record IsJudgedOnce (rules : List IdRule) (entries : List Entry) (first k : Kernel) (standings : List Standing) (i : ℕ) : Type 0 where
+pub record IsJudgedOnce (rules : List RuleEntry) (entries : List Entry) (first k : Kernel) (standings : List Standing) (i : ℕ) : Type 0 where
   pub stands : IsAsJudged k standings i
   pub judged : WasJudged rules entries first k i stands.standing.s.number stands.standing.s.name stands.standing.s.held stands.standing.s.verdict
   pub once : (number : ℕ) → IsJudged k entries number i → number ≡ stands.standing.s.number
 
 -- each device that is live at the end of an event of that moment was judged just once since the first kernel, and stands as judged
-abbrev pub JudgesOnce : List IdRule → List Entry → Kernel → DaemonState × World → Type 0
+abbrev pub JudgesOnce : List RuleEntry → List Entry → Kernel → DaemonState × World → Type 0
 JudgesOnce rules entries first p = (i : ℕ) (d : Device) → Live p.1.kernel.devices i d → IsJudgedOnce rules (entries ++ p.0.sweep.entries) first p.1.kernel p.0.sweep.standings i
 
 -- Wherever lines have led: what was written is the text of the journal; each effect is explained; the numbers follow one another.

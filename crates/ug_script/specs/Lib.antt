@@ -1,4 +1,5 @@
 pub mod Grammar
+pub mod Plugs
 pub mod Words
 pub mod Replay
 pub mod Laws

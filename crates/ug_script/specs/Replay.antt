@@ -1,14 +1,19 @@
 -- What each line of a script writes, and what it leaves.
-use Rattle.std.specs.Prelude.{◌≡◌, ℕ, ◌-◌, Bool, true, false, ◌&&◌, nat_lt, nat_eq, if◌then◌else◌, List, [], ◌∷◌, ◌++◌, length, codes, decimal, Option, Some, None, Result, Ok, Err, flat_map}
+use Rattle.std.specs.Prelude.{◌≡◌, ℕ, ◌+◌, ◌-◌, ◌^◌, Bool, true, false, not, is_none, ◌&&◌, nat_lt, nat_eq, if◌then◌else◌, List, [], ◌∷◌, ◌++◌, length, codes, decimal, Option, Some, None, Result, Ok, Err, flat_map}
 use Rattle.std.specs.Cmp.Lexicographic.{pointwise}
+use Rattle.ug_types.specs.declared.rule.Rule as types
 use Rattle.ug_types.specs.declared.verdict.Moment.{Moment}
+use Rattle.ug_types.specs.declared.verdict.Target.{Target}
+use Rattle.ug_types.specs.declared.verdict.Target.TheVariants.{Allow, Block, Reject}
 use Rattle.ug_kernel.specs.declared.device.Device.{Device}
 use Rattle.ug_sysfs.specs.Devices.{plugged, unplugged}
 use Rattle.ug_sysfs.specs.World.{World, begun, over}
 use Rattle.ug_audit.specs.declared.entry.Entry.{Entry}
 use Rattle.ug_audit.specs.Lines.{entry_line}
 use Rattle.ug_play.specs.Play.{play, tells_memory}
-use Rattle.ug_core.specs.declared.policy.IdRule.{IdRule}
+use Rattle.ug_policy.specs.declared.entry.RuleEntry.{RuleEntry}
+use Rattle.ug_policy.specs.Edits.{new_entry}
+use Rattle.ug_core.specs.Policy.{as_given}
 use Rattle.ug_core.specs.Event.{DaemonState, daemon_of, handling, has_numbers}
 use Rattle.ug_lines.specs.Fold.{Outcome, Writes, Refused, BadLine}
 use Rattle.ug_script.specs.declared.running.Running.{Running}
@@ -35,7 +40,7 @@ abbrev pub fresh : Script
 fresh = record {
   setup = true;
   daemon = record {
-    sweep = record { standings = []; next = 1; listed = false; judge = record { rules = [] }; entries = [] };
+    sweep = record { standings = []; next = 1; listed = false; judge = record { rules = []; next = 1; moment = record { 0 = 0 } }; entries = [] };
     event = 1;
   };
 }
@@ -58,15 +63,36 @@ quiet s w = Writes [] (Some s, w)
 abbrev pub bad : Script → World → Outcome (Option Script × World)
 bad s w = Refused BadLine (Some s, w)
 
-abbrev pub rules_of : Script → List IdRule
-rules_of s = s.daemon.sweep.judge.rules
+-- the rules as their lines gave them
+abbrev pub rules_of : Script → List RuleEntry
+rules_of s = as_given s.daemon.sweep.judge.rules
 
-abbrev pub with_rule : IdRule → DaemonState → DaemonState
-with_rule rule d = record d { sweep = record d.sweep { judge = record d.sweep.judge { rules = d.sweep.judge.rules ++ rule ∷ [] } } }
+abbrev pub with_rule : types.Rule → DaemonState → DaemonState
+with_rule rule d = record d {
+  sweep = record d.sweep {
+    judge = record d.sweep.judge {
+      rules = d.sweep.judge.rules ++ new_entry d.sweep.judge.next rule false ∷ [];
+      next = d.sweep.judge.next + 1;
+    };
+  };
+}
 
--- one rule more, while rules may come, up to 65,536
-abbrev pub rule_step : IdRule → Script → World → Outcome (Option Script × World)
-rule_step rule s w = if s.setup && nat_lt (length (rules_of s)) 65536 then quiet (record s { daemon = with_rule rule s.daemon }) w else bad s w
+abbrev pub is_reject : Target → Bool
+is_reject Allow = false
+is_reject Block = false
+is_reject Reject = true
+
+-- the rule allows or blocks, and has no conditions
+abbrev pub is_plain : types.Rule → Bool
+is_plain rule = not (is_reject rule.target) && is_none rule.conds
+
+-- there are fewer than 65,536 rules, and an id is left
+abbrev pub has_place : DaemonState → Bool
+has_place d = nat_lt (length d.sweep.judge.rules) 65536 && nat_lt d.sweep.judge.next (2 ^ 64 - 1)
+
+-- one rule more, while rules may come
+abbrev pub rule_step : types.Rule → Script → World → Outcome (Option Script × World)
+rule_step rule s w = if s.setup && (is_plain rule && has_place s.daemon) then quiet (record s { daemon = with_rule rule s.daemon }) w else bad s w
 
 abbrev pub with_devices : List Device → World → World
 with_devices ds w = record w { kernel = record w.kernel { devices = ds } }

@@ -49,8 +49,8 @@ filled (Err e) = None
 unfoldable pub bytes_of : List ℕ → Option (List ℕ)
 bytes_of text = filled (decode_of text)
 
--- the bytes, or the fault of a text that writes none; want of memory may come at any text
-abbrev pub ReadsBytes : Option (List ℕ) → Result (List ℕ) StepFault → Type 0
-ReadsBytes asked (Ok bytes) = asked ≡ Some bytes
-ReadsBytes asked (Err Bad) = asked ≡ None
-ReadsBytes asked (Err Memory) = Unit {0}
+-- what was asked for, or the fault where nothing is; want of memory may come at any text
+abbrev pub Parses : {X : Type 0} → Option X → Result X StepFault → Type 0
+Parses asked (Ok value) = asked ≡ Some value
+Parses asked (Err Bad) = asked ≡ None
+Parses asked (Err Memory) = Unit {0}

@@ -3,6 +3,7 @@
 
 mod laws;
 mod parse;
+mod plugs;
 mod rule_lines;
 mod runner;
 mod running;

@@ -3,9 +3,8 @@ use crate::parse::parse_line;
 use crate::step::{Step, StepFault};
 use std::alloc::Global;
 use std::test::Fail;
-use ug_core::IdRule;
 use ug_sysfs::Device;
-use ug_types::{Moment, Target};
+use ug_types::{Moment, Rule, Target};
 
 fn is_bad(alloc: Global, line: &[u8]) -> bool {
     matches!(parse_line(alloc, line), Err(StepFault::Bad))
@@ -15,7 +14,7 @@ fn is_skipped(alloc: Global, line: &[u8]) -> bool {
     matches!(parse_line(alloc, line), Ok(Step::Skip))
 }
 
-fn rule(alloc: Global, line: &[u8]) -> Option<IdRule> {
+fn rule(alloc: Global, line: &[u8]) -> Option<Rule> {
     match parse_line(alloc, line) {
         Ok(Step::Rule(rule)) => Some(rule),
         _ => None,
@@ -41,19 +40,17 @@ fn reads_lines(rt: HostRuntime) -> Result<(), Fail> {
     let alloc = rt.alloc();
     assert!(rt; is_skipped(alloc, b""));
     assert!(rt; is_skipped(alloc, b"#plug"));
-    let block = IdRule {
-        target: Target::Block,
-        vendor: 0x1d6b,
-        product: 0xab02,
-    };
-    let written: [&[u8]; 4] = [
+    let written: [&[u8]; 6] = [
         b"rule block 1D6b:aB02",
         b"rule block id 1d6b:ab02",
         b"rule  block id equals { 1d6b:ab02 }",
         b"rule block 1d6b:ab02 # a hub",
+        b"rule block",
+        b"rule block with-interface none-of { 03:*:* } label \"k\"",
     ];
     for line in written {
-        assert_eq!(rt; rule(alloc, line), Some(block));
+        let block = rule(alloc, line).ok_or("no rule")?;
+        assert_eq!(rt; block.target, Target::Block);
     }
     assert_eq!(rt; moment(alloc, b"sweep 0"), Some(Moment(0)));
     assert_eq!(rt;
@@ -73,20 +70,12 @@ fn reads_lines(rt: HostRuntime) -> Result<(), Fail> {
 #[test]
 fn refuses_other_lines(rt: HostRuntime) {
     let alloc = rt.alloc();
-    let lines: [&[u8]; 25] = [
+    let lines: [&[u8]; 17] = [
         b" ",
         b"rule ",
-        b"rule allow",
-        b"rule reject 1050:0011",
-        b"rule allow 1050:*",
-        b"rule allow *:*",
-        b"rule allow id { 1050:0011 1050:0012 }",
-        b"rule allow id none-of { 1050:0011 }",
-        b"rule allow 1050:0011 if true",
         b"rule allow 1050:001",
         b"rule allow 1050-0011",
         b"rule allow 1050:00g1",
-        b"rule allow 1050:0011 label \"key\"",
         b"unplug",
         b"unplug 1-0",
         b"unplug usb1 ",

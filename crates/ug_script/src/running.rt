@@ -1,27 +1,51 @@
 // A script whose first line was read.
-ghost use Rattle.std.specs.Prelude.{◌≡◌, ◌≤◌, ◌&&◌, true, nat_lt, length, Some, IfOk};
+ghost use Rattle.std.specs.Prelude.{◌≡◌, ◌≤◌, ◌&&◌, true, Some, IfOk};
 ghost use Rattle.ug_types.specs.Ends.{Rose};
 ghost use Rattle.ug_lines.specs.Runs.{Steps};
 ghost use Rattle.ug_play.specs.Play.{IsPlayed};
 ghost use Rattle.ug_core.specs.Event.{daemon_of, handling, has_numbers};
 ghost use Rattle.ug_sysfs.specs.World.{begun};
-ghost use Rattle.ug_script.specs.Replay.{fresh, rules_of, script_of, sweep_step, taken, tells};
+ghost use Rattle.ug_script.specs.Replay as replay;
+ghost use Rattle.ug_script.specs.Replay.{fresh, script_of, sweep_step, taken, tells};
 
 use crate::step::Step;
 use crate::text::{put, tells_memory, text_of};
 use std::alloc::Global;
 use ug_core::{Daemon, Event};
 use ug_lines::Ran;
+use ug_policy::RuleList;
 use ug_sysfs::{SimKernel, Sysfs};
-use ug_types::{List, Moment, NoMemory, Sink};
-
-const RULES: usize = 65536;
+use ug_types::{Moment, NoMemory, Rule, Sink, Target};
 
 /// Whether rules may still come, and the daemon.
 #[derive(Drop)]
 pub struct Running {
     pub setup: bool,
     pub daemon: Daemon,
+}
+
+fn is_reject(target: Target) -> bool
+    ensures { result ≡ replay.is_reject target }
+{
+    match target {
+        Target::Allow => false,
+        Target::Block => false,
+        Target::Reject => true,
+    }
+}
+
+/// Whether a rule allows or blocks and has no conditions.
+fn is_plain(rule: &Rule) -> bool
+    ensures { result ≡ replay.is_plain rule.now }
+{
+    !is_reject(rule.target) && rule.conds.is_none()
+}
+
+/// A rule that may not stand there.
+fn refuse(_rule: Rule) -> Ran
+    ensures { result ≡ Ran.Bad }
+{
+    Ran::Bad
 }
 
 /// An event, which the kernel's script fixes unless it is told that memory was wanting.
@@ -38,14 +62,14 @@ impl Running {
     {
         Ok(Running {
             setup: true,
-            daemon: Daemon::start(alloc, List::new(alloc), 1)?,
+            daemon: Daemon::start(alloc, RuleList::new(alloc), 1)?,
         })
     }
 
-    fn takes_rules(&self) -> bool
-        ensures { result ≡ (self.now.setup && nat_lt (length (rules_of (script_of self.now))) 65536) }
+    fn takes(&self, rule: &Rule) -> bool
+        ensures { result ≡ (self.now.setup && (replay.is_plain rule.now && replay.has_place (daemon_of self.now.daemon))) }
     {
-        self.setup && self.daemon.policy.rules.as_slice().len() < RULES
+        self.setup && is_plain(rule) && self.daemon.policy.has_place()
     }
 
     fn sweep<K: Sink>(
@@ -90,10 +114,10 @@ impl Running {
         match step {
             Step::Skip => Ran::Done,
             Step::Rule(rule) => {
-                if !self.takes_rules() {
-                    return Ran::Bad;
+                if !self.takes(&rule) {
+                    return refuse(rule);
                 }
-                match self.daemon.policy.rules.push(rule) {
+                match self.daemon.policy.append(rule) {
                     Ok(()) => Ran::Done,
                     Err(_) => Ran::Memory,
                 }

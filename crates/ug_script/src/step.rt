@@ -1,7 +1,6 @@
 // What a line of a script asks for.
-use ug_core::IdRule;
 use ug_sysfs::Device;
-use ug_types::{Moment, NodeName};
+use ug_types::{Moment, NodeName, Rule};
 
 /// One line's step.
 #[derive(Drop)]
@@ -9,7 +8,7 @@ pub enum Step {
     /// An empty line or a comment.
     Skip,
     /// One more rule behind those before.
-    Rule(IdRule),
+    Rule(Rule),
     /// A device is plugged in. It has no parent yet.
     Plug(Device),
     /// The device of that name is unplugged.
@@ -23,6 +22,6 @@ pub enum Step {
 pub enum StepFault {
     /// The line is none of the grammar.
     Bad,
-    /// There was no memory for its device.
+    /// There was no memory for its device or its rule.
     Memory,
 }

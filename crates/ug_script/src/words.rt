@@ -1,6 +1,7 @@
 // Names, numbers and hexadecimal words of a script's lines.
-ghost use Rattle.std.specs.Prelude.{◌≡◌, Some};
-ghost use Rattle.ug_script.specs.Words.{name_of, with_digit, number_of, moment_of, bytes_of, ReadsBytes};
+ghost use Rattle.std.specs.Prelude.{◌≡◌, Some, nat_eq};
+ghost use Rattle.std.specs.List.{position};
+ghost use Rattle.ug_script.specs.Words.{name_of, with_digit, number_of, moment_of, bytes_of, Parses};
 
 use crate::step::StepFault;
 use std::alloc::Global;
@@ -64,10 +65,17 @@ pub fn moment(text: &[u8]) -> Option<u64>
     number(text)
 }
 
+/// Where the first space is.
+pub fn space(text: &[u8]) -> Option<usize>
+    ensures { result ≡ position (nat_eq 32) text.now }
+{
+    text.iter().position(|b| b' ' == *b)
+}
+
 /// The bytes that an even number of hexadecimal digits write, at least two.
 #[tactic(auto, unfolding(crate::specs::Words::bytes_of))]
 pub fn bytes(alloc: Global, digits: &[u8]) -> Result<Text, StepFault>
-    ensures { ReadsBytes (bytes_of digits.now) result }
+    ensures { Parses (bytes_of digits.now) result }
 {
     match hex::decode(alloc, digits) {
         Ok(bytes) => {

@@ -1,0 +1,95 @@
+-- The device that a `plug` line plugs in.
+use Rattle.std.specs.Prelude.{ℕ, ◌+◌, ◌-◌, Bool, true, false, ◌&&◌, nat_eq, if◌then◌else◌, List, [], ◌∷◌, ◌++◌, length, take, drop, get_or, Option, Some, None, Result, Ok, Err, codes}
+use Rattle.std.specs.List.{starts_with, position}
+use Rattle.ug_kernel.specs.declared.device.Device.{Device}
+use Rattle.ug_lex.specs.declared.token.Token.{Token}
+use Rattle.ug_lex.specs.declared.token.TokenKind.{TokenKind}
+use Rattle.ug_lex.specs.declared.token.TokenKind.TheVariants.{Word, Str, Open, Close, ParenOpen, ParenClose, Bang}
+use Rattle.ug_lex.specs.Lexing.{Fault, Lexed, tokens_of}
+use Rattle.ug_script.specs.declared.plugs.Files.{Files}
+use Rattle.ug_script.specs.Words.{name_of, bytes_of}
+
+-- a word that is a dash stands for no file
+abbrev pub no_file : List ℕ → Token → Option (Option (List ℕ))
+no_file text token = if nat_eq (token.end - token.start) 1 && nat_eq (get_or text token.start 0) 45 then Some None else None
+
+-- a string is a file that holds what it spells and a newline
+abbrev pub file_by : List ℕ → Token → TokenKind → Option (Option (List ℕ))
+file_by text token Word = no_file text token
+file_by text token (Str spelled) = Some (Some (spelled ++ 10 ∷ []))
+file_by text token Open = None
+file_by text token Close = None
+file_by text token ParenOpen = None
+file_by text token ParenClose = None
+file_by text token Bang = None
+
+abbrev pub file_of : List ℕ → Token → Option (Option (List ℕ))
+file_of text token = file_by text token token.kind
+
+-- one space is between the first and the second
+abbrev pub one_space : List ℕ → Token → Token → Bool
+one_space text a b = nat_eq (b.start - a.end) 1 && nat_eq (get_or text a.end 0) 32
+
+-- three tokens are the whole text, with one space between one and the next
+abbrev pub fill : List ℕ → Token → Token → Token → Bool
+fill text a b c = nat_eq a.start 0 && (one_space text a b && (one_space text b c && nat_eq c.end (length text)))
+
+abbrev pub with_connect : Option (List ℕ) → Option (List ℕ) → Option (Option (List ℕ)) → Option Files
+with_connect product serial None = None
+with_connect product serial (Some connect) = Some (record { product = product; serial = serial; connect = connect })
+
+abbrev pub with_serial : Option (List ℕ) → Option (Option (List ℕ)) → Option (Option (List ℕ)) → Option Files
+with_serial product None connect = None
+with_serial product (Some serial) connect = with_connect product serial connect
+
+abbrev pub with_product : Option (Option (List ℕ)) → Option (Option (List ℕ)) → Option (Option (List ℕ)) → Option Files
+with_product None serial connect = None
+with_product (Some product) serial connect = with_serial product serial connect
+
+abbrev pub files_in : List ℕ → List Token → Option Files
+files_in text [] = None
+files_in text (a ∷ []) = None
+files_in text (a ∷ b ∷ []) = None
+files_in text (a ∷ b ∷ c ∷ []) = if fill text a b c then with_product (file_of text a) (file_of text b) (file_of text c) else None
+files_in text (a ∷ b ∷ c ∷ d ∷ tokens) = None
+
+abbrev pub files_by : List ℕ → Lexed → Option Files
+files_by text (Ok tokens) = files_in text tokens
+files_by text (Err fault) = None
+
+-- `PRODUCT SERIAL CONNECT`: each is a dash, or a string of a rule's text
+abbrev pub files_of : List ℕ → Option Files
+files_of text = files_by text (tokens_of text)
+
+abbrev pub with_files : List ℕ → Bool → List ℕ → Option Files → Option Device
+with_files name on descriptors None = None
+with_files name on descriptors (Some files) = Some (record { name = name; parent = None; descriptors = descriptors; product = files.product; serial = files.serial; connect = files.connect; gone = false; on = on })
+
+abbrev pub with_descriptors : List ℕ → Bool → Option (List ℕ) → List ℕ → Option Device
+with_descriptors name on None text = None
+with_descriptors name on (Some descriptors) text = with_files name on descriptors (files_of text)
+
+-- the descriptors stand before the first space
+abbrev pub split_descriptors : List ℕ → Bool → Option ℕ → List ℕ → Option Device
+split_descriptors name on None text = None
+split_descriptors name on (Some space) text = with_descriptors name on (bytes_of (take space text)) (drop (space + 1) text)
+
+-- a start, the descriptors and the texts
+abbrev pub with_start : List ℕ → List ℕ → Option Device
+with_start name text =
+    if starts_with nat_eq text (codes "0 ") then split_descriptors name false (position (nat_eq 32) (drop 2 text)) (drop 2 text)
+    else if starts_with nat_eq text (codes "1 ") then split_descriptors name true (position (nat_eq 32) (drop 2 text)) (drop 2 text)
+    else None
+
+abbrev pub with_name : Option (List ℕ) → List ℕ → Option Device
+with_name None text = None
+with_name (Some name) text = with_start name text
+
+-- the name stands before the first space
+abbrev pub split_name : Option ℕ → List ℕ → Option Device
+split_name None text = None
+split_name (Some space) text = with_name (name_of (take space text)) (drop (space + 1) text)
+
+-- `NAME START DESC PRODUCT SERIAL CONNECT`
+unfoldable pub device_of : List ℕ → Option Device
+device_of text = split_name (position (nat_eq 32) text) text
