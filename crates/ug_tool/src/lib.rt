@@ -18,6 +18,8 @@ mod grammar_tests;
 #[cfg(test)]
 mod limit_tests;
 #[cfg(test)]
+mod policy_tests;
+#[cfg(test)]
 mod sweep_tests;
 #[cfg(test)]
 mod tests;
