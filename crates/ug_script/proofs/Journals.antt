@@ -1,6 +1,6 @@
 -- What is written is the text of the journal, each effect is explained, numbers follow one another, and a script without
 -- failures names nobody and judges each device once.
-use Rattle.std.proofs.Common.{◌≡◌, ℕ, ◌+◌, Bool, true, false, not, ◌&&◌, ◌||◌, cond, nat_eq, nat_lt, List, [], ◌∷◌, ◌++◌, length, Option, Some, None, inl, inr, refl, sym, ◌∙◌, ap, subst, append_assoc, append-nil}
+use Rattle.std.proofs.Common.{◌≡◌, ℕ, ◌+◌, Bool, true, false, not, ◌&&◌, ◌||◌, cond, nat_eq, nat_lt, List, [], ◌∷◌, ◌++◌, length, reverse, Option, Some, None, inl, inr, refl, sym, ◌∙◌, ap, subst, append_assoc, append-nil}
 use Rattle.std.specs.Cmp.Lexicographic.{pointwise}
 use Rattle.std.specs.List.{list_any}
 use Rattle.ug_types.specs.Elements.{Has}
@@ -29,48 +29,53 @@ use Rattle.ug_core.specs.Laws.{Handled}
 use Rattle.ug_policy.specs.declared.entry.RuleEntry.{RuleEntry}
 use Rattle.ug_lines.specs.Fold.{Fault, BadLine, Outcome, Writes, Refused, Stage, Going, Halted, is_within, stage_after, plays}
 use Rattle.ug_script.specs.declared.step.Step.{Step}
-use Rattle.ug_script.specs.declared.step.Step.TheVariants.{Skip, Rule, Plug, Unplug, Sweep}
+use Rattle.ug_script.specs.declared.step.Step.TheVariants.{Skip, Rule, Plug, Unplug, Schedule, Fail, Sweep}
 use Rattle.ug_script.specs.Grammar.{step_of_line}
 use Rattle.ug_script.specs.Replay.{Script, with_rule, header, fresh, terminated, lines_text, quiet, bad, rules_of, is_plain, has_place, with_devices, after_event, taken, taken_if, script_step}
-use Rattle.ug_script.specs.Journal.{noted_by, noted, left_by, journal, IsExplained, IsJudgedOnce, JudgesOnce, Recorded, StaysRecorded}
+use Rattle.ug_sysfs.specs.declared.script.Failing.{Failing}
+use Rattle.ug_sysfs.specs.declared.script.Scheduled.{Scheduled}
+use Rattle.ug_script.specs.Schedule.{with_move, arranged}
+use Rattle.ug_script.specs.Laws.{event_of}
+use Rattle.ug_script.specs.Journal.{is_quiet, AreQuiet, noted_by, noted, left_by, journal, IsExplained, IsJudgedOnce, JudgesOnce, Recorded, StaysRecorded}
 use Rattle.ug_script.proofs.Accounts.{judge_stays}
 use Rattle.ug_script.proofs.Recorded.{explained_nowhere, Facts, facts_grow, framed, swept_facts, judged_once}
-use Rattle.ug_script.proofs.Lawful.{Holds, HoldsIn, HoldsAfter, plays_sweep, handled, swept_holds, taken_holds, no_standing}
+use Rattle.ug_script.proofs.Lawful.{Holds, arranged_holds, HoldsIn, HoldsAfter, plays_sweep, handled, swept_holds, taken_holds, no_standing}
 
 lines_more : (es fs : List Entry) → lines_text (es ++ fs) ≡ lines_text es ++ lines_text fs
 lines_more [] fs = refl
 lines_more (e ∷ es) fs = ap (λ (l : List ℕ). terminated e ++ l) (lines_more es fs) ∙ sym (append_assoc (terminated e) (lines_text es) (lines_text fs))
 
-record Kept (first : World) (entries : List Entry) (text : List ℕ) (s : Script) (w : World) : Type 0 where
+record Kept (first : World) (quiet : Type 0) (entries : List Entry) (text : List ℕ) (s : Script) (w : World) : Type 0 where
   holds : HoldsIn (Some s, w)
   since : Grows first.kernel w.kernel
   setup : s.setup ≡ true → (entries ≡ []) × (s.daemon.sweep.standings ≡ [])
   facts : Facts (rules_of s) first.kernel entries w.kernel s.daemon.sweep.standings s.daemon.sweep.next
   written : text ≡ lines_text entries
-  nobody : first.fails ≡ [] → NameNobody entries
-  unscheduled : first.fails ≡ [] → w.fails ≡ []
-  unmoved : first.moves ≡ [] → w.moves ≡ []
+  nobody : quiet → first.fails ≡ [] → NameNobody entries
+  unfailing : quiet → first.fails ≡ [] → w.fails ≡ []
+  unmoved : quiet → first.moves ≡ [] → w.moves ≡ []
+  unscheduled : quiet → s.moves ≡ []
 
-abbrev KeptIn : World → List Entry → List ℕ → Option Script × World → Type 0
-KeptIn first es text (None, w) = HoldsIn (None, w) × (es ≡ []) × (text ≡ []) × (w ≡ first)
-KeptIn first es text (Some s, w) = Kept first es text s w
+abbrev KeptIn : World → Type 0 → List Entry → List ℕ → Option Script × World → Type 0
+KeptIn first q es text (None, w) = HoldsIn (None, w) × (es ≡ []) × (text ≡ []) × (w ≡ first)
+KeptIn first q es text (Some s, w) = Kept first q es text s w
 
 -- where a line that notes these leads
-abbrev KeptAfter : World → List Entry → List ℕ → List Entry → Outcome (Option Script × World) → Type 0
-KeptAfter first es text new (Writes more p) = KeptIn first (es ++ new) (text ++ more) p
-KeptAfter first es text new (Refused fault p) = Unit {0}
+abbrev KeptAfter : World → Type 0 → List Entry → List ℕ → List Entry → Outcome (Option Script × World) → Type 0
+KeptAfter first q es text new (Writes more p) = KeptIn first q (es ++ new) (text ++ more) p
+KeptAfter first q es text new (Refused fault p) = Unit {0}
 
-abbrev KeptAt : World → List Entry → Stage (Option Script × World) → Type 0
-KeptAt first es (Going n text p) = KeptIn first es text p
-KeptAt first es (Halted fault n text p) = Unit {0}
+abbrev KeptAt : World → Type 0 → List Entry → Stage (Option Script × World) → Type 0
+KeptAt first q es (Going n text p) = KeptIn first q es text p
+KeptAt first q es (Halted fault n text p) = Unit {0}
 
 -- nothing is noted and nothing is written
-kept_still : (first : World) (es : List Entry) (text : List ℕ) (p : Option Script × World) → KeptIn first es text p → KeptIn first (es ++ []) (text ++ []) p
-kept_still first es text p h = subst (λ (v : List Entry). KeptIn first v (text ++ []) p) (sym (append-nil es)) (subst (λ (v : List ℕ). KeptIn first es v p) (sym (append-nil text)) h)
+kept_still : (first : World) (q : Type 0) (es : List Entry) (text : List ℕ) (p : Option Script × World) → KeptIn first q es text p → KeptIn first q (es ++ []) (text ++ []) p
+kept_still first q es text p h = subst (λ (v : List Entry). KeptIn first q v (text ++ []) p) (sym (append-nil es)) (subst (λ (v : List ℕ). KeptIn first q es v p) (sym (append-nil text)) h)
 
 -- a rule more, before anything else
-kept_rule : (first : World) (es : List Entry) (text : List ℕ) (rule : types.Rule) (s : Script) (w : World) → s.setup ≡ true → Kept first es text s w → Kept first es text (record s { daemon = with_rule rule s.daemon }) w
-kept_rule first es text rule s w setup h =
+kept_rule : (first : World) (q : Type 0) (es : List Entry) (text : List ℕ) (rule : types.Rule) (s : Script) (w : World) → s.setup ≡ true → Kept first q es text s w → Kept first q es text (record s { daemon = with_rule rule s.daemon }) w
+kept_rule first q es text rule s w setup h =
     let none = h.setup setup in
     let f = h.facts in
     record {
@@ -85,21 +90,22 @@ kept_rule first es text rule s w setup h =
       };
       written = h.written;
       nobody = h.nobody;
-      unscheduled = h.unscheduled;
+      unfailing = h.unfailing;
       unmoved = h.unmoved;
+      unscheduled = h.unscheduled;
     }
 
 both : (a b : Bool) → (a && b) ≡ true → a ≡ true
 both true b e = refl
 both false b e = let none : ⊥ = cc in absurd none
 
-kept_rule_if : (first : World) (es : List Entry) (text : List ℕ) (rule : types.Rule) (s : Script) (w : World) (b : Bool) → (b ≡ true → s.setup ≡ true) → Kept first es text s w → KeptAfter first es text [] (cond b (quiet (record s { daemon = with_rule rule s.daemon }) w) (bad s w))
-kept_rule_if first es text rule s w true f h = kept_still first es text (Some (record s { daemon = with_rule rule s.daemon }), w) (kept_rule first es text rule s w (f refl) h)
-kept_rule_if first es text rule s w false f h = tt
+kept_rule_if : (first : World) (q : Type 0) (es : List Entry) (text : List ℕ) (rule : types.Rule) (s : Script) (w : World) (b : Bool) → (b ≡ true → s.setup ≡ true) → Kept first q es text s w → KeptAfter first q es text [] (cond b (quiet (record s { daemon = with_rule rule s.daemon }) w) (bad s w))
+kept_rule_if first q es text rule s w true f h = kept_still first q es text (Some (record s { daemon = with_rule rule s.daemon }), w) (kept_rule first q es text rule s w (f refl) h)
+kept_rule_if first q es text rule s w false f h = tt
 
 -- devices come and go
-kept_moves : (first : World) (es : List Entry) (text : List ℕ) (s : Script) (w v : World) → HoldsIn (Some s, v) → Moves w.kernel v.kernel → v.fails ≡ w.fails → v.moves ≡ w.moves → Kept first es text s w → Kept first es text (record s { setup = false }) v
-kept_moves first es text s w v holds m fails moves h =
+kept_moves : (first : World) (q : Type 0) (es : List Entry) (text : List ℕ) (s : Script) (w v : World) → HoldsIn (Some s, v) → Moves w.kernel v.kernel → v.fails ≡ w.fails → v.moves ≡ w.moves → Kept first q es text s w → Kept first q es text (record s { setup = false }) v
+kept_moves first q es text s w v holds m fails moves h =
     let g = quiet_grows w.kernel v.kernel (moves_quiet w.kernel v.kernel m) in
     record {
       holds = holds;
@@ -108,8 +114,9 @@ kept_moves first es text s w v holds m fails moves h =
       facts = facts_grow (rules_of s) first.kernel es w.kernel v.kernel s.daemon.sweep.standings s.daemon.sweep.next g m.log h.facts;
       written = h.written;
       nobody = h.nobody;
-      unscheduled = λ e. fails ∙ h.unscheduled e;
-      unmoved = λ e. moves ∙ h.unmoved e;
+      unfailing = λ x e. fails ∙ h.unfailing x e;
+      unmoved = λ x e. moves ∙ h.unmoved x e;
+      unscheduled = h.unscheduled;
     }
 
 -- an event
@@ -133,10 +140,10 @@ event_rules moment k l d e law =
     let v : State Judging = law.swept in
     ap (λ (z : State Judging). as_given z.judge.rules) law.entries ∙ judge_stays (not d.sweep.listed) k l d.sweep.standings k.log (event.begun d moment).judge d.sweep.next law.law.fair.rest l.log v.judge v.next law.law.fair.account
 
-event_kept : (first : World) (es : List Entry) (text : List ℕ) (moment : Moment) (s : Script) (w : World) → HoldsAfter (after_event (play (handling moment s.daemon) (begun w))) → Kept first es text s w → KeptAfter first es text (play (handling moment s.daemon) (begun w)).0.sweep.entries (after_event (play (handling moment s.daemon) (begun w)))
-event_kept first es text moment s w holds h =
-    let p = play (handling moment s.daemon) (begun w) in
-    let law = handled moment s.daemon w h.holds in
+event_kept : (first : World) (q : Type 0) (es : List Entry) (text : List ℕ) (moment : Moment) (s : Script) (w : World) → HoldsAfter (after_event (event_of moment s w)) → Kept first q es text s w → KeptAfter first q es text (event_of moment s w).0.sweep.entries (after_event (event_of moment s w))
+event_kept first q es text moment s w holds h =
+    let p = event_of moment s w in
+    let law = handled moment s.daemon (arranged s.moves w) (arranged_holds s.daemon.sweep.standings s.daemon.sweep.next s.moves w h.holds) in
     let m = happened_moves p.1.moves p.1.kernel in
     let g : Grows p.1.kernel (over p.1).kernel = quiet_grows p.1.kernel (over p.1).kernel (moves_quiet p.1.kernel (over p.1).kernel m) in
     let facts = event_facts first.kernel es moment w.kernel p.1.kernel s.daemon p.0 h.since h.holds.stand h.facts law in
@@ -146,9 +153,10 @@ event_kept first es text moment s w holds h =
       setup = λ e. let none : ⊥ = cc in absurd none;
       facts = facts_grow (as_given p.0.sweep.judge.rules) first.kernel (es ++ p.0.sweep.entries) p.1.kernel (over p.1).kernel p.0.sweep.standings p.0.sweep.next g m.log facts;
       written = ap (λ (z : List ℕ). z ++ lines_text p.0.sweep.entries) h.written ∙ sym (lines_more es p.0.sweep.entries);
-      nobody = λ q. nobody_more es p.0.sweep.entries (h.nobody q) (nobody_in_event moment s.daemon w h.holds.told (h.unscheduled q));
-      unscheduled = λ q. refl;
-      unmoved = λ q. refl;
+      nobody = λ x e. nobody_more es p.0.sweep.entries (h.nobody x e) (nobody_in_event moment s.daemon (arranged s.moves w) h.holds.told (h.unfailing x e));
+      unfailing = λ x e. refl;
+      unmoved = λ x e. refl;
+      unscheduled = λ x. refl;
     }
 
 neither : (a b : Bool) → (a || b) ≡ false → (a ≡ false) × (b ≡ false)
@@ -169,19 +177,20 @@ nobody_left (e ∷ es) fs n =
     ap (λ (b : Bool). b || list_any names_somebody es) x.0 ∙ nobody_left es fs x.1
 
 -- where nobody is named, each live device was judged once and stands as judged
-event_once : (first : World) (es : List Entry) (text : List ℕ) (s : Script) (w : World) → Kept first es text s w → first.fails ≡ [] → first.moves ≡ [] → (moment : Moment) → JudgesOnce (rules_of s) es first.kernel (play (handling moment s.daemon) (begun w))
-event_once first es text s w h fails moves moment i d live =
-    let p = play (handling moment s.daemon) (begun w) in
+event_once : (first : World) (q : Type 0) (es : List Entry) (text : List ℕ) (s : Script) (w : World) → Kept first q es text s w → q → first.fails ≡ [] → first.moves ≡ [] → (moment : Moment) → JudgesOnce (rules_of s) es first.kernel (event_of moment s w)
+event_once first q es text s w h quiet_lines fails moves moment i d live =
+    let p = event_of moment s w in
     let l : Kernel = p.1.kernel in
-    let law = handled moment s.daemon w h.holds in
+    let law = handled moment s.daemon (arranged s.moves w) (arranged_holds s.daemon.sweep.standings s.daemon.sweep.next s.moves w h.holds) in
+    let none : w.moves ++ reverse s.moves ≡ [] = ap (λ (v : List Scheduled). w.moves ++ reverse v) (h.unscheduled quiet_lines) ∙ append-nil w.moves ∙ h.unmoved quiet_lines moves in
     let facts = event_facts first.kernel es moment w.kernel l s.daemon p.0 h.since h.holds.stand h.facts law in
     let stood : Stand l p.0.sweep.standings p.0.sweep.next = rw law.entries law.law.fair.stand in
-    let lived = lived_in_play (handling moment s.daemon) (begun w) (h.unmoved moves) law.law.fair.grows i d live in
+    let lived = lived_in_play (handling moment s.daemon) (begun (arranged s.moves w)) none law.law.fair.grows i d live in
     let y : Entry = entry.End s.daemon.event in
     let x : Entry = entry.Event s.daemon.event moment in
     let rest : List Entry = law.law.fair.rest in
     let all : p.0.sweep.entries ≡ framed x rest y = ap (λ (z : State Judging). z.entries) law.entries ∙ ap (λ (z : List Entry). z ++ y ∷ []) law.law.fair.entries in
-    let quiet : NameNobody ((x ∷ []) ++ rest) = nobody_left ((x ∷ []) ++ rest) (y ∷ []) (subst NameNobody all (nobody_in_event moment s.daemon w h.holds.told (h.unscheduled fails))) in
+    let quiet : NameNobody ((x ∷ []) ++ rest) = nobody_left ((x ∷ []) ++ rest) (y ∷ []) (subst NameNobody all (nobody_in_event moment s.daemon (arranged s.moves w) h.holds.told (h.unfailing quiet_lines fails))) in
     let as_judged : IsAsJudged l law.swept.standings i = elim (law.law.settled i lived.0 lived.1) [
       | inl a ↦ a
       | inr named ↦ elim named [
@@ -193,40 +202,81 @@ event_once first es text s w h fails moves moment i d live =
     let once = judged_once (as_given p.0.sweep.judge.rules) first.kernel (es ++ p.0.sweep.entries) l p.0.sweep.standings p.0.sweep.next i d stood facts live here in
     subst (λ (r : List RuleEntry). IsJudgedOnce r (es ++ p.0.sweep.entries) first.kernel l p.0.sweep.standings i) (event_rules moment w.kernel l s.daemon p.0 law) once
 
-recorded : (first : World) (es : List Entry) (text : List ℕ) (s : Script) (w : World) → Kept first es text s w → Recorded first es text s w
-recorded first es text s w h = record {
+recorded : (first : World) (lines : List (List ℕ)) (es : List Entry) (text : List ℕ) (s : Script) (w : World) → Kept first (AreQuiet lines) es text s w → Recorded first lines es text s w
+recorded first lines es text s w h = record {
   written = h.written;
   explained = h.facts.explained;
   numbers = h.facts.numbers;
   nobody = h.nobody;
-  once = event_once first es text s w h;
+  once = event_once first (AreQuiet lines) es text s w h;
 }
+
+-- what needs less
+weaker : (first : World) (q r : Type 0) (es : List Entry) (text : List ℕ) (s : Script) (w : World) → (r → q) → Kept first q es text s w → Kept first r es text s w
+weaker first q r es text s w f h = record {
+  holds = h.holds;
+  since = h.since;
+  setup = h.setup;
+  facts = h.facts;
+  written = h.written;
+  nobody = λ x. h.nobody (f x);
+  unfailing = λ x. h.unfailing (f x);
+  unmoved = λ x. h.unmoved (f x);
+  unscheduled = λ x. h.unscheduled (f x);
+}
+
+weaker_in : (first : World) (q r : Type 0) (es : List Entry) (text : List ℕ) (p : Option Script × World) → (r → q) → KeptIn first q es text p → KeptIn first r es text p
+weaker_in first q r es text (None, w) f h = h
+weaker_in first q r es text (Some s, w) f h = weaker first q r es text s w f h
+
+weaker_after : (first : World) (q r : Type 0) (es : List Entry) (text : List ℕ) (new : List Entry) (o : Outcome (Option Script × World)) → (r → q) → KeptAfter first q es text new o → KeptAfter first r es text new o
+weaker_after first q r es text new (Writes more p) f h = weaker_in first q r (es ++ new) (text ++ more) p f h
+weaker_after first q r es text new (Refused fault p) f h = h
 
 -- a line
 
-kept_if : (first : World) (es : List Entry) (text : List ℕ) (new other : List Entry) (b : Bool) (o p : Outcome (Option Script × World)) → (b ≡ true → KeptAfter first es text new o) → (b ≡ false → KeptAfter first es text other p) → KeptAfter first es text (cond b new other) (cond b o p)
-kept_if first es text new other true o p x y = x refl
-kept_if first es text new other false o p x y = y refl
+kept_if : (first : World) (q : Type 0) (es : List Entry) (text : List ℕ) (new other : List Entry) (b : Bool) (o p : Outcome (Option Script × World)) → (b ≡ true → KeptAfter first q es text new o) → (b ≡ false → KeptAfter first q es text other p) → KeptAfter first q es text (cond b new other) (cond b o p)
+kept_if first q es text new other true o p x y = x refl
+kept_if first q es text new other false o p x y = y refl
 
-step_kept : (first : World) (es : List Entry) (text : List ℕ) (step : Step) (s : Script) (w : World) → Kept first es text s w → KeptAfter first es text (noted_by (Some step) s w) (taken step s w)
-step_kept first es text Skip s w h = kept_still first es text (Some s, w) h
-step_kept first es text (Rule rule) s w h = kept_rule_if first es text rule s w (s.setup && (is_plain rule && has_place s.daemon)) (λ e. both s.setup (is_plain rule && has_place s.daemon) e) h
-step_kept first es text (Plug device) s w h =
+abbrev IsQuiet : Option Step → Type 0
+IsQuiet step = is_quiet step ≡ true
+
+-- a step that schedules something
+kept_scheduled : (first : World) (q : Type 0) (es : List Entry) (text : List ℕ) (s : Script) (w : World) (ms : List Scheduled) (fs : List Failing) → Kept first q es text s w → Kept first (q × (false ≡ true)) es text (record s { setup = false; moves = ms }) (record w { fails = fs })
+kept_scheduled first q es text s w ms fs h = record {
+  holds = record { told = h.holds.told; sound = h.holds.sound; stand = h.holds.stand };
+  since = h.since;
+  setup = λ e. let none : ⊥ = cc in absurd none;
+  facts = h.facts;
+  written = h.written;
+  nobody = λ x. let none : false ≡ true = x.1 in let no_one : ⊥ = cc in absurd no_one;
+  unfailing = λ x. let none : false ≡ true = x.1 in let no_one : ⊥ = cc in absurd no_one;
+  unmoved = λ x. let none : false ≡ true = x.1 in let no_one : ⊥ = cc in absurd no_one;
+  unscheduled = λ x. let none : false ≡ true = x.1 in let no_one : ⊥ = cc in absurd no_one;
+}
+
+step_kept : (first : World) (q : Type 0) (es : List Entry) (text : List ℕ) (step : Step) (s : Script) (w : World) → Kept first q es text s w → KeptAfter first (q × IsQuiet (Some step)) es text (noted_by (Some step) s w) (taken step s w)
+step_kept first q es text Skip s w h = weaker_after first q (q × (true ≡ true)) es text [] (quiet s w) (λ x. x.0) (kept_still first q es text (Some s, w) h)
+step_kept first q es text (Rule rule) s w h = weaker_after first q (q × (true ≡ true)) es text [] (taken (Rule rule) s w) (λ x. x.0) (kept_rule_if first q es text rule s w (s.setup && (is_plain rule && has_place s.daemon)) (λ e. both s.setup (is_plain rule && has_place s.daemon) e) h)
+step_kept first q es text (Plug device) s w h =
     let v : World = with_devices (plugged device w.kernel.devices) w in
-    kept_still first es text (Some (record s { setup = false }), v) (kept_moves first es text s w v (taken_holds (Plug device) s w h.holds) (plugged_moves device w.kernel) refl refl h)
-step_kept first es text (Unplug name) s w h =
+    weaker_after first q (q × (true ≡ true)) es text [] (taken (Plug device) s w) (λ x. x.0) (kept_still first q es text (Some (record s { setup = false }), v) (kept_moves first q es text s w v (taken_holds (Plug device) s w h.holds) (plugged_moves device w.kernel) refl refl h))
+step_kept first q es text (Unplug name) s w h =
     let v : World = with_devices (unplugged name w.kernel.devices) w in
-    kept_still first es text (Some (record s { setup = false }), v) (kept_moves first es text s w v (taken_holds (Unplug name) s w h.holds) (unplugged_moves name w.kernel) refl refl h)
-step_kept first es text (Sweep moment) s w h =
-    let p = play (handling moment s.daemon) (begun w) in
-    kept_if first es text p.0.sweep.entries [] (has_numbers s.daemon w.faults 0) (after_event p) (bad s w) (λ e. event_kept first es text moment s w (swept_holds moment s.daemon w h.holds) h) (λ e. tt)
+    weaker_after first q (q × (true ≡ true)) es text [] (taken (Unplug name) s w) (λ x. x.0) (kept_still first q es text (Some (record s { setup = false }), v) (kept_moves first q es text s w v (taken_holds (Unplug name) s w h.holds) (unplugged_moves name w.kernel) refl refl h))
+step_kept first q es text (Schedule m) s w h = kept_still first (q × (false ≡ true)) es text (Some (record s { setup = false; moves = with_move m s.moves }), w) (kept_scheduled first q es text s w (with_move m s.moves) w.fails h)
+step_kept first q es text (Fail f) s w h = kept_still first (q × (false ≡ true)) es text (Some (record s { setup = false }), record w { fails = w.fails ++ f ∷ [] }) (kept_scheduled first q es text s w s.moves (w.fails ++ f ∷ []) h)
+step_kept first q es text (Sweep moment) s w h =
+    let p = event_of moment s w in
+    weaker_after first q (q × (true ≡ true)) es text (noted_by (Some (Sweep moment)) s w) (taken (Sweep moment) s w) (λ x. x.0) (kept_if first q es text p.0.sweep.entries [] (has_numbers s.daemon w.faults 0) (after_event p) (bad s w) (λ e. event_kept first q es text moment s w (swept_holds moment s w h.holds) h) (λ e. tt))
 
-line_kept : (first : World) (es : List Entry) (text : List ℕ) (step : Option Step) (s : Script) (w : World) → Kept first es text s w → KeptAfter first es text (noted_by step s w) (taken_if step s w)
-line_kept first es text None s w h = tt
-line_kept first es text (Some step) s w h = step_kept first es text step s w h
+line_kept : (first : World) (q : Type 0) (es : List Entry) (text : List ℕ) (step : Option Step) (s : Script) (w : World) → Kept first q es text s w → KeptAfter first (q × IsQuiet step) es text (noted_by step s w) (taken_if step s w)
+line_kept first q es text None s w h = tt
+line_kept first q es text (Some step) s w h = step_kept first q es text step s w h
 
-kept_fresh : (first : World) → Holds [] 1 first → Kept first [] [] fresh first
-kept_fresh first h = record {
+kept_fresh : (first : World) (q : Type 0) → Holds [] 1 first → Kept first q [] [] fresh first
+kept_fresh first q h = record {
   holds = h;
   since = grows_refl first.kernel;
   setup = λ e. (refl, refl);
@@ -237,22 +287,24 @@ kept_fresh first h = record {
     known = λ number name held verdict cause a. absurd a;
   };
   written = refl;
-  nobody = λ q. refl;
-  unscheduled = λ q. q;
-  unmoved = λ q. q;
+  nobody = λ x e. refl;
+  unfailing = λ x e. e;
+  unmoved = λ x e. e;
+  unscheduled = λ x. refl;
 }
 
-first_kept : (first : World) (b : Bool) → Holds [] 1 first → KeptAfter first [] [] [] (cond b (quiet fresh first) (Refused BadLine (None, first)))
-first_kept first true h = kept_fresh first h
-first_kept first false h = tt
+first_kept : (first : World) (q : Type 0) (b : Bool) → Holds [] 1 first → KeptAfter first q [] [] [] (cond b (quiet fresh first) (Refused BadLine (None, first)))
+first_kept first q true h = kept_fresh first q h
+first_kept first q false h = tt
 
-take_kept : (first : World) (es : List Entry) (text : List ℕ) (p : Option Script × World) (line : List ℕ) → KeptIn first es text p → KeptAfter first es text (noted p line) (script_step p line)
-take_kept first es text (None, w) line h =
-    subst (λ (v : World). KeptAfter first es text [] (script_step (None, v) line)) (sym h.3)
-    (subst (λ (v : List Entry). KeptAfter first v text [] (script_step (None, first) line)) (sym h.1)
-    (subst (λ (v : List ℕ). KeptAfter first [] v [] (script_step (None, first) line)) (sym h.2)
-    (first_kept first (pointwise nat_eq line header) (subst (λ (v : World). Holds [] 1 v) h.3 h.0))))
-take_kept first es text (Some s, w) line h = line_kept first es text (step_of_line line) s w h
+take_kept : (first : World) (q : Type 0) (es : List Entry) (text : List ℕ) (p : Option Script × World) (line : List ℕ) → KeptIn first q es text p → KeptAfter first (q × IsQuiet (step_of_line line)) es text (noted p line) (script_step p line)
+take_kept first q es text (None, w) line h =
+    let r : Type 0 = q × IsQuiet (step_of_line line) in
+    subst (λ (v : World). KeptAfter first r es text [] (script_step (None, v) line)) (sym h.3)
+    (subst (λ (v : List Entry). KeptAfter first r v text [] (script_step (None, first) line)) (sym h.1)
+    (subst (λ (v : List ℕ). KeptAfter first r [] v [] (script_step (None, first) line)) (sym h.2)
+    (first_kept first r (pointwise nat_eq line header) (subst (λ (v : World). Holds [] 1 v) h.3 h.0))))
+take_kept first q es text (Some s, w) line h = line_kept first q es text (step_of_line line) s w h
 
 -- lines one after another
 
@@ -264,20 +316,22 @@ halted fault n text p (line ∷ lines) = halted fault n text p lines
 never : (fault : Fault) (n : ℕ) (text : List ℕ) (p : Option Script × World) (lines : List (List ℕ)) (m : ℕ) (out : List ℕ) (q : Option Script × World) → plays script_step (Halted fault n text p) lines ≡ Going m out q → ⊥
 never fault n text p lines m out q e = let h : Halted fault n text p ≡ Going m out q = sym (halted fault n text p lines) ∙ e in let none : ⊥ = cc in none
 
-rest_kept : (first : World) (es : List Entry) (n : ℕ) (text : List ℕ) (p : Option Script × World) (new : List Entry) (lines : List (List ℕ)) (m : ℕ) (out : List ℕ) (s : Script) (w : World)
-    → ((fs : List Entry) (more : List ℕ) (q : Option Script × World) → KeptIn first fs more q → plays script_step (Going (n + 1) more q) lines ≡ Going m out (Some s, w) → Kept first (fs ++ journal q lines) out s w)
-    → (b : Bool) (o : Outcome (Option Script × World)) → KeptAfter first es text new o → plays script_step (cond b (stage_after n text o) (Halted BadLine n text p)) lines ≡ Going m out (Some s, w) → Kept first (es ++ (new ++ journal (left_by o) lines)) out s w
-rest_kept first es n text p new lines m out s w again true (Writes more next) k e = subst (λ (v : List Entry). Kept first v out s w) (append_assoc es new (journal next lines)) (again (es ++ new) (text ++ more) next k e)
-rest_kept first es n text p new lines m out s w again true (Refused fault next) k e = absurd (never fault n text next lines m out (Some s, w) e)
-rest_kept first es n text p new lines m out s w again false o k e = absurd (never BadLine n text p lines m out (Some s, w) e)
+rest_kept : (first : World) (q r : Type 0) (es : List Entry) (n : ℕ) (text : List ℕ) (p : Option Script × World) (new : List Entry) (lines : List (List ℕ)) (m : ℕ) (out : List ℕ) (s : Script) (w : World)
+    → ((fs : List Entry) (more : List ℕ) (next : Option Script × World) → KeptIn first q fs more next → plays script_step (Going (n + 1) more next) lines ≡ Going m out (Some s, w) → Kept first r (fs ++ journal next lines) out s w)
+    → (b : Bool) (o : Outcome (Option Script × World)) → KeptAfter first q es text new o → plays script_step (cond b (stage_after n text o) (Halted BadLine n text p)) lines ≡ Going m out (Some s, w) → Kept first r (es ++ (new ++ journal (left_by o) lines)) out s w
+rest_kept first q r es n text p new lines m out s w again true (Writes more next) k e = subst (λ (v : List Entry). Kept first r v out s w) (append_assoc es new (journal next lines)) (again (es ++ new) (text ++ more) next k e)
+rest_kept first q r es n text p new lines m out s w again true (Refused fault next) k e = absurd (never fault n text next lines m out (Some s, w) e)
+rest_kept first q r es n text p new lines m out s w again false o k e = absurd (never BadLine n text p lines m out (Some s, w) e)
 
-lines_kept : (first : World) (lines : List (List ℕ)) (es : List Entry) (n : ℕ) (text : List ℕ) (p : Option Script × World) (m : ℕ) (out : List ℕ) (s : Script) (w : World) → KeptIn first es text p → plays script_step (Going n text p) lines ≡ Going m out (Some s, w) → Kept first (es ++ journal p lines) out s w
-lines_kept first [] es n text p m out s w h e =
-    subst (λ (v : List Entry). Kept first v out s w) (sym (append-nil es)) (subst (λ (v : Stage (Option Script × World)). KeptAt first es v) e h)
-lines_kept first (line ∷ lines) es n text p m out s w h e =
-    rest_kept first es n text p (noted p line) lines m out s w (λ fs more q k f. lines_kept first lines fs (n + 1) more q m out s w k f) (is_within n line) (script_step p line) (take_kept first es text p line h) e
+lines_kept : (first : World) (q : Type 0) (lines : List (List ℕ)) (es : List Entry) (n : ℕ) (text : List ℕ) (p : Option Script × World) (m : ℕ) (out : List ℕ) (s : Script) (w : World) → KeptIn first q es text p → plays script_step (Going n text p) lines ≡ Going m out (Some s, w) → Kept first (q × AreQuiet lines) (es ++ journal p lines) out s w
+lines_kept first q [] es n text p m out s w h e =
+    weaker first q (q × Unit {0}) (es ++ []) out s w (λ x. x.0) (subst (λ (v : List Entry). Kept first q v out s w) (sym (append-nil es)) (subst (λ (v : Stage (Option Script × World)). KeptAt first q es v) e h))
+lines_kept first q (line ∷ lines) es n text p m out s w h e =
+    let r : Type 0 = q × IsQuiet (step_of_line line) in
+    weaker first (r × AreQuiet lines) (q × AreQuiet (line ∷ lines)) (es ++ journal p (line ∷ lines)) out s w (λ x. ((x.0, x.1.0), x.1.1))
+    (rest_kept first r (r × AreQuiet lines) es n text p (noted p line) lines m out s w (λ fs more next k f. lines_kept first r lines fs (n + 1) more next m out s w k f) (is_within n line) (script_step p line) (take_kept first q es text p line h) e)
 
 pub stays_recorded : (w : World) → w.ran_out ≡ false → IsKernel w.kernel → StaysRecorded w
 stays_recorded first run sound lines n text s w e =
     let journalled : List Entry = journal (None, first) lines in
-    recorded first journalled text s w (lines_kept first lines [] 0 [] (None, first) n text s w (record { told = run; sound = sound; stand = no_standing first.kernel }, refl, refl, refl) e)
+    recorded first lines journalled text s w (weaker first (Unit {0} × AreQuiet lines) (AreQuiet lines) journalled text s w (λ x. (tt, x)) (lines_kept first (Unit {0}) lines [] 0 [] (None, first) n text s w (record { told = run; sound = sound; stand = no_standing first.kernel }, refl, refl, refl) e))

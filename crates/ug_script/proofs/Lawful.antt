@@ -1,5 +1,5 @@
 -- Each line keeps the kernel sound and each standing of a device.
-use Rattle.std.proofs.Common.{◌≡◌, ℕ, Bool, true, false, ◌&&◌, if◌then◌else◌, nat_eq, nat_lt, List, [], ◌∷◌, length, Option, Some, None, refl, sym, ◌∙◌, subst}
+use Rattle.std.proofs.Common.{◌≡◌, ℕ, ◌+◌, ◌++◌, Bool, true, false, ◌&&◌, if◌then◌else◌, nat_eq, nat_lt, List, [], ◌∷◌, length, Option, Some, None, refl, sym, ◌∙◌, subst}
 use Rattle.std.specs.Cmp.Lexicographic.{pointwise}
 use Rattle.std.proofs.lemmas.Option.{same_Some}
 use Rattle.ug_types.specs.declared.verdict.Moment.{Moment}
@@ -8,27 +8,39 @@ use Rattle.ug_kernel.proofs.Grow.{quiet_grows}
 use Rattle.ug_kernel.proofs.Quiet.{moves_quiet}
 use Rattle.ug_sysfs.specs.Devices.{plugged, unplugged}
 use Rattle.ug_sysfs.specs.World.{World, Gives, begun, over, told}
+use Rattle.ug_sysfs.specs.Count.{counts_each}
 use Rattle.ug_sysfs.specs.Law.{does_what_it_may}
 use Rattle.ug_sysfs.specs.Begins.{plugged_moves, unplugged_moves, happened_moves}
 use Rattle.ug_sysfs.specs.Sound.{plugged_sound, unplugged_sound, happened_sound}
+use Rattle.ug_types.specs.Elements.{AllDistinct}
+use Rattle.ug_audit.specs.declared.entry.Entry.TheVariants as entry
 use Rattle.ug_table.specs.State.{State}
 use Rattle.ug_table.specs.Sweep.{sweeping}
 use Rattle.ug_table.specs.Laws.{Stand, Swept}
 use Rattle.ug_table.specs.declared.standing.Standing.{Standing}
 use Rattle.ug_table.proofs.Devices.{stand_stays}
+use Rattle.ug_table.specs.Parts.{unsettled_names}
 use Rattle.ug_table.proofs.Swept.{told_swept}
+use Rattle.ug_table.proofs.Faults.{sweeping_tells}
+use Rattle.ug_table.proofs.Once.{told_once}
 use Rattle.ug_play.specs.Play.{play}
 use Rattle.ug_play.proofs.Plays.{play_runs, play_told, play_then}
 use Rattle.ug_core.specs.Event as event
 use Rattle.ug_core.specs.Policy.{Judging, policy_answer, policy_later}
 use Rattle.ug_core.specs.Event.{DaemonState, handling, has_numbers}
-use Rattle.ug_core.specs.Laws.{Handled}
+use Rattle.ug_core.specs.Laws.{Handled, TellsEvent}
+use Rattle.ug_core.proofs.Failures.{event_tells, event_names}
 use Rattle.ug_lines.specs.Fold.{BadLine, Outcome, Writes, Refused, Stage, Going, Halted, is_within, stage_after, advance, plays}
 use Rattle.ug_script.specs.declared.step.Step.{Step}
-use Rattle.ug_script.specs.declared.step.Step.TheVariants.{Skip, Rule, Plug, Unplug, Sweep}
+use Rattle.ug_script.specs.declared.step.Step.TheVariants.{Skip, Rule, Plug, Unplug, Schedule, Fail, Sweep}
 use Rattle.ug_script.specs.Grammar.{step_of_line}
 use Rattle.ug_script.specs.Replay.{Script, with_rule, header, fresh, quiet, bad, is_plain, has_place, with_devices, after_event, taken, taken_if, script_step}
-use Rattle.ug_script.specs.Laws.{StaysLawful}
+use Rattle.ug_sysfs.specs.declared.script.Scheduled.{Scheduled}
+use Rattle.ug_script.specs.Schedule.{arranged}
+use Rattle.ug_script.specs.Laws.{event_of, Begins, faults_of, IsLawfulEvent, StaysLawful}
+
+abbrev calls_of : World → ℕ
+calls_of w = w.calls
 
 pub record Holds (standings : List Standing) (next : ℕ) (w : World) : Type 0 where
   pub told : w.ran_out ≡ false
@@ -73,12 +85,16 @@ handled moment d w h =
       event = refl;
     })
 
-pub swept_holds : (moment : Moment) (d : DaemonState) (w : World) → Holds d.sweep.standings d.sweep.next w → HoldsAfter (after_event (play (handling moment d) (begun w)))
-swept_holds moment d w h =
-    let p = play (handling moment d) (begun w) in
-    let law = handled moment d w h in
+-- what is scheduled changes no device
+pub arranged_holds : (ss : List Standing) (next : ℕ) (ms : List Scheduled) (w : World) → Holds ss next w → Holds ss next (arranged ms w)
+arranged_holds ss next ms w h = record { told = h.told; sound = h.sound; stand = h.stand }
+
+pub swept_holds : (moment : Moment) (s : Script) (w : World) → Holds s.daemon.sweep.standings s.daemon.sweep.next w → HoldsAfter (after_event (event_of moment s w))
+swept_holds moment s w h =
+    let p = event_of moment s w in
+    let law = handled moment s.daemon (arranged s.moves w) (arranged_holds s.daemon.sweep.standings s.daemon.sweep.next s.moves w h) in
     record {
-      told = play_told (handling moment d) (begun w) h.told;
+      told = play_told (handling moment s.daemon) (begun (arranged s.moves w)) h.told;
       sound = happened_sound p.1.moves p.1.kernel law.law.fair.sound;
       stand = moves_on p.0.sweep.standings p.0.sweep.next p.1.kernel (over p.1).kernel (happened_moves p.1.moves p.1.kernel) (rw law.entries law.law.fair.stand);
     }
@@ -100,7 +116,9 @@ taken_holds (Unplug name) s w h = record {
   sound = unplugged_sound name w.kernel h.sound;
   stand = moves_on s.daemon.sweep.standings s.daemon.sweep.next w.kernel (with_devices (unplugged name w.kernel.devices) w).kernel (unplugged_moves name w.kernel) h.stand;
 }
-taken_holds (Sweep moment) s w h = when (has_numbers s.daemon w.faults 0) (after_event (play (handling moment s.daemon) (begun w))) (bad s w) (swept_holds moment s.daemon w h) h
+taken_holds (Schedule m) s w h = h
+taken_holds (Fail f) s w h = record { told = h.told; sound = h.sound; stand = h.stand }
+taken_holds (Sweep moment) s w h = when (has_numbers s.daemon w.faults 0) (after_event (event_of moment s w)) (bad s w) (swept_holds moment s w h) h
 
 taken_if_holds : (step : Option Step) (s : Script) (w : World) → HoldsIn (Some s, w) → HoldsAfter (taken_if step s w)
 taken_if_holds None s w h = h
@@ -129,7 +147,33 @@ plays_hold (line ∷ lines) stage h = plays_hold lines (advance script_step stag
 pub no_standing : (k : Kernel) → Stand k [] 1
 no_standing k = record { devices = λ s a. absurd a; numbers = λ s a. absurd a; names = tt; distinct = tt }
 
+-- what the event's entries tell of its calls
+tells_event : (moment : Moment) (d : DaemonState) (w : World) → TellsEvent Begins Gives faults_of moment w d (play (handling moment d) (begun w)).1 (play (handling moment d) (begun w)).0
+tells_event moment d w =
+    let p = sweeping policy_answer policy_later (event.begun d moment) in
+    let v : State Judging = (play p (begun w)).0 in
+    let t : World = (play p (begun w)).1 in
+    rw (plays_sweep moment d w) (event_tells Begins Gives calls_of faults_of moment w (begun w) d t v (entry.Event d.event moment ∷ []) (event.begun d moment).judge (record { sweep = record v { entries = v.entries ++ entry.End d.event ∷ [] }; event = d.event + 1 }) refl refl refl refl refl (sweeping_tells Gives calls_of faults_of counts_each policy_answer policy_later (begun w) (event.begun d moment) t v (play_runs p (begun w))) refl)
+
+names_once : (moment : Moment) (d : DaemonState) (w : World) → Holds d.sweep.standings d.sweep.next w → AllDistinct (unsettled_names (play (handling moment d) (begun w)).0.sweep.entries)
+names_once moment d w h =
+    let p = sweeping policy_answer policy_later (event.begun d moment) in
+    let v : State Judging = (play p (begun w)).0 in
+    let t : World = (play p (begun w)).1 in
+    let run : t.ran_out ≡ false = play_told p (begun w) h.told in
+    let once = told_once Gives told does_what_it_may policy_answer policy_later (begun w) (event.begun d moment) t v (play_runs p (begun w)) t.kernel (told_at t run) in
+    let same : once.0 ≡ w.kernel = same_Some once.0 w.kernel (sym once.1 ∙ told_at w h.told) in
+    let r = once.2 (rw same h.sound) (rw same h.stand) in
+    rw (plays_sweep moment d w) (event_names moment d.event v.entries r.0 (v.entries ++ entry.End d.event ∷ []) r.1 refl r.2)
+
+pub lawful_event : (moment : Moment) (s : Script) (w : World) → Holds s.daemon.sweep.standings s.daemon.sweep.next w → IsLawfulEvent moment s w
+lawful_event moment s w h = record {
+  handled = handled moment s.daemon (arranged s.moves w) (arranged_holds s.daemon.sweep.standings s.daemon.sweep.next s.moves w h);
+  faults = tells_event moment s.daemon (arranged s.moves w);
+  once = names_once moment s.daemon (arranged s.moves w) (arranged_holds s.daemon.sweep.standings s.daemon.sweep.next s.moves w h);
+}
+
 pub stays_lawful : (w : World) → w.ran_out ≡ false → IsKernel w.kernel → StaysLawful w
 stays_lawful w run sound lines n text s v e =
     let h : HoldsAt (Going n text (Some s, v)) = subst HoldsAt e (plays_hold lines (Going 0 [] (None, w)) (record { told = run; sound = sound; stand = no_standing w.kernel })) in
-    record { sound = h.sound; stand = h.stand; events = λ moment. handled moment s.daemon v h }
+    record { sound = h.sound; stand = h.stand; events = λ moment. lawful_event moment s v h }

@@ -1,5 +1,5 @@
 -- What a script notes from its first line on, and what that says of each write and of each device.
-use Rattle.std.specs.Prelude.{◌≡◌, ℕ, ◌+◌, Bool, is_none, if◌then◌else◌, List, [], ◌∷◌, ◌++◌, Option, Some, None}
+use Rattle.std.specs.Prelude.{◌≡◌, ℕ, ◌+◌, Bool, true, false, is_none, if◌then◌else◌, List, [], ◌∷◌, ◌++◌, Option, Some, None}
 use Rattle.ug_types.specs.Elements.{Has}
 use Rattle.ug_types.specs.Names.{parent_of}
 use Rattle.ug_types.specs.declared.record.Judged.{Judged}
@@ -11,21 +11,22 @@ use Rattle.ug_kernel.specs.declared.device.Device.{Device}
 use Rattle.ug_kernel.specs.declared.device.Effect.{Effect}
 use Rattle.ug_kernel.specs.declared.calls.Wrote.{Wrote}
 use Rattle.ug_kernel.specs.Kernel.{Kernel, Live}
-use Rattle.ug_sysfs.specs.World.{World, begun}
+use Rattle.ug_sysfs.specs.World.{World}
 use Rattle.ug_audit.specs.declared.entry.Entry.{Entry}
 use Rattle.ug_audit.specs.declared.entry.Entry.TheVariants as entry
 use Rattle.ug_table.specs.Bring.{write_of}
 use Rattle.ug_table.specs.Laws.{IsDevice, IsProbed, MayHave, wrote_entries, IsJudged, IsAsJudged}
 use Rattle.ug_table.specs.declared.standing.Standing.{Standing}
-use Rattle.ug_play.specs.Play.{play, NameNobody}
+use Rattle.ug_play.specs.Play.{NameNobody}
 use Rattle.ug_policy.specs.declared.entry.RuleEntry.{RuleEntry}
 use Rattle.ug_core.specs.Verdicts.{IsVerdict}
-use Rattle.ug_core.specs.Event.{DaemonState, handling, has_numbers}
+use Rattle.ug_core.specs.Event.{DaemonState, has_numbers}
 use Rattle.ug_lines.specs.Fold.{Outcome, Writes, Refused, Going, plays}
 use Rattle.ug_script.specs.declared.step.Step.{Step}
-use Rattle.ug_script.specs.declared.step.Step.TheVariants.{Skip, Rule, Plug, Unplug, Sweep}
+use Rattle.ug_script.specs.declared.step.Step.TheVariants.{Skip, Rule, Plug, Unplug, Schedule, Fail, Sweep}
 use Rattle.ug_script.specs.Grammar.{step_of_line}
 use Rattle.ug_script.specs.Replay.{Script, rules_of, lines_text, script_step}
+use Rattle.ug_script.specs.Laws.{event_of}
 
 -- what the event of a step notes
 abbrev pub noted_by : Option Step → Script → World → List Entry
@@ -34,7 +35,9 @@ noted_by (Some Skip) s w = []
 noted_by (Some (Rule rule)) s w = []
 noted_by (Some (Plug device)) s w = []
 noted_by (Some (Unplug name)) s w = []
-noted_by (Some (Sweep moment)) s w = if has_numbers s.daemon w.faults 0 then (play (handling moment s.daemon) (begun w)).0.sweep.entries else []
+noted_by (Some (Schedule m)) s w = []
+noted_by (Some (Fail f)) s w = []
+noted_by (Some (Sweep moment)) s w = if has_numbers s.daemon w.faults 0 then (event_of moment s w).0.sweep.entries else []
 
 abbrev pub noted : Option Script × World → List ℕ → List Entry
 noted (None, w) line = []
@@ -104,17 +107,32 @@ pub record IsJudgedOnce (rules : List RuleEntry) (entries : List Entry) (first k
 abbrev pub JudgesOnce : List RuleEntry → List Entry → Kernel → DaemonState × World → Type 0
 JudgesOnce rules entries first p = (i : ℕ) (d : Device) → Live p.1.kernel.devices i d → IsJudgedOnce rules (entries ++ p.0.sweep.entries) first p.1.kernel p.0.sweep.standings i
 
+-- the line schedules no move and lets no call fail
+abbrev pub is_quiet : Option Step → Bool
+is_quiet None = true
+is_quiet (Some Skip) = true
+is_quiet (Some (Rule rule)) = true
+is_quiet (Some (Plug device)) = true
+is_quiet (Some (Unplug name)) = true
+is_quiet (Some (Schedule m)) = false
+is_quiet (Some (Fail f)) = false
+is_quiet (Some (Sweep moment)) = true
+
+abbrev pub AreQuiet : List (List ℕ) → Type 0
+AreQuiet [] = Unit {0}
+AreQuiet (line ∷ lines) = (is_quiet (step_of_line line) ≡ true) × AreQuiet lines
+
 -- Wherever lines have led: what was written is the text of the journal; each effect is explained; the numbers follow one another.
--- And where nothing is scheduled, nobody is named as unsettled, and after an event that comes next each live device was judged just
--- once and stands as judged.
-pub record Recorded (first : World) (entries : List Entry) (text : List ℕ) (s : Script) (w : World) : Type 0 where
+-- And where no move was scheduled and no call was to fail, nobody is named as unsettled, and after an event that comes next each
+-- live device was judged just once and stands as judged.
+pub record Recorded (first : World) (lines : List (List ℕ)) (entries : List Entry) (text : List ℕ) (s : Script) (w : World) : Type 0 where
   pub written : text ≡ lines_text entries
   pub explained : AllExplained (rules_of s) entries first.kernel w.kernel
   pub numbers : Follow 1 (told_numbers entries) s.daemon.sweep.next
-  pub nobody : first.fails ≡ [] → NameNobody entries
-  pub once : first.fails ≡ [] → first.moves ≡ [] → (moment : Moment) → JudgesOnce (rules_of s) entries first.kernel (play (handling moment s.daemon) (begun w))
+  pub nobody : AreQuiet lines → first.fails ≡ [] → NameNobody entries
+  pub once : AreQuiet lines → first.fails ≡ [] → first.moves ≡ [] → (moment : Moment) → JudgesOnce (rules_of s) entries first.kernel (event_of moment s w)
 
 -- the same of all lines
 abbrev pub StaysRecorded : World → Type 0
 StaysRecorded first = (lines : List (List ℕ)) (n : ℕ) (text : List ℕ) (s : Script) (w : World)
-    → plays script_step (Going 0 [] (None, first)) lines ≡ Going n text (Some s, w) → Recorded first (journal (None, first) lines) text s w
+    → plays script_step (Going 0 [] (None, first)) lines ≡ Going n text (Some s, w) → Recorded first lines (journal (None, first) lines) text s w

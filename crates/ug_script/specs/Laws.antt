@@ -1,21 +1,40 @@
 -- What holds wherever a script has come to.
 use Rattle.std.specs.Prelude.{◌≡◌, ℕ, List, [], Some, None}
+use Rattle.ug_types.specs.Elements.{AllDistinct}
 use Rattle.ug_types.specs.declared.verdict.Moment.{Moment}
 use Rattle.ug_kernel.specs.Kernel.{IsKernel}
-use Rattle.ug_sysfs.specs.World.{World, begun}
+use Rattle.ug_sysfs.specs.World.{World, Gives, begun}
 use Rattle.ug_table.specs.Laws.{Stand}
+use Rattle.ug_table.specs.Parts.{unsettled_names}
 use Rattle.ug_play.specs.Play.{play}
-use Rattle.ug_core.specs.Event.{handling}
-use Rattle.ug_core.specs.Laws.{Handled}
+use Rattle.ug_core.specs.Event.{DaemonState, handling}
+use Rattle.ug_core.specs.Laws.{Handled, TellsEvent}
 use Rattle.ug_lines.specs.Fold.{Going, plays}
 use Rattle.ug_script.specs.Replay.{Script, script_step}
+use Rattle.ug_script.specs.Schedule.{arranged}
 
--- the kernel is sound and each standing is of one of its devices; and an event, if one comes next, is fair and leaves each
--- device settled or named
+-- an event of that moment, with what is scheduled for it
+abbrev pub event_of : Moment → Script → World → DaemonState × World
+event_of moment s w = play (handling moment s.daemon) (begun (arranged s.moves w))
+
+abbrev pub Begins : World → World → Type 0
+Begins w u = u ≡ begun w
+
+abbrev pub faults_of : World → ℕ
+faults_of w = w.faults
+
+-- An event, if one comes next, is fair and leaves each device settled or named. Its calls are the listing and one part for each
+-- name; each that failed is told with its number and its count, and no other is; and no name is told twice as unsettled.
+pub record IsLawfulEvent (moment : Moment) (s : Script) (w : World) : Type 0 where
+  pub handled : Handled moment w.kernel s.daemon (event_of moment s w).1.kernel (event_of moment s w).0
+  pub faults : TellsEvent Begins Gives faults_of moment (arranged s.moves w) s.daemon (event_of moment s w).1 (event_of moment s w).0
+  pub once : AllDistinct (unsettled_names (event_of moment s w).0.sweep.entries)
+
+-- the kernel is sound and each standing is of one of its devices; and so is an event, if one comes next
 pub record IsLawful (s : Script) (w : World) : Type 0 where
   pub sound : IsKernel w.kernel
   pub stand : Stand w.kernel s.daemon.sweep.standings s.daemon.sweep.next
-  pub events : (moment : Moment) → Handled moment w.kernel s.daemon (play (handling moment s.daemon) (begun w)).1.kernel (play (handling moment s.daemon) (begun w)).0
+  pub events : (moment : Moment) → IsLawfulEvent moment s w
 
 -- wherever lines lead from a world without a daemon
 abbrev pub StaysLawful : World → Type 0

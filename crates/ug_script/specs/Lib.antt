@@ -1,5 +1,6 @@
 pub mod Grammar
 pub mod Plugs
+pub mod Schedule
 pub mod Words
 pub mod Replay
 pub mod Laws

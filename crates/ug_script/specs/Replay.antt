@@ -18,18 +18,22 @@ use Rattle.ug_core.specs.Event.{DaemonState, daemon_of, handling, has_numbers}
 use Rattle.ug_lines.specs.Fold.{Outcome, Writes, Refused, BadLine}
 use Rattle.ug_script.specs.declared.running.Running.{Running}
 use Rattle.ug_script.specs.declared.step.Step.{Step}
-use Rattle.ug_script.specs.declared.step.Step.TheVariants.{Skip, Rule, Plug, Unplug, Sweep}
+use Rattle.ug_script.specs.declared.step.Step.TheVariants.{Skip, Rule, Plug, Unplug, Schedule, Fail, Sweep}
 use Rattle.ug_script.specs.declared.step.StepFault.{StepFault}
 use Rattle.ug_script.specs.declared.step.StepFault.TheVariants.{Bad, Memory}
+use Rattle.ug_sysfs.specs.declared.script.Scheduled.{Scheduled}
 use Rattle.ug_script.specs.Grammar.{step_of_line}
+use Rattle.ug_script.specs.Schedule.{with_move, arranged}
 
--- a script whose first line was read: whether rules may still come, and the daemon
+-- a script whose first line was read: whether rules may still come, the moves that are scheduled for the next event, the last
+-- first, and the daemon
 pub record Script : Type 0 where
   pub setup : Bool
+  pub moves : List Scheduled
   pub daemon : DaemonState
 
 abbrev pub script_of : Running → Script
-script_of r = record { setup = r.setup; daemon = daemon_of r.daemon }
+script_of r = record { setup = r.setup; moves = r.schedule; daemon = daemon_of r.daemon }
 
 abbrev pub script_in : Option Running → Option Script
 script_in None = None
@@ -39,6 +43,7 @@ script_in (Some r) = Some (script_of r)
 abbrev pub fresh : Script
 fresh = record {
   setup = true;
+  moves = [];
   daemon = record {
     sweep = record { standings = []; next = 1; listed = false; judge = record { rules = []; next = 1; moment = record { 0 = 0 } }; entries = [] };
     event = 1;
@@ -99,21 +104,23 @@ with_devices ds w = record w { kernel = record w.kernel { devices = ds } }
 
 -- the event's lines, the daemon that it leaves, and the world behind it
 abbrev pub after_event : DaemonState × World → Outcome (Option Script × World)
-after_event p = Writes (lines_text p.0.sweep.entries) (Some (record { setup = false; daemon = p.0 }), over p.1)
+after_event p = Writes (lines_text p.0.sweep.entries) (Some (record { setup = false; moves = []; daemon = p.0 }), over p.1)
 
 -- an event's entries tell want of memory
 abbrev pub tells : DaemonState → Type 0
 tells d = tells_memory d.sweep.entries ≡ true
 
--- an event as the world fixes it, unless the numbers have run out
+-- an event as the world fixes it with what is scheduled, unless the numbers have run out
 abbrev pub sweep_step : Moment → Script → World → Outcome (Option Script × World)
-sweep_step moment s w = if has_numbers s.daemon w.faults 0 then after_event (play (handling moment s.daemon) (begun w)) else bad s w
+sweep_step moment s w = if has_numbers s.daemon w.faults 0 then after_event (play (handling moment s.daemon) (begun (arranged s.moves w))) else bad s w
 
 abbrev pub taken : Step → Script → World → Outcome (Option Script × World)
 taken Skip s w = quiet s w
 taken (Rule rule) s w = rule_step rule s w
 taken (Plug device) s w = quiet (record s { setup = false }) (with_devices (plugged device w.kernel.devices) w)
 taken (Unplug name) s w = quiet (record s { setup = false }) (with_devices (unplugged name w.kernel.devices) w)
+taken (Schedule m) s w = quiet (record s { setup = false; moves = with_move m s.moves }) w
+taken (Fail f) s w = quiet (record s { setup = false }) (record w { fails = w.fails ++ f ∷ [] })
 taken (Sweep moment) s w = sweep_step moment s w
 
 abbrev pub taken_if : Option Step → Script → World → Outcome (Option Script × World)

@@ -40,6 +40,14 @@ moment_of text =
     else if nat_eq (get_or text 0 0) 48 then if nat_eq (length text) 1 then Some 0 else None
     else number_of text
 
+abbrev pub call_in : Option ℕ → Option ℕ
+call_in None = None
+call_in (Some n) = if nat_le 1 n && nat_le n 1048576 then Some n else None
+
+-- the number of a call in an event, from 1 to 1,048,576
+abbrev pub call_of : List ℕ → Option ℕ
+call_of text = call_in (moment_of text)
+
 abbrev pub filled : Result (List ℕ) FromHexError → Option (List ℕ)
 filled (Ok []) = None
 filled (Ok (b ∷ bytes)) = Some (b ∷ bytes)

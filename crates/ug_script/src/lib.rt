@@ -1,12 +1,14 @@
 // A script of rules, devices and sweeps, run by the daemon.
 #![tactic(auto)]
 
+mod call_lines;
 mod laws;
 mod parse;
 mod plugs;
 mod rule_lines;
 mod runner;
 mod running;
+mod schedule;
 mod step;
 mod text;
 mod words;

@@ -4,31 +4,32 @@ ghost use Rattle.ug_script.specs.Grammar.{step_of_line, plug_step, other_step};
 ghost use Rattle.ug_script.specs.Plugs.{device_of};
 ghost use Rattle.ug_script.specs.Words.{Parses};
 
+use crate::call_lines::call_line;
 use crate::plugs::device;
 use crate::rule_lines::rule_line;
 use crate::step::{Step, StepFault};
 use crate::words::{moment, name};
 use std::alloc::Global;
-use ug_types::{Moment, NodeName};
+use ug_types::Moment;
 
-/// A step that takes no memory.
+/// A line that is neither a rule nor a device.
 #[tactic(auto, unfolding(crate::specs::Grammar::other_step))]
-fn other(line: &[u8]) -> Option<Step>
-    ensures { result ≡ other_step line.now }
+fn other(alloc: Global, line: &[u8]) -> Result<Step, StepFault>
+    ensures { Parses (other_step line.now) result }
 {
     if line.starts_with(b"unplug ") {
         return match name(&line[7..]) {
-            None => None,
-            Some(name) => Some(Step::Unplug(name)),
+            None => Err(StepFault::Bad),
+            Some(name) => Ok(Step::Unplug(name)),
         };
     }
     if line.starts_with(b"sweep ") {
         return match moment(&line[6..]) {
-            None => None,
-            Some(moment) => Some(Step::Sweep(Moment(moment))),
+            None => Err(StepFault::Bad),
+            Some(moment) => Ok(Step::Sweep(Moment(moment))),
         };
     }
-    None
+    call_line(alloc, line)
 }
 
 fn plug(alloc: Global, text: &[u8]) -> Result<Step, StepFault>
@@ -44,7 +45,7 @@ fn plug(alloc: Global, text: &[u8]) -> Result<Step, StepFault>
 /// Reads a line that is not the first. An empty line and a comment are skipped.
 /// `rule` takes a rule of usbguard-rules.conf(5). `plug` takes a name, `1` where the device starts authorised, else `0`,
 /// its descriptors in hexadecimal, and its texts, each a dash or a string. `unplug` takes a name, `sweep` a moment up to
-/// 250,000,000,000.
+/// 250,000,000,000. `before`, `after` and `fail` speak of a call of the next event.
 #[tactic(auto, unfolding(crate::specs::Grammar::step_of_line))]
 pub fn parse_line(alloc: Global, line: &[u8]) -> Result<Step, StepFault>
     ensures { Parses (step_of_line line.now) result }
@@ -61,8 +62,5 @@ pub fn parse_line(alloc: Global, line: &[u8]) -> Result<Step, StepFault>
     if line.starts_with(b"rule ") {
         return rule_line(alloc, &line[5..]);
     }
-    match other(line) {
-        Some(step) => Ok(step),
-        None => Err(StepFault::Bad),
-    }
+    other(alloc, line)
 }

@@ -8,6 +8,7 @@ ghost use Rattle.ug_sysfs.specs.World.{begun};
 ghost use Rattle.ug_script.specs.Replay as replay;
 ghost use Rattle.ug_script.specs.Replay.{fresh, script_of, sweep_step, taken, tells};
 
+use crate::schedule::Schedule;
 use crate::step::Step;
 use crate::text::{put, tells_memory, text_of};
 use std::alloc::Global;
@@ -17,10 +18,11 @@ use ug_policy::RuleList;
 use ug_sysfs::{SimKernel, Sysfs};
 use ug_types::{Moment, NoMemory, Rule, Sink, Target};
 
-/// Whether rules may still come, and the daemon.
+/// Whether rules may still come, what is scheduled for the next event, and the daemon.
 #[derive(Drop)]
 pub struct Running {
     pub setup: bool,
+    pub schedule: Schedule,
     pub daemon: Daemon,
 }
 
@@ -62,6 +64,7 @@ impl Running {
     {
         Ok(Running {
             setup: true,
+            schedule: Schedule::new(alloc),
             daemon: Daemon::start(alloc, RuleList::new(alloc), 1)?,
         })
     }
@@ -87,6 +90,9 @@ impl Running {
             return Ran::Bad;
         }
         self.setup = false;
+        if self.schedule.arrange(kernel).is_err() {
+            return Ran::Memory;
+        }
         handle(alloc, &mut self.daemon, moment, kernel);
         let entries = self.daemon.report().entries.as_slice();
         if kernel.ran_out() || tells_memory(entries) {
@@ -133,6 +139,20 @@ impl Running {
                 self.setup = false;
                 kernel.unplug(&name);
                 Ran::Done
+            }
+            Step::Schedule(action) => {
+                self.setup = false;
+                match self.schedule.put(action) {
+                    Ok(()) => Ran::Done,
+                    Err(_) => Ran::Memory,
+                }
+            }
+            Step::Fail(failing) => {
+                self.setup = false;
+                match kernel.fail(failing.call, failing.effect) {
+                    Ok(()) => Ran::Done,
+                    Err(_) => Ran::Memory,
+                }
             }
             Step::Sweep(moment) => self.sweep(alloc, moment, kernel, out),
         }

@@ -1,5 +1,5 @@
 // What a line of a script asks for.
-use ug_sysfs::Device;
+use ug_sysfs::{Device, Failing, Scheduled};
 use ug_types::{Moment, NodeName, Rule};
 
 /// One line's step.
@@ -13,6 +13,10 @@ pub enum Step {
     Plug(Device),
     /// The device of that name is unplugged.
     Unplug(NodeName),
+    /// A move comes at a call of the next event.
+    Schedule(Scheduled),
+    /// A call of the next event fails.
+    Fail(Failing),
     /// A sweep at that moment.
     Sweep(Moment),
 }
@@ -22,6 +26,6 @@ pub enum Step {
 pub enum StepFault {
     /// The line is none of the grammar.
     Bad,
-    /// There was no memory for its device or its rule.
+    /// There was no memory for what it holds.
     Memory,
 }
