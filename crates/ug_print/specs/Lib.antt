@@ -1,3 +1,4 @@
+pub mod Bytes
 pub mod Generated
 pub mod Items
 pub mod Words
