@@ -1,8 +1,13 @@
 pub mod Appending
+pub mod Chances
 pub mod ConditionsAgain
+pub mod Fits
 pub mod Fractions
+pub mod IdWords
 pub mod Pieces
 pub mod QueryAgain
 pub mod Readings
 pub mod RuleAgain
+pub mod Strings
+pub mod Times
 pub mod ValuesAgain
