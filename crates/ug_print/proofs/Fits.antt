@@ -24,7 +24,7 @@ use Rattle.ug_rule.specs.Values.{id_in, interface_in, string_in, valued}
 use Rattle.ug_rule.specs.Words.{span_of, past_of, chance_of}
 use Rattle.ug_print.specs.Bytes.{AreBytes, CondOfBytes, KindOfBytes, QueryOfBytes, RuleOfBytes}
 use Rattle.ug_print.specs.Items.{id_text, interface_text, probability_text, string_text, time_text}
-use Rattle.ug_print.proofs.Chances.{chance_word}
+use Rattle.ug_print.proofs.Chances.{chance_word, half}
 use Rattle.ug_print.proofs.ConditionsAgain.{CondFits, KindFits, WordFor}
 use Rattle.ug_print.proofs.IdWords.{id_piece, interface_piece}
 use Rattle.ug_print.proofs.QueryAgain.{QueryFits, ValuesFit}
@@ -131,11 +131,7 @@ past_fits line None tokens rest m = tt
 past_fits line (Some s) tokens rest m = past_word (word_of line m.word) s m.says
 
 chance_fits : (line : List ℕ) (chance : Option ℕ) (tokens rest : List Token) → MayHaveArgument line chance_of chance tokens rest → WordFor chance_of (probability_text (chance_or_half chance)) (chance_or_half chance)
-unfolding chance_of
 chance_fits line None tokens rest m = chance_word (codes "0.5") 500000000 half
-  where
-    half : chance_of (codes "0.5") ≡ Some 500000000
-    half = ?
 chance_fits line (Some n) tokens rest m = chance_word (word_of line m.word) n m.says
 
 argues_read : (line : List ℕ) (word : CondName) (kind : CondKind) (tokens rest : List Token) → Argues line word kind tokens rest → KindRead kind

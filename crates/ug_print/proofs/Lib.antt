@@ -1,8 +1,10 @@
 pub mod Appending
 pub mod Chances
 pub mod ConditionsAgain
+pub mod Decimals
 pub mod Fits
 pub mod Fractions
+pub mod Hexadecimal
 pub mod IdWords
 pub mod Pieces
 pub mod QueryAgain
