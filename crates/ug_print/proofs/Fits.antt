@@ -2,6 +2,7 @@
 use Rattle.std.proofs.Common.{◌≡◌, ℕ, ◌<◌, inl, inr, false, List, [], ◌∷◌, ◌++◌, codes, length, Option, None, Some, refl, sym, ap, subst, ◌∙◌, arith}
 use Rattle.std.specs.Prelude.{IfSome, decimal}
 use Rattle.std.specs.List.{AllByRecursion}
+use Rattle.std.proofs.lemmas.List.Elements.{recursion_from_All}
 use Rattle.ug_lex.specs.declared.token.Token.{Token}
 use Rattle.ug_types.specs.declared.rule.Cond.{Cond}
 use Rattle.ug_types.specs.declared.rule.CondKind.{CondKind}
@@ -22,7 +23,7 @@ use Rattle.ug_rule.specs.Queries.{is_blank, no_query}
 use Rattle.ug_rule.specs.Tokens.{word_of}
 use Rattle.ug_rule.specs.Values.{id_in, interface_in, string_in, valued}
 use Rattle.ug_rule.specs.Words.{span_of, past_of, chance_of}
-use Rattle.ug_print.specs.Bytes.{AreBytes, CondOfBytes, KindOfBytes, QueryOfBytes, RuleOfBytes}
+use Rattle.ug_print.specs.Bytes.{AreBytes, CondOfBytes, CondsOfBytes, KindOfBytes, QueryOfBytes, RuleOfBytes, TextsOfBytes}
 use Rattle.ug_print.specs.Items.{id_text, interface_text, probability_text, string_text, time_text}
 use Rattle.ug_print.proofs.Chances.{chance_word, half}
 use Rattle.ug_print.proofs.ConditionsAgain.{CondFits, KindFits, WordFor}
@@ -183,9 +184,9 @@ string_pieces : (texts : List (List ℕ)) → AllByRecursion AreBytes texts → 
 string_pieces [] b = tt
 string_pieces (text ∷ texts) b = (string_piece text b.0, string_pieces texts b.1)
 
-texts_fit : (values : Option (Values (List ℕ))) → IfSome values HasItems → IfSome values (λ values. AllByRecursion AreBytes values.items) → IfSome values (ValuesFit string_in string_text)
+texts_fit : (values : Option (Values (List ℕ))) → IfSome values HasItems → TextsOfBytes values → IfSome values (ValuesFit string_in string_text)
 texts_fit None h b = tt
-texts_fit (Some values) h b = record { some = h; each = string_pieces values.items b }
+texts_fit (Some values) h b = record { some = h; each = string_pieces values.items (recursion_from_All AreBytes values.items b) }
 
 label_fits : (label : Option (List ℕ)) → IfSome label AreBytes → IfSome label (λ text. ItemPiece string_in (string_text text) text)
 label_fits None b = tt
@@ -217,9 +218,9 @@ conds_fit : (conds : List Cond) → AllByRecursion CondRead conds → AllByRecur
 conds_fit [] c b = tt
 conds_fit (cond ∷ conds) c b = (kind_fits cond.kind c.0 b.0, conds_fit conds c.1 b.1)
 
-if_fits : (conds : Option Conds) → IfSome conds CondsRead → IfSome conds (λ conds. AllByRecursion CondOfBytes conds.items) → IfSome conds CondsFit
+if_fits : (conds : Option Conds) → IfSome conds CondsRead → CondsOfBytes conds → IfSome conds CondsFit
 if_fits None c b = tt
-if_fits (Some conds) c b = record { some = c.some; each = conds_fit conds.items c.each b }
+if_fits (Some conds) c b = record { some = c.some; each = conds_fit conds.items c.each (recursion_from_All CondOfBytes conds.items b) }
 
 pub rule_fits : (rule : Rule) → WellFormed rule → RuleOfBytes rule → RuleFits rule
 rule_fits rule w b =

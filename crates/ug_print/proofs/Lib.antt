@@ -7,6 +7,7 @@ pub mod Fractions
 pub mod Hexadecimal
 pub mod IdWords
 pub mod Pieces
+pub mod Printed
 pub mod QueryAgain
 pub mod Readings
 pub mod RuleAgain

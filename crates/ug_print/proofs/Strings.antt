@@ -1,6 +1,8 @@
 -- Printed strings spell their texts.
 use Rattle.std.proofs.Common.{◌≡◌, ℕ, ◌+◌, ◌*◌, ◌/◌, ◌%◌, ◌<◌, ◌⊎◌, inl, inr, Bool, true, false, ◌&&◌, ◌||◌, nat_eq, nat_le, List, [], ◌∷◌, ◌++◌, flat_map, None, Some, refl, subst, sym, ap, arith, if◌then◌else◌}
 use Rattle.std.specs.Char.{digit_char}
+use Rattle.std.specs.List.{AllByRecursion}
+use Rattle.std.proofs.lemmas.List.Elements.{recursion_from_All}
 use Rattle.ug_lex.specs.declared.token.TokenKind.TheVariants as kind
 use Rattle.ug_lex.specs.Grammar.{Spells, Empty, Itself, Escaped, Coded}
 use Rattle.ug_rule.specs.Keywords.{operator_of}
@@ -35,7 +37,7 @@ byte_spelled b inside text h s =
     ] in
     all (nat_eq b 34 || nat_eq b 92) (nat_le 32 b && nat_le b 126) refl refl
 
-spelled : (text : List ℕ) → AreBytes text → Spells (flat_map byte_text text) text
+spelled : (text : List ℕ) → AllByRecursion (λ b. b < 256) text → Spells (flat_map byte_text text) text
 spelled [] h = Empty
 spelled (b ∷ text) h = byte_spelled b (flat_map byte_text text) text h.0 (spelled text h.1)
 
@@ -43,7 +45,7 @@ pub string_piece : (text : List ℕ) → AreBytes text → ItemPiece string_in (
 unfolding operator_of
 string_piece text h = record {
   piece = record { kind = kind.Str text; word = [] };
-  cut = one_string (flat_map byte_text text) text (spelled text h);
+  cut = one_string (flat_map byte_text text) text (spelled text (recursion_from_All (λ b. b < 256) text h));
   no_open = refl;
   no_close = refl;
   no_operator = refl;

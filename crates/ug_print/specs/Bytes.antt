@@ -1,19 +1,19 @@
 -- Rules whose texts are bytes, as those in memory are.
-use Rattle.std.specs.Prelude.{ℕ, ◌<◌, List, Option, IfSome}
-use Rattle.std.specs.List.{AllByRecursion}
+use Rattle.std.specs.Prelude.{ℕ, ◌<◌, List, Option, All, IfSome}
 use Rattle.ug_types.specs.declared.rule.Cond.{Cond}
 use Rattle.ug_types.specs.declared.rule.CondKind.{CondKind}
 use Rattle.ug_types.specs.declared.rule.CondKind.TheVariants as kind
+use Rattle.ug_types.specs.declared.rule.Conds.{Conds}
 use Rattle.ug_types.specs.declared.rule.Query.{Query}
 use Rattle.ug_types.specs.declared.rule.Rule.{Rule}
 use Rattle.ug_types.specs.declared.rule.Values.{Values}
 
 abbrev pub AreBytes : List ℕ → Type 0
-AreBytes text = AllByRecursion (λ b. b < 256) text
+AreBytes text = All (λ b. b < 256) text
 
 -- each text that is given
 abbrev pub TextsOfBytes : Option (Values (List ℕ)) → Type 0
-TextsOfBytes values = IfSome values (λ values. AllByRecursion AreBytes values.items)
+TextsOfBytes values = IfSome values (λ values. All AreBytes values.items)
 
 pub record QueryOfBytes (query : Query) : Type 0 where
   pub serial : TextsOfBytes query.serial
@@ -36,7 +36,10 @@ KindOfBytes kind.False = Unit {0}
 abbrev pub CondOfBytes : Cond → Type 0
 CondOfBytes cond = KindOfBytes cond.kind
 
+abbrev pub CondsOfBytes : Option Conds → Type 0
+CondsOfBytes conds = IfSome conds (λ conds. All CondOfBytes conds.items)
+
 -- each text of the rule, those of its conditions too
 pub record RuleOfBytes (rule : Rule) : Type 0 where
   pub query : QueryOfBytes rule.query
-  pub conds : IfSome rule.conds (λ conds. AllByRecursion CondOfBytes conds.items)
+  pub conds : CondsOfBytes rule.conds
