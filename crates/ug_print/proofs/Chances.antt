@@ -6,13 +6,11 @@ use Rattle.std.specs.Cmp.Lexicographic.{pointwise}
 use Rattle.std.proofs.Math.Nat.{mul-le-mul_right, le-mul_of_pos_right}
 use Rattle.std.proofs.lemmas.List.{length-replicate}
 use Rattle.std.proofs.lemmas.Nat.{div_below, div-add-mod', div-mul-add, mod-mul-add, mod_below}
-use Rattle.ug_lex.specs.Grammar.{IsWordByte}
 use Rattle.ug_rule.specs.Words.{billionths_of, chance_of, digits_of, with_digit, zero_point}
 use Rattle.ug_rule.proofs.Cases.{by_test}
 use Rattle.ug_print.specs.Items.{billionths, probability_text}
 use Rattle.ug_print.proofs.ConditionsAgain.{WordFor}
 use Rattle.ug_print.proofs.Decimals.{IsDigit, below_tens, digit_more, digits_word, most_number, tens}
-use Rattle.ug_print.proofs.Pieces.{IsWord}
 
 abbrev billion : ℕ
 billion = 1000000000
@@ -103,6 +101,7 @@ parts k j unit u =
   where
     spread : (q p s unit : ℕ) → (q * p + s) * unit * 10 ≡ q * (unit * (10 * p)) + s * (10 * unit)
     spread q p s unit = omega arith
+
     below : (s p unit : ℕ) → unit * (10 * p) ≡ billion → s < p → s * (10 * unit) < billion
     below s p unit e h =
         let a : (s + 1) * (10 * unit) ≤ p * (10 * unit) = mul-le-mul_right (10 * unit) (omega (arith, h)) in

@@ -1,5 +1,5 @@
 -- Printed conditions are read as these conditions.
-use Rattle.std.proofs.Common.{◌≡◌, ℕ, suc, ◌<◌, inl, inr, true, false, Bool, List, [], ◌∷◌, ◌++◌, codes, length, map, Option, None, Some, refl, sym, ap, subst, ◌∙◌, arith, append_assoc}
+use Rattle.std.proofs.Common.{◌≡◌, ℕ, ◌<◌, inl, inr, true, false, Bool, List, [], ◌∷◌, ◌++◌, codes, length, map, Option, None, Some, refl, sym, ap, subst, ◌∙◌, arith, append_assoc}
 use Rattle.std.specs.Prelude.{IfSome, decimal, if◌then◌else◌}
 use Rattle.std.specs.List.{AllByRecursion}
 use Rattle.ug_lex.specs.declared.token.Token.{Token}
@@ -14,7 +14,7 @@ use Rattle.ug_rule.specs.declared.keywords.CondName.{CondName}
 use Rattle.ug_rule.specs.declared.keywords.CondName.TheVariants as name
 use Rattle.ug_rule.specs.declared.words.DaySpan.{DaySpan}
 use Rattle.ug_rule.specs.Conditions.{joined}
-use Rattle.ug_rule.specs.Grammar.{IsArgument, Argues, HasQuery, IsQueryTo, IsNamed, IsCondition, AreConditions, IsCondSet, IsConditions}
+use Rattle.ug_rule.specs.Grammar.{IsArgument, Argues, HasQuery, IsNamed, IsCondition, AreConditions, IsCondSet, IsConditions}
 use Rattle.ug_rule.specs.Keywords.{condition_of}
 use Rattle.ug_rule.specs.Queries.{has_colon, is_blank, no_query}
 use Rattle.ug_rule.specs.Tokens.{is_close, is_paren_open, is_paren_close, is_bang}
@@ -59,14 +59,14 @@ word_argued reads text x R w f = record {
   cut = parens_cut text (word_piece text ∷ []) (one_word text w.word);
   stops = λ rest h. refl;
   reads = λ line more tokens l a.
-    let word = a.behind in
-    let closing = word.behind in
-    let cut : tokens ≡ a.token ∷ word.token ∷ closing.token ∷ closing.rest = a.cut ∙ ap (λ (t : List Token). a.token ∷ t) (word.cut ∙ ap (λ (t : List Token). word.token ∷ t) closing.cut) in
-    record {
-      rest = closing.rest;
-      is = f line tokens closing.rest (record { opening = a.token; word = word.token; closing = closing.token; cut = cut; opens = ap is_paren_open a.is.kind; says = ap reads word.is.word ∙ w.says; closes = ap is_paren_close closing.is.kind });
-      behind = closing.behind;
-    };
+      let word = a.behind in
+      let closing = word.behind in
+      let cut : tokens ≡ a.token ∷ word.token ∷ closing.token ∷ closing.rest = a.cut ∙ ap (λ (t : List Token). a.token ∷ t) (word.cut ∙ ap (λ (t : List Token). word.token ∷ t) closing.cut) in
+      record {
+        rest = closing.rest;
+        is = f line tokens closing.rest (record { opening = a.token; word = word.token; closing = closing.token; cut = cut; opens = ap is_paren_open a.is.kind; says = ap reads word.is.word ∙ w.says; closes = ap is_paren_close closing.is.kind });
+        behind = closing.behind;
+      };
 }
 
 nothing_argued : (R : List ℕ → List Token → List Token → Type 0) → ((line : List ℕ) (more : List Piece) (tokens : List Token) → Leads more → ArePieces line more tokens → R line tokens tokens) → Argued [] R
@@ -88,25 +88,25 @@ query_argued query f some =
       cut = parens_cut (words.joined (query_words query)) t.told.pieces (joined_cut (query_words query) t.told.pieces t.told.cut);
       stops = λ rest h. refl;
       reads = λ line more tokens l a.
-        let inner : ArePieces line (t.told.pieces ++ (paren_close ∷ more)) a.rest = subst (λ (p : List Piece). ArePieces line p a.rest) (append_assoc t.told.pieces (paren_close ∷ []) more) a.behind in
-        let u : Taken line (paren_close ∷ more) a.rest (Attributes no_query query line) = t.told.reads line (paren_close ∷ more) a.rest (close_leads more) inner in
-        let b = u.behind in
-        let is : Attributes no_query query line a.rest (b.token ∷ b.rest) = subst (λ (l : List Token). Attributes no_query query line a.rest l) b.cut u.is in
-        let lead = word_leads line (t.told.pieces ++ (paren_close ∷ more)) a.rest (t.leads (paren_close ∷ more) (close_leads more)) inner in
-        record {
-          rest = b.rest;
-          is = record {
-            opening = a.token;
-            closing = b.token;
-            more = a.rest;
-            cut = a.cut;
-            opens = ap is_paren_open a.is.kind;
-            is = record { first = no_query; more = a.rest; attrs = is.0; begins = inr (lead, refl, refl); are = is.1 };
-            some = some;
-            closes = ap is_paren_close b.is.kind;
+          let inner : ArePieces line (t.told.pieces ++ (paren_close ∷ more)) a.rest = subst (λ (p : List Piece). ArePieces line p a.rest) (append_assoc t.told.pieces (paren_close ∷ []) more) a.behind in
+          let u : Taken line (paren_close ∷ more) a.rest (Attributes no_query query line) = t.told.reads line (paren_close ∷ more) a.rest (close_leads more) inner in
+          let b = u.behind in
+          let is : Attributes no_query query line a.rest (b.token ∷ b.rest) = subst (λ (l : List Token). Attributes no_query query line a.rest l) b.cut u.is in
+          let lead = word_leads line (t.told.pieces ++ (paren_close ∷ more)) a.rest (t.leads (paren_close ∷ more) (close_leads more)) inner in
+          record {
+            rest = b.rest;
+            is = record {
+              opening = a.token;
+              closing = b.token;
+              more = a.rest;
+              cut = a.cut;
+              opens = ap is_paren_open a.is.kind;
+              is = record { first = no_query; more = a.rest; attrs = is.0; begins = inr (lead, refl, refl); are = is.1 };
+              some = some;
+              closes = ap is_paren_close b.is.kind;
+            };
+            behind = b.behind;
           };
-          behind = b.behind;
-        };
     }
 
 -- ---- conditions
@@ -123,8 +123,8 @@ named_again word argument name kind k n p g = record {
   pieces = word_piece word ∷ g.pieces;
   cut = behind word argument (word_piece word ∷ []) g.pieces (one_word word (known_word word k)) g.cut g.stops;
   reads = λ line more tokens l a.
-    let t : Taken line more a.rest (Argues line name kind) = g.reads line more a.rest l a.behind in
-    record { rest = t.rest; is = record { word = a.token; name = name; more = a.rest; cut = a.cut; names = ap condition_of a.is.word ∙ n; argues = t.is }; behind = t.behind };
+      let t : Taken line more a.rest (Argues line name kind) = g.reads line more a.rest l a.behind in
+      record { rest = t.rest; is = record { word = a.token; name = name; more = a.rest; cut = a.cut; names = ap condition_of a.is.word ∙ n; argues = t.is }; behind = t.behind };
   leads = λ more. record { colon = p; paren = refl };
 }
 
@@ -163,8 +163,8 @@ kind_again (condition.AllowedMatches query) f =
       cut = q.cut;
       stops = q.stops;
       reads = λ line more tokens l a.
-        let t : Taken line more tokens (HasQuery line query) = q.reads line more tokens l a in
-        record { rest = t.rest; is = (query, t.is, refl); behind = t.behind };
+          let t : Taken line more tokens (HasQuery line query) = q.reads line more tokens l a in
+          record { rest = t.rest; is = (query, t.is, refl); behind = t.behind };
     })
 kind_again (condition.RuleApplied past) f = named_again (codes "rule-applied") (past_text past) name.RuleApplied (condition.RuleApplied past) refl refl refl (applied_again past f)
 kind_again (condition.RuleEvaluated past) f = named_again (codes "rule-evaluated") (past_text past) name.RuleEvaluated (condition.RuleEvaluated past) refl refl refl (evaluated_again past f)
@@ -187,8 +187,8 @@ cond_again false plain f =
       pieces = r.pieces;
       cut = r.cut;
       reads = λ line more tokens l a.
-        let t : Taken line more tokens (IsNamed line plain) = r.reads line more tokens l a in
-        record { rest = t.rest; is = inl (record { kind = plain; named = t.is; is = refl }); behind = t.behind };
+          let t : Taken line more tokens (IsNamed line plain) = r.reads line more tokens l a in
+          record { rest = t.rest; is = inl (record { kind = plain; named = t.is; is = refl }); behind = t.behind };
       leads = r.leads;
     }
 cond_again true plain f =
@@ -197,8 +197,8 @@ cond_again true plain f =
       pieces = bang ∷ r.pieces;
       cut = mark_before 33 kind.Bang (kind_text plain) r.pieces refl r.cut;
       reads = λ line more tokens l a.
-        let t : Taken line more a.rest (IsNamed line plain) = r.reads line more a.rest l a.behind in
-        record { rest = t.rest; is = inr (record { bang = a.token; more = a.rest; kind = plain; cut = a.cut; negates = ap is_bang a.is.kind; named = t.is; is = refl }); behind = t.behind };
+          let t : Taken line more a.rest (IsNamed line plain) = r.reads line more a.rest l a.behind in
+          record { rest = t.rest; is = inr (record { bang = a.token; more = a.rest; kind = plain; cut = a.cut; negates = ap is_bang a.is.kind; named = t.is; is = refl }); behind = t.behind };
       leads = λ more. record { colon = refl; paren = refl };
     }
 
@@ -219,9 +219,9 @@ all_conds (cond ∷ conds) f =
       pieces = c.pieces ++ r.pieces;
       cut = cut_word (cond_text cond) (map cond_text conds) c.pieces r.pieces c.cut r.cut;
       reads = λ line more tokens l a.
-        let t : Taken line (r.pieces ++ more) tokens (IsCondition line cond) = c.reads line (r.pieces ++ more) tokens (r.leads more l) (subst (λ (p : List Piece). ArePieces line p tokens) (append_assoc c.pieces r.pieces more) a) in
-        let u : Taken line more t.rest (AreConditions line conds) = r.reads line more t.rest l t.behind in
-        record { rest = u.rest; is = (t.rest, t.is, u.is); behind = u.behind };
+          let t : Taken line (r.pieces ++ more) tokens (IsCondition line cond) = c.reads line (r.pieces ++ more) tokens (r.leads more l) (subst (λ (p : List Piece). ArePieces line p tokens) (append_assoc c.pieces r.pieces more) a) in
+          let u : Taken line more t.rest (AreConditions line conds) = r.reads line more t.rest l t.behind in
+          record { rest = u.rest; is = (t.rest, t.is, u.is); behind = u.behind };
       leads = λ more l. subst Leads (sym (append_assoc c.pieces r.pieces more)) (c.leads (r.pieces ++ more));
     }
 
@@ -230,13 +230,13 @@ set_of_conds ws conds some r = record {
   pieces = r.pieces;
   cut = r.cut;
   reads = λ line more tokens a.
-    let t : Taken line (close_piece ∷ more) tokens (AreConditions line conds) = r.reads line (close_piece ∷ more) tokens (record { colon = refl; paren = refl }) a in
-    let b = t.behind in
-    record {
-      rest = b.rest;
-      is = record { brace = b.token; are = subst (λ (l : List Token). AreConditions line conds tokens l) b.cut t.is; closes = ap is_close b.is.kind; some = some };
-      behind = b.behind;
-    };
+      let t : Taken line (close_piece ∷ more) tokens (AreConditions line conds) = r.reads line (close_piece ∷ more) tokens (record { colon = refl; paren = refl }) a in
+      let b = t.behind in
+      record {
+        rest = b.rest;
+        is = record { brace = b.token; are = subst (λ (l : List Token). AreConditions line conds tokens l) b.cut t.is; closes = ap is_close b.is.kind; some = some };
+        behind = b.behind;
+      };
 }
 
 braced_again : (op : Op) (conds : List Cond) → words.is_alone op (length (map cond_text conds)) ≡ false → 0 < length conds → AllByRecursion CondFits conds → Reads (set_words op (map cond_text conds)) (λ line. IsConditions line (joined op conds))
@@ -252,8 +252,8 @@ one_again cond f =
       pieces = c.pieces ++ [];
       cut = cut_word (cond_text cond) [] c.pieces [] c.cut refl;
       reads = λ line more tokens l a.
-        let t : Taken line more tokens (IsCondition line cond) = c.reads line more tokens l (subst (λ (p : List Piece). ArePieces line p tokens) (append_assoc c.pieces [] more) a) in
-        record { rest = t.rest; is = inl (record { cond = cond; one = t.is; is = refl }); behind = t.behind };
+          let t : Taken line more tokens (IsCondition line cond) = c.reads line more tokens l (subst (λ (p : List Piece). ArePieces line p tokens) (append_assoc c.pieces [] more) a) in
+          record { rest = t.rest; is = inl (record { cond = cond; one = t.is; is = refl }); behind = t.behind };
     }
 
 pub conditions_again : (op : Op) (conds : List Cond) → 0 < length conds → AllByRecursion CondFits conds → Reads (set_words op (map cond_text conds)) (λ line. IsConditions line (joined op conds))

@@ -1,9 +1,9 @@
 -- Decimal digits that are written and read.
 use Rattle.std.proofs.Common.{◌≡◌, ℕ, zero, suc, ◌+◌, ◌-◌, ◌*◌, ◌/◌, ◌%◌, ◌^◌, ◌<◌, ◌≤◌, inl, inr, Bool, true, false, nat_eq, List, [], ◌∷◌, ◌++◌, length, get_or, Option, None, Some, refl, sym, ap, ◌∙◌, arith, if◌then◌else◌}
-use Rattle.std.specs.Prelude.{decimal, fold, nat_lt, ◌&&◌}
+use Rattle.std.specs.Prelude.{decimal, fold}
 use Rattle.std.specs.List.{AllByRecursion}
 use Rattle.std.proofs.Math.Nat.{mul-le-mul_right}
-use Rattle.std.proofs.lemmas.Fmt.{decimal_by_steps, decimal_digit, decimal_nonempty, decimal_step, first_decimal}
+use Rattle.std.proofs.lemmas.Fmt.{decimal_by_steps, decimal_digit, decimal_nonempty, first_decimal}
 use Rattle.ug_lex.specs.Lexing.{is_word_byte}
 use Rattle.ug_lex.specs.Grammar.{IsWordByte}
 use Rattle.ug_rule.specs.Words.{digits_of, number_of, with_digit}
@@ -115,10 +115,10 @@ more_written n ds h w =
     record {
       digits = all-append IsDigit ds ((48 + n % 10) ∷ []) w.digits ((omega arith, omega arith), tt);
       value = λ k.
-        fold-append (Some 0) ds ((48 + n % 10) ∷ [])
-        ∙ ap (λ (o : Option ℕ). with_digit o (48 + n % 10)) (w.value (omega (arith, k)))
-        ∙ digit_more (n / 10) (n % 10) (omega arith) (omega (arith, k))
-        ∙ ap Some e;
+          fold-append (Some 0) ds ((48 + n % 10) ∷ [])
+          ∙ ap (λ (o : Option ℕ). with_digit o (48 + n % 10)) (w.value (omega (arith, k)))
+          ∙ digit_more (n / 10) (n % 10) (omega arith) (omega (arith, k))
+          ∙ ap Some e;
     }
 
 pub decimal_written : (n : ℕ) → n < 2 ^ 64 → Written n (decimal n)

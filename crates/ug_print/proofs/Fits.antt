@@ -1,5 +1,5 @@
 -- What is printed of a rule that was read is read again.
-use Rattle.std.proofs.Common.{◌≡◌, ℕ, ◌<◌, inl, inr, false, List, [], ◌∷◌, ◌++◌, codes, length, Option, None, Some, refl, sym, ap, subst, ◌∙◌, arith}
+use Rattle.std.proofs.Common.{◌≡◌, ℕ, ◌<◌, inl, inr, false, List, [], ◌∷◌, ◌++◌, codes, length, Option, None, Some, sym, subst, arith}
 use Rattle.std.specs.Prelude.{IfSome, decimal}
 use Rattle.std.specs.List.{AllByRecursion}
 use Rattle.std.proofs.lemmas.List.Elements.{recursion_from_All}
@@ -8,7 +8,6 @@ use Rattle.ug_types.specs.declared.rule.Cond.{Cond}
 use Rattle.ug_types.specs.declared.rule.CondKind.{CondKind}
 use Rattle.ug_types.specs.declared.rule.CondKind.TheVariants as condition
 use Rattle.ug_types.specs.declared.rule.Conds.{Conds}
-use Rattle.ug_types.specs.declared.rule.Op.TheVariants.{Equals}
 use Rattle.ug_types.specs.declared.rule.Query.{Query}
 use Rattle.ug_types.specs.declared.rule.Rule.{Rule}
 use Rattle.ug_types.specs.declared.rule.Values.{Values}
@@ -16,12 +15,11 @@ use Rattle.ug_rule.specs.declared.keywords.Attr.{Attr}
 use Rattle.ug_rule.specs.declared.keywords.Attr.TheVariants as attr
 use Rattle.ug_rule.specs.declared.keywords.CondName.{CondName}
 use Rattle.ug_rule.specs.declared.keywords.CondName.TheVariants as name
-use Rattle.ug_rule.specs.declared.words.DaySpan.{DaySpan}
 use Rattle.ug_rule.specs.Conditions.{chance_or_half}
-use Rattle.ug_rule.specs.Grammar.{AreItems, IsSet, IsValue, Tells, AreAttributes, Begins, IsQueryTo, IsArgument, MayHaveArgument, Argues, IsCondition, AreConditions, IsCondSet, IsConditions, Part, Attribute, If, AreParts, IsRule, WellFormed}
+use Rattle.ug_rule.specs.Grammar.{AreItems, IsSet, IsValue, Tells, AreAttributes, Begins, IsQueryTo, MayHaveArgument, Argues, IsCondition, AreConditions, IsConditions, Part, Attribute, If, AreParts, IsRule, WellFormed}
 use Rattle.ug_rule.specs.Queries.{is_blank, no_query}
 use Rattle.ug_rule.specs.Tokens.{word_of}
-use Rattle.ug_rule.specs.Values.{id_in, interface_in, string_in, valued}
+use Rattle.ug_rule.specs.Values.{id_in, interface_in, string_in}
 use Rattle.ug_rule.specs.Words.{span_of, past_of, chance_of}
 use Rattle.ug_print.specs.Bytes.{AreBytes, CondOfBytes, CondsOfBytes, KindOfBytes, QueryOfBytes, RuleOfBytes, TextsOfBytes}
 use Rattle.ug_print.specs.Items.{id_text, interface_text, probability_text, string_text, time_text}

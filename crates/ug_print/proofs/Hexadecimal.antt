@@ -1,5 +1,5 @@
 -- Hexadecimal digits that are written and read.
-use Rattle.std.proofs.Common.{◌≡◌, ℕ, ◌+◌, ◌*◌, ◌/◌, ◌%◌, ◌<◌, true, List, [], ◌∷◌, ◌++◌, Option, Some, refl, arith}
+use Rattle.std.proofs.Common.{◌≡◌, ℕ, ◌/◌, ◌%◌, ◌<◌, true, List, Some, refl, arith}
 use Rattle.std.specs.Char.{digit_char}
 use Rattle.hex.specs.Hex.{hex_digit_value}
 use Rattle.ug_lex.specs.Lexing.{digit_of, is_word_byte}

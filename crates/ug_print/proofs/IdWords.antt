@@ -2,12 +2,10 @@
 use Rattle.std.proofs.Common.{◌≡◌, ℕ, ◌/◌, ◌%◌, ◌<◌, Bool, true, false, nat_eq, List, [], ◌∷◌, ◌++◌, codes, Option, None, Some, refl, sym, ap, ◌∙◌, arith, if◌then◌else◌}
 use Rattle.std.specs.Cmp.Lexicographic.{pointwise, same_text}
 use Rattle.std.specs.List.{AllByRecursion}
-use Rattle.ug_lex.specs.declared.token.Token.{Token}
 use Rattle.ug_lex.specs.Grammar.{IsWordByte}
 use Rattle.ug_types.specs.declared.rule.Id.{Id}
 use Rattle.ug_types.specs.declared.rule.Iface.{Iface}
 use Rattle.ug_rule.specs.Keywords.{operator_of}
-use Rattle.ug_rule.specs.Tokens.{word_of}
 use Rattle.ug_rule.specs.Values.{id_in, interface_in}
 use Rattle.ug_rule.specs.WordGrammar.{IsId, Any, OfVendor, Exact, IsInterface, OfClass, OfSubclass, OfProtocol}
 use Rattle.ug_rule.specs.Words.{id_of, interface_of, two_stars}

@@ -1,7 +1,7 @@
 -- Texts as tokens that have no place yet, and the tokens of a line that they become.
-use Rattle.std.proofs.Common.{◌≡◌, ℕ, ◌+◌, ◌-◌, inl, false, List, [], ◌∷◌, ◌++◌, length, length-append, take, drop, Option, None, Some, refl, sym, ap, subst, ◌∙◌, arith, append_assoc, flat_map}
+use Rattle.std.proofs.Common.{◌≡◌, ℕ, ◌+◌, ◌-◌, inl, false, List, [], ◌∷◌, ◌++◌, length, length-append, take, Option, None, Some, refl, sym, ap, subst, ◌∙◌, arith, append_assoc, flat_map}
 use Rattle.std.specs.List.{AllByRecursion}
-use Rattle.std.proofs.lemmas.List.{append-nil, take_all}
+use Rattle.std.proofs.lemmas.List.{append-nil}
 use Rattle.std.proofs.Math.Seq.{drop-append_seam}
 use Rattle.ug_lex.specs.declared.token.Token.{Token}
 use Rattle.ug_lex.specs.declared.token.TokenKind.{TokenKind}

@@ -1,24 +1,20 @@
 -- The printed attributes of a query are read as these attributes.
 use Rattle.std.proofs.Common.{◌≡◌, ℕ, ◌<◌, true, false, List, [], ◌∷◌, ◌++◌, codes, length, map, Option, None, Some, refl, sym, ap, subst, ◌∙◌, append_assoc}
 use Rattle.std.specs.Prelude.{IfSome}
-use Rattle.std.specs.List.{AllByRecursion}
 use Rattle.ug_lex.specs.declared.token.Token.{Token}
-use Rattle.ug_lex.specs.declared.token.TokenKind.TheVariants as kind
 use Rattle.ug_types.specs.declared.rule.Id.{Id}
 use Rattle.ug_types.specs.declared.rule.Iface.{Iface}
 use Rattle.ug_types.specs.declared.rule.Query.{Query}
 use Rattle.ug_types.specs.declared.rule.Values.{Values}
 use Rattle.ug_rule.specs.declared.keywords.Attr.{Attr}
 use Rattle.ug_rule.specs.declared.keywords.Attr.TheVariants as attr
-use Rattle.ug_rule.specs.Grammar.{AreAttributes, IsAttribute, IsText, IsValue, Tells}
+use Rattle.ug_rule.specs.Grammar.{AreAttributes, IsText, IsValue, Tells}
 use Rattle.ug_rule.specs.Keywords.{attribute_of}
 use Rattle.ug_rule.specs.Queries.{has_colon, is_given, no_query}
-use Rattle.ug_rule.specs.Tokens.{string_by}
 use Rattle.ug_rule.specs.Values.{id_in, interface_in, string_in}
-use Rattle.ug_print.specs.Bytes.{QueryOfBytes}
 use Rattle.ug_print.specs.Items.{id_text, interface_text, string_text}
 use Rattle.ug_print.specs.Words.{attribute_words, label_words, query_words, set_words}
-use Rattle.ug_print.proofs.Pieces.{Piece, ArePieces, CutAll, cut-append, cut_word, one_word, word_piece}
+use Rattle.ug_print.proofs.Pieces.{Piece, ArePieces, cut-append, cut_word, one_word, word_piece}
 use Rattle.ug_print.proofs.Readings.{Leads, Taken, Reads, is_known, known_word, reads_as}
 use Rattle.ug_print.proofs.ValuesAgain.{AllPieces, ItemPiece, value_again}
 
@@ -48,9 +44,9 @@ told_then ws vs query next all a b = record {
     pieces = a.told.pieces ++ b.told.pieces;
     cut = cut-append ws vs a.told.pieces b.told.pieces a.told.cut b.told.cut;
     reads = λ line more tokens l p.
-      let t : Taken line (b.told.pieces ++ more) tokens (Attributes query next line) = a.told.reads line (b.told.pieces ++ more) tokens (b.leads more l) (subst (λ (q : List Piece). ArePieces line q tokens) (append_assoc a.told.pieces b.told.pieces more) p) in
-      let u : Taken line more t.rest (Attributes next all line) = b.told.reads line more t.rest l t.behind in
-      record { rest = u.rest; is = (t.is.0 ++ u.is.0, are_then line t.is.0 u.is.0 query next all tokens t.rest u.rest t.is.1 u.is.1); behind = u.behind };
+        let t : Taken line (b.told.pieces ++ more) tokens (Attributes query next line) = a.told.reads line (b.told.pieces ++ more) tokens (b.leads more l) (subst (λ (q : List Piece). ArePieces line q tokens) (append_assoc a.told.pieces b.told.pieces more) p) in
+        let u : Taken line more t.rest (Attributes next all line) = b.told.reads line more t.rest l t.behind in
+        record { rest = u.rest; is = (t.is.0 ++ u.is.0, are_then line t.is.0 u.is.0 query next all tokens t.rest u.rest t.is.1 u.is.1); behind = u.behind };
   };
   leads = λ more l. subst Leads (sym (append_assoc a.told.pieces b.told.pieces more)) (a.leads (b.told.pieces ++ more) (b.leads more l));
 }
@@ -68,12 +64,12 @@ one_told name ws attr query next n once r = record {
     pieces = word_piece name ∷ r.pieces;
     cut = cut_word name ws (word_piece name ∷ []) r.pieces (one_word name (known_word name n.known)) r.cut;
     reads = λ line more tokens l a.
-      let t : Taken line more a.rest (Tells line attr query next) = r.reads line more a.rest l a.behind in
-      record {
-        rest = t.rest;
-        is = (attr ∷ [], (next, t.rest, record { name = a.token; more = a.rest; cut = a.cut; names = ap attribute_of a.is.word ∙ n.names; once = once; tells = t.is }, (refl, refl)));
-        behind = t.behind;
-      };
+        let t : Taken line more a.rest (Tells line attr query next) = r.reads line more a.rest l a.behind in
+        record {
+          rest = t.rest;
+          is = (attr ∷ [], (next, t.rest, record { name = a.token; more = a.rest; cut = a.cut; names = ap attribute_of a.is.word ∙ n.names; once = once; tells = t.is }, (refl, refl)));
+          behind = t.behind;
+        };
   };
   leads = λ more l. record { colon = n.plain; paren = refl };
 }

@@ -1,8 +1,7 @@
 -- What pieces are read as, and sets in braces.
-use Rattle.std.proofs.Common.{◌≡◌, ℕ, ◌<◌, Bool, true, false, ◌&&◌, List, [], ◌∷◌, ◌++◌, codes, Option, None, Some, refl, sym, ap, subst, ◌∙◌, append_assoc}
+use Rattle.std.proofs.Common.{◌≡◌, ℕ, Bool, true, false, ◌&&◌, List, [], ◌∷◌, ◌++◌, codes, Some, refl, ap, subst, ◌∙◌, append_assoc}
 use Rattle.std.specs.List.{AllByRecursion, list_all}
 use Rattle.ug_lex.specs.declared.token.Token.{Token}
-use Rattle.ug_lex.specs.declared.token.TokenKind.{TokenKind}
 use Rattle.ug_lex.specs.declared.token.TokenKind.TheVariants as kind
 use Rattle.ug_lex.specs.Lexing.{is_word_byte}
 use Rattle.ug_lex.specs.Grammar.{IsWordByte}
@@ -10,7 +9,7 @@ use Rattle.ug_types.specs.declared.rule.Op.{Op}
 use Rattle.ug_rule.specs.Keywords.{operator_of}
 use Rattle.ug_rule.specs.Queries.{has_colon}
 use Rattle.ug_rule.specs.Tokens.{word_of, first_word, is_open, is_paren_open, starts_with_paren}
-use Rattle.ug_print.proofs.Pieces.{Piece, IsPiece, ArePieces, Cut, CutAll, IsWord, cut-append, cut_word, one_mark, one_word, word_piece}
+use Rattle.ug_print.proofs.Pieces.{Piece, IsPiece, ArePieces, CutAll, IsWord, cut-append, cut_word, one_mark, one_word, word_piece}
 
 -- ---- words of known bytes
 
@@ -21,6 +20,7 @@ all_bytes (b ∷ word) h = (first (is_word_byte b) (list_all is_word_byte word) 
     first : (p q : Bool) → (p && q) ≡ true → p ≡ true
     first true q h = refl
     first false q h = h
+
     second : (p q : Bool) → (p && q) ≡ true → q ≡ true
     second true q h = h
     second false q h = let none : ⊥ = cc in absurd none
@@ -73,8 +73,8 @@ reads_as ws R Q f r = record {
   pieces = r.pieces;
   cut = r.cut;
   reads = λ line more tokens l a.
-    let t : Taken line more tokens (R line) = r.reads line more tokens l a in
-    record { rest = t.rest; is = f line tokens t.rest t.is; behind = t.behind };
+      let t : Taken line more tokens (R line) = r.reads line more tokens l a in
+      record { rest = t.rest; is = f line tokens t.rest t.is; behind = t.behind };
 }
 
 -- ---- sets

@@ -1,20 +1,19 @@
 -- A printed rule is read as this rule.
-use Rattle.std.proofs.Common.{◌≡◌, ℕ, ◌<◌, inr, true, false, List, [], ◌∷◌, ◌++◌, codes, length, map, Option, None, Some, refl, sym, ap, subst, ◌∙◌}
+use Rattle.std.proofs.Common.{◌≡◌, ℕ, ◌<◌, inr, List, [], ◌∷◌, ◌++◌, codes, length, map, Option, None, Some, refl, sym, ap, subst, ◌∙◌}
 use Rattle.std.specs.Prelude.{IfSome}
 use Rattle.std.specs.List.{AllByRecursion}
 use Rattle.std.proofs.lemmas.List.{append-nil}
 use Rattle.ug_lex.specs.declared.token.Token.{Token}
-use Rattle.ug_types.specs.declared.rule.Cond.{Cond}
 use Rattle.ug_types.specs.declared.rule.Conds.{Conds}
 use Rattle.ug_types.specs.declared.rule.Query.{Query}
 use Rattle.ug_types.specs.declared.rule.Rule.{Rule}
 use Rattle.ug_types.specs.declared.verdict.Target.{Target}
 use Rattle.ug_types.specs.declared.verdict.Target.TheVariants.{Allow, Block, Reject}
 use Rattle.ug_rule.specs.declared.keywords.Attr.{Attr}
-use Rattle.ug_rule.specs.Grammar.{AreAttributes, AreParts, IsConditions, IsRule, Part, Attribute, If, Says}
+use Rattle.ug_rule.specs.Grammar.{AreAttributes, AreParts, IsConditions, Part, Attribute, If, Says}
 use Rattle.ug_rule.specs.Keywords.{target_of, is_if}
 use Rattle.ug_rule.specs.Queries.{no_query}
-use Rattle.ug_print.specs.Words.{cond_text, conds_words, joined, query_words, rule_text, set_words, target_word}
+use Rattle.ug_print.specs.Words.{cond_text, conds_words, query_words, rule_text, set_words, target_word}
 use Rattle.ug_print.proofs.Pieces.{Piece, ArePieces, Cut, CutAll, IsWord, Whole, cut-append, cut_word, joined_cut, one_word, whole, word_piece}
 use Rattle.ug_print.proofs.Readings.{Leads, Taken, Reads, known_word, word_leads}
 use Rattle.ug_print.proofs.ConditionsAgain.{CondFits, conditions_again}
@@ -50,8 +49,8 @@ conds_end query (Some conds) f =
       cut = cut_word (codes "if") (set_words conds.op (map cond_text conds.items)) (word_piece (codes "if") ∷ []) r.pieces (one_word (codes "if") (known_word (codes "if") refl)) r.cut;
       leads = record { colon = refl; paren = refl };
       reads = λ line tokens a.
-        let t : Taken line [] a.rest (IsConditions line conds) = r.reads line [] a.rest nothing_leads (subst (λ (p : List Piece). ArePieces line p a.rest) (sym (append-nil r.pieces)) a.behind) in
-        (If ∷ [], (conds, t.rest, record { word = a.token; more = a.rest; cut = a.cut; names = ap is_if a.is.word; are = t.is }, refl, (refl, refl, t.behind)));
+          let t : Taken line [] a.rest (IsConditions line conds) = r.reads line [] a.rest nothing_leads (subst (λ (p : List Piece). ArePieces line p a.rest) (sym (append-nil r.pieces)) a.behind) in
+          (If ∷ [], (conds, t.rest, record { word = a.token; more = a.rest; cut = a.cut; names = ap is_if a.is.word; are = t.is }, refl, (refl, refl, t.behind)));
     }
 
 parts_then : (line : List ℕ) (attrs : List Attr) (parts : List Part) (query next all : Query) (conds found : Option Conds) (tokens left : List Token) → AreAttributes line attrs query next tokens left → AreParts line parts next conds all found left → AreParts line (map Attribute attrs ++ parts) query conds all found tokens

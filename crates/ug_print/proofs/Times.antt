@@ -1,10 +1,8 @@
 -- Printed times are words that are read as these.
-use Rattle.std.proofs.Common.{◌≡◌, ℕ, zero, suc, ◌+◌, ◌-◌, ◌*◌, ◌/◌, ◌%◌, ◌^◌, ◌<◌, ◌≤◌, inl, inr, Bool, true, false, ◌&&◌, nat_eq, nat_le, nat_lt, not, cond, List, [], ◌∷◌, ◌++◌, length, length-append, take, drop, get_or, Option, None, Some, refl, sym, ap, subst, ◌∙◌, arith, if◌then◌else◌}
+use Rattle.std.proofs.Common.{◌≡◌, ℕ, zero, suc, ◌+◌, ◌*◌, ◌/◌, ◌%◌, ◌^◌, ◌<◌, ◌≤◌, inl, inr, Bool, true, false, ◌&&◌, nat_eq, nat_le, nat_lt, not, cond, List, [], ◌∷◌, ◌++◌, length, length-append, take, drop, get_or, Option, None, Some, refl, sym, ap, subst, ◌∙◌, arith, if◌then◌else◌}
 use Rattle.std.specs.Prelude.{decimal}
 use Rattle.std.specs.List.{AllByRecursion, position, prefix_len}
-use Rattle.std.proofs.Math.Seq.{drop-append_seam}
 use Rattle.std.proofs.lemmas.Fmt.{decimal_digit, decimal_nonempty, decimal_step}
-use Rattle.ug_lex.specs.Lexing.{is_word_byte}
 use Rattle.ug_lex.specs.Grammar.{IsWordByte}
 use Rattle.ug_rule.specs.declared.words.Clock.{Clock}
 use Rattle.ug_rule.specs.declared.words.Clock.TheVariants.{Minute, Second}
@@ -41,6 +39,7 @@ minute_fits most text n h = elim (by_test (has_colon 2 text) (minute_of_hours (p
     with_minutes : (hours : ℕ) (o : Option ℕ) → ((m : ℕ) → o ≡ Some m → m ≤ 59) → minute_from hours o ≡ Some n → hours ≤ most → n + 59 < (most + 1) * 3600
     with_minutes hours None f h k = let none : ⊥ = cc in absurd none
     with_minutes hours (Some m) f h k = let e : hours * 3600 + m * 60 ≡ n = cc in let l : m ≤ 59 = f m refl in omega (arith, e, l, k)
+
     by : (o : Option ℕ) (rest : List ℕ) → ((hours : ℕ) → o ≡ Some hours → hours ≤ most) → minute_of_hours o rest ≡ Some n → n + 59 < (most + 1) * 3600
     by None rest f h = let none : ⊥ = cc in absurd none
     by (Some hours) rest f h = with_minutes hours (part_of 59 rest) (λ m e. part_fits 59 rest m e) h (f hours refl)
@@ -62,9 +61,11 @@ time_fits most text clock h = elim (by_test (has_colon 5 text) (second_of_minute
         let e : Second (minute + s) ≡ clock = cc in
         let l : s ≤ 59 = f s refl in
         subst (ClockFits most) e (record { first = omega (arith, l, k); last = omega (arith, l, k) })
+
     by_second : (o : Option ℕ) (rest : List ℕ) → ((minute : ℕ) → o ≡ Some minute → minute + 59 < (most + 1) * 3600) → second_of_minute o rest ≡ Some clock → ClockFits most clock
     by_second None rest f h = let none : ⊥ = cc in absurd none
     by_second (Some minute) rest f h = with_seconds minute (part_of 59 rest) (λ s e. part_fits 59 rest s e) h (f minute refl)
+
     by_minute : (o : Option ℕ) → ((minute : ℕ) → o ≡ Some minute → minute + 59 < (most + 1) * 3600) → time_at o ≡ Some clock → ClockFits most clock
     by_minute None f h = let none : ⊥ = cc in absurd none
     by_minute (Some minute) f h =
@@ -86,15 +87,18 @@ span_fits text span h = by_dash (position (nat_eq 45) text) h
         let e : record { begin = first_second begin; end = first_second c } ≡ span = cc in
         let l : ClockFits 23 c = f c refl in
         subst SpanFits e (record { begin = k.first; end = l.first })
+
     from_begin : (o : Option Clock) (rest : List ℕ) → ((c : Clock) → o ≡ Some c → ClockFits 23 c) → span_of_begin o rest ≡ Some span → SpanFits span
     from_begin None rest f h = let none : ⊥ = cc in absurd none
     from_begin (Some c) rest f h = to_end c (time_of 23 rest) (λ d e. time_fits 23 rest d e) h (f c refl)
+
     alone : (o : Option Clock) → ((c : Clock) → o ≡ Some c → ClockFits 23 c) → span_at o ≡ Some span → SpanFits span
     alone None f h = let none : ⊥ = cc in absurd none
     alone (Some c) f h =
         let e : record { begin = first_second c; end = last_second c } ≡ span = cc in
         let l : ClockFits 23 c = f c refl in
         subst SpanFits e (record { begin = l.first; end = l.last })
+
     by_dash : (o : Option ℕ) → span_by_dash o text ≡ Some span → SpanFits span
     by_dash None h = alone (time_of 23 text) (λ c e. time_fits 23 text c e) h
     by_dash (Some dash) h = from_begin (time_of 23 (take dash text)) (drop (dash + 1) text) (λ c e. time_fits 23 (take dash text) c e) h

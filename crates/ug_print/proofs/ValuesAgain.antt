@@ -1,18 +1,16 @@
 -- The printed values of an attribute are read as these values.
-use Rattle.std.proofs.Common.{◌≡◌, ℕ, zero, suc, ◌<◌, inl, inr, Bool, true, false, nat_eq, List, [], ◌∷◌, ◌++◌, codes, length, map, Option, None, Some, refl, sym, ap, subst, ◌∙◌, arith, append_assoc, if◌then◌else◌}
+use Rattle.std.proofs.Common.{◌≡◌, ℕ, suc, ◌<◌, inl, inr, Bool, false, nat_eq, List, [], ◌∷◌, ◌++◌, codes, length, map, Option, None, Some, refl, sym, ap, subst, ◌∙◌, arith, append_assoc, if◌then◌else◌}
 use Rattle.std.specs.List.{AllByRecursion}
 use Rattle.ug_lex.specs.declared.token.Token.{Token}
-use Rattle.ug_lex.specs.declared.token.TokenKind.TheVariants as kind
 use Rattle.ug_types.specs.declared.rule.Op.{Op}
 use Rattle.ug_types.specs.declared.rule.Op.TheVariants.{AllOf, OneOf, NoneOf, Equals, EqualsOrdered}
-use Rattle.ug_types.specs.declared.rule.Values.{Values}
-use Rattle.ug_rule.specs.Grammar.{AreItems, IsSet, IsSingle, IsPlainSet, IsOperatorSet, IsValue}
+use Rattle.ug_rule.specs.Grammar.{AreItems, IsSet, IsValue}
 use Rattle.ug_rule.specs.Keywords.{operator_of}
-use Rattle.ug_rule.specs.Tokens.{word_of, is_open, is_close}
+use Rattle.ug_rule.specs.Tokens.{is_open, is_close}
 use Rattle.ug_rule.specs.Values.{valued}
-use Rattle.ug_print.specs.Words.{closing, is_alone, opening, operator_words, set_words}
+use Rattle.ug_print.specs.Words.{is_alone, operator_words, set_words}
 use Rattle.ug_print.proofs.Pieces.{Piece, IsPiece, ArePieces, Cut, CutAll, cut_word}
-use Rattle.ug_print.proofs.Readings.{Leads, Taken, Reads, SetReads, Opened, Operated, close_piece, known_word, opened, operated, reads_as}
+use Rattle.ug_print.proofs.Readings.{Reads, SetReads, Opened, Operated, close_piece, known_word, opened, operated, reads_as}
 
 -- ---- what is written for a set
 
@@ -65,14 +63,14 @@ items_again reads text (x ∷ items) h =
       pieces = h.0.piece ∷ r.pieces;
       cut = cut_word (text x) (map text items) (h.0.piece ∷ []) r.pieces h.0.cut r.cut;
       takes = λ line more tokens a.
-        let t : ItemsTaken line (reads line) items more a.rest = r.takes line more a.rest a.behind in
-        record {
-          inner = a.token ∷ t.inner;
-          rest = t.rest;
-          cut = a.cut ∙ ap (λ (l : List Token). a.token ∷ l) t.cut;
-          says = (ap is_close a.is.kind ∙ h.0.no_close, h.0.says line a.token a.is, t.says);
-          behind = t.behind;
-        };
+          let t : ItemsTaken line (reads line) items more a.rest = r.takes line more a.rest a.behind in
+          record {
+            inner = a.token ∷ t.inner;
+            rest = t.rest;
+            cut = a.cut ∙ ap (λ (l : List Token). a.token ∷ l) t.cut;
+            says = (ap is_close a.is.kind ∙ h.0.no_close, h.0.says line a.token a.is, t.says);
+            behind = t.behind;
+          };
     }
 
 set_of_items : {X : Type 0} (reads : List ℕ → Token → Option X) (ws : List (List ℕ)) (items : List X) → 0 < length items → ItemsRead reads ws items → SetReads ws (λ line. IsSet (reads line) items)
@@ -80,19 +78,19 @@ set_of_items reads ws items some r = record {
   pieces = r.pieces;
   cut = r.cut;
   reads = λ line more tokens a.
-    let t : ItemsTaken line (reads line) items (close_piece ∷ more) tokens = r.takes line (close_piece ∷ more) tokens a in
-    record {
-      rest = t.behind.rest;
-      is = record {
-        inner = t.inner;
-        brace = t.behind.token;
-        cut = t.cut ∙ ap (λ (l : List Token). t.inner ++ l) t.behind.cut;
-        closes = ap is_close t.behind.is.kind;
-        says = t.says;
-        some = some;
+      let t : ItemsTaken line (reads line) items (close_piece ∷ more) tokens = r.takes line (close_piece ∷ more) tokens a in
+      record {
+        rest = t.behind.rest;
+        is = record {
+          inner = t.inner;
+          brace = t.behind.token;
+          cut = t.cut ∙ ap (λ (l : List Token). t.inner ++ l) t.behind.cut;
+          closes = ap is_close t.behind.is.kind;
+          says = t.says;
+          some = some;
+        };
+        behind = t.behind.behind;
       };
-      behind = t.behind.behind;
-    };
 }
 
 -- ---- values

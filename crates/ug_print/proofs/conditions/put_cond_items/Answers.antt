@@ -1,4 +1,4 @@
-use Rattle.std.proofs.Common.{rules, subst, arith}
+use Rattle.std.proofs.Common.{subst, arith}
 use Rattle.std.proofs.lemmas.Grind.{common_steps}
 use Rattle.std.proofs.lemmas.List.Elements.{All-more}
 use Rattle.ug_types.specs.declared.rule.Cond.{Cond}

@@ -1,7 +1,7 @@
 use Rattle.std.proofs.Common.{rules}
 use Rattle.ug_types.specs.declared.rule.Rule.{Rule}
 use Rattle.ug_print.specs.Bytes.{RuleOfBytes}
-use Rattle.ug_print.specs.Words.{joined, rule_text}
+use Rattle.ug_print.specs.Words.{rule_text}
 use Rattle.ug_print.proofs.Printed.{answer_reads}
 use Rattle.ug_print.proofs.printing.print_rule.Goals as goal
 

@@ -1,4 +1,4 @@
-use Rattle.std.proofs.Common.{rules, ℕ, List, subst, arith}
+use Rattle.std.proofs.Common.{ℕ, List, subst, arith}
 use Rattle.std.proofs.lemmas.Grind.{common_steps}
 use Rattle.std.proofs.lemmas.List.Elements.{All-more}
 use Rattle.ug_print.specs.Bytes.{AreBytes}
