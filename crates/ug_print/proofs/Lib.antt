@@ -4,6 +4,7 @@ pub mod ConditionsAgain
 pub mod Decimals
 pub mod Fits
 pub mod Fractions
+pub mod GeneratedFits
 pub mod Hexadecimal
 pub mod IdWords
 pub mod Pieces
