@@ -3,6 +3,7 @@ use Rattle.std.proofs.Common.{◌≡◌, ℕ, zero, suc, ◌+◌, ◌-◌, ◌*�
 use Rattle.std.specs.Prelude.{decimal, fold}
 use Rattle.std.specs.List.{AllByRecursion}
 use Rattle.std.proofs.Math.Nat.{mul-le-mul_right}
+use Rattle.std.proofs.lemmas.List.Sums.{fold-append}
 use Rattle.std.proofs.lemmas.Fmt.{decimal_by_steps, decimal_digit, decimal_nonempty, first_decimal}
 use Rattle.ug_lex.specs.Lexing.{is_word_byte}
 use Rattle.ug_lex.specs.Grammar.{IsWordByte}
@@ -23,10 +24,6 @@ digit_more n d h k =
 pub fold_none : (ds : List ℕ) → fold with_digit None ds ≡ None
 fold_none [] = refl
 fold_none (b ∷ ds) = fold_none ds
-
-pub fold-append : (o : Option ℕ) (xs ys : List ℕ) → fold with_digit o (xs ++ ys) ≡ fold with_digit (fold with_digit o xs) ys
-fold-append o [] ys = refl
-fold-append o (x ∷ xs) ys = fold-append (with_digit o x) xs ys
 
 -- what one more digit made
 pub record Digit (n b m : ℕ) : Type 0 where
@@ -115,7 +112,7 @@ more_written n ds h w =
     record {
       digits = all-append IsDigit ds ((48 + n % 10) ∷ []) w.digits ((omega arith, omega arith), tt);
       value = λ k.
-          fold-append (Some 0) ds ((48 + n % 10) ∷ [])
+          fold-append with_digit (Some 0) ds ((48 + n % 10) ∷ [])
           ∙ ap (λ (o : Option ℕ). with_digit o (48 + n % 10)) (w.value (omega (arith, k)))
           ∙ digit_more (n / 10) (n % 10) (omega arith) (omega (arith, k))
           ∙ ap Some e;

@@ -2,7 +2,7 @@
 use Rattle.std.proofs.Common.{◌≡◌, ℕ, ◌+◌, ◌-◌, inl, false, List, [], ◌∷◌, ◌++◌, length, length-append, take, Option, None, Some, refl, sym, ap, subst, ◌∙◌, arith, append_assoc, flat_map}
 use Rattle.std.specs.List.{AllByRecursion}
 use Rattle.std.proofs.lemmas.List.{append-nil}
-use Rattle.std.proofs.Math.Seq.{drop-append_seam}
+use Rattle.std.proofs.Math.Seq.{drop-append_seam, take-append_seam}
 use Rattle.ug_lex.specs.declared.token.Token.{Token}
 use Rattle.ug_lex.specs.declared.token.TokenKind.{TokenKind}
 use Rattle.ug_lex.specs.declared.token.TokenKind.TheVariants as kind
@@ -58,11 +58,7 @@ word_at kind.Word before bytes rest =
     let n : length before + length bytes - length before ≡ length bytes = omega arith in
     ap (λ (l : List ℕ). take (length before + length bytes - length before) l) (drop-append_seam before (bytes ++ rest))
     ∙ ap (λ (k : ℕ). take k (bytes ++ rest)) n
-    ∙ take_front bytes rest
-  where
-    take_front : (bytes rest : List ℕ) → take (length bytes) (bytes ++ rest) ≡ bytes
-    take_front [] rest = refl
-    take_front (b ∷ bytes) rest = ap (λ (l : List ℕ). b ∷ l) (take_front bytes rest)
+    ∙ take-append_seam bytes rest
 word_at (kind.Str text) before bytes rest = refl
 word_at kind.Open before bytes rest = refl
 word_at kind.Close before bytes rest = refl

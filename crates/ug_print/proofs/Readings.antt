@@ -79,7 +79,7 @@ reads_as ws R Q f r = record {
 
 -- ---- sets
 
-pub open_piece : Piece
+abbrev open_piece : Piece
 open_piece = record { kind = kind.Open; word = [] }
 
 abbrev pub close_piece : Piece
@@ -112,13 +112,11 @@ abbrev braced : List (List ℕ) → List (List ℕ)
 braced ws = codes "{" ∷ (ws ++ codes "}" ∷ [])
 
 braced_cut : (ws : List (List ℕ)) (pieces : List Piece) → CutAll ws pieces → CutAll (braced ws) (open_piece ∷ (pieces ++ close_piece ∷ []))
-unfolding open_piece
 braced_cut ws pieces c =
     cut_word (codes "{") (ws ++ codes "}" ∷ []) (open_piece ∷ []) (pieces ++ close_piece ∷ []) (one_mark 123 kind.Open refl)
     (cut-append ws (codes "}" ∷ []) pieces (close_piece ∷ []) c (cut_word (codes "}") [] (close_piece ∷ []) [] (one_mark 125 kind.Close refl) refl))
 
 set_opened : (ws : List (List ℕ)) (S : List ℕ → List Token → List Token → Type 0) (r : SetReads ws S) (line : List ℕ) (more : List Piece) (tokens : List Token) → ArePieces line ((open_piece ∷ (r.pieces ++ close_piece ∷ [])) ++ more) tokens → Taken line more tokens (Opened (S line))
-unfolding open_piece
 set_opened ws S r line more tokens a =
     let t : Taken line more a.rest (S line) = r.reads line more a.rest (subst (λ (l : List Piece). ArePieces line l a.rest) (append_assoc r.pieces (close_piece ∷ []) more) a.behind) in
     record { rest = t.rest; is = record { brace = a.token; more = a.rest; cut = a.cut; opens = ap is_open a.is.kind; set = t.is }; behind = t.behind }

@@ -2,6 +2,8 @@
 use Rattle.std.proofs.Common.{◌≡◌, ℕ, zero, suc, ◌+◌, ◌*◌, ◌/◌, ◌%◌, ◌^◌, ◌<◌, ◌≤◌, inl, inr, Bool, true, false, ◌&&◌, nat_eq, nat_le, nat_lt, not, cond, List, [], ◌∷◌, ◌++◌, length, length-append, take, drop, get_or, Option, None, Some, refl, sym, ap, subst, ◌∙◌, arith, if◌then◌else◌}
 use Rattle.std.specs.Prelude.{decimal}
 use Rattle.std.specs.List.{AllByRecursion, position, prefix_len}
+use Rattle.std.proofs.Math.Bool.{and-false}
+use Rattle.std.proofs.Math.Seq.{take-append_seam}
 use Rattle.std.proofs.lemmas.Fmt.{decimal_digit, decimal_nonempty, decimal_step}
 use Rattle.ug_lex.specs.Grammar.{IsWordByte}
 use Rattle.ug_rule.specs.declared.words.Clock.{Clock}
@@ -125,11 +127,7 @@ no_colon : (n : ℕ) (ds : List ℕ) → AllByRecursion IsDigit ds → has_colon
 no_colon n ds h =
     let b : get_or ds n 0 ≤ 57 = low_digits ds n h in
     let e : nat_eq (get_or ds n 0) 58 ≡ false = grind arith in
-    ap (λ (v : Bool). nat_lt n (length ds) && v) e ∙ never (nat_lt n (length ds))
-  where
-    never : (v : Bool) → (v && false) ≡ false
-    never true = refl
-    never false = refl
+    ap (λ (v : Bool). nat_lt n (length ds) && v) e ∙ and-false (nat_lt n (length ds))
 
 pub past_word : (text : List ℕ) (seconds : ℕ) → past_of text ≡ Some seconds → WordFor past_of (decimal seconds) seconds
 unfolding past_of
@@ -233,10 +231,6 @@ dashed front rest h =
     let test : nat_lt (length front) n ≡ true = grind (arith, long) in
     ap (λ (p : ℕ). cond (nat_lt p n) (Some p) None) (dash_place front rest h) ∙ ap (λ (v : Bool). cond v (Some (length front)) None) test
 
-before_dash : (front rest : List ℕ) → take (length front) (front ++ rest) ≡ front
-before_dash [] rest = refl
-before_dash (b ∷ front) rest = ap (λ (l : List ℕ). b ∷ l) (before_dash front rest)
-
 behind_dash : (front rest : List ℕ) → drop (length front + 1) (front ++ 45 ∷ rest) ≡ rest
 behind_dash front rest = let e : length front + 1 ≡ suc (length front) = omega arith in ap (λ (n : ℕ). drop n (front ++ 45 ∷ rest)) e ∙ by front
   where
@@ -248,7 +242,7 @@ span_written : (begin end : ℕ) (front back : List ℕ) → TimeWritten begin f
 unfolding span_of
 span_written begin end front back a b =
     ap (λ (o : Option ℕ). span_by_dash o (front ++ 45 ∷ back)) (dashed front back a.bytes)
-    ∙ (ap (λ (l : List ℕ). span_of_begin (time_of 23 l) (drop (length front + 1) (front ++ 45 ∷ back))) (before_dash front (45 ∷ back))
+    ∙ (ap (λ (l : List ℕ). span_of_begin (time_of 23 l) (drop (length front + 1) (front ++ 45 ∷ back))) (take-append_seam front (45 ∷ back))
     ∙ (ap (λ (l : List ℕ). span_of_begin (time_of 23 front) l) (behind_dash front back)
     ∙ (ap (λ (o : Option Clock). span_of_begin o back) a.says
     ∙ ap (span_from (Second begin)) b.says)))

@@ -107,7 +107,7 @@ fn query(alloc: Global, device: &DeviceRecord, with_port: bool) -> Result<Query,
 }
 
 /// The rule that is made of a device: all that is known of it, each with `equals`, and its port only if that is asked
-/// for. Interfaces stand in the device's order; without any the attribute isn't given.
+/// for. Interfaces stand in the device's order; without any the attribute isn't given. Some line reads as it.
 #[tactic(auto, unfolding(crate::specs::Generated::generated_of))]
 pub fn generated_rule(
     alloc: Global,
@@ -116,7 +116,7 @@ pub fn generated_rule(
     with_port: bool,
 ) -> Result<Rule, NoMemory>
     ensures rule { IfOk result (λ rule. rule ≡ generated_of device.now target with_port) }
-    ensures well_formed { OnOk result (WellFormed (generated_of device.now target with_port)) }
+    ensures well_formed { IfOk result (λ rule. WellFormed rule) }
 {
     Ok(Rule {
         target,
@@ -125,7 +125,8 @@ pub fn generated_rule(
     })
 }
 
-/// The line of a list of devices: the text of the rule that is made of the device with its verdict and its port.
+/// The line of a list of devices: the text of the rule that is made of the device with its verdict and its port. It
+/// reads as that rule.
 pub fn device_line(alloc: Global, device: &DeviceRecord, verdict: Target) -> Result<Text, NoMemory>
     ensures text { IfOk result (λ text. text ≡ rule_text (generated_of device.now verdict true)) }
     ensures reads { IfOk result (λ text. rule_read text ≡ Ok (generated_of device.now verdict true)) }

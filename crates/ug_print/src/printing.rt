@@ -20,7 +20,8 @@ fn put_target(alloc: Global, words: &mut List<Text>, target: Target) -> Result<(
 }
 
 /// The canonical text of a rule, on one line without its newline: words with one space between them, the attributes
-/// that are given in the order of usbguard-rules.conf(5) from `id` to `label`, then `if` with the conditions.
+/// that are given in the order of usbguard-rules.conf(5) from `id` to `label`, then `if` with the conditions. Where some
+/// line reads as the rule, this one does.
 #[tactic(auto, unfolding(crate::specs::Words::rule_text))]
 pub fn print_rule(alloc: Global, rule: &Rule) -> Result<Text, NoMemory>
     ensures text { IfOk result (λ text. text ≡ rule_text rule.now) }
