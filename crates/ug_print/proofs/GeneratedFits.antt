@@ -1,12 +1,10 @@
 -- The rule of a device is well formed.
-use Rattle.std.proofs.Common.{◌≡◌, ℕ, ◌<◌, Bool, true, false, List, [], ◌∷◌, map, Option, None, Some, Result, Ok, Err, refl, ap, ◌∙◌, arith, if◌then◌else◌}
-use Rattle.std.specs.Prelude.{IfOk, IfSome}
+use Rattle.std.proofs.Common.{ℕ, ◌<◌, Bool, true, false, List, [], ◌∷◌, map, None, Some, arith, if◌then◌else◌}
+use Rattle.std.specs.Prelude.{IfSome}
 use Rattle.std.specs.List.{AllByRecursion}
 use Rattle.std.proofs.lemmas.List.Elements.{recursion_from_All}
-use Rattle.ug_types.specs.declared.no_memory.NoMemory.{NoMemory}
 use Rattle.ug_types.specs.declared.record.DeviceRecord.{DeviceRecord}
 use Rattle.ug_types.specs.declared.record.Triple.{Triple}
-use Rattle.ug_types.specs.declared.rule.Values.{Values}
 use Rattle.ug_types.specs.declared.verdict.Target.{Target}
 use Rattle.ug_rule.specs.Grammar.{WellFormed}
 use Rattle.ug_rule.specs.Values.{id_in, interface_in, string_in}
@@ -20,7 +18,7 @@ use Rattle.ug_print.specs.Words.{rule_text}
 use Rattle.ug_print.proofs.Hexadecimal.{four_again, two_again}
 use Rattle.ug_print.proofs.IdWords.{id_piece, interface_piece}
 use Rattle.ug_print.proofs.QueryAgain.{QueryFits, ValuesFit}
-use Rattle.ug_print.proofs.RuleAgain.{RuleFits, rule_again}
+use Rattle.ug_print.proofs.RuleAgain.{rule_again}
 use Rattle.ug_print.proofs.Strings.{string_piece}
 use Rattle.ug_print.proofs.ValuesAgain.{AllPieces, ItemPiece}
 

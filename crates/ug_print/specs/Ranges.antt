@@ -1,5 +1,5 @@
 -- Records whose numbers and texts are those that memory can have.
-use Rattle.std.specs.Prelude.{ℕ, ◌<◌, ◌^◌, All}
+use Rattle.std.specs.Prelude.{◌<◌, ◌^◌, All}
 use Rattle.ug_types.specs.declared.record.DeviceRecord.{DeviceRecord}
 use Rattle.ug_types.specs.declared.record.Triple.{Triple}
 use Rattle.ug_print.specs.Bytes.{AreBytes}

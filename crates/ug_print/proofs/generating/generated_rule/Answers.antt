@@ -1,4 +1,4 @@
-use Rattle.std.proofs.Common.{◌≡◌, None, ap, subst, sym}
+use Rattle.std.proofs.Common.{None, ap, subst, sym}
 use Rattle.ug_types.specs.declared.rule.Query.{Query}
 use Rattle.ug_types.specs.declared.rule.Rule.{Rule}
 use Rattle.ug_rule.specs.Grammar.{WellFormed}
