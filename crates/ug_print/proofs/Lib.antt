@@ -1,2 +1,17 @@
 pub mod Appending
+pub mod Chances
+pub mod ConditionsAgain
+pub mod Decimals
+pub mod Fits
 pub mod Fractions
+pub mod GeneratedFits
+pub mod Hexadecimal
+pub mod IdWords
+pub mod Pieces
+pub mod Printed
+pub mod QueryAgain
+pub mod Readings
+pub mod RuleAgain
+pub mod Strings
+pub mod Times
+pub mod ValuesAgain

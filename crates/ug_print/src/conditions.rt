@@ -1,5 +1,6 @@
 // Conditions of rules as text.
-ghost use Rattle.std.specs.Prelude.{◌≡◌, ◌<◌, ◌++◌, ◌∷◌, [], IfOk, OnOk, List, codes, decimal, if◌then◌else◌, map};
+ghost use Rattle.std.specs.Prelude.{◌≡◌, ◌<◌, ◌++◌, ◌∷◌, [], All, IfOk, OnOk, List, codes, decimal, if◌then◌else◌, map};
+ghost use Rattle.ug_print.specs.Bytes.{CondOfBytes, CondsOfBytes, KindOfBytes, QueryOfBytes};
 ghost use Rattle.ug_print.specs.Items.{billionths, past_text, probability_text, time_text, two_digits};
 ghost use Rattle.ug_print.specs.Words.{cond_text, conds_words, joined, kind_text, query_words};
 
@@ -55,7 +56,8 @@ fn put_local_time(out: &mut Vec<u8>, begin: u32, end: u32) -> Result<(), NoMemor
 }
 
 fn print_query(alloc: Global, query: &Query) -> Result<Text, NoMemory>
-    ensures { IfOk result (λ text. text ≡ joined (query_words query.now)) }
+    ensures text { IfOk result (λ text. text ≡ joined (query_words query.now)) }
+    ensures bytes { OnOk result (QueryOfBytes query.now) }
 {
     let mut words = List::new(alloc);
     put_query(alloc, &mut words, query)?;
@@ -72,7 +74,8 @@ fn put_with_argument(out: &mut Vec<u8>, word: &[u8], argument: &[u8]) -> Result<
 }
 
 fn put_allowed_matches(alloc: Global, out: &mut Vec<u8>, query: &Query) -> Result<(), NoMemory>
-    ensures { OnOk result (out.new.items ≡ out.old.items ++ (codes "allowed-matches(" ++ joined (query_words query.now) ++ 41 ∷ [])) }
+    ensures text { OnOk result (out.new.items ≡ out.old.items ++ (codes "allowed-matches(" ++ joined (query_words query.now) ++ 41 ∷ [])) }
+    ensures bytes { OnOk result (QueryOfBytes query.now) }
 {
     let text = print_query(alloc, query)?;
     put_with_argument(out, b"allowed-matches", text.bytes())
@@ -132,7 +135,8 @@ fn put_random(out: &mut Vec<u8>, n: u32) -> Result<(), NoMemory>
 
 #[tactic(auto, unfolding(crate::specs::Words::kind_text))]
 fn put_kind(alloc: Global, out: &mut Vec<u8>, kind: &CondKind) -> Result<(), NoMemory>
-    ensures { OnOk result (out.new.items ≡ out.old.items ++ kind_text kind.now) }
+    ensures text { OnOk result (out.new.items ≡ out.old.items ++ kind_text kind.now) }
+    ensures bytes { OnOk result (KindOfBytes kind.now) }
 {
     match kind {
         CondKind::LocalTime { begin, end } => put_local_time(out, *begin, *end),
@@ -155,7 +159,8 @@ fn put_negation(out: &mut Vec<u8>, negated: bool) -> Result<(), NoMemory>
 }
 
 fn print_cond(alloc: Global, cond: &Cond) -> Result<Text, NoMemory>
-    ensures { IfOk result (λ text. text ≡ cond_text cond.now) }
+    ensures text { IfOk result (λ text. text ≡ cond_text cond.now) }
+    ensures bytes { OnOk result (CondOfBytes cond.now) }
 {
     let mut out = Vec::new(alloc);
     put_negation(&mut out, cond.negated)?;
@@ -164,7 +169,8 @@ fn print_cond(alloc: Global, cond: &Cond) -> Result<Text, NoMemory>
 }
 
 fn put_cond_items(alloc: Global, words: &mut List<Text>, conds: &[Cond]) -> Result<(), NoMemory>
-    ensures { OnOk result (words.new ≡ words.old ++ map cond_text conds.now) }
+    ensures words { OnOk result (words.new ≡ words.old ++ map cond_text conds.now) }
+    ensures bytes { OnOk result (All CondOfBytes conds.now) }
 {
     for cond in conds {
         words.push(print_cond(alloc, cond)?)?;
@@ -178,7 +184,8 @@ pub fn put_conds(
     words: &mut List<Text>,
     conds: &Option<Conds>,
 ) -> Result<(), NoMemory>
-    ensures { OnOk result (words.new ≡ words.old ++ conds_words conds.now) }
+    ensures words { OnOk result (words.new ≡ words.old ++ conds_words conds.now) }
+    ensures bytes { OnOk result (CondsOfBytes conds.now) }
 {
     match conds {
         None => Ok(()),

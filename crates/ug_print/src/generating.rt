@@ -1,6 +1,11 @@
 // Rules made of devices.
-ghost use Rattle.std.specs.Prelude.{◌≡◌, ◌++◌, ◌∷◌, [], IfOk, OnOk, List, None, if◌then◌else◌, map, true};
+ghost use Rattle.std.specs.Prelude.{◌≡◌, ◌<◌, ◌^◌, ◌++◌, ◌∷◌, [], All, IfOk, Ok, OnOk, List, None, Some, if◌then◌else◌, map, true};
+ghost use Rattle.ug_rule.specs.Grammar.{WellFormed};
+ghost use Rattle.ug_rule.specs.Rules.{rule_read};
+ghost use Rattle.ug_rule.specs.WordGrammar.{id_with};
+ghost use Rattle.ug_print.specs.Bytes.{AreBytes};
 ghost use Rattle.ug_print.specs.Generated.{equals, generated_of, interface_of, interfaces_of, query_of};
+ghost use Rattle.ug_print.specs.Ranges.{RecordInRange, TripleInRange};
 ghost use Rattle.ug_print.specs.Words.{rule_text};
 
 use crate::printing::print_rule;
@@ -9,11 +14,16 @@ use ug_types::{
     DeviceRecord, Id, Iface, List, NoMemory, Op, Query, Rule, Target, Text, Triple, Values,
 };
 
-fn one_id(alloc: Global, id: Id) -> Result<Option<Values<Id>>, NoMemory>
-    ensures { IfOk result (λ values. values ≡ equals (id ∷ [])) }
+fn one_id(alloc: Global, vendor: u16, product: u16) -> Result<Option<Values<Id>>, NoMemory>
+    ensures values { IfOk result (λ values. values ≡ equals (id_with (Some vendor) (Some product) ∷ [])) }
+    ensures vendor { vendor < 2 ^ 16 }
+    ensures product { product < 2 ^ 16 }
 {
     let mut items = List::new(alloc);
-    items.push(id)?;
+    items.push(Id {
+        vendor: Some(vendor),
+        product: Some(product),
+    })?;
     Ok(Some(Values {
         op: Op::Equals,
         items,
@@ -21,7 +31,8 @@ fn one_id(alloc: Global, id: Id) -> Result<Option<Values<Id>>, NoMemory>
 }
 
 fn one_text(alloc: Global, text: &[u8]) -> Result<Option<Values<Text>>, NoMemory>
-    ensures { IfOk result (λ values. values ≡ equals (text.now ∷ [])) }
+    ensures values { IfOk result (λ values. values ≡ equals (text.now ∷ [])) }
+    ensures bytes { AreBytes text.now }
 {
     let mut items = List::new(alloc);
     items.push(Text::of(alloc, text)?)?;
@@ -32,7 +43,8 @@ fn one_text(alloc: Global, text: &[u8]) -> Result<Option<Values<Text>>, NoMemory
 }
 
 fn port_if(alloc: Global, port: &[u8], with_port: bool) -> Result<Option<Values<Text>>, NoMemory>
-    ensures { IfOk result (λ values. values ≡ (if with_port then equals (port.now ∷ []) else None)) }
+    ensures values { IfOk result (λ values. values ≡ (if with_port then equals (port.now ∷ []) else None)) }
+    ensures bytes { AreBytes port.now }
 {
     if with_port {
         return one_text(alloc, port);
@@ -40,21 +52,30 @@ fn port_if(alloc: Global, port: &[u8], with_port: bool) -> Result<Option<Values<
     Ok(None)
 }
 
+fn interface(triple: Triple) -> Iface
+    ensures interface { result ≡ interface_of triple }
+    ensures range { TripleInRange triple }
+{
+    Iface {
+        class: triple.class,
+        subclass: Some(triple.subclass),
+        protocol: Some(triple.protocol),
+    }
+}
+
 fn put_interfaces(items: &mut List<Iface>, triples: &[Triple]) -> Result<(), NoMemory>
-    ensures { OnOk result (items.new ≡ items.old ++ map interface_of triples.now) }
+    ensures items { OnOk result (items.new ≡ items.old ++ map interface_of triples.now) }
+    ensures range { OnOk result (All TripleInRange triples.now) }
 {
     for triple in triples {
-        items.push(Iface {
-            class: triple.class,
-            subclass: Some(triple.subclass),
-            protocol: Some(triple.protocol),
-        })?;
+        items.push(interface(*triple))?;
     }
     Ok(())
 }
 
 fn interfaces(alloc: Global, triples: &[Triple]) -> Result<Option<Values<Iface>>, NoMemory>
-    ensures { IfOk result (λ values. values ≡ interfaces_of triples.now) }
+    ensures values { IfOk result (λ values. values ≡ interfaces_of triples.now) }
+    ensures range { OnOk result (All TripleInRange triples.now) }
 {
     if triples.is_empty() {
         return Ok(None);
@@ -69,14 +90,11 @@ fn interfaces(alloc: Global, triples: &[Triple]) -> Result<Option<Values<Iface>>
 
 #[tactic(auto, unfolding(crate::specs::Generated::query_of))]
 fn query(alloc: Global, device: &DeviceRecord, with_port: bool) -> Result<Query, NoMemory>
-    ensures { IfOk result (λ query. query ≡ query_of device.now with_port) }
+    ensures query { IfOk result (λ query. query ≡ query_of device.now with_port) }
+    ensures range { OnOk result (RecordInRange device.now) }
 {
-    let id = Id {
-        vendor: Some(device.vendor),
-        product: Some(device.product),
-    };
     Ok(Query {
-        id: one_id(alloc, id)?,
+        id: one_id(alloc, device.vendor, device.product)?,
         serial: one_text(alloc, device.serial.bytes())?,
         name: one_text(alloc, device.name.bytes())?,
         hash: one_text(alloc, &device.hash)?,
@@ -89,7 +107,7 @@ fn query(alloc: Global, device: &DeviceRecord, with_port: bool) -> Result<Query,
 }
 
 /// The rule that is made of a device: all that is known of it, each with `equals`, and its port only if that is asked
-/// for. Interfaces stand in the device's order; without any the attribute isn't given.
+/// for. Interfaces stand in the device's order; without any the attribute isn't given. Some line reads as it.
 #[tactic(auto, unfolding(crate::specs::Generated::generated_of))]
 pub fn generated_rule(
     alloc: Global,
@@ -97,7 +115,8 @@ pub fn generated_rule(
     target: Target,
     with_port: bool,
 ) -> Result<Rule, NoMemory>
-    ensures { IfOk result (λ rule. rule ≡ generated_of device.now target with_port) }
+    ensures rule { IfOk result (λ rule. rule ≡ generated_of device.now target with_port) }
+    ensures well_formed { IfOk result (λ rule. WellFormed rule) }
 {
     Ok(Rule {
         target,
@@ -106,9 +125,11 @@ pub fn generated_rule(
     })
 }
 
-/// The line of a list of devices: the text of the rule that is made of the device with its verdict and its port.
+/// The line of a list of devices: the text of the rule that is made of the device with its verdict and its port. It
+/// reads as that rule.
 pub fn device_line(alloc: Global, device: &DeviceRecord, verdict: Target) -> Result<Text, NoMemory>
-    ensures { IfOk result (λ text. text ≡ rule_text (generated_of device.now verdict true)) }
+    ensures text { IfOk result (λ text. text ≡ rule_text (generated_of device.now verdict true)) }
+    ensures reads { IfOk result (λ text. rule_read text ≡ Ok (generated_of device.now verdict true)) }
 {
     let rule = generated_rule(alloc, device, verdict, true)?;
     print_rule(alloc, &rule)

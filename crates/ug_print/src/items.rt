@@ -1,6 +1,7 @@
 // The values of rules as text.
 ghost use Rattle.std.specs.Prelude.{◌≡◌, ◌<◌, ◌++◌, ◌∷◌, [], IfOk, OnOk, flat_map};
 ghost use Rattle.std.specs.Char.{digit_char};
+ghost use Rattle.ug_print.specs.Bytes.{AreBytes};
 ghost use Rattle.ug_print.specs.Items.{byte_text, hex_four, hex_two, id_text, interface_text, or_star, string_text};
 
 use std::alloc::Global;
@@ -95,7 +96,8 @@ fn put_text(out: &mut Vec<u8>, text: &[u8]) -> Result<(), NoMemory>
 }
 
 pub fn print_string(alloc: Global, text: &[u8]) -> Result<Text, NoMemory>
-    ensures { IfOk result (λ printed. printed ≡ string_text text.now) }
+    ensures text { IfOk result (λ printed. printed ≡ string_text text.now) }
+    ensures bytes { AreBytes text.now }
 {
     let mut out = Vec::new(alloc);
     out.push(b'"')?;

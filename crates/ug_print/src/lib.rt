@@ -4,6 +4,7 @@
 mod conditions;
 mod generating;
 mod items;
+pub mod laws;
 mod printing;
 mod sets;
 

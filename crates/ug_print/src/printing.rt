@@ -1,5 +1,7 @@
 // Rules as text.
-ghost use Rattle.std.specs.Prelude.{◌≡◌, ◌++◌, ◌∷◌, [], IfOk, OnOk};
+ghost use Rattle.std.specs.Prelude.{◌≡◌, ◌++◌, ◌∷◌, [], IfOk, Ok, OnOk};
+ghost use Rattle.ug_rule.specs.Grammar.{WellFormed};
+ghost use Rattle.ug_rule.specs.Rules.{rule_read};
 ghost use Rattle.ug_print.specs.Words.{rule_text, target_word};
 
 use crate::conditions::put_conds;
@@ -18,10 +20,12 @@ fn put_target(alloc: Global, words: &mut List<Text>, target: Target) -> Result<(
 }
 
 /// The canonical text of a rule, on one line without its newline: words with one space between them, the attributes
-/// that are given in the order of usbguard-rules.conf(5) from `id` to `label`, then `if` with the conditions.
+/// that are given in the order of usbguard-rules.conf(5) from `id` to `label`, then `if` with the conditions. Where some
+/// line reads as the rule, this one does.
 #[tactic(auto, unfolding(crate::specs::Words::rule_text))]
 pub fn print_rule(alloc: Global, rule: &Rule) -> Result<Text, NoMemory>
-    ensures { IfOk result (λ text. text ≡ rule_text rule.now) }
+    ensures text { IfOk result (λ text. text ≡ rule_text rule.now) }
+    ensures reads { WellFormed rule.now → IfOk result (λ text. rule_read text ≡ Ok rule.now) }
 {
     let mut words = List::new(alloc);
     put_target(alloc, &mut words, rule.target)?;

@@ -1,5 +1,6 @@
 // Attributes and sets of values as words.
-ghost use Rattle.std.specs.Prelude.{◌≡◌, ◌++◌, ◌∷◌, [], IfOk, OnOk, List, codes, flat_map, length, map};
+ghost use Rattle.std.specs.Prelude.{◌≡◌, ◌++◌, ◌∷◌, [], All, IfOk, IfSome, OnOk, List, codes, flat_map, length, map};
+ghost use Rattle.ug_print.specs.Bytes.{AreBytes, QueryOfBytes, TextsOfBytes};
 ghost use Rattle.ug_print.specs.Items.{id_text, interface_text, string_text};
 ghost use Rattle.ug_print.specs.Words.{attribute_words, closing, is_alone, joined, label_words, opening, operator_words, query_words, spaced};
 
@@ -108,7 +109,8 @@ fn put_interface_items(
 }
 
 fn put_text_items(alloc: Global, words: &mut List<Text>, texts: &[Text]) -> Result<(), NoMemory>
-    ensures { OnOk result (words.new ≡ words.old ++ map string_text texts.now) }
+    ensures words { OnOk result (words.new ≡ words.old ++ map string_text texts.now) }
+    ensures bytes { OnOk result (All AreBytes texts.now) }
 {
     for text in texts {
         words.push(print_string(alloc, text.bytes())?)?;
@@ -162,7 +164,8 @@ fn put_texts(
     name: &[u8],
     values: &Option<Values<Text>>,
 ) -> Result<(), NoMemory>
-    ensures { OnOk result (words.new ≡ words.old ++ attribute_words name.now string_text values.now) }
+    ensures words { OnOk result (words.new ≡ words.old ++ attribute_words name.now string_text values.now) }
+    ensures bytes { OnOk result (TextsOfBytes values.now) }
 {
     match values {
         None => Ok(()),
@@ -177,7 +180,8 @@ fn put_texts(
 }
 
 fn put_label(alloc: Global, words: &mut List<Text>, label: &Option<Text>) -> Result<(), NoMemory>
-    ensures { OnOk result (words.new ≡ words.old ++ label_words label.now) }
+    ensures words { OnOk result (words.new ≡ words.old ++ label_words label.now) }
+    ensures bytes { OnOk result (IfSome label.now AreBytes) }
 {
     match label {
         None => Ok(()),
@@ -191,7 +195,8 @@ fn put_label(alloc: Global, words: &mut List<Text>, label: &Option<Text>) -> Res
 /// The attributes that are given.
 #[tactic(auto, unfolding(crate::specs::Words::query_words))]
 pub fn put_query(alloc: Global, words: &mut List<Text>, query: &Query) -> Result<(), NoMemory>
-    ensures { OnOk result (words.new ≡ words.old ++ query_words query.now) }
+    ensures words { OnOk result (words.new ≡ words.old ++ query_words query.now) }
+    ensures bytes { OnOk result (QueryOfBytes query.now) }
 {
     put_ids(alloc, words, b"id", &query.id)?;
     put_texts(alloc, words, b"serial", &query.serial)?;

@@ -2,6 +2,7 @@
 use crate::*;
 use std::alloc::Global;
 use std::test::Fail;
+use ug_rule::parse_rule;
 use ug_types::{
     Cond, CondKind, Conds, DeviceRecord, Id, Iface, List, NodeName, Op, Query, Rule, Target, Text,
     Triple, Values,
@@ -228,6 +229,37 @@ fn prints_sets_of_conditions(rt: HostRuntime) -> Result<(), Fail> {
         print_rule(alloc, &rule)?.bytes(),
         b"allow if one-of { rule-applied(60) !rule-applied }".as_slice()
     );
+    Ok(())
+}
+
+// Lines, and what is printed of their rules, which is printed of itself too.
+#[test]
+fn prints_what_is_parsed_again(rt: HostRuntime) -> Result<(), Fail> {
+    let alloc = rt.alloc();
+    let lines: [(&[u8], &[u8]); 4] = [
+        (
+            b"allow 1050:0011 name equals { \"a\\x41\" } # key",
+            b"allow id 1050:0011 name \"aA\"",
+        ),
+        (
+            b"reject if localtime(22:00-06:00)\tvia-port {\"1-1\" \"1-2\"}",
+            b"reject via-port { \"1-1\" \"1-2\" } if localtime(22:00:00-06:00:00)",
+        ),
+        (
+            b"block if one-of { !rule-applied(01:00) random }",
+            b"block if one-of { !rule-applied(3600) random(0.5) }",
+        ),
+        (
+            b"allow if allowed-matches(03F0:* label \"l\")",
+            b"allow if allowed-matches(id 03f0:* label \"l\")",
+        ),
+    ];
+    for (line, want) in lines {
+        let text = print_rule(alloc, &parse_rule(alloc, line)?)?;
+        assert_eq!(rt; text.bytes(), want);
+        let again = print_rule(alloc, &parse_rule(alloc, text.bytes())?)?;
+        assert_eq!(rt; again.bytes(), want);
+    }
     Ok(())
 }
 
