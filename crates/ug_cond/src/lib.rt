@@ -1,6 +1,18 @@
-// When rules were evaluated and applied, as their conditions ask.
+// The conditions of rules: usbguard-rules.conf(5).
 #![tactic(auto)]
 
+mod allowed;
+mod conditions;
+mod context;
 mod history;
+mod laws;
+mod local;
+#[cfg(test)]
+mod tests;
 
+pub use allowed::Allowed;
+pub use conditions::holds;
+pub use context::Context;
 pub use history::History;
+pub use laws::{conditions_law, zones_law};
+pub use local::local_second;

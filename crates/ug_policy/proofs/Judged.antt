@@ -1,5 +1,5 @@
 -- A list after a judgement.
-use Rattle.std.proofs.Common.{◌≡◌, ℕ, zero, suc, ◌<◌, ◌∷◌, ◌++◌, [], List, length, set, Bool, true, false, cond, Option, Some, None, arith, refl, sym, ap, ◌∙◌, subst, inl, inr, ◌⊎◌}
+use Rattle.std.proofs.Common.{◌≡◌, ℕ, zero, suc, ◌<◌, ◌∷◌, [], List, set, Bool, true, false, Some, arith, refl, sym, ap, ◌∙◌, subst, inl, inr, ◌⊎◌}
 use Rattle.std.specs.Prelude.{IsTrue, slice_get}
 use Rattle.std.proofs.lemmas.Bool.{cond-true, cond-false}
 use Rattle.std.proofs.lemmas.Option.{same_Some, none-some}
@@ -7,14 +7,9 @@ use Rattle.ug_types.specs.declared.record.DeviceRecord.{DeviceRecord}
 use Rattle.ug_types.specs.declared.verdict.Cause.TheVariants as cause
 use Rattle.ug_types.specs.declared.verdict.Moment.{Moment}
 use Rattle.ug_types.specs.declared.verdict.Target.{Target}
-use Rattle.ug_cond.specs.Judgements.{Judgement}
 use Rattle.ug_policy.specs.declared.entry.RuleEntry.{RuleEntry}
-use Rattle.ug_policy.specs.Rules.{ids, IsNumbered}
 use Rattle.ug_policy.specs.Matching.{matched, IsDeciding, NoneDecides, answer_by, answered, noted, judged}
-use Rattle.ug_policy.specs.Kept.{StandsFor, judgement_by, judgement_of}
 use Rattle.ug_policy.proofs.Places.{FirstAt, NonePasses, find_first, find_none, first_or_none}
-use Rattle.ug_policy.proofs.Numbering.{numbered_same}
-use Rattle.ug_policy.proofs.Stands.{stands_first, stands_none}
 
 pub judged_first : (dev : DeviceRecord) (moment : Moment) (es : List RuleEntry) (i : ℕ) (e : RuleEntry) → FirstAt (matched dev) es i e → judged dev moment es ≡ set es i (noted moment e)
 judged_first dev moment [] i e h = absurd h
@@ -25,19 +20,8 @@ pub judged_none : (dev : DeviceRecord) (moment : Moment) (es : List RuleEntry) �
 judged_none dev moment [] h = refl
 judged_none dev moment (e ∷ es) h = cond-false (matched dev e) (noted moment e ∷ es) (e ∷ judged dev moment es) h.0 ∙ ap (λ v. e ∷ v) (judged_none dev moment es h.1)
 
-ids_judged : (dev : DeviceRecord) (moment : Moment) (es : List RuleEntry) → ids (judged dev moment es) ≡ ids es
-ids_judged dev moment [] = refl
-ids_judged dev moment (e ∷ es) = elim (matched dev e) as (λ (b : Bool). ids (cond b (noted moment e ∷ es) (e ∷ judged dev moment es)) ≡ e.id ∷ ids es) [ true ↦ refl | false ↦ ap (λ v. e.id ∷ v) (ids_judged dev moment es) ]
-
-length_judged : (dev : DeviceRecord) (moment : Moment) (es : List RuleEntry) → length (judged dev moment es) ≡ length es
-length_judged dev moment [] = refl
-length_judged dev moment (e ∷ es) = elim (matched dev e) as (λ (b : Bool). length (cond b (noted moment e ∷ es) (e ∷ judged dev moment es)) ≡ suc (length es)) [ true ↦ refl | false ↦ ap suc (length_judged dev moment es) ]
-
-pub numbered_judged : (dev : DeviceRecord) (moment : Moment) (es : List RuleEntry) (next : ℕ) → IsNumbered es next → IsNumbered (judged dev moment es) next
-numbered_judged dev moment es next n = numbered_same es (judged dev moment es) next (ids_judged dev moment es) (length_judged dev moment es) n
-
 -- from the first that passes to the rule that decides, and back
-not_true : (b : Bool) → ¬ IsTrue b → b ≡ false
+pub not_true : (b : Bool) → ¬ IsTrue b → b ≡ false
 not_true true h = absurd (h refl)
 not_true false h = refl
 
@@ -46,7 +30,7 @@ deciding_first dev [] i e d = absurd (none-some e d.there)
 deciding_first dev (f ∷ es) zero e d = let same = same_Some f e d.there in (same, subst (λ v. matched dev v ≡ true) (sym same) d.matching)
 deciding_first dev (f ∷ es) (suc i) e d = (not_true (matched dev f) (d.first zero f (omega arith) refl), deciding_first dev es i e (record { there = d.there; matching = d.matching; first = λ k g lt h. d.first (suc k) g (omega arith) h }))
 
-true-not_false : (b : Bool) → b ≡ false → ¬ IsTrue b
+pub true-not_false : (b : Bool) → b ≡ false → ¬ IsTrue b
 true-not_false b e t = let none : ⊥ = cc in absurd none
 
 first_deciding : (dev : DeviceRecord) (es : List RuleEntry) (i : ℕ) (e : RuleEntry) → FirstAt (matched dev) es i e → IsDeciding dev es i e
@@ -98,13 +82,3 @@ by_rule dev moment implicit es place entry d = let first = deciding_first dev es
 
 pub by_none : (dev : DeviceRecord) (moment : Moment) (implicit : Target) (es : List RuleEntry) → NoneDecides dev es → (answered dev implicit es ≡ (implicit, cause.Implicit)) × (judged dev moment es ≡ es)
 by_none dev moment implicit es n = let none = passing_none dev es n in (answered_none dev implicit es none, judged_none dev moment es none)
-
-pub stands_judged : (dev : DeviceRecord) (moment : Moment) (es : List RuleEntry) (next : ℕ) (js : List Judgement) → IsNumbered es next → StandsFor es next js → StandsFor (judged dev moment es) next (js ++ judgement_of dev moment es ∷ [])
-stands_judged dev moment es next js n s = elim (first_or_none (matched dev) es) [
-  | inl k ↦
-      subst (λ (o : Option RuleEntry). StandsFor (judged dev moment es) next (js ++ judgement_by moment o ∷ [])) (sym (find_first (matched dev) es k.0 k.1 k.2))
-      (subst (λ (v : List RuleEntry). StandsFor v next (js ++ judgement_by moment (Some k.1) ∷ [])) (sym (judged_first dev moment es k.0 k.1 k.2)) (stands_first dev es next moment k.0 k.1 js n k.2 s))
-  | inr none ↦
-      subst (λ (o : Option RuleEntry). StandsFor (judged dev moment es) next (js ++ judgement_by moment o ∷ [])) (sym (find_none (matched dev) es none))
-      (subst (λ (v : List RuleEntry). StandsFor v next (js ++ judgement_by moment None ∷ [])) (sym (judged_none dev moment es none)) (stands_none es next moment js s))
-]

@@ -4,4 +4,5 @@ pub mod Members
 pub mod Numbering
 pub mod Stands
 pub mod Judged
+pub mod Finding
 pub mod Lists

@@ -1,7 +1,8 @@
 -- What histories stand for, through the changes of a list.
-use Rattle.std.proofs.Common.{◌≡◌, ℕ, zero, suc, ◌<◌, ◌≤◌, ◌+◌, ◌∷◌, ◌++◌, [], List, set, Bool, true, false, cond, Option, Some, None, arith, refl, sym, ap, ◌∙◌, subst, inl, inr, ◌⊎◌}
-use Rattle.std.specs.List.{insert}
-use Rattle.std.specs.Prelude.{nat_le}
+use Rattle.std.proofs.Common.{◌≡◌, ℕ, ◌<◌, ◌≤◌, ◌+◌, ◌∷◌, ◌++◌, [], List, map, take, Bool, true, false, cond, Option, Some, None, arith, refl, sym, ap, ◌∙◌, subst, inl, inr, ◌⊎◌, append_assoc}
+use Rattle.std.specs.List.{filter, insert}
+use Rattle.std.specs.Option.{option_map}
+use Rattle.std.specs.Prelude.{nat_le, slice_get}
 use Rattle.ug_types.specs.Elements.{Has, AllDistinct}
 use Rattle.ug_types.specs.declared.record.DeviceRecord.{DeviceRecord}
 use Rattle.ug_types.specs.declared.rule.Rule as types
@@ -11,11 +12,11 @@ use Rattle.ug_cond.specs.Judgements.{Judgement, WasEvaluated, WasApplied, IsGrea
 use Rattle.ug_policy.specs.declared.entry.RuleEntry.{RuleEntry}
 use Rattle.ug_policy.specs.Rules.{ids, IsNumbered}
 use Rattle.ug_policy.specs.Edits.{has_id, new_entry, removed, aimed, retargeted}
-use Rattle.ug_policy.specs.Matching.{matched, greatest, noted}
-use Rattle.ug_policy.specs.Kept.{StandsFor, judgement_by}
-use Rattle.ug_policy.proofs.Places.{FirstAt}
-use Rattle.ug_types.proofs.Elements.{has_left, has_right, has_cases, insert_has, filter_has}
-use Rattle.ug_policy.proofs.Members.{has_ids}
+use Rattle.ug_policy.specs.Deciding.{Found, judgement_found, noted_first, reached, rules_judged, seen}
+use Rattle.ug_policy.specs.Kept.{StandsFor}
+use Rattle.ug_policy.specs.Matching.{matched, greatest}
+use Rattle.ug_types.proofs.Elements.{has_left, has_right, has_cases, insert_has, filter_has, has_filter, map_has}
+use Rattle.ug_policy.proofs.Members.{has_ids, ids_apart, ids_right, same_entry}
 
 -- a rule whose id is new has no past
 pub stands_insert : (es : List RuleEntry) (next i : ℕ) (rule : types.Rule) (temporary : Bool) (js : List Judgement) → StandsFor es next js → StandsFor (insert es i (new_entry next rule temporary)) (next + 1) js
@@ -90,87 +91,124 @@ still_evaluated js last id m w = (w.0, has_left js (last ∷ []) w.0 w.1, w.2, w
 still_applied : (js : List Judgement) (last : Judgement) (id : ℕ) (m : Moment) → WasApplied js id m → WasApplied (js ++ last ∷ []) id m
 still_applied js last id m w = (w.0, has_left js (last ∷ []) w.0 w.1, w.2, w.3)
 
--- a judgement that the rule has no part in says nothing of it
-apart_history : (js : List Judgement) (last : Judgement) (e : RuleEntry) → (Has last.evaluated e.id → ⊥) → (last.applied ≡ Some e.id → ⊥) → IsHistory js e.id e.history → IsHistory (js ++ last ∷ []) e.id e.history
-apart_history js last e not_evaluated not_applied h = (
-  same_greatest (WasEvaluated js e.id) (WasEvaluated (js ++ last ∷ []) e.id) e.history.evaluated (still_evaluated js last e.id)
-      (λ m w. elim (last_cases js last w.0 w.1) [
-        | inl a ↦ (w.0, a, w.2, w.3)
-        | inr same ↦ absurd (not_evaluated (subst (λ (v : Judgement). Has v.evaluated e.id) (sym same) w.2))
-      ]) h.0,
-  same_greatest (WasApplied js e.id) (WasApplied (js ++ last ∷ []) e.id) e.history.applied (still_applied js last e.id)
-      (λ m w. elim (last_cases js last w.0 w.1) [
-        | inl a ↦ (w.0, a, w.2, w.3)
-        | inr same ↦ absurd (not_applied (subst (λ (v : Judgement). v.applied ≡ Some e.id) (sym same) w.2))
-      ]) h.1,
-)
+-- the greatest moments, with a judgement that has a part of the rule or that hasn't
+evaluated_more : (js : List Judgement) (last : Judgement) (id : ℕ) (kept : Option Moment) → Has last.evaluated id → IsGreatest (WasEvaluated js id) kept → IsGreatest (WasEvaluated (js ++ last ∷ []) id) (Some (greatest kept last.moment))
+evaluated_more js last id kept here g = more_greatest (WasEvaluated js id) (WasEvaluated (js ++ last ∷ []) id) kept last.moment (still_evaluated js last id)
+    (λ m w. elim (last_cases js last w.0 w.1) [
+      | inl a ↦ inl (w.0, a, w.2, w.3)
+      | inr same ↦ inr (ap (λ (v : Judgement). v.moment) same ∙ w.3)
+    ])
+    (last, has_right js (last ∷ []) last (inl refl), here, refl) g
 
--- a judgement by the rule
-own_history : (js : List Judgement) (moment : Moment) (e : RuleEntry) → IsHistory js e.id e.history → IsHistory (js ++ judgement_by moment (Some e) ∷ []) e.id (noted moment e).history
-own_history js moment e h =
-    let last : Judgement = judgement_by moment (Some e) in
-    let there : Has (js ++ last ∷ []) last = has_right js (last ∷ []) last (inl refl) in (
-      more_greatest (WasEvaluated js e.id) (WasEvaluated (js ++ last ∷ []) e.id) e.history.evaluated moment (still_evaluated js last e.id)
-          (λ m w. elim (last_cases js last w.0 w.1) [
-            | inl a ↦ inl (w.0, a, w.2, w.3)
-            | inr same ↦ inr (ap (λ (v : Judgement). v.moment) same ∙ w.3)
-          ])
-          (last, there, inl refl, refl) h.0,
-      more_greatest (WasApplied js e.id) (WasApplied (js ++ last ∷ []) e.id) e.history.applied moment (still_applied js last e.id)
-          (λ m w. elim (last_cases js last w.0 w.1) [
-            | inl a ↦ inl (w.0, a, w.2, w.3)
-            | inr same ↦ inr (ap (λ (v : Judgement). v.moment) same ∙ w.3)
-          ])
-          (last, there, refl, refl) h.1,
+evaluated_same : (js : List Judgement) (last : Judgement) (id : ℕ) (kept : Option Moment) → (Has last.evaluated id → ⊥) → IsGreatest (WasEvaluated js id) kept → IsGreatest (WasEvaluated (js ++ last ∷ []) id) kept
+evaluated_same js last id kept apart g = same_greatest (WasEvaluated js id) (WasEvaluated (js ++ last ∷ []) id) kept (still_evaluated js last id)
+    (λ m w. elim (last_cases js last w.0 w.1) [
+      | inl a ↦ (w.0, a, w.2, w.3)
+      | inr same ↦ absurd (apart (subst (λ (v : Judgement). Has v.evaluated id) (sym same) w.2))
+    ]) g
+
+applied_more : (js : List Judgement) (last : Judgement) (id : ℕ) (kept : Option Moment) → last.applied ≡ Some id → IsGreatest (WasApplied js id) kept → IsGreatest (WasApplied (js ++ last ∷ []) id) (Some (greatest kept last.moment))
+applied_more js last id kept here g = more_greatest (WasApplied js id) (WasApplied (js ++ last ∷ []) id) kept last.moment (still_applied js last id)
+    (λ m w. elim (last_cases js last w.0 w.1) [
+      | inl a ↦ inl (w.0, a, w.2, w.3)
+      | inr same ↦ inr (ap (λ (v : Judgement). v.moment) same ∙ w.3)
+    ])
+    (last, has_right js (last ∷ []) last (inl refl), here, refl) g
+
+applied_same : (js : List Judgement) (last : Judgement) (id : ℕ) (kept : Option Moment) → (last.applied ≡ Some id → ⊥) → IsGreatest (WasApplied js id) kept → IsGreatest (WasApplied (js ++ last ∷ []) id) kept
+applied_same js last id kept apart g = same_greatest (WasApplied js id) (WasApplied (js ++ last ∷ []) id) kept (still_applied js last id)
+    (λ m w. elim (last_cases js last w.0 w.1) [
+      | inl a ↦ (w.0, a, w.2, w.3)
+      | inr same ↦ absurd (apart (subst (λ (v : Judgement). v.applied ≡ Some id) (sym same) w.2))
+    ]) g
+
+-- the rules that were reached, the first of the rest among them
+reached_has : (f : Found) (e : RuleEntry) → Has (reached f) e → Has (f.before ++ f.rest) e
+reached_has f e h = elim (has_cases f.before (take 1 f.rest) e h) [
+  | inl a ↦ has_left f.before f.rest e a
+  | inr b ↦ has_right f.before f.rest e (one f.rest b)
+] where
+  one : (rest : List RuleEntry) → Has (take 1 rest) e → Has rest e
+  one [] b = absurd b
+  one (d ∷ rest) (inl same) = inl same
+  one (d ∷ rest) (inr none) = absurd none
+
+-- a rule that was evaluated was reached and matched
+was_reached : (dev : DeviceRecord) (moment : Moment) (f : Found) (id : ℕ) → Has (judgement_found dev moment f).evaluated id → (e : RuleEntry) × Has (reached f) e × (matched dev e ≡ true) × (e.id ≡ id)
+was_reached dev moment f id h =
+    let k = map_has (λ (e : RuleEntry). e.id) (filter (matched dev) (reached f)) id h in
+    let p = filter_has (matched dev) (reached f) k.0 k.1 in
+    (k.0, p.0, p.1, k.2)
+
+is_evaluated : (dev : DeviceRecord) (moment : Moment) (f : Found) (e : RuleEntry) → Has (reached f) e → matched dev e ≡ true → Has (judgement_found dev moment f).evaluated e.id
+is_evaluated dev moment f e h t = has_ids (filter (matched dev) (reached f)) e (has_filter (matched dev) (reached f) e h t)
+
+seen_history : (dev : DeviceRecord) (moment : Moment) (js : List Judgement) (f : Found) (e : RuleEntry) → AllDistinct (ids (f.before ++ f.rest)) → Has f.before e → IsHistory js e.id e.history → IsHistory (js ++ judgement_found dev moment f ∷ []) (seen dev moment e).id (seen dev moment e).history
+seen_history dev moment js f e d m h =
+    let last : Judgement = judgement_found dev moment f in
+    let applied : IsGreatest (WasApplied (js ++ last ∷ []) e.id) e.history.applied = applied_same js last e.id e.history.applied (not_first f.before f.rest d m) h.1 in
+    let T : Bool → Type 0 = λ b. matched dev e ≡ b → IsHistory (js ++ last ∷ []) (cond b (record e { history = record e.history { evaluated = Some (greatest e.history.evaluated moment) } }) e).id (cond b (record e { history = record e.history { evaluated = Some (greatest e.history.evaluated moment) } }) e).history in
+    let g : (b : Bool) → T b = λ b. elim b as T [
+      | true ↦ λ t. (evaluated_more js last e.id e.history.evaluated (is_evaluated dev moment f e (has_left f.before (take 1 f.rest) e m) t) h.0, applied)
+      | false ↦ λ t. (
+        evaluated_same js last e.id e.history.evaluated (λ w.
+            let k = was_reached dev moment f e.id w in
+            let same : k.0 ≡ e = same_entry (f.before ++ f.rest) k.0 e d (reached_has f k.0 k.1) (has_left f.before f.rest e m) k.3 in
+            let two : true ≡ false = sym k.2 ∙ (ap (matched dev) same ∙ t) in
+            let none : ⊥ = cc in none) h.0,
+        applied,
+      )
+    ] in
+    g (matched dev e) refl where
+      not_first : (before rest : List RuleEntry) → AllDistinct (ids (before ++ rest)) → Has before e → option_map (λ (v : RuleEntry). v.id) (slice_get rest 0) ≡ Some e.id → ⊥
+      not_first before [] d m same = let none : ⊥ = cc in none
+      not_first before (g ∷ rest) d m same = ids_apart before (g ∷ rest) e g d m (inl refl) (let one : g.id ≡ e.id = cc in sym one)
+
+abbrev pub FirstMatches : DeviceRecord → List RuleEntry → Type 0
+FirstMatches dev [] = Unit {0}
+FirstMatches dev (e ∷ rest) = matched dev e ≡ true
+
+rest_history : (dev : DeviceRecord) (moment : Moment) (js : List Judgement) (before rest : List RuleEntry) (e : RuleEntry) → AllDistinct (ids (before ++ rest)) → FirstMatches dev rest → ((g : RuleEntry) → Has (before ++ rest) g → IsHistory js g.id g.history) → Has (noted_first moment rest) e → IsHistory (js ++ judgement_found dev moment (record { before = before; rest = rest }) ∷ []) e.id e.history
+rest_history dev moment js before [] e d t h m = absurd m
+rest_history dev moment js before (g ∷ rest) e d t h (inl same) =
+    let last : Judgement = judgement_found dev moment (record { before = before; rest = g ∷ rest }) in
+    let old = h g (has_right before (g ∷ rest) g (inl refl)) in
+    subst (λ (v : RuleEntry). IsHistory (js ++ last ∷ []) v.id v.history) same (
+      evaluated_more js last g.id g.history.evaluated (is_evaluated dev moment (record { before = before; rest = g ∷ rest }) g (has_right before (g ∷ []) g (inl refl)) t) old.0,
+      applied_more js last g.id g.history.applied refl old.1,
+    )
+rest_history dev moment js before (g ∷ rest) e d t h (inr m) =
+    let last : Judgement = judgement_found dev moment (record { before = before; rest = g ∷ rest }) in
+    let old = h e (has_right before (g ∷ rest) e (inr m)) in
+    let split : AllDistinct (ids ((before ++ g ∷ []) ++ rest)) = subst (λ (v : List RuleEntry). AllDistinct (ids v)) (sym (append_assoc before (g ∷ []) rest)) d in (
+      evaluated_same js last e.id e.history.evaluated (λ w. let k = was_reached dev moment (record { before = before; rest = g ∷ rest }) e.id w in ids_apart (before ++ g ∷ []) rest k.0 e split k.1 m k.3) old.0,
+      applied_same js last e.id e.history.applied (λ a. ids_apart (before ++ g ∷ []) rest g e split (has_right before (g ∷ []) g (inl refl)) m (let one : g.id ≡ e.id = cc in one)) old.1,
     )
 
--- a judgement that evaluates and applies nothing
-pub stands_none : (es : List RuleEntry) (next : ℕ) (moment : Moment) (js : List Judgement) → StandsFor es next js → StandsFor es next (js ++ judgement_by moment None ∷ [])
-stands_none es next moment js s =
-    let last : Judgement = judgement_by moment None in
-    record {
-      evaluated = λ j id m h. elim (last_cases js last j m) [
-        | inl a ↦ s.evaluated j id a h
-        | inr same ↦ absurd (subst (λ (v : Judgement). Has v.evaluated id) (sym same) h)
-      ];
-      applied = λ j id m h. elim (last_cases js last j m) [
-        | inl a ↦ s.applied j id a h
-        | inr same ↦ (let none : ⊥ = cc (ap (λ (v : Judgement). v.applied) same) in absurd none)
-      ];
-      histories = λ e m. apart_history js last e (λ h. h) (λ h. let none : ⊥ = cc in none) (s.histories e m);
-    }
+first_applied : (es : List RuleEntry) (id : ℕ) → option_map (λ (e : RuleEntry). e.id) (slice_get es 0) ≡ Some id → Has (ids es) id
+first_applied [] id h = let none : ⊥ = cc in absurd none
+first_applied (e ∷ es) id h = let one : e.id ≡ id = cc in inl one
 
-first_has : {X : Type 0} (p : X → Bool) (xs : List X) (i : ℕ) (x : X) → FirstAt p xs i x → Has xs x
-first_has p [] i x h = absurd h
-first_has p (y ∷ ys) zero x h = inl h.0
-first_has p (y ∷ ys) (suc i) x h = inr (first_has p ys i x h.1)
-
--- the noted rule, or one with another id
-judged_has : (dev : DeviceRecord) (moment : Moment) (es : List RuleEntry) (i : ℕ) (e f : RuleEntry) → AllDistinct (ids es) → FirstAt (matched dev) es i e → Has (set es i (noted moment e)) f → (noted moment e ≡ f) ⊎ (Has es f × (e.id ≡ f.id → ⊥))
-judged_has dev moment [] i e f d a m = absurd a
-judged_has dev moment (g ∷ es) zero e f d a (inl same) = inl same
-judged_has dev moment (g ∷ es) zero e f d a (inr m) = inr (inr m, λ one. d.0 (subst (λ v. Has (ids es) v) (sym (ap (λ (v : RuleEntry). v.id) a.0 ∙ one)) (has_ids es f m)))
-judged_has dev moment (g ∷ es) (suc i) e f d a (inl same) =
-    inr (inl same, λ one. d.0 (subst (λ v. Has (ids es) v) (one ∙ sym (ap (λ (v : RuleEntry). v.id) same)) (has_ids es e (first_has (matched dev) es i e a.1))))
-judged_has dev moment (g ∷ es) (suc i) e f d a (inr m) = elim (judged_has dev moment es i e f d.1 a.1 m) [ inl same ↦ inl same | inr k ↦ inr (inr k.0, k.1) ]
-
--- a judgement by the rule that decides
-pub stands_first : (dev : DeviceRecord) (es : List RuleEntry) (next : ℕ) (moment : Moment) (i : ℕ) (e : RuleEntry) (js : List Judgement) → IsNumbered es next → FirstAt (matched dev) es i e → StandsFor es next js → StandsFor (set es i (noted moment e)) next (js ++ judgement_by moment (Some e) ∷ [])
-stands_first dev es next moment i e js n a s =
-    let last : Judgement = judgement_by moment (Some e) in
-    let there : Has es e = first_has (matched dev) es i e a in
-    let low : e.id < next = n.below e.id (has_ids es e there) in
+pub stands_found : (dev : DeviceRecord) (moment : Moment) (next : ℕ) (js : List Judgement) (f : Found) → IsNumbered (f.before ++ f.rest) next → FirstMatches dev f.rest → StandsFor (f.before ++ f.rest) next js → StandsFor (rules_judged dev moment f) next (js ++ judgement_found dev moment f ∷ [])
+stands_found dev moment next js f n t s =
+    let last : Judgement = judgement_found dev moment f in
     record {
       evaluated = λ j id m h. elim (last_cases js last j m) [
         | inl b ↦ s.evaluated j id b h
-        | inr same ↦ elim (subst (λ (v : Judgement). Has v.evaluated id) (sym same) h) [ inl one ↦ subst (λ v. v < next) one low | inr none ↦ absurd none ]
+        | inr same ↦
+            let k = was_reached dev moment f id (subst (λ (v : Judgement). Has v.evaluated id) (sym same) h) in
+            n.below id (subst (λ v. Has (ids (f.before ++ f.rest)) v) k.3 (has_ids (f.before ++ f.rest) k.0 (reached_has f k.0 k.1)))
       ];
       applied = λ j id m h. elim (last_cases js last j m) [
         | inl b ↦ s.applied j id b h
-        | inr same ↦ (let one : e.id ≡ id = cc (ap (λ (v : Judgement). v.applied) same) in subst (λ v. v < next) one low)
+        | inr same ↦
+            let one = first_applied f.rest id (subst (λ (v : Judgement). v.applied ≡ Some id) (sym same) h) in
+            n.below id (ids_right f.before f.rest id one)
       ];
-      histories = λ f m. elim (judged_has dev moment es i e f n.distinct a m) [
-        | inl same ↦ subst (λ (v : RuleEntry). IsHistory (js ++ last ∷ []) v.id v.history) same (own_history js moment e (s.histories e there))
-        | inr k ↦ apart_history js last f (λ h. elim h [ inl one ↦ k.1 one | inr none ↦ none ]) (λ h. k.1 (let one : e.id ≡ f.id = cc in one)) (s.histories f k.0)
+      histories = λ e m. elim (has_cases (map (seen dev moment) f.before) (noted_first moment f.rest) e m) [
+        | inl a ↦
+            let k = map_has (seen dev moment) f.before e a in
+            subst (λ (v : RuleEntry). IsHistory (js ++ last ∷ []) v.id v.history) k.2 (seen_history dev moment js f k.0 n.distinct k.1 (s.histories k.0 (has_left f.before f.rest k.0 k.1)))
+        | inr b ↦ rest_history dev moment js f.before f.rest e n.distinct t s.histories b
       ];
     }

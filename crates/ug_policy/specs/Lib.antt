@@ -1,4 +1,5 @@
 pub mod Rules
 pub mod Edits
 pub mod Matching
+pub mod Deciding
 pub mod Kept

@@ -1,17 +1,14 @@
-// The first match.
-ghost use Rattle.std.specs.Prelude.{◌≡◌, length, position};
+// The rule that decides.
+ghost use Rattle.std.specs.Prelude.{◌≡◌, if◌then◌else◌, length};
+ghost use Rattle.ug_cond.specs.Words.{behind, words_of};
+ghost use Rattle.ug_policy.specs.Deciding as deciding;
 ghost use Rattle.ug_policy.specs.Matching as matching;
 
 use crate::entry::RuleEntry;
+use rand_core::Rng;
+use ug_cond::{Allowed, Context, History, holds};
 use ug_match::matches;
-use ug_types::{Cause, DeviceRecord, Moment, Target};
-
-// The place of the first rule that matches.
-fn first_match(entries: &[RuleEntry], dev: &DeviceRecord) -> Option<usize>
-    ensures { result ≡ position (matching.matched dev.now) entries.now }
-{
-    entries.iter().position(|e| matches(&e.rule.query, dev))
-}
+use ug_types::{Cause, Conds, DeviceRecord, Moment, Target};
 
 fn greatest(kept: Option<Moment>, moment: Moment) -> Moment
     ensures { result ≡ matching.greatest kept moment }
@@ -22,24 +19,66 @@ fn greatest(kept: Option<Moment>, moment: Moment) -> Moment
     }
 }
 
-/// Judges by the first rule that matches, and notes the moment in its history.
-pub fn judge_by(
+// A rule without conditions always holds.
+fn conditions_hold<A: Allowed, R: Rng>(
+    conds: &Option<Conds>,
+    history: &History,
+    ctx: &Context,
+    allowed: &A,
+    rng: &mut R,
+) -> bool
+    ensures value { result ≡ deciding.rule_conditions_hold history.now ctx.now (A.records allowed.now) conds.now (words_of (deciding.conditions_take conds.now) (R.stream rng.old)) }
+    ensures words { R.stream rng.new ≡ behind (deciding.conditions_take conds.now) (R.stream rng.old) }
+{
+    match conds {
+        Some(conds) => holds(conds, history, ctx, allowed, rng),
+        None => true,
+    }
+}
+
+// Whether a rule that is reached decides. Where it matches, its history gets the moment.
+fn evaluate<A: Allowed, R: Rng>(
+    entry: &mut RuleEntry,
+    dev: &DeviceRecord,
+    ctx: &Context,
+    allowed: &A,
+    rng: &mut R,
+) -> bool
+    ensures value { result ≡ deciding.decides dev.now ctx.now (A.records allowed.now) entry.old (R.stream rng.old) }
+    ensures entry { entry.new ≡ (if result then matching.noted ctx.now.moment entry.old else deciding.seen dev.now ctx.now.moment entry.old) }
+    ensures words { R.stream rng.new ≡ behind (deciding.rule_takes dev.now entry.old) (R.stream rng.old) }
+{
+    if !matches(&entry.rule.query, dev) {
+        return false;
+    }
+    let decides = conditions_hold(&entry.rule.conds, &entry.history, ctx, allowed, rng);
+    entry.history.evaluated = Some(greatest(entry.history.evaluated, ctx.moment));
+    if decides {
+        entry.history.applied = Some(greatest(entry.history.applied, ctx.moment));
+    }
+    decides
+}
+
+/// Judges by the first rule that matches and whose conditions hold, and brings the histories of the rules that were
+/// evaluated up to date.
+pub fn judge_by<A: Allowed, R: Rng>(
     entries: &mut [RuleEntry],
     dev: &DeviceRecord,
-    moment: Moment,
+    ctx: &Context,
+    allowed: &A,
     implicit: Target,
+    rng: &mut R,
 ) -> (Target, Cause)
-    ensures answer { result ≡ matching.answered dev.now implicit entries.old }
-    ensures entries { entries.new ≡ matching.judged dev.now moment entries.old }
+    ensures answer { result ≡ matching.answer_by implicit (deciding.decider (deciding.find_decider dev.now ctx.now (A.records allowed.now) entries.old (R.stream rng.old))) }
+    ensures entries { entries.new ≡ deciding.rules_judged dev.now ctx.now.moment (deciding.find_decider dev.now ctx.now (A.records allowed.now) entries.old (R.stream rng.old)) }
+    ensures words { R.stream rng.new ≡ behind (deciding.words_taken dev.now (deciding.reached (deciding.find_decider dev.now ctx.now (A.records allowed.now) entries.old (R.stream rng.old)))) (R.stream rng.old) }
     ensures len { length entries.new ≡ length entries.old }
 {
-    match first_match(entries, dev) {
-        Some(place) => {
-            let entry = &mut entries[place];
-            entry.history.evaluated = Some(greatest(entry.history.evaluated, moment));
-            entry.history.applied = Some(greatest(entry.history.applied, moment));
-            (entry.rule.target, Cause::Rule(entry.id))
+    for i in 0..entries.len() {
+        let entry = &mut entries[i];
+        if evaluate(entry, dev, ctx, allowed, rng) {
+            return (entry.rule.target, Cause::Rule(entry.id));
         }
-        None => (implicit, Cause::Implicit),
     }
+    (implicit, Cause::Implicit)
 }

@@ -1,14 +1,20 @@
 // What the definitions of changes and of deciding come to.
-ghost use Rattle.std.specs.Prelude.{◌≡◌, ◌⊎◌, ℕ, List, ◌∷◌, ◌++◌};
+ghost use Rattle.std.specs.Prelude.{◌≡◌, ◌⊎◌, ◌↔◌, ℕ, ◌+◌, List, ◌∷◌, ◌++◌, Some, None, IsTrue, filter, take, slice_set};
 ghost use Rattle.ug_types.specs.Elements.{Has, AllDistinct};
 ghost use Rattle.ug_types.specs.declared.record.DeviceRecord.{DeviceRecord};
+ghost use Rattle.ug_types.specs.declared.verdict.Moment.{Moment};
 ghost use Rattle.ug_types.specs.declared.verdict.Target.{Target};
+ghost use Rattle.rand_core.specs.Stream.{Stream};
+ghost use Rattle.ug_cond.specs.declared.context.Context as when;
+ghost use Rattle.ug_cond.specs.Judgements.{Judgement};
 ghost use Rattle.ug_policy.specs.declared.entry.RuleEntry.{RuleEntry};
 ghost use Rattle.ug_policy.specs.Rules.{ids};
 ghost use Rattle.ug_policy.specs.Edits.{IsThere, aimed, inserted, removed, retargeted};
-ghost use Rattle.ug_policy.specs.Matching.{IsDeciding, NoneDecides};
+ghost use Rattle.ug_policy.specs.Deciding.{HasNoDecider, IsDecider, RuleHolds, find_decider, judgement_found, rule_holds};
+ghost use Rattle.ug_policy.specs.Kept.{StandsFor};
+ghost use Rattle.ug_policy.specs.Matching.{IsDeciding, NoneDecides, answered, judged, matched, noted};
 
-use ug_types::After;
+use ug_types::{After, Cause};
 
 /// Where ids are distinct, a change by an id is one at that rule alone, wherever it stands.
 pub fn edits_law()
@@ -19,9 +25,22 @@ pub fn edits_law()
     ensures not_there { (rules : List RuleEntry) (id : ℕ) → ¬ Has (ids rules) id → (removed id rules ≡ rules) × ((target : Target) → retargeted id target rules ≡ rules) }
 {}
 
-/// One rule decides, or none does.
+/// Where rules are matched by their attributes alone, one rule decides, the first that matches, or none does.
 pub fn deciding_law()
     ensures some { (dev : DeviceRecord) (rules : List RuleEntry) → ((place : ℕ) × (entry : RuleEntry) × IsDeciding dev rules place entry) ⊎ NoneDecides dev rules }
     ensures one { (dev : DeviceRecord) (rules : List RuleEntry) (place other : ℕ) (entry another : RuleEntry) → IsDeciding dev rules place entry → IsDeciding dev rules other another → (place ≡ other) × (entry ≡ another) }
     ensures not_both { (dev : DeviceRecord) (rules : List RuleEntry) (place : ℕ) (entry : RuleEntry) → IsDeciding dev rules place entry → NoneDecides dev rules → ⊥ }
+    ensures rule { (dev : DeviceRecord) (moment : Moment) (implicit : Target) (rules : List RuleEntry) (place : ℕ) (entry : RuleEntry) → IsDeciding dev rules place entry → (answered dev implicit rules ≡ (entry.rule.target, Cause.Rule entry.id)) × (judged dev moment rules ≡ slice_set rules place (noted moment entry)) }
+    ensures implicit { (dev : DeviceRecord) (moment : Moment) (implicit : Target) (rules : List RuleEntry) → NoneDecides dev rules → (answered dev implicit rules ≡ (implicit, Cause.Implicit)) × (judged dev moment rules ≡ rules) }
+{}
+
+/// One rule decides by its attributes and its conditions, or none does; what is found is that rule, and what was
+/// evaluated are the rules up to it that match. The conditions hold as all judgements since the start say.
+pub fn decider_law()
+    ensures some { (dev : DeviceRecord) (ctx : when.Context) (records : List DeviceRecord) (rules : List RuleEntry) (stream : Stream) → ((place : ℕ) × (entry : RuleEntry) × IsDecider dev ctx records rules stream place entry) ⊎ HasNoDecider dev ctx records rules stream }
+    ensures one { (dev : DeviceRecord) (ctx : when.Context) (records : List DeviceRecord) (rules : List RuleEntry) (stream : Stream) (place other : ℕ) (entry another : RuleEntry) → IsDecider dev ctx records rules stream place entry → IsDecider dev ctx records rules stream other another → (place ≡ other) × (entry ≡ another) }
+    ensures not_both { (dev : DeviceRecord) (ctx : when.Context) (records : List DeviceRecord) (rules : List RuleEntry) (stream : Stream) (place : ℕ) (entry : RuleEntry) → IsDecider dev ctx records rules stream place entry → HasNoDecider dev ctx records rules stream → ⊥ }
+    ensures found { (dev : DeviceRecord) (ctx : when.Context) (records : List DeviceRecord) (rules : List RuleEntry) (stream : Stream) (place : ℕ) (entry : RuleEntry) → IsDecider dev ctx records rules stream place entry → judgement_found dev ctx.moment (find_decider dev ctx records rules stream) ≡ record { moment = ctx.moment; evaluated = ids (filter (matched dev) (take (place + 1) rules)); applied = Some entry.id } }
+    ensures not_found { (dev : DeviceRecord) (ctx : when.Context) (records : List DeviceRecord) (rules : List RuleEntry) (stream : Stream) → HasNoDecider dev ctx records rules stream → judgement_found dev ctx.moment (find_decider dev ctx records rules stream) ≡ record { moment = ctx.moment; evaluated = ids (filter (matched dev) rules); applied = None } }
+    ensures judgements { (judgements : List Judgement) (rules : List RuleEntry) (next : ℕ) (rule : RuleEntry) (ctx : when.Context) (records : List DeviceRecord) (stream : Stream) → StandsFor rules next judgements → Has rules rule → (IsTrue (rule_holds ctx records rule stream) ↔ RuleHolds judgements ctx records rule stream) }
 {}

@@ -10,5 +10,5 @@ mod list;
 mod tests;
 
 pub use entry::{InsertFault, NoRule, RuleEntry};
-pub use laws::{deciding_law, edits_law};
+pub use laws::{decider_law, deciding_law, edits_law};
 pub use list::RuleList;

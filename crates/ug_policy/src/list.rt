@@ -1,20 +1,23 @@
 // The list of rules.
-ghost use Rattle.std.specs.Prelude.{◌≡◌, ◌≤◌, ◌<◌, ◌↔◌, ℕ, ◌+◌, ◌-◌, ◌^◌, List, [], ◌∷◌, ◌++◌, None, IfOk, IsNone, OnOk, OnErr, All, length, slice_get, slice_set, option_copied};
+ghost use Rattle.std.specs.Prelude.{◌≡◌, ◌≤◌, ◌<◌, ◌↔◌, ℕ, ◌+◌, ◌-◌, ◌^◌, List, [], ◌∷◌, ◌++◌, None, IfOk, IsNone, OnOk, OnErr, All, length, map, take, drop, slice_get, option_copied};
 ghost use Rattle.ug_types.specs.Elements.{Has, AllDistinct};
 ghost use Rattle.ug_cond.specs.Judgements.{Judgement};
+ghost use Rattle.ug_cond.specs.Words.{behind};
 ghost use Rattle.ug_policy.specs.declared.entry.RuleEntry as stored;
 ghost use Rattle.ug_policy.specs.Rules.{ids};
 ghost use Rattle.ug_policy.specs.Edits.{IsThere, inserted, new_entry, removed, retargeted};
-ghost use Rattle.ug_policy.specs.Matching.{IsDeciding, NoneDecides, answered, judged, noted};
-ghost use Rattle.ug_policy.specs.Kept.{StandsFor, judgement_of};
+ghost use Rattle.ug_policy.specs.Matching.{answer_by, answered, judged, noted};
+ghost use Rattle.ug_policy.specs.Deciding.{HasNoDecider, IsDecider, decider, find_decider, judgement_found, reached, rules_judged, seen, words_taken};
+ghost use Rattle.ug_policy.specs.Kept.{StandsFor};
 
 use crate::edits::{place_after, put_rule, remove_rule, set_rule_target};
 use crate::entry::{InsertFault, NoRule, RuleEntry};
 use crate::judging::judge_by;
+use rand_core::Rng;
 use std::alloc::Global;
 use std::marker::Model;
-use ug_cond::History;
-use ug_types::{After, Cause, DeviceRecord, Moment, NoMemory, Rule, Target};
+use ug_cond::{Allowed, Context, History};
+use ug_types::{After, Cause, DeviceRecord, NoMemory, Rule, Target};
 
 const MAX_RULES: usize = 65536;
 
@@ -151,18 +154,28 @@ impl RuleList {
         set_rule_target(&mut self.entries, id, target)
     }
 
-    /// Judges a device by the first rule that matches it, or by the implicit target. That rule's history gets the moment
-    /// where it is greater than the one that is kept. It takes no memory.
-    pub fn judge(&mut self, dev: &DeviceRecord, moment: Moment, implicit: Target) -> (Target, Cause)
-        requires { All (λ e. e.rule.conds ≡ None) self.old.entries }
-        ensures rule { (place : ℕ) (entry : stored.RuleEntry) → IsDeciding dev.now self.old.entries place entry → (result ≡ (entry.rule.target, Cause.Rule entry.id)) × (self.new.entries ≡ slice_set self.old.entries place (noted moment entry)) }
-        ensures implicit { NoneDecides dev.now self.old.entries → (result ≡ (implicit, Cause.Implicit)) × (self.new.entries ≡ self.old.entries) }
-        ensures answer { result ≡ answered dev.now implicit self.old.entries }
-        ensures entries { self.new.entries ≡ judged dev.now moment self.old.entries }
+    /// Judges a device by the first rule that matches it and whose conditions hold, or by the implicit target. Each rule
+    /// that matches is evaluated, up to the one that decides: all its conditions are, in order, and its random ones take
+    /// the next words. The histories of these rules get the moment where it is greater than the one that is kept. It
+    /// takes no memory.
+    pub fn judge<A: Allowed, R: Rng>(
+        &mut self,
+        dev: &DeviceRecord,
+        ctx: &Context,
+        allowed: &A,
+        implicit: Target,
+        rng: &mut R,
+    ) -> (Target, Cause)
+        ensures rule { (place : ℕ) (entry : stored.RuleEntry) → IsDecider dev.now ctx.now (A.records allowed.now) self.old.entries (R.stream rng.old) place entry → (result ≡ (entry.rule.target, Cause.Rule entry.id)) × (self.new.entries ≡ map (seen dev.now ctx.now.moment) (take place self.old.entries) ++ noted ctx.now.moment entry ∷ drop (place + 1) self.old.entries) × (R.stream rng.new ≡ behind (words_taken dev.now (take (place + 1) self.old.entries)) (R.stream rng.old)) }
+        ensures implicit { HasNoDecider dev.now ctx.now (A.records allowed.now) self.old.entries (R.stream rng.old) → (result ≡ (implicit, Cause.Implicit)) × (self.new.entries ≡ map (seen dev.now ctx.now.moment) self.old.entries) × (R.stream rng.new ≡ behind (words_taken dev.now self.old.entries) (R.stream rng.old)) }
+        ensures answer { result ≡ answer_by implicit (decider (find_decider dev.now ctx.now (A.records allowed.now) self.old.entries (R.stream rng.old))) }
+        ensures entries { self.new.entries ≡ rules_judged dev.now ctx.now.moment (find_decider dev.now ctx.now (A.records allowed.now) self.old.entries (R.stream rng.old)) }
+        ensures words { R.stream rng.new ≡ behind (words_taken dev.now (reached (find_decider dev.now ctx.now (A.records allowed.now) self.old.entries (R.stream rng.old)))) (R.stream rng.old) }
         ensures next { self.new.next ≡ self.old.next }
         ensures spare { self.new.spare ≡ self.old.spare }
-        ensures history { (judgements : List Judgement) → StandsFor self.old.entries self.old.next judgements → StandsFor self.new.entries self.new.next (judgements ++ judgement_of dev.now moment self.old.entries ∷ []) }
+        ensures history { (judgements : List Judgement) → StandsFor self.old.entries self.old.next judgements → StandsFor self.new.entries self.new.next (judgements ++ judgement_found dev.now ctx.now.moment (find_decider dev.now ctx.now (A.records allowed.now) self.old.entries (R.stream rng.old)) ∷ []) }
+        ensures plain { All (λ e. e.rule.conds ≡ None) self.old.entries → (result ≡ answered dev.now implicit self.old.entries) × (self.new.entries ≡ judged dev.now ctx.now.moment self.old.entries) × (R.stream rng.new ≡ R.stream rng.old) }
     {
-        judge_by(&mut self.entries, dev, moment, implicit)
+        judge_by(&mut self.entries, dev, ctx, allowed, implicit, rng)
     }
 }
