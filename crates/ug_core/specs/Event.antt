@@ -1,13 +1,10 @@
 -- An event of the daemon: its first entry, the sweep, and its last.
 use Rattle.std.specs.Prelude.{◌≡◌, false, ℕ, ◌+◌, ◌-◌, ◌^◌, Bool, ◌&&◌, nat_le, List, [], ◌∷◌, ◌++◌}
-use Rattle.ug_types.specs.declared.record.Judged.{Judged}
-use Rattle.ug_types.specs.declared.verdict.Target.{Target}
-use Rattle.ug_types.specs.declared.verdict.Cause.{Cause}
 use Rattle.ug_types.specs.declared.verdict.Moment.{Moment}
 use Rattle.ug_kernel.specs.Calls.{Call, Answer}
 use Rattle.ug_itree.specs.Tree.{Prog, Return, Runs, then}
 use Rattle.ug_audit.specs.declared.entry.Entry.TheVariants as entry
-use Rattle.ug_table.specs.State.{State}
+use Rattle.ug_table.specs.State.{State, Answers, Laters}
 use Rattle.ug_table.specs.Sweep.{sweeping}
 use Rattle.ug_core.specs.Policy.{verdict_of}
 use Rattle.ug_core.specs.declared.policy.Policy.{Policy}
@@ -27,11 +24,11 @@ daemon_of d = record {
   event = d.next_event;
 }
 
-abbrev pub policy_answer : Policy → Judged → Bool → Bool → Bool → Target × Cause
-policy_answer p dev controller present on = verdict_of p.rules dev controller present on
+abbrev pub policy_answer : Answers Policy
+policy_answer p dev controller present on ss = verdict_of p.rules dev controller present on
 
-abbrev pub policy_later : Policy → Judged → Bool → Bool → Bool → Policy
-policy_later p dev controller present on = p
+abbrev pub policy_later : Laters Policy
+policy_later p dev controller present on ss = p
 
 abbrev pub begun : DaemonState → Moment → State Policy
 begun d moment = record d.sweep { entries = entry.Event d.event moment ∷ [] }

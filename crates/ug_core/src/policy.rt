@@ -2,7 +2,7 @@
 ghost use Rattle.std.specs.Prelude.{◌≡◌, ◌+◌, ◌<◌, ◌^◌, length};
 ghost use Rattle.ug_core.specs.Policy.{is_of, first_match, kept, verdict_of};
 
-use ug_table::Judge;
+use ug_table::{Judge, Table};
 use ug_types::{Cause, DeviceRecord, Judged, List, Target};
 
 /// A rule for one vendor and product.
@@ -50,9 +50,9 @@ fn keep(on: bool) -> (Target, Cause)
 }
 
 impl Judge for Policy {
-    ghost answer = { λ p dev controller present on. verdict_of p.rules dev controller present on };
+    ghost answer = { λ p dev controller present on ss. verdict_of p.rules dev controller present on };
 
-    ghost later = { λ p dev controller present on. p };
+    ghost later = { λ p dev controller present on ss. p };
 
     fn verdict(
         &mut self,
@@ -60,6 +60,7 @@ impl Judge for Policy {
         controller: bool,
         present: bool,
         on: bool,
+        _allowed: &Table,
     ) -> (Target, Cause) {
         match dev {
             Judged::Malformed { kind, place } => (
