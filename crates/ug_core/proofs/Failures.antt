@@ -11,10 +11,10 @@ use Rattle.ug_table.specs.Parts.{failures_told, unsettled_names, TellsFaults}
 use Rattle.ug_table.proofs.Faults.{told_more}
 use Rattle.ug_table.proofs.Once.{names_more}
 use Rattle.ug_core.specs.Event.{DaemonState, begun}
-use Rattle.ug_core.specs.Policy.{Judging}
+use Rattle.ug_core.specs.Policy.{Judging, context_at}
 use Rattle.ug_core.specs.Laws.{TellsEvent}
 
-pub event_tells : {S : Type 0} (begins : S → S → Type 0) (gives : S → (call : Call) → Answer call → S → Type 0) (calls faults : S → ℕ) (moment : Moment) (s u : S) (d : DaemonState) (t : S) (v : State Judging) (es : List Entry) (j : Judging) (e : DaemonState) → begins s u → calls u ≡ 0 → faults u ≡ faults s → es ≡ entry.Event d.event moment ∷ [] → j ≡ record d.sweep.judge { moment = moment } → TellsFaults gives calls faults u (record d.sweep { judge = j; entries = es }) t v → e.sweep ≡ record v { entries = v.entries ++ entry.End d.event ∷ [] } → TellsEvent begins gives faults moment s d t e
+pub event_tells : {S : Type 0} (begins : S → S → Type 0) (gives : S → (call : Call) → Answer call → S → Type 0) (calls faults : S → ℕ) (moment : Moment) (s u : S) (d : DaemonState) (t : S) (v : State Judging) (es : List Entry) (j : Judging) (e : DaemonState) → begins s u → calls u ≡ 0 → faults u ≡ faults s → es ≡ entry.Event d.event moment ∷ [] → j ≡ record d.sweep.judge { ctx = context_at d.sweep.judge.clock moment } → TellsFaults gives calls faults u (record d.sweep { judge = j; entries = es }) t v → e.sweep ≡ record v { entries = v.entries ++ entry.End d.event ∷ [] } → TellsEvent begins gives faults moment s d t e
 event_tells {S} begins gives calls faults moment s u d t v es j e b none same first judge law last =
     let h : TellsFaults gives calls faults u (begun d moment) t v = subst (λ (y : Judging). TellsFaults gives calls faults u (record d.sweep { judge = y; entries = entry.Event d.event moment ∷ [] }) t v) judge (subst (λ (x : List Entry). TellsFaults gives calls faults u (record d.sweep { judge = j; entries = x }) t v) first law) in
     let ms : List Made = answered Names h.goes.listed ∷ h.goes.later in

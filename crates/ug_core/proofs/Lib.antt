@@ -1,4 +1,3 @@
 pub mod Handled
 pub mod Failures
 pub mod Verdicts
-pub mod Plain

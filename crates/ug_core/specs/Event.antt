@@ -6,8 +6,7 @@ use Rattle.ug_itree.specs.Tree.{Prog, Return, Runs, then}
 use Rattle.ug_audit.specs.declared.entry.Entry.TheVariants as entry
 use Rattle.ug_table.specs.State.{State}
 use Rattle.ug_table.specs.Sweep.{sweeping}
-use Rattle.ug_policy.specs.declared.entry.RuleEntry.{RuleEntry}
-use Rattle.ug_core.specs.Policy.{Judging, policy_answer, policy_later}
+use Rattle.ug_core.specs.Policy.{Judging, context_at, policy_answer, policy_later}
 use Rattle.ug_core.specs.declared.daemon.Daemon.{Daemon}
 use Rattle.ug_core.specs.declared.daemon.Event.{Event}
 use Rattle.ug_core.specs.declared.daemon.Event.TheVariants.{Sweep}
@@ -25,7 +24,7 @@ daemon_of d = record {
 
 -- the judge is told the moment, and the first entry is noted
 abbrev pub begun : DaemonState → Moment → State Judging
-begun d moment = record d.sweep { judge = record d.sweep.judge { moment = moment }; entries = entry.Event d.event moment ∷ [] }
+begun d moment = record d.sweep { judge = record d.sweep.judge { ctx = context_at d.sweep.judge.clock moment }; entries = entry.Event d.event moment ∷ [] }
 
 abbrev pub ended : DaemonState → State Judging → Prog DaemonState
 ended d v = Return (record { sweep = record v { entries = v.entries ++ entry.End d.event ∷ [] }; event = d.event + 1 })
@@ -49,11 +48,9 @@ moment_of (Sweep moment) = moment
 abbrev pub RunsEvent : {S : Type 0} → (S → S → Type 0) → (S → (call : Call) → Answer call → S → Type 0) → S → Moment → DaemonState → S → DaemonState → Type 0
 RunsEvent {S} begins gives s moment d t e = (u : S) × begins s u × Runs gives u (handling moment d) e t
 
--- a new daemon has these rules and no standing, and has noted nothing
-pub record IsStarted (rules : List RuleEntry) (id first : ℕ) (d : DaemonState) : Type 0 where
-  pub rules_are : d.sweep.judge.rules ≡ rules
-  pub next_id : d.sweep.judge.next ≡ id
-  pub moment : d.sweep.judge.moment ≡ record { 0 = 0 }
+-- a new daemon judges by that policy, has no standing, and has noted nothing
+pub record IsStarted (policy : Judging) (first : ℕ) (d : DaemonState) : Type 0 where
+  pub judge : d.sweep.judge ≡ policy
   pub standings : d.sweep.standings ≡ []
   pub next : d.sweep.next ≡ 1
   pub listed : d.sweep.listed ≡ false

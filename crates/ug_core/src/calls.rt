@@ -1,5 +1,5 @@
 // The daemon's calls.
-ghost use Rattle.std.specs.Prelude.{◌≡◌, ◌≤◌, ◌<◌, ◌+◌, ◌-◌, ◌*◌, ◌^◌, [], None, IsTrue, All, length, IfOk, vec_len};
+ghost use Rattle.std.specs.Prelude.{◌≡◌, ◌≤◌, ◌<◌, ◌+◌, ◌-◌, ◌*◌, ◌^◌, [], IsTrue, length, IfOk, vec_len};
 ghost use Rattle.ug_itree.specs.Tree.{Runs};
 ghost use Rattle.ug_core.specs.Event.{daemon_of, IsStarted, moment_of, RunsEvent, handling, has_numbers, is_low};
 ghost use Rattle.ug_core.specs.Laws.{Handles, TellsEvent, NamesOnceIn};
@@ -9,7 +9,6 @@ use crate::policy::Policy;
 use crate::report::Report;
 use std::alloc::Global;
 use ug_audit::{Entries, Entry};
-use ug_policy::RuleList;
 use ug_sysfs::Sysfs;
 use ug_table::Table;
 use ug_types::{Moment, NoMemory};
@@ -23,16 +22,15 @@ fn low(n: u64) -> bool
 }
 
 impl Daemon {
-    /// A daemon with these rules, whose first event has that number. It makes the room of an event's entries.
-    pub fn start(alloc: Global, rules: RuleList, first: u64) -> Result<Daemon, NoMemory>
-        requires { All (λ e. e.rule.conds ≡ None) rules.entries }
-        ensures started { IfOk result (λ d. IsStarted rules.entries rules.next first (daemon_of d)) }
+    /// A daemon with that policy, whose first event has that number. It makes the room of an event's entries.
+    pub fn start(alloc: Global, policy: Policy, first: u64) -> Result<Daemon, NoMemory>
+        ensures started { IfOk result (λ d. IsStarted policy first (daemon_of d)) }
         ensures number { IfOk result (λ d. d.report.event ≡ 0) }
     {
         let mut entries = Entries::new(alloc);
         entries.reserve(64)?;
         Ok(Daemon {
-            policy: Policy::new(rules),
+            policy,
             table: Table::new(alloc),
             next_event: first,
             report: Report { event: 0, entries },

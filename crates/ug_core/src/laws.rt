@@ -1,14 +1,19 @@
 // What verdicts come to.
-ghost use Rattle.std.specs.Prelude.{◌≡◌, ◌↔◌, Bool, List};
+ghost use Rattle.std.specs.Prelude.{◌≡◌, ◌↔◌, Bool, List, ◌++◌};
+ghost use Rattle.ug_types.specs.declared.record.DeviceRecord.{DeviceRecord};
 ghost use Rattle.ug_types.specs.declared.record.Judged.{Judged};
 ghost use Rattle.ug_types.specs.declared.verdict.Cause.{Cause};
 ghost use Rattle.ug_types.specs.declared.verdict.Target.{Target};
-ghost use Rattle.ug_policy.specs.declared.entry.RuleEntry.{RuleEntry};
-ghost use Rattle.ug_core.specs.Policy.{as_given, verdict_of};
+ghost use Rattle.ug_cond.specs.Judgements.{Judgement};
+ghost use Rattle.ug_policy.specs.Kept.{StandsFor};
+ghost use Rattle.ug_policy.specs.Rules.{IsNumbered};
+ghost use Rattle.ug_core.specs.Policy.{Judging, as_given, judgements_of, later_of, verdict_of};
 ghost use Rattle.ug_core.specs.Verdicts.{IsVerdict};
 
-/// A verdict is the one that its cases say, and the histories of the rules play no part in it.
+/// A verdict is the one that its cases say. What judges keeps the rules as they were given; and the histories stand for the
+/// judgements before with this one.
 pub fn verdict_law()
-    ensures cases { (rules : List RuleEntry) (dev : Judged) (controller present on : Bool) (verdict : Target) (cause : Cause) → (verdict_of rules dev controller present on ≡ (verdict, cause)) ↔ IsVerdict rules dev controller present on verdict cause }
-    ensures given { (rules : List RuleEntry) (dev : Judged) (controller present on : Bool) → verdict_of (as_given rules) dev controller present on ≡ verdict_of rules dev controller present on }
+    ensures cases { (p : Judging) (records : List DeviceRecord) (dev : Judged) (controller present on : Bool) (verdict : Target) (cause : Cause) → (verdict_of p records dev controller present on ≡ (verdict, cause)) ↔ IsVerdict p records dev controller present on verdict cause }
+    ensures given { (p : Judging) (records : List DeviceRecord) (dev : Judged) (controller present : Bool) → as_given (later_of p records dev controller present).rules ≡ as_given p.rules }
+    ensures history { (p : Judging) (records : List DeviceRecord) (dev : Judged) (controller present : Bool) (judgements : List Judgement) → IsNumbered p.rules p.next → StandsFor p.rules p.next judgements → StandsFor (later_of p records dev controller present).rules p.next (judgements ++ judgements_of p records dev controller present) }
 {}

@@ -1,29 +1,48 @@
 // Verdicts by the rules and the daemon's settings.
-ghost use Rattle.std.specs.Prelude.{◌≡◌, ◌<◌, ◌+◌, ◌-◌, ◌^◌, ◌++◌, ◌∷◌, [], false, None, All, OnOk, OnErr, length, nat_lt, ◌&&◌};
+ghost use Rattle.std.specs.Prelude.{◌≡◌, ◌<◌, ◌+◌, ◌-◌, ◌^◌, ◌++◌, ◌∷◌, [], false, OnOk, OnErr, length, nat_lt, ◌&&◌};
+ghost use Rattle.ug_policy.specs.Deciding.{find_decider};
 ghost use Rattle.ug_policy.specs.Edits.{new_entry};
-ghost use Rattle.ug_core.specs.Policy.{by_class, kept, noted_by_class, policy_answer, policy_later};
+ghost use Rattle.ug_table.specs.Allowed.{allowed_records};
+ghost use Rattle.ug_core.specs.Policy.{by_class, clock_of, context_at, kept, policy_answer, policy_later, rules_by_class, seeded, stream_by_class, stream_from};
 
+use jiff::tz::TimeZone;
+use rand_chacha::ChaCha20Rng;
+use rand_core::SeedableRng;
 use std::marker::Model;
+use ug_cond::{Allowed, Context, local_second};
 use ug_policy::RuleList;
-use ug_table::Judge;
-use ug_types::{After, Cause, DeviceRecord, Judged, Moment, NoMemory, Rule, Target};
+use ug_table::{Judge, Table};
+use ug_types::{After, Cause, DeviceRecord, Judged, Moment, NoMemory, Query, Rule, Target};
 
-/// The rules in order, none of which has conditions yet, and the moment of the event.
+/// The rules in order, the local time zone, when devices are judged, and the generator of random words.
 #[derive(Drop)]
 pub struct Policy {
     rules: RuleList,
-    moment: Moment,
+    zone: TimeZone<'static>,
+    ctx: Context,
+    rng: ChaCha20Rng,
 }
 
 impl Model for Policy {
-    ghost use Rattle.std.specs.Prelude.{◌≡◌, None, All};
-    ghost use Rattle.ug_core.specs.Policy.{Judging};
+    ghost use Rattle.ug_core.specs.Policy.{Judging, clock_of, stream_from};
 
     ghost Value = { Judging };
 
-    ghost view = { λ p. record { rules = p.rules.entries; next = p.rules.next; moment = p.moment } };
+    ghost view = { λ p. record { rules = p.rules.entries; next = p.rules.next; clock = clock_of p.zone; ctx = p.ctx; stream = stream_from p.rng } };
+}
 
-    ghost invariant = { λ p. All (λ e. e.rule.conds ≡ None) p.rules.entries };
+/// The settled devices of a table whose verdict is to allow them.
+#[derive(Drop)]
+struct AllowedIn<'a> {
+    table: &'a Table,
+}
+
+impl<'a> Allowed for AllowedIn<'a> {
+    ghost records = { λ a. allowed_records a.table.now.standings.items };
+
+    fn any_allowed(&self, query: &Query) -> bool {
+        self.table.any_allowed(query)
+    }
 }
 
 /// A root hub that was there at the start keeps what it had.
@@ -37,38 +56,43 @@ fn keep(on: bool) -> (Target, Cause)
     }
 }
 
-/// The verdict on a device whose descriptors can be read.
-fn judge(
-    rules: &mut RuleList,
-    moment: Moment,
-    device: &DeviceRecord,
+/// What a device is, beside its record: a root hub or not, there at the start or not, on or off.
+#[derive(Clone, Copy)]
+struct Class {
     controller: bool,
     present: bool,
     on: bool,
+}
+
+/// The verdict on a device whose descriptors can be read.
+fn judge(
+    rules: &mut RuleList,
+    rng: &mut ChaCha20Rng,
+    ctx: &Context,
+    device: &DeviceRecord,
+    class: Class,
+    table: &Table,
 ) -> (Target, Cause)
-    requires { All (λ e. e.rule.conds ≡ None) rules.old.entries }
-    ensures answer { result ≡ by_class rules.old.entries device.now controller present on }
-    ensures rules { rules.new.entries ≡ noted_by_class rules.old.entries moment device.now controller present }
+    ensures answer { result ≡ by_class (find_decider device.now ctx.now (allowed_records table.now.standings.items) rules.old.entries (stream_from rng.old)) class.controller class.present class.on }
+    ensures rules { rules.new.entries ≡ rules_by_class rules.old.entries (find_decider device.now ctx.now (allowed_records table.now.standings.items) rules.old.entries (stream_from rng.old)) device.now ctx.now.moment class.controller class.present }
     ensures next { rules.new.next ≡ rules.old.next }
-    ensures plain { All (λ e. e.rule.conds ≡ None) rules.new.entries }
+    ensures words { stream_from rng.new ≡ stream_by_class (stream_from rng.old) (find_decider device.now ctx.now (allowed_records table.now.standings.items) rules.old.entries (stream_from rng.old)) device.now class.controller class.present }
 {
-    if controller && present {
-        return keep(on);
+    if class.controller && class.present {
+        return keep(class.on);
     }
-    rules.judge(device, moment, Target::Block)
+    let allowed = AllowedIn { table };
+    rules.judge(device, ctx, &allowed, Target::Block, rng)
 }
 
 /// Puts a rule behind the others. There are fewer than 65,536, and an id is left.
 fn append(rules: &mut RuleList, rule: Rule) -> Result<(), NoMemory>
-    requires plain { All (λ e. e.rule.conds ≡ None) rules.old.entries }
-    requires conds { rule.conds ≡ None }
     requires few { length rules.old.entries < 65536 }
     requires left { rules.old.next < 2 ^ 64 - 1 }
     ensures rules { OnOk result (rules.new.entries ≡ rules.old.entries ++ new_entry rules.old.next rule false ∷ []) }
     ensures next { OnOk result (rules.new.next ≡ rules.old.next + 1) }
     ensures err { OnErr result (rules.new.entries ≡ rules.old.entries) }
     ensures err_next { OnErr result (rules.new.next ≡ rules.old.next) }
-    ensures still_plain { All (λ e. e.rule.conds ≡ None) rules.new.entries }
 {
     rules.reserve()?;
     let _id = rules.insert(After::End, rule, false);
@@ -76,14 +100,18 @@ fn append(rules: &mut RuleList, rule: Rule) -> Result<(), NoMemory>
 }
 
 impl Policy {
-    /// These rules, at moment 0.
-    pub fn new(rules: RuleList) -> Policy
-        requires { All (λ e. e.rule.conds ≡ None) rules.entries }
-        ensures { result ≡ record { rules = rules.entries; next = rules.next; moment = record { 0 = 0 } } }
+    /// These rules, with the clock of that zone and the words of a seed of 32 bytes.
+    pub fn new(rules: RuleList, zone: TimeZone<'static>, seed: [u8; 32]) -> Policy
+        ensures { result ≡ record { rules = rules.entries; next = rules.next; clock = clock_of zone; ctx = record { moment = record { 0 = 0 }; second = 0 }; stream = seeded seed } }
     {
         Policy {
             rules,
-            moment: Moment(0),
+            zone,
+            ctx: Context {
+                moment: Moment(0),
+                second: 0,
+            },
+            rng: ChaCha20Rng::from_seed(seed),
         }
     }
 
@@ -96,7 +124,6 @@ impl Policy {
 
     /// Puts a rule behind the others, which is permanent and has no history. A refusal changes nothing.
     pub fn append(&mut self, rule: Rule) -> Result<(), NoMemory>
-        requires conds { rule.conds ≡ None }
         requires few { length self.old.rules < 65536 }
         requires left { self.old.next < 2 ^ 64 - 1 }
         ensures ok { OnOk result (self.new ≡ record self.old { rules = self.old.rules ++ new_entry self.old.next rule false ∷ []; next = self.old.next + 1 }) }
@@ -105,11 +132,28 @@ impl Policy {
         append(&mut self.rules, rule)
     }
 
+    /// The clock is that of the zone.
+    pub fn set_zone(&mut self, zone: TimeZone<'static>)
+        ensures { self.new ≡ record self.old { clock = clock_of zone } }
+    {
+        self.zone = zone;
+    }
+
+    /// The words to come are those of ChaCha20 with that seed.
+    pub fn set_seed(&mut self, seed: [u8; 32])
+        ensures { self.new ≡ record self.old { stream = seeded seed } }
+    {
+        self.rng = ChaCha20Rng::from_seed(seed);
+    }
+
     /// The next verdicts are given at that moment.
     pub fn set_moment(&mut self, moment: Moment)
-        ensures { self.new ≡ record self.old { moment = moment } }
+        ensures { self.new ≡ record self.old { ctx = context_at self.old.clock moment } }
     {
-        self.moment = moment;
+        self.ctx = Context {
+            moment,
+            second: local_second(&self.zone, moment),
+        };
     }
 }
 
@@ -124,6 +168,7 @@ impl Judge for Policy {
         controller: bool,
         present: bool,
         on: bool,
+        allowed: &Table,
     ) -> (Target, Cause) {
         match dev {
             Judged::Malformed { kind, place } => (
@@ -133,14 +178,21 @@ impl Judge for Policy {
                     place: *place,
                 },
             ),
-            Judged::Good(device) => judge(
-                &mut self.rules,
-                self.moment,
-                device,
-                controller,
-                present,
-                on,
-            ),
+            Judged::Good(device) => {
+                let class = Class {
+                    controller,
+                    present,
+                    on,
+                };
+                judge(
+                    &mut self.rules,
+                    &mut self.rng,
+                    &self.ctx,
+                    device,
+                    class,
+                    allowed,
+                )
+            }
         }
     }
 }

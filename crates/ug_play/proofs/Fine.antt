@@ -41,7 +41,7 @@ use Rattle.ug_node.specs.declared.identity.Binding.TheVariants as bound
 use Rattle.ug_audit.specs.declared.entry.Entry.{Entry}
 use Rattle.ug_audit.specs.declared.entry.Entry.TheVariants as entry
 use Rattle.ug_record.specs.Records.{judged_of}
-use Rattle.ug_table.specs.State.{State}
+use Rattle.ug_table.specs.State.{State, Answers, Laters}
 use Rattle.ug_table.specs.Standings.{standing_of, farewells, lists}
 use Rattle.ug_table.specs.Bring.{wants, write_of, after_write, to_write, to_bring, bringing}
 use Rattle.ug_table.specs.Settle.{to_keep, standing_for, known_in, judged_entry, judging, admitting, after_bind, entering, to_mark, dropped, after_known, from_standing, settling}
@@ -318,40 +318,40 @@ goes_judging {J} later w name held judged on given n =
     goes_then Written_well Settled_well (bringing name (known_in w held given) on es) (to_keep (record w { next = w.next + 1; judge = later }) (standing_for w name held judged given))
     (goes_bringing name (known_in w held given) on es (nobody_more w.entries (judged_entry w name held given ∷ []) n refl)) (λ p f. f)
 
-goes_admitting : {J : Type 0} (answer : J → Judged → Bool → Bool → Bool → Target × Cause) (later : J → Judged → Bool → Bool → Bool → J) (name : List ℕ) (present : Bool) (w : State J) (b : Bound) → NameNobody w.entries → Goes Settled_well (admitting answer later name present w b)
+goes_admitting : {J : Type 0} (answer : Answers J) (later : Laters J) (name : List ℕ) (present : Bool) (w : State J) (b : Bound) → NameNobody w.entries → Goes Settled_well (admitting answer later name present w b)
 unfolding admitting
 goes_admitting answer later name present w b n =
     let judged : Judged = judged_of name b.attrs b.parent in
-    goes_judging (later w.judge judged (is_none (parent_of name)) present b.on) w name b.held.0 judged b.on (answer w.judge judged (is_none (parent_of name)) present b.on) n
+    goes_judging (later w.judge judged (is_none (parent_of name)) present b.on w.standings) w name b.held.0 judged b.on (answer w.judge judged (is_none (parent_of name)) present b.on w.standings) n
 
-goes_after_bind : {J : Type 0} (answer : J → Judged → Bool → Bool → Bool → Target × Cause) (later : J → Judged → Bool → Bool → Bool → J) (name : List ℕ) (present : Bool) (w : State J) (r : Binding) → NameNobody w.entries → Fine_binding r → Goes Settled_well (after_bind answer later name present w r)
+goes_after_bind : {J : Type 0} (answer : Answers J) (later : Laters J) (name : List ℕ) (present : Bool) (w : State J) (r : Binding) → NameNobody w.entries → Fine_binding r → Goes Settled_well (after_bind answer later name present w r)
 goes_after_bind answer later name present w (bound.Bound b) n f = goes_admitting answer later name present w b n
 goes_after_bind answer later name present w bound.Absent n f = n
 goes_after_bind answer later name present w bound.Vanished n f = n
 goes_after_bind answer later name present w (bound.Failed call count) n f = absurd f
 goes_after_bind answer later name present w bound.Memory n f = absurd f
 
-goes_entering : {J : Type 0} (answer : J → Judged → Bool → Bool → Bool → Target × Cause) (later : J → Judged → Bool → Bool → Bool → J) (name : List ℕ) (present : Bool) (w : State J) → NameNobody w.entries → Goes Settled_well (entering answer later name present w)
+goes_entering : {J : Type 0} (answer : Answers J) (later : Laters J) (name : List ℕ) (present : Bool) (w : State J) → NameNobody w.entries → Goes Settled_well (entering answer later name present w)
 unfolding entering
 goes_entering answer later name present w n = goes_then Fine_binding Settled_well (binding name (parent_of name)) (after_bind answer later name present w) (goes_binding name (parent_of name)) (λ r f. goes_after_bind answer later name present w r n f)
 
-goes_after_known : {J : Type 0} (answer : J → Judged → Bool → Bool → Bool → Target × Cause) (later : J → Judged → Bool → Bool → Bool → J) (name : List ℕ) (present : Bool) (w : State J) (known : Known) (r : Probe) (call count : ℕ) → NameNobody w.entries → fine_probe r → Goes Settled_well (after_known answer later name present w known r call count)
+goes_after_known : {J : Type 0} (answer : Answers J) (later : Laters J) (name : List ℕ) (present : Bool) (w : State J) (known : Known) (r : Probe) (call count : ℕ) → NameNobody w.entries → fine_probe r → Goes Settled_well (after_known answer later name present w known r call count)
 goes_after_known answer later name present w known (probe.Alive on) call count n f = goes_then Written_well Settled_well (bringing name known on w.entries) (to_mark w name) (goes_bringing name known on w.entries n) (λ p g. g)
 goes_after_known answer later name present w known probe.Gone call count n f = goes_entering answer later name present (dropped w name known.number) (nobody_more w.entries (entry.Gone known.number name ∷ []) n refl)
 goes_after_known answer later name present w known probe.Failed call count n f = absurd f
 
-goes_from_standing : {J : Type 0} (answer : J → Judged → Bool → Bool → Bool → Target × Cause) (later : J → Judged → Bool → Bool → Bool → J) (name : List ℕ) (present : Bool) (w : State J) (o : Option Known) → NameNobody w.entries → Goes Settled_well (from_standing answer later name present w o)
+goes_from_standing : {J : Type 0} (answer : Answers J) (later : Laters J) (name : List ℕ) (present : Bool) (w : State J) (o : Option Known) → NameNobody w.entries → Goes Settled_well (from_standing answer later name present w o)
 goes_from_standing answer later name present w (Some known) n = λ a f. goes_after_known answer later name present w known a.answer a.number a.count n f
 goes_from_standing answer later name present w None n = goes_entering answer later name present w n
 
-goes_settling : {J : Type 0} (answer : J → Judged → Bool → Bool → Bool → Target × Cause) (later : J → Judged → Bool → Bool → Bool → J) (name : List ℕ) (present : Bool) (w : State J) → NameNobody w.entries → Goes Settled_well (settling answer later name present w)
+goes_settling : {J : Type 0} (answer : Answers J) (later : Laters J) (name : List ℕ) (present : Bool) (w : State J) → NameNobody w.entries → Goes Settled_well (settling answer later name present w)
 unfolding settling
 goes_settling answer later name present w n = goes_from_standing answer later name present w (standing_of name w.standings) n
 
 abbrev Swept_well : {J : Type 0} → State J → Type 0
 Swept_well v = NameNobody v.entries
 
-goes_settling_all : {J : Type 0} (answer : J → Judged → Bool → Bool → Bool → Target × Cause) (later : J → Judged → Bool → Bool → Bool → J) (names : List (List ℕ)) (present : Bool) (w : State J) → NameNobody w.entries → Goes Swept_well (settling_all answer later names present w)
+goes_settling_all : {J : Type 0} (answer : Answers J) (later : Laters J) (names : List (List ℕ)) (present : Bool) (w : State J) → NameNobody w.entries → Goes Swept_well (settling_all answer later names present w)
 goes_settling_all answer later [] present w n = n
 goes_settling_all answer later (name ∷ names) present w n = goes_then Settled_well Swept_well (settling answer later name present w) (λ p. settling_all answer later names present p.1) (goes_settling answer later name present w n) (λ p m. goes_settling_all answer later names present p.1 m)
 
@@ -363,17 +363,17 @@ nobody_leaves : (names : List (List ℕ)) (ss : List Standing) → NameNobody (f
 nobody_leaves names [] = refl
 nobody_leaves names (s ∷ ss) = nobody_if (lists names s.name) (entry.Gone s.number s.name) (farewells names ss) (nobody_leaves names ss) refl
 
-goes_after_list : {J : Type 0} (answer : J → Judged → Bool → Bool → Bool → Target × Cause) (later : J → Judged → Bool → Bool → Bool → J) (w : State J) (r : Listing) (call count : ℕ) → NameNobody w.entries → fine_listing r → Goes Swept_well (after_list answer later w r call count)
+goes_after_list : {J : Type 0} (answer : Answers J) (later : Laters J) (w : State J) (r : Listing) (call count : ℕ) → NameNobody w.entries → fine_listing r → Goes Swept_well (after_list answer later w r call count)
 goes_after_list answer later w (listing.Names names) call count n f =
     let ns : List (List ℕ) = in_sweep_order names in
     goes_settling_all answer later ns (not w.listed) (marked_listed (parted ns w)) (nobody_more w.entries (farewells ns w.standings) n (nobody_leaves ns w.standings))
 goes_after_list answer later w listing.Failed call count n f = absurd f
 goes_after_list answer later w listing.Memory call count n f = absurd f
 
-goes_sweeping : {J : Type 0} (answer : J → Judged → Bool → Bool → Bool → Target × Cause) (later : J → Judged → Bool → Bool → Bool → J) (w : State J) → NameNobody w.entries → Goes Swept_well (sweeping answer later w)
+goes_sweeping : {J : Type 0} (answer : Answers J) (later : Laters J) (w : State J) → NameNobody w.entries → Goes Swept_well (sweeping answer later w)
 unfolding sweeping
 goes_sweeping answer later w n = λ a f. goes_after_list answer later w a.answer a.number a.count n f
 
 -- a sweep that the script fixes names nobody
-pub quiet_sweep : {J : Type 0} (answer : J → Judged → Bool → Bool → Bool → Target × Cause) (later : J → Judged → Bool → Bool → Bool → J) (w : State J) (s : World) → s.ran_out ≡ false → s.fails ≡ [] → NameNobody w.entries → NameNobody (play (sweeping answer later w) s).0.entries
+pub quiet_sweep : {J : Type 0} (answer : Answers J) (later : Laters J) (w : State J) (s : World) → s.ran_out ≡ false → s.fails ≡ [] → NameNobody w.entries → NameNobody (play (sweeping answer later w) s).0.entries
 quiet_sweep answer later w s o e n = play_goes Swept_well (sweeping answer later w) s o e (goes_sweeping answer later w n)

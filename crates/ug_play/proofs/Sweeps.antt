@@ -28,7 +28,7 @@ use Rattle.ug_audit.specs.declared.entry.Fault.TheVariants as fault
 use Rattle.ug_sysfs.specs.World.{World, Gives}
 use Rattle.ug_table.specs.declared.standing.Known.{Known}
 use Rattle.ug_table.specs.declared.standing.Settled.{Settled}
-use Rattle.ug_table.specs.State.{State, Kept, kept_of}
+use Rattle.ug_table.specs.State.{State, Kept, kept_of, Answers, Laters}
 use Rattle.ug_table.specs.Standings.{standing_of, farewells}
 use Rattle.ug_table.specs.Bring.{wants, write_of, after_write, to_write, to_bring, bringing}
 use Rattle.ug_table.specs.Settle.{to_keep, no_room, standing_for, known_in, judged_entry, judging, if_place, if_record, admitting, after_bind, entering, to_mark, dropped, after_known, from_standing, settling, to_keep_mark, after_again, again, resettling}
@@ -86,24 +86,24 @@ judging_journals {J} later w name held judged on given =
     journals_more settled_in w.entries (w.entries ++ e ∷ []) (judging later w name held judged on given) (appends_one w.entries e)
     (journals_then written settled_in (w.entries ++ e ∷ []) p f (bringing_journals name (known_in w held given) on (w.entries ++ e ∷ [])) (λ q. record { appends = appends_none q.1; memory = tt }))
 
-admitting_journals : {J : Type 0} (answer : J → Judged → Bool → Bool → Bool → Target × Cause) (later : J → Judged → Bool → Bool → Bool → J) (name : List ℕ) (present : Bool) (w : State J) (b : Bound) → Journals settled_in w.entries (admitting answer later name present w b)
+admitting_journals : {J : Type 0} (answer : Answers J) (later : Laters J) (name : List ℕ) (present : Bool) (w : State J) (b : Bound) → Journals settled_in w.entries (admitting answer later name present w b)
 unfolding admitting
 admitting_journals answer later name present w b =
     let judged : Judged = judged_of name b.attrs b.parent in
     journals_room settled_in w.entries (if_record answer later name present w b)
     (journals_room settled_in w.entries (if_place answer later name present w b judged)
-    (judging_journals (later w.judge judged (is_none (parent_of name)) present b.on) w name b.held.0 judged b.on (answer w.judge judged (is_none (parent_of name)) present b.on))
+    (judging_journals (later w.judge judged (is_none (parent_of name)) present b.on w.standings) w name b.held.0 judged b.on (answer w.judge judged (is_none (parent_of name)) present b.on w.standings))
     (no_room_memory w name b.held.0))
     (no_room_memory w name b.held.0)
 
-after_bind_journals : {J : Type 0} (answer : J → Judged → Bool → Bool → Bool → Target × Cause) (later : J → Judged → Bool → Bool → Bool → J) (name : List ℕ) (present : Bool) (w : State J) (r : Binding) → Journals settled_in w.entries (after_bind answer later name present w r)
+after_bind_journals : {J : Type 0} (answer : Answers J) (later : Laters J) (name : List ℕ) (present : Bool) (w : State J) (r : Binding) → Journals settled_in w.entries (after_bind answer later name present w r)
 after_bind_journals answer later name present w (bound.Bound b) = admitting_journals answer later name present w b
 after_bind_journals answer later name present w bound.Absent = record { appends = appends_none w.entries; memory = tt }
 after_bind_journals answer later name present w bound.Vanished = record { appends = appends_none w.entries; memory = tt }
 after_bind_journals answer later name present w (bound.Failed call count) = record { appends = appends_one w.entries (entry.Unsettled name (fault.Call call count)); memory = tt }
 after_bind_journals answer later name present w bound.Memory = record { appends = appends_one w.entries (entry.Unsettled name fault.Memory); memory = tt }
 
-entering_journals : {J : Type 0} (answer : J → Judged → Bool → Bool → Bool → Target × Cause) (later : J → Judged → Bool → Bool → Bool → J) (name : List ℕ) (present : Bool) (w : State J) → Journals settled_in w.entries (entering answer later name present w)
+entering_journals : {J : Type 0} (answer : Answers J) (later : Laters J) (name : List ℕ) (present : Bool) (w : State J) → Journals settled_in w.entries (entering answer later name present w)
 unfolding entering
 entering_journals {J} answer later name present w =
     let p : Prog Binding = binding name (parent_of name) in
@@ -119,20 +119,20 @@ entering_journals {J} answer later name present w =
           (λ r e. subst (λ (x : Binding). Returns N (after_bind answer later name present w x)) (sym e) (memory_one w.entries (entry.Unsettled name fault.Memory) refl));
     }
 
-after_known_journals : {J : Type 0} (answer : J → Judged → Bool → Bool → Bool → Target × Cause) (later : J → Judged → Bool → Bool → Bool → J) (name : List ℕ) (present : Bool) (w : State J) (known : Known) (r : Probe) (call count : ℕ) → Journals settled_in w.entries (after_known answer later name present w known r call count)
+after_known_journals : {J : Type 0} (answer : Answers J) (later : Laters J) (name : List ℕ) (present : Bool) (w : State J) (known : Known) (r : Probe) (call count : ℕ) → Journals settled_in w.entries (after_known answer later name present w known r call count)
 after_known_journals answer later name present w known (probe.Alive on) call count = journals_then written settled_in w.entries (bringing name known on w.entries) (to_mark w name) (bringing_journals name known on w.entries) (λ q. record { appends = appends_none q.1; memory = tt })
 after_known_journals answer later name present w known probe.Gone call count = journals_more settled_in w.entries (w.entries ++ entry.Gone known.number name ∷ []) (entering answer later name present (dropped w name known.number)) (appends_one w.entries (entry.Gone known.number name)) (entering_journals answer later name present (dropped w name known.number))
 after_known_journals answer later name present w known probe.Failed call count = record { appends = appends_one w.entries (entry.Unsettled name (fault.Call call count)); memory = tt }
 
-from_standing_journals : {J : Type 0} (answer : J → Judged → Bool → Bool → Bool → Target × Cause) (later : J → Judged → Bool → Bool → Bool → J) (name : List ℕ) (present : Bool) (w : State J) (o : Option Known) → Journals settled_in w.entries (from_standing answer later name present w o)
+from_standing_journals : {J : Type 0} (answer : Answers J) (later : Laters J) (name : List ℕ) (present : Bool) (w : State J) (o : Option Known) → Journals settled_in w.entries (from_standing answer later name present w o)
 from_standing_journals answer later name present w (Some known) = journals_call settled_in w.entries (Ask_alive known.held.0) (λ t. after_known answer later name present w known t.answer t.number t.count) (λ a m. m) (λ a. after_known_journals answer later name present w known a.answer a.number a.count)
 from_standing_journals answer later name present w None = entering_journals answer later name present w
 
-pub settling_journals : {J : Type 0} (answer : J → Judged → Bool → Bool → Bool → Target × Cause) (later : J → Judged → Bool → Bool → Bool → J) (name : List ℕ) (present : Bool) (w : State J) → Journals settled_in w.entries (settling answer later name present w)
+pub settling_journals : {J : Type 0} (answer : Answers J) (later : Laters J) (name : List ℕ) (present : Bool) (w : State J) → Journals settled_in w.entries (settling answer later name present w)
 unfolding settling
 settling_journals answer later name present w = from_standing_journals answer later name present w (standing_of name w.standings)
 
-pub settling_all_journals : {J : Type 0} (answer : J → Judged → Bool → Bool → Bool → Target × Cause) (later : J → Judged → Bool → Bool → Bool → J) (names : List (List ℕ)) (present : Bool) (w : State J) → Journals swept_in w.entries (settling_all answer later names present w)
+pub settling_all_journals : {J : Type 0} (answer : Answers J) (later : Laters J) (names : List (List ℕ)) (present : Bool) (w : State J) → Journals swept_in w.entries (settling_all answer later names present w)
 settling_all_journals answer later [] present w = record { appends = appends_none w.entries; memory = tt }
 settling_all_journals answer later (name ∷ names) present w = journals_then settled_in swept_in w.entries (settling answer later name present w) (λ p. settling_all answer later names present p.1) (settling_journals answer later name present w) (λ p. settling_all_journals answer later names present p.1)
 
@@ -165,7 +165,7 @@ unlisted_memory {J} w =
     returns_more (λ (v : State J). Appends (w.entries ++ e ∷ []) v.entries) (λ (v : State J). TellsMemory w.entries v.entries) (unlisted fault.Memory w)
     (λ v x. memory_still w.entries (w.entries ++ e ∷ []) v.entries (memory_one w.entries e refl) x) (unlisted_journals fault.Memory w).appends
 
-after_list_journals : {J : Type 0} (answer : J → Judged → Bool → Bool → Bool → Target × Cause) (later : J → Judged → Bool → Bool → Bool → J) (w : State J) (r : Listing) (call count : ℕ) → Journals swept_in w.entries (after_list answer later w r call count)
+after_list_journals : {J : Type 0} (answer : Answers J) (later : Laters J) (w : State J) (r : Listing) (call count : ℕ) → Journals swept_in w.entries (after_list answer later w r call count)
 after_list_journals answer later w (listing.Names names) call count =
     let ns : List (List ℕ) = in_sweep_order names in
     journals_room swept_in w.entries (if_room answer later ns w)
@@ -174,7 +174,7 @@ after_list_journals answer later w (listing.Names names) call count =
 after_list_journals answer later w listing.Failed call count = journals_more swept_in w.entries (w.entries ++ entry.UnsettledAll (fault.Call call count) ∷ []) (unlisted (fault.Call call count) w) (appends_one w.entries (entry.UnsettledAll (fault.Call call count))) (unlisted_journals (fault.Call call count) w)
 after_list_journals answer later w listing.Memory call count = journals_more swept_in w.entries (w.entries ++ entry.UnsettledAll fault.Memory ∷ []) (unlisted fault.Memory w) (appends_one w.entries (entry.UnsettledAll fault.Memory)) (unlisted_journals fault.Memory w)
 
-pub sweeping_journals : {J : Type 0} (answer : J → Judged → Bool → Bool → Bool → Target × Cause) (later : J → Judged → Bool → Bool → Bool → J) (w : State J) → Journals swept_in w.entries (sweeping answer later w)
+pub sweeping_journals : {J : Type 0} (answer : Answers J) (later : Laters J) (w : State J) → Journals swept_in w.entries (sweeping answer later w)
 unfolding sweeping
 sweeping_journals {J} answer later w = record {
   appends = λ a. (after_list_journals answer later w a.answer a.number a.count).appends;
@@ -184,14 +184,14 @@ sweeping_journals {J} answer later w = record {
   );
 }
 
-pub sweeping_played : {J : Type 0} (answer : J → Judged → Bool → Bool → Bool → Target × Cause) (later : J → Judged → Bool → Bool → Bool → J) (w : State J) (s : World) (v : State J) (t : World) → Runs Gives s (sweeping answer later w) v t → IsPlayed (λ (x : State J). TellsMemory w.entries x.entries) (sweeping answer later w) s v t
+pub sweeping_played : {J : Type 0} (answer : Answers J) (later : Laters J) (w : State J) (s : World) (v : State J) (t : World) → Runs Gives s (sweeping answer later w) v t → IsPlayed (λ (x : State J). TellsMemory w.entries x.entries) (sweeping answer later w) s v t
 sweeping_played {J} answer later w s v t h = played (λ (x : State J). TellsMemory w.entries x.entries) (sweeping answer later w) s v t (sweeping_journals answer later w).memory h
 
 all_tell : (a b : List Entry) → TellsMemory a b → tells_memory b ≡ true
 all_tell a b h = ap tells_memory h.1 ∙ list_any-append entry_tells_memory a h.0 ∙ or_right (tells_memory a) (tells_memory h.0) h.2
 
 -- a sweep, and then what only adds entries: one of them all tells want of memory
-pub event_played : {J D : Type 0} (answer : J → Judged → Bool → Bool → Bool → Target × Cause) (later : J → Judged → Bool → Bool → Bool → J) (w : State J) (f : State J → Prog D) (of : D → List Entry) (s : World) (r : D) (t : World) → ((v : State J) → Journals of v.entries (f v)) → Runs Gives s (then (sweeping answer later w) f) r t → IsPlayed (λ (x : D). tells_memory (of x) ≡ true) (then (sweeping answer later w) f) s r t
+pub event_played : {J D : Type 0} (answer : Answers J) (later : Laters J) (w : State J) (f : State J → Prog D) (of : D → List Entry) (s : World) (r : D) (t : World) → ((v : State J) → Journals of v.entries (f v)) → Runs Gives s (then (sweeping answer later w) f) r t → IsPlayed (λ (x : D). tells_memory (of x) ≡ true) (then (sweeping answer later w) f) s r t
 event_played {J} {D} answer later w f of s r t k h =
     let p : Prog D = then (sweeping answer later w) f in
     let j : Journals of w.entries p = journals_then swept_in of w.entries (sweeping answer later w) f (sweeping_journals answer later w) k in

@@ -248,10 +248,10 @@ swept_facts first es present k l w v event last moment since stood facts fair =
       grows = fair.grows;
       stood = stood;
       facts = facts;
-      told = fair.told;
+      told = fair.left.told;
       given = judged_given present k l w.standings k.log w.judge w.next rest l.log v.judge v.next fair.account;
-      kept = fair.kept;
-      judged = λ number name held verdict cause a. elim (fair.judged number name held verdict cause a) [ inl s ↦ inl (s.0, s.1, s.2, s.4) | inr g ↦ inr g ];
+      kept = fair.left.kept;
+      judged = λ number name held verdict cause a. elim (fair.left.judged number name held verdict cause a) [ inl s ↦ inl (s.0, s.1, s.2, s.4) | inr g ↦ inr g ];
       says = account_says policy_answer policy_later present k l w.standings k.log w.judge w.next rest l.log v.judge v.next stood.numbers fair.account;
     } in
     let added = all_added present k l w.standings k.log w.judge w.next rest l.log v.judge v.next fair.account in
@@ -261,7 +261,7 @@ swept_facts first es present k l w v event last moment since stood facts fair =
       | inr b ↦ written_explained rules first es k w.standings w.next l v.standings v.next rest x y e seen (added.each e b)
     ] in
     let result : Facts rules first all l v.standings v.next = record {
-      judged = λ s a. told_judged rules first es k w.standings w.next l v.standings v.next rest x y s seen (fair.told s a);
+      judged = λ s a. told_judged rules first es k w.standings w.next l v.standings v.next rest x y s seen (fair.left.told s a);
       explained = record {
         added = facts.explained.added ++ added.effects;
         log = added.log_is ∙ ap (λ (z : List Effect). z ++ added.effects) facts.explained.log ∙ append_assoc first.log facts.explained.added added.effects;

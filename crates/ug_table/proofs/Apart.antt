@@ -29,7 +29,7 @@ use Rattle.ug_audit.specs.declared.entry.Entry.{Entry}
 use Rattle.ug_audit.specs.declared.entry.Entry.TheVariants as entry
 use Rattle.ug_audit.specs.declared.entry.Fault.{Fault}
 use Rattle.ug_audit.specs.declared.entry.Fault.TheVariants as fault
-use Rattle.ug_table.specs.State.{State, Kept}
+use Rattle.ug_table.specs.State.{State, Kept, Answers, Laters}
 use Rattle.ug_table.specs.Bring.{wants, write_of, after_write, to_write, to_bring, bringing}
 use Rattle.ug_table.specs.Standings.{standing_of, without}
 use Rattle.ug_table.specs.Settle.{kept_standings, to_keep, unsettled, no_room, standing_for, known_in, judged_entry, judging, if_place, if_record, admitting, after_bind, entering, tried_standings, to_mark, dropped, after_known, from_standing, settling, to_keep_mark, after_again, again, resettling}
@@ -39,7 +39,6 @@ use Rattle.ug_table.specs.declared.standing.Settled.{Settled}
 use Rattle.ug_table.specs.declared.standing.Settled.TheVariants as settled
 use Rattle.ug_table.proofs.Values.{Others, others_refl, others_trans, others_quiet, others_put, IsOpen, open_later}
 use Rattle.ug_table.proofs.Standings.{found}
-use Rattle.ug_table.proofs.Account.{Answers, Laters}
 use Rattle.ug_table.proofs.Places.{Files, files_later, kept_has, kept_files, tried_has, tried_files}
 
 -- entries were added
@@ -129,7 +128,7 @@ judging_apart {J} later name held judged on given w k l p o f r =
     (second_is name k w u p (how, record w { standings = rs; next = w.next + 1; judge = later; entries = cut.0.1 }) cut.3.0 own)
 
 if_place_apart : {J : Type 0} (answer : Answers J) (later : Laters J) (name : List ℕ) (present : Bool) (w : State J) (b : Bound) (judged : Judged) (room : Bool) (k l : Kernel) (p : Settled × State J) → IsOpen k name b.held.0 → Files k w.standings → Runs calls k (if_place answer later name present w b judged room) p l → Parts name k w l p.1
-if_place_apart answer later name present w b judged true k l p o f r = judging_apart (later w.judge judged (is_none (parent_of name)) present b.on) name b.held.0 judged b.on (answer w.judge judged (is_none (parent_of name)) present b.on) w k l p o f r
+if_place_apart answer later name present w b judged true k l p o f r = judging_apart (later w.judge judged (is_none (parent_of name)) present b.on w.standings) name b.held.0 judged b.on (answer w.judge judged (is_none (parent_of name)) present b.on w.standings) w k l p o f r
 if_place_apart answer later name present w b judged false k l p o f r = no_room_apart name b.held.0 w k l p f r
 
 if_record_apart : {J : Type 0} (answer : Answers J) (later : Laters J) (name : List ℕ) (present : Bool) (w : State J) (b : Bound) (room : Bool) (k l : Kernel) (p : Settled × State J) → IsOpen k name b.held.0 → Files k w.standings → Runs calls k (if_record answer later name present w b room) p l → Parts name k w l p.1

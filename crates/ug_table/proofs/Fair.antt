@@ -29,7 +29,7 @@ use Rattle.ug_audit.specs.declared.entry.Entry.{Entry}
 use Rattle.ug_audit.specs.declared.entry.Entry.TheVariants as entry
 use Rattle.ug_audit.specs.declared.entry.Fault.{Fault}
 use Rattle.ug_audit.specs.declared.entry.Fault.TheVariants as fault
-use Rattle.ug_table.specs.State.{State, Kept, with_kept}
+use Rattle.ug_table.specs.State.{State, Kept, with_kept, Answers, Laters}
 use Rattle.ug_table.specs.Standings.{known_of, standing_of, without, with_standing, place_for}
 use Rattle.ug_table.specs.Bring.{bringing}
 use Rattle.ug_table.specs.Settle.{kept_standings, to_keep, unsettled, no_room, standing_for, known_in, judged_entry, to_judge, if_place, if_record, admitting, after_bind, entering, tried_standings, to_mark, dropped, after_known, from_standing, settling, to_keep_mark, after_again, again, resettling}
@@ -43,9 +43,8 @@ use Rattle.ug_types.proofs.Elements.{map_has, has_map, insert_has, has_new, has_
 use Rattle.ug_table.proofs.Values.{IsFileOf, file_same}
 use Rattle.ug_table.proofs.Devices.{stand_stays}
 use Rattle.ug_table.proofs.Standings.{found, missing, missing_without}
-use Rattle.ug_table.proofs.Account.{Answers, Laters}
 use Rattle.ug_table.proofs.Joined.{FairFrom, fair_trans}
-use Rattle.ug_table.proofs.Steps.{Same, After, one_itself, fair_end, then_quiet, then_called, then_note, then_same, then_went, without_less, tried_after}
+use Rattle.ug_table.proofs.Steps.{Same, After, one_itself, fair_end, then_quiet, then_called, then_note, then_same, then_went, without_less, tried_after, left_all}
 use Rattle.ug_table.proofs.Written.{bringing_fair}
 
 second : {A B : Type 0} (p q : A × B) → p ≡ q → p.1 ≡ q.1
@@ -53,7 +52,7 @@ second p q e = ap (λ (x : _). x.1) e
 
 -- the state in which a device was just judged
 abbrev given_of : {J : Type 0} → Answers J → State J → List ℕ → Judged → Bool → Bool → Target × Cause
-given_of answer w name judged present on = answer w.judge judged (is_none (parent_of name)) present on
+given_of answer w name judged present on = answer w.judge judged (is_none (parent_of name)) present on w.standings
 
 abbrev new_standing : {J : Type 0} → Answers J → State J → List ℕ → ℕ → Judged → Bool → Bool → Standing
 new_standing answer w name held judged present on = standing_for w name held judged (given_of answer w name judged present on)
@@ -62,7 +61,7 @@ abbrev just_judged : {J : Type 0} → Answers J → Laters J → State J → Lis
 just_judged answer later w name held judged present on = record w {
   standings = with_standing (new_standing answer w name held judged present on) w.standings;
   next = w.next + 1;
-  judge = later w.judge judged (is_none (parent_of name)) present on;
+  judge = later w.judge judged (is_none (parent_of name)) present on w.standings;
   entries = w.entries ++ judged_entry w name held (given_of answer w name judged present on) ∷ [];
 }
 
@@ -116,7 +115,7 @@ judged_fair answer later present n m u name held i judged on sound q d probed ab
     let file : Held = record { 0 = held } in
     let now = just_judged answer later u name held judged present on in
     let there = stand_stays n m u.standings u.next (quiet_grows n m q) stand in
-    let account : Account answer later present n m u.standings m.log u.judge u.next (e ∷ []) m.log now.judge now.next = Judge [] m.log u.judge u.next i name file judged on d probed Start in
+    let account : Account answer later present n m u.standings m.log u.judge u.next (e ∷ []) m.log now.judge now.next = Judge [] m.log u.judge u.next i name file judged on u.standings d probed (left_all u.standings) Start in
     let fair : IsFair answer later present n u m now = record {
       sound = sound;
       grows = quiet_grows n m q;
@@ -124,15 +123,17 @@ judged_fair answer later present n m u name held i judged on sound q d probed ab
       entries = refl;
       stand = stand_more m u.standings u.next i s d refl absent there;
       account = subst (λ (v : List Effect). Account answer later present n m u.standings v u.judge u.next (e ∷ []) m.log now.judge now.next) q.log account;
-      told = λ t a. elim (insert_has u.standings (place_for name u.standings) s t a) [
-        | inl is ↦ subst (λ (v : Standing). IsTold u.standings (e ∷ []) v) is (inr (inl refl))
-        | inr old ↦ inl (one_itself u.standings t old)
-      ];
-      kept = λ t a. inl (one_itself now.standings t (has_old u.standings (place_for name u.standings) s t a));
-      judged = λ number m held verdict cause a.
-          let x = judged_same u.next number name m file held given.0 verdict given.1 cause a in
-          inl (s, has_new u.standings (place_for name u.standings) s, x.0, x.1, x.2, x.3, x.4);
-      ended = λ t other a g. elim g [ inl is ↦ let none : ⊥ = cc in none | inr none ↦ none ];
+      left = record {
+        told = λ t a. elim (insert_has u.standings (place_for name u.standings) s t a) [
+          | inl is ↦ subst (λ (v : Standing). IsTold u.standings (e ∷ []) v) is (inr (inl refl))
+          | inr old ↦ inl (one_itself u.standings t old)
+        ];
+        kept = λ t a. inl (one_itself now.standings t (has_old u.standings (place_for name u.standings) s t a));
+        judged = λ number m held verdict cause a.
+            let x = judged_same u.next number name m file held given.0 verdict given.1 cause a in
+            inl (s, has_new u.standings (place_for name u.standings) s, x.0, x.1, x.2, x.3, x.4);
+        ended = λ t other a g. elim g [ inl is ↦ let none : ⊥ = cc in none | inr none ↦ none ];
+      };
       gone = tt;
       once = λ j a b x y. sym (judged_same u.next a name x.name file x.held given.0 x.verdict given.1 x.cause x.has).0 ∙ (judged_same u.next b name y.name file y.held given.0 y.verdict given.1 y.cause y.has).0;
       unjudged = λ j a h x.

@@ -22,7 +22,7 @@ use Rattle.ug_audit.specs.declared.entry.Entry.{Entry}
 use Rattle.ug_audit.specs.declared.entry.Entry.TheVariants as entry
 use Rattle.ug_audit.specs.declared.entry.Fault.{Fault}
 use Rattle.ug_audit.specs.declared.entry.Fault.TheVariants as fault
-use Rattle.ug_table.specs.State.{State, Kept, kept_of, with_kept}
+use Rattle.ug_table.specs.State.{State, Kept, kept_of, with_kept, Answers, Laters}
 use Rattle.ug_table.specs.Standings.{lists, farewells}
 use Rattle.ug_table.specs.Settle.{settling, resettling}
 use Rattle.ug_table.specs.Sweep.{settling_all, resettling_all, parted, names_of, resumed, unlisted, marked_listed, if_room, after_list, sweeping}
@@ -32,7 +32,6 @@ use Rattle.ug_table.specs.declared.standing.Settled.{Settled}
 use Rattle.ug_types.proofs.Elements.{filter_has, has_filter, has_map, distinct_filter, distinct_one}
 use Rattle.ug_table.proofs.Values.{file_same, file_later}
 use Rattle.ug_table.proofs.Standings.{listed_is}
-use Rattle.ug_table.proofs.Account.{Answers, Laters}
 use Rattle.ug_table.proofs.Says.{gone_has}
 use Rattle.ug_table.proofs.Joined.{FairFrom, fair_trans}
 use Rattle.ug_table.proofs.Steps.{one_itself, stand_of, fair_refl, fair_end, then_called, then_note, gone_device}
@@ -123,21 +122,23 @@ parted_fair answer later present m u names sound stand gone =
       entries = refl;
       stand = stand_of m ss rs u.next there (distinct_filter (λ (s : Standing). s.name) listed ss stand.names) (distinct_filter (λ (s : Standing). s.number) listed ss stand.distinct) stand;
       account = farewell_account answer later present m names ss m.log u.judge u.next ss [] stand gone (λ s a. a) Start;
-      told = λ s a. inl (there s a);
-      kept = λ s a.
-          (elim (lists names s.name) as (λ (b : Bool). lists names s.name ≡ b → IsOne rs s ⊎ Has (farewells names ss) (entry.Gone s.number s.name)) [
-            | true ↦ λ q. inl (one_itself rs s (has_filter listed ss s a q))
-            | false ↦ λ q. inr (has_farewell names ss s a q)
-          ]) refl;
-      judged = λ number name held verdict cause a. absurd (none number name held verdict cause a);
-      ended = λ s name a g.
-          let t = farewell_has names ss (entry.Gone s.number name) g in
-          let e = t.3 in
-          let number : t.0.number ≡ s.number = cc in
-          let f = filter_has listed ss s a in
-          let same : t.0 ≡ s = distinct_one (λ (v : Standing). v.number) ss t.0 s stand.distinct t.1 f.0 number in
-          let was : true ≡ false = sym f.1 ∙ sym (ap (λ (v : Standing). lists names v.name) same) ∙ t.2 in
-          true≢false was;
+      left = record {
+        told = λ s a. inl (there s a);
+        kept = λ s a.
+            (elim (lists names s.name) as (λ (b : Bool). lists names s.name ≡ b → IsOne rs s ⊎ Has (farewells names ss) (entry.Gone s.number s.name)) [
+              | true ↦ λ q. inl (one_itself rs s (has_filter listed ss s a q))
+              | false ↦ λ q. inr (has_farewell names ss s a q)
+            ]) refl;
+        judged = λ number name held verdict cause a. absurd (none number name held verdict cause a);
+        ended = λ s name a g.
+            let t = farewell_has names ss (entry.Gone s.number name) g in
+            let e = t.3 in
+            let number : t.0.number ≡ s.number = cc in
+            let f = filter_has listed ss s a in
+            let same : t.0 ≡ s = distinct_one (λ (v : Standing). v.number) ss t.0 s stand.distinct t.1 f.0 number in
+            let was : true ≡ false = sym f.1 ∙ sym (ap (λ (v : Standing). lists names v.name) same) ∙ t.2 in
+            true≢false was;
+      };
       gone = farewell_distinct names ss stand.distinct;
       once = λ i a b p q. absurd (none a p.name p.held p.verdict p.cause p.has);
       unjudged = λ i a h p. none a p.name p.held p.verdict p.cause p.has;
@@ -163,7 +164,7 @@ listing_gone k m names ss next g says stand s i a d out =
 then_listed : {J : Type 0} {answer : Answers J} {later : Laters J} {present : Bool} {k m : Kernel} {w u : State J} → FairFrom answer later present k w m u → FairFrom answer later present k w m (marked_listed u)
 then_listed {J} {answer} {later} {present} {k} {m} {w} {u} h =
     let x = h.fair in
-    let fair : IsFair answer later present k w m (marked_listed u) = record { sound = x.sound; grows = x.grows; rest = x.rest; entries = x.entries; stand = x.stand; account = x.account; told = x.told; kept = x.kept; judged = x.judged; ended = x.ended; gone = x.gone; once = x.once; unjudged = x.unjudged } in
+    let fair : IsFair answer later present k w m (marked_listed u) = record { sound = x.sound; grows = x.grows; rest = x.rest; entries = x.entries; stand = x.stand; account = x.account; left = x.left; gone = x.gone; once = x.once; unjudged = x.unjudged } in
     record { stood = h.stood; fair = fair }
 
 if_room_fair : {J : Type 0} {answer : Answers J} {later : Laters J} {k m : Kernel} {w u : State J} (l : Kernel) (names : List (List ℕ)) (room : Bool) (v : State J) → AreGone m names u.standings → FairFrom answer later (not u.listed) k w m u → Runs calls m (if_room answer later names u room) v l → FairFrom answer later (not u.listed) k w l v

@@ -8,12 +8,11 @@ use Rattle.ug_itree.specs.Along.{Made, answered, Failure, failure, failures, Ris
 use Rattle.ug_itree.proofs.Rises.{Counting, along_numbered, along_rises}
 use Rattle.ug_audit.specs.declared.entry.Entry.{Entry}
 use Rattle.ug_audit.specs.declared.entry.Entry.TheVariants as entry
-use Rattle.ug_table.specs.State.{State}
+use Rattle.ug_table.specs.State.{State, Answers, Laters}
 use Rattle.ug_table.specs.Standings.{lists, farewells}
 use Rattle.ug_table.specs.Sweep.{sweeping}
 use Rattle.ug_table.specs.Parts.{failure_in, failures_told, InParts, AfterListing, TellsFaults}
 use Rattle.ug_table.specs.declared.standing.Standing.{Standing}
-use Rattle.ug_table.proofs.Account.{Answers, Laters}
 use Rattle.ug_table.proofs.Parted.{sweeping_goes}
 
 failures_more : (ms ns : List Made) → failures (ms ++ ns) ≡ failures ms ++ failures ns

@@ -1,5 +1,5 @@
 -- One fair part of a sweep after another.
-use Rattle.std.proofs.Common.{◌≡◌, ℕ, Bool, true, false, List, ◌++◌, ◌⊎◌, inl, inr, Some, slice_get, refl, sym, ◌∙◌, ap, subst, append_assoc, arith}
+use Rattle.std.proofs.Common.{◌≡◌, ℕ, ◌+◌, ◌<◌, ◌≤◌, is_none, append-nil, Bool, true, false, List, [], ◌∷◌, ◌++◌, ◌⊎◌, inl, inr, Some, slice_get, refl, sym, ◌∙◌, ap, subst, append_assoc, arith}
 use Rattle.ug_types.specs.Elements.{Has, AllDistinct}
 use Rattle.ug_types.specs.declared.record.Judged.{Judged}
 use Rattle.ug_types.specs.declared.verdict.Held.{Held}
@@ -12,13 +12,81 @@ use Rattle.ug_kernel.proofs.Grow.{some_same, quiet_grows, grows_trans}
 use Rattle.ug_kernel.proofs.Quiet.{moves_quiet}
 use Rattle.ug_audit.specs.declared.entry.Entry.{Entry}
 use Rattle.ug_audit.specs.declared.entry.Entry.TheVariants as entry
-use Rattle.ug_table.specs.State.{State}
-use Rattle.ug_table.specs.Laws.{IsDevice, IsGone, IsProbed, Stand, HasVerdict, IsOne, Stands, HasStanding, IsJudged, gone_of, IsFair}
+use Rattle.ug_table.specs.State.{State, Answers, Laters}
+use Rattle.ug_table.specs.Laws.{IsDevice, IsGone, IsProbed, Stand, HasVerdict, IsOne, Stands, HasStanding, IsJudged, gone_of, IsFair, AreLeft, wrote_entries, Account, Start, Note, Judge, Had, Had_not, Went}
 use Rattle.ug_table.specs.declared.standing.Standing.{Standing}
 use Rattle.ug_types.proofs.Elements.{has_left, has_right, has_cases, distinct_append}
 use Rattle.ug_table.proofs.Values.{IsFileOf, file_same, file_later}
-use Rattle.ug_table.proofs.Account.{Answers, Laters, account_stays, account_trans, told_before}
-use Rattle.ug_table.proofs.Says.{Says, gone_has, gone_append, account_says, one_held}
+use Rattle.ug_table.proofs.Account.{account_stays, verdict_before, told_before}
+use Rattle.ug_table.proofs.Says.{Says, gone_has, gone_append, account_says, one_held, AreLow}
+use Rattle.ug_types.specs.Names.{parent_of}
+use Rattle.ug_kernel.specs.declared.device.Effect.{Effect}
+use Rattle.ug_table.specs.Bring.{write_of}
+use Rattle.ug_table.proofs.Devices.{probed_from}
+
+pub gone_as : (es : List Entry) (number n : ℕ) (name m : List ℕ) → number ≡ n → name ≡ m → Has es (entry.Gone number name) → Has es (entry.Gone n m)
+gone_as es number n name m e f h = let same : entry.Gone number name ≡ entry.Gone n m = cc in subst (λ (v : Entry). Has es v) same h
+
+kept_by : (ss rs : List Standing) (es fs : List Entry) (x : Standing) → ((t : Standing) → Has ss t → IsOne rs t ⊎ Has fs (entry.Gone t.number t.name)) → IsOne ss x ⊎ Has es (entry.Gone x.number x.name) → IsOne rs x ⊎ Has (es ++ fs) (entry.Gone x.number x.name)
+kept_by ss rs es fs x kept (inl t) = elim (kept t.0 t.1) [
+  | inl s ↦ inl (s.0, s.1, t.2 ∙ s.2, t.3 ∙ s.3, t.4 ∙ s.4, t.5 ∙ s.5, t.6 ∙ s.6, t.7 ∙ s.7)
+  | inr g ↦ inr (has_right es fs (entry.Gone x.number x.name) (gone_as fs t.0.number x.number t.0.name x.name (sym t.2) (sym t.3) g))
+]
+kept_by ss rs es fs x kept (inr g) = inr (has_left es fs (entry.Gone x.number x.name) g)
+
+stands_by : (ss rs : List Standing) (es fs : List Entry) (number : ℕ) (name : List ℕ) (held : Held) (verdict : Target) (cause : Cause) → ((t : Standing) → Has ss t → IsOne rs t ⊎ Has fs (entry.Gone t.number t.name)) → Stands ss number name held verdict cause ⊎ Has es (entry.Gone number name) → Stands rs number name held verdict cause ⊎ Has (es ++ fs) (entry.Gone number name)
+stands_by ss rs es fs number name held verdict cause kept (inl t) = elim (kept t.0 t.1) [
+  | inl s ↦ inl (s.0, s.1, sym s.2 ∙ t.2, sym s.3 ∙ t.3, sym s.4 ∙ t.4, sym s.6 ∙ t.5, sym s.7 ∙ t.6)
+  | inr g ↦ inr (has_right es fs (entry.Gone number name) (gone_as fs t.0.number number t.0.name name t.2 t.3 g))
+]
+stands_by ss rs es fs number name held verdict cause kept (inr g) = inr (has_left es fs (entry.Gone number name) g)
+
+-- what is left by entries, and then by others whose verdicts have numbers above those that the first tell gone
+left_trans : (before middle ss : List Standing) (es fs : List Entry) (bound : ℕ) → ((number : ℕ) (name : List ℕ) → Has es (entry.Gone number name) → number < bound) → ((number : ℕ) (name : List ℕ) (held : Held) (verdict : Target) (cause : Cause) → Has fs (entry.Judged number name held verdict cause) → bound ≤ number) → AreLeft before es middle → AreLeft middle fs ss → AreLeft before (es ++ fs) ss
+left_trans before middle ss es fs bound below after a b = record {
+  told = λ s h. told_before before middle es fs s a.told (b.told s h);
+  kept = λ x h. kept_by middle ss es fs x b.kept (a.kept x h);
+  judged = λ number name held verdict cause h. elim (has_cases es fs (entry.Judged number name held verdict cause) h) [
+    | inl x ↦ stands_by middle ss es fs number name held verdict cause b.kept (a.judged number name held verdict cause x)
+    | inr x ↦ elim (b.judged number name held verdict cause x) [
+      | inl s ↦ inl s
+      | inr g ↦ inr (has_right es fs (entry.Gone number name) g)
+    ]
+  ];
+  ended = λ s name h g. elim (has_cases es fs (entry.Gone s.number name) g) [
+    | inl x ↦ elim (b.told s h) [
+      | inl t ↦ a.ended t.0 name t.1 (gone_as es s.number t.0.number name name t.2 refl x)
+      | inr j ↦
+          let above = after s.number s.name s.held s.verdict s.cause j in
+          let low = below s.number name x in
+          let none : ⊥ = omega (arith, above, low) in none
+    ]
+    | inr x ↦ b.ended s name h x
+  ];
+}
+
+account_trans : {J : Type 0} (answer : Answers J) (later : Laters J) (present : Bool) (start mid k : Kernel) (before middle : List Standing) (log0 log1 : List Effect) (judge0 judge1 : J) (next0 next1 : ℕ) (es : List Entry) (log : List Effect) (judge : J) (next : ℕ) (fs : List Entry) → Grows start mid → AreLow before next0 → AreLow middle next1 → AreLeft before es middle → Account answer later present start k before log0 judge0 next0 es log1 judge1 next1 → Account answer later present mid k middle log1 judge1 next1 fs log judge next → Account answer later present start k before log0 judge0 next0 (es ++ fs) log judge next
+account_trans answer later present start mid k before middle log0 log1 judge0 judge1 next0 next1 es log judge next fs g low mlow left a Start = subst (λ v. Account answer later present start k before log0 judge0 next0 v log1 judge1 next1) (sym (append-nil es)) a
+account_trans answer later present start mid k before middle log0 log1 judge0 judge1 next0 next1 es log judge next fs g low mlow left a (Note gs m j n e t h) =
+    subst (λ v. Account answer later present start k before log0 judge0 next0 v m j n) (append_assoc es gs (e ∷ []))
+    (Note (es ++ gs) m j n e t (account_trans answer later present start mid k before middle log0 log1 judge0 judge1 next0 next1 es m j n gs g low mlow left a h))
+account_trans answer later present start mid k before middle log0 log1 judge0 judge1 next0 next1 es log judge next fs g low mlow left a (Judge gs m j n i name held judged on ss d b there h) =
+    subst (λ v. Account answer later present start k before log0 judge0 next0 v m (later j judged (is_none (parent_of name)) present on ss) (n + 1)) (append_assoc es gs _)
+    (Judge (es ++ gs) m j n i name held judged on ss d (probed_from start mid k name held.0 i on g b)
+    (left_trans before middle ss es gs next1
+    (λ number other x. ((account_says answer later present start k before log0 judge0 next0 es log1 judge1 next1 low a).gone number other x).below)
+    (λ number other file verdict cause x. ((account_says answer later present mid k middle log1 judge1 next1 gs m j n mlow h).judged number other file verdict cause x).after)
+    left there)
+    (account_trans answer later present start mid k before middle log0 log1 judge0 judge1 next0 next1 es m j n gs g low mlow left a h))
+account_trans answer later present start mid k before middle log0 log1 judge0 judge1 next0 next1 es log judge next fs g low mlow left a (Had gs m j n i number name held judged verdict outcome d v may h) =
+    subst (λ x. Account answer later present start k before log0 judge0 next0 x (m ++ record { device = i; write = write_of verdict } ∷ []) j n) (append_assoc es gs (wrote_entries number name (write_of verdict) outcome))
+    (Had (es ++ gs) m j n i number name held judged verdict outcome d (verdict_before before middle es gs number name held verdict left.told v) may (account_trans answer later present start mid k before middle log0 log1 judge0 judge1 next0 next1 es m j n gs g low mlow left a h))
+account_trans answer later present start mid k before middle log0 log1 judge0 judge1 next0 next1 es log judge next fs g low mlow left a (Had_not gs m j n i number name held judged verdict outcome d v may h) =
+    subst (λ x. Account answer later present start k before log0 judge0 next0 x m j n) (append_assoc es gs (wrote_entries number name (write_of verdict) outcome))
+    (Had_not (es ++ gs) m j n i number name held judged verdict outcome d (verdict_before before middle es gs number name held verdict left.told v) may (account_trans answer later present start mid k before middle log0 log1 judge0 judge1 next0 next1 es m j n gs g low mlow left a h))
+account_trans answer later present start mid k before middle log0 log1 judge0 judge1 next0 next1 es log judge next fs g low mlow left a (Went gs m j n i number name held judged verdict d o v h) =
+    subst (λ x. Account answer later present start k before log0 judge0 next0 x m j n) (append_assoc es gs (entry.Gone number name ∷ []))
+    (Went (es ++ gs) m j n i number name held judged verdict d o (verdict_before before middle es gs number name held verdict left.told v) (account_trans answer later present start mid k before middle log0 log1 judge0 judge1 next0 next1 es m j n gs g low mlow left a h))
 
 -- a fair part, with the standings that it began with
 pub record FairFrom {J : Type 0} (answer : Answers J) (later : Laters J) (present : Bool) (k : Kernel) (w : State J) (l : Kernel) (v : State J) : Type 0 where
@@ -27,9 +95,6 @@ pub record FairFrom {J : Type 0} (answer : Answers J) (later : Laters J) (presen
 
 says_of : {J : Type 0} {answer : Answers J} {later : Laters J} {present : Bool} {k l : Kernel} {w v : State J} (a : FairFrom answer later present k w l v) → Says k l w.standings w.next a.fair.rest v.next
 says_of {J} {answer} {later} {present} {k} {l} {w} {v} a = account_says answer later present k l w.standings k.log w.judge w.next a.fair.rest l.log v.judge v.next a.stood.numbers a.fair.account
-
-pub gone_as : (es : List Entry) (number n : ℕ) (name m : List ℕ) → number ≡ n → name ≡ m → Has es (entry.Gone number name) → Has es (entry.Gone n m)
-gone_as es number n name m e f h = let same : entry.Gone number name ≡ entry.Gone n m = cc in subst (λ (v : Entry). Has es v) same h
 
 device_is : (m l : Kernel) (j i : ℕ) (name : List ℕ) (held : Held) (judged : Judged) → Grows m l → IsDevice m j name held judged → IsFileOf l held.0 i → j ≡ i
 device_is m l j i name held judged g d f = file_same l held.0 j i (file_later m l held.0 j g d.file) f
@@ -53,11 +118,11 @@ judged_lives {m = m} {l = l} b i n x gone =
 
 -- a verdict of the part, or from before it, stands after it, or its number is told gone
 stands_or_gone : {J : Type 0} {answer : Answers J} {later : Laters J} {present : Bool} {k m : Kernel} {w u : State J} (a : FairFrom answer later present k w m u) (number : ℕ) (name : List ℕ) (held : Held) (verdict : Target) → HasVerdict w.standings a.fair.rest number name held verdict → ((s : Standing) × Has u.standings s × (s.held ≡ held)) ⊎ Has a.fair.rest (entry.Gone number name)
-stands_or_gone a number name held verdict (inl h) = elim (a.fair.kept h.0 h.1) [
+stands_or_gone a number name held verdict (inl h) = elim (a.fair.left.kept h.0 h.1) [
   | inl t ↦ inl (t.0, t.1, sym t.4 ∙ h.4)
   | inr g ↦ inr (gone_as a.fair.rest h.0.number number h.0.name name h.2 h.3 g)
 ]
-stands_or_gone a number name held verdict (inr h) = elim (a.fair.judged number name held verdict h.0 h.1) [
+stands_or_gone a number name held verdict (inr h) = elim (a.fair.left.judged number name held verdict h.0 h.1) [
   | inl t ↦ inl (t.0, t.1, t.4)
   | inr g ↦ inr g
 ]
@@ -109,44 +174,13 @@ unjudged_by : {J : Type 0} {answer : Answers J} {later : Laters J} {present : Bo
 unjudged_by {k = k} {m = m} {l = l} {w = w} a b i n h (inl p) = a.fair.unjudged i n (standing_back k m l w.standings w.next i a.stood a.fair.grows b.fair.grows h) (judged_back a l n i b.fair.grows p)
 unjudged_by a b i n h (inr p) = judged_before a b i h.s.number n h.s.name h.s.held h.s.verdict (inl (h.s, h.has, refl, refl, refl, refl)) h.file p
 
-kept_by : (ss rs : List Standing) (es fs : List Entry) (x : Standing) → ((t : Standing) → Has ss t → IsOne rs t ⊎ Has fs (entry.Gone t.number t.name)) → IsOne ss x ⊎ Has es (entry.Gone x.number x.name) → IsOne rs x ⊎ Has (es ++ fs) (entry.Gone x.number x.name)
-kept_by ss rs es fs x kept (inl t) = elim (kept t.0 t.1) [
-  | inl s ↦ inl (s.0, s.1, t.2 ∙ s.2, t.3 ∙ s.3, t.4 ∙ s.4, t.5 ∙ s.5, t.6 ∙ s.6, t.7 ∙ s.7)
-  | inr g ↦ inr (has_right es fs (entry.Gone x.number x.name) (gone_as fs t.0.number x.number t.0.name x.name (sym t.2) (sym t.3) g))
-]
-kept_by ss rs es fs x kept (inr g) = inr (has_left es fs (entry.Gone x.number x.name) g)
-
-stands_by : (ss rs : List Standing) (es fs : List Entry) (number : ℕ) (name : List ℕ) (held : Held) (verdict : Target) (cause : Cause) → ((t : Standing) → Has ss t → IsOne rs t ⊎ Has fs (entry.Gone t.number t.name)) → Stands ss number name held verdict cause ⊎ Has es (entry.Gone number name) → Stands rs number name held verdict cause ⊎ Has (es ++ fs) (entry.Gone number name)
-stands_by ss rs es fs number name held verdict cause kept (inl t) = elim (kept t.0 t.1) [
-  | inl s ↦ inl (s.0, s.1, sym s.2 ∙ t.2, sym s.3 ∙ t.3, sym s.4 ∙ t.4, sym s.6 ∙ t.5, sym s.7 ∙ t.6)
-  | inr g ↦ inr (has_right es fs (entry.Gone number name) (gone_as fs t.0.number number t.0.name name t.2 t.3 g))
-]
-stands_by ss rs es fs number name held verdict cause kept (inr g) = inr (has_left es fs (entry.Gone number name) g)
-
-judged_by : {J : Type 0} {answer : Answers J} {later : Laters J} {present : Bool} {k m l : Kernel} {w u v : State J} (a : FairFrom answer later present k w m u) (b : FairFrom answer later present m u l v) (number : ℕ) (name : List ℕ) (held : Held) (verdict : Target) (cause : Cause) → Has a.fair.rest (entry.Judged number name held verdict cause) ⊎ Has b.fair.rest (entry.Judged number name held verdict cause) → Stands v.standings number name held verdict cause ⊎ Has (a.fair.rest ++ b.fair.rest) (entry.Gone number name)
-judged_by {u = u} {v = v} a b number name held verdict cause (inl h) = stands_by u.standings v.standings a.fair.rest b.fair.rest number name held verdict cause b.fair.kept (a.fair.judged number name held verdict cause h)
-judged_by a b number name held verdict cause (inr h) = elim (b.fair.judged number name held verdict cause h) [
-  | inl s ↦ inl s
-  | inr g ↦ inr (has_right a.fair.rest b.fair.rest (entry.Gone number name) g)
-]
-
-ended_by : {J : Type 0} {answer : Answers J} {later : Laters J} {present : Bool} {k m l : Kernel} {w u v : State J} (a : FairFrom answer later present k w m u) (b : FairFrom answer later present m u l v) (s : Standing) (name : List ℕ) → Has v.standings s → Has a.fair.rest (entry.Gone s.number name) ⊎ Has b.fair.rest (entry.Gone s.number name) → ⊥
-ended_by a b s name h (inl g) = elim (b.fair.told s h) [
-  | inl t ↦ a.fair.ended t.0 name t.1 (gone_as a.fair.rest s.number t.0.number name name t.2 refl g)
-  | inr j ↦
-      let after = ((says_of b).judged s.number s.name s.held s.verdict s.cause j).after in
-      let below = ((says_of a).gone s.number name g).below in
-      let none : ⊥ = omega (arith, after, below) in none
-]
-ended_by a b s name h (inr g) = b.fair.ended s name h g
-
 -- a number that was told gone has no verdict later, so it isn't told so again
 gone_by : {J : Type 0} {answer : Answers J} {later : Laters J} {present : Bool} {k m l : Kernel} {w u v : State J} (a : FairFrom answer later present k w m u) (b : FairFrom answer later present m u l v) (number : ℕ) → Has (gone_of a.fair.rest) number → Has (gone_of b.fair.rest) number → ⊥
 gone_by a b number x y =
     let p = gone_has a.fair.rest number x in
     let q = gone_has b.fair.rest number y in
     elim ((says_of b).gone number q.0 q.1).had [
-      | inl t ↦ a.fair.ended t.0 p.0 t.1 (gone_as a.fair.rest number t.0.number p.0 p.0 (sym t.2) refl p.1)
+      | inl t ↦ a.fair.left.ended t.0 p.0 t.1 (gone_as a.fair.rest number t.0.number p.0 p.0 (sym t.2) refl p.1)
       | inr j ↦
           let w = (says_of b).gone number q.0 q.1 in
           let after = ((says_of b).judged number q.0 w.held w.verdict j.0 j.1).after in
@@ -165,11 +199,8 @@ fair_trans {J} {answer} {later} {present} {k} {m} {l} {w} {u} {v} a b =
       rest = es ++ fs;
       entries = b.fair.entries ∙ ap (λ (x : List Entry). x ++ fs) a.fair.entries ∙ append_assoc w.entries es fs;
       stand = b.fair.stand;
-      account = account_trans answer later present k m l w.standings u.standings k.log m.log w.judge u.judge w.next u.next es l.log v.judge v.next fs a.fair.grows a.fair.told account b.fair.account;
-      told = λ s h. told_before w.standings u.standings es fs s a.fair.told (b.fair.told s h);
-      kept = λ x h. kept_by u.standings v.standings es fs x b.fair.kept (a.fair.kept x h);
-      judged = λ number name held verdict cause h. judged_by a b number name held verdict cause (has_cases es fs (entry.Judged number name held verdict cause) h);
-      ended = λ s name h g. ended_by a b s name h (has_cases es fs (entry.Gone s.number name) g);
+      account = account_trans answer later present k m l w.standings u.standings k.log m.log w.judge u.judge w.next u.next es l.log v.judge v.next fs a.fair.grows a.stood.numbers b.stood.numbers a.fair.left account b.fair.account;
+      left = left_trans w.standings u.standings v.standings es fs u.next (λ number name x. ((says_of a).gone number name x).below) (λ number name held verdict cause x. ((says_of b).judged number name held verdict cause x).after) a.fair.left b.fair.left;
       gone = subst (λ (x : List ℕ). AllDistinct x) (sym (gone_append es fs)) (distinct_append (gone_of es) (gone_of fs) a.fair.gone b.fair.gone (λ n x y. gone_by a b n x y));
       once = λ i x y p q. once_by a b i x y (judged_split l es fs x i p) (judged_split l es fs y i q);
       unjudged = λ i n h p. unjudged_by a b i n h (judged_split l es fs n i p);

@@ -1,4 +1,5 @@
 pub mod Loops
+pub mod Allowed
 pub mod Devices
 pub mod Standings
 pub mod Account

@@ -18,7 +18,7 @@ use Rattle.ug_audit.specs.declared.entry.Entry.{Entry}
 use Rattle.ug_audit.specs.declared.entry.Entry.TheVariants as entry
 use Rattle.ug_audit.specs.declared.entry.Fault.{Fault}
 use Rattle.ug_audit.specs.declared.entry.Fault.TheVariants as fault
-use Rattle.ug_table.specs.State.{State, Kept, kept_of}
+use Rattle.ug_table.specs.State.{State, Kept, kept_of, Answers, Laters}
 use Rattle.ug_table.specs.Bring.{wants}
 use Rattle.ug_table.specs.Standings.{same_name, standing_of, lists, farewells}
 use Rattle.ug_table.specs.Settle.{settling, resettling}
@@ -30,7 +30,6 @@ use Rattle.ug_table.specs.declared.standing.Settled.{Settled}
 use Rattle.ug_types.proofs.Elements.{cancel, has_left, filter_has, has_map}
 use Rattle.ug_table.proofs.Values.{file_later, LiveAs, lives_between, lived, open_named}
 use Rattle.ug_table.proofs.Standings.{same_is, is_same, found, missing}
-use Rattle.ug_table.proofs.Account.{Answers, Laters}
 use Rattle.ug_table.proofs.Places.{Files, files_later}
 use Rattle.ug_table.proofs.Apart.{Appends, appends_refl, appends_trans, Apart, settling_apart, resettling_apart}
 use Rattle.ug_table.proofs.Own.{Good, good_before, as_judged, settling_own}

@@ -1,13 +1,10 @@
 -- One name more.
 use Rattle.std.proofs.Common.{◌≡◌, ℕ, ◌+◌, ◌<◌, Bool, List, ◌∷◌, length, get_or, drop, sym, ap, ◌∙◌, subst}
 use Rattle.std.proofs.lemmas.List.{drop_more}
-use Rattle.ug_types.specs.declared.record.Judged.{Judged}
-use Rattle.ug_types.specs.declared.verdict.Target.{Target}
-use Rattle.ug_types.specs.declared.verdict.Cause.{Cause}
 use Rattle.ug_kernel.specs.Calls.{Call, Answer}
 use Rattle.ug_itree.specs.Tree.{Runs}
 use Rattle.ug_itree.proofs.Runs.{runs_then}
-use Rattle.ug_table.specs.State.{State, Kept}
+use Rattle.ug_table.specs.State.{State, Kept, Answers, Laters}
 use Rattle.ug_table.specs.Settle.{settling, resettling}
 use Rattle.ug_table.specs.Sweep.{settling_all, resettling_all}
 use Rattle.ug_table.specs.declared.standing.Settled.{Settled}
@@ -15,7 +12,7 @@ use Rattle.ug_table.specs.declared.standing.Settled.{Settled}
 pub next_of : {X : Type 0} (xs : List X) (i : ℕ) (x : X) → i < length xs → x ≡ get_or xs i x → drop i xs ≡ x ∷ drop (i + 1) xs
 next_of {X} xs i x lt e = drop_more xs i x lt ∙ ap (λ (y : X). y ∷ drop (i + 1) xs) (sym e)
 
-pub settling_more : {S J : Type 0} (gives : S → (call : Call) → Answer call → S → Type 0) (answer : J → Judged → Bool → Bool → Bool → Target × Cause) (later : J → Judged → Bool → Bool → Bool → J) (names : List (List ℕ)) (present : Bool) (i : ℕ) (name : List ℕ) (w : State J) (s u : S) (p : Settled × State J) → i < length names → name ≡ get_or names i name → Runs gives s (settling answer later name present w) p u → (r : State J) (t : S) → Runs gives u (settling_all answer later (drop (i + 1) names) present p.1) r t → Runs gives s (settling_all answer later (drop i names) present w) r t
+pub settling_more : {S J : Type 0} (gives : S → (call : Call) → Answer call → S → Type 0) (answer : Answers J) (later : Laters J) (names : List (List ℕ)) (present : Bool) (i : ℕ) (name : List ℕ) (w : State J) (s u : S) (p : Settled × State J) → i < length names → name ≡ get_or names i name → Runs gives s (settling answer later name present w) p u → (r : State J) (t : S) → Runs gives u (settling_all answer later (drop (i + 1) names) present p.1) r t → Runs gives s (settling_all answer later (drop i names) present w) r t
 settling_more {S} {J} gives answer later names present i name w s u p lt e h r t k =
     subst (λ (xs : List (List ℕ)). Runs gives s (settling_all answer later xs present w) r t) (sym (next_of names i name lt e))
     (runs_then gives s (settling answer later name present w) (λ (q : Settled × State J). settling_all answer later (drop (i + 1) names) present q.1) p u r t h k)

@@ -14,12 +14,11 @@ use Rattle.ug_itree.specs.Along.{Made}
 use Rattle.ug_itree.proofs.Told.{told_run}
 use Rattle.ug_audit.specs.declared.entry.Entry.{Entry}
 use Rattle.ug_audit.specs.declared.entry.Entry.TheVariants as entry
-use Rattle.ug_table.specs.State.{State}
+use Rattle.ug_table.specs.State.{State, Answers, Laters}
 use Rattle.ug_table.specs.Standings.{lists, farewells}
 use Rattle.ug_table.specs.Sweep.{names_of, sweeping}
 use Rattle.ug_table.specs.Parts.{name_in, unsettled_names, EndsUnsettled, InParts, AfterListing, NamesOnce}
 use Rattle.ug_table.specs.declared.standing.Standing.{Standing}
-use Rattle.ug_table.proofs.Account.{Answers, Laters}
 use Rattle.ug_types.proofs.Elements.{has_cases}
 use Rattle.ug_table.proofs.Parted.{sweeping_goes}
 

@@ -25,7 +25,7 @@ use Rattle.ug_audit.specs.declared.entry.Entry.{Entry}
 use Rattle.ug_audit.specs.declared.entry.Entry.TheVariants as entry
 use Rattle.ug_audit.specs.declared.entry.Fault.{Fault}
 use Rattle.ug_audit.specs.declared.entry.Fault.TheVariants as fault
-use Rattle.ug_table.specs.State.{State, Kept}
+use Rattle.ug_table.specs.State.{State, Kept, Answers, Laters}
 use Rattle.ug_table.specs.Standings.{standing_of, without}
 use Rattle.ug_table.specs.Bring.{wants, write_of, after_write, to_write, to_bring, bringing}
 use Rattle.ug_table.specs.Settle.{to_keep, no_room, standing_for, known_in, judged_entry, judging, if_place, if_record, admitting, after_bind, entering, to_mark, dropped, after_known, from_standing, settling, to_keep_mark, after_again, again, resettling}
@@ -34,7 +34,6 @@ use Rattle.ug_table.specs.declared.standing.Standing.{Standing}
 use Rattle.ug_table.specs.declared.standing.Known.{Known}
 use Rattle.ug_table.specs.declared.standing.Settled.{Settled}
 use Rattle.ug_table.specs.declared.standing.Settled.TheVariants as settled
-use Rattle.ug_table.proofs.Account.{Answers, Laters}
 use Rattle.ug_table.proofs.OtherNames.{OthersStand, others_stand, without_stand, kept_stand, tried_stand}
 use Rattle.ug_table.proofs.Walked.{Seen, seen_of, see, May, Goes, binding_failures, IsUnbound, IsFirst, binding_goes}
 
@@ -181,7 +180,7 @@ admitting_goes {J} answer later name F present w b first t files alive has f = r
     last = Some (answered (Ask_alive b.held.0) t)
 
     place_room : (room : Bool) → Goes name (seen_of (Some first) last files [] []) (if_place answer later name present w b judged room) (LeavesState name F w)
-    place_room true = judging_goes (later w.judge judged (is_none (parent_of name)) present b.on) name F w b.held.0 judged b.on (answer w.judge judged (is_none (parent_of name)) present b.on) first t files alive has
+    place_room true = judging_goes (later w.judge judged (is_none (parent_of name)) present b.on w.standings) name F w b.held.0 judged b.on (answer w.judge judged (is_none (parent_of name)) present b.on w.standings) first t files alive has
     place_room false = no_room_goes name F w b.held.0 first last files has f
 
     record_room : (room : Bool) → Goes name (seen_of (Some first) last files [] []) (if_record answer later name present w b room) (LeavesState name F w)

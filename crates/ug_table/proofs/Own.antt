@@ -29,7 +29,7 @@ use Rattle.ug_audit.specs.declared.entry.Entry.{Entry}
 use Rattle.ug_audit.specs.declared.entry.Entry.TheVariants as entry
 use Rattle.ug_audit.specs.declared.entry.Fault.{Fault}
 use Rattle.ug_audit.specs.declared.entry.Fault.TheVariants as fault
-use Rattle.ug_table.specs.State.{State}
+use Rattle.ug_table.specs.State.{State, Answers, Laters}
 use Rattle.ug_table.specs.Bring.{wants, write_of, after_write, to_write, to_bring, bringing}
 use Rattle.ug_table.specs.Standings.{standing_of}
 use Rattle.ug_table.specs.Settle.{kept_standings, to_keep, unsettled, standing_for, known_in, judged_entry, judging, if_place, if_record, admitting, after_bind, entering, tried_standings, to_mark, dropped, after_known, from_standing, settling}
@@ -41,7 +41,6 @@ use Rattle.ug_table.specs.declared.standing.Settled.TheVariants as settled
 use Rattle.ug_types.proofs.Elements.{has_right}
 use Rattle.ug_table.proofs.Values.{IsFileOf, file_later, LiveAs, lives_between, lived, live_same, gone_no, Value, quiet_value, done_value, IsOpen, alive_open}
 use Rattle.ug_table.proofs.Standings.{found}
-use Rattle.ug_table.proofs.Account.{Answers, Laters}
 use Rattle.ug_table.proofs.Places.{Files, kept_new, tried_new}
 use Rattle.ug_table.proofs.Apart.{Appends, open_found}
 
@@ -138,7 +137,7 @@ judging_own {J} later name held i judged on given w k l p live file v r =
     (ends_with w u p (how, record w { standings = rs; next = w.next + 1; judge = later; entries = cut.0.1 }) i name cut.3.0 own)
 
 if_place_own : {J : Type 0} (answer : Answers J) (later : Laters J) (name : List ℕ) (present : Bool) (i : ℕ) (w : State J) (b : Bound) (judged : Judged) (room : Bool) (k l : Kernel) (p : Settled × State J) → LiveAs l i name → IsFileOf k b.held.0 i → Value k i b.on → Runs calls k (if_place answer later name present w b judged room) p l → Ends w l p i name
-if_place_own answer later name present i w b judged true k l p live file v r = judging_own (later w.judge judged (is_none (parent_of name)) present b.on) name b.held.0 i judged b.on (answer w.judge judged (is_none (parent_of name)) present b.on) w k l p live file v r
+if_place_own answer later name present i w b judged true k l p live file v r = judging_own (later w.judge judged (is_none (parent_of name)) present b.on w.standings) name b.held.0 i judged b.on (answer w.judge judged (is_none (parent_of name)) present b.on w.standings) w k l p live file v r
 if_place_own answer later name present i w b judged false k l p live file v r = unsettled_own name i fault.Memory settled.Memory w r.1 l p r.3
 
 if_record_own : {J : Type 0} (answer : Answers J) (later : Laters J) (name : List ℕ) (present : Bool) (i : ℕ) (w : State J) (b : Bound) (room : Bool) (k l : Kernel) (p : Settled × State J) → LiveAs l i name → IsFileOf k b.held.0 i → Value k i b.on → Runs calls k (if_record answer later name present w b room) p l → Ends w l p i name

@@ -15,7 +15,7 @@ use Rattle.ug_table.specs.Bring.{write_of}
 use Rattle.ug_table.specs.Laws.{IsDevice, IsGone, IsProbed, TellsNeither, HasVerdict, wrote_entries, Account, Start, Note, Judge, Had, Had_not, Went, numbers_of, gone_of}
 use Rattle.ug_table.specs.declared.standing.Standing.{Standing}
 use Rattle.ug_types.proofs.Elements.{has_left, only_left, last_is, distinct_one}
-use Rattle.ug_table.proofs.Account.{Answers, Laters}
+use Rattle.ug_table.specs.State.{Answers, Laters}
 
 -- entries that tell no verdict and no end of a standing
 pub record Plain (es : List Entry) : Type 0 where
@@ -217,7 +217,7 @@ account_says answer later present start k before log0 judge0 next0 es log judge 
   one = λ number n m x y v u c d a b. absurd a;
 }
 account_says answer later present start k before log0 judge0 next0 es log judge next low (Note fs m j n e t h) = says_plain start k before next0 fs (e ∷ []) n (plain_note e t) (account_says answer later present start k before log0 judge0 next0 fs m j n low h)
-account_says answer later present start k before log0 judge0 next0 es log judge next low (Judge fs m j n i name held judged on d b h) = says_judged start k before next0 fs n i name held judged on _ _ d b (account_says answer later present start k before log0 judge0 next0 fs m j n low h)
+account_says answer later present start k before log0 judge0 next0 es log judge next low (Judge fs m j n i name held judged on ss d b left h) = says_judged start k before next0 fs n i name held judged on _ _ d b (account_says answer later present start k before log0 judge0 next0 fs m j n low h)
 account_says answer later present start k before log0 judge0 next0 es log judge next low (Had fs m j n i number name held judged verdict outcome d v may h) = says_plain start k before next0 fs (wrote_entries number name (write_of verdict) outcome) n (plain_wrote number name (write_of verdict) outcome) (account_says answer later present start k before log0 judge0 next0 fs m j n low h)
 account_says answer later present start k before log0 judge0 next0 es log judge next low (Had_not fs m j n i number name held judged verdict outcome d v may h) = says_plain start k before next0 fs (wrote_entries number name (write_of verdict) outcome) n (plain_wrote number name (write_of verdict) outcome) (account_says answer later present start k before log0 judge0 next0 fs m j n low h)
 account_says answer later present start k before log0 judge0 next0 es log judge next low (Went fs m j n i number name held judged verdict d o v h) =

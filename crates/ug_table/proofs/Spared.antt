@@ -19,7 +19,7 @@ use Rattle.ug_audit.specs.declared.entry.Entry.{Entry}
 use Rattle.ug_audit.specs.declared.entry.Entry.TheVariants as entry
 use Rattle.ug_audit.specs.declared.entry.Fault.{Fault}
 use Rattle.ug_audit.specs.declared.entry.Fault.TheVariants as fault
-use Rattle.ug_table.specs.State.{State, Kept, kept_of}
+use Rattle.ug_table.specs.State.{State, Kept, kept_of, Answers, Laters}
 use Rattle.ug_table.specs.Bring.{bringing}
 use Rattle.ug_table.specs.Standings.{standing_of, lists, farewells}
 use Rattle.ug_table.specs.Settle.{to_mark, after_known, from_standing, settling, to_keep_mark, after_again, again, resettling}
@@ -31,7 +31,6 @@ use Rattle.ug_table.specs.declared.standing.Settled.{Settled}
 use Rattle.ug_types.proofs.Elements.{cancel, has_cases, has_map, filter_has, has_filter, distinct_one}
 use Rattle.ug_table.proofs.Values.{IsFileOf, file_later, LiveAs, lives_between, lived, gone_no, open_named}
 use Rattle.ug_table.proofs.Standings.{found, missing, listed_is}
-use Rattle.ug_table.proofs.Account.{Answers, Laters}
 use Rattle.ug_table.proofs.Places.{Files, files_later}
 use Rattle.ug_table.proofs.Apart.{Apart, settling_apart}
 use Rattle.ug_table.proofs.Lived.{parted_files, lives_first, lives_last, stand_files}

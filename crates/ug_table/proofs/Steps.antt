@@ -13,18 +13,17 @@ use Rattle.ug_kernel.proofs.Quiet.{WritesNothing, quiet_refl, called_quiet}
 use Rattle.ug_kernel.proofs.Grow.{quiet_grows, grows_refl}
 use Rattle.ug_audit.specs.declared.entry.Entry.{Entry}
 use Rattle.ug_audit.specs.declared.entry.Entry.TheVariants as entry
-use Rattle.ug_table.specs.State.{State, noted}
+use Rattle.ug_table.specs.State.{State, noted, Answers, Laters}
 use Rattle.ug_table.specs.Standings.{same_name, without, marked}
 use Rattle.ug_table.specs.Settle.{tried_standings}
 use Rattle.ug_table.specs.Sweep.{names_of}
-use Rattle.ug_table.specs.Laws.{IsDevice, IsGone, Stand, numbers_of, TellsNeither, Account, Start, Note, Went, IsOne, IsFair}
+use Rattle.ug_table.specs.Laws.{IsDevice, IsGone, Stand, numbers_of, TellsNeither, Account, Start, Note, Went, IsOne, IsFair, AreLeft}
 use Rattle.ug_table.specs.declared.standing.Standing.{Standing}
 use Rattle.ug_table.specs.declared.standing.Settled.{Settled}
 use Rattle.ug_table.specs.declared.standing.Settled.TheVariants as settled
 use Rattle.ug_types.proofs.Elements.{filter_has, has_filter, map_has, has_map, distinct_filter, distinct_one}
 use Rattle.ug_table.proofs.Devices.{stand_stays}
 use Rattle.ug_table.proofs.Standings.{same_is, is_same, names_marked, numbers_marked}
-use Rattle.ug_table.proofs.Account.{Answers, Laters}
 use Rattle.ug_table.proofs.Says.{Plain, plain_none, plain_note, plain_distinct}
 use Rattle.ug_table.proofs.Joined.{FairFrom, gone_as, fair_trans}
 
@@ -45,6 +44,15 @@ pub record Less (x : Standing) (ss rs : List Standing) : Type 0 where
 
 pub one_itself : (ss : List Standing) (s : Standing) → Has ss s → IsOne ss s
 one_itself ss s a = (s, a, refl, refl, refl, refl, refl, refl)
+
+-- without entries all are left
+pub left_all : (ss : List Standing) → AreLeft ss [] ss
+left_all ss = record {
+  told = λ s a. inl (one_itself ss s a);
+  kept = λ s a. inl (one_itself ss s a);
+  judged = λ number name held verdict cause a. absurd a;
+  ended = λ s name a g. g;
+}
 
 pub same_refl : (k : Kernel) (ss : List Standing) (next : ℕ) → Stand k ss next → Same ss ss
 same_refl k ss next stand = record { there = one_itself ss; kept = one_itself ss; names = stand.names; distinct = stand.distinct }
@@ -74,10 +82,12 @@ plain_fair answer later present m l u rs fs sound g stand same plain account =
       entries = refl;
       stand = stand_of l u.standings rs u.next same.there same.names same.distinct (stand_stays m l u.standings u.next g stand);
       account = account;
-      told = λ s h. inl (same.there s h);
-      kept = λ s h. inl (same.kept s h);
-      judged = λ number name held verdict cause h. absurd (plain.judged number name held verdict cause h);
-      ended = λ s name h a. plain.gone s.number name a;
+      left = record {
+        told = λ s h. inl (same.there s h);
+        kept = λ s h. inl (same.kept s h);
+        judged = λ number name held verdict cause h. absurd (plain.judged number name held verdict cause h);
+        ended = λ s name h a. plain.gone s.number name a;
+      };
       gone = plain_distinct fs plain;
       once = λ i a b p q. absurd (plain.judged a p.name p.held p.verdict p.cause p.has);
       unjudged = λ i a h p. plain.judged a p.name p.held p.verdict p.cause p.has;
@@ -137,13 +147,15 @@ went_fair answer later present m u x rs sound stand has less gone =
       entries = refl;
       stand = stand_of m u.standings rs u.next less.there less.names less.distinct stand;
       account = Went [] m.log u.judge u.next d.0 x.number x.name x.held x.judged x.verdict d.1 (gone_held m d.0 x.name x.held x.judged d.1 gone) (inl (x, has, refl, refl, refl, refl)) Start;
-      told = λ s h. inl (less.there s h);
-      kept = λ s h. elim (less.kept s h) [
-        | inl a ↦ inl a
-        | inr b ↦ inr (gone_as (e ∷ []) x.number s.number x.name s.name (sym b.0) (sym b.1) (inl refl))
-      ];
-      judged = λ number name held verdict cause h. absurd (none number name held verdict cause h);
-      ended = λ s name h a. elim a [ inl is ↦ less.apart s h (let same : s.number ≡ x.number = cc in same) | inr n ↦ n ];
+      left = record {
+        told = λ s h. inl (less.there s h);
+        kept = λ s h. elim (less.kept s h) [
+          | inl a ↦ inl a
+          | inr b ↦ inr (gone_as (e ∷ []) x.number s.number x.name s.name (sym b.0) (sym b.1) (inl refl))
+        ];
+        judged = λ number name held verdict cause h. absurd (none number name held verdict cause h);
+        ended = λ s name h a. elim a [ inl is ↦ less.apart s h (let same : s.number ≡ x.number = cc in same) | inr n ↦ n ];
+      };
       gone = (λ n. n, tt);
       once = λ i a b p q. absurd (none a p.name p.held p.verdict p.cause p.has);
       unjudged = λ i a h p. none a p.name p.held p.verdict p.cause p.has;

@@ -5,10 +5,9 @@ use Rattle.ug_kernel.specs.Kernel.{Kernel, IsKernel}
 use Rattle.ug_kernel.specs.Called.{Follows}
 use Rattle.ug_itree.specs.Tree.{Runs, calls}
 use Rattle.ug_itree.proofs.Told.{told_run}
-use Rattle.ug_table.specs.State.{State}
+use Rattle.ug_table.specs.State.{State, Answers, Laters}
 use Rattle.ug_table.specs.Sweep.{sweeping}
 use Rattle.ug_table.specs.Laws.{Stand, Swept, Sweeps}
-use Rattle.ug_table.proofs.Account.{Answers, Laters}
 use Rattle.ug_table.proofs.FairSweep.{sweeping_fair}
 use Rattle.ug_table.proofs.Lived.{sweeping_settled}
 use Rattle.ug_table.proofs.Marks.{sweeping_marks}

@@ -22,7 +22,7 @@ use Rattle.ug_audit.specs.declared.entry.Entry.{Entry}
 use Rattle.ug_audit.specs.declared.entry.Entry.TheVariants as entry
 use Rattle.ug_audit.specs.declared.entry.Fault.{Fault}
 use Rattle.ug_audit.specs.declared.entry.Fault.TheVariants as fault
-use Rattle.ug_table.specs.State.{State, Kept}
+use Rattle.ug_table.specs.State.{State, Kept, Answers, Laters}
 use Rattle.ug_table.specs.Bring.{wants, write_of, after_write, to_bring, bringing}
 use Rattle.ug_table.specs.Standings.{same_name, standing_of, without, marked, place_for, with_standing}
 use Rattle.ug_table.specs.Settle.{kept_standings, to_keep, unsettled, no_room, standing_for, known_in, judged_entry, judging, if_place, if_record, admitting, after_bind, entering, tried_standings, to_mark, dropped, after_known, from_standing, settling, to_keep_mark, after_again, again, resettling}
@@ -34,7 +34,6 @@ use Rattle.ug_table.specs.declared.standing.Settled.{Settled}
 use Rattle.ug_table.specs.declared.standing.Settled.TheVariants as settled
 use Rattle.ug_types.proofs.Elements.{has_left, has_right, has_cases, filter_has, map_has, has_map, insert_has}
 use Rattle.ug_table.proofs.Standings.{is_same, missing, missing_without}
-use Rattle.ug_table.proofs.Account.{Answers, Laters}
 use Rattle.ug_table.proofs.Places.{marked_other}
 
 -- each end of the tree is so
@@ -280,7 +279,7 @@ no_room_part : {J : Type 0} (name : List ℕ) (held : ℕ) (w : State J) → (Ha
 no_room_part name held w absent = λ closed. unsettled_part name fault.Memory settled.Memory w absent
 
 if_place_part : {J : Type 0} (answer : Answers J) (later : Laters J) (name : List ℕ) (present : Bool) (w : State J) (b : Bound) (judged : Judged) (room : Bool) → (Has (names_of w.standings) name → ⊥) → EndsSo (PartOf name w) (if_place answer later name present w b judged room)
-if_place_part answer later name present w b judged true absent = judging_part (later w.judge judged (is_none (parent_of name)) present b.on) name b.held.0 judged b.on (answer w.judge judged (is_none (parent_of name)) present b.on) w absent
+if_place_part answer later name present w b judged true absent = judging_part (later w.judge judged (is_none (parent_of name)) present b.on w.standings) name b.held.0 judged b.on (answer w.judge judged (is_none (parent_of name)) present b.on w.standings) w absent
 if_place_part answer later name present w b judged false absent = no_room_part name b.held.0 w absent
 
 if_record_part : {J : Type 0} (answer : Answers J) (later : Laters J) (name : List ℕ) (present : Bool) (w : State J) (b : Bound) (room : Bool) → (Has (names_of w.standings) name → ⊥) → EndsSo (PartOf name w) (if_record answer later name present w b room)

@@ -16,14 +16,13 @@ use Rattle.ug_audit.specs.declared.entry.Entry.{Entry}
 use Rattle.ug_audit.specs.declared.entry.Entry.TheVariants as entry
 use Rattle.ug_audit.specs.declared.entry.Fault.TheVariants as fault
 use Rattle.ug_table.specs.Bring.{wants, write_of, after_write, to_write, to_bring, bringing}
-use Rattle.ug_table.specs.State.{State}
+use Rattle.ug_table.specs.State.{State, Answers, Laters}
 use Rattle.ug_table.specs.Standings.{known_of}
 use Rattle.ug_table.specs.Laws.{MayHave, MayHaveNot, wrote_entries, Account, Start, Had, Had_not}
 use Rattle.ug_table.specs.declared.standing.Standing.{Standing}
 use Rattle.ug_table.specs.declared.standing.Settled.{Settled}
 use Rattle.ug_table.specs.declared.standing.Settled.TheVariants as settled
 use Rattle.ug_table.proofs.Devices.{device_stays}
-use Rattle.ug_table.proofs.Account.{Answers, Laters}
 use Rattle.ug_table.proofs.Says.{plain_wrote}
 use Rattle.ug_table.proofs.Joined.{FairFrom, fair_trans}
 use Rattle.ug_table.proofs.Steps.{After, same_refl, plain_fair, fair_end, then_note, then_same, then_went}

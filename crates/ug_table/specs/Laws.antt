@@ -23,7 +23,7 @@ use Rattle.ug_audit.specs.declared.entry.Entry.TheVariants as entry
 use Rattle.ug_audit.specs.declared.entry.Fault.{Fault}
 use Rattle.ug_audit.specs.declared.entry.Fault.TheVariants as fault
 use Rattle.ug_table.specs.Bring.{wants, write_of}
-use Rattle.ug_table.specs.State.{State}
+use Rattle.ug_table.specs.State.{State, Answers, Laters}
 use Rattle.ug_table.specs.Sweep.{names_of}
 use Rattle.ug_table.specs.declared.standing.Standing.{Standing}
 
@@ -91,19 +91,6 @@ HasVerdict before entries number name held verdict =
 abbrev pub wrote_entries : ℕ → List ℕ → Write → Wrote → List Entry
 wrote_entries number name write outcome = entry.Intent number name write ∷ entry.Wrote number name write outcome ∷ []
 
--- The entries since a sweep began, in order, with what they say of the log, of the judge and of the next number.
--- Each verdict is the judge's on the record of the very device of the held file, under the next number; and that device, in this
--- sweep, lived from the opening of the file to the probe that gave its value. Whether it was present at the start is one answer for
--- the sweep. Each entry that was added to the log is that of a write that is told, with its intent directly before it, to the very
--- device of its number, and is what the verdict of that number wants. A number that is told gone had a verdict, and its device is gone.
-pub data Account {J : Type 0} (answer : J → Judged → Bool → Bool → Bool → Target × Cause) (later : J → Judged → Bool → Bool → Bool → J) (present : Bool) (start k : Kernel) (before : List Standing) (log0 : List Effect) (judge0 : J) (next0 : ℕ) : List Entry → List Effect → J → ℕ → Type 0 where
-  Start : Account answer later present start k before log0 judge0 next0 [] log0 judge0 next0
-  Note : (es : List Entry) (log : List Effect) (judge : J) (next : ℕ) (e : Entry) → TellsNeither e → Account answer later present start k before log0 judge0 next0 es log judge next → Account answer later present start k before log0 judge0 next0 (es ++ e ∷ []) log judge next
-  Judge : (es : List Entry) (log : List Effect) (judge : J) (next i : ℕ) (name : List ℕ) (held : Held) (judged : Judged) (on : Bool) → IsDevice k i name held judged → IsProbed start k name held.0 i on → Account answer later present start k before log0 judge0 next0 es log judge next → Account answer later present start k before log0 judge0 next0 (es ++ entry.Judged next name held (answer judge judged (is_none (parent_of name)) present on).0 (answer judge judged (is_none (parent_of name)) present on).1 ∷ []) log (later judge judged (is_none (parent_of name)) present on) (next + 1)
-  Had : (es : List Entry) (log : List Effect) (judge : J) (next i number : ℕ) (name : List ℕ) (held : Held) (judged : Judged) (verdict : Target) (outcome : Wrote) → IsDevice k i name held judged → HasVerdict before es number name held verdict → MayHave outcome → Account answer later present start k before log0 judge0 next0 es log judge next → Account answer later present start k before log0 judge0 next0 (es ++ wrote_entries number name (write_of verdict) outcome) (log ++ record { device = i; write = write_of verdict } ∷ []) judge next
-  Had_not : (es : List Entry) (log : List Effect) (judge : J) (next i number : ℕ) (name : List ℕ) (held : Held) (judged : Judged) (verdict : Target) (outcome : Wrote) → IsDevice k i name held judged → HasVerdict before es number name held verdict → MayHaveNot outcome → Account answer later present start k before log0 judge0 next0 es log judge next → Account answer later present start k before log0 judge0 next0 (es ++ wrote_entries number name (write_of verdict) outcome) log judge next
-  Went : (es : List Entry) (log : List Effect) (judge : J) (next i number : ℕ) (name : List ℕ) (held : Held) (judged : Judged) (verdict : Target) → IsDevice k i name held judged → IsGone k i → HasVerdict before es number name held verdict → Account answer later present start k before log0 judge0 next0 es log judge next → Account answer later present start k before log0 judge0 next0 (es ++ entry.Gone number name ∷ []) log judge next
-
 -- the standing is one of those, its mark aside
 abbrev pub IsOne : List Standing → Standing → Type 0
 IsOne ss s = (b : Standing) × Has ss b × (s.number ≡ b.number) × (s.name ≡ b.name) × (s.held ≡ b.held) × (s.judged ≡ b.judged) × (s.verdict ≡ b.verdict) × (s.cause ≡ b.cause)
@@ -115,6 +102,27 @@ IsTold before entries s = IsOne before s ⊎ Has entries (entry.Judged s.number 
 -- the verdict stands
 abbrev pub Stands : List Standing → ℕ → List ℕ → Held → Target → Cause → Type 0
 Stands ss number name held verdict cause = (s : Standing) × Has ss s × (s.number ≡ number) × (s.name ≡ name) × (s.held ≡ held) × (s.verdict ≡ verdict) × (s.cause ≡ cause)
+
+-- These standings are left of those from before by entries since. Each was there before or its verdict was told, and its number
+-- isn't told gone; and each from before, and each verdict that was told, is there, or its number is told gone.
+pub record AreLeft (before : List Standing) (entries : List Entry) (ss : List Standing) : Type 0 where
+  pub told : (s : Standing) → Has ss s → IsTold before entries s
+  pub kept : (b : Standing) → Has before b → IsOne ss b ⊎ Has entries (entry.Gone b.number b.name)
+  pub judged : (number : ℕ) (name : List ℕ) (held : Held) (verdict : Target) (cause : Cause) → Has entries (entry.Judged number name held verdict cause) → Stands ss number name held verdict cause ⊎ Has entries (entry.Gone number name)
+  pub ended : (s : Standing) (name : List ℕ) → Has ss s → Has entries (entry.Gone s.number name) → ⊥
+
+-- The entries since a sweep began, in order, with what they say of the log, of the judge and of the next number.
+-- Each verdict is the judge's on the record of the very device of the held file, beside the standings that are left at that moment,
+-- under the next number; and that device, in this sweep, lived from the opening of the file to the probe that gave its value. Whether it was present at the start is one answer for
+-- the sweep. Each entry that was added to the log is that of a write that is told, with its intent directly before it, to the very
+-- device of its number, and is what the verdict of that number wants. A number that is told gone had a verdict, and its device is gone.
+pub data Account {J : Type 0} (answer : Answers J) (later : Laters J) (present : Bool) (start k : Kernel) (before : List Standing) (log0 : List Effect) (judge0 : J) (next0 : ℕ) : List Entry → List Effect → J → ℕ → Type 0 where
+  Start : Account answer later present start k before log0 judge0 next0 [] log0 judge0 next0
+  Note : (es : List Entry) (log : List Effect) (judge : J) (next : ℕ) (e : Entry) → TellsNeither e → Account answer later present start k before log0 judge0 next0 es log judge next → Account answer later present start k before log0 judge0 next0 (es ++ e ∷ []) log judge next
+  Judge : (es : List Entry) (log : List Effect) (judge : J) (next i : ℕ) (name : List ℕ) (held : Held) (judged : Judged) (on : Bool) (ss : List Standing) → IsDevice k i name held judged → IsProbed start k name held.0 i on → AreLeft before es ss → Account answer later present start k before log0 judge0 next0 es log judge next → Account answer later present start k before log0 judge0 next0 (es ++ entry.Judged next name held (answer judge judged (is_none (parent_of name)) present on ss).0 (answer judge judged (is_none (parent_of name)) present on ss).1 ∷ []) log (later judge judged (is_none (parent_of name)) present on ss) (next + 1)
+  Had : (es : List Entry) (log : List Effect) (judge : J) (next i number : ℕ) (name : List ℕ) (held : Held) (judged : Judged) (verdict : Target) (outcome : Wrote) → IsDevice k i name held judged → HasVerdict before es number name held verdict → MayHave outcome → Account answer later present start k before log0 judge0 next0 es log judge next → Account answer later present start k before log0 judge0 next0 (es ++ wrote_entries number name (write_of verdict) outcome) (log ++ record { device = i; write = write_of verdict } ∷ []) judge next
+  Had_not : (es : List Entry) (log : List Effect) (judge : J) (next i number : ℕ) (name : List ℕ) (held : Held) (judged : Judged) (verdict : Target) (outcome : Wrote) → IsDevice k i name held judged → HasVerdict before es number name held verdict → MayHaveNot outcome → Account answer later present start k before log0 judge0 next0 es log judge next → Account answer later present start k before log0 judge0 next0 (es ++ wrote_entries number name (write_of verdict) outcome) log judge next
+  Went : (es : List Entry) (log : List Effect) (judge : J) (next i number : ℕ) (name : List ℕ) (held : Held) (judged : Judged) (verdict : Target) → IsDevice k i name held judged → IsGone k i → HasVerdict before es number name held verdict → Account answer later present start k before log0 judge0 next0 es log judge next → Account answer later present start k before log0 judge0 next0 (es ++ entry.Gone number name ∷ []) log judge next
 
 -- the device has a standing
 pub record HasStanding (k : Kernel) (ss : List Standing) (i : ℕ) : Type 0 where
@@ -137,20 +145,16 @@ gone_of [] = []
 gone_of (entry.Gone number name ∷ entries) = number ∷ gone_of entries
 gone_of (e ∷ entries) = gone_of entries
 
--- From the state w over the kernel k to the state v over the kernel l. Each standing from before and each verdict that was told
--- since stands at the end, or its number is told gone. No standing has a number that is told gone, and none is told so twice. No
--- device is judged twice, and none that had a standing before.
-pub record IsFair {J : Type 0} (answer : J → Judged → Bool → Bool → Bool → Target × Cause) (later : J → Judged → Bool → Bool → Bool → J) (present : Bool) (k : Kernel) (w : State J) (l : Kernel) (v : State J) : Type 0 where
+-- From the state w over the kernel k to the state v over the kernel l. The standings at the end are those that are left. No number is
+-- told gone twice. No device is judged twice, and none that had a standing before.
+pub record IsFair {J : Type 0} (answer : Answers J) (later : Laters J) (present : Bool) (k : Kernel) (w : State J) (l : Kernel) (v : State J) : Type 0 where
   pub sound : IsKernel l
   pub grows : Grows k l
   pub rest : List Entry
   pub entries : v.entries ≡ w.entries ++ rest
   pub stand : Stand l v.standings v.next
   pub account : Account answer later present k l w.standings k.log w.judge w.next rest l.log v.judge v.next
-  pub told : (s : Standing) → Has v.standings s → IsTold w.standings rest s
-  pub kept : (b : Standing) → Has w.standings b → IsOne v.standings b ⊎ Has rest (entry.Gone b.number b.name)
-  pub judged : (number : ℕ) (name : List ℕ) (held : Held) (verdict : Target) (cause : Cause) → Has rest (entry.Judged number name held verdict cause) → Stands v.standings number name held verdict cause ⊎ Has rest (entry.Gone number name)
-  pub ended : (s : Standing) (name : List ℕ) → Has v.standings s → Has rest (entry.Gone s.number name) → ⊥
+  pub left : AreLeft w.standings rest v.standings
   pub gone : AllDistinct (gone_of rest)
   pub once : (i a b : ℕ) → IsJudged l rest a i → IsJudged l rest b i → a ≡ b
   pub unjudged : (i a : ℕ) → HasStanding l w.standings i → IsJudged l rest a i → ⊥
@@ -189,7 +193,7 @@ IsSpared k l before entries = (i : ℕ) (d : Device) → Lived k.devices l.devic
 
 -- the sweep is fair, where devices were present at the start just if no listing had succeeded before it; each device is settled
 -- or named; and so say the marks
-pub record Swept {J : Type 0} (answer : J → Judged → Bool → Bool → Bool → Target × Cause) (later : J → Judged → Bool → Bool → Bool → J) (k : Kernel) (w : State J) (l : Kernel) (v : State J) : Type 0 where
+pub record Swept {J : Type 0} (answer : Answers J) (later : Laters J) (k : Kernel) (w : State J) (l : Kernel) (v : State J) : Type 0 where
   pub fair : IsFair answer later (not w.listed) k w l v
   pub settled : IsSettled k l v.standings fair.rest
   pub listed : IsListed fair.rest w.listed v.listed
@@ -198,5 +202,5 @@ pub record Swept {J : Type 0} (answer : J → Judged → Bool → Bool → Bool 
 
 -- where a kernel is told at the end of a sweep, one was told at its start; and where that is sound and the standings are of
 -- its devices, that is so
-abbrev pub Sweeps : {S J : Type 0} → (S → Option Kernel) → (J → Judged → Bool → Bool → Bool → Target × Cause) → (J → Judged → Bool → Bool → Bool → J) → S → State J → S → State J → Type 0
+abbrev pub Sweeps : {S J : Type 0} → (S → Option Kernel) → Answers J → Laters J → S → State J → S → State J → Type 0
 Sweeps told answer later s w t v = (l : Kernel) → told t ≡ Some l → (k : Kernel) × (told s ≡ Some k) × (IsKernel k → Stand k w.standings w.next → Swept answer later k w l v)

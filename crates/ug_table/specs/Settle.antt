@@ -17,7 +17,7 @@ use Rattle.ug_audit.specs.declared.entry.Entry.{Entry}
 use Rattle.ug_audit.specs.declared.entry.Entry.TheVariants as entry
 use Rattle.ug_audit.specs.declared.entry.Fault.{Fault}
 use Rattle.ug_audit.specs.declared.entry.Fault.TheVariants as fault
-use Rattle.ug_table.specs.State.{State, noted, Kept}
+use Rattle.ug_table.specs.State.{State, noted, Kept, Answers, Laters}
 use Rattle.ug_table.specs.Standings.{standing_of, without, marked, with_standing}
 use Rattle.ug_table.specs.Bring.{bringing}
 use Rattle.ug_table.specs.declared.standing.Standing.{Standing}
@@ -71,23 +71,23 @@ judging later w name held judged on given =
     then (bringing name (known_in w held given) on (w.entries ++ judged_entry w name held given ∷ []))
     (to_keep (record w { next = w.next + 1; judge = later }) (standing_for w name held judged given))
 
-abbrev pub to_judge : {J : Type 0} → (J → Judged → Bool → Bool → Bool → Target × Cause) → (J → Judged → Bool → Bool → Bool → J) → List ℕ → Bool → State J → Bound → Judged → Prog (Settled × State J)
+abbrev pub to_judge : {J : Type 0} → Answers J → Laters J → List ℕ → Bool → State J → Bound → Judged → Prog (Settled × State J)
 to_judge answer later name present w b judged =
-    judging (later w.judge judged (is_none (parent_of name)) present b.on) w name b.held.0 judged b.on (answer w.judge judged (is_none (parent_of name)) present b.on)
+    judging (later w.judge judged (is_none (parent_of name)) present b.on w.standings) w name b.held.0 judged b.on (answer w.judge judged (is_none (parent_of name)) present b.on w.standings)
 
-abbrev pub if_place : {J : Type 0} → (J → Judged → Bool → Bool → Bool → Target × Cause) → (J → Judged → Bool → Bool → Bool → J) → List ℕ → Bool → State J → Bound → Judged → Bool → Prog (Settled × State J)
+abbrev pub if_place : {J : Type 0} → Answers J → Laters J → List ℕ → Bool → State J → Bound → Judged → Bool → Prog (Settled × State J)
 if_place answer later name present w b judged true = to_judge answer later name present w b judged
 if_place answer later name present w b judged false = no_room w name b.held.0
 
-abbrev pub if_record : {J : Type 0} → (J → Judged → Bool → Bool → Bool → Target × Cause) → (J → Judged → Bool → Bool → Bool → J) → List ℕ → Bool → State J → Bound → Bool → Prog (Settled × State J)
+abbrev pub if_record : {J : Type 0} → Answers J → Laters J → List ℕ → Bool → State J → Bound → Bool → Prog (Settled × State J)
 if_record answer later name present w b true = Room (if_place answer later name present w b (judged_of name b.attrs b.parent))
 if_record answer later name present w b false = no_room w name b.held.0
 
 -- a bound device gets room for its record and its standing, a verdict and its writes
-unfoldable pub admitting : {J : Type 0} → (J → Judged → Bool → Bool → Bool → Target × Cause) → (J → Judged → Bool → Bool → Bool → J) → List ℕ → Bool → State J → Bound → Prog (Settled × State J)
+unfoldable pub admitting : {J : Type 0} → Answers J → Laters J → List ℕ → Bool → State J → Bound → Prog (Settled × State J)
 admitting answer later name present w b = Room (if_record answer later name present w b)
 
-abbrev pub after_bind : {J : Type 0} → (J → Judged → Bool → Bool → Bool → Target × Cause) → (J → Judged → Bool → Bool → Bool → J) → List ℕ → Bool → State J → Binding → Prog (Settled × State J)
+abbrev pub after_bind : {J : Type 0} → Answers J → Laters J → List ℕ → Bool → State J → Binding → Prog (Settled × State J)
 after_bind answer later name present w (bound.Bound b) = admitting answer later name present w b
 after_bind answer later name present w bound.Absent = Return (settled.Nobody, w)
 after_bind answer later name present w bound.Vanished = Return (settled.Nobody, w)
@@ -95,7 +95,7 @@ after_bind answer later name present w (bound.Failed call count) = unsettled w n
 after_bind answer later name present w bound.Memory = unsettled w name fault.Memory settled.Memory
 
 -- a name that has no standing
-unfoldable pub entering : {J : Type 0} → (J → Judged → Bool → Bool → Bool → Target × Cause) → (J → Judged → Bool → Bool → Bool → J) → List ℕ → Bool → State J → Prog (Settled × State J)
+unfoldable pub entering : {J : Type 0} → Answers J → Laters J → List ℕ → Bool → State J → Prog (Settled × State J)
 entering answer later name present w = then (binding name (parent_of name)) (after_bind answer later name present w)
 
 -- a standing that was tried again
@@ -115,17 +115,17 @@ dropped w name number = record w { standings = without name w.standings; entries
 abbrev pub failed_probe : {J : Type 0} → State J → List ℕ → ℕ → ℕ → Prog (Settled × State J)
 failed_probe w name call count = Return (settled.Fault call count, record w { standings = tried_standings w.standings name (settled.Fault call count); entries = w.entries ++ entry.Unsettled name (fault.Call call count) ∷ [] })
 
-abbrev pub after_known : {J : Type 0} → (J → Judged → Bool → Bool → Bool → Target × Cause) → (J → Judged → Bool → Bool → Bool → J) → List ℕ → Bool → State J → Known → Probe → ℕ → ℕ → Prog (Settled × State J)
+abbrev pub after_known : {J : Type 0} → Answers J → Laters J → List ℕ → Bool → State J → Known → Probe → ℕ → ℕ → Prog (Settled × State J)
 after_known answer later name present w known (probe.Alive on) call count = then (bringing name known on w.entries) (to_mark w name)
 after_known answer later name present w known probe.Gone call count = entering answer later name present (dropped w name known.number)
 after_known answer later name present w known probe.Failed call count = failed_probe w name call count
 
-abbrev pub from_standing : {J : Type 0} → (J → Judged → Bool → Bool → Bool → Target × Cause) → (J → Judged → Bool → Bool → Bool → J) → List ℕ → Bool → State J → Option Known → Prog (Settled × State J)
+abbrev pub from_standing : {J : Type 0} → Answers J → Laters J → List ℕ → Bool → State J → Option Known → Prog (Settled × State J)
 from_standing answer later name present w (Some known) = Ask (Ask_alive known.held.0) (λ t. after_known answer later name present w known t.answer t.number t.count)
 from_standing answer later name present w None = entering answer later name present w
 
 -- one listed name
-unfoldable pub settling : {J : Type 0} → (J → Judged → Bool → Bool → Bool → Target × Cause) → (J → Judged → Bool → Bool → Bool → J) → List ℕ → Bool → State J → Prog (Settled × State J)
+unfoldable pub settling : {J : Type 0} → Answers J → Laters J → List ℕ → Bool → State J → Prog (Settled × State J)
 settling answer later name present w = from_standing answer later name present w (standing_of name w.standings)
 
 abbrev pub to_keep_mark : Kept → List ℕ → Settled × List Entry → Prog (Settled × Kept)

@@ -1,8 +1,19 @@
 -- What an event works on.
 use Rattle.std.specs.Prelude.{ℕ, Bool, List, ◌∷◌, [], ◌++◌}
+use Rattle.ug_types.specs.declared.record.Judged.{Judged}
+use Rattle.ug_types.specs.declared.verdict.Target.{Target}
+use Rattle.ug_types.specs.declared.verdict.Cause.{Cause}
 use Rattle.ug_audit.specs.declared.entry.Entry.{Entry}
 use Rattle.ug_table.specs.declared.standing.Standing.{Standing}
 use Rattle.ug_table.specs.declared.table.Table.{Table}
+
+-- a judge's verdicts on a device, which is or isn't a root hub, was or wasn't present at the start, and is on or off, beside
+-- these standings; and what the judge is after them
+abbrev pub Answers : Type 0 → Type 0
+Answers J = J → Judged → Bool → Bool → Bool → List Standing → Target × Cause
+
+abbrev pub Laters : Type 0 → Type 0
+Laters J = J → Judged → Bool → Bool → Bool → List Standing → J
 
 -- the standings, the number of the next, whether a listing has succeeded, the judge, and the event's entries so far
 pub record State (J : Type 0) : Type 0 where

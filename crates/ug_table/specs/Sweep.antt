@@ -2,9 +2,6 @@
 use Rattle.std.specs.Prelude.{ℕ, Bool, true, false, not, List, [], ◌∷◌, ◌++◌, map}
 use Rattle.std.specs.List.{filter}
 use Rattle.ug_types.specs.Sweep.{in_sweep_order}
-use Rattle.ug_types.specs.declared.record.Judged.{Judged}
-use Rattle.ug_types.specs.declared.verdict.Target.{Target}
-use Rattle.ug_types.specs.declared.verdict.Cause.{Cause}
 use Rattle.ug_kernel.specs.declared.calls.Listing.{Listing}
 use Rattle.ug_kernel.specs.declared.calls.Listing.TheVariants as listing
 use Rattle.ug_kernel.specs.Calls.{Names}
@@ -12,13 +9,13 @@ use Rattle.ug_itree.specs.Tree.{Prog, Return, Ask, Room, then}
 use Rattle.ug_audit.specs.declared.entry.Entry.TheVariants as entry
 use Rattle.ug_audit.specs.declared.entry.Fault.{Fault}
 use Rattle.ug_audit.specs.declared.entry.Fault.TheVariants as fault
-use Rattle.ug_table.specs.State.{State, Kept, kept_of, with_kept}
+use Rattle.ug_table.specs.State.{State, Kept, kept_of, with_kept, Answers, Laters}
 use Rattle.ug_table.specs.Standings.{lists, farewells}
 use Rattle.ug_table.specs.Settle.{settling, resettling}
 use Rattle.ug_table.specs.declared.standing.Standing.{Standing}
 
 -- each listed name in order
-abbrev pub settling_all : {J : Type 0} → (J → Judged → Bool → Bool → Bool → Target × Cause) → (J → Judged → Bool → Bool → Bool → J) → List (List ℕ) → Bool → State J → Prog (State J)
+abbrev pub settling_all : {J : Type 0} → Answers J → Laters J → List (List ℕ) → Bool → State J → Prog (State J)
 settling_all answer later [] present w = Return w
 settling_all answer later (name ∷ names) present w = then (settling answer later name present w) (λ p. settling_all answer later names present p.1)
 
@@ -44,15 +41,15 @@ unlisted why w = then (resettling_all (names_of w.standings) (kept_of w.standing
 abbrev pub marked_listed : {J : Type 0} → State J → State J
 marked_listed w = record w { listed = true }
 
-abbrev pub if_room : {J : Type 0} → (J → Judged → Bool → Bool → Bool → Target × Cause) → (J → Judged → Bool → Bool → Bool → J) → List (List ℕ) → State J → Bool → Prog (State J)
+abbrev pub if_room : {J : Type 0} → Answers J → Laters J → List (List ℕ) → State J → Bool → Prog (State J)
 if_room answer later names w true = settling_all answer later names (not w.listed) (marked_listed (parted names w))
 if_room answer later names w false = unlisted fault.Memory w
 
-abbrev pub after_list : {J : Type 0} → (J → Judged → Bool → Bool → Bool → Target × Cause) → (J → Judged → Bool → Bool → Bool → J) → State J → Listing → ℕ → ℕ → Prog (State J)
+abbrev pub after_list : {J : Type 0} → Answers J → Laters J → State J → Listing → ℕ → ℕ → Prog (State J)
 after_list answer later w (listing.Names names) call count = Room (if_room answer later (in_sweep_order names) w)
 after_list answer later w listing.Failed call count = unlisted (fault.Call call count) w
 after_list answer later w listing.Memory call count = unlisted fault.Memory w
 
 -- the whole sweep
-unfoldable pub sweeping : {J : Type 0} → (J → Judged → Bool → Bool → Bool → Target × Cause) → (J → Judged → Bool → Bool → Bool → J) → State J → Prog (State J)
+unfoldable pub sweeping : {J : Type 0} → Answers J → Laters J → State J → Prog (State J)
 sweeping answer later w = Ask Names (λ t. after_list answer later w t.answer t.number t.count)

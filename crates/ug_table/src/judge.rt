@@ -1,18 +1,21 @@
 // What gives verdicts.
-ghost use Rattle.std.specs.Prelude.{◌≡◌, Bool};
+ghost use Rattle.std.specs.Prelude.{◌≡◌, Bool, List};
 ghost use Rattle.ug_types.specs.declared.record.Judged.{Judged};
 ghost use Rattle.ug_types.specs.declared.verdict.Target.{Target};
 ghost use Rattle.ug_types.specs.declared.verdict.Cause.{Cause};
+ghost use Rattle.ug_table.specs.declared.standing.Standing.{Standing};
 
+use crate::table::Table;
 use ug_types::{Cause, Judged, Target};
 
 /// Gives verdicts, and may change as it does.
 pub trait Judge {
-    /// The verdict on a device that is or isn't a root hub, was or wasn't present at the start, and is on or off.
-    ghost answer: { Self → Judged → Bool → Bool → Bool → Target × Cause };
+    /// The verdict on a device that is or isn't a root hub, was or wasn't present at the start, and is on or off,
+    /// beside the standings of the other devices.
+    ghost answer: { Self → Judged → Bool → Bool → Bool → List Standing → Target × Cause };
 
     /// What the judge is after it.
-    ghost later: { Self → Judged → Bool → Bool → Bool → Self };
+    ghost later: { Self → Judged → Bool → Bool → Bool → List Standing → Self };
 
     fn verdict(
         &mut self,
@@ -20,7 +23,8 @@ pub trait Judge {
         controller: bool,
         present: bool,
         on: bool,
+        allowed: &Table,
     ) -> (Target, Cause)
-        ensures answer { result ≡ answer self.old dev.now controller present on }
-        ensures later { self.new ≡ later self.old dev.now controller present on };
+        ensures answer { result ≡ answer self.old dev.now controller present on allowed.now.standings.items }
+        ensures later { self.new ≡ later self.old dev.now controller present on allowed.now.standings.items };
 }

@@ -120,7 +120,7 @@ impl Table {
             return Settled::Memory;
         }
         let controller = is_controller(name);
-        let (verdict, cause) = judge.verdict(&judged, controller, present, bound.on);
+        let (verdict, cause) = judge.verdict(&judged, controller, present, bound.on, self);
         let number = self.next;
         self.next += 1;
         out.push(Entry::Judged {

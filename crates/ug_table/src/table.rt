@@ -1,11 +1,14 @@
 // The list of standings, in sweep order of their names.
 ghost use Rattle.std.specs.Prelude.{◌≡◌, ◌≤◌, ◌<◌, ◌+◌, ◌++◌, [], map, length, vec_len, vec_capacity, false};
-ghost use Rattle.std.specs.List.{filter};
+ghost use Rattle.std.specs.List.{filter, list_any};
+ghost use Rattle.ug_match.specs.Queries.{query_matches};
+ghost use Rattle.ug_table.specs.Allowed.{allowed_of, allowed_records};
 ghost use Rattle.ug_table.specs.Standings.{standing_of, without, marked, mark_of, with_standing, place_for};
 
 use crate::standing::{Known, Standing};
 use std::alloc::Global;
-use ug_types::NodeName;
+use ug_match::matches;
+use ug_types::{Judged, NodeName, Query, Target};
 
 /// The standings, the number of the next, and whether a listing has succeeded.
 #[derive(Drop)]
@@ -31,6 +34,30 @@ impl Table {
             listed: false,
             names: Vec::new(alloc),
         }
+    }
+
+    /// Whether a query matches a settled device whose verdict is to allow it. A malformed device matches none. It takes
+    /// no memory.
+    pub fn any_allowed(&self, query: &Query) -> bool
+        ensures { result ≡ list_any (query_matches query.now) (allowed_records self.now.standings.items) }
+    {
+        has_allowed(&self.standings, query)
+    }
+}
+
+fn has_allowed(standings: &[Standing], query: &Query) -> bool
+    ensures { result ≡ list_any (λ s. list_any (query_matches query.now) (allowed_of s.settled s.verdict s.judged)) standings.now }
+{
+    standings.iter().any(|s| is_allowed(s, query))
+}
+
+// Whether a query matches the device of a standing, which is settled and allowed.
+fn is_allowed(s: &Standing, query: &Query) -> bool
+    ensures { result ≡ list_any (query_matches query.now) (allowed_of s.now.settled s.now.verdict s.now.judged) }
+{
+    match (s.settled, s.verdict, &s.judged) {
+        (true, Target::Allow, Judged::Good(device)) => matches(query, device),
+        _ => false,
     }
 }
 
