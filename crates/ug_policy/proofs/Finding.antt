@@ -28,19 +28,19 @@ use Rattle.ug_policy.proofs.Judged.{not_true, true-not_false}
 use Rattle.ug_policy.proofs.Numbering.{numbered_same}
 use Rattle.ug_policy.proofs.Stands.{FirstMatches}
 
-pub behind_add : (a b : ℕ) (stream : Stream) → behind (a + b) stream ≡ behind b (behind a stream)
+behind_add : (a b : ℕ) (stream : Stream) → behind (a + b) stream ≡ behind b (behind a stream)
 behind_add zero b stream = let none : 0 + b ≡ b = omega arith in ap (λ (n : ℕ). behind n stream) none
 behind_add (suc a) b stream = let more : suc a + b ≡ suc (a + b) = omega arith in ap (λ (n : ℕ). behind n stream) more ∙ behind_add a b (next_u64 stream).1
 
-pub taken_append : (dev : DeviceRecord) (es fs : List RuleEntry) → words_taken dev (es ++ fs) ≡ words_taken dev es + words_taken dev fs
+taken_append : (dev : DeviceRecord) (es fs : List RuleEntry) → words_taken dev (es ++ fs) ≡ words_taken dev es + words_taken dev fs
 taken_append dev [] fs = omega arith
 taken_append dev (e ∷ es) fs = let h = taken_append dev es fs in omega arith
 
 -- a rule that decides, and one that doesn't
-pub found_here : (dev : DeviceRecord) (ctx : Context) (records : List DeviceRecord) (e : RuleEntry) (es : List RuleEntry) (stream : Stream) → decides dev ctx records e stream ≡ true → find_decider dev ctx records (e ∷ es) stream ≡ record { before = []; rest = e ∷ es }
+found_here : (dev : DeviceRecord) (ctx : Context) (records : List DeviceRecord) (e : RuleEntry) (es : List RuleEntry) (stream : Stream) → decides dev ctx records e stream ≡ true → find_decider dev ctx records (e ∷ es) stream ≡ record { before = []; rest = e ∷ es }
 found_here dev ctx records e es stream h = cond-true (decides dev ctx records e stream) (record { before = []; rest = e ∷ es }) (put_before e (find_decider dev ctx records es (behind (rule_takes dev e) stream))) h
 
-pub found_later : (dev : DeviceRecord) (ctx : Context) (records : List DeviceRecord) (e : RuleEntry) (es : List RuleEntry) (stream : Stream) → decides dev ctx records e stream ≡ false → find_decider dev ctx records (e ∷ es) stream ≡ put_before e (find_decider dev ctx records es (behind (rule_takes dev e) stream))
+found_later : (dev : DeviceRecord) (ctx : Context) (records : List DeviceRecord) (e : RuleEntry) (es : List RuleEntry) (stream : Stream) → decides dev ctx records e stream ≡ false → find_decider dev ctx records (e ∷ es) stream ≡ put_before e (find_decider dev ctx records es (behind (rule_takes dev e) stream))
 found_later dev ctx records e es stream h = cond-false (decides dev ctx records e stream) (record { before = []; rest = e ∷ es }) (put_before e (find_decider dev ctx records es (behind (rule_takes dev e) stream))) h
 
 -- the words of the rules behind the first
@@ -54,7 +54,7 @@ later_decider dev ctx records f es stream i e d = record {
   first = λ k g lt there t. d.first (suc k) g (omega arith) there (behind_first dev ctx records f g (take k es) stream ∙ t);
 }
 
-pub found_decider : (dev : DeviceRecord) (ctx : Context) (records : List DeviceRecord) (es : List RuleEntry) (stream : Stream) (i : ℕ) (e : RuleEntry) → IsDecider dev ctx records es stream i e → find_decider dev ctx records es stream ≡ record { before = take i es; rest = e ∷ drop (suc i) es }
+found_decider : (dev : DeviceRecord) (ctx : Context) (records : List DeviceRecord) (es : List RuleEntry) (stream : Stream) (i : ℕ) (e : RuleEntry) → IsDecider dev ctx records es stream i e → find_decider dev ctx records es stream ≡ record { before = take i es; rest = e ∷ drop (suc i) es }
 found_decider dev ctx records [] stream i e d = absurd (none-some e d.there)
 found_decider dev ctx records (f ∷ es) stream zero e d =
     let same : f ≡ e = same_Some f e d.there in
@@ -66,7 +66,7 @@ found_decider dev ctx records (f ∷ es) stream (suc i) e d =
 later_none : (dev : DeviceRecord) (ctx : Context) (records : List DeviceRecord) (f : RuleEntry) (es : List RuleEntry) (stream : Stream) → HasNoDecider dev ctx records (f ∷ es) stream → HasNoDecider dev ctx records es (behind (rule_takes dev f) stream)
 later_none dev ctx records f es stream n = λ k e there t. n (suc k) e there (behind_first dev ctx records f e (take k es) stream ∙ t)
 
-pub found_none : (dev : DeviceRecord) (ctx : Context) (records : List DeviceRecord) (es : List RuleEntry) (stream : Stream) → HasNoDecider dev ctx records es stream → find_decider dev ctx records es stream ≡ record { before = es; rest = [] }
+found_none : (dev : DeviceRecord) (ctx : Context) (records : List DeviceRecord) (es : List RuleEntry) (stream : Stream) → HasNoDecider dev ctx records es stream → find_decider dev ctx records es stream ≡ record { before = es; rest = [] }
 found_none dev ctx records [] stream n = refl
 found_none dev ctx records (f ∷ es) stream n =
     found_later dev ctx records f es stream (not_true (decides dev ctx records f stream) (n zero f refl))

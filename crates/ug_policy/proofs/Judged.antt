@@ -11,12 +11,12 @@ use Rattle.ug_policy.specs.declared.entry.RuleEntry.{RuleEntry}
 use Rattle.ug_policy.specs.Matching.{matched, IsDeciding, NoneDecides, answer_by, answered, noted, judged}
 use Rattle.ug_policy.proofs.Places.{FirstAt, NonePasses, find_first, find_none, first_or_none}
 
-pub judged_first : (dev : DeviceRecord) (moment : Moment) (es : List RuleEntry) (i : ℕ) (e : RuleEntry) → FirstAt (matched dev) es i e → judged dev moment es ≡ set es i (noted moment e)
+judged_first : (dev : DeviceRecord) (moment : Moment) (es : List RuleEntry) (i : ℕ) (e : RuleEntry) → FirstAt (matched dev) es i e → judged dev moment es ≡ set es i (noted moment e)
 judged_first dev moment [] i e h = absurd h
 judged_first dev moment (f ∷ es) zero e h = cond-true (matched dev f) (noted moment f ∷ es) (f ∷ judged dev moment es) h.1 ∙ ap (λ v. noted moment v ∷ es) h.0
 judged_first dev moment (f ∷ es) (suc i) e h = cond-false (matched dev f) (noted moment f ∷ es) (f ∷ judged dev moment es) h.0 ∙ ap (λ v. f ∷ v) (judged_first dev moment es i e h.1)
 
-pub judged_none : (dev : DeviceRecord) (moment : Moment) (es : List RuleEntry) → NonePasses (matched dev) es → judged dev moment es ≡ es
+judged_none : (dev : DeviceRecord) (moment : Moment) (es : List RuleEntry) → NonePasses (matched dev) es → judged dev moment es ≡ es
 judged_none dev moment [] h = refl
 judged_none dev moment (e ∷ es) h = cond-false (matched dev e) (noted moment e ∷ es) (e ∷ judged dev moment es) h.0 ∙ ap (λ v. e ∷ v) (judged_none dev moment es h.1)
 
@@ -71,10 +71,10 @@ pub decided_or_not : (dev : DeviceRecord) (es : List RuleEntry) (place : ℕ) (e
 decided_or_not dev es place entry a b = b place entry a.there a.matching
 
 -- what the answer and the rules are
-pub answered_first : (dev : DeviceRecord) (implicit : Target) (es : List RuleEntry) (i : ℕ) (e : RuleEntry) → FirstAt (matched dev) es i e → answered dev implicit es ≡ (e.rule.target, cause.Rule e.id)
+answered_first : (dev : DeviceRecord) (implicit : Target) (es : List RuleEntry) (i : ℕ) (e : RuleEntry) → FirstAt (matched dev) es i e → answered dev implicit es ≡ (e.rule.target, cause.Rule e.id)
 answered_first dev implicit es i e h = ap (answer_by implicit) (find_first (matched dev) es i e h)
 
-pub answered_none : (dev : DeviceRecord) (implicit : Target) (es : List RuleEntry) → NonePasses (matched dev) es → answered dev implicit es ≡ (implicit, cause.Implicit)
+answered_none : (dev : DeviceRecord) (implicit : Target) (es : List RuleEntry) → NonePasses (matched dev) es → answered dev implicit es ≡ (implicit, cause.Implicit)
 answered_none dev implicit es h = ap (answer_by implicit) (find_none (matched dev) es h)
 
 pub by_rule : (dev : DeviceRecord) (moment : Moment) (implicit : Target) (es : List RuleEntry) (place : ℕ) (entry : RuleEntry) → IsDeciding dev es place entry → (answered dev implicit es ≡ (entry.rule.target, cause.Rule entry.id)) × (judged dev moment es ≡ set es place (noted moment entry))
