@@ -6,7 +6,7 @@ use Rattle.ug_itree.specs.Tree.{Prog, Return, Runs, then}
 use Rattle.ug_audit.specs.declared.entry.Entry.TheVariants as entry
 use Rattle.ug_table.specs.State.{State}
 use Rattle.ug_table.specs.Sweep.{sweeping}
-use Rattle.ug_core.specs.Policy.{Judging, context_at, policy_answer, policy_later}
+use Rattle.ug_core.specs.Policy.{Judging, judging_of, context_at, policy_answer, policy_later}
 use Rattle.ug_core.specs.declared.daemon.Daemon.{Daemon}
 use Rattle.ug_core.specs.declared.daemon.Event.{Event}
 use Rattle.ug_core.specs.declared.daemon.Event.TheVariants.{Sweep}
@@ -18,7 +18,7 @@ pub record DaemonState : Type 0 where
 
 abbrev pub daemon_of : Daemon → DaemonState
 daemon_of d = record {
-  sweep = record { standings = d.table.standings.items; next = d.table.next; listed = d.table.listed; judge = d.policy; entries = d.report.entries.entries };
+  sweep = record { standings = d.table.standings.items; next = d.table.next; listed = d.table.listed; judge = judging_of d.policy; entries = d.report.entries.entries };
   event = d.next_event;
 }
 

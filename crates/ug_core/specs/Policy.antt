@@ -22,6 +22,7 @@ use Rattle.ug_policy.specs.Edits.{new_entry}
 use Rattle.ug_policy.specs.Matching.{answer_by}
 use Rattle.ug_table.specs.Allowed.{allowed_records}
 use Rattle.ug_table.specs.State.{Answers, Laters}
+use Rattle.ug_core.specs.declared.policy.Policy.{Policy}
 
 -- the words that a generator gives
 abbrev pub stream_from : ChaCha → Stream
@@ -42,6 +43,10 @@ pub record Judging : Type 0 where
   pub clock : ℕ → ℕ
   pub ctx : Context
   pub stream : Stream
+
+-- what a policy judges by
+abbrev pub judging_of : Policy → Judging
+judging_of p = record { rules = p.rules.entries; next = p.rules.next; clock = clock_of p.zone; ctx = p.ctx; stream = stream_from p.rng }
 
 -- a moment, with its second of the local day; behind the last second that the calendar has, that one counts
 abbrev pub context_at : (ℕ → ℕ) → Moment → Context

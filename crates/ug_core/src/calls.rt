@@ -2,6 +2,7 @@
 ghost use Rattle.std.specs.Prelude.{◌≡◌, ◌≤◌, ◌<◌, ◌+◌, ◌-◌, ◌*◌, ◌^◌, [], IsTrue, length, IfOk, vec_len};
 ghost use Rattle.ug_itree.specs.Tree.{Runs};
 ghost use Rattle.ug_core.specs.Event.{daemon_of, IsStarted, moment_of, RunsEvent, handling, has_numbers, is_low};
+ghost use Rattle.ug_core.specs.Policy.{judging_of};
 ghost use Rattle.ug_core.specs.Laws.{Handles, TellsEvent, NamesOnceIn};
 
 use crate::daemon::{Daemon, Event};
@@ -24,7 +25,7 @@ fn low(n: u64) -> bool
 impl Daemon {
     /// A daemon with that policy, whose first event has that number. It makes the room of an event's entries.
     pub fn start(alloc: Global, policy: Policy, first: u64) -> Result<Daemon, NoMemory>
-        ensures started { IfOk result (λ d. IsStarted policy first (daemon_of d)) }
+        ensures started { IfOk result (λ d. IsStarted (judging_of policy) first (daemon_of d)) }
         ensures number { IfOk result (λ d. d.report.event ≡ 0) }
     {
         let mut entries = Entries::new(alloc);

@@ -3,12 +3,11 @@ ghost use Rattle.std.specs.Prelude.{◌≡◌, ◌<◌, ◌+◌, ◌-◌, ◌^�
 ghost use Rattle.ug_policy.specs.Deciding.{find_decider};
 ghost use Rattle.ug_policy.specs.Edits.{new_entry};
 ghost use Rattle.ug_table.specs.Allowed.{allowed_records};
-ghost use Rattle.ug_core.specs.Policy.{by_class, clock_of, context_at, kept, policy_answer, policy_later, rules_by_class, seeded, stream_by_class, stream_from};
+ghost use Rattle.ug_core.specs.Policy.{Judging, by_class, clock_of, context_at, judging_of, kept, policy_answer, policy_later, rules_by_class, seeded, stream_by_class, stream_from};
 
 use jiff::tz::TimeZone;
 use rand_chacha::ChaCha20Rng;
 use rand_core::SeedableRng;
-use std::marker::Model;
 use ug_cond::{Allowed, Context, local_second};
 use ug_policy::RuleList;
 use ug_table::{Judge, Table};
@@ -21,14 +20,6 @@ pub struct Policy {
     zone: TimeZone<'static>,
     ctx: Context,
     rng: ChaCha20Rng,
-}
-
-impl Model for Policy {
-    ghost use Rattle.ug_core.specs.Policy.{Judging, clock_of, stream_from};
-
-    ghost Value = { Judging };
-
-    ghost view = { λ p. record { rules = p.rules.entries; next = p.rules.next; clock = clock_of p.zone; ctx = p.ctx; stream = stream_from p.rng } };
 }
 
 /// The settled devices of a table whose verdict is to allow them.
@@ -102,7 +93,7 @@ fn append(rules: &mut RuleList, rule: Rule) -> Result<(), NoMemory>
 impl Policy {
     /// These rules, with the clock of that zone and the words of a seed of 32 bytes.
     pub fn new(rules: RuleList, zone: TimeZone<'static>, seed: [u8; 32]) -> Policy
-        ensures { result ≡ record { rules = rules.entries; next = rules.next; clock = clock_of zone; ctx = record { moment = record { 0 = 0 }; second = 0 }; stream = seeded seed } }
+        ensures { judging_of result ≡ record { rules = rules.entries; next = rules.next; clock = clock_of zone.entry; ctx = record { moment = record { 0 = 0 }; second = 0 }; stream = seeded seed } }
     {
         Policy {
             rules,
@@ -117,38 +108,38 @@ impl Policy {
 
     /// Whether there are fewer than 65,536 rules and an id is left for one more.
     pub fn has_place(&self) -> bool
-        ensures { result ≡ (nat_lt (length self.now.rules) 65536 && nat_lt self.now.next (2 ^ 64 - 1)) }
+        ensures { result ≡ (nat_lt (length (judging_of self.now).rules) 65536 && nat_lt (judging_of self.now).next (2 ^ 64 - 1)) }
     {
         self.rules.len() < 65536 && self.rules.next_id() < u64::MAX
     }
 
     /// Puts a rule behind the others, which is permanent and has no history. A refusal changes nothing.
     pub fn append(&mut self, rule: Rule) -> Result<(), NoMemory>
-        requires few { length self.old.rules < 65536 }
-        requires left { self.old.next < 2 ^ 64 - 1 }
-        ensures ok { OnOk result (self.new ≡ record self.old { rules = self.old.rules ++ new_entry self.old.next rule false ∷ []; next = self.old.next + 1 }) }
-        ensures err { OnErr result (self.new ≡ self.old) }
+        requires few { length (judging_of self.old).rules < 65536 }
+        requires left { (judging_of self.old).next < 2 ^ 64 - 1 }
+        ensures ok { OnOk result (judging_of self.new ≡ record (judging_of self.old) { rules = (judging_of self.old).rules ++ new_entry (judging_of self.old).next rule false ∷ []; next = (judging_of self.old).next + 1 }) }
+        ensures err { OnErr result (judging_of self.new ≡ judging_of self.old) }
     {
         append(&mut self.rules, rule)
     }
 
     /// The clock is that of the zone.
     pub fn set_zone(&mut self, zone: TimeZone<'static>)
-        ensures { self.new ≡ record self.old { clock = clock_of zone } }
+        ensures { judging_of self.new ≡ record (judging_of self.old) { clock = clock_of zone.entry } }
     {
         self.zone = zone;
     }
 
     /// The words to come are those of ChaCha20 with that seed.
     pub fn set_seed(&mut self, seed: [u8; 32])
-        ensures { self.new ≡ record self.old { stream = seeded seed } }
+        ensures { judging_of self.new ≡ record (judging_of self.old) { stream = seeded seed } }
     {
         self.rng = ChaCha20Rng::from_seed(seed);
     }
 
     /// The next verdicts are given at that moment.
     pub fn set_moment(&mut self, moment: Moment)
-        ensures { self.new ≡ record self.old { ctx = context_at self.old.clock moment } }
+        ensures { judging_of self.new ≡ record (judging_of self.old) { ctx = context_at (judging_of self.old).clock moment } }
     {
         self.ctx = Context {
             moment,
@@ -158,6 +149,10 @@ impl Policy {
 }
 
 impl Judge for Policy {
+    ghost Meaning = { Judging };
+
+    ghost meaning = { judging_of };
+
     ghost answer = { policy_answer };
 
     ghost later = { policy_later };

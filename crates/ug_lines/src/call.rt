@@ -76,8 +76,8 @@ fn finish<K: Sink, W, M: Machine<W>>(
     machine: &mut M,
     world: &mut W,
 ) -> Ended
-    requires { M.keeps machine.old world.old }
-    ensures told { Finishes M.step_of (of_first M.closing) splitter.old.line.items splitter.old.lines (machine.old, world.old) (K.held out.old) (K.held out.new) (machine.new, world.new) result }
+    requires { M.keeps (M.state machine.old) world.old }
+    ensures told { Finishes M.step_of (of_first M.closing) splitter.old.line.items splitter.old.lines (M.state machine.old, world.old) (K.held out.old) (K.held out.new) (M.state machine.new, world.new) result }
     ensures not_read { result ≢ Ended.ReadFault }
     ensures counted { K.faults out.old ≤ K.faults out.new }
     ensures cause { result ≡ Ended.WriteFault → Rose (K.faults out.old) (K.faults out.new) }
@@ -101,8 +101,8 @@ pub fn replay<S: Source, K: Sink, W, M: Machine<W>>(
     machine: &mut M,
     world: &mut W,
 ) -> Ended
-    requires { M.keeps machine.old world.old }
-    ensures told { Replays M.step_of (of_first M.closing) (machine.old, world.old) (S.left input.old) (S.left input.new) (K.held out.old) (K.held out.new) (machine.new, world.new) result }
+    requires { M.keeps (M.state machine.old) world.old }
+    ensures told { Replays M.step_of (of_first M.closing) (M.state machine.old, world.old) (S.left input.old) (S.left input.new) (K.held out.old) (K.held out.new) (M.state machine.new, world.new) result }
     ensures read { result ≡ Ended.ReadFault → Rose (S.faults input.old) (S.faults input.new) }
     ensures written { result ≡ Ended.WriteFault → Rose (K.faults out.old) (K.faults out.new) }
 {
@@ -143,9 +143,9 @@ pub fn run<S: Source, K: Sink, W, M: Machine<W>>(
     machine: &mut M,
     world: &mut W,
 ) -> u8
-    requires { M.keeps machine.old world.old }
+    requires { M.keeps (M.state machine.old) world.old }
     ensures answers { (all : List ℕ) (base : List ℕ) → S.left input.old ≡ Some all → K.held out.old ≡ Some base
-        → Answers M.step_of (of_first M.closing) (machine.old, world.old) all base (S.left input.new) (K.held out.new) (machine.new, world.new) result }
+        → Answers M.step_of (of_first M.closing) (M.state machine.old, world.old) all base (S.left input.new) (K.held out.new) (M.state machine.new, world.new) result }
     ensures read { result ≡ 4 → Rose (S.faults input.old) (S.faults input.new) }
     ensures written { result ≡ 5 → Rose (K.faults out.old) (K.faults out.new) }
     ensures others { (ended : Ended) × (result ≡ status_of ended) }

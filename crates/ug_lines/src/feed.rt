@@ -80,10 +80,10 @@ impl Splitter {
         world: &mut W,
         out: &mut K,
     ) -> Ran
-        requires { M.keeps machine.old world.old }
-        ensures fed { Feeds M.step_of self.old.line.items self.old.lines (machine.old, world.old) (K.held out.old) (10 ∷ [])
-            result self.new.line.items self.new.lines (machine.new, world.new) (K.held out.new) }
-        ensures kept { result ≡ Ran.Done → M.keeps machine.new world.new }
+        requires { M.keeps (M.state machine.old) world.old }
+        ensures fed { Feeds M.step_of self.old.line.items self.old.lines (M.state machine.old, world.old) (K.held out.old) (10 ∷ [])
+            result self.new.line.items self.new.lines (M.state machine.new, world.new) (K.held out.new) }
+        ensures kept { result ≡ Ran.Done → M.keeps (M.state machine.new) world.new }
         ensures further { result ≡ Ran.Done → self.new.lines ≡ self.old.lines + 1 }
         ensures counted { K.faults out.old ≤ K.faults out.new }
         ensures cause { result ≡ Ran.SinkFailed → Rose (K.faults out.old) (K.faults out.new) }
@@ -110,12 +110,12 @@ impl Splitter {
         out: &mut K,
         part: &[u8],
     ) -> Ran
-        requires keeps { M.keeps machine.old world.old }
+        requires keeps { M.keeps (M.state machine.old) world.old }
         requires some { 0 < length part.now }
         requires front { IsLine (take (length part.now - 1) part.now) }
-        ensures fed { Feeds M.step_of self.old.line.items self.old.lines (machine.old, world.old) (K.held out.old) part.now
-            result self.new.line.items self.new.lines (machine.new, world.new) (K.held out.new) }
-        ensures kept { result ≡ Ran.Done → M.keeps machine.new world.new }
+        ensures fed { Feeds M.step_of self.old.line.items self.old.lines (M.state machine.old, world.old) (K.held out.old) part.now
+            result self.new.line.items self.new.lines (M.state machine.new, world.new) (K.held out.new) }
+        ensures kept { result ≡ Ran.Done → M.keeps (M.state machine.new) world.new }
         ensures further { result ≡ Ran.Done → self.old.lines * 1048578 + vec_len self.old.line + length part.now ≤ self.new.lines * 1048578 + vec_len self.new.line }
         ensures counted { K.faults out.old ≤ K.faults out.new }
         ensures cause { result ≡ Ran.SinkFailed → Rose (K.faults out.old) (K.faults out.new) }
@@ -139,10 +139,10 @@ impl Splitter {
         out: &mut K,
         piece: &[u8],
     ) -> Ran
-        requires { M.keeps machine.old world.old }
-        ensures fed { Feeds M.step_of self.old.line.items self.old.lines (machine.old, world.old) (K.held out.old) piece.now
-            result self.new.line.items self.new.lines (machine.new, world.new) (K.held out.new) }
-        ensures kept { result ≡ Ran.Done → M.keeps machine.new world.new }
+        requires { M.keeps (M.state machine.old) world.old }
+        ensures fed { Feeds M.step_of self.old.line.items self.old.lines (M.state machine.old, world.old) (K.held out.old) piece.now
+            result self.new.line.items self.new.lines (M.state machine.new, world.new) (K.held out.new) }
+        ensures kept { result ≡ Ran.Done → M.keeps (M.state machine.new) world.new }
         ensures further { result ≡ Ran.Done → self.old.lines * 1048578 + vec_len self.old.line + length piece.now ≤ self.new.lines * 1048578 + vec_len self.new.line }
         ensures counted { K.faults out.old ≤ K.faults out.new }
         ensures cause { result ≡ Ran.SinkFailed → Rose (K.faults out.old) (K.faults out.new) }
@@ -168,9 +168,9 @@ impl Splitter {
         world: &mut W,
         out: &mut K,
     ) -> Ran
-        requires { M.keeps machine.old world.old }
-        ensures told { Lasts M.step_of self.old.line.items self.old.lines (machine.old, world.old) (K.held out.old)
-            result self.new.lines (machine.new, world.new) (K.held out.new) }
+        requires { M.keeps (M.state machine.old) world.old }
+        ensures told { Lasts M.step_of self.old.line.items self.old.lines (M.state machine.old, world.old) (K.held out.old)
+            result self.new.lines (M.state machine.new, world.new) (K.held out.new) }
         ensures counted { K.faults out.old ≤ K.faults out.new }
         ensures cause { result ≡ Ran.SinkFailed → Rose (K.faults out.old) (K.faults out.new) }
     {

@@ -3,6 +3,7 @@ ghost use Rattle.std.specs.Prelude.{◌≡◌, ◌≤◌, ℕ, List, Some, None,
 ghost use Rattle.ug_types.specs.Ends.{Rose};
 ghost use Rattle.ug_lines.specs.Fold.{BadLine, InputTooLong, Writes, Refused};
 ghost use Rattle.ug_lines.specs.Runs.{Steps, Closes};
+ghost use Rattle.ug_lines.specs.declared.tests.Echo.{Echo as Echoing};
 
 use crate::call::run;
 use crate::machine::{Machine, Ran};
@@ -16,6 +17,10 @@ struct Echo {
 }
 
 impl Machine<u64> for Echo {
+    ghost State = { Echoing };
+
+    ghost state = { λ m. m };
+
     ghost step_of = { λ p line. if nat_eq (length line) 3 then Refused BadLine p else if nat_eq (length line) 4 then Refused InputTooLong p else Writes line (record { begun = true }, length line) };
 
     ghost closing = { λ m. if m.begun then Some (codes "done\n") else None };

@@ -10,12 +10,17 @@ use ug_types::{Cause, Judged, Target};
 
 /// Gives verdicts, and may change as it does.
 pub trait Judge {
+    /// What it judges by.
+    ghost Meaning: { Type 0 };
+
+    ghost meaning: { Self → Meaning };
+
     /// The verdict on a device that is or isn't a root hub, was or wasn't present at the start, and is on or off,
     /// beside the standings of the other devices.
-    ghost answer: { Self → Judged → Bool → Bool → Bool → List Standing → Target × Cause };
+    ghost answer: { Meaning → Judged → Bool → Bool → Bool → List Standing → Target × Cause };
 
-    /// What the judge is after it.
-    ghost later: { Self → Judged → Bool → Bool → Bool → List Standing → Self };
+    /// What it judges by after that.
+    ghost later: { Meaning → Judged → Bool → Bool → Bool → List Standing → Meaning };
 
     fn verdict(
         &mut self,
@@ -25,6 +30,6 @@ pub trait Judge {
         on: bool,
         allowed: &Table,
     ) -> (Target, Cause)
-        ensures answer { result ≡ answer self.old dev.now controller present on allowed.now.standings.items }
-        ensures later { self.new ≡ later self.old dev.now controller present on allowed.now.standings.items };
+        ensures answer { result ≡ answer (meaning self.old) dev.now controller present on allowed.now.standings.items }
+        ensures later { meaning self.new ≡ later (meaning self.old) dev.now controller present on allowed.now.standings.items };
 }

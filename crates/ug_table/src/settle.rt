@@ -93,7 +93,7 @@ impl Table {
     ) -> Settled
         requires room { 4 ≤ out.old.spare }
         requires next { self.old.next < 2 ^ 64 - 1 }
-        ensures runs { Runs Y.gives sysfs.old (admitting A.answer A.later name.now present (state_of self.old judge.old out.old.entries) bound) (result, state_of self.new judge.new out.new.entries) sysfs.new }
+        ensures runs { Runs Y.gives sysfs.old (admitting A.answer A.later name.now present (state_of self.old (A.meaning judge.old) out.old.entries) bound) (result, state_of self.new (A.meaning judge.new) out.new.entries) sysfs.new }
         ensures spare { out.old.spare ≤ out.new.spare + 4 }
         ensures room { out.new.room ≡ out.old.room }
         ensures len { vec_len self.new.standings ≤ vec_len self.old.standings + 1 }
@@ -162,7 +162,7 @@ impl Table {
     ) -> Settled
         requires room { 4 ≤ out.old.spare }
         requires next { self.old.next < 2 ^ 64 - 1 }
-        ensures runs { Runs Y.gives sysfs.old (entering A.answer A.later name.now present (state_of self.old judge.old out.old.entries)) (result, state_of self.new judge.new out.new.entries) sysfs.new }
+        ensures runs { Runs Y.gives sysfs.old (entering A.answer A.later name.now present (state_of self.old (A.meaning judge.old) out.old.entries)) (result, state_of self.new (A.meaning judge.new) out.new.entries) sysfs.new }
         ensures spare { out.old.spare ≤ out.new.spare + 4 }
         ensures room { out.new.room ≡ out.old.room }
         ensures len { vec_len self.new.standings ≤ vec_len self.old.standings + 1 }
@@ -202,7 +202,7 @@ impl Table {
     ) -> Settled
         requires room { 5 ≤ out.old.spare }
         requires next { self.old.next < 2 ^ 64 - 1 }
-        ensures runs { Runs Y.gives sysfs.old (settling A.answer A.later name.now present (state_of self.old judge.old out.old.entries)) (result, state_of self.new judge.new out.new.entries) sysfs.new }
+        ensures runs { Runs Y.gives sysfs.old (settling A.answer A.later name.now present (state_of self.old (A.meaning judge.old) out.old.entries)) (result, state_of self.new (A.meaning judge.new) out.new.entries) sysfs.new }
         ensures spare { out.old.spare ≤ out.new.spare + 5 }
         ensures room { out.new.room ≡ out.old.room }
         ensures len { vec_len self.new.standings ≤ vec_len self.old.standings + 1 }

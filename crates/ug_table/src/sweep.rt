@@ -81,9 +81,9 @@ fn resettle_all<Y: Sysfs>(
 
 impl Table {
     /// Drops the standings of other names than these.
-    fn part<J>(&mut self, names: &[NodeName], judge: &J, out: &mut Entries)
+    fn part<A: Judge>(&mut self, names: &[NodeName], judge: &A, out: &mut Entries)
         requires { vec_len self.old.standings ≤ out.old.spare }
-        ensures state { state_of self.new judge.now out.new.entries ≡ parted names.now (state_of self.old judge.now out.old.entries) }
+        ensures state { state_of self.new (A.meaning judge.now) out.new.entries ≡ parted names.now (state_of self.old (A.meaning judge.now) out.old.entries) }
         ensures spare { out.old.spare ≤ out.new.spare + vec_len self.old.standings }
         ensures room { out.new.room ≡ out.old.room }
         ensures next { self.new.next ≡ self.old.next }
@@ -106,7 +106,7 @@ impl Table {
     )
         requires room { 5 * length names.now ≤ out.old.spare }
         requires next { self.old.next + length names.now < 2 ^ 64 }
-        ensures runs { Runs Y.gives sysfs.old (settling_all A.answer A.later names.now present (state_of self.old judge.old out.old.entries)) (state_of self.new judge.new out.new.entries) sysfs.new }
+        ensures runs { Runs Y.gives sysfs.old (settling_all A.answer A.later names.now present (state_of self.old (A.meaning judge.old) out.old.entries)) (state_of self.new (A.meaning judge.new) out.new.entries) sysfs.new }
         ensures next { self.new.next ≤ self.old.next + length names.now }
         ensures spare { out.old.spare ≤ out.new.spare + 5 * length names.now }
         ensures room { out.new.room ≡ out.old.room }
@@ -119,15 +119,15 @@ impl Table {
 
     // The known names are settled all the same.
     #[tactic(auto, using(ug_itree::proofs::Runs::runs_then))]
-    fn go_unlisted<Y: Sysfs, J>(
+    fn go_unlisted<Y: Sysfs, A: Judge>(
         &mut self,
         sysfs: &mut Y,
         fault: Fault,
-        judge: &J,
+        judge: &A,
         out: &mut Entries,
     )
         requires { 3 * vec_len self.old.standings + 2 ≤ out.old.spare }
-        ensures runs { Runs Y.gives sysfs.old (unlisted fault (state_of self.old judge.now out.old.entries)) (state_of self.new judge.now out.new.entries) sysfs.new }
+        ensures runs { Runs Y.gives sysfs.old (unlisted fault (state_of self.old (A.meaning judge.now) out.old.entries)) (state_of self.new (A.meaning judge.now) out.new.entries) sysfs.new }
         ensures next { self.new.next ≡ self.old.next }
         ensures spare { 0 < out.new.spare }
         ensures room { out.new.room ≡ out.old.room }
@@ -150,13 +150,13 @@ impl Table {
     )
         requires room { 8 * vec_len self.old.standings + 2 ≤ out.old.spare }
         requires next { self.old.next + 65536 < 2 ^ 64 }
-        ensures runs { Runs Y.gives sysfs.old (sweeping A.answer A.later (state_of self.old judge.old out.old.entries)) (state_of self.new judge.new out.new.entries) sysfs.new }
+        ensures runs { Runs Y.gives sysfs.old (sweeping A.answer A.later (state_of self.old (A.meaning judge.old) out.old.entries)) (state_of self.new (A.meaning judge.new) out.new.entries) sysfs.new }
         ensures next { self.new.next ≤ self.old.next + 65536 }
         ensures spare { 0 < out.new.spare }
         ensures room { 8 * vec_len self.old.standings + 64 ≤ out.old.room → 8 * vec_len self.new.standings + 64 ≤ out.new.room }
-        ensures swept { Sweeps Y.told A.answer A.later sysfs.old (state_of self.old judge.old out.old.entries) sysfs.new (state_of self.new judge.new out.new.entries) }
-        ensures once { NamesOnce Y.told sysfs.old (state_of self.old judge.old out.old.entries) sysfs.new (state_of self.new judge.new out.new.entries) }
-        ensures faults { TellsFaults Y.gives Y.calls Y.faults sysfs.old (state_of self.old judge.old out.old.entries) sysfs.new (state_of self.new judge.new out.new.entries) }
+        ensures swept { Sweeps Y.told A.answer A.later sysfs.old (state_of self.old (A.meaning judge.old) out.old.entries) sysfs.new (state_of self.new (A.meaning judge.new) out.new.entries) }
+        ensures once { NamesOnce Y.told sysfs.old (state_of self.old (A.meaning judge.old) out.old.entries) sysfs.new (state_of self.new (A.meaning judge.new) out.new.entries) }
+        ensures faults { TellsFaults Y.gives Y.calls Y.faults sysfs.old (state_of self.old (A.meaning judge.old) out.old.entries) sysfs.new (state_of self.new (A.meaning judge.new) out.new.entries) }
     {
         self.sweep_names(alloc, sysfs, judge, out);
     }
@@ -171,7 +171,7 @@ impl Table {
     )
         requires room { 8 * vec_len self.old.standings + 2 ≤ out.old.spare }
         requires next { self.old.next + 65536 < 2 ^ 64 }
-        ensures runs { Runs Y.gives sysfs.old (sweeping A.answer A.later (state_of self.old judge.old out.old.entries)) (state_of self.new judge.new out.new.entries) sysfs.new }
+        ensures runs { Runs Y.gives sysfs.old (sweeping A.answer A.later (state_of self.old (A.meaning judge.old) out.old.entries)) (state_of self.new (A.meaning judge.new) out.new.entries) sysfs.new }
         ensures next { self.new.next ≤ self.old.next + 65536 }
         ensures spare { 0 < out.new.spare }
         ensures room { 8 * vec_len self.old.standings + 64 ≤ out.old.room → 8 * vec_len self.new.standings + 64 ≤ out.new.room }

@@ -4,8 +4,8 @@ use Rattle.ug_lines.proofs.call.replay.Given as goal
 
 abbrev pub invariant-pieces : goal.invariant-pieces
 invariant-pieces g l = record {
-  reads : Reads g.M.Machine.step_of (l.fn.machine, l.fn.world) (g.S.Source.left l.fn.input) (g.S.Source.left l.input) (g.K.Sink.held l.fn.out) (g.K.Sink.held l.out) l.splitter.line.items l.splitter.lines (l.machine, l.world);
-  kept : g.M.Machine.keeps l.machine l.world;
+  reads : Reads g.M.Machine.step_of (g.M.Machine.state l.fn.machine, l.fn.world) (g.S.Source.left l.fn.input) (g.S.Source.left l.input) (g.K.Sink.held l.fn.out) (g.K.Sink.held l.out) l.splitter.line.items l.splitter.lines (g.M.Machine.state l.machine, l.world);
+  kept : g.M.Machine.keeps (g.M.Machine.state l.machine) l.world;
   source : g.S.Source.faults l.fn.input ≤ g.S.Source.faults l.input;
   sink : g.K.Sink.faults l.fn.out ≤ g.K.Sink.faults l.out;
 }
