@@ -1,5 +1,5 @@
 -- From what the rules come to, to the cases of a verdict and back; and what judging leaves.
-use Rattle.std.proofs.Common.{◌≡◌, ℕ, Bool, true, false, cond, Some, List, [], ◌∷◌, ◌++◌, map, ◌⊎◌, inl, inr, refl, sym, ◌∙◌, ap, subst, append-nil}
+use Rattle.std.proofs.Common.{◌≡◌, ℕ, ◌+◌, Bool, true, false, cond, Some, List, [], ◌∷◌, ◌++◌, map, ◌⊎◌, inl, inr, refl, sym, ◌∙◌, ap, subst, append-nil}
 use Rattle.ug_types.specs.declared.record.DeviceRecord.{DeviceRecord}
 use Rattle.ug_types.specs.declared.record.Judged.{Judged}
 use Rattle.ug_types.specs.declared.record.Judged.TheVariants as judged
@@ -10,15 +10,17 @@ use Rattle.ug_types.specs.declared.verdict.Cause.{Cause}
 use Rattle.ug_types.specs.declared.verdict.Cause.TheVariants as cause
 use Rattle.ug_cond.specs.Judgements.{Judgement}
 use Rattle.ug_policy.specs.declared.entry.RuleEntry.{RuleEntry}
-use Rattle.ug_policy.specs.Deciding.{Found, decider, seen, noted_first, rules_judged, judgement_found}
+use Rattle.rand_core.specs.Stream.{Stream}
+use Rattle.ug_cond.specs.Words.{behind}
+use Rattle.ug_policy.specs.Deciding.{Found, decider, reached, words_taken, seen, noted_first, rules_judged, judgement_found}
 use Rattle.ug_policy.specs.Edits.{new_entry}
 use Rattle.ug_policy.specs.Kept.{StandsFor}
 use Rattle.ug_policy.specs.Matching.{matched, answer_by, greatest}
 use Rattle.ug_policy.specs.Rules.{IsNumbered}
-use Rattle.ug_policy.proofs.Finding.{some_decider, outcome_at, outcome_none, whole_list, first_matches, numbered_found}
+use Rattle.ug_policy.proofs.Finding.{behind_add, some_decider, outcome_at, outcome_none, whole_list, first_matches, numbered_found}
 use Rattle.ug_policy.proofs.Stands.{FirstMatches, stands_found}
-use Rattle.ug_core.specs.Policy.{Judging, as_given, found_for, kept, by_class, verdict_of, rules_by_class, judgements_by_class, judgements_of, later_of}
-use Rattle.ug_core.specs.Verdicts.{IsVerdict, Unreadable, KeptOn, KeptOff, ByRule, ByNone}
+use Rattle.ug_core.specs.Policy.{Judging, as_given, found_for, kept, by_class, verdict_of, rules_by_class, stream_by_class, judgements_by_class, judgements_of, later_of}
+use Rattle.ug_core.specs.Verdicts.{IsVerdict, IsLater, Unreadable, KeptOn, KeptOff, ByRule, ByNone}
 
 -- the rules stay as they were given
 
@@ -130,3 +132,22 @@ verdict_is p records _ _ _ _ _ _ (KeptOn dev) = refl
 verdict_is p records _ _ _ _ _ _ (KeptOff dev) = refl
 verdict_is p records _ _ _ _ _ _ (ByRule dev controller present on place entry asked d) = asks (found_for p records dev) controller present on asked ∙ (outcome_at dev p.ctx records target.Block p.rules p.stream place entry d).0
 verdict_is p records _ _ _ _ _ _ (ByNone dev controller present on asked n) = asks (found_for p records dev) controller present on asked ∙ (outcome_none dev p.ctx records target.Block p.rules p.stream n).0
+
+-- what judges is later after a verdict
+
+words_on : (found : Found) (dev : DeviceRecord) (stream start : Stream) (words : ℕ) (controller present : Bool) → stream ≡ behind words start → (n : ℕ) × (stream_by_class stream found dev controller present ≡ behind n start)
+words_on found dev stream start words true true e = (words, e)
+words_on found dev stream start words true false e = (words + words_taken dev (reached found), ap (behind (words_taken dev (reached found))) e ∙ sym (behind_add words (words_taken dev (reached found)) start))
+words_on found dev stream start words false present e = (words + words_taken dev (reached found), ap (behind (words_taken dev (reached found))) e ∙ sym (behind_add words (words_taken dev (reached found)) start))
+
+pub later_verdict : (policy p : Judging) (records : List DeviceRecord) (dev : Judged) (controller present : Bool) → IsLater policy p → IsLater policy (later_of p records dev controller present)
+later_verdict policy p records (judged.Malformed kind place) controller present h = h
+later_verdict policy p records (judged.Good dev) controller present h =
+    let words = words_on (found_for p records dev) dev p.stream policy.stream h.words controller present h.stream in
+    record {
+      rules = rules_stay p records (judged.Good dev) controller present ∙ h.rules;
+      next = h.next;
+      clock = h.clock;
+      words = words.0;
+      stream = words.1;
+    }

@@ -9,7 +9,8 @@ use Rattle.ug_types.specs.declared.verdict.Cause.{Cause}
 use Rattle.ug_types.specs.declared.verdict.Cause.TheVariants as cause
 use Rattle.ug_policy.specs.declared.entry.RuleEntry.{RuleEntry}
 use Rattle.ug_policy.specs.Deciding.{IsDecider, HasNoDecider}
-use Rattle.ug_core.specs.Policy.{Judging}
+use Rattle.ug_cond.specs.Words.{behind}
+use Rattle.ug_core.specs.Policy.{Judging, as_given}
 
 -- The verdict on a device that is or isn't a root hub, was or wasn't there at the start, and is on or off, beside the records of
 -- those devices that are allowed.
@@ -23,3 +24,12 @@ pub data IsVerdict (p : Judging) (records : List DeviceRecord) : Judged → Bool
   ByRule : (dev : DeviceRecord) (controller present on : Bool) (place : ℕ) (entry : RuleEntry) → (controller ≡ false) ⊎ (present ≡ false) → IsDecider dev p.ctx records p.rules p.stream place entry → IsVerdict p records (judged.Good dev) controller present on entry.rule.target (cause.Rule entry.id)
   -- and where none does, the device is blocked
   ByNone : (dev : DeviceRecord) (controller present on : Bool) → (controller ≡ false) ⊎ (present ≡ false) → HasNoDecider dev p.ctx records p.rules p.stream → IsVerdict p records (judged.Good dev) controller present on target.Block cause.Implicit
+
+-- What judges has given verdicts since: the rules are as they were given, the next id and the clock are the same, and random
+-- conditions have taken some words.
+pub record IsLater (policy p : Judging) : Type 0 where
+  pub rules : as_given p.rules ≡ as_given policy.rules
+  pub next : p.next ≡ policy.next
+  pub clock : p.clock ≡ policy.clock
+  pub words : ℕ
+  pub stream : p.stream ≡ behind words policy.stream

@@ -8,12 +8,13 @@ ghost use Rattle.ug_cond.specs.Judgements.{Judgement};
 ghost use Rattle.ug_policy.specs.Kept.{StandsFor};
 ghost use Rattle.ug_policy.specs.Rules.{IsNumbered};
 ghost use Rattle.ug_core.specs.Policy.{Judging, as_given, judgements_of, later_of, verdict_of};
-ghost use Rattle.ug_core.specs.Verdicts.{IsVerdict};
+ghost use Rattle.ug_core.specs.Verdicts.{IsLater, IsVerdict};
 
 /// A verdict is the one that its cases say. What judges keeps the rules as they were given; and the histories stand for the
 /// judgements before with this one.
 pub fn verdict_law()
     ensures cases { (p : Judging) (records : List DeviceRecord) (dev : Judged) (controller present on : Bool) (verdict : Target) (cause : Cause) → (verdict_of p records dev controller present on ≡ (verdict, cause)) ↔ IsVerdict p records dev controller present on verdict cause }
     ensures given { (p : Judging) (records : List DeviceRecord) (dev : Judged) (controller present : Bool) → as_given (later_of p records dev controller present).rules ≡ as_given p.rules }
+    ensures later { (policy p : Judging) (records : List DeviceRecord) (dev : Judged) (controller present : Bool) → IsLater policy p → IsLater policy (later_of p records dev controller present) }
     ensures history { (p : Judging) (records : List DeviceRecord) (dev : Judged) (controller present : Bool) (judgements : List Judgement) → IsNumbered p.rules p.next → StandsFor p.rules p.next judgements → StandsFor (later_of p records dev controller present).rules p.next (judgements ++ judgements_of p records dev controller present) }
 {}

@@ -1,18 +1,18 @@
 -- What each line of a script asks for.
-use Rattle.std.specs.Prelude.{◌≡◌, ℕ, ◌+◌, ◌-◌, Bool, true, false, ◌||◌, nat_eq, if◌then◌else◌, List, [], ◌∷◌, length, take, drop, Option, Some, None, Result, Ok, Err, codes}
+use Rattle.std.specs.Prelude.{◌≡◌, ℕ, ℤ, ◌+◌, ◌-◌, Bool, true, false, ◌||◌, nat_eq, if◌then◌else◌, List, [], ◌∷◌, length, take, drop, Option, Some, None, Result, Ok, Err, codes}
 use Rattle.std.specs.List.{starts_with, ends_with, position}
 use Rattle.ug_types.specs.declared.rule.Rule as types
 use Rattle.ug_kernel.specs.declared.device.Device.{Device}
 use Rattle.ug_rule.specs.declared.fault.Fault.{Fault}
 use Rattle.ug_rule.specs.Rules.{rule_read}
 use Rattle.ug_script.specs.declared.step.Step.{Step}
-use Rattle.ug_script.specs.declared.step.Step.TheVariants.{Skip, Rule, Plug, Unplug, Schedule, Fail, Sweep}
+use Rattle.ug_script.specs.declared.step.Step.TheVariants.{Skip, Rule, Seed, Zone, Plug, Unplug, Schedule, Fail, Sweep}
 use Rattle.ug_script.specs.declared.step.StepFault.{StepFault}
 use Rattle.ug_script.specs.declared.step.StepFault.TheVariants.{Bad, Memory}
 use Rattle.ug_script.specs.Plugs.{device_of}
 use Rattle.ug_sysfs.specs.declared.script.Move.{Move}
 use Rattle.ug_sysfs.specs.declared.script.Move.TheVariants as move
-use Rattle.ug_script.specs.Words.{name_of, moment_of, call_of}
+use Rattle.ug_script.specs.Words.{name_of, moment_of, call_of, seed_of, offset_of}
 
 -- ---- rules
 
@@ -20,6 +20,24 @@ use Rattle.ug_script.specs.Words.{name_of, moment_of, call_of}
 abbrev pub step_of_rule : Result types.Rule Fault → Option Step
 step_of_rule (Ok rule) = Some (Rule rule)
 step_of_rule (Err fault) = None
+
+-- ---- seeds and zones
+
+abbrev pub seed_step : Option (List ℕ) → Option Step
+seed_step None = None
+seed_step (Some seed) = Some (Seed seed)
+
+abbrev pub zone_step : Option ℤ → Option Step
+zone_step None = None
+zone_step (Some offset) = Some (Zone offset)
+
+-- a line that stands before all but the others of its kind
+unfoldable pub setup_step : List ℕ → Option Step
+setup_step line =
+    if starts_with nat_eq line (codes "rule ") then step_of_rule (rule_read (drop 5 line))
+    else if starts_with nat_eq line (codes "seed ") then seed_step (seed_of (drop 5 line))
+    else if starts_with nat_eq line (codes "zone ") then zone_step (offset_of (drop 5 line))
+    else None
 
 -- ---- devices
 
@@ -76,7 +94,7 @@ call_step line =
     if starts_with nat_eq line (codes "before ") then schedule_of false (drop 7 line)
     else if starts_with nat_eq line (codes "after ") then schedule_of true (drop 6 line)
     else if starts_with nat_eq line (codes "fail ") then fail_of (drop 5 line)
-    else None
+    else setup_step line
 
 -- ---- other steps
 
@@ -88,7 +106,7 @@ abbrev pub sweep_step : Option ℕ → Option Step
 sweep_step None = None
 sweep_step (Some moment) = Some (Sweep (record { 0 = moment }))
 
--- a line that is not empty, no comment, no rule and plugs nothing
+-- a line that is not empty, no comment and plugs nothing
 unfoldable pub other_step : List ℕ → Option Step
 other_step line =
     if starts_with nat_eq line (codes "unplug ") then unplug_step (name_of (drop 7 line))
@@ -100,5 +118,4 @@ unfoldable pub step_of_line : List ℕ → Option Step
 step_of_line line =
     if nat_eq (length line) 0 || starts_with nat_eq line (codes "#") then Some Skip
     else if starts_with nat_eq line (codes "plug ") then plug_step (device_of (drop 5 line))
-    else if starts_with nat_eq line (codes "rule ") then step_of_rule (rule_read (drop 5 line))
     else other_step line

@@ -18,14 +18,15 @@ use Rattle.ug_table.specs.Bring.{write_of}
 use Rattle.ug_table.specs.Laws.{IsDevice, IsProbed, MayHave, wrote_entries, IsJudged, IsAsJudged}
 use Rattle.ug_table.specs.declared.standing.Standing.{Standing}
 use Rattle.ug_play.specs.Play.{NameNobody}
-use Rattle.ug_policy.specs.declared.entry.RuleEntry.{RuleEntry}
-use Rattle.ug_core.specs.Verdicts.{IsVerdict}
+use Rattle.ug_table.specs.Allowed.{allowed_records}
+use Rattle.ug_core.specs.Policy.{Judging}
+use Rattle.ug_core.specs.Verdicts.{IsLater, IsVerdict}
 use Rattle.ug_core.specs.Event.{DaemonState, has_numbers}
 use Rattle.ug_lines.specs.Fold.{Outcome, Writes, Refused, Going, plays}
 use Rattle.ug_script.specs.declared.step.Step.{Step}
-use Rattle.ug_script.specs.declared.step.Step.TheVariants.{Skip, Rule, Plug, Unplug, Schedule, Fail, Sweep}
+use Rattle.ug_script.specs.declared.step.Step.TheVariants.{Skip, Rule, Seed, Zone, Plug, Unplug, Schedule, Fail, Sweep}
 use Rattle.ug_script.specs.Grammar.{step_of_line}
-use Rattle.ug_script.specs.Replay.{Script, rules_of, lines_text, script_step}
+use Rattle.ug_script.specs.Replay.{Script, policy_of, lines_text, script_step}
 use Rattle.ug_script.specs.Laws.{event_of}
 
 -- what the event of a step notes
@@ -33,6 +34,8 @@ abbrev pub noted_by : Option Step → Script → World → List Entry
 noted_by None s w = []
 noted_by (Some Skip) s w = []
 noted_by (Some (Rule rule)) s w = []
+noted_by (Some (Seed seed)) s w = []
+noted_by (Some (Zone offset)) s w = []
 noted_by (Some (Plug device)) s w = []
 noted_by (Some (Unplug name)) s w = []
 noted_by (Some (Schedule m)) s w = []
@@ -53,21 +56,30 @@ abbrev pub journal : Option Script × World → List (List ℕ) → List Entry
 journal p [] = []
 journal p (line ∷ lines) = noted p line ++ journal (left_by (script_step p line)) lines
 
--- It is told that the number got that verdict. The rules gave it on the record of the very device of the held file, and that device
--- lived, since the first kernel, from the opening of that file to the probe that gave its value.
-pub record WasJudged (rules : List RuleEntry) (entries : List Entry) (first k : Kernel) (i number : ℕ) (name : List ℕ) (held : Held) (verdict : Target) : Type 0 where
+-- the standing's verdict is told
+abbrev pub IsAmong : List Entry → Standing → Type 0
+IsAmong entries s = (cause : Cause) × Has entries (entry.Judged s.number s.name s.held s.verdict cause)
+
+-- It is told that the number got that verdict. A policy, which is the first one after some verdicts, gave it on the record of the
+-- very device of the held file, beside standings whose verdicts are told; and that device lived, since the first kernel, from the
+-- opening of that file to the probe that gave its value.
+pub record WasJudged (policy : Judging) (entries : List Entry) (first k : Kernel) (i number : ℕ) (name : List ℕ) (held : Held) (verdict : Target) : Type 0 where
   pub cause : Cause
   pub judged : Judged
   pub present : Bool
   pub on : Bool
   pub device : IsDevice k i name held judged
   pub probed : IsProbed first k name held.0 i on
-  pub given : IsVerdict rules judged (is_none (parent_of name)) present on verdict cause
+  pub judge : Judging
+  pub since : IsLater policy judge
+  pub standings : List Standing
+  pub beside : (s : Standing) → Has standings s → IsAmong entries s
+  pub given : IsVerdict judge (allowed_records standings) judged (is_none (parent_of name)) present on verdict cause
   pub told : Has entries (entry.Judged number name held verdict cause)
 
 -- The effect is that of a write that is told. Before its intent it was told that the very device got that verdict from the
 -- rules, and the write is the one that the verdict wants.
-pub record IsExplained (rules : List RuleEntry) (entries : List Entry) (first k : Kernel) (effect : Effect) : Type 0 where
+pub record IsExplained (policy : Judging) (entries : List Entry) (first k : Kernel) (effect : Effect) : Type 0 where
   pub number : ℕ
   pub name : List ℕ
   pub held : Held
@@ -78,13 +90,13 @@ pub record IsExplained (rules : List RuleEntry) (entries : List Entry) (first k 
   pub at : entries ≡ before ++ (wrote_entries number name effect.write outcome ++ after)
   pub may : MayHave outcome
   pub wanted : effect.write ≡ write_of verdict
-  pub judged : WasJudged rules before first k effect.device number name held verdict
+  pub judged : WasJudged policy before first k effect.device number name held verdict
 
 -- each effect since the first kernel is explained
-pub record AllExplained (rules : List RuleEntry) (entries : List Entry) (first k : Kernel) : Type 0 where
+pub record AllExplained (policy : Judging) (entries : List Entry) (first k : Kernel) : Type 0 where
   pub added : List Effect
   pub log : k.log ≡ first.log ++ added
-  pub each : (effect : Effect) → Has added effect → IsExplained rules entries first k effect
+  pub each : (effect : Effect) → Has added effect → IsExplained policy entries first k effect
 
 -- the numbers under which verdicts were told
 abbrev pub told_numbers : List Entry → List ℕ
@@ -98,20 +110,22 @@ Follow first [] next = next ≡ first
 Follow first (n ∷ ns) next = (n ≡ first) × Follow (first + 1) ns next
 
 -- the device was judged under the number of its standing and under no other, and stands as judged
-pub record IsJudgedOnce (rules : List RuleEntry) (entries : List Entry) (first k : Kernel) (standings : List Standing) (i : ℕ) : Type 0 where
+pub record IsJudgedOnce (policy : Judging) (entries : List Entry) (first k : Kernel) (standings : List Standing) (i : ℕ) : Type 0 where
   pub stands : IsAsJudged k standings i
-  pub judged : WasJudged rules entries first k i stands.standing.s.number stands.standing.s.name stands.standing.s.held stands.standing.s.verdict
+  pub judged : WasJudged policy entries first k i stands.standing.s.number stands.standing.s.name stands.standing.s.held stands.standing.s.verdict
   pub once : (number : ℕ) → IsJudged k entries number i → number ≡ stands.standing.s.number
 
 -- each device that is live at the end of an event of that moment was judged just once since the first kernel, and stands as judged
-abbrev pub JudgesOnce : List RuleEntry → List Entry → Kernel → DaemonState × World → Type 0
-JudgesOnce rules entries first p = (i : ℕ) (d : Device) → Live p.1.kernel.devices i d → IsJudgedOnce rules (entries ++ p.0.sweep.entries) first p.1.kernel p.0.sweep.standings i
+abbrev pub JudgesOnce : Judging → List Entry → Kernel → DaemonState × World → Type 0
+JudgesOnce policy entries first p = (i : ℕ) (d : Device) → Live p.1.kernel.devices i d → IsJudgedOnce policy (entries ++ p.0.sweep.entries) first p.1.kernel p.0.sweep.standings i
 
 -- the line schedules no move and lets no call fail
 abbrev pub is_quiet : Option Step → Bool
 is_quiet None = true
 is_quiet (Some Skip) = true
 is_quiet (Some (Rule rule)) = true
+is_quiet (Some (Seed seed)) = true
+is_quiet (Some (Zone offset)) = true
 is_quiet (Some (Plug device)) = true
 is_quiet (Some (Unplug name)) = true
 is_quiet (Some (Schedule m)) = false
@@ -127,10 +141,10 @@ AreQuiet (line ∷ lines) = (is_quiet (step_of_line line) ≡ true) × AreQuiet 
 -- live device was judged just once and stands as judged.
 pub record Recorded (first : World) (lines : List (List ℕ)) (entries : List Entry) (text : List ℕ) (s : Script) (w : World) : Type 0 where
   pub written : text ≡ lines_text entries
-  pub explained : AllExplained (rules_of s) entries first.kernel w.kernel
+  pub explained : AllExplained (policy_of s) entries first.kernel w.kernel
   pub numbers : Follow 1 (told_numbers entries) s.daemon.sweep.next
   pub nobody : AreQuiet lines → first.fails ≡ [] → NameNobody entries
-  pub once : AreQuiet lines → first.fails ≡ [] → first.moves ≡ [] → (moment : Moment) → JudgesOnce (rules_of s) entries first.kernel (event_of moment s w)
+  pub once : AreQuiet lines → first.fails ≡ [] → first.moves ≡ [] → (moment : Moment) → JudgesOnce (policy_of s) entries first.kernel (event_of moment s w)
 
 -- the same of all lines
 abbrev pub StaysRecorded : World → Type 0

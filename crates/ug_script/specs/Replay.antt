@@ -1,6 +1,7 @@
 -- What each line of a script writes, and what it leaves.
-use Rattle.std.specs.Prelude.{◌≡◌, ℕ, ◌+◌, ◌-◌, ◌^◌, Bool, true, false, not, is_none, ◌&&◌, nat_lt, nat_eq, if◌then◌else◌, List, [], ◌∷◌, ◌++◌, length, codes, decimal, Option, Some, None, Result, Ok, Err, flat_map}
+use Rattle.std.specs.Prelude.{◌≡◌, ℕ, ◌+◌, ◌-◌, ◌^◌, ℤ, pos, neg_ℤ, ◌+ℤ◌, int_le, unsigned_abs, replicate, Bool, true, false, not, is_none, ◌&&◌, nat_lt, nat_eq, if◌then◌else◌, List, [], ◌∷◌, ◌++◌, length, codes, decimal, Option, Some, None, Result, Ok, Err, flat_map}
 use Rattle.std.specs.Cmp.Lexicographic.{pointwise}
+use Rattle.std.specs.Int.{int_rem_euclid}
 use Rattle.ug_types.specs.declared.rule.Rule as types
 use Rattle.ug_types.specs.declared.verdict.Moment.{Moment}
 use Rattle.ug_types.specs.declared.verdict.Target.{Target}
@@ -13,39 +14,55 @@ use Rattle.ug_audit.specs.Lines.{entry_line}
 use Rattle.ug_play.specs.Play.{play, tells_memory}
 use Rattle.ug_policy.specs.declared.entry.RuleEntry.{RuleEntry}
 use Rattle.ug_policy.specs.Edits.{new_entry}
-use Rattle.ug_core.specs.Policy.{as_given}
+use Rattle.ug_core.specs.Policy.{Judging, as_given, seeded}
 use Rattle.ug_core.specs.Event.{DaemonState, daemon_of, handling, has_numbers}
 use Rattle.ug_lines.specs.Fold.{Outcome, Writes, Refused, BadLine}
+use Rattle.ug_script.specs.declared.runner.Runner.{Runner}
 use Rattle.ug_script.specs.declared.running.Running.{Running}
 use Rattle.ug_script.specs.declared.step.Step.{Step}
-use Rattle.ug_script.specs.declared.step.Step.TheVariants.{Skip, Rule, Plug, Unplug, Schedule, Fail, Sweep}
+use Rattle.ug_script.specs.declared.step.Step.TheVariants.{Skip, Rule, Seed, Zone, Plug, Unplug, Schedule, Fail, Sweep}
 use Rattle.ug_script.specs.declared.step.StepFault.{StepFault}
 use Rattle.ug_script.specs.declared.step.StepFault.TheVariants.{Bad, Memory}
 use Rattle.ug_sysfs.specs.declared.script.Scheduled.{Scheduled}
 use Rattle.ug_script.specs.Grammar.{step_of_line}
 use Rattle.ug_script.specs.Schedule.{with_move, arranged}
 
--- a script whose first line was read: whether rules may still come, the moves that are scheduled for the next event, the last
--- first, and the daemon
+-- A script whose first line was read: whether rules may still come, the seed if one was given, whether a zone was, the moves that
+-- are scheduled for the next event, the last first, and the daemon.
 pub record Script : Type 0 where
   pub setup : Bool
+  pub seed : Option (List ℕ)
+  pub zoned : Bool
   pub moves : List Scheduled
   pub daemon : DaemonState
 
 abbrev pub script_of : Running → Script
-script_of r = record { setup = r.setup; moves = r.schedule; daemon = daemon_of r.daemon }
+script_of r = record { setup = r.setup; seed = r.seed; zoned = r.zoned; moves = r.schedule; daemon = daemon_of r.daemon }
 
 abbrev pub script_in : Option Running → Option Script
 script_in None = None
 script_in (Some r) = Some (script_of r)
 
--- no rule, no standing, and the first event is 1
+abbrev pub runner_state : Runner → Option Script
+runner_state runner = script_in runner.running
+
+-- the second of the day on a clock that is so many seconds ahead of UTC
+abbrev pub clock_ahead : ℤ → ℕ → ℕ
+clock_ahead offset second = unsigned_abs (int_rem_euclid (pos second +ℤ offset) (pos 86400))
+
+-- without a seed, 32 bytes 0
+abbrev pub no_seed : List ℕ
+no_seed = replicate 32 0
+
+-- no rule, no standing, the clock of UTC, and the first event is 1
 abbrev pub fresh : Script
 fresh = record {
   setup = true;
+  seed = None;
+  zoned = false;
   moves = [];
   daemon = record {
-    sweep = record { standings = []; next = 1; listed = false; judge = record { rules = []; next = 1; moment = record { 0 = 0 } }; entries = [] };
+    sweep = record { standings = []; next = 1; listed = false; judge = record { rules = []; next = 1; clock = clock_ahead (pos 0); ctx = record { moment = record { 0 = 0 }; second = 0 }; stream = seeded no_seed }; entries = [] };
     event = 1;
   };
 }
@@ -68,9 +85,19 @@ quiet s w = Writes [] (Some s, w)
 abbrev pub bad : Script → World → Outcome (Option Script × World)
 bad s w = Refused BadLine (Some s, w)
 
--- the rules as their lines gave them
-abbrev pub rules_of : Script → List RuleEntry
-rules_of s = as_given s.daemon.sweep.judge.rules
+abbrev pub seed_given : Option (List ℕ) → List ℕ
+seed_given None = no_seed
+seed_given (Some seed) = seed
+
+-- the policy that the setup lines gave: the rules without histories, the clock, and all words of the seed
+abbrev pub policy_of : Script → Judging
+policy_of s = record {
+  rules = as_given s.daemon.sweep.judge.rules;
+  next = s.daemon.sweep.judge.next;
+  clock = s.daemon.sweep.judge.clock;
+  ctx = record { moment = record { 0 = 0 }; second = 0 };
+  stream = seeded (seed_given s.seed);
+}
 
 abbrev pub with_rule : types.Rule → DaemonState → DaemonState
 with_rule rule d = record d {
@@ -87,24 +114,43 @@ is_reject Allow = false
 is_reject Block = false
 is_reject Reject = true
 
--- the rule allows or blocks, and has no conditions
-abbrev pub is_plain : types.Rule → Bool
-is_plain rule = not (is_reject rule.target) && is_none rule.conds
-
 -- there are fewer than 65,536 rules, and an id is left
 abbrev pub has_place : DaemonState → Bool
 has_place d = nat_lt (length d.sweep.judge.rules) 65536 && nat_lt d.sweep.judge.next (2 ^ 64 - 1)
 
 -- one rule more, while rules may come
 abbrev pub rule_step : types.Rule → Script → World → Outcome (Option Script × World)
-rule_step rule s w = if s.setup && (is_plain rule && has_place s.daemon) then quiet (record s { daemon = with_rule rule s.daemon }) w else bad s w
+rule_step rule s w = if s.setup && (not (is_reject rule.target) && has_place s.daemon) then quiet (record s { daemon = with_rule rule s.daemon }) w else bad s w
+
+abbrev pub with_judge : Judging → DaemonState → DaemonState
+with_judge judge d = record d { sweep = record d.sweep { judge = judge } }
+
+-- the words are those of that seed
+abbrev pub with_seed : List ℕ → DaemonState → DaemonState
+with_seed seed d = with_judge (record d.sweep.judge { stream = seeded seed }) d
+
+-- at most one seed, while rules may come
+abbrev pub seed_taken : List ℕ → Script → World → Outcome (Option Script × World)
+seed_taken seed s w = if s.setup && is_none s.seed then quiet (record s { seed = Some seed; daemon = with_seed seed s.daemon }) w else bad s w
+
+-- the clock is so many seconds ahead of UTC
+abbrev pub with_zone : ℤ → DaemonState → DaemonState
+with_zone offset d = with_judge (record d.sweep.judge { clock = clock_ahead offset }) d
+
+-- less than a day
+abbrev pub is_offset : ℤ → Bool
+is_offset offset = int_le (neg_ℤ (pos 86399)) offset && int_le offset (pos 86399)
+
+-- at most one zone, while rules may come
+abbrev pub zone_taken : ℤ → Script → World → Outcome (Option Script × World)
+zone_taken offset s w = if s.setup && (not s.zoned && is_offset offset) then quiet (record s { zoned = true; daemon = with_zone offset s.daemon }) w else bad s w
 
 abbrev pub with_devices : List Device → World → World
 with_devices ds w = record w { kernel = record w.kernel { devices = ds } }
 
 -- the event's lines, the daemon that it leaves, and the world behind it
-abbrev pub after_event : DaemonState × World → Outcome (Option Script × World)
-after_event p = Writes (lines_text p.0.sweep.entries) (Some (record { setup = false; moves = []; daemon = p.0 }), over p.1)
+abbrev pub after_event : Script → DaemonState × World → Outcome (Option Script × World)
+after_event s p = Writes (lines_text p.0.sweep.entries) (Some (record s { setup = false; moves = []; daemon = p.0 }), over p.1)
 
 -- an event's entries tell want of memory
 abbrev pub tells : DaemonState → Type 0
@@ -112,11 +158,13 @@ tells d = tells_memory d.sweep.entries ≡ true
 
 -- an event as the world fixes it with what is scheduled, unless the numbers have run out
 abbrev pub sweep_step : Moment → Script → World → Outcome (Option Script × World)
-sweep_step moment s w = if has_numbers s.daemon w.faults 0 then after_event (play (handling moment s.daemon) (begun (arranged s.moves w))) else bad s w
+sweep_step moment s w = if has_numbers s.daemon w.faults 0 then after_event s (play (handling moment s.daemon) (begun (arranged s.moves w))) else bad s w
 
 abbrev pub taken : Step → Script → World → Outcome (Option Script × World)
 taken Skip s w = quiet s w
 taken (Rule rule) s w = rule_step rule s w
+taken (Seed seed) s w = seed_taken seed s w
+taken (Zone offset) s w = zone_taken offset s w
 taken (Plug device) s w = quiet (record s { setup = false }) (with_devices (plugged device w.kernel.devices) w)
 taken (Unplug name) s w = quiet (record s { setup = false }) (with_devices (unplugged name w.kernel.devices) w)
 taken (Schedule m) s w = quiet (record s { setup = false; moves = with_move m s.moves }) w

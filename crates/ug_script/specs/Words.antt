@@ -1,7 +1,7 @@
 -- Names, numbers and hexadecimal words of a script's lines.
-use Rattle.std.specs.Prelude.{◌≡◌, ℕ, ◌+◌, ◌-◌, ◌*◌, Bool, false, ◌&&◌, nat_eq, nat_le, if◌then◌else◌, List, [], ◌∷◌, length, get_or, Option, Some, None, Result, Ok, Err}
+use Rattle.std.specs.Prelude.{◌≡◌, ℕ, ◌+◌, ◌-◌, ◌*◌, ℤ, pos, neg_ℤ, Bool, false, ◌&&◌, nat_eq, nat_le, if◌then◌else◌, List, [], ◌∷◌, length, get_or, Option, Some, None, Result, Ok, Err}
 use Rattle.std.specs.List.{fold}
-use Rattle.hex.specs.Hex.{decode_of}
+use Rattle.hex.specs.Hex.{decode_of, decode_sized}
 use Rattle.hex.specs.declared.error.FromHexError.{FromHexError}
 use Rattle.ug_types.specs.Reading.{after, ends_name}
 use Rattle.ug_types.specs.declared.reading.Reading.{Reading}
@@ -56,6 +56,38 @@ filled (Err e) = None
 -- an even number of hexadecimal digits of either case, at least two
 unfoldable pub bytes_of : List ℕ → Option (List ℕ)
 bytes_of text = filled (decode_of text)
+
+abbrev pub seed_in : Result (List ℕ) FromHexError → Option (List ℕ)
+seed_in (Ok bytes) = Some bytes
+seed_in (Err e) = None
+
+-- 32 bytes, as 64 hexadecimal digits of either case
+abbrev pub seed_of : List ℕ → Option (List ℕ)
+seed_of text = seed_in (decode_sized text 32)
+
+abbrev pub is_digit : ℕ → Bool
+is_digit b = nat_le 48 b && nat_le b 57
+
+-- the number of two decimal digits
+abbrev pub two_digits : ℕ → ℕ → Option ℕ
+two_digits a b = if is_digit a && is_digit b then Some ((a - 48) * 10 + (b - 48)) else None
+
+abbrev pub signed_by : ℕ → ℕ → Option ℤ
+signed_by sign seconds = if nat_eq sign 43 then Some (pos seconds) else if nat_eq sign 45 then Some (neg_ℤ (pos seconds)) else None
+
+abbrev pub with_minutes : ℕ → ℕ → Option ℕ → Option ℤ
+with_minutes sign hours None = None
+with_minutes sign hours (Some minutes) = if nat_le hours 23 && nat_le minutes 59 then signed_by sign (hours * 3600 + minutes * 60) else None
+
+abbrev pub with_hours : ℕ → Option ℕ → Option ℕ → Option ℤ
+with_hours sign None minutes = None
+with_hours sign (Some hours) minutes = with_minutes sign hours minutes
+
+-- `+HH:MM` or `-HH:MM`, in seconds
+unfoldable pub offset_of : List ℕ → Option ℤ
+offset_of text =
+    if nat_eq (length text) 6 && nat_eq (get_or text 3 0) 58 then with_hours (get_or text 0 0) (two_digits (get_or text 1 0) (get_or text 2 0)) (two_digits (get_or text 4 0) (get_or text 5 0))
+    else None
 
 -- what was asked for, or the fault where nothing is; want of memory may come at any text
 abbrev pub Parses : {X : Type 0} → Option X → Result X StepFault → Type 0

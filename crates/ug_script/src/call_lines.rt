@@ -7,6 +7,7 @@ ghost use Rattle.ug_script.specs.Words as words;
 ghost use Rattle.ug_script.specs.Words.{Parses};
 
 use crate::plugs::device;
+use crate::setup_lines::setup_line;
 use crate::step::{Step, StepFault};
 use crate::words::{moment, name, space};
 use std::alloc::Global;
@@ -96,7 +97,7 @@ fn fail(text: &[u8]) -> Option<Step>
     fail_at(false, text)
 }
 
-/// Reads a line for a call of the next event. `before` and `after` take a call's number, from 1 to 1,048,576, and a `plug` or
+/// Reads a line for a call of the next event, or one that stands before all others. `before` and `after` take a call's number, from 1 to 1,048,576, and a `plug` or
 /// an `unplug` line. `fail` takes a call's number, and `effect` behind it where a write is to have its effect all the same.
 #[tactic(auto, unfolding(crate::specs::Grammar::call_step))]
 pub fn call_line(alloc: Global, line: &[u8]) -> Result<Step, StepFault>
@@ -114,5 +115,5 @@ pub fn call_line(alloc: Global, line: &[u8]) -> Result<Step, StepFault>
             None => Err(StepFault::Bad),
         };
     }
-    Err(StepFault::Bad)
+    setup_line(alloc, line)
 }

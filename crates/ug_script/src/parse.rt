@@ -6,13 +6,12 @@ ghost use Rattle.ug_script.specs.Words.{Parses};
 
 use crate::call_lines::call_line;
 use crate::plugs::device;
-use crate::rule_lines::rule_line;
 use crate::step::{Step, StepFault};
 use crate::words::{moment, name};
 use std::alloc::Global;
 use ug_types::Moment;
 
-/// A line that is neither a rule nor a device.
+/// A line that plugs nothing.
 #[tactic(auto, unfolding(crate::specs::Grammar::other_step))]
 fn other(alloc: Global, line: &[u8]) -> Result<Step, StepFault>
     ensures { Parses (other_step line.now) result }
@@ -43,9 +42,10 @@ fn plug(alloc: Global, text: &[u8]) -> Result<Step, StepFault>
 }
 
 /// Reads a line that is not the first. An empty line and a comment are skipped.
-/// `rule` takes a rule of usbguard-rules.conf(5). `plug` takes a name, `1` where the device starts authorised, else `0`,
+/// `plug` takes a name, `1` where the device starts authorised, else `0`,
 /// its descriptors in hexadecimal, and its texts, each a dash or a string. `unplug` takes a name, `sweep` a moment up to
-/// 250,000,000,000. `before`, `after` and `fail` speak of a call of the next event.
+/// 250,000,000,000. `before`, `after` and `fail` speak of a call of the next event; `rule`,
+/// `seed` and `zone` stand before all others.
 #[tactic(auto, unfolding(crate::specs::Grammar::step_of_line))]
 pub fn parse_line(alloc: Global, line: &[u8]) -> Result<Step, StepFault>
     ensures { Parses (step_of_line line.now) result }
@@ -58,9 +58,6 @@ pub fn parse_line(alloc: Global, line: &[u8]) -> Result<Step, StepFault>
     }
     if line.starts_with(b"plug ") {
         return plug(alloc, &line[5..]);
-    }
-    if line.starts_with(b"rule ") {
-        return rule_line(alloc, &line[5..]);
     }
     other(alloc, line)
 }

@@ -1,6 +1,6 @@
 // The machine that takes a script's lines.
-ghost use Rattle.std.specs.Prelude.{◌≡◌, None};
-ghost use Rattle.ug_script.specs.Replay.{Begins, done_line, script_step, script_end};
+ghost use Rattle.std.specs.Prelude.{◌≡◌, Option, None};
+ghost use Rattle.ug_script.specs.Replay.{Begins, Script, done_line, runner_state, script_step, script_end};
 
 use crate::parse::parse_line;
 use crate::running::Running;
@@ -8,7 +8,6 @@ use crate::step::StepFault;
 use crate::text::put;
 use itoa::Buffer;
 use std::alloc::Global;
-use std::marker::Model;
 use ug_lines::{Machine, Ran};
 use ug_sysfs::SimKernel;
 use ug_types::{Line, Sink};
@@ -19,19 +18,10 @@ pub struct Runner {
     running: Option<Running>,
 }
 
-impl Model for Runner {
-    ghost use Rattle.std.specs.Prelude.{Option};
-    ghost use Rattle.ug_script.specs.Replay.{Script, script_in};
-
-    ghost Value = { Option Script };
-
-    ghost view = { λ r. script_in r.running };
-}
-
 impl Runner {
     /// No line was taken. It takes no memory.
     pub fn new() -> Runner
-        ensures { result ≡ None }
+        ensures { runner_state result ≡ None }
     {
         Runner { running: None }
     }
@@ -64,6 +54,10 @@ fn done(events: u64) -> Line
 }
 
 impl Machine<SimKernel> for Runner {
+    ghost State = { Option Script };
+
+    ghost state = { runner_state };
+
     ghost step_of = { script_step };
 
     ghost closing = { script_end };

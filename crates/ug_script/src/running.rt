@@ -1,9 +1,10 @@
 // A script whose first line was read.
-ghost use Rattle.std.specs.Prelude.{◌≡◌, ◌≤◌, ◌&&◌, true, Some, IfOk};
+ghost use Rattle.std.specs.Prelude.{◌≡◌, ◌≤◌, ◌&&◌, true, not, Some, IsTrue, IfOk};
 ghost use Rattle.ug_types.specs.Ends.{Rose};
 ghost use Rattle.ug_lines.specs.Runs.{Steps};
 ghost use Rattle.ug_play.specs.Play.{IsPlayed};
 ghost use Rattle.ug_core.specs.Event.{daemon_of, handling, has_numbers};
+ghost use Rattle.ug_core.specs.Policy.{clock_of, judging_of};
 ghost use Rattle.ug_sysfs.specs.World.{begun};
 ghost use Rattle.ug_script.specs.Replay as replay;
 ghost use Rattle.ug_script.specs.Replay.{fresh, script_of, sweep_step, taken, tells};
@@ -11,17 +12,21 @@ ghost use Rattle.ug_script.specs.Replay.{fresh, script_of, sweep_step, taken, te
 use crate::schedule::Schedule;
 use crate::step::Step;
 use crate::text::{put, tells_memory, text_of};
+use jiff::tz::{Offset, TimeZone};
 use std::alloc::Global;
-use ug_core::{Daemon, Event};
+use ug_core::{Daemon, Event, Policy};
 use ug_lines::Ran;
 use ug_policy::RuleList;
 use ug_sysfs::{SimKernel, Sysfs};
 use ug_types::{Moment, NoMemory, Rule, Sink, Target};
 
-/// Whether rules may still come, what is scheduled for the next event, and the daemon.
+/// Whether rules may still come, the seed if one was given, whether a zone was, what is scheduled for the next event, and
+/// the daemon.
 #[derive(Drop)]
 pub struct Running {
     pub setup: bool,
+    pub seed: Option<[u8; 32]>,
+    pub zoned: bool,
     pub schedule: Schedule,
     pub daemon: Daemon,
 }
@@ -36,11 +41,28 @@ fn is_reject(target: Target) -> bool
     }
 }
 
-/// Whether a rule allows or blocks and has no conditions.
-fn is_plain(rule: &Rule) -> bool
-    ensures { result ≡ replay.is_plain rule.now }
+/// No rules, the clock of UTC, and the words of a seed of 32 bytes 0.
+fn no_rules(alloc: Global) -> Policy
+    ensures { judging_of result ≡ fresh.daemon.sweep.judge }
 {
-    !is_reject(rule.target) && rule.conds.is_none()
+    Policy::new(RuleList::new(alloc), zone_ahead(0), [0; 32])
+}
+
+/// The zone whose clocks are always so many seconds ahead of UTC, less than a day.
+fn zone_ahead(seconds: i32) -> TimeZone<'static>
+    requires { IsTrue (replay.is_offset seconds) }
+    ensures { clock_of result ≡ replay.clock_ahead seconds }
+{
+    match Offset::from_seconds(seconds) {
+        Ok(offset) => TimeZone::fixed(offset),
+        Err(_) => unreachable!(),
+    }
+}
+
+fn is_offset(seconds: i32) -> bool
+    ensures { result ≡ replay.is_offset seconds }
+{
+    -86399 <= seconds && seconds <= 86399
 }
 
 /// A rule that may not stand there.
@@ -64,15 +86,17 @@ impl Running {
     {
         Ok(Running {
             setup: true,
+            seed: None,
+            zoned: false,
             schedule: Schedule::new(alloc),
-            daemon: Daemon::start(alloc, RuleList::new(alloc), 1)?,
+            daemon: Daemon::start(alloc, no_rules(alloc), 1)?,
         })
     }
 
     fn takes(&self, rule: &Rule) -> bool
-        ensures { result ≡ (self.now.setup && (replay.is_plain rule.now && replay.has_place (daemon_of self.now.daemon))) }
+        ensures { result ≡ (self.now.setup && (not (replay.is_reject rule.now.target) && replay.has_place (daemon_of self.now.daemon))) }
     {
-        self.setup && is_plain(rule) && self.daemon.policy.has_place()
+        self.setup && !is_reject(rule.target) && self.daemon.policy.has_place()
     }
 
     fn sweep<K: Sink>(
@@ -127,6 +151,22 @@ impl Running {
                     Ok(()) => Ran::Done,
                     Err(_) => Ran::Memory,
                 }
+            }
+            Step::Seed(seed) => {
+                if !self.setup || self.seed.is_some() {
+                    return Ran::Bad;
+                }
+                self.seed = Some(seed);
+                self.daemon.policy.set_seed(seed);
+                Ran::Done
+            }
+            Step::Zone(offset) => {
+                if !self.setup || self.zoned || !is_offset(offset) {
+                    return Ran::Bad;
+                }
+                self.zoned = true;
+                self.daemon.policy.set_zone(zone_ahead(offset));
+                Ran::Done
             }
             Step::Plug(device) => {
                 self.setup = false;

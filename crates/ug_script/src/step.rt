@@ -9,6 +9,10 @@ pub enum Step {
     Skip,
     /// One more rule behind those before.
     Rule(Rule),
+    /// The seed of random words.
+    Seed([u8; 32]),
+    /// How many seconds local clocks are ahead of UTC.
+    Zone(i32),
     /// A device is plugged in. It has no parent yet.
     Plug(Device),
     /// The device of that name is unplugged.
