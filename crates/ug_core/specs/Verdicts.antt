@@ -25,10 +25,10 @@ pub data IsVerdict (p : Judging) (records : List DeviceRecord) : Judged → Bool
   -- and where none does, the device is blocked
   ByNone : (dev : DeviceRecord) (controller present on : Bool) → (controller ≡ false) ⊎ (present ≡ false) → HasNoDecider dev p.ctx records p.rules p.stream → IsVerdict p records (judged.Good dev) controller present on target.Block cause.Implicit
 
--- What judges has given verdicts since: the rules are as they were given, the next id and the clock are the same, and random
+-- What judges has given verdicts since: but for their histories the rules are the same, and so are the next id and the clock; random
 -- conditions have taken some words.
 pub record IsLater (policy p : Judging) : Type 0 where
-  pub rules : as_given p.rules ≡ as_given policy.rules
+  pub rules : as_given p.rules ≡ policy.rules
   pub next : p.next ≡ policy.next
   pub clock : p.clock ≡ policy.clock
   pub words : ℕ

@@ -18,12 +18,12 @@ pub fn play_law<R>()
 
 /// A sweep ends as the script fixes it, or one of its entries tells want of memory, or the kernel has run out.
 pub fn sweep_law<A: Judge>()
-    ensures { (w : State A) (s : World) (v : State A) (t : World) → Runs Gives s (sweeping A.answer A.later w) v t
+    ensures { (w : State A.Meaning) (s : World) (v : State A.Meaning) (t : World) → Runs Gives s (sweeping A.answer A.later w) v t
         → ((v ≡ (play (sweeping A.answer A.later w) s).0) × (t ≡ (play (sweeping A.answer A.later w) s).1))
         ⊎ (((rest : List Entry) × (v.entries ≡ w.entries ++ rest) × (tells_memory rest ≡ true)) ⊎ (t.ran_out ≡ true)) }
 {}
 
 /// Where no call is to fail, a sweep that the script fixes names nobody as unsettled.
 pub fn quiet_law<A: Judge>()
-    ensures { (w : State A) (s : World) → s.ran_out ≡ false → s.fails ≡ [] → NameNobody w.entries → NameNobody (play (sweeping A.answer A.later w) s).0.entries }
+    ensures { (w : State A.Meaning) (s : World) → s.ran_out ≡ false → s.fails ≡ [] → NameNobody w.entries → NameNobody (play (sweeping A.answer A.later w) s).0.entries }
 {}

@@ -28,7 +28,7 @@ use Rattle.ug_policy.proofs.Judged.{not_true, true-not_false}
 use Rattle.ug_policy.proofs.Numbering.{numbered_same}
 use Rattle.ug_policy.proofs.Stands.{FirstMatches}
 
-behind_add : (a b : ℕ) (stream : Stream) → behind (a + b) stream ≡ behind b (behind a stream)
+pub behind_add : (a b : ℕ) (stream : Stream) → behind (a + b) stream ≡ behind b (behind a stream)
 behind_add zero b stream = let none : 0 + b ≡ b = omega arith in ap (λ (n : ℕ). behind n stream) none
 behind_add (suc a) b stream = let more : suc a + b ≡ suc (a + b) = omega arith in ap (λ (n : ℕ). behind n stream) more ∙ behind_add a b (next_u64 stream).1
 

@@ -12,66 +12,90 @@ use Rattle.ug_kernel.specs.Kernel.{Kernel}
 use Rattle.ug_audit.specs.declared.entry.Entry.{Entry}
 use Rattle.ug_audit.specs.declared.entry.Entry.TheVariants as entry
 use Rattle.ug_table.specs.Bring.{write_of}
-use Rattle.ug_table.specs.Laws.{IsDevice, IsProbed, TellsNeither, MayHave, HasVerdict, wrote_entries, Account, Start, Note, Judge, Had, Had_not, Went}
+use Rattle.ug_table.specs.Laws.{IsDevice, IsProbed, IsTold, AreLeft, TellsNeither, MayHave, HasVerdict, wrote_entries, Account, Start, Note, Judge, Had, Had_not, Went}
 use Rattle.ug_table.specs.declared.standing.Standing.{Standing}
-use Rattle.ug_types.proofs.Elements.{only_left, last_is}
+use Rattle.ug_types.proofs.Elements.{has_left, only_left, last_is}
 use Rattle.ug_table.proofs.Says.{plain_note, plain_wrote}
-use Rattle.ug_policy.specs.declared.entry.RuleEntry.{RuleEntry}
-use Rattle.ug_core.specs.Policy.{Judging, as_given, verdict_of, policy_answer, policy_later}
-use Rattle.ug_core.specs.Verdicts.{IsVerdict}
-use Rattle.ug_core.proofs.Verdicts.{verdict_given, is_verdict, rules_stay}
+use Rattle.ug_table.specs.Allowed.{allowed_records}
+use Rattle.ug_core.specs.Policy.{Judging, verdict_of, policy_answer, policy_later}
+use Rattle.ug_core.specs.Verdicts.{IsLater, IsVerdict}
+use Rattle.ug_core.proofs.Verdicts.{is_verdict, later_verdict}
 use Rattle.ug_script.specs.Journal.{told_numbers, Follow}
 
--- the rules stay as they were given
-pub judge_stays : (present : Bool) (start k : Kernel) (before : List Standing) (log0 : List Effect) (judge0 : Judging) (next0 : ℕ) (es : List Entry) (log : List Effect) (judge : Judging) (next : ℕ) → Account policy_answer policy_later present start k before log0 judge0 next0 es log judge next → as_given judge.rules ≡ as_given judge0.rules
-judge_stays present start k before log0 judge0 next0 es log judge next Start = refl
-judge_stays present start k before log0 judge0 next0 es log judge next (Note fs m j n e t h) = judge_stays present start k before log0 judge0 next0 fs m j n h
-judge_stays present start k before log0 judge0 next0 es log judge next (Judge fs m j n i name held judged on d b h) = rules_stay j.rules j.moment judged (is_none (parent_of name)) present ∙ judge_stays present start k before log0 judge0 next0 fs m j n h
-judge_stays present start k before log0 judge0 next0 es log judge next (Had fs m j n i number name held judged verdict outcome d v may h) = judge_stays present start k before log0 judge0 next0 fs m j n h
-judge_stays present start k before log0 judge0 next0 es log judge next (Had_not fs m j n i number name held judged verdict outcome d v may h) = judge_stays present start k before log0 judge0 next0 fs m j n h
-judge_stays present start k before log0 judge0 next0 es log judge next (Went fs m j n i number name held judged verdict d o v h) = judge_stays present start k before log0 judge0 next0 fs m j n h
+-- what judges is later after each verdict
+pub judge_later : (policy : Judging) (present : Bool) (start k : Kernel) (before : List Standing) (log0 : List Effect) (judge0 : Judging) (next0 : ℕ) (es : List Entry) (log : List Effect) (judge : Judging) (next : ℕ) → Account policy_answer policy_later present start k before log0 judge0 next0 es log judge next → IsLater policy judge0 → IsLater policy judge
+judge_later policy present start k before log0 judge0 next0 es log judge next Start first = first
+judge_later policy present start k before log0 judge0 next0 es log judge next (Note fs m j n e t h) first = judge_later policy present start k before log0 judge0 next0 fs m j n h first
+judge_later policy present start k before log0 judge0 next0 es log judge next (Judge fs m j n i name held judged on ss d b left h) first = later_verdict policy j (allowed_records ss) judged (is_none (parent_of name)) present (judge_later policy present start k before log0 judge0 next0 fs m j n h first)
+judge_later policy present start k before log0 judge0 next0 es log judge next (Had fs m j n i number name held judged verdict outcome d v may h) first = judge_later policy present start k before log0 judge0 next0 fs m j n h first
+judge_later policy present start k before log0 judge0 next0 es log judge next (Had_not fs m j n i number name held judged verdict outcome d v may h) first = judge_later policy present start k before log0 judge0 next0 fs m j n h first
+judge_later policy present start k before log0 judge0 next0 es log judge next (Went fs m j n i number name held judged verdict d o v h) first = judge_later policy present start k before log0 judge0 next0 fs m j n h first
 
--- the rules give that verdict on the record of the very device of the held file, which lived until it was probed
-pub record IsGiven (rules : List RuleEntry) (start k : Kernel) (name : List ℕ) (held : Held) (verdict : Target) (cause : Cause) : Type 0 where
+-- the policy gives that verdict on the record of the very device of the held file, which lived until it was probed, beside standings
+-- that were there before or were told since
+pub record IsGiven (policy : Judging) (start k : Kernel) (before : List Standing) (entries : List Entry) (name : List ℕ) (held : Held) (verdict : Target) (cause : Cause) : Type 0 where
   pub i : ℕ
   pub judged : Judged
   pub present : Bool
   pub on : Bool
   pub device : IsDevice k i name held judged
   pub probed : IsProbed start k name held.0 i on
-  pub given : IsVerdict rules judged (is_none (parent_of name)) present on verdict cause
+  pub judge : Judging
+  pub since : IsLater policy judge
+  pub standings : List Standing
+  pub beside : (s : Standing) → Has standings s → IsTold before entries s
+  pub given : IsVerdict judge (allowed_records standings) judged (is_none (parent_of name)) present on verdict cause
+
+told_more : (before : List Standing) (es fs : List Entry) (s : Standing) → IsTold before es s → IsTold before (es ++ fs) s
+told_more before es fs s (inl b) = inl b
+told_more before es fs s (inr h) = inr (has_left es fs (entry.Judged s.number s.name s.held s.verdict s.cause) h)
+
+given_more : (policy : Judging) (start k : Kernel) (before : List Standing) (es fs : List Entry) (name : List ℕ) (held : Held) (verdict : Target) (cause : Cause) → IsGiven policy start k before es name held verdict cause → IsGiven policy start k before (es ++ fs) name held verdict cause
+given_more policy start k before es fs name held verdict cause g = record {
+  i = g.i;
+  judged = g.judged;
+  present = g.present;
+  on = g.on;
+  device = g.device;
+  probed = g.probed;
+  judge = g.judge;
+  since = g.since;
+  standings = g.standings;
+  beside = λ s h. told_more before es fs s (g.beside s h);
+  given = g.given;
+}
 
 same_pair : (p : Target × Cause) (b : Target) (d : Cause) → p.0 ≡ b → p.1 ≡ d → p ≡ (b, d)
 same_pair p b d e f = subst (λ (v : Target). p ≡ (v, d)) e (subst (λ (v : Cause). p ≡ (p.0, v)) f refl)
 
-given_by : (rules : List RuleEntry) (start k : Kernel) (i number : ℕ) (name : List ℕ) (held : Held) (judged : Judged) (present on : Bool) → IsDevice k i name held judged → IsProbed start k name held.0 i on → (m : ℕ) (other : List ℕ) (file : Held) (verdict : Target) (cause : Cause)
-    → entry.Judged number name held (verdict_of rules judged (is_none (parent_of name)) present on).0 (verdict_of rules judged (is_none (parent_of name)) present on).1 ≡ entry.Judged m other file verdict cause → IsGiven (as_given rules) start k other file verdict cause
-given_by rules start k i number name held judged present on d b m other file verdict cause e =
-    let p : Target × Cause = verdict_of rules judged (is_none (parent_of name)) present on in
+given_by : (policy judge : Judging) (start k : Kernel) (before : List Standing) (es : List Entry) (ss : List Standing) (i number : ℕ) (name : List ℕ) (held : Held) (judged : Judged) (present on : Bool) → IsLater policy judge → AreLeft before es ss → IsDevice k i name held judged → IsProbed start k name held.0 i on → (m : ℕ) (other : List ℕ) (file : Held) (verdict : Target) (cause : Cause)
+    → entry.Judged number name held (verdict_of judge (allowed_records ss) judged (is_none (parent_of name)) present on).0 (verdict_of judge (allowed_records ss) judged (is_none (parent_of name)) present on).1 ≡ entry.Judged m other file verdict cause → IsGiven policy start k before es other file verdict cause
+given_by policy judge start k before es ss i number name held judged present on since left d b m other file verdict cause e =
+    let p : Target × Cause = verdict_of judge (allowed_records ss) judged (is_none (parent_of name)) present on in
     let names : name ≡ other = cc in
     let files : held ≡ file = cc in
     let targets : p.0 ≡ verdict = cc in
     let causes : p.1 ≡ cause = cc in
-    let ruled : IsVerdict (as_given rules) judged (is_none (parent_of name)) present on verdict cause = is_verdict (as_given rules) judged (is_none (parent_of name)) present on verdict cause (verdict_given rules judged (is_none (parent_of name)) present on ∙ same_pair p verdict cause targets causes) in
-    let given : IsGiven (as_given rules) start k name held verdict cause = record { i = i; judged = judged; present = present; on = on; device = d; probed = b; given = ruled } in
-    subst (λ (v : List ℕ). IsGiven (as_given rules) start k v file verdict cause) names (subst (λ (v : Held). IsGiven (as_given rules) start k name v verdict cause) files given)
+    let ruled : IsVerdict judge (allowed_records ss) judged (is_none (parent_of name)) present on verdict cause = is_verdict judge (allowed_records ss) judged (is_none (parent_of name)) present on verdict cause (same_pair p verdict cause targets causes) in
+    let given : IsGiven policy start k before es name held verdict cause = record { i = i; judged = judged; present = present; on = on; device = d; probed = b; judge = judge; since = since; standings = ss; beside = left.told; given = ruled } in
+    subst (λ (v : List ℕ). IsGiven policy start k before es v file verdict cause) names (subst (λ (v : Held). IsGiven policy start k before es name v verdict cause) files given)
 
 -- each verdict that is told was given so
-pub judged_given : (present : Bool) (start k : Kernel) (before : List Standing) (log0 : List Effect) (judge0 : Judging) (next0 : ℕ) (es : List Entry) (log : List Effect) (judge : Judging) (next : ℕ) → Account policy_answer policy_later present start k before log0 judge0 next0 es log judge next
-    → (number : ℕ) (name : List ℕ) (held : Held) (verdict : Target) (cause : Cause) → Has es (entry.Judged number name held verdict cause) → IsGiven (as_given judge0.rules) start k name held verdict cause
-judged_given present start k before log0 judge0 next0 es log judge next Start number name held verdict cause h = absurd h
-judged_given present start k before log0 judge0 next0 es log judge next (Note fs m j n e t a) number name held verdict cause h =
-    judged_given present start k before log0 judge0 next0 fs m j n a number name held verdict cause (only_left fs (e ∷ []) (entry.Judged number name held verdict cause) ((plain_note e t).judged number name held verdict cause) h)
-judged_given present start k before log0 judge0 next0 es log judge next (Judge fs m j n i other file judged on d b a) number name held verdict cause h = elim (last_is fs _ (entry.Judged number name held verdict cause) h) [
-  | inl x ↦ judged_given present start k before log0 judge0 next0 fs m j n a number name held verdict cause x
-  | inr same ↦ subst (λ (r : List RuleEntry). IsGiven r start k name held verdict cause) (judge_stays present start k before log0 judge0 next0 fs m j n a) (given_by j.rules start k i n other file judged present on d b number name held verdict cause same)
+pub judged_given : (policy : Judging) (present : Bool) (start k : Kernel) (before : List Standing) (log0 : List Effect) (judge0 : Judging) (next0 : ℕ) (es : List Entry) (log : List Effect) (judge : Judging) (next : ℕ) → Account policy_answer policy_later present start k before log0 judge0 next0 es log judge next → IsLater policy judge0
+    → (number : ℕ) (name : List ℕ) (held : Held) (verdict : Target) (cause : Cause) → Has es (entry.Judged number name held verdict cause) → IsGiven policy start k before es name held verdict cause
+judged_given policy present start k before log0 judge0 next0 es log judge next Start first number name held verdict cause h = absurd h
+judged_given policy present start k before log0 judge0 next0 es log judge next (Note fs m j n e t a) first number name held verdict cause h =
+    given_more policy start k before fs (e ∷ []) name held verdict cause (judged_given policy present start k before log0 judge0 next0 fs m j n a first number name held verdict cause (only_left fs (e ∷ []) (entry.Judged number name held verdict cause) ((plain_note e t).judged number name held verdict cause) h))
+judged_given policy present start k before log0 judge0 next0 es log judge next (Judge fs m j n i other file judged on ss d b left a) first number name held verdict cause h = elim (last_is fs _ (entry.Judged number name held verdict cause) h) [
+  | inl x ↦ given_more policy start k before fs _ name held verdict cause (judged_given policy present start k before log0 judge0 next0 fs m j n a first number name held verdict cause x)
+  | inr same ↦ given_more policy start k before fs _ name held verdict cause (given_by policy j start k before fs ss i n other file judged present on (judge_later policy present start k before log0 judge0 next0 fs m j n a first) left d b number name held verdict cause same)
 ]
-judged_given present start k before log0 judge0 next0 es log judge next (Had fs m j n i other title file judged target outcome d v may a) number name held verdict cause h =
-    judged_given present start k before log0 judge0 next0 fs m j n a number name held verdict cause (only_left fs (wrote_entries other title (write_of target) outcome) (entry.Judged number name held verdict cause) ((plain_wrote other title (write_of target) outcome).judged number name held verdict cause) h)
-judged_given present start k before log0 judge0 next0 es log judge next (Had_not fs m j n i other title file judged target outcome d v may a) number name held verdict cause h =
-    judged_given present start k before log0 judge0 next0 fs m j n a number name held verdict cause (only_left fs (wrote_entries other title (write_of target) outcome) (entry.Judged number name held verdict cause) ((plain_wrote other title (write_of target) outcome).judged number name held verdict cause) h)
-judged_given present start k before log0 judge0 next0 es log judge next (Went fs m j n i other title file judged target d o v a) number name held verdict cause h = elim (last_is fs (entry.Gone other title) (entry.Judged number name held verdict cause) h) [
-  | inl x ↦ judged_given present start k before log0 judge0 next0 fs m j n a number name held verdict cause x
+judged_given policy present start k before log0 judge0 next0 es log judge next (Had fs m j n i other title file judged target outcome d v may a) first number name held verdict cause h =
+    given_more policy start k before fs (wrote_entries other title (write_of target) outcome) name held verdict cause (judged_given policy present start k before log0 judge0 next0 fs m j n a first number name held verdict cause (only_left fs (wrote_entries other title (write_of target) outcome) (entry.Judged number name held verdict cause) ((plain_wrote other title (write_of target) outcome).judged number name held verdict cause) h))
+judged_given policy present start k before log0 judge0 next0 es log judge next (Had_not fs m j n i other title file judged target outcome d v may a) first number name held verdict cause h =
+    given_more policy start k before fs (wrote_entries other title (write_of target) outcome) name held verdict cause (judged_given policy present start k before log0 judge0 next0 fs m j n a first number name held verdict cause (only_left fs (wrote_entries other title (write_of target) outcome) (entry.Judged number name held verdict cause) ((plain_wrote other title (write_of target) outcome).judged number name held verdict cause) h))
+judged_given policy present start k before log0 judge0 next0 es log judge next (Went fs m j n i other title file judged target d o v a) first number name held verdict cause h = elim (last_is fs (entry.Gone other title) (entry.Judged number name held verdict cause) h) [
+  | inl x ↦ given_more policy start k before fs (entry.Gone other title ∷ []) name held verdict cause (judged_given policy present start k before log0 judge0 next0 fs m j n a first number name held verdict cause x)
   | inr same ↦ absurd (let none : ⊥ = cc in none)
 ]
 
@@ -122,7 +146,7 @@ added_more before es fs k log0 log a = record { effects = a.effects; log_is = a.
 pub all_added : (present : Bool) (start k : Kernel) (before : List Standing) (log0 : List Effect) (judge0 : Judging) (next0 : ℕ) (es : List Entry) (log : List Effect) (judge : Judging) (next : ℕ) → Account policy_answer policy_later present start k before log0 judge0 next0 es log judge next → Added before es k log0 log
 all_added present start k before log0 judge0 next0 es log judge next Start = record { effects = []; log_is = sym (append-nil log0); each = λ e h. absurd h }
 all_added present start k before log0 judge0 next0 es log judge next (Note fs m j n e t a) = added_more before fs (e ∷ []) k log0 m (all_added present start k before log0 judge0 next0 fs m j n a)
-all_added present start k before log0 judge0 next0 es log judge next (Judge fs m j n i name held judged on d b a) = added_more before fs _ k log0 m (all_added present start k before log0 judge0 next0 fs m j n a)
+all_added present start k before log0 judge0 next0 es log judge next (Judge fs m j n i name held judged on ss d b left a) = added_more before fs _ k log0 m (all_added present start k before log0 judge0 next0 fs m j n a)
 all_added present start k before log0 judge0 next0 es log judge next (Went fs m j n i number name held judged verdict d o v a) = added_more before fs (entry.Gone number name ∷ []) k log0 m (all_added present start k before log0 judge0 next0 fs m j n a)
 all_added present start k before log0 judge0 next0 es log judge next (Had_not fs m j n i number name held judged verdict outcome d v may a) = added_more before fs (wrote_entries number name (write_of verdict) outcome) k log0 m (all_added present start k before log0 judge0 next0 fs m j n a)
 all_added present start k before log0 judge0 next0 es log judge next (Had fs m j n i number name held judged verdict outcome d v may a) =
@@ -175,7 +199,7 @@ follow_none a b es fs none f =
 pub numbers_follow : (present : Bool) (start k : Kernel) (before : List Standing) (log0 : List Effect) (judge0 : Judging) (next0 : ℕ) (es : List Entry) (log : List Effect) (judge : Judging) (next : ℕ) → Account policy_answer policy_later present start k before log0 judge0 next0 es log judge next → Follow next0 (told_numbers es) next
 numbers_follow present start k before log0 judge0 next0 es log judge next Start = refl
 numbers_follow present start k before log0 judge0 next0 es log judge next (Note fs m j n e t a) = follow_none next0 n fs (e ∷ []) (numbers_none e t) (numbers_follow present start k before log0 judge0 next0 fs m j n a)
-numbers_follow present start k before log0 judge0 next0 es log judge next (Judge fs m j n i name held judged on d b a) =
+numbers_follow present start k before log0 judge0 next0 es log judge next (Judge fs m j n i name held judged on ss d b left a) =
     subst (λ (l : List ℕ). Follow next0 l (n + 1)) (sym (numbers_append fs _)) (follow_append next0 (told_numbers fs) (n ∷ []) n (n + 1) (numbers_follow present start k before log0 judge0 next0 fs m j n a) (refl, refl))
 numbers_follow present start k before log0 judge0 next0 es log judge next (Had fs m j n i number name held judged verdict outcome d v may a) = follow_none next0 n fs (wrote_entries number name (write_of verdict) outcome) refl (numbers_follow present start k before log0 judge0 next0 fs m j n a)
 numbers_follow present start k before log0 judge0 next0 es log judge next (Had_not fs m j n i number name held judged verdict outcome d v may a) = follow_none next0 n fs (wrote_entries number name (write_of verdict) outcome) refl (numbers_follow present start k before log0 judge0 next0 fs m j n a)

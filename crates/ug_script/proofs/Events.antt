@@ -29,23 +29,23 @@ handling_played moment d w e t h = from_begun h.0 h.1 h.2
     from_begun : (u : World) → u ≡ begun w → Runs Gives u (handling moment d) e t → IsPlayed tells (handling moment d) (begun w) e t
     from_begun u q r = event_played policy_answer policy_later (event.begun d moment) (event.ended d) (λ (x : DaemonState). x.sweep.entries) (begun w) e t (λ v. record { appends = appends_one v.entries (entry.End d.event); memory = tt }) (subst (λ (x : World). Runs Gives x (handling moment d) e t) q r)
 
-abbrev place : DaemonState → World → Option Script × World
-place d w = (Some (record { setup = false; moves = []; daemon = d }), over w)
+abbrev place : Script → DaemonState → World → Option Script × World
+place s d w = (Some (record s { setup = false; moves = []; daemon = d }), over w)
 
-same_places : {d e : DaemonState} {t u : World} → d ≡ e → t ≡ u → place d t ≡ place e u
-same_places {d} {e} {t} {u} p q = ap (λ (x : DaemonState). place x t) p ∙ ap (λ (y : World). place e y) q
+same_places : (s : Script) {d e : DaemonState} {t u : World} → d ≡ e → t ≡ u → place s d t ≡ place s e u
+same_places s {d} {e} {t} {u} p q = ap (λ (x : DaemonState). place s x t) p ∙ ap (λ (y : World). place s e y) q
 
 -- the event's text was written, or it was cut
-written : (p : DaemonState × World) (e : DaemonState) (t : World) (before after : Option (List ℕ)) (r : Ran) → e ≡ p.0 → t ≡ p.1 → Closes (Some (lines_text e.sweep.entries)) before after r → Steps (after_event p) (Some (record { setup = false; moves = []; daemon = e }), over t) before after r
-written p e t before after Done u v c = (same_places u v, subst (λ (x : DaemonState). Appends before after (lines_text x.sweep.entries)) u c)
-written p e t before after Bad u v c = c
-written p e t before after TooLong u v c = c
-written p e t before after SinkFailed u v c = (same_places u v, subst (λ (x : DaemonState). Puts before after (lines_text x.sweep.entries) Failed) u c)
-written p e t before after Memory u v c = c
+written : (s : Script) (p : DaemonState × World) (e : DaemonState) (t : World) (before after : Option (List ℕ)) (r : Ran) → e ≡ p.0 → t ≡ p.1 → Closes (Some (lines_text e.sweep.entries)) before after r → Steps (after_event s p) (Some (record s { setup = false; moves = []; daemon = e }), over t) before after r
+written s p e t before after Done u v c = (same_places s u v, subst (λ (x : DaemonState). Appends before after (lines_text x.sweep.entries)) u c)
+written s p e t before after Bad u v c = c
+written s p e t before after TooLong u v c = c
+written s p e t before after SinkFailed u v c = (same_places s u v, subst (λ (x : DaemonState). Puts before after (lines_text x.sweep.entries) Failed) u c)
+written s p e t before after Memory u v c = c
 
-pub swept_steps : {u : World} (moment : Moment) (s : Script) (w : World) (e : DaemonState) (t : World) (ms : List Scheduled) (before after : Option (List ℕ)) (r : Ran) → ms ≡ [] → has_numbers s.daemon w.faults 0 ≡ true → IsPlayed tells (handling moment s.daemon) (begun (arranged s.moves w)) e t → tells_memory e.sweep.entries ≡ false → t.ran_out ≡ false → Closes (Some (lines_text e.sweep.entries)) before after r → u ≡ over t → Steps (sweep_step moment s w) (Some (record { setup = false; moves = ms; daemon = e }), u) before after r
+pub swept_steps : {u : World} (moment : Moment) (s : Script) (w : World) (e : DaemonState) (t : World) (ms : List Scheduled) (before after : Option (List ℕ)) (r : Ran) → ms ≡ [] → has_numbers s.daemon w.faults 0 ≡ true → IsPlayed tells (handling moment s.daemon) (begun (arranged s.moves w)) e t → tells_memory e.sweep.entries ≡ false → t.ran_out ≡ false → Closes (Some (lines_text e.sweep.entries)) before after r → u ≡ over t → Steps (sweep_step moment s w) (Some (record s { setup = false; moves = ms; daemon = e }), u) before after r
 swept_steps {u = u} moment s w e t ms before after r none n played quiet ran c ended = rw ended (rw none (rw n (elim played [
-  | inl q ↦ written (event_of moment s w) e t before after r q.0 q.1 c
+  | inl q ↦ written s (event_of moment s w) e t before after r q.0 q.1 c
   | inr x ↦ elim x [
     | inl y ↦ absurd (both_ways (tells_memory e.sweep.entries) quiet y)
     | inr y ↦ absurd (both_ways t.ran_out ran y)

@@ -1,6 +1,6 @@
 -- What is written is the text of the journal, each effect is explained, numbers follow one another, and a script without
 -- failures names nobody and judges each device once.
-use Rattle.std.proofs.Common.{◌≡◌, ℕ, ◌+◌, Bool, true, false, not, ◌&&◌, ◌||◌, cond, nat_eq, nat_lt, List, [], ◌∷◌, ◌++◌, length, reverse, Option, Some, None, inl, inr, refl, sym, ◌∙◌, ap, subst, append_assoc, append-nil}
+use Rattle.std.proofs.Common.{◌≡◌, ℕ, ◌+◌, Bool, true, false, not, is_none, ◌&&◌, ◌||◌, cond, nat_eq, nat_lt, List, [], ◌∷◌, ◌++◌, length, reverse, Option, Some, None, inl, inr, refl, sym, ◌∙◌, ap, subst, append_assoc, append-nil}
 use Rattle.std.specs.Cmp.Lexicographic.{pointwise}
 use Rattle.std.specs.List.{list_any}
 use Rattle.ug_types.specs.Elements.{Has}
@@ -23,21 +23,21 @@ use Rattle.ug_play.specs.Play.{play, names_somebody, NameNobody}
 use Rattle.ug_play.proofs.Fine.{quiet_sweep, nobody_more}
 use Rattle.ug_play.proofs.Still.{lived_in_play}
 use Rattle.ug_core.specs.Event as event
-use Rattle.ug_core.specs.Policy.{Judging, as_given, policy_answer, policy_later}
+use Rattle.ug_core.specs.Policy.{Judging, seeded, policy_answer, policy_later}
+use Rattle.ug_core.specs.Verdicts.{IsLater}
 use Rattle.ug_core.specs.Event.{DaemonState, handling, has_numbers}
 use Rattle.ug_core.specs.Laws.{Handled}
-use Rattle.ug_policy.specs.declared.entry.RuleEntry.{RuleEntry}
 use Rattle.ug_lines.specs.Fold.{Fault, BadLine, Outcome, Writes, Refused, Stage, Going, Halted, is_within, stage_after, plays}
 use Rattle.ug_script.specs.declared.step.Step.{Step}
-use Rattle.ug_script.specs.declared.step.Step.TheVariants.{Skip, Rule, Plug, Unplug, Schedule, Fail, Sweep}
+use Rattle.ug_script.specs.declared.step.Step.TheVariants.{Skip, Rule, Seed, Zone, Plug, Unplug, Schedule, Fail, Sweep}
 use Rattle.ug_script.specs.Grammar.{step_of_line}
-use Rattle.ug_script.specs.Replay.{Script, with_rule, header, fresh, terminated, lines_text, quiet, bad, rules_of, is_plain, has_place, with_devices, after_event, taken, taken_if, script_step}
+use Rattle.ug_script.specs.Replay.{Script, with_rule, header, fresh, terminated, lines_text, quiet, bad, seed_given, policy_of, is_reject, has_place, with_seed, with_zone, is_offset, with_devices, after_event, taken, taken_if, script_step}
 use Rattle.ug_sysfs.specs.declared.script.Failing.{Failing}
 use Rattle.ug_sysfs.specs.declared.script.Scheduled.{Scheduled}
 use Rattle.ug_script.specs.Schedule.{with_move, arranged}
 use Rattle.ug_script.specs.Laws.{event_of}
-use Rattle.ug_script.specs.Journal.{is_quiet, AreQuiet, noted_by, noted, left_by, journal, IsExplained, IsJudgedOnce, JudgesOnce, Recorded, StaysRecorded}
-use Rattle.ug_script.proofs.Accounts.{judge_stays}
+use Rattle.ug_script.specs.Journal.{is_quiet, AreQuiet, noted_by, noted, left_by, journal, told_numbers, Follow, IsExplained, IsJudgedOnce, JudgesOnce, Recorded, StaysRecorded}
+use Rattle.ug_script.proofs.Accounts.{judge_later}
 use Rattle.ug_script.proofs.Recorded.{explained_nowhere, Facts, facts_grow, framed, swept_facts, judged_once}
 use Rattle.ug_script.proofs.Lawful.{Holds, arranged_holds, HoldsIn, HoldsAfter, plays_sweep, handled, swept_holds, taken_holds, no_standing}
 
@@ -49,7 +49,9 @@ record Kept (first : World) (quiet : Type 0) (entries : List Entry) (text : List
   holds : HoldsIn (Some s, w)
   since : Grows first.kernel w.kernel
   setup : s.setup ≡ true → (entries ≡ []) × (s.daemon.sweep.standings ≡ [])
-  facts : Facts (rules_of s) first.kernel entries w.kernel s.daemon.sweep.standings s.daemon.sweep.next
+  untaken : s.setup ≡ true → s.daemon.sweep.judge.stream ≡ seeded (seed_given s.seed)
+  later : IsLater (policy_of s) s.daemon.sweep.judge
+  facts : Facts (policy_of s) first.kernel entries w.kernel s.daemon.sweep.standings s.daemon.sweep.next
   written : text ≡ lines_text entries
   nobody : quiet → first.fails ≡ [] → NameNobody entries
   unfailing : quiet → first.fails ≡ [] → w.fails ≡ []
@@ -73,35 +75,38 @@ KeptAt first q es (Halted fault n text p) = Unit {0}
 kept_still : (first : World) (q : Type 0) (es : List Entry) (text : List ℕ) (p : Option Script × World) → KeptIn first q es text p → KeptIn first q (es ++ []) (text ++ []) p
 kept_still first q es text p h = subst (λ (v : List Entry). KeptIn first q v (text ++ []) p) (sym (append-nil es)) (subst (λ (v : List ℕ). KeptIn first q es v p) (sym (append-nil text)) h)
 
--- a rule more, before anything else
-kept_rule : (first : World) (q : Type 0) (es : List Entry) (text : List ℕ) (rule : types.Rule) (s : Script) (w : World) → s.setup ≡ true → Kept first q es text s w → Kept first q es text (record s { daemon = with_rule rule s.daemon }) w
-kept_rule first q es text rule s w setup h =
+-- what a setup line leaves: another policy, before anything else
+kept_setup : (first : World) (q : Type 0) (es : List Entry) (text : List ℕ) (s t : Script) (w : World) → s.setup ≡ true → t.daemon.sweep.standings ≡ s.daemon.sweep.standings → t.daemon.sweep.next ≡ s.daemon.sweep.next → t.moves ≡ s.moves → t.daemon.sweep.judge.stream ≡ seeded (seed_given t.seed) → Kept first q es text s w → Kept first q es text t w
+kept_setup first q es text s t w setup standings next moves words h =
     let none = h.setup setup in
     let f = h.facts in
+    let nobody_stands : t.daemon.sweep.standings ≡ [] = standings ∙ none.1 in
     record {
-      holds = h.holds;
+      holds = subst (λ (v : List Standing). Holds v t.daemon.sweep.next w) (sym standings) (subst (λ (v : ℕ). Holds s.daemon.sweep.standings v w) (sym next) h.holds);
       since = h.since;
-      setup = λ _. none;
+      setup = λ _. (none.0, nobody_stands);
+      untaken = λ _. words;
+      later = record { rules = refl; next = refl; clock = refl; words = 0; stream = words };
       facts = record {
-        judged = λ x a. absurd (subst (λ (v : List Standing). Has v x) none.1 a);
-        explained = record { added = f.explained.added; log = f.explained.log; each = λ e a. absurd (explained_nowhere (rules_of s) first.kernel w.kernel e (subst (λ (v : List Entry). IsExplained (rules_of s) v first.kernel w.kernel e) none.0 (f.explained.each e a))) };
-        numbers = f.numbers;
-        known = f.known;
+        judged = λ x a. absurd (subst (λ (v : List Standing). Has v x) nobody_stands a);
+        explained = record { added = f.explained.added; log = f.explained.log; each = λ e a. absurd (explained_nowhere (policy_of s) first.kernel w.kernel e (subst (λ (v : List Entry). IsExplained (policy_of s) v first.kernel w.kernel e) none.0 (f.explained.each e a))) };
+        numbers = subst (λ (v : ℕ). Follow 1 (told_numbers es) v) (sym next) f.numbers;
+        known = λ number name held verdict cause a. absurd (subst (λ (v : List Entry). Has v (entry.Judged number name held verdict cause)) none.0 a);
       };
       written = h.written;
       nobody = h.nobody;
       unfailing = h.unfailing;
       unmoved = h.unmoved;
-      unscheduled = h.unscheduled;
+      unscheduled = λ x. moves ∙ h.unscheduled x;
     }
 
 both : (a b : Bool) → (a && b) ≡ true → a ≡ true
 both true b e = refl
 both false b e = let none : ⊥ = cc in absurd none
 
-kept_rule_if : (first : World) (q : Type 0) (es : List Entry) (text : List ℕ) (rule : types.Rule) (s : Script) (w : World) (b : Bool) → (b ≡ true → s.setup ≡ true) → Kept first q es text s w → KeptAfter first q es text [] (cond b (quiet (record s { daemon = with_rule rule s.daemon }) w) (bad s w))
-kept_rule_if first q es text rule s w true f h = kept_still first q es text (Some (record s { daemon = with_rule rule s.daemon }), w) (kept_rule first q es text rule s w (f refl) h)
-kept_rule_if first q es text rule s w false f h = tt
+kept_setup_if : (first : World) (q : Type 0) (es : List Entry) (text : List ℕ) (s t : Script) (w : World) (b : Bool) → (b ≡ true → s.setup ≡ true) → t.daemon.sweep.standings ≡ s.daemon.sweep.standings → t.daemon.sweep.next ≡ s.daemon.sweep.next → t.moves ≡ s.moves → (s.setup ≡ true → t.daemon.sweep.judge.stream ≡ seeded (seed_given t.seed)) → Kept first q es text s w → KeptAfter first q es text [] (cond b (quiet t w) (bad s w))
+kept_setup_if first q es text s t w true f standings next moves words h = kept_still first q es text (Some t, w) (kept_setup first q es text s t w (f refl) standings next moves (words (f refl)) h)
+kept_setup_if first q es text s t w false f standings next moves words h = tt
 
 -- devices come and go
 kept_moves : (first : World) (q : Type 0) (es : List Entry) (text : List ℕ) (s : Script) (w v : World) → HoldsIn (Some s, v) → Moves w.kernel v.kernel → v.fails ≡ w.fails → v.moves ≡ w.moves → Kept first q es text s w → Kept first q es text (record s { setup = false }) v
@@ -111,7 +116,9 @@ kept_moves first q es text s w v holds m fails moves h =
       holds = holds;
       since = grows_trans first.kernel w.kernel v.kernel h.since g;
       setup = λ e. let none : ⊥ = cc in absurd none;
-      facts = facts_grow (rules_of s) first.kernel es w.kernel v.kernel s.daemon.sweep.standings s.daemon.sweep.next g m.log h.facts;
+      untaken = λ e. let none : ⊥ = cc in absurd none;
+      later = h.later;
+      facts = facts_grow (policy_of s) first.kernel es w.kernel v.kernel s.daemon.sweep.standings s.daemon.sweep.next g m.log h.facts;
       written = h.written;
       nobody = h.nobody;
       unfailing = λ x e. fails ∙ h.unfailing x e;
@@ -127,31 +134,42 @@ nobody_in_event moment d w run none =
     rw (plays_sweep moment d w) (nobody_more (play p (begun w)).0.entries (entry.End d.event ∷ []) (quiet_sweep policy_answer policy_later (event.begun d moment) (begun w) run none refl) refl)
 
 -- the facts at the end of an event over these kernels
-event_facts : (first : Kernel) (es : List Entry) (moment : Moment) (k l : Kernel) (d e : DaemonState) → Grows first k → Stand k d.sweep.standings d.sweep.next → Facts (as_given d.sweep.judge.rules) first es k d.sweep.standings d.sweep.next → Handled moment k d l e → Facts (as_given e.sweep.judge.rules) first (es ++ e.sweep.entries) l e.sweep.standings e.sweep.next
-event_facts first es moment k l d e since stood facts law =
+event_facts : (policy : Judging) (first : Kernel) (es : List Entry) (moment : Moment) (k l : Kernel) (d e : DaemonState) → IsLater policy d.sweep.judge → Grows first k → Stand k d.sweep.standings d.sweep.next → Facts policy first es k d.sweep.standings d.sweep.next → Handled moment k d l e → Facts policy first (es ++ e.sweep.entries) l e.sweep.standings e.sweep.next
+event_facts policy first es moment k l d e later since stood facts law =
     let v : State Judging = law.swept in
     let y : Entry = entry.End d.event in
-    let at = swept_facts first es (not d.sweep.listed) k l (event.begun d moment) v d.event d.event moment since stood facts law.law.fair in
-    let framed_at : Facts (as_given v.judge.rules) first (es ++ (v.entries ++ y ∷ [])) l v.standings v.next = subst (λ (z : List Entry). Facts (as_given v.judge.rules) first (es ++ (z ++ y ∷ [])) l v.standings v.next) (sym law.law.fair.entries) at in
-    subst (λ (z : State Judging). Facts (as_given z.judge.rules) first (es ++ z.entries) l z.standings z.next) (sym law.entries) framed_at
+    let start : IsLater policy (event.begun d moment).judge = record { rules = later.rules; next = later.next; clock = later.clock; words = later.words; stream = later.stream } in
+    let at = swept_facts policy first es (not d.sweep.listed) k l (event.begun d moment) v d.event d.event moment start since stood facts law.law.fair in
+    let framed_at : Facts policy first (es ++ (v.entries ++ y ∷ [])) l v.standings v.next = subst (λ (z : List Entry). Facts policy first (es ++ (z ++ y ∷ [])) l v.standings v.next) (sym law.law.fair.entries) at in
+    subst (λ (z : State Judging). Facts policy first (es ++ z.entries) l z.standings z.next) (sym law.entries) framed_at
 
-event_rules : (moment : Moment) (k l : Kernel) (d e : DaemonState) → Handled moment k d l e → as_given e.sweep.judge.rules ≡ as_given d.sweep.judge.rules
-event_rules moment k l d e law =
+event_later : (policy : Judging) (moment : Moment) (k l : Kernel) (d e : DaemonState) → IsLater policy d.sweep.judge → Handled moment k d l e → IsLater policy e.sweep.judge
+event_later policy moment k l d e later law =
     let v : State Judging = law.swept in
-    ap (λ (z : State Judging). as_given z.judge.rules) law.entries ∙ judge_stays (not d.sweep.listed) k l d.sweep.standings k.log (event.begun d moment).judge d.sweep.next law.law.fair.rest l.log v.judge v.next law.law.fair.account
+    let start : IsLater policy (event.begun d moment).judge = record { rules = later.rules; next = later.next; clock = later.clock; words = later.words; stream = later.stream } in
+    subst (λ (z : State Judging). IsLater policy z.judge) (sym law.entries) (judge_later policy (not d.sweep.listed) k l d.sweep.standings k.log (event.begun d moment).judge d.sweep.next law.law.fair.rest l.log v.judge v.next law.law.fair.account start)
 
-event_kept : (first : World) (q : Type 0) (es : List Entry) (text : List ℕ) (moment : Moment) (s : Script) (w : World) → HoldsAfter (after_event (event_of moment s w)) → Kept first q es text s w → KeptAfter first q es text (event_of moment s w).0.sweep.entries (after_event (event_of moment s w))
+-- an event leaves the policy as the setup lines gave it
+policy_stays : (s t : Script) → t.seed ≡ s.seed → IsLater (policy_of s) t.daemon.sweep.judge → policy_of t ≡ policy_of s
+policy_stays s t seed h = λ i. record { rules = h.rules i; next = h.next i; clock = h.clock i; ctx = (policy_of s).ctx; stream = seeded (seed_given (seed i)) }
+
+event_kept : (first : World) (q : Type 0) (es : List Entry) (text : List ℕ) (moment : Moment) (s : Script) (w : World) → HoldsAfter (after_event s (event_of moment s w)) → Kept first q es text s w → KeptAfter first q es text (event_of moment s w).0.sweep.entries (after_event s (event_of moment s w))
 event_kept first q es text moment s w holds h =
     let p = event_of moment s w in
     let law = handled moment s.daemon (arranged s.moves w) (arranged_holds s.daemon.sweep.standings s.daemon.sweep.next s.moves w h.holds) in
     let m = happened_moves p.1.moves p.1.kernel in
     let g : Grows p.1.kernel (over p.1).kernel = quiet_grows p.1.kernel (over p.1).kernel (moves_quiet p.1.kernel (over p.1).kernel m) in
-    let facts = event_facts first.kernel es moment w.kernel p.1.kernel s.daemon p.0 h.since h.holds.stand h.facts law in
+    let t : Script = record s { setup = false; moves = []; daemon = p.0 } in
+    let later : IsLater (policy_of s) p.0.sweep.judge = event_later (policy_of s) moment w.kernel p.1.kernel s.daemon p.0 h.later law in
+    let same : policy_of t ≡ policy_of s = policy_stays s t refl later in
+    let facts = event_facts (policy_of s) first.kernel es moment w.kernel p.1.kernel s.daemon p.0 h.later h.since h.holds.stand h.facts law in
     record {
       holds = holds;
       since = grows_trans first.kernel w.kernel (over p.1).kernel h.since (grows_trans w.kernel p.1.kernel (over p.1).kernel law.law.fair.grows g);
       setup = λ e. let none : ⊥ = cc in absurd none;
-      facts = facts_grow (as_given p.0.sweep.judge.rules) first.kernel (es ++ p.0.sweep.entries) p.1.kernel (over p.1).kernel p.0.sweep.standings p.0.sweep.next g m.log facts;
+      untaken = λ e. let none : ⊥ = cc in absurd none;
+      later = subst (λ (z : Judging). IsLater z p.0.sweep.judge) (sym same) later;
+      facts = subst (λ (z : Judging). Facts z first.kernel (es ++ p.0.sweep.entries) (over p.1).kernel p.0.sweep.standings p.0.sweep.next) (sym same) (facts_grow (policy_of s) first.kernel (es ++ p.0.sweep.entries) p.1.kernel (over p.1).kernel p.0.sweep.standings p.0.sweep.next g m.log facts);
       written = ap (λ (z : List ℕ). z ++ lines_text p.0.sweep.entries) h.written ∙ sym (lines_more es p.0.sweep.entries);
       nobody = λ x e. nobody_more es p.0.sweep.entries (h.nobody x e) (nobody_in_event moment s.daemon (arranged s.moves w) h.holds.told (h.unfailing x e));
       unfailing = λ x e. refl;
@@ -177,13 +195,13 @@ nobody_left (e ∷ es) fs n =
     ap (λ (b : Bool). b || list_any names_somebody es) x.0 ∙ nobody_left es fs x.1
 
 -- where nobody is named, each live device was judged once and stands as judged
-event_once : (first : World) (q : Type 0) (es : List Entry) (text : List ℕ) (s : Script) (w : World) → Kept first q es text s w → q → first.fails ≡ [] → first.moves ≡ [] → (moment : Moment) → JudgesOnce (rules_of s) es first.kernel (event_of moment s w)
+event_once : (first : World) (q : Type 0) (es : List Entry) (text : List ℕ) (s : Script) (w : World) → Kept first q es text s w → q → first.fails ≡ [] → first.moves ≡ [] → (moment : Moment) → JudgesOnce (policy_of s) es first.kernel (event_of moment s w)
 event_once first q es text s w h quiet_lines fails moves moment i d live =
     let p = event_of moment s w in
     let l : Kernel = p.1.kernel in
     let law = handled moment s.daemon (arranged s.moves w) (arranged_holds s.daemon.sweep.standings s.daemon.sweep.next s.moves w h.holds) in
     let none : w.moves ++ reverse s.moves ≡ [] = ap (λ (v : List Scheduled). w.moves ++ reverse v) (h.unscheduled quiet_lines) ∙ append-nil w.moves ∙ h.unmoved quiet_lines moves in
-    let facts = event_facts first.kernel es moment w.kernel l s.daemon p.0 h.since h.holds.stand h.facts law in
+    let facts = event_facts (policy_of s) first.kernel es moment w.kernel l s.daemon p.0 h.later h.since h.holds.stand h.facts law in
     let stood : Stand l p.0.sweep.standings p.0.sweep.next = rw law.entries law.law.fair.stand in
     let lived = lived_in_play (handling moment s.daemon) (begun (arranged s.moves w)) none law.law.fair.grows i d live in
     let y : Entry = entry.End s.daemon.event in
@@ -199,8 +217,7 @@ event_once first q es text s w h quiet_lines fails moves moment i d live =
       ]
     ] in
     let here : IsAsJudged l p.0.sweep.standings i = subst (λ (z : State Judging). IsAsJudged l z.standings i) (sym law.entries) as_judged in
-    let once = judged_once (as_given p.0.sweep.judge.rules) first.kernel (es ++ p.0.sweep.entries) l p.0.sweep.standings p.0.sweep.next i d stood facts live here in
-    subst (λ (r : List RuleEntry). IsJudgedOnce r (es ++ p.0.sweep.entries) first.kernel l p.0.sweep.standings i) (event_rules moment w.kernel l s.daemon p.0 law) once
+    judged_once (policy_of s) first.kernel (es ++ p.0.sweep.entries) l p.0.sweep.standings p.0.sweep.next i d stood facts live here
 
 recorded : (first : World) (lines : List (List ℕ)) (es : List Entry) (text : List ℕ) (s : Script) (w : World) → Kept first (AreQuiet lines) es text s w → Recorded first lines es text s w
 recorded first lines es text s w h = record {
@@ -217,6 +234,8 @@ weaker first q r es text s w f h = record {
   holds = h.holds;
   since = h.since;
   setup = h.setup;
+  untaken = h.untaken;
+  later = h.later;
   facts = h.facts;
   written = h.written;
   nobody = λ x. h.nobody (f x);
@@ -248,6 +267,8 @@ kept_scheduled first q es text s w ms fs h = record {
   holds = record { told = h.holds.told; sound = h.holds.sound; stand = h.holds.stand };
   since = h.since;
   setup = λ e. let none : ⊥ = cc in absurd none;
+  untaken = λ e. let none : ⊥ = cc in absurd none;
+  later = h.later;
   facts = h.facts;
   written = h.written;
   nobody = λ x. let none : false ≡ true = x.1 in let no_one : ⊥ = cc in absurd no_one;
@@ -258,7 +279,15 @@ kept_scheduled first q es text s w ms fs h = record {
 
 step_kept : (first : World) (q : Type 0) (es : List Entry) (text : List ℕ) (step : Step) (s : Script) (w : World) → Kept first q es text s w → KeptAfter first (q × IsQuiet (Some step)) es text (noted_by (Some step) s w) (taken step s w)
 step_kept first q es text Skip s w h = weaker_after first q (q × (true ≡ true)) es text [] (quiet s w) (λ x. x.0) (kept_still first q es text (Some s, w) h)
-step_kept first q es text (Rule rule) s w h = weaker_after first q (q × (true ≡ true)) es text [] (taken (Rule rule) s w) (λ x. x.0) (kept_rule_if first q es text rule s w (s.setup && (is_plain rule && has_place s.daemon)) (λ e. both s.setup (is_plain rule && has_place s.daemon) e) h)
+step_kept first q es text (Rule rule) s w h =
+    let t : Script = record s { daemon = with_rule rule s.daemon } in
+    weaker_after first q (q × (true ≡ true)) es text [] (taken (Rule rule) s w) (λ x. x.0) (kept_setup_if first q es text s t w (s.setup && (not (is_reject rule.target) && has_place s.daemon)) (λ e. both s.setup (not (is_reject rule.target) && has_place s.daemon) e) refl refl refl h.untaken h)
+step_kept first q es text (Seed seed) s w h =
+    let t : Script = record s { seed = Some seed; daemon = with_seed seed s.daemon } in
+    weaker_after first q (q × (true ≡ true)) es text [] (taken (Seed seed) s w) (λ x. x.0) (kept_setup_if first q es text s t w (s.setup && is_none s.seed) (λ e. both s.setup (is_none s.seed) e) refl refl refl (λ e. refl) h)
+step_kept first q es text (Zone offset) s w h =
+    let t : Script = record s { zoned = true; daemon = with_zone offset s.daemon } in
+    weaker_after first q (q × (true ≡ true)) es text [] (taken (Zone offset) s w) (λ x. x.0) (kept_setup_if first q es text s t w (s.setup && (not s.zoned && is_offset offset)) (λ e. both s.setup (not s.zoned && is_offset offset) e) refl refl refl h.untaken h)
 step_kept first q es text (Plug device) s w h =
     let v : World = with_devices (plugged device w.kernel.devices) w in
     weaker_after first q (q × (true ≡ true)) es text [] (taken (Plug device) s w) (λ x. x.0) (kept_still first q es text (Some (record s { setup = false }), v) (kept_moves first q es text s w v (taken_holds (Plug device) s w h.holds) (plugged_moves device w.kernel) refl refl h))
@@ -269,7 +298,7 @@ step_kept first q es text (Schedule m) s w h = kept_still first (q × (false ≡
 step_kept first q es text (Fail f) s w h = kept_still first (q × (false ≡ true)) es text (Some (record s { setup = false }), record w { fails = w.fails ++ f ∷ [] }) (kept_scheduled first q es text s w s.moves (w.fails ++ f ∷ []) h)
 step_kept first q es text (Sweep moment) s w h =
     let p = event_of moment s w in
-    weaker_after first q (q × (true ≡ true)) es text (noted_by (Some (Sweep moment)) s w) (taken (Sweep moment) s w) (λ x. x.0) (kept_if first q es text p.0.sweep.entries [] (has_numbers s.daemon w.faults 0) (after_event p) (bad s w) (λ e. event_kept first q es text moment s w (swept_holds moment s w h.holds) h) (λ e. tt))
+    weaker_after first q (q × (true ≡ true)) es text (noted_by (Some (Sweep moment)) s w) (taken (Sweep moment) s w) (λ x. x.0) (kept_if first q es text p.0.sweep.entries [] (has_numbers s.daemon w.faults 0) (after_event s p) (bad s w) (λ e. event_kept first q es text moment s w (swept_holds moment s w h.holds) h) (λ e. tt))
 
 line_kept : (first : World) (q : Type 0) (es : List Entry) (text : List ℕ) (step : Option Step) (s : Script) (w : World) → Kept first q es text s w → KeptAfter first (q × IsQuiet step) es text (noted_by step s w) (taken_if step s w)
 line_kept first q es text None s w h = tt
@@ -280,6 +309,8 @@ kept_fresh first q h = record {
   holds = h;
   since = grows_refl first.kernel;
   setup = λ e. (refl, refl);
+  untaken = λ e. refl;
+  later = record { rules = refl; next = refl; clock = refl; words = 0; stream = refl };
   facts = record {
     judged = λ x a. absurd a;
     explained = record { added = []; log = sym (append-nil first.kernel.log); each = λ e a. absurd a };

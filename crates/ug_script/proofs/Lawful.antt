@@ -1,5 +1,5 @@
 -- Each line keeps the kernel sound and each standing of a device.
-use Rattle.std.proofs.Common.{◌≡◌, ℕ, ◌+◌, ◌++◌, Bool, true, false, ◌&&◌, if◌then◌else◌, nat_eq, nat_lt, List, [], ◌∷◌, length, Option, Some, None, refl, sym, ◌∙◌, subst}
+use Rattle.std.proofs.Common.{◌≡◌, ℕ, ◌+◌, ◌++◌, Bool, true, false, not, is_none, ◌&&◌, if◌then◌else◌, nat_eq, nat_lt, List, [], ◌∷◌, length, Option, Some, None, refl, sym, ◌∙◌, subst}
 use Rattle.std.specs.Cmp.Lexicographic.{pointwise}
 use Rattle.std.proofs.lemmas.Option.{same_Some}
 use Rattle.ug_types.specs.declared.verdict.Moment.{Moment}
@@ -32,9 +32,9 @@ use Rattle.ug_core.specs.Laws.{Handled, TellsEvent}
 use Rattle.ug_core.proofs.Failures.{event_tells, event_names}
 use Rattle.ug_lines.specs.Fold.{BadLine, Outcome, Writes, Refused, Stage, Going, Halted, is_within, stage_after, advance, plays}
 use Rattle.ug_script.specs.declared.step.Step.{Step}
-use Rattle.ug_script.specs.declared.step.Step.TheVariants.{Skip, Rule, Plug, Unplug, Schedule, Fail, Sweep}
+use Rattle.ug_script.specs.declared.step.Step.TheVariants.{Skip, Rule, Seed, Zone, Plug, Unplug, Schedule, Fail, Sweep}
 use Rattle.ug_script.specs.Grammar.{step_of_line}
-use Rattle.ug_script.specs.Replay.{Script, with_rule, header, fresh, quiet, bad, is_plain, has_place, with_devices, after_event, taken, taken_if, script_step}
+use Rattle.ug_script.specs.Replay.{Script, with_rule, header, fresh, quiet, bad, is_reject, has_place, with_seed, with_zone, is_offset, with_devices, after_event, taken, taken_if, script_step}
 use Rattle.ug_sysfs.specs.declared.script.Scheduled.{Scheduled}
 use Rattle.ug_script.specs.Schedule.{arranged}
 use Rattle.ug_script.specs.Laws.{event_of, Begins, faults_of, IsLawfulEvent, StaysLawful}
@@ -89,7 +89,7 @@ handled moment d w h =
 pub arranged_holds : (ss : List Standing) (next : ℕ) (ms : List Scheduled) (w : World) → Holds ss next w → Holds ss next (arranged ms w)
 arranged_holds ss next ms w h = record { told = h.told; sound = h.sound; stand = h.stand }
 
-pub swept_holds : (moment : Moment) (s : Script) (w : World) → Holds s.daemon.sweep.standings s.daemon.sweep.next w → HoldsAfter (after_event (event_of moment s w))
+pub swept_holds : (moment : Moment) (s : Script) (w : World) → Holds s.daemon.sweep.standings s.daemon.sweep.next w → HoldsAfter (after_event s (event_of moment s w))
 swept_holds moment s w h =
     let p = event_of moment s w in
     let law = handled moment s.daemon (arranged s.moves w) (arranged_holds s.daemon.sweep.standings s.daemon.sweep.next s.moves w h) in
@@ -105,7 +105,9 @@ when false o p x y = y
 
 pub taken_holds : (step : Step) (s : Script) (w : World) → HoldsIn (Some s, w) → HoldsAfter (taken step s w)
 taken_holds Skip s w h = h
-taken_holds (Rule rule) s w h = when (s.setup && (is_plain rule && has_place s.daemon)) (quiet (record s { daemon = with_rule rule s.daemon }) w) (bad s w) h h
+taken_holds (Rule rule) s w h = when (s.setup && (not (is_reject rule.target) && has_place s.daemon)) (quiet (record s { daemon = with_rule rule s.daemon }) w) (bad s w) h h
+taken_holds (Seed seed) s w h = when (s.setup && is_none s.seed) (quiet (record s { seed = Some seed; daemon = with_seed seed s.daemon }) w) (bad s w) h h
+taken_holds (Zone offset) s w h = when (s.setup && (not s.zoned && is_offset offset)) (quiet (record s { zoned = true; daemon = with_zone offset s.daemon }) w) (bad s w) h h
 taken_holds (Plug device) s w h = record {
   told = h.told;
   sound = plugged_sound device w.kernel h.sound;
@@ -118,7 +120,7 @@ taken_holds (Unplug name) s w h = record {
 }
 taken_holds (Schedule m) s w h = h
 taken_holds (Fail f) s w h = record { told = h.told; sound = h.sound; stand = h.stand }
-taken_holds (Sweep moment) s w h = when (has_numbers s.daemon w.faults 0) (after_event (event_of moment s w)) (bad s w) (swept_holds moment s w h) h
+taken_holds (Sweep moment) s w h = when (has_numbers s.daemon w.faults 0) (after_event s (event_of moment s w)) (bad s w) (swept_holds moment s w h) h
 
 taken_if_holds : (step : Option Step) (s : Script) (w : World) → HoldsIn (Some s, w) → HoldsAfter (taken_if step s w)
 taken_if_holds None s w h = h

@@ -60,10 +60,10 @@ journal p (line ∷ lines) = noted p line ++ journal (left_by (script_step p lin
 abbrev pub IsAmong : List Entry → Standing → Type 0
 IsAmong entries s = (cause : Cause) × Has entries (entry.Judged s.number s.name s.held s.verdict cause)
 
--- It is told that the number got that verdict. A policy, which is the first one after some verdicts, gave it on the record of the
+-- It is told, before something else, that the number got that verdict. A policy, which is the first one after some verdicts, gave it on the record of the
 -- very device of the held file, beside standings whose verdicts are told; and that device lived, since the first kernel, from the
 -- opening of that file to the probe that gave its value.
-pub record WasJudged (policy : Judging) (entries : List Entry) (first k : Kernel) (i number : ℕ) (name : List ℕ) (held : Held) (verdict : Target) : Type 0 where
+pub record WasJudged (policy : Judging) (before entries : List Entry) (first k : Kernel) (i number : ℕ) (name : List ℕ) (held : Held) (verdict : Target) : Type 0 where
   pub cause : Cause
   pub judged : Judged
   pub present : Bool
@@ -75,7 +75,7 @@ pub record WasJudged (policy : Judging) (entries : List Entry) (first k : Kernel
   pub standings : List Standing
   pub beside : (s : Standing) → Has standings s → IsAmong entries s
   pub given : IsVerdict judge (allowed_records standings) judged (is_none (parent_of name)) present on verdict cause
-  pub told : Has entries (entry.Judged number name held verdict cause)
+  pub told : Has before (entry.Judged number name held verdict cause)
 
 -- The effect is that of a write that is told. Before its intent it was told that the very device got that verdict from the
 -- rules, and the write is the one that the verdict wants.
@@ -90,7 +90,7 @@ pub record IsExplained (policy : Judging) (entries : List Entry) (first k : Kern
   pub at : entries ≡ before ++ (wrote_entries number name effect.write outcome ++ after)
   pub may : MayHave outcome
   pub wanted : effect.write ≡ write_of verdict
-  pub judged : WasJudged policy before first k effect.device number name held verdict
+  pub judged : WasJudged policy before entries first k effect.device number name held verdict
 
 -- each effect since the first kernel is explained
 pub record AllExplained (policy : Judging) (entries : List Entry) (first k : Kernel) : Type 0 where
@@ -112,7 +112,7 @@ Follow first (n ∷ ns) next = (n ≡ first) × Follow (first + 1) ns next
 -- the device was judged under the number of its standing and under no other, and stands as judged
 pub record IsJudgedOnce (policy : Judging) (entries : List Entry) (first k : Kernel) (standings : List Standing) (i : ℕ) : Type 0 where
   pub stands : IsAsJudged k standings i
-  pub judged : WasJudged policy entries first k i stands.standing.s.number stands.standing.s.name stands.standing.s.held stands.standing.s.verdict
+  pub judged : WasJudged policy entries entries first k i stands.standing.s.number stands.standing.s.name stands.standing.s.held stands.standing.s.verdict
   pub once : (number : ℕ) → IsJudged k entries number i → number ≡ stands.standing.s.number
 
 -- each device that is live at the end of an event of that moment was judged just once since the first kernel, and stands as judged

@@ -147,7 +147,8 @@ impl Running {
                 if !self.takes(&rule) {
                     return refuse(rule);
                 }
-                match self.daemon.policy.append(rule) {
+                let daemon = &mut self.daemon;
+                match daemon.policy.append(rule) {
                     Ok(()) => Ran::Done,
                     Err(_) => Ran::Memory,
                 }
@@ -157,7 +158,8 @@ impl Running {
                     return Ran::Bad;
                 }
                 self.seed = Some(seed);
-                self.daemon.policy.set_seed(seed);
+                let daemon = &mut self.daemon;
+                daemon.policy.set_seed(seed);
                 Ran::Done
             }
             Step::Zone(offset) => {
@@ -165,7 +167,8 @@ impl Running {
                     return Ran::Bad;
                 }
                 self.zoned = true;
-                self.daemon.policy.set_zone(zone_ahead(offset));
+                let daemon = &mut self.daemon;
+                daemon.policy.set_zone(zone_ahead(offset));
                 Ran::Done
             }
             Step::Plug(device) => {
