@@ -8,8 +8,10 @@ ghost use Rattle.ug_rule.specs.Grammar.{AllAttributes, Asks, IsConditions, IsQue
 ghost use Rattle.ug_rule.specs.Queries.{attributes_of};
 ghost use Rattle.ug_rule.specs.Rules.{rule_of, rule_read, whole_query, query_read};
 ghost use Rattle.ug_rule.specs.Values.{id_in, interface_in, string_in, value_of};
-ghost use Rattle.ug_rule.specs.WordGrammar.{IsId, IsInterface};
-ghost use Rattle.ug_rule.specs.Words.{id_of, interface_of};
+ghost use Rattle.ug_rule.specs.declared.words.Clock.{Clock};
+ghost use Rattle.ug_rule.specs.declared.words.DaySpan.{DaySpan};
+ghost use Rattle.ug_rule.specs.WordGrammar.{IsChance, IsId, IsInterface, IsPast, IsSpan, IsTime};
+ghost use Rattle.ug_rule.specs.Words.{chance_of, id_of, interface_of, past_of, span_of, time_of};
 
 use ug_types::{Conds, Id, Iface, Query, Rule, Values};
 
@@ -30,10 +32,15 @@ pub fn conditions_law()
     ensures { (line : List ℕ) (ending : Ending) (conds : Conds) (tokens rest : List Token) → (conditions_of line ending tokens ≡ Ok (conds, rest)) ↔ IsConditions line conds tokens rest }
 {}
 
-/// Words are read as ids and as interfaces exactly where their parts stand as usbguard-rules.conf(5) writes them.
+/// Words are read as ids, as interfaces, as times, as spans of the day, as pasts and as probabilities exactly where their
+/// parts stand as usbguard-rules.conf(5) writes them.
 pub fn words_law()
     ensures ids { (id : Id) (word : List ℕ) → (id_of word ≡ Some id) ↔ IsId id word }
     ensures interfaces { (iface : Iface) (word : List ℕ) → (interface_of word ≡ Some iface) ↔ IsInterface iface word }
+    ensures times { (most : ℕ) (time : Clock) (word : List ℕ) → (time_of most word ≡ Some time) ↔ IsTime most time word }
+    ensures spans { (span : DaySpan) (word : List ℕ) → (span_of word ≡ Some span) ↔ IsSpan span word }
+    ensures pasts { (n : ℕ) (word : List ℕ) → (past_of word ≡ Some n) ↔ IsPast n word }
+    ensures probabilities { (n : ℕ) (word : List ℕ) → (chance_of word ≡ Some n) ↔ IsChance n word }
 {}
 
 /// Tokens are read as a rule exactly where they are a target, a bare id or none, and parts in any order, and as a query
