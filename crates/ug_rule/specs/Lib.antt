@@ -1,6 +1,7 @@
 pub mod Conditions
 pub mod Faults
 pub mod Files
+pub mod FirstFault
 pub mod Grammar
 pub mod Keywords
 pub mod Queries

@@ -4,6 +4,7 @@ ghost use Rattle.ug_lex.specs.declared.token.Token.{Token};
 ghost use Rattle.ug_rule.specs.declared.fault.Ending.{Ending};
 ghost use Rattle.ug_rule.specs.declared.fault.Fault.{Fault};
 ghost use Rattle.ug_rule.specs.Conditions.{conditions_of};
+ghost use Rattle.ug_rule.specs.FirstFault.{AreQuery, AreRule, FaultAt};
 ghost use Rattle.ug_rule.specs.Grammar.{AllAttributes, Asks, IsConditions, IsQuery, IsRule, IsValue, Says, WellFormed};
 ghost use Rattle.ug_rule.specs.Queries.{attributes_of};
 ghost use Rattle.ug_rule.specs.Rules.{rule_of, rule_read, whole_query, query_read};
@@ -55,6 +56,13 @@ pub fn lines_law()
     ensures rules { (line : List ℕ) (rule : Rule) → (rule_read line ≡ Ok rule) ↔ Says line rule }
     ensures queries { (line : List ℕ) (query : Query) → (query_read line ≡ Ok query) ↔ Asks line query }
     ensures well_formed { (rule : Rule) → WellFormed rule ↔ ((line : List ℕ) × (rule_read line ≡ Ok rule)) }
+{}
+
+/// A line that is no rule has its fault at the first token with which the tokens so far go on to no rule, or where it ends
+/// too early, at its outermost open brace or else at its length. Faults of tokens come first. So it is with queries.
+pub fn first_fault_law()
+    ensures rules { (line : List ℕ) (place : ℕ) → ((fault : Fault) × (rule_read line ≡ Err fault) × (fault.place ≡ place)) ↔ FaultAt AreRule line place }
+    ensures queries { (line : List ℕ) (place : ℕ) → ((fault : Fault) × (query_read line ≡ Err fault) × (fault.place ≡ place)) ↔ FaultAt AreQuery line place }
 {}
 
 /// A line is one rule, or has one first fault, and never both. So it is with queries.
