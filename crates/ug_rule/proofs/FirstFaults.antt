@@ -2,25 +2,32 @@
 use Rattle.std.proofs.Common.{◌≡◌, ℕ, ◌≤◌, inl, inr, List, [], ◌∷◌, ◌++◌, length, take, Some, None, Result, Ok, Err, refl, sym, ap, subst, ◌∙◌, append_assoc, arith}
 use Rattle.std.proofs.Math.Seq.{take-take}
 use Rattle.std.proofs.lemmas.List.{append-nil}
-use Rattle.ug_lex.proofs.Meaning.{good_read, read_good, bad_read, read_bad, in_order, same_list, same_fault, not_both}
+use Rattle.ug_lex.proofs.Meaning.{good_read, read_good, bad_read, read_bad, in_order, same_list, not_both}
 use Rattle.ug_lex.specs.Grammar.{Good, InOrder}
 use Rattle.ug_lex.specs.Lexing as lexing
 use Rattle.ug_lex.specs.Lexing.{Lexed, tokens_of}
 use Rattle.ug_lex.specs.declared.token.Token.{Token}
 use Rattle.ug_rule.specs.declared.fault.Fault.{Fault}
 use Rattle.ug_rule.specs.declared.fault.FaultKind.{FaultKind}
-use Rattle.ug_rule.specs.declared.fault.FaultKind.TheVariants.{BadEscape, OpenString, BadByte}
-use Rattle.ug_rule.specs.Faults.{on_ok}
-use Rattle.ug_rule.specs.FirstFault.{AreRule, AreQuery, end_behind, BeginsSome, IsStray, place_at_end, open_braces, EndsEarly, lexical_place, FaultAt, Lexical, Stray, Early}
+use Rattle.ug_rule.specs.Faults.{fault_at, on_ok}
+use Rattle.ug_rule.specs.FaultKinds.{rule_stray_kind, query_stray_kind, rule_early_kind, query_early_kind}
+use Rattle.ug_rule.specs.FirstFault.{AreRule, AreQuery, end_behind, BeginsSome, IsStray, place_at_end, open_braces, EndsEarly, lexical_fault, FirstFault, Lexical, Stray, Early}
 use Rattle.ug_rule.specs.Rules.{rule_of, whole_query}
 use Rattle.ug_rule.specs.Tokens.{word_of, read_by, tokens_read}
 use Rattle.ug_rule.proofs.Completions.{ending, leads}
+use Rattle.ug_rule.proofs.ContextKinds.{rule_strays, query_strays, rule_ends_early, query_ends_early}
 use Rattle.ug_rule.proofs.Fillers.{Filled, filled}
-use Rattle.ug_rule.proofs.Machine.{Alone, State, End, Start, Front, Step, step, onward, run, braces}
+use Rattle.ug_rule.proofs.Machine.{Alone, State, End, Start, Front, Step, step, onward, run, finish, braces}
 use Rattle.ug_rule.proofs.MachineRules.{outcome, rule_run, whole_run}
 use Rattle.ug_rule.proofs.MachineRuns.{to_next, reach, run_behind, Ends, run_ends, SameWords, same_reach, order_front, same_words}
 use Rattle.ug_rule.proofs.OpenBraces.{finish_place, reach_braces}
 use Rattle.ug_rule.proofs.RuleCuts.{rule_cut, rule_reads, whole_cut, whole_reads}
+
+abbrev Stray_kind : Type 0
+Stray_kind = List ℕ → List Token → Token → FaultKind
+
+abbrev Early_kind : Type 0
+Early_kind = List ℕ → List Token → FaultKind
 
 -- what reads tokens as the machine does from a state on, and gives what is wanted
 pub record Reading {X : Type 0} (Are : List ℕ → List Token → Type 0) (of : List ℕ → List Token → Result X Fault) (from : State) : Type 0 where
@@ -28,6 +35,11 @@ pub record Reading {X : Type 0} (Are : List ℕ → List Token → Type 0) (of :
   pub good : (line : List ℕ) (tokens : List Token) (x : X) → of line tokens ≡ Ok x → Are line tokens
   pub reads : (line : List ℕ) (tokens : List Token) → Are line tokens → (x : X) × (of line tokens ≡ Ok x)
   pub none : braces from ≡ []
+
+-- what is wrong where the machine stops
+pub record Kinds (stray : Stray_kind) (early : Early_kind) (from : State) : Type 0 where
+  pub strays : (line : List ℕ) (before : List Token) (token : Token) (state : State) (kind : FaultKind) → reach line from before ≡ Some state → step state (word_of line token) token.kind token.start ≡ Err kind → kind ≡ stray line before token
+  pub lacks : (line : List ℕ) (tokens : List Token) (state : State) (fault : Fault) → reach line from tokens ≡ Some state → finish line state ≡ Some fault → fault.kind ≡ early line tokens
 
 wanted : {X : Type 0} (Are : List ℕ → List Token → Type 0) (of : List ℕ → List Token → Result X Fault) (from : State) → Reading Are of from → (line : List ℕ) (tokens : List Token) → run line from tokens ≡ None → Are line tokens
 wanted {X} Are of from r line tokens h = by (of line tokens) refl (sym (r.runs line tokens) ∙ h)
@@ -115,20 +127,24 @@ stuck Are of from r line before token state kind h e b =
 
 -- ---- the fault that is found
 
-found : {X : Type 0} (Are : List ℕ → List Token → Type 0) (of : List ℕ → List Token → Result X Fault) (from : State) → Reading Are of from → (line : List ℕ) (tokens : List Token) (fault : Fault) → Good line tokens → Ends line from tokens fault → FaultAt Are line fault.place
-found Are of from r line tokens fault g (inl s) = Stray tokens g (record {
+as_told : (fault : Fault) (kind : FaultKind) (place : ℕ) → fault.kind ≡ kind → fault.place ≡ place → fault ≡ fault_at kind place
+as_told fault kind place k p = ap (λ kind. fault_at kind fault.place) k ∙ ap (fault_at kind) p
+
+found : {X : Type 0} (Are : List ℕ → List Token → Type 0) (of : List ℕ → List Token → Result X Fault) (stray : Stray_kind) (early : Early_kind) (from : State) → Reading Are of from → Kinds stray early from → (line : List ℕ) (tokens : List Token) (fault : Fault) → Good line tokens → Ends line from tokens fault → FirstFault Are stray early line fault
+found Are of stray early from r k line tokens fault g (inl s) = Stray tokens fault g (record {
   before = s.before;
   token = s.token;
   behind = s.behind;
   cut = s.cut;
   good = begins Are of from r line s.before (s.token ∷ s.behind) s.state (subst (Good line) s.cut g) s.reached;
   bad = stuck Are of from r line s.before s.token s.state s.kind s.reached s.stuck;
-  is = ap (λ f. f.place) s.is;
+  is = s.is ∙ ap (λ kind. fault_at kind s.token.start) (k.strays line s.before s.token s.state s.kind s.reached s.stuck);
 })
-found Are of from r line tokens fault g (inr l) = Early tokens g (record {
+found Are of stray early from r k line tokens fault g (inr l) = Early tokens fault g (record {
   good = begins Are of from r line tokens [] l.state (subst (Good line) (sym (append-nil tokens)) g) l.reached;
   bad = λ a. lacks (sym (run_behind line tokens [] from l.state l.reached) ∙ (ap (run line from) (append-nil tokens) ∙ runs_out Are of from r line tokens a)) l.lacks;
-  is = finish_place line l.state fault l.lacks ∙ ap (place_at_end (length line)) (reach_braces line tokens from l.state l.reached ∙ ap (λ p. open_braces p tokens) r.none);
+  is = as_told fault (early line tokens) (place_at_end (length line) (open_braces [] tokens)) (k.lacks line tokens l.state fault l.reached l.lacks)
+      (finish_place line l.state fault l.lacks ∙ ap (place_at_end (length line)) (reach_braces line tokens from l.state l.reached ∙ ap (λ p. open_braces p tokens) r.none));
 })
   where
     lacks : run line l.state [] ≡ None → run line l.state [] ≡ Some fault → ⊥
@@ -138,12 +154,12 @@ found Are of from r line tokens fault g (inr l) = Early tokens g (record {
 
 -- two tokens of a list: the same, or one before the other
 data Order (before : List Token) (token : Token) (first : List Token) (other : Token) : Type 0 where
-  Same : token ≡ other → Order before token first other
+  Same : before ≡ first → token ≡ other → Order before token first other
   Later : (more : List Token) → before ≡ (first ++ other ∷ []) ++ more → Order before token first other
   Sooner : (more : List Token) → first ≡ (before ++ token ∷ []) ++ more → Order before token first other
 
 order : (before behind : List Token) (token : Token) (first last : List Token) (other : Token) → before ++ token ∷ behind ≡ first ++ other ∷ last → Order before token first other
-order [] behind token [] last other h = Same (let e : token ≡ other = cc in e)
+order [] behind token [] last other h = Same refl (let e : token ≡ other = cc in e)
 order [] behind token (next ∷ first) last other h = Sooner first (let e : token ≡ next = cc in ap (λ t. t ∷ first) (sym e))
 order (next ∷ before) behind token [] last other h = Later before (let e : next ≡ other = cc in ap (λ t. t ∷ before) e)
 order (next ∷ before) behind token (head ∷ first) last other h =
@@ -151,7 +167,7 @@ order (next ∷ before) behind token (head ∷ first) last other h =
     let k : before ++ token ∷ behind ≡ first ++ other ∷ last = cc in
     let T : Order before token first other → Type 0 = λ o. Order (next ∷ before) token (head ∷ first) other in
     elim (order before behind token first last other k) as T [
-      | Same s ↦ Same s
+      | Same b s ↦ Same (ap (λ t. t ∷ before) e ∙ ap (λ l. head ∷ l) b) s
       | Later more s ↦ Later more (ap (λ t. t ∷ before) e ∙ ap (λ l. head ∷ l) s)
       | Sooner more s ↦ Sooner more (ap (λ t. t ∷ first) (sym e) ∙ ap (λ l. next ∷ l) s)
     ]
@@ -162,69 +178,65 @@ longer_begins Are line tokens before more token e b = shorter Are line (before +
 moved : (before behind : List Token) (token : Token) → before ++ token ∷ behind ≡ (before ++ token ∷ []) ++ behind
 moved before behind token = sym (append_assoc before (token ∷ []) behind)
 
-strays : (Are : List ℕ → List Token → Type 0) (line : List ℕ) (tokens : List Token) (a b : ℕ) → IsStray Are line tokens a → IsStray Are line tokens b → a ≡ b
-strays Are line tokens a b s t = elim (order s.before s.behind s.token t.before t.behind t.token (sym s.cut ∙ t.cut)) [
-  | Same e ↦ s.is ∙ (ap (λ t. t.start) e ∙ sym t.is)
+strays : (Are : List ℕ → List Token → Type 0) (stray : Stray_kind) (line : List ℕ) (tokens : List Token) (a b : Fault) → IsStray Are stray line tokens a → IsStray Are stray line tokens b → a ≡ b
+strays Are stray line tokens a b s t = elim (order s.before s.behind s.token t.before t.behind t.token (sym s.cut ∙ t.cut)) [
+  | Same before token ↦ s.is ∙ (ap (λ l. fault_at (stray line l s.token) s.token.start) before ∙ (ap (λ k. fault_at (stray line t.before k) k.start) token ∙ sym t.is))
   | Later more e ↦ absurd (t.bad (longer_begins Are line s.before t.before more t.token e s.good))
   | Sooner more e ↦ absurd (s.bad (longer_begins Are line t.before s.before more s.token e t.good))
 ]
 
-stray_early : (Are : List ℕ → List Token → Type 0) (line : List ℕ) (tokens : List Token) (a b : ℕ) → IsStray Are line tokens a → EndsEarly Are line tokens b → ⊥
-stray_early Are line tokens a b s e = s.bad (longer_begins Are line tokens s.before s.behind s.token (s.cut ∙ moved s.before s.behind s.token) e.good)
+stray_early : (Are : List ℕ → List Token → Type 0) (stray : Stray_kind) (early : Early_kind) (line : List ℕ) (tokens : List Token) (a b : Fault) → IsStray Are stray line tokens a → EndsEarly Are early line tokens b → ⊥
+stray_early Are stray early line tokens a b s e = s.bad (longer_begins Are line tokens s.before s.behind s.token (s.cut ∙ moved s.before s.behind s.token) e.good)
 
--- a line has one place of a fault
-unique : (Are : List ℕ → List Token → Type 0) (line : List ℕ) (a b : ℕ) → FaultAt Are line a → FaultAt Are line b → a ≡ b
-unique Are line a b (Lexical f g e) (Lexical h k i) = e ∙ (ap lexical_place (same_fault line f h g k) ∙ sym i)
-unique Are line a b (Lexical f g e) (Stray tokens k s) = absurd (not_both line tokens f k g)
-unique Are line a b (Lexical f g e) (Early tokens k s) = absurd (not_both line tokens f k g)
-unique Are line a b (Stray tokens g s) (Lexical h k i) = absurd (not_both line tokens h g k)
-unique Are line a b (Early tokens g s) (Lexical h k i) = absurd (not_both line tokens h g k)
-unique Are line a b (Stray tokens g s) (Stray others k t) = strays Are line others a b (subst (λ l. IsStray Are line l a) (same_list line tokens others g k) s) t
-unique Are line a b (Stray tokens g s) (Early others k t) = absurd (stray_early Are line others a b (subst (λ l. IsStray Are line l a) (same_list line tokens others g k) s) t)
-unique Are line a b (Early tokens g s) (Stray others k t) = absurd (stray_early Are line tokens b a (subst (λ l. IsStray Are line l b) (same_list line others tokens k g) t) s)
-unique Are line a b (Early tokens g s) (Early others k t) = s.is ∙ (ap (λ l. place_at_end (length line) (open_braces [] l)) (same_list line tokens others g k) ∙ sym t.is)
+-- where a line's tokens are good, its fault is one
+one_fault : (Are : List ℕ → List Token → Type 0) (stray : Stray_kind) (early : Early_kind) (line : List ℕ) (tokens : List Token) (a b : Fault) → Good line tokens → FirstFault Are stray early line a → FirstFault Are stray early line b → a ≡ b
+one_fault Are stray early line tokens a b g (Lexical bad h) y = absurd (not_both line tokens bad g h)
+one_fault Are stray early line tokens a b g (Stray others f h s) (Lexical bad k) = absurd (not_both line tokens bad g k)
+one_fault Are stray early line tokens a b g (Early others f h s) (Lexical bad k) = absurd (not_both line tokens bad g k)
+one_fault Are stray early line tokens a b g (Stray x f h s) (Stray y e k t) = strays Are stray line y a b (subst (λ l. IsStray Are stray line l a) (same_list line x y h k) s) t
+one_fault Are stray early line tokens a b g (Stray x f h s) (Early y e k t) = absurd (stray_early Are stray early line y a b (subst (λ l. IsStray Are stray line l a) (same_list line x y h k) s) t)
+one_fault Are stray early line tokens a b g (Early x f h s) (Stray y e k t) = absurd (stray_early Are stray early line x b a (subst (λ l. IsStray Are stray line l b) (same_list line y x k h) t) s)
+one_fault Are stray early line tokens a b g (Early x f h s) (Early y e k t) = s.is ∙ (ap (λ l. fault_at (early line l) (place_at_end (length line) (open_braces [] l))) (same_list line x y h k) ∙ sym t.is)
 
 -- ---- lines
 
-lexical_found : {X : Type 0} (fault : lexing.Fault) (next : List Token → Result X Fault) → (found : Fault) × (on_ok (read_by (Err fault)) next ≡ Err found) × (found.place ≡ lexical_place fault)
-lexical_found (lexing.BadEscape place) next = (record { kind = BadEscape; place = place }, refl, refl)
-lexical_found (lexing.OpenString place) next = (record { kind = OpenString; place = place }, refl, refl)
-lexical_found (lexing.BadByte place) next = (record { kind = BadByte; place = place }, refl, refl)
+lexical_found : {X : Type 0} (fault : lexing.Fault) (next : List Token → Result X Fault) → on_ok (read_by (Err fault)) next ≡ Err (lexical_fault fault)
+lexical_found (lexing.BadEscape place) next = refl
+lexical_found (lexing.OpenString place) next = refl
+lexical_found (lexing.BadByte place) next = refl
 
-token_found : {X : Type 0} (Are : List ℕ → List Token → Type 0) (of : List ℕ → List Token → Result X Fault) (from : State) → Reading Are of from → (line : List ℕ) (tokens : List Token) (fault : Fault) → Good line tokens → of line tokens ≡ Err fault → FaultAt Are line fault.place
-token_found Are of from r line tokens fault g h = found Are of from r line tokens fault g (run_ends line from tokens fault (r.runs line tokens ∙ ap outcome h))
+token_found : {X : Type 0} (Are : List ℕ → List Token → Type 0) (of : List ℕ → List Token → Result X Fault) (stray : Stray_kind) (early : Early_kind) (from : State) → Reading Are of from → Kinds stray early from → (line : List ℕ) (tokens : List Token) (fault : Fault) → Good line tokens → of line tokens ≡ Err fault → FirstFault Are stray early line fault
+token_found Are of stray early from r k line tokens fault g h = found Are of stray early from r k line tokens fault g (run_ends line from tokens fault (r.runs line tokens ∙ ap outcome h))
 
-pub fault_found : {X : Type 0} (Are : List ℕ → List Token → Type 0) (of : List ℕ → List Token → Result X Fault) (from : State) → Reading Are of from → (line : List ℕ) (place : ℕ) → (fault : Fault) × (on_ok (tokens_read line) (of line) ≡ Err fault) × (fault.place ≡ place) → FaultAt Are line place
-fault_found {X} Are of from r line place f = subst (FaultAt Are line) f.2 (by (tokens_of line) refl f.1)
+pub fault_found : {X : Type 0} (Are : List ℕ → List Token → Type 0) (of : List ℕ → List Token → Result X Fault) (stray : Stray_kind) (early : Early_kind) (from : State) → Reading Are of from → Kinds stray early from → (line : List ℕ) (fault : Fault) → on_ok (tokens_read line) (of line) ≡ Err fault → FirstFault Are stray early line fault
+fault_found {X} Are of stray early from r k line fault h = by (tokens_of line) refl h
   where
-    lexical : (bad : lexing.Fault) → tokens_of line ≡ Err bad → (found : Fault) × (on_ok (read_by (Err bad)) (of line) ≡ Err found) × (found.place ≡ lexical_place bad) → on_ok (read_by (Err bad)) (of line) ≡ Err f.0 → FaultAt Are line f.0.place
-    lexical bad e l h =
-        let same : l.0 ≡ f.0 = cc in
-        Lexical bad (read_bad line bad e) (ap (λ f. f.place) (sym same) ∙ l.2)
+    by : (read : Lexed) → tokens_of line ≡ read → on_ok (read_by read) (of line) ≡ Err fault → FirstFault Are stray early line fault
+    by (Ok tokens) e h = token_found Are of stray early from r k line tokens fault (read_good line tokens e) h
+    by (Err bad) e h =
+        let same : ◌≡◌ {A = Result X Fault} (Err (lexical_fault bad)) (Err fault) = sym (lexical_found bad (of line)) ∙ h in
+        let s : lexical_fault bad ≡ fault = cc in
+        subst (FirstFault Are stray early line) s (Lexical bad (read_bad line bad e))
 
-    by : (read : Lexed) → tokens_of line ≡ read → on_ok (read_by read) (of line) ≡ Err f.0 → FaultAt Are line f.0.place
-    by (Ok tokens) e h = token_found Are of from r line tokens f.0 (read_good line tokens e) h
-    by (Err bad) e h = lexical bad e (lexical_found bad (of line)) h
-
-good_told : {X : Type 0} (Are : List ℕ → List Token → Type 0) (of : List ℕ → List Token → Result X Fault) (from : State) → Reading Are of from → (line : List ℕ) (tokens : List Token) (place : ℕ) → Good line tokens → FaultAt Are line place → (Are line tokens → ⊥) → (fault : Fault) × (on_ok (tokens_read line) (of line) ≡ Err fault) × (fault.place ≡ place)
-good_told {X} Are of from r line tokens place g at bad = by (of line tokens) refl
+good_told : {X : Type 0} (Are : List ℕ → List Token → Type 0) (of : List ℕ → List Token → Result X Fault) (stray : Stray_kind) (early : Early_kind) (from : State) → Reading Are of from → Kinds stray early from → (line : List ℕ) (tokens : List Token) (fault : Fault) → Good line tokens → FirstFault Are stray early line fault → (Are line tokens → ⊥) → on_ok (tokens_read line) (of line) ≡ Err fault
+good_told {X} Are of stray early from r k line tokens fault g at bad = by (of line tokens) refl
   where
-    by : (o : Result X Fault) → of line tokens ≡ o → (fault : Fault) × (on_ok (tokens_read line) (of line) ≡ Err fault) × (fault.place ≡ place)
+    by : (o : Result X Fault) → of line tokens ≡ o → on_ok (tokens_read line) (of line) ≡ Err fault
     by (Ok x) e = absurd (bad (r.good line tokens x e))
-    by (Err fault) e = (fault, ap (λ t. on_ok (read_by t) (of line)) (good_read line tokens g) ∙ e, unique Are line fault.place place (token_found Are of from r line tokens fault g e) at)
+    by (Err other) e =
+        let same : other ≡ fault = one_fault Are stray early line tokens other fault g (token_found Are of stray early from r k line tokens other g e) at in
+        ap (λ t. on_ok (read_by t) (of line)) (good_read line tokens g) ∙ (e ∙ ap (λ f. Err f) same)
 
 itself : (Are : List ℕ → List Token → Type 0) (line : List ℕ) (tokens : List Token) → Good line tokens → Are line tokens → BeginsSome Are line tokens
 itself Are line tokens g a =
     let e : tokens ≡ tokens ++ [] = sym (append-nil tokens) in
     record { other = line; more = []; same = refl; cut = subst (Good line) e g; are = subst (Are line) e a }
 
-pub fault_told : {X : Type 0} (Are : List ℕ → List Token → Type 0) (of : List ℕ → List Token → Result X Fault) (from : State) → Reading Are of from → (line : List ℕ) (place : ℕ) → FaultAt Are line place → (fault : Fault) × (on_ok (tokens_read line) (of line) ≡ Err fault) × (fault.place ≡ place)
-fault_told Are of from r line place (Lexical bad b e) =
-    let l = lexical_found bad (of line) in
-    (l.0, ap (λ t. on_ok (read_by t) (of line)) (bad_read line bad b) ∙ l.1, l.2 ∙ sym e)
-fault_told Are of from r line place (Stray tokens g s) =
-    good_told Are of from r line tokens place g (Stray tokens g s) (λ a. s.bad (longer_begins Are line tokens s.before s.behind s.token (s.cut ∙ moved s.before s.behind s.token) (itself Are line tokens g a)))
-fault_told Are of from r line place (Early tokens g e) = good_told Are of from r line tokens place g (Early tokens g e) e.bad
+pub fault_told : {X : Type 0} (Are : List ℕ → List Token → Type 0) (of : List ℕ → List Token → Result X Fault) (stray : Stray_kind) (early : Early_kind) (from : State) → Reading Are of from → Kinds stray early from → (line : List ℕ) (fault : Fault) → FirstFault Are stray early line fault → on_ok (tokens_read line) (of line) ≡ Err fault
+fault_told Are of stray early from r k line fault (Lexical bad b) = ap (λ t. on_ok (read_by t) (of line)) (bad_read line bad b) ∙ lexical_found bad (of line)
+fault_told Are of stray early from r k line fault (Stray tokens f g s) =
+    good_told Are of stray early from r k line tokens fault g (Stray tokens fault g s) (λ a. s.bad (longer_begins Are line tokens s.before s.behind s.token (s.cut ∙ moved s.before s.behind s.token) (itself Are line tokens g a)))
+fault_told Are of stray early from r k line fault (Early tokens f g e) = good_told Are of stray early from r k line tokens fault g (Early tokens fault g e) e.bad
 
 -- ---- rules and queries
 
@@ -236,6 +248,9 @@ rule_reading = record {
   none = refl;
 }
 
+pub rule_kinds : Kinds rule_stray_kind rule_early_kind Start
+rule_kinds = record { strays = rule_strays; lacks = rule_ends_early }
+
 pub query_reading : Reading AreQuery whole_query (Front Alone End)
 query_reading = record {
   runs = whole_run;
@@ -243,3 +258,6 @@ query_reading = record {
   reads = λ line tokens a. (a.0, whole_reads line a.0 tokens a.1);
   none = refl;
 }
+
+pub query_kinds : Kinds query_stray_kind query_early_kind (Front Alone End)
+query_kinds = record { strays = query_strays; lacks = query_ends_early }

@@ -2,7 +2,6 @@
 use Rattle.std.proofs.Common.{◌≡◌, ℕ, zero, suc, ◌≤◌, Bool, true, false, List, [], ◌∷◌, ◌++◌, length, Option, Some, None, Result, Ok, Err, is_some, refl, sym, ap, ◌∙◌, arith}
 use Rattle.ug_lex.specs.declared.token.Token.{Token}
 use Rattle.ug_types.specs.declared.rule.Cond.{Cond}
-use Rattle.ug_types.specs.declared.rule.CondKind.{CondKind}
 use Rattle.ug_types.specs.declared.rule.CondKind.TheVariants as kind
 use Rattle.ug_types.specs.declared.rule.Op.{Op}
 use Rattle.ug_types.specs.declared.rule.Op.TheVariants.{Equals}
@@ -17,7 +16,7 @@ use Rattle.ug_rule.specs.Keywords.{operator_of, attribute_of, condition_of}
 use Rattle.ug_rule.specs.Queries.{is_blank, query_of}
 use Rattle.ug_rule.specs.Tokens.{word_of, first_word, is_open, is_close, is_paren_open, is_paren_close, is_bang}
 use Rattle.ug_rule.specs.Words.{span_of, past_of, chance_of}
-use Rattle.ug_rule.proofs.ConditionCuts.{Reads, condition_cut, condition_reads}
+use Rattle.ug_rule.proofs.ConditionCuts.{of_kind, Reads, condition_cut, condition_reads}
 use Rattle.ug_rule.proofs.Machine.{given_in, is_nothing, Argument, Time, Past, Chance, says, InQuery, State, Front, Parts, AfterIf, CondBrace, CondItems, Opening, Inner, May, Matches, behind_condition, named, condition, ending_in, onward, run}
 use Rattle.ug_rule.proofs.MachineAttributes.{same_blank, stray_is, query_run}
 use Rattle.ug_rule.proofs.MachineValues.{resume, resume_on, any, any_more}
@@ -107,9 +106,6 @@ kind_run name.RuleEvaluated line next tokens = perhaps_run past_of Past line nex
 kind_run name.Random line next tokens = perhaps_run chance_of Chance line next tokens (λ w. refl) ∙ sym (resume_on (perhaps_of chance_of line (ending_in line next) tokens) (λ x. kind.Random (chance_or_half x)) (λ k rest. run line next rest))
 kind_run name.True line next tokens = refl
 kind_run name.False line next tokens = refl
-
-abbrev of_kind : Bool → CondKind → Cond
-of_kind negated kind = record { negated = negated; kind = kind }
 
 named_run : (line : List ℕ) (negated : Bool) (next : State) (token : Token) (tokens : List Token) → onward (named (condition_of (word_of line token)) next) token.start (λ s. run line s tokens) ≡ resume (named_of line (ending_in line next) negated token tokens) (λ c rest. run line next rest)
 unfolding named_of

@@ -3,7 +3,6 @@ use Rattle.std.proofs.Common.{◌≡◌, ℕ, Bool, true, false, List, [], ◌�
 use Rattle.ug_lex.specs.declared.token.Token.{Token}
 use Rattle.ug_types.specs.declared.rule.Conds.{Conds}
 use Rattle.ug_types.specs.declared.rule.Query.{Query}
-use Rattle.ug_types.specs.declared.rule.Rule.{Rule}
 use Rattle.ug_types.specs.declared.verdict.Target.{Target}
 use Rattle.ug_rule.specs.declared.fault.Fault.{Fault}
 use Rattle.ug_rule.specs.declared.fault.FaultKind.TheVariants.{UnknownWord, Repeated, ConditionInQuery, TrailingToken}
@@ -20,14 +19,12 @@ use Rattle.ug_rule.proofs.MachineAttributes.{same_blank, stray_is, attributes_ru
 use Rattle.ug_rule.proofs.MachineConditions.{conditions_run}
 use Rattle.ug_rule.proofs.MachineValues.{resume}
 use Rattle.ug_rule.proofs.QueryCuts.{query_cut}
+use Rattle.ug_rule.proofs.RuleCuts.{rule_with}
 
 -- the fault of a reading to the line's end
 abbrev pub outcome : {X : Type 0} → Result X Fault → Option Fault
 outcome (Ok x) = None
 outcome (Err fault) = Some fault
-
-abbrev rule_with : Target → Query → Option Conds → Rule
-rule_with target query conds = record { target = target; query = query; conds = conds }
 
 -- no attribute stands behind attributes
 no_more : (line : List ℕ) (query all : Query) (tokens rest : List Token) → attributes_of line (end_of line) query tokens ≡ Ok (all, rest) → attribute_of (first_word line rest) ≡ None

@@ -1,5 +1,5 @@
 -- Runs of the machine, token by token, and on lines with the same words.
-use Rattle.std.proofs.Common.{◌≡◌, ℕ, inl, inr, ◌⊎◌, ◌+◌, ◌-◌, ◌<◌, ◌≤◌, List, [], ◌∷◌, ◌++◌, take, drop, Option, Some, None, Ok, Err, refl, sym, ap, ◌∙◌, arith}
+use Rattle.std.proofs.Common.{◌≡◌, ℕ, inl, inr, ◌⊎◌, ◌+◌, ◌-◌, ◌<◌, ◌≤◌, List, [], ◌∷◌, ◌++◌, take, drop, Option, Some, None, Ok, Err, refl, sym, ap, ◌∙◌, arith, Bool, true, false, subst, if◌then◌else◌}
 use Rattle.std.proofs.Math.Seq.{take-take}
 use Rattle.std.proofs.lemmas.List.{drop-take}
 use Rattle.std.specs.List.{AllByRecursion}
@@ -84,6 +84,20 @@ run_ends line from (token ∷ tokens) fault h =
           inl (record { before = []; token = token; behind = tokens; state = from; kind = kind; cut = refl; reached = refl; stuck = e; is = sym same })
     ] in
     f (step from (word_of line token) token.kind token.start) refl h
+
+-- what holds of the state to which a step leads
+abbrev pub After : (State → Type 0) → Step → Type 0
+After P r = (next : State) → r ≡ Ok next → P next
+
+pub after_ok : (P : State → Type 0) (state : State) → P state → After P (Ok state)
+after_ok P state p next h = let s : state ≡ next = cc in subst P s p
+
+pub after_err : (P : State → Type 0) (kind : FaultKind) → After P (Err kind)
+after_err P kind next h = let none : ⊥ = cc in absurd none
+
+pub after_if : (P : State → Type 0) (b : Bool) (p q : Step) → (b ≡ true → After P p) → (b ≡ false → After P q) → After P (if b then p else q)
+after_if P true p q f g = f refl
+after_if P false p q f g = g refl
 
 -- ---- lines with the same words
 

@@ -1,5 +1,5 @@
 -- The braces that are open in a state are those that its tokens leave open.
-use Rattle.std.proofs.Common.{◌≡◌, ℕ, inl, inr, Bool, true, false, List, [], ◌∷◌, length, Option, Some, None, Ok, Err, is_some, refl, sym, ap, ◌∙◌, if◌then◌else◌}
+use Rattle.std.proofs.Common.{◌≡◌, ℕ, inl, inr, Bool, true, false, List, [], ◌∷◌, length, Option, Some, None, Ok, Err, is_some, refl, sym, ap, ◌∙◌}
 use Rattle.ug_lex.specs.declared.token.Token.{Token}
 use Rattle.ug_lex.specs.declared.token.TokenKind.{TokenKind}
 use Rattle.ug_lex.specs.declared.token.TokenKind.TheVariants.{Word, Str, Open, Close, ParenOpen, ParenClose, Bang}
@@ -20,7 +20,8 @@ use Rattle.ug_rule.specs.Tokens.{word_by, word_of, is_open, is_close, is_paren_o
 use Rattle.ug_rule.specs.Words.{id_of, interface_of, span_of, time_of, minute_of, past_of, number_of, chance_of, two_stars, zero_point}
 use Rattle.ug_rule.proofs.Cases.{by_test}
 use Rattle.ug_rule.proofs.Machine.{Given, nothing, is_nothing, has, put, Shape, Ids, Interfaces, Strings, fits, Argument, Time, Past, Chance, says, Where, BeforeIf, BehindIf, InQuery, Alone, State, End, Start, Front, Parts, Value, Brace, Items, Text, AfterIf, CondBrace, CondItems, Negated, Opening, Inner, Closing, May, Matches, Step, behind_name, behind_condition, other_part, part, value, named, condition, conditions, targeted, step, braces, bottom, ending_in, parts_end, finish}
-use Rattle.ug_rule.proofs.MachineRuns.{to_next, reach}
+use Rattle.ug_rule.proofs.MachineRuns.{to_next, reach, After, after_ok, after_err, after_if}
+use Rattle.ug_rule.proofs.Marks.{only_word, opening_brace, closing_brace, opening_paren, closing_paren, bang_kind}
 
 -- ---- at the end of a line
 
@@ -71,15 +72,8 @@ finish_place line (Matches next) fault h = lacks_place _ line (braces next) faul
 abbrev IsPlain : TokenKind → ℕ → List ℕ → Type 0
 IsPlain kind start places = braces_behind kind start places ≡ places
 
--- a test that no bytes pass is passed by words alone
 plain_word : (test : List ℕ → Bool) → test [] ≡ false → (line : List ℕ) (kind : TokenKind) (start end : ℕ) (places : List ℕ) → test (word_by line kind start end) ≡ true → IsPlain kind start places
-plain_word test n line Word start end places h = refl
-plain_word test n line (Str text) start end places h = refl
-plain_word test n line Open start end places h = let none : ⊥ = cc in absurd none
-plain_word test n line Close start end places h = let none : ⊥ = cc in absurd none
-plain_word test n line ParenOpen start end places h = refl
-plain_word test n line ParenClose start end places h = refl
-plain_word test n line Bang start end places h = refl
+plain_word test n line kind start end places h = ap (λ k. braces_behind k start places) (only_word test n line kind start end h)
 
 plain_fits : (shape : Shape) (line : List ℕ) (kind : TokenKind) (start end : ℕ) (places : List ℕ) → fits shape (word_by line kind start end) kind ≡ true → IsPlain kind start places
 unfolding id_of interface_of two_stars
@@ -120,64 +114,27 @@ unfolding target_of
 plain_target line kind start end places target h = plain_word (λ w. is_some (target_of w)) refl line kind start end places (ap is_some h)
 
 plain_paren_open : (kind : TokenKind) (start : ℕ) (places : List ℕ) → is_paren_open kind ≡ true → IsPlain kind start places
-plain_paren_open Word start places h = refl
-plain_paren_open (Str text) start places h = refl
-plain_paren_open Open start places h = let none : ⊥ = cc in absurd none
-plain_paren_open Close start places h = let none : ⊥ = cc in absurd none
-plain_paren_open ParenOpen start places h = refl
-plain_paren_open ParenClose start places h = refl
-plain_paren_open Bang start places h = refl
+plain_paren_open kind start places h = ap (λ k. braces_behind k start places) (opening_paren kind h)
 
 plain_paren_close : (kind : TokenKind) (start : ℕ) (places : List ℕ) → is_paren_close kind ≡ true → IsPlain kind start places
-plain_paren_close Word start places h = refl
-plain_paren_close (Str text) start places h = refl
-plain_paren_close Open start places h = let none : ⊥ = cc in absurd none
-plain_paren_close Close start places h = let none : ⊥ = cc in absurd none
-plain_paren_close ParenOpen start places h = refl
-plain_paren_close ParenClose start places h = refl
-plain_paren_close Bang start places h = refl
+plain_paren_close kind start places h = ap (λ k. braces_behind k start places) (closing_paren kind h)
 
 plain_bang : (kind : TokenKind) (start : ℕ) (places : List ℕ) → is_bang kind ≡ true → IsPlain kind start places
-plain_bang Word start places h = refl
-plain_bang (Str text) start places h = refl
-plain_bang Open start places h = let none : ⊥ = cc in absurd none
-plain_bang Close start places h = let none : ⊥ = cc in absurd none
-plain_bang ParenOpen start places h = refl
-plain_bang ParenClose start places h = refl
-plain_bang Bang start places h = refl
+plain_bang kind start places h = ap (λ k. braces_behind k start places) (bang_kind kind h)
 
 opens : (kind : TokenKind) (start : ℕ) (places : List ℕ) → is_open kind ≡ true → braces_behind kind start places ≡ start ∷ places
-opens Word start places h = let none : ⊥ = cc in absurd none
-opens (Str text) start places h = let none : ⊥ = cc in absurd none
-opens Open start places h = refl
-opens Close start places h = let none : ⊥ = cc in absurd none
-opens ParenOpen start places h = let none : ⊥ = cc in absurd none
-opens ParenClose start places h = let none : ⊥ = cc in absurd none
-opens Bang start places h = let none : ⊥ = cc in absurd none
+opens kind start places h = ap (λ k. braces_behind k start places) (opening_brace kind h)
 
 closes : (kind : TokenKind) (start place : ℕ) (places : List ℕ) → is_close kind ≡ true → braces_behind kind start (place ∷ places) ≡ places
-closes Word start place places h = let none : ⊥ = cc in absurd none
-closes (Str text) start place places h = let none : ⊥ = cc in absurd none
-closes Open start place places h = let none : ⊥ = cc in absurd none
-closes Close start place places h = refl
-closes ParenOpen start place places h = let none : ⊥ = cc in absurd none
-closes ParenClose start place places h = let none : ⊥ = cc in absurd none
-closes Bang start place places h = let none : ⊥ = cc in absurd none
+closes kind start place places h = ap (λ k. braces_behind k start (place ∷ places)) (closing_brace kind h)
 
 -- ---- a step
 
 abbrev Leaves : Step → List ℕ → Type 0
-Leaves r places = (next : State) → r ≡ Ok next → braces next ≡ places
+Leaves r places = After (λ state. braces state ≡ places) r
 
 leaves_ok : (state : State) (places : List ℕ) → places ≡ braces state → Leaves (Ok state) places
-leaves_ok state places e next h = let s : state ≡ next = cc in ap braces (sym s) ∙ sym e
-
-leaves_err : (kind : FaultKind) (places : List ℕ) → Leaves (Err kind) places
-leaves_err kind places next h = let none : ⊥ = cc in absurd none
-
-leaves_if : (b : Bool) (p q : Step) (places : List ℕ) → (b ≡ true → Leaves p places) → (b ≡ false → Leaves q places) → Leaves (if b then p else q) places
-leaves_if true p q places f g = f refl
-leaves_if false p q places f g = g refl
+leaves_ok state places e = after_ok _ state (sym e)
 
 same_behind_name : (attr : Attr) (next : State) → braces (behind_name attr next) ≡ braces next
 same_behind_name attr.Id next = refl
@@ -201,25 +158,25 @@ same_behind_condition name.False next = refl
 
 other_leaves : (line : List ℕ) (place : Where) (given : Given) (kind : TokenKind) (start end : ℕ) (next : State) → Leaves (other_part place given (word_by line kind start end) kind next) (braces_behind kind start (braces next))
 other_leaves line BeforeIf given kind start end next =
-    leaves_if (is_if (word_by line kind start end)) _ _ _ (λ i. leaves_ok (AfterIf (Parts given BehindIf next)) _ (plain_if line kind start end (braces next) i)) (λ i. leaves_err _ _)
-other_leaves line BehindIf given kind start end next = leaves_err _ _
+    after_if _ (is_if (word_by line kind start end)) _ _ (λ i. leaves_ok (AfterIf (Parts given BehindIf next)) _ (plain_if line kind start end (braces next) i)) (λ i. after_err _ _)
+other_leaves line BehindIf given kind start end next = after_err _ _
 other_leaves line InQuery given kind start end next =
-    leaves_if (is_paren_close kind) _ _ _ (λ p. leaves_if (is_nothing given) _ _ _ (λ n. leaves_err _ _) (λ n. leaves_ok next _ (plain_paren_close kind start (braces next) p))) (λ p. leaves_err _ _)
-other_leaves line Alone given kind start end next = leaves_err _ _
+    after_if _ (is_paren_close kind) _ _ (λ p. after_if _ (is_nothing given) _ _ (λ n. after_err _ _) (λ n. leaves_ok next _ (plain_paren_close kind start (braces next) p))) (λ p. after_err _ _)
+other_leaves line Alone given kind start end next = after_err _ _
 
 part_leaves : (line : List ℕ) (o : Option Attr) (place : Where) (given : Given) (kind : TokenKind) (start end : ℕ) (next : State) → attribute_of (word_by line kind start end) ≡ o → Leaves (part o place given (word_by line kind start end) kind next) (braces_behind kind start (braces next))
 part_leaves line None place given kind start end next e = other_leaves line place given kind start end next
 part_leaves line (Some attr) place given kind start end next e =
-    leaves_if (has attr given) _ _ _ (λ h. leaves_err _ _)
+    after_if _ (has attr given) _ _ (λ h. after_err _ _)
     (λ h. leaves_ok (behind_name attr (Parts (put attr given) place next)) _ (plain_attribute line kind start end (braces next) attr e ∙ sym (same_behind_name attr (Parts (put attr given) place next))))
 
 named_leaves : (line : List ℕ) (o : Option CondName) (kind : TokenKind) (start end : ℕ) (next : State) → condition_of (word_by line kind start end) ≡ o → Leaves (named o next) (braces_behind kind start (braces next))
-named_leaves line None kind start end next e = leaves_err _ _
+named_leaves line None kind start end next e = after_err _ _
 named_leaves line (Some name) kind start end next e = leaves_ok (behind_condition name next) _ (plain_condition line kind start end (braces next) name e ∙ sym (same_behind_condition name next))
 
 condition_leaves : (line : List ℕ) (kind : TokenKind) (start end : ℕ) (next : State) → Leaves (condition (word_by line kind start end) kind next) (braces_behind kind start (braces next))
 condition_leaves line kind start end next =
-    leaves_if (is_bang kind) _ _ _ (λ b. leaves_ok (Negated next) _ (plain_bang kind start (braces next) b)) (λ b. named_leaves line (condition_of (word_by line kind start end)) kind start end next refl)
+    after_if _ (is_bang kind) _ _ (λ b. leaves_ok (Negated next) _ (plain_bang kind start (braces next) b)) (λ b. named_leaves line (condition_of (word_by line kind start end)) kind start end next refl)
 
 conditions_leave : (line : List ℕ) (o : Option Op) (kind : TokenKind) (start end : ℕ) (next : State) → operator_of (word_by line kind start end) ≡ o → Leaves (conditions o (word_by line kind start end) kind next) (braces_behind kind start (braces next))
 conditions_leave line None kind start end next e = condition_leaves line kind start end next
@@ -227,41 +184,41 @@ conditions_leave line (Some op) kind start end next e = leaves_ok (CondBrace nex
 
 value_leaves : (line : List ℕ) (o : Option Op) (shape : Shape) (kind : TokenKind) (start end : ℕ) (next : State) → operator_of (word_by line kind start end) ≡ o → Leaves (value o shape (word_by line kind start end) kind next) (braces_behind kind start (braces next))
 value_leaves line None shape kind start end next e =
-    leaves_if (fits shape (word_by line kind start end) kind) _ _ _ (λ f. leaves_ok next _ (plain_fits shape line kind start end (braces next) f)) (λ f. leaves_err _ _)
+    after_if _ (fits shape (word_by line kind start end) kind) _ _ (λ f. leaves_ok next _ (plain_fits shape line kind start end (braces next) f)) (λ f. after_err _ _)
 value_leaves line (Some op) shape kind start end next e = leaves_ok (Brace shape next) _ (plain_operator line kind start end (braces next) op e)
 
 targeted_leaves : (line : List ℕ) (o : Option Target) (kind : TokenKind) (start end : ℕ) → target_of (word_by line kind start end) ≡ o → Leaves (targeted o) (braces_behind kind start [])
-targeted_leaves line None kind start end e = leaves_err _ _
+targeted_leaves line None kind start end e = after_err _ _
 targeted_leaves line (Some target) kind start end e = leaves_ok (Front BeforeIf End) _ (plain_target line kind start end [] target e)
 
 step_leaves : (line : List ℕ) (state : State) (kind : TokenKind) (start end : ℕ) → Leaves (step state (word_by line kind start end) kind start) (braces_behind kind start (braces state))
-step_leaves line End kind start end = leaves_err _ _
+step_leaves line End kind start end = after_err _ _
 step_leaves line Start kind start end = targeted_leaves line (target_of (word_by line kind start end)) kind start end refl
 step_leaves line (Front place next) kind start end =
-    leaves_if (has_colon (word_by line kind start end)) _ _ _
-    (λ c. leaves_if (is_some (id_of (word_by line kind start end))) _ _ _ (λ i. leaves_ok (Parts (put attr.Id nothing) place next) _ (plain_fits Ids line kind start end (braces next) i)) (λ i. leaves_err _ _))
+    after_if _ (has_colon (word_by line kind start end)) _ _
+    (λ c. after_if _ (is_some (id_of (word_by line kind start end))) _ _ (λ i. leaves_ok (Parts (put attr.Id nothing) place next) _ (plain_fits Ids line kind start end (braces next) i)) (λ i. after_err _ _))
     (λ c. part_leaves line (attribute_of (word_by line kind start end)) place nothing kind start end next refl)
 step_leaves line (Parts given place next) kind start end = part_leaves line (attribute_of (word_by line kind start end)) place given kind start end next refl
 step_leaves line (Value shape next) kind start end =
-    leaves_if (is_open kind) _ _ _ (λ o. leaves_ok (Items shape false start next) _ (opens kind start (braces next) o)) (λ o. value_leaves line (operator_of (word_by line kind start end)) shape kind start end next refl)
-step_leaves line (Brace shape next) kind start end = leaves_if (is_open kind) _ _ _ (λ o. leaves_ok (Items shape false start next) _ (opens kind start (braces next) o)) (λ o. leaves_err _ _)
+    after_if _ (is_open kind) _ _ (λ o. leaves_ok (Items shape false start next) _ (opens kind start (braces next) o)) (λ o. value_leaves line (operator_of (word_by line kind start end)) shape kind start end next refl)
+step_leaves line (Brace shape next) kind start end = after_if _ (is_open kind) _ _ (λ o. leaves_ok (Items shape false start next) _ (opens kind start (braces next) o)) (λ o. after_err _ _)
 step_leaves line (Items shape some at next) kind start end =
-    leaves_if (is_close kind) _ _ _ (λ c. leaves_if some _ _ _ (λ s. leaves_ok next _ (closes kind start at (braces next) c)) (λ s. leaves_err _ _))
-    (λ c. leaves_if (fits shape (word_by line kind start end) kind) _ _ _ (λ f. leaves_ok (Items shape true at next) _ (plain_fits shape line kind start end (at ∷ braces next) f)) (λ f. leaves_err _ _))
-step_leaves line (Text next) kind start end = leaves_if (fits Strings (word_by line kind start end) kind) _ _ _ (λ f. leaves_ok next _ (plain_fits Strings line kind start end (braces next) f)) (λ f. leaves_err _ _)
+    after_if _ (is_close kind) _ _ (λ c. after_if _ some _ _ (λ s. leaves_ok next _ (closes kind start at (braces next) c)) (λ s. after_err _ _))
+    (λ c. after_if _ (fits shape (word_by line kind start end) kind) _ _ (λ f. leaves_ok (Items shape true at next) _ (plain_fits shape line kind start end (at ∷ braces next) f)) (λ f. after_err _ _))
+step_leaves line (Text next) kind start end = after_if _ (fits Strings (word_by line kind start end) kind) _ _ (λ f. leaves_ok next _ (plain_fits Strings line kind start end (braces next) f)) (λ f. after_err _ _)
 step_leaves line (AfterIf next) kind start end =
-    leaves_if (is_open kind) _ _ _ (λ o. leaves_ok (CondItems false start next) _ (opens kind start (braces next) o)) (λ o. conditions_leave line (operator_of (word_by line kind start end)) kind start end next refl)
-step_leaves line (CondBrace next) kind start end = leaves_if (is_open kind) _ _ _ (λ o. leaves_ok (CondItems false start next) _ (opens kind start (braces next) o)) (λ o. leaves_err _ _)
+    after_if _ (is_open kind) _ _ (λ o. leaves_ok (CondItems false start next) _ (opens kind start (braces next) o)) (λ o. conditions_leave line (operator_of (word_by line kind start end)) kind start end next refl)
+step_leaves line (CondBrace next) kind start end = after_if _ (is_open kind) _ _ (λ o. leaves_ok (CondItems false start next) _ (opens kind start (braces next) o)) (λ o. after_err _ _)
 step_leaves line (CondItems some at next) kind start end =
-    leaves_if (is_close kind) _ _ _ (λ c. leaves_if some _ _ _ (λ s. leaves_ok next _ (closes kind start at (braces next) c)) (λ s. leaves_err _ _))
+    after_if _ (is_close kind) _ _ (λ c. after_if _ some _ _ (λ s. leaves_ok next _ (closes kind start at (braces next) c)) (λ s. after_err _ _))
     (λ c. condition_leaves line kind start end (CondItems true at next))
 step_leaves line (Negated next) kind start end = named_leaves line (condition_of (word_by line kind start end)) kind start end next refl
-step_leaves line (Opening argument next) kind start end = leaves_if (is_paren_open kind) _ _ _ (λ p. leaves_ok (Inner argument next) _ (plain_paren_open kind start (braces next) p)) (λ p. leaves_err _ _)
-step_leaves line (Inner argument next) kind start end = leaves_if (says argument (word_by line kind start end)) _ _ _ (λ s. leaves_ok (Closing next) _ (plain_says argument line kind start end (braces next) s)) (λ s. leaves_err _ _)
-step_leaves line (Closing next) kind start end = leaves_if (is_paren_close kind) _ _ _ (λ p. leaves_ok next _ (plain_paren_close kind start (braces next) p)) (λ p. leaves_err _ _)
+step_leaves line (Opening argument next) kind start end = after_if _ (is_paren_open kind) _ _ (λ p. leaves_ok (Inner argument next) _ (plain_paren_open kind start (braces next) p)) (λ p. after_err _ _)
+step_leaves line (Inner argument next) kind start end = after_if _ (says argument (word_by line kind start end)) _ _ (λ s. leaves_ok (Closing next) _ (plain_says argument line kind start end (braces next) s)) (λ s. after_err _ _)
+step_leaves line (Closing next) kind start end = after_if _ (is_paren_close kind) _ _ (λ p. leaves_ok next _ (plain_paren_close kind start (braces next) p)) (λ p. after_err _ _)
 step_leaves line (May argument next) kind start end =
-    leaves_if (is_paren_open kind) _ _ _ (λ p. leaves_ok (Inner argument next) _ (plain_paren_open kind start (braces next) p)) (λ p. step_leaves line next kind start end)
-step_leaves line (Matches next) kind start end = leaves_if (is_paren_open kind) _ _ _ (λ p. leaves_ok (Front InQuery next) _ (plain_paren_open kind start (braces next) p)) (λ p. leaves_err _ _)
+    after_if _ (is_paren_open kind) _ _ (λ p. leaves_ok (Inner argument next) _ (plain_paren_open kind start (braces next) p)) (λ p. step_leaves line next kind start end)
+step_leaves line (Matches next) kind start end = after_if _ (is_paren_open kind) _ _ (λ p. leaves_ok (Front InQuery next) _ (plain_paren_open kind start (braces next) p)) (λ p. after_err _ _)
 
 pub reach_braces : (line : List ℕ) (tokens : List Token) (from state : State) → reach line from tokens ≡ Some state → braces state ≡ open_braces (braces from) tokens
 reach_braces line [] from state h = let e : from ≡ state = cc in ap braces (sym e)

@@ -7,6 +7,10 @@ use Rattle.ug_lex.specs.declared.token.TokenKind.{TokenKind}
 use Rattle.ug_lex.specs.declared.token.TokenKind.TheVariants.{Word, Str, Open, Close, ParenOpen, ParenClose, Bang}
 use Rattle.ug_types.specs.declared.rule.Query.{Query}
 use Rattle.ug_types.specs.declared.rule.Rule.{Rule}
+use Rattle.ug_rule.specs.declared.fault.Fault.{Fault}
+use Rattle.ug_rule.specs.declared.fault.FaultKind.{FaultKind}
+use Rattle.ug_rule.specs.declared.fault.FaultKind.TheVariants.{BadEscape, OpenString, BadByte}
+use Rattle.ug_rule.specs.Faults.{fault_at}
 use Rattle.ug_rule.specs.Grammar.{IsQuery, IsRule}
 
 -- the tokens are a rule
@@ -31,14 +35,14 @@ pub record BeginsSome (Are : List ℕ → List Token → Type 0) (line : List �
   pub are : Are other (tokens ++ more)
 
 -- a token that can't stand: those before it go on to some line that is as wanted, and with it they go on to none
-pub record IsStray (Are : List ℕ → List Token → Type 0) (line : List ℕ) (tokens : List Token) (place : ℕ) : Type 0 where
+pub record IsStray (Are : List ℕ → List Token → Type 0) (kind_of : List ℕ → List Token → Token → FaultKind) (line : List ℕ) (tokens : List Token) (fault : Fault) : Type 0 where
   pub before : List Token
   pub token : Token
   pub behind : List Token
   pub cut : tokens ≡ before ++ token ∷ behind
   pub good : BeginsSome Are line before
   pub bad : BeginsSome Are line (before ++ token ∷ []) → ⊥
-  pub is : place ≡ token.start
+  pub is : fault ≡ fault_at (kind_of line before token) token.start
 
 -- ---- the end of a line
 
@@ -64,21 +68,21 @@ place_at_end end (place ∷ []) = place
 place_at_end end (place ∷ outer ∷ places) = place_at_end end (outer ∷ places)
 
 -- a line that ends too early: its tokens go on to some line that is as wanted, and are not so themselves
-pub record EndsEarly (Are : List ℕ → List Token → Type 0) (line : List ℕ) (tokens : List Token) (place : ℕ) : Type 0 where
+pub record EndsEarly (Are : List ℕ → List Token → Type 0) (kind_of : List ℕ → List Token → FaultKind) (line : List ℕ) (tokens : List Token) (fault : Fault) : Type 0 where
   pub good : BeginsSome Are line tokens
   pub bad : Are line tokens → ⊥
-  pub is : place ≡ place_at_end (length line) (open_braces [] tokens)
+  pub is : fault ≡ fault_at (kind_of line tokens) (place_at_end (length line) (open_braces [] tokens))
 
 -- ---- faults
 
-abbrev pub lexical_place : lexing.Fault → ℕ
-lexical_place (lexing.BadEscape place) = place
-lexical_place (lexing.OpenString place) = place
-lexical_place (lexing.BadByte place) = place
+abbrev pub lexical_fault : lexing.Fault → Fault
+lexical_fault (lexing.BadEscape place) = fault_at BadEscape place
+lexical_fault (lexing.OpenString place) = fault_at OpenString place
+lexical_fault (lexing.BadByte place) = fault_at BadByte place
 
--- the line's first fault is at that place
-pub data FaultAt (Are : List ℕ → List Token → Type 0) (line : List ℕ) (place : ℕ) : Type 0 where
+-- the line has this first fault
+pub data FirstFault (Are : List ℕ → List Token → Type 0) (stray_kind : List ℕ → List Token → Token → FaultKind) (early_kind : List ℕ → List Token → FaultKind) (line : List ℕ) : Fault → Type 0 where
   -- faults of the tokens themselves come first
-  Lexical : (fault : lexing.Fault) → Bad line fault → place ≡ lexical_place fault → FaultAt Are line place
-  Stray : (tokens : List Token) → Good line tokens → IsStray Are line tokens place → FaultAt Are line place
-  Early : (tokens : List Token) → Good line tokens → EndsEarly Are line tokens place → FaultAt Are line place
+  Lexical : (fault : lexing.Fault) → Bad line fault → FirstFault Are stray_kind early_kind line (lexical_fault fault)
+  Stray : (tokens : List Token) (fault : Fault) → Good line tokens → IsStray Are stray_kind line tokens fault → FirstFault Are stray_kind early_kind line fault
+  Early : (tokens : List Token) (fault : Fault) → Good line tokens → EndsEarly Are early_kind line tokens fault → FirstFault Are stray_kind early_kind line fault

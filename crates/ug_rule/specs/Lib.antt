@@ -1,4 +1,5 @@
 pub mod Conditions
+pub mod FaultKinds
 pub mod Faults
 pub mod Files
 pub mod FirstFault

@@ -4,7 +4,8 @@ ghost use Rattle.ug_lex.specs.declared.token.Token.{Token};
 ghost use Rattle.ug_rule.specs.declared.fault.Ending.{Ending};
 ghost use Rattle.ug_rule.specs.declared.fault.Fault.{Fault};
 ghost use Rattle.ug_rule.specs.Conditions.{conditions_of};
-ghost use Rattle.ug_rule.specs.FirstFault.{AreQuery, AreRule, FaultAt};
+ghost use Rattle.ug_rule.specs.FaultKinds.{query_early_kind, query_stray_kind, rule_early_kind, rule_stray_kind};
+ghost use Rattle.ug_rule.specs.FirstFault.{AreQuery, AreRule, FirstFault};
 ghost use Rattle.ug_rule.specs.Grammar.{AllAttributes, Asks, IsConditions, IsQuery, IsRule, IsValue, Says, WellFormed};
 ghost use Rattle.ug_rule.specs.Queries.{attributes_of};
 ghost use Rattle.ug_rule.specs.Rules.{rule_of, rule_read, whole_query, query_read};
@@ -59,10 +60,11 @@ pub fn lines_law()
 {}
 
 /// A line that is no rule has its fault at the first token with which the tokens so far go on to no rule, or where it ends
-/// too early, at its outermost open brace or else at its length. Faults of tokens come first. So it is with queries.
+/// too early, at its outermost open brace or else at its length. What is wrong there hangs on what the tokens before ask
+/// for. Faults of the tokens themselves come first. So it is with queries.
 pub fn first_fault_law()
-    ensures rules { (line : List ℕ) (place : ℕ) → ((fault : Fault) × (rule_read line ≡ Err fault) × (fault.place ≡ place)) ↔ FaultAt AreRule line place }
-    ensures queries { (line : List ℕ) (place : ℕ) → ((fault : Fault) × (query_read line ≡ Err fault) × (fault.place ≡ place)) ↔ FaultAt AreQuery line place }
+    ensures rules { (line : List ℕ) (fault : Fault) → (rule_read line ≡ Err fault) ↔ FirstFault AreRule rule_stray_kind rule_early_kind line fault }
+    ensures queries { (line : List ℕ) (fault : Fault) → (query_read line ≡ Err fault) ↔ FirstFault AreQuery query_stray_kind query_early_kind line fault }
 {}
 
 /// A line is one rule, or has one first fault, and never both. So it is with queries.
