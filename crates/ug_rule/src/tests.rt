@@ -109,15 +109,24 @@ fn number(alloc: Global, rule: &Rule) -> Result<String, Fail> {
     }
 }
 
+fn rule_told(alloc: Global, asked: Asked, rule: &Rule) -> Result<String, Fail> {
+    match asked {
+        Asked::FirstId => first_id(alloc, rule),
+        Asked::Interfaces => interfaces(alloc, rule),
+        Asked::Names => names(alloc, rule),
+        Asked::Span => span(alloc, rule),
+        _ => number(alloc, rule),
+    }
+}
+
 fn told(alloc: Global, asked: Asked, line: &[u8]) -> Result<String, Fail> {
     match asked {
         Asked::Fault => rule_fault(alloc, line),
         Asked::QueryFault => query_fault(alloc, line),
-        Asked::FirstId => first_id(alloc, &parse_rule(alloc, line)?),
-        Asked::Interfaces => interfaces(alloc, &parse_rule(alloc, line)?),
-        Asked::Names => names(alloc, &parse_rule(alloc, line)?),
-        Asked::Span => span(alloc, &parse_rule(alloc, line)?),
-        Asked::Number => number(alloc, &parse_rule(alloc, line)?),
+        _ => {
+            let rule = parse_rule(alloc, line)?;
+            rule_told(alloc, asked, &rule)
+        }
     }
 }
 
