@@ -42,7 +42,7 @@ text_tells : (line : List ℕ) (ending : Ending) (text : List ℕ) (tokens rest 
 unfolding text_of
 text_tells line ending text tokens rest t = rw t.cut (rw t.says refl)
 
-attribute_told : (line : List ℕ) (ending : Ending) (attr : Attr) (query next : Query) (tokens rest : List Token) → with_attribute line ending attr query tokens ≡ Ok (next, rest) → Tells line attr query next tokens rest
+pub attribute_told : (line : List ℕ) (ending : Ending) (attr : Attr) (query next : Query) (tokens rest : List Token) → with_attribute line ending attr query tokens ≡ Ok (next, rest) → Tells line attr query next tokens rest
 unfolding with_attribute
 attribute_told line ending attr.Id query next tokens rest h = told line (id_in line) ending (λ v. record query { id = Some v }) next tokens rest h
 attribute_told line ending attr.Serial query next tokens rest h = told line (string_in line) ending (λ v. record query { serial = Some v }) next tokens rest h

@@ -157,7 +157,7 @@ kind_reads name.Random line ending kind tokens rest a = past_reads line ending (
 kind_reads name.True line ending kind tokens rest a = ap (λ k. Ok (k, tokens)) (sym a.0) ∙ ap (λ l. Ok (kind, l)) a.1
 kind_reads name.False line ending kind tokens rest a = ap (λ k. Ok (k, tokens)) (sym a.0) ∙ ap (λ l. Ok (kind, l)) a.1
 
-abbrev of_kind : Bool → CondKind → Cond
+abbrev pub of_kind : Bool → CondKind → Cond
 of_kind negated kind = record { negated = negated; kind = kind }
 
 named_cut : (line : List ℕ) (ending : Ending) (negated : Bool) (cond : Cond) (token : Token) (tokens rest : List Token) → named_of line ending negated token tokens ≡ Ok (cond, rest) → (kind : CondKind) × IsNamed line kind (token ∷ tokens) rest × (cond ≡ of_kind negated kind)

@@ -5,7 +5,7 @@ use Rattle.std.proofs.lemmas.List.Sums.{fold_more, fold-append}
 use Rattle.std.specs.List.{fold}
 use Rattle.ug_rule.specs.Words.{with_digit, digits_of}
 
-fold-none : (xs : List ℕ) → fold with_digit None xs ≡ None
+pub fold-none : (xs : List ℕ) → fold with_digit None xs ≡ None
 fold-none [] = refl
 fold-none (x ∷ xs) = fold-none xs
 

@@ -160,7 +160,7 @@ parts_read line ending (If ∷ parts) query all found tokens a = if_left line en
 
 -- ---- rules
 
-abbrev rule_with : Target → Query → Option Conds → Rule
+abbrev pub rule_with : Target → Query → Option Conds → Rule
 rule_with target query conds = record { target = target; query = query; conds = conds }
 
 ends_here : (line : List ℕ) (rule all : Rule) (tokens : List Token) → rule_ends line rule tokens ≡ Ok all → (tokens ≡ []) × (rule ≡ all)

@@ -14,7 +14,7 @@ use Rattle.ug_rule.specs.WordGrammar.{IsTwo, IsFour, id_with, IsId, Any, OfVendo
 use Rattle.ug_rule.specs.Words.{byte_in, pair_in, two_of, four_of, has_colon, star, two_stars, id_from, id_of_vendor, id_of, interface_from, interface_of_subclass, interface_of_class, interface_of}
 use Rattle.ug_rule.proofs.Cases.{by_test}
 
-same_some : {X : Type 0} (x y : X) → Some x ≡ Some y → x ≡ y
+pub same_some : {X : Type 0} (x y : X) → Some x ≡ Some y → x ≡ y
 same_some x y h = let e : x ≡ y = cc in e
 
 -- ---- hexadecimal digits
@@ -149,12 +149,12 @@ is_four_reads n text f = four_reads n text (four_digits n text f)
 
 -- ---- ids
 
-both : (a b : Bool) → (a && b) ≡ true → (a ≡ true) × (b ≡ true)
+pub both : (a b : Bool) → (a && b) ≡ true → (a ≡ true) × (b ≡ true)
 both true b h = (refl, h)
 both false b h = let bad : ⊥ = cc in absurd bad
 
 -- a word with a colon behind so many bytes
-colon_cut : (n : ℕ) (word : List ℕ) → has_colon n word ≡ true → word ≡ take n word ++ 58 ∷ drop (suc n) word
+pub colon_cut : (n : ℕ) (word : List ℕ) → has_colon n word ≡ true → word ≡ take n word ++ 58 ∷ drop (suc n) word
 colon_cut n word h =
     let t = both (nat_lt n (length word)) (nat_eq (get_or word n 0) 58) h in
     let less : n < length word = ltb-true n (length word) t.0 in

@@ -1,6 +1,8 @@
 pub mod Conditions
+pub mod FaultKinds
 pub mod Faults
 pub mod Files
+pub mod FirstFault
 pub mod Grammar
 pub mod Keywords
 pub mod Queries

@@ -4,12 +4,17 @@ ghost use Rattle.ug_lex.specs.declared.token.Token.{Token};
 ghost use Rattle.ug_rule.specs.declared.fault.Ending.{Ending};
 ghost use Rattle.ug_rule.specs.declared.fault.Fault.{Fault};
 ghost use Rattle.ug_rule.specs.Conditions.{conditions_of};
+ghost use Rattle.ug_rule.specs.FaultKinds.{query_early_kind, query_stray_kind, rule_early_kind, rule_stray_kind};
+ghost use Rattle.ug_rule.specs.Files.{line_read};
+ghost use Rattle.ug_rule.specs.FirstFault.{AreQuery, AreRule, FirstFault};
 ghost use Rattle.ug_rule.specs.Grammar.{AllAttributes, Asks, IsConditions, IsQuery, IsRule, IsValue, Says, WellFormed};
 ghost use Rattle.ug_rule.specs.Queries.{attributes_of};
 ghost use Rattle.ug_rule.specs.Rules.{rule_of, rule_read, whole_query, query_read};
 ghost use Rattle.ug_rule.specs.Values.{id_in, interface_in, string_in, value_of};
-ghost use Rattle.ug_rule.specs.WordGrammar.{IsId, IsInterface};
-ghost use Rattle.ug_rule.specs.Words.{id_of, interface_of};
+ghost use Rattle.ug_rule.specs.declared.words.Clock.{Clock};
+ghost use Rattle.ug_rule.specs.declared.words.DaySpan.{DaySpan};
+ghost use Rattle.ug_rule.specs.WordGrammar.{IsChance, IsId, IsInterface, IsPast, IsSpan, IsTime};
+ghost use Rattle.ug_rule.specs.Words.{chance_of, id_of, interface_of, past_of, span_of, time_of};
 
 use ug_types::{Conds, Id, Iface, Query, Rule, Values};
 
@@ -30,10 +35,15 @@ pub fn conditions_law()
     ensures { (line : List ℕ) (ending : Ending) (conds : Conds) (tokens rest : List Token) → (conditions_of line ending tokens ≡ Ok (conds, rest)) ↔ IsConditions line conds tokens rest }
 {}
 
-/// Words are read as ids and as interfaces exactly where their parts stand as usbguard-rules.conf(5) writes them.
+/// Words are read as ids, as interfaces, as times, as spans of the day, as pasts and as probabilities exactly where their
+/// parts stand as usbguard-rules.conf(5) writes them.
 pub fn words_law()
     ensures ids { (id : Id) (word : List ℕ) → (id_of word ≡ Some id) ↔ IsId id word }
     ensures interfaces { (iface : Iface) (word : List ℕ) → (interface_of word ≡ Some iface) ↔ IsInterface iface word }
+    ensures times { (most : ℕ) (time : Clock) (word : List ℕ) → (time_of most word ≡ Some time) ↔ IsTime most time word }
+    ensures spans { (span : DaySpan) (word : List ℕ) → (span_of word ≡ Some span) ↔ IsSpan span word }
+    ensures pasts { (n : ℕ) (word : List ℕ) → (past_of word ≡ Some n) ↔ IsPast n word }
+    ensures probabilities { (n : ℕ) (word : List ℕ) → (chance_of word ≡ Some n) ↔ IsChance n word }
 {}
 
 /// Tokens are read as a rule exactly where they are a target, a bare id or none, and parts in any order, and as a query
@@ -48,6 +58,15 @@ pub fn lines_law()
     ensures rules { (line : List ℕ) (rule : Rule) → (rule_read line ≡ Ok rule) ↔ Says line rule }
     ensures queries { (line : List ℕ) (query : Query) → (query_read line ≡ Ok query) ↔ Asks line query }
     ensures well_formed { (rule : Rule) → WellFormed rule ↔ ((line : List ℕ) × (rule_read line ≡ Ok rule)) }
+{}
+
+/// A line that is no rule has its fault at the first token with which the tokens so far go on to no rule, or where it ends
+/// too early, at its outermost open brace or else at its length. What is wrong there hangs on what the tokens before ask
+/// for. Faults of the tokens themselves come first. So it is with the bad lines of a text, and with queries.
+pub fn first_fault_law()
+    ensures rules { (line : List ℕ) (fault : Fault) → (rule_read line ≡ Err fault) ↔ FirstFault AreRule rule_stray_kind rule_early_kind line fault }
+    ensures lines { (line : List ℕ) (fault : Fault) → line_read line ≡ Err fault → FirstFault AreRule rule_stray_kind rule_early_kind line fault }
+    ensures queries { (line : List ℕ) (fault : Fault) → (query_read line ≡ Err fault) ↔ FirstFault AreQuery query_stray_kind query_early_kind line fault }
 {}
 
 /// A line is one rule, or has one first fault, and never both. So it is with queries.

@@ -2,261 +2,309 @@ use crate::{RuleFault, parse_file, parse_query, parse_rule};
 use std::alloc::Global;
 use std::process::Abort;
 use std::test::Fail;
-use ug_types::{CondKind, FileFault, Id, Iface, Op, Rule, Target, TextFault};
+use ug_types::{CondKind, FileFault, Id, Iface, Rule};
 
-fn fault(alloc: Global, line: &[u8]) -> Option<(u8, u64)> {
+// What a case asks of a line.
+#[derive(Clone, Copy)]
+enum Asked {
+    // Kind and place of its fault as a rule.
+    Fault,
+    // The same as a query.
+    QueryFault,
+    // Target and first id.
+    FirstId,
+    // How many interfaces under which operator, and the first.
+    Interfaces,
+    // How many names under which operator, and the bytes of the first.
+    Names,
+    // Begin and end of a first condition that is a time of the day.
+    Span,
+    // The number of a first condition.
+    Number,
+}
+
+fn number_text(alloc: Global, number: Option<u32>) -> Result<String, Fail> {
+    match number {
+        Some(number) => Ok(format!(in alloc; "{number}")?),
+        None => Ok(format!(in alloc; "*")?),
+    }
+}
+
+fn fault_text(alloc: Global, kind: u8, place: u64) -> Result<String, Fail> {
+    Ok(format!(in alloc; "{kind} {place}")?)
+}
+
+fn rule_fault(alloc: Global, line: &[u8]) -> Result<String, Fail> {
     match parse_rule(alloc, line) {
-        Err(RuleFault::Bad { kind, place }) => Some((kind, place)),
-        _ => None,
+        Err(RuleFault::Bad { kind, place }) => fault_text(alloc, kind, place),
+        Err(RuleFault::Memory) => Ok(format!(in alloc; "memory")?),
+        Ok(_) => Ok(format!(in alloc; "good")?),
     }
 }
 
-fn query_fault(alloc: Global, line: &[u8]) -> Option<(u8, u64)> {
+fn query_fault(alloc: Global, line: &[u8]) -> Result<String, Fail> {
     match parse_query(alloc, line) {
-        Err(RuleFault::Bad { kind, place }) => Some((kind, place)),
-        _ => None,
+        Err(RuleFault::Bad { kind, place }) => fault_text(alloc, kind, place),
+        Err(RuleFault::Memory) => Ok(format!(in alloc; "memory")?),
+        Ok(_) => Ok(format!(in alloc; "good")?),
     }
 }
 
-fn rule(alloc: Global, line: &[u8]) -> Result<Rule, Fail> {
-    Ok(parse_rule(alloc, line)?)
+fn id_text(alloc: Global, id: Id) -> Result<String, Fail> {
+    let vendor = number_text(alloc, id.vendor.map(u32::from))?;
+    let product = number_text(alloc, id.product.map(u32::from))?;
+    Ok(format!(in alloc; "{vendor}:{product}")?)
 }
 
-fn is_query(alloc: Global, line: &[u8]) -> bool {
-    parse_query(alloc, line).is_ok()
+fn first_id(alloc: Global, rule: &Rule) -> Result<String, Fail> {
+    let values = rule.query.id.as_ref().ok_or("no id")?;
+    let id = values.items.as_slice().first().copied().ok_or("empty")?;
+    let text = id_text(alloc, id)?;
+    let target = rule.target;
+    Ok(format!(in alloc; "{target:?} {text}")?)
 }
 
-// How many rules a text has, or its first bad line.
-fn count(alloc: Global, text: &[u8]) -> Result<usize, FileFault> {
-    Ok(parse_file(alloc, text)?.len())
+fn interface_text(alloc: Global, interface: Iface) -> Result<String, Fail> {
+    let class = interface.class;
+    let subclass = number_text(alloc, interface.subclass.map(u32::from))?;
+    let protocol = number_text(alloc, interface.protocol.map(u32::from))?;
+    Ok(format!(in alloc; "{class}:{subclass}:{protocol}")?)
 }
 
-// The first id of a rule.
-fn first_id(rule: &Rule) -> Option<Id> {
-    match &rule.query.id {
-        Some(values) => values.items.as_slice().first().copied(),
-        None => None,
-    }
+fn interfaces(alloc: Global, rule: &Rule) -> Result<String, Fail> {
+    let values = rule.query.interface.as_ref().ok_or("no interface")?;
+    let first = values.items.as_slice().first().copied().ok_or("empty")?;
+    let text = interface_text(alloc, first)?;
+    let op = values.op;
+    let count = values.items.as_slice().len();
+    Ok(format!(in alloc; "{op:?} {count} {text}")?)
 }
 
-fn first_interface(rule: &Rule) -> Option<Iface> {
-    match &rule.query.interface {
-        Some(values) => values.items.as_slice().first().copied(),
-        None => None,
-    }
+fn names(alloc: Global, rule: &Rule) -> Result<String, Fail> {
+    let values = rule.query.name.as_ref().ok_or("no name")?;
+    let first = values.items.as_slice().first().ok_or("empty")?;
+    let op = values.op;
+    let count = values.items.as_slice().len();
+    let bytes = first.bytes();
+    Ok(format!(in alloc; "{op:?} {count} {bytes:?}")?)
 }
 
-// Begin and end of a rule's first condition, which is a time of the day.
-fn span(rule: &Rule) -> Option<(u32, u32)> {
-    let conds = rule.conds.as_ref()?;
-    let cond = conds.items.as_slice().first()?;
+fn span(alloc: Global, rule: &Rule) -> Result<String, Fail> {
+    let conds = rule.conds.as_ref().ok_or("no conditions")?;
+    let cond = conds.items.as_slice().first().ok_or("empty")?;
     match &cond.kind {
-        CondKind::LocalTime { begin, end } => Some((*begin, *end)),
-        _ => None,
+        CondKind::LocalTime { begin, end } => Ok(format!(in alloc; "{begin}-{end}")?),
+        _ => Ok(format!(in alloc; "no time")?),
     }
 }
 
-// The number of a rule's first condition.
-fn number(rule: &Rule) -> Option<u32> {
-    let conds = rule.conds.as_ref()?;
-    let cond = conds.items.as_slice().first()?;
+fn number(alloc: Global, rule: &Rule) -> Result<String, Fail> {
+    let conds = rule.conds.as_ref().ok_or("no conditions")?;
+    let cond = conds.items.as_slice().first().ok_or("empty")?;
     match &cond.kind {
-        CondKind::RuleApplied(past) => *past,
-        CondKind::RuleEvaluated(past) => *past,
-        CondKind::Random(chance) => Some(*chance),
-        _ => None,
+        CondKind::RuleApplied(past) => number_text(alloc, *past),
+        CondKind::RuleEvaluated(past) => number_text(alloc, *past),
+        CondKind::Random(chance) => number_text(alloc, Some(*chance)),
+        _ => Ok(format!(in alloc; "no number")?),
     }
+}
+
+fn rule_told(alloc: Global, asked: Asked, rule: &Rule) -> Result<String, Fail> {
+    match asked {
+        Asked::FirstId => first_id(alloc, rule),
+        Asked::Interfaces => interfaces(alloc, rule),
+        Asked::Names => names(alloc, rule),
+        Asked::Span => span(alloc, rule),
+        _ => number(alloc, rule),
+    }
+}
+
+fn told(alloc: Global, asked: Asked, line: &[u8]) -> Result<String, Fail> {
+    match asked {
+        Asked::Fault => rule_fault(alloc, line),
+        Asked::QueryFault => query_fault(alloc, line),
+        _ => {
+            let rule = parse_rule(alloc, line)?;
+            rule_told(alloc, asked, &rule)
+        }
+    }
+}
+
+fn is_told(alloc: Global, asked: Asked, expected: &[u8], line: &[u8]) -> Result<bool, Fail> {
+    let text = told(alloc, asked, line)?;
+    Ok(text.as_bytes() == expected)
+}
+
+// Whether each line of the cases is an answer, an `@`, and a line of which that is told.
+fn hold(alloc: Global, asked: Asked, cases: &[u8]) -> Result<bool, Fail> {
+    for case in cases.split(|b| *b == b'\n') {
+        let at = case.iter().position(|b| *b == b'@').ok_or("no @")?;
+        if !is_told(alloc, asked, &case[..at], &case[at + 1..])? {
+            return Ok(false);
+        }
+    }
+    Ok(true)
 }
 
 #[test]
 fn reads_ids_with_and_without_the_word(rt: HostRuntime) -> Result<(), Fail> {
-    let alloc = rt.alloc();
-    let key = Id {
-        vendor: Some(0x1050),
-        product: Some(0x0011),
-    };
-    let bare = rule(alloc, b"allow 1050:0011")?;
-    assert_eq!(rt; bare.target, Target::Allow);
-    assert_eq!(rt; first_id(&bare), Some(key));
-    let named = rule(alloc, b"reject id 1050:0011")?;
-    assert_eq!(rt; named.target, Target::Reject);
-    assert_eq!(rt; first_id(&named), Some(key));
-    let vendor = rule(alloc, b"block id aBcD:*")?;
-    let star = Id {
-        vendor: Some(0xabcd),
-        product: None,
-    };
-    assert_eq!(rt; first_id(&vendor), Some(star));
-    let any = rule(alloc, b"block *:*")?;
-    let stars = Id {
-        vendor: None,
-        product: None,
-    };
-    assert_eq!(rt; first_id(&any), Some(stars));
+    let cases = b"Allow 4176:17@allow 1050:0011
+Reject 4176:17@reject id 1050:0011
+Block 43981:*@block id aBcD:*
+Block *:*@block *:*";
+    assert!(rt; hold(rt.alloc(), Asked::FirstId, cases)?);
     Ok(())
 }
 
 #[test]
 fn reads_sets_and_operators(rt: HostRuntime) -> Result<(), Fail> {
-    let alloc = rt.alloc();
-    let read = rule(
-        alloc,
-        b"block with-interface equals-ordered { 03:00:00 03:01:01 } label \"a\"",
-    )?;
-    let values = read.query.interface.as_ref().ok_or("no interface")?;
-    assert_eq!(rt; values.op, Op::EqualsOrdered);
-    assert_eq!(rt; values.items.as_slice().len(), 2);
-    let first = Iface {
-        class: 3,
-        subclass: Some(0),
-        protocol: Some(0),
-    };
-    assert_eq!(rt; first_interface(&read), Some(first));
-    let plain = rule(alloc, b"allow serial{\"a\"\"b\"}")?;
-    let serials = plain.query.serial.as_ref().ok_or("no serial")?;
-    assert_eq!(rt; serials.op, Op::Equals);
-    assert_eq!(rt; serials.items.as_slice().len(), 2);
+    let cases =
+        b"EqualsOrdered 2 3:0:0@block with-interface equals-ordered { 03:00:00 03:01:01 } label \"a\"
+Equals 1 8:80:*@allow with-interface 08:50:*";
+    assert!(rt; hold(rt.alloc(), Asked::Interfaces, cases)?);
     Ok(())
 }
 
 #[test]
 fn reads_escapes_and_comments(rt: HostRuntime) -> Result<(), Fail> {
-    let alloc = rt.alloc();
-    let read = rule(alloc, b"allow 1050:0011 name \"a\\x41\" # key")?;
-    let names = read.query.name.as_ref().ok_or("no name")?;
-    let name = names.items.as_slice().first().ok_or("empty")?;
-    assert_eq!(rt; name.bytes(), b"aA".as_slice());
-    let text = b"allow 1050:0011 name \"a\\x41\" # key\n\n # none\nblock\n";
-    assert_eq!(rt; count(alloc, text), Ok(2));
+    let cases = b"Equals 1 [97, 65]@allow 1050:0011 name \"a\\x41\" # key
+Equals 2 [97]@allow name{\"a\"\"b\"}";
+    assert!(rt; hold(rt.alloc(), Asked::Names, cases)?);
     Ok(())
 }
 
 #[test]
 fn reads_times(rt: HostRuntime) -> Result<(), Fail> {
-    let alloc = rt.alloc();
-    let night = rule(alloc, b"allow if localtime(22:00-06:00)")?;
-    assert_eq!(rt; span(&night), Some((79200, 21600)));
-    let minute = rule(alloc, b"allow if localtime(23:59)")?;
-    assert_eq!(rt; span(&minute), Some((86340, 86399)));
-    let second = rule(alloc, b"allow if localtime(00:00:07)")?;
-    assert_eq!(rt; span(&second), Some((7, 7)));
-    assert_eq!(rt; fault(alloc, b"allow if localtime(24:00)"), Some((10, 19)));
-    assert_eq!(rt; fault(alloc, b"allow if localtime(23:60)"), Some((10, 19)));
-    assert_eq!(rt; fault(alloc, b"allow if localtime(1:00)"), Some((10, 19)));
+    let cases = b"79200-21600@allow if localtime(22:00-06:00)
+86340-86399@allow if localtime(23:59)
+7-7@allow if localtime(00:00:07)";
+    assert!(rt; hold(rt.alloc(), Asked::Span, cases)?);
     Ok(())
 }
 
 #[test]
 fn reads_pasts_and_probabilities(rt: HostRuntime) -> Result<(), Fail> {
-    let alloc = rt.alloc();
-    let ever = rule(alloc, b"allow if rule-applied")?;
-    assert_eq!(rt; number(&ever), None);
-    let most = rule(alloc, b"allow if rule-applied(4294967295)")?;
-    assert_eq!(rt; number(&most), Some(4_294_967_295));
-    let above = b"allow if rule-applied(4294967296)";
-    assert_eq!(rt; fault(alloc, above), Some((10, 22)));
-    let clock = rule(alloc, b"allow if rule-evaluated(99:59:59)")?;
-    assert_eq!(rt; number(&clock), Some(359_999));
-    let half = rule(alloc, b"allow if random")?;
-    assert_eq!(rt; number(&half), Some(500_000_000));
-    let sixth = rule(alloc, b"allow if random(0.1666)")?;
-    assert_eq!(rt; number(&sixth), Some(166_600_000));
-    let nine = rule(alloc, b"allow if random(0.000000001)")?;
-    assert_eq!(rt; number(&nine), Some(1));
-    assert_eq!(rt;
-        fault(alloc, b"allow if random(0.0000000001)"),
-        Some((10, 16))
-    );
-    let one = rule(alloc, b"allow if !random(1)")?;
-    assert_eq!(rt; number(&one), Some(1_000_000_000));
+    let cases = b"*@allow if rule-applied
+4294967295@allow if rule-applied(4294967295)
+359999@allow if rule-evaluated(99:59:59)
+500000000@allow if random
+166600000@allow if random(0.1666)
+1@allow if random(0.000000001)
+1000000000@allow if !random(1)";
+    assert!(rt; hold(rt.alloc(), Asked::Number, cases)?);
     Ok(())
 }
 
 #[test]
 fn names_each_fault_and_its_place(rt: HostRuntime) -> Result<(), Fail> {
-    let alloc = rt.alloc();
-    let faults: [(&[u8], u8, u64); 30] = [
-        (b"allow name \"a\\q\"", 1, 13),
-        (b"allow name \"a", 2, 11),
-        (b"allow name = \"a\"", 3, 11),
-        (b"", 4, 0),
-        (b"  # allow", 4, 9),
-        (b"permit", 4, 0),
-        (b"allow frob", 5, 6),
-        (b"allow id 1:2 id", 7, 9),
-        (b"allow 1050:0011 id 1050:0011", 6, 16),
-        (b"allow name \"a\" name \"b\"", 6, 15),
-        (b"allow if true if false", 6, 14),
-        (b"allow with-interface 08:*:50", 7, 21),
-        (b"allow 1050:001", 7, 6),
-        (b"allow name", 7, 10),
-        (b"allow name all-of \"a\"", 7, 18),
-        (b"allow label { \"a\" }", 7, 12),
-        (b"allow with-interface { foo", 7, 23),
-        (b"allow name { }", 8, 13),
-        (b"allow if one-of { }", 8, 18),
-        (b"allow name { \"a\"", 9, 11),
-        (b"allow if { allowed-matches(name {", 9, 9),
-        (b"allow if { true (", 10, 16),
-        (b"allow if", 10, 8),
-        (b"allow if frob", 10, 9),
-        (b"allow if random()", 10, 16),
-        (b"allow if allowed-matches()", 10, 25),
-        (b"allow if allowed-matches(if true)", 11, 25),
-        (b"allow if allowed-matches(frob)", 5, 25),
-        (b"allow if true (", 12, 14),
-        (b"allow }", 12, 6),
-    ];
-    for (line, kind, place) in faults {
-        assert_eq!(rt; fault(alloc, line), Some((kind, place)));
-    }
+    let cases = b"1 13@allow name \"a\\q\"
+1 13@allow name \"a\\
+1 13@allow name \"a\\x
+1 13@allow name \"a\\x4
+2 11@allow name \"a
+3 11@allow name = \"a\"
+4 0@
+4 9@  # allow
+4 0@permit
+5 6@allow frob
+7 9@allow id 1:2 id
+6 16@allow 1050:0011 id 1050:0011
+6 15@allow name \"a\" name \"b\"
+6 14@allow if true if false
+7 21@allow with-interface 08:*:50
+7 6@allow 1050:001
+7 10@allow name
+7 18@allow name all-of \"a\"
+7 12@allow label { \"a\" }
+7 23@allow with-interface { foo
+8 13@allow name { }
+8 18@allow if one-of { }
+9 11@allow name { \"a\"
+9 9@allow if { allowed-matches(name {
+10 16@allow if { true (
+10 8@allow if
+10 9@allow if frob
+10 16@allow if random()
+10 16@allow if random(0.0000000001)
+10 19@allow if localtime(24:00)
+10 19@allow if localtime(23:60)
+10 19@allow if localtime(1:00)
+10 22@allow if rule-applied(4294967296)
+10 25@allow if allowed-matches()
+11 25@allow if allowed-matches(if true)
+5 25@allow if allowed-matches(frob)
+12 14@allow if true (
+12 6@allow }";
+    assert!(rt; hold(rt.alloc(), Asked::Fault, cases)?);
     Ok(())
 }
 
 #[test]
 fn reads_queries(rt: HostRuntime) -> Result<(), Fail> {
-    let alloc = rt.alloc();
-    assert!(rt; is_query(alloc, b"via-port \"1-1\""));
-    assert!(rt; is_query(alloc, b"1050:* label \"a\""));
-    assert_eq!(rt; query_fault(alloc, b"if true"), Some((11, 0)));
-    assert_eq!(rt; query_fault(alloc, b" "), Some((7, 1)));
-    assert_eq!(rt; query_fault(alloc, b"allow"), Some((5, 0)));
-    assert_eq!(rt; query_fault(alloc, b"name \"a\" )"), Some((12, 9)));
+    let cases = b"good@via-port \"1-1\"
+good@1050:* label \"a\"
+11 0@if true
+7 1@ 
+5 0@allow
+12 9@name \"a\" )";
+    assert!(rt; hold(rt.alloc(), Asked::QueryFault, cases)?);
     Ok(())
+}
+
+// How many rules a text has, or the line, the kind and the place of its first fault.
+fn counted(alloc: Global, text: &[u8]) -> Result<String, Fail> {
+    match parse_file(alloc, text) {
+        Ok(rules) => {
+            let count = rules.len();
+            Ok(format!(in alloc; "{count}")?)
+        }
+        Err(FileFault::Bad(fault)) => Ok(format!(in alloc;
+            "{} {} {}",
+            fault.line, fault.kind, fault.place
+        )?),
+        Err(FileFault::Memory) => Ok(format!(in alloc; "memory")?),
+    }
+}
+
+fn is_counted(alloc: Global, text: &[u8], expected: &str) -> Result<bool, Fail> {
+    let text = counted(alloc, text)?;
+    Ok(text.as_str() == expected)
 }
 
 #[test]
 fn counts_lines_of_a_text(rt: HostRuntime) -> Result<(), Fail> {
     let alloc = rt.alloc();
-    let text = b"allow\r\n\n#\nallow with-interface 08:*:50\nfrob";
-    let fourth = TextFault {
-        line: 4,
-        kind: 7,
-        place: 21,
-    };
-    assert_eq!(rt; count(alloc, text), Err(FileFault::Bad(fourth)));
-    assert_eq!(rt; count(alloc, b""), Ok(0));
+    let bad = b"allow\r\n\n#\nallow with-interface 08:*:50\nfrob";
+    assert!(rt; is_counted(alloc, bad, "4 7 21")?);
+    let good = b"allow 1050:0011 name \"a\\x41\" # key\n\n # none\nblock\n";
+    assert!(rt; is_counted(alloc, good, "2")?);
+    assert!(rt; is_counted(alloc, b"", "0")?);
     Ok(())
 }
 
-// A line and as many copies of a byte behind it.
-fn long(alloc: Global, front: &[u8], byte: u8, count: usize) -> Result<Vec<u8>, Fail> {
+// Whether a front and as many copies of a byte behind it have that fault.
+fn long_fault(
+    alloc: Global,
+    front: &[u8],
+    byte: u8,
+    count: usize,
+    expected: &str,
+) -> Result<bool, Fail> {
     let mut line = Vec::from_slice(alloc, front)?;
     for _ in 0..count {
         line.push(byte)?;
     }
-    Ok(line)
+    let text = rule_fault(alloc, line.as_slice())?;
+    Ok(text.as_str() == expected)
 }
 
 #[test]
 fn nests_nothing(rt: HostRuntime) -> Result<(), Fail> {
     let alloc = rt.alloc();
-    let braces = long(alloc, b"allow if ", b'{', 100_000)?;
-    assert_eq!(rt; fault(alloc, braces.as_slice()), Some((10, 10)));
-    let parens = long(alloc, b"allow if allowed-matches", b'(', 100_000)?;
-    assert_eq!(rt; fault(alloc, parens.as_slice()), Some((12, 25)));
-    let word = long(alloc, b"allow name ", b'a', 1_000_000)?;
-    assert_eq!(rt; fault(alloc, word.as_slice()), Some((7, 11)));
+    assert!(rt; long_fault(alloc, b"allow if ", b'{', 100_000, "10 10")?);
+    let matches = b"allow if allowed-matches";
+    assert!(rt; long_fault(alloc, matches, b'(', 100_000, "12 25")?);
+    assert!(rt; long_fault(alloc, b"allow name ", b'a', 1_000_000, "7 11")?);
     Ok(())
 }
 
@@ -264,18 +312,29 @@ fn answers(alloc: Global, line: &[u8], rt: &impl Abort) {
     assert!(rt; !matches!(parse_rule(alloc, line), Err(RuleFault::Memory)));
 }
 
+// Each byte in place of that one.
+fn answers_each_byte(
+    alloc: Global,
+    line: &[u8],
+    place: usize,
+    rt: &impl Abort,
+) -> Result<(), Fail> {
+    let mut other = Vec::from_slice(alloc, line)?;
+    for byte in 0..=255 {
+        if let Some(at) = other.get_mut(place) {
+            *at = byte;
+        }
+        answers(alloc, other.as_slice(), rt);
+    }
+    Ok(())
+}
+
 #[test]
 fn answers_every_byte_at_every_place(rt: HostRuntime) -> Result<(), Fail> {
     let alloc = rt.alloc();
     let line = b"block id *:* if !random(0.5)";
     for place in 0..line.len() {
-        for byte in 0..=255 {
-            let mut other = Vec::from_slice(alloc, line.as_slice())?;
-            if let Some(at) = other.get_mut(place) {
-                *at = byte;
-            }
-            answers(alloc, other.as_slice(), &rt);
-        }
+        answers_each_byte(alloc, line.as_slice(), place, &rt)?;
     }
     Ok(())
 }
