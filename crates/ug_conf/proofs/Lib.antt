@@ -1,0 +1,3 @@
+pub mod BlankSteps
+pub mod SeenKeys
+pub mod Words

@@ -1,0 +1,9 @@
+pub mod Blanks
+pub mod Draft
+pub mod Faults
+pub mod Keys
+pub mod Names
+pub mod PrincipalBytes
+pub mod Principals
+pub mod Settings
+pub mod Values
