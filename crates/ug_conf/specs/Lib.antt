@@ -5,5 +5,7 @@ pub mod Keys
 pub mod Names
 pub mod PrincipalBytes
 pub mod Principals
+pub mod Reader
 pub mod Settings
+pub mod Texts
 pub mod Values

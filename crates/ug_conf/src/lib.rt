@@ -8,11 +8,15 @@ mod fault;
 mod keys;
 mod names;
 mod principal;
+mod reader;
 mod settings;
+mod texts;
 mod values;
 
 pub use defaults::default_settings;
 pub use fault::{Fault, FaultKind, LineFault};
 pub use keys::Key;
 pub use principal::Principal;
+pub use reader::SettingsReader;
 pub use settings::{AuthDefault, Inserted, Present, Settings};
+pub use texts::parse_conf;
