@@ -10,6 +10,8 @@ mod names;
 mod principal;
 mod reader;
 mod settings;
+#[cfg(test)]
+mod tests;
 mod texts;
 mod values;
 
