@@ -1,0 +1,4 @@
+pub mod BlankSteps
+pub mod LineSteps
+pub mod SeenKeys
+pub mod Words

@@ -1,0 +1,175 @@
+-- Lines of settings as relations: usbguard-daemon.conf(5).
+use Rattle.std.specs.Prelude.{◌≡◌, ◌≢◌, ℕ, ◌+◌, ◌⊎◌, Bool, true, false, IsTrue, List, [], ◌∷◌, ◌++◌, length, map, codes}
+use Rattle.ug_types.specs.Elements.{Has}
+use Rattle.ug_types.specs.declared.verdict.Target.{Target}
+use Rattle.ug_types.specs.declared.verdict.Target.TheVariants as target
+use Rattle.ug_conf.specs.declared.fault.FaultKind.{FaultKind}
+use Rattle.ug_conf.specs.declared.fault.FaultKind.TheVariants.{NoEquals, UnknownKey, BadValue, Repeated}
+use Rattle.ug_conf.specs.declared.keys.Key.{Key}
+use Rattle.ug_conf.specs.declared.keys.Key.TheVariants as key
+use Rattle.ug_conf.specs.declared.settings.AuthDefault.{AuthDefault}
+use Rattle.ug_conf.specs.declared.settings.AuthDefault.TheVariants as auth_default
+use Rattle.ug_conf.specs.declared.settings.Inserted.{Inserted}
+use Rattle.ug_conf.specs.declared.settings.Inserted.TheVariants as inserted
+use Rattle.ug_conf.specs.declared.settings.Present.{Present}
+use Rattle.ug_conf.specs.declared.settings.Present.TheVariants as present
+use Rattle.ug_conf.specs.declared.values.Setting.{Setting}
+use Rattle.ug_conf.specs.declared.values.Setting.TheVariants as setting
+use Rattle.ug_conf.specs.Principals.{Named, is_name}
+
+-- space or tab
+abbrev pub IsBlank : ℕ → Type 0
+IsBlank b = (b ≡ 32) ⊎ (b ≡ 9)
+
+abbrev pub AreBlanks : List ℕ → Type 0
+AreBlanks [] = Unit {0}
+AreBlanks (b ∷ bytes) = IsBlank b × AreBlanks bytes
+
+-- it doesn't begin with a blank
+abbrev pub BeginsBare : List ℕ → Type 0
+BeginsBare [] = Unit {0}
+BeginsBare (b ∷ bytes) = ¬ IsBlank b
+
+-- it doesn't end with a blank
+abbrev pub EndsBare : List ℕ → Type 0
+EndsBare text = (front : List ℕ) (b : ℕ) → text ≡ front ++ b ∷ [] → ¬ IsBlank b
+
+-- a line is a text with blanks before and behind it
+pub record IsTextOf (line text : List ℕ) : Type 0 where
+  pub before : List ℕ
+  pub behind : List ℕ
+  pub is : line ≡ before ++ (text ++ behind)
+  pub before_blank : AreBlanks before
+  pub behind_blank : AreBlanks behind
+  pub begins : BeginsBare text
+  pub ends : EndsBare text
+
+-- empty, or a comment
+abbrev pub IsSkipped : List ℕ → Type 0
+IsSkipped [] = Unit {0}
+IsSkipped (b ∷ bytes) = b ≡ 35
+
+-- a word, the first equals sign, and a value, with blanks about the sign
+pub record IsEquation (text word value : List ℕ) : Type 0 where
+  pub before : List ℕ
+  pub behind : List ℕ
+  pub is : text ≡ word ++ (before ++ 61 ∷ (behind ++ value))
+  pub before_blank : AreBlanks before
+  pub behind_blank : AreBlanks behind
+  pub no_sign : ¬ Has word 61
+  pub ends : EndsBare word
+  pub begins : BeginsBare value
+
+-- how keys are written
+abbrev pub word_of : Key → List ℕ
+word_of key.RuleFile = codes "RuleFile"
+word_of key.RuleFolder = codes "RuleFolder"
+word_of key.ImplicitPolicyTarget = codes "ImplicitPolicyTarget"
+word_of key.PresentDevicePolicy = codes "PresentDevicePolicy"
+word_of key.PresentControllerPolicy = codes "PresentControllerPolicy"
+word_of key.InsertedDevicePolicy = codes "InsertedDevicePolicy"
+word_of key.AuthorizedDefault = codes "AuthorizedDefault"
+word_of key.IpcAllowedUsers = codes "IPCAllowedUsers"
+word_of key.IpcAllowedGroups = codes "IPCAllowedGroups"
+word_of key.IpcAccessControlFiles = codes "IPCAccessControlFiles"
+word_of key.DeviceRulesWithPort = codes "DeviceRulesWithPort"
+word_of key.RestoreControllerDeviceState = codes "RestoreControllerDeviceState"
+word_of key.DeviceManagerBackend = codes "DeviceManagerBackend"
+word_of key.AuditBackend = codes "AuditBackend"
+word_of key.AuditFilePath = codes "AuditFilePath"
+word_of key.HidePii = codes "HidePII"
+
+-- how values are written
+abbrev pub target_word : Target → List ℕ
+target_word target.Allow = codes "allow"
+target_word target.Block = codes "block"
+target_word target.Reject = codes "reject"
+
+abbrev pub present_word : Present → List ℕ
+present_word present.Allow = codes "allow"
+present_word present.Block = codes "block"
+present_word present.Reject = codes "reject"
+present_word present.Keep = codes "keep"
+present_word present.Apply = codes "apply-policy"
+
+abbrev pub inserted_word : Inserted → List ℕ
+inserted_word inserted.Block = codes "block"
+inserted_word inserted.Reject = codes "reject"
+inserted_word inserted.Apply = codes "apply-policy"
+
+abbrev pub default_word : AuthDefault → List ℕ
+default_word auth_default.Keep = codes "keep"
+default_word auth_default.None = codes "none"
+default_word auth_default.All = codes "all"
+default_word auth_default.Internal = codes "internal"
+
+abbrev pub flag_word : Bool → List ℕ
+flag_word true = codes "true"
+flag_word false = codes "false"
+
+-- at least one byte, and no blank among them
+abbrev pub NoBlanks : List ℕ → Type 0
+NoBlanks [] = Unit {0}
+NoBlanks (b ∷ bytes) = (¬ IsBlank b) × NoBlanks bytes
+
+abbrev pub IsWord : List ℕ → Type 0
+IsWord word = (word ≢ []) × NoBlanks word
+
+abbrev pub BeginsBlank : List ℕ → Type 0
+BeginsBlank [] = Unit {0}
+BeginsBlank (b ∷ bytes) = IsBlank b
+
+-- words with blanks between, and about them
+abbrev pub AreSpaced : List (List ℕ) → List ℕ → Type 0
+AreSpaced [] text = AreBlanks text
+AreSpaced (word ∷ words) text = (before : List ℕ) × (rest : List ℕ) × (text ≡ before ++ (word ++ rest)) × AreBlanks before × IsWord word × BeginsBlank rest × AreSpaced words rest
+
+-- users or groups, by names of 1 to 32 letters, digits, `_`, `-` and `.`
+abbrev pub AreAll : Bool → List Named → Type 0
+AreAll group [] = Unit {0}
+AreAll group (named ∷ names) = (named.group ≡ group) × IsTrue (is_name named.name) × AreAll group names
+
+abbrev pub AreNames : Bool → List Named → List ℕ → Type 0
+AreNames group names text = AreSpaced (map (λ named. named.name) names) text × AreAll group names
+
+-- the table of keys, with the values that each can have
+abbrev pub IsValue : Key → List ℕ → Setting → Type 0
+IsValue key.RuleFile value set = (value ≢ []) × (set ≡ setting.RuleFile value)
+IsValue key.RuleFolder value set = set ≡ setting.RuleFolder value
+IsValue key.ImplicitPolicyTarget value set = (t : Target) × (value ≡ target_word t) × (set ≡ setting.Implicit t)
+IsValue key.PresentDevicePolicy value set = (p : Present) × (value ≡ present_word p) × (set ≡ setting.PresentDevice p)
+IsValue key.PresentControllerPolicy value set = (p : Present) × (value ≡ present_word p) × (set ≡ setting.PresentController p)
+IsValue key.InsertedDevicePolicy value set = (i : Inserted) × (value ≡ inserted_word i) × (set ≡ setting.Inserted i)
+IsValue key.AuthorizedDefault value set = (d : AuthDefault) × (value ≡ default_word d) × (set ≡ setting.Default d)
+IsValue key.IpcAllowedUsers value set = (names : List Named) × AreNames false names value × (set ≡ setting.Users names)
+IsValue key.IpcAllowedGroups value set = (names : List Named) × AreNames true names value × (set ≡ setting.Groups names)
+IsValue key.IpcAccessControlFiles value set = (value ≢ []) × (set ≡ setting.AccessFolder value)
+IsValue key.DeviceRulesWithPort value set = (b : Bool) × (value ≡ flag_word b) × (set ≡ setting.WithPort b)
+IsValue key.RestoreControllerDeviceState value set = set ≡ setting.Unused
+IsValue key.DeviceManagerBackend value set = set ≡ setting.Unused
+IsValue key.AuditBackend value set = set ≡ setting.Unused
+IsValue key.AuditFilePath value set = set ≡ setting.Unused
+IsValue key.HidePii value set = set ≡ setting.Unused
+
+-- a line that is skipped
+abbrev pub IsSkippedLine : List ℕ → Type 0
+IsSkippedLine line = (text : List ℕ) × IsTextOf line text × IsSkipped text
+
+-- a line that sets a key
+pub record IsSetting (line : List ℕ) (key : Key) (set : Setting) : Type 0 where
+  pub text : List ℕ
+  pub value : List ℕ
+  pub text_of : IsTextOf line text
+  pub shown : ¬ IsSkipped text
+  pub equation : IsEquation text (word_of key) value
+  pub has_value : IsValue key value set
+
+-- what is wrong with a text behind lines that set some keys, and where
+abbrev pub IsBad : List Key → List ℕ → FaultKind → ℕ → Type 0
+IsBad seen text NoEquals place = (place ≡ 0) × (¬ Has text 61)
+IsBad seen text UnknownKey place = (place ≡ 0) × (word : List ℕ) × (value : List ℕ) × IsEquation text word value × ((key : Key) → ¬ (word ≡ word_of key))
+IsBad seen text Repeated place = (place ≡ 0) × (key : Key) × (value : List ℕ) × IsEquation text (word_of key) value × Has seen key
+IsBad seen text BadValue place = (key : Key) × (value : List ℕ) × IsEquation text (word_of key) value × (¬ Has seen key) × ((set : Setting) → ¬ IsValue key value set) × (length text ≡ place + length value)
+
+abbrev pub IsBadLine : List Key → List ℕ → FaultKind → ℕ → Type 0
+IsBadLine seen line kind place = (text : List ℕ) × IsTextOf line text × (¬ IsSkipped text) × IsBad seen text kind place

@@ -1,0 +1,86 @@
+-- Texts of settings as relations: what they set, and their first bad line.
+use Rattle.std.specs.Prelude.{◌≡◌, ℕ, ◌+◌, ◌⊎◌, Bool, true, false, List, [], ◌∷◌, ◌++◌, length, map, filter}
+use Rattle.ug_lines.specs.Lines.{lines_of}
+use Rattle.ug_types.specs.Elements.{Has, AllDistinct}
+use Rattle.ug_types.specs.declared.text_fault.TextFault.{TextFault}
+use Rattle.ug_conf.specs.declared.fault.FaultKind.{FaultKind}
+use Rattle.ug_conf.specs.declared.keys.Key.{Key}
+use Rattle.ug_conf.specs.declared.keys.Key.TheVariants as key
+use Rattle.ug_conf.specs.declared.settings.Settings.{Settings}
+use Rattle.ug_conf.specs.declared.values.Setting.{Setting}
+use Rattle.ug_conf.specs.declared.values.Setting.TheVariants as setting
+use Rattle.ug_conf.specs.Faults.{kind_number}
+use Rattle.ug_conf.specs.Grammar.{IsSkippedLine, IsSetting, IsBadLine}
+use Rattle.ug_conf.specs.Principals.{Named}
+use Rattle.ug_conf.specs.Settings.{defaults}
+
+-- what a line sets, and the line's number
+pub record Entry : Type 0 where
+  pub number : ℕ
+  pub key : Key
+  pub set : Setting
+
+-- what lines that are numbered from a number on set, each of which is skipped or sets a key
+abbrev pub AreEntries : ℕ → List (List ℕ) → List Entry → Type 0
+AreEntries number [] entries = entries ≡ []
+AreEntries number (line ∷ lines) entries =
+    (IsSkippedLine line × AreEntries (number + 1) lines entries)
+    ⊎ ((entry : Entry) × (others : List Entry) × (entries ≡ entry ∷ others) × (entry.number ≡ number) × IsSetting line entry.key entry.set × AreEntries (number + 1) lines others)
+
+-- keys whose lines set nothing yet, and are noted
+abbrev pub is_noted : Key → Bool
+is_noted key.RuleFolder = true
+is_noted key.AuthorizedDefault = true
+is_noted key.RestoreControllerDeviceState = true
+is_noted key.DeviceManagerBackend = true
+is_noted key.AuditBackend = true
+is_noted key.AuditFilePath = true
+is_noted key.HidePii = true
+is_noted _ = false
+
+abbrev pub keys_of : List Entry → List Key
+keys_of entries = map (λ entry. entry.key) entries
+
+abbrev pub Sets : List Entry → Setting → Type 0
+Sets entries set = Has (map (λ entry. entry.set) entries) set
+
+-- the value that a line sets, or else the default
+abbrev pub IsGiven : {X : Type 0} → List Entry → (X → Setting) → X → X → Type 0
+IsGiven {X} entries what value default = Sets entries (what value) ⊎ (((other : X) → ¬ Sets entries (what other)) × (value ≡ default))
+
+-- the settings that lines give, each of which sets another key
+pub record Gives (entries : List Entry) (settings : Settings) : Type 0 where
+  pub once : AllDistinct (keys_of entries)
+  pub users : List Named
+  pub groups : List Named
+  pub rule_file : IsGiven entries setting.RuleFile settings.rule_file defaults.rule_file
+  pub rule_folder : IsGiven entries setting.RuleFolder settings.rule_folder defaults.rule_folder
+  pub access_folder : IsGiven entries setting.AccessFolder settings.access_folder defaults.access_folder
+  pub implicit : IsGiven entries setting.Implicit settings.implicit defaults.implicit
+  pub present_device : IsGiven entries setting.PresentDevice settings.present_device defaults.present_device
+  pub present_controller : IsGiven entries setting.PresentController settings.present_controller defaults.present_controller
+  pub inserted : IsGiven entries setting.Inserted settings.inserted defaults.inserted
+  pub default : IsGiven entries setting.Default settings.default defaults.default
+  pub with_port : IsGiven entries setting.WithPort settings.with_port defaults.with_port
+  pub users_given : IsGiven entries setting.Users users []
+  pub groups_given : IsGiven entries setting.Groups groups []
+  pub all_users : settings.users ≡ users ++ groups
+  pub unused : settings.unused ≡ map (λ entry. entry.number) (filter (λ entry. is_noted entry.key) entries)
+
+-- a text gives these settings
+abbrev pub Says : List ℕ → Settings → Type 0
+Says text settings = (entries : List Entry) × AreEntries 1 (lines_of text) entries × Gives entries settings
+
+-- the lines before are good and set each another key, and this one is bad
+pub record IsFirstBad (text : List ℕ) (fault : TextFault) : Type 0 where
+  pub before : List (List ℕ)
+  pub line : List ℕ
+  pub behind : List (List ℕ)
+  pub entries : List Entry
+  pub kind : FaultKind
+  pub lines : lines_of text ≡ before ++ line ∷ behind
+  pub good : AreEntries 1 before entries
+  pub once : AllDistinct (keys_of entries)
+  pub bad : IsBadLine (keys_of entries) line kind fault.place
+  pub number : fault.line ≡ length before + 1
+  pub kind_is : fault.kind ≡ kind_number kind

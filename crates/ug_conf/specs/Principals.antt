@@ -1,0 +1,24 @@
+-- Users and groups.
+use Rattle.std.specs.Prelude.{ℕ, Bool, true, false, ◌&&◌, ◌||◌, nat_eq, nat_le, if◌then◌else◌, List, [], ◌∷◌, length, Option, Some, None}
+use Rattle.std.specs.Char.{is_ascii_alphanumeric}
+use Rattle.std.specs.List.{list_all}
+
+pub record Named : Type 0 where
+  pub group : Bool
+  pub name : List ℕ
+
+-- a letter, a digit, `_`, `-` or `.`
+abbrev pub is_name_byte : ℕ → Bool
+is_name_byte b = is_ascii_alphanumeric b || nat_eq b 95 || nat_eq b 45 || nat_eq b 46
+
+-- from 1 to 32 of them
+abbrev pub is_name : List ℕ → Bool
+is_name text = nat_le 1 (length text) && nat_le (length text) 32 && list_all is_name_byte text
+
+abbrev pub principal_named : Bool → List ℕ → Option Named
+principal_named group name = if is_name name then Some (record { group = group; name = name }) else None
+
+-- `:` stands before the name of a group
+abbrev pub principal_of : List ℕ → Option Named
+principal_of [] = None
+principal_of (b ∷ bytes) = if nat_eq b 58 then principal_named true bytes else principal_named false (b ∷ bytes)

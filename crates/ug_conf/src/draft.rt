@@ -1,0 +1,159 @@
+// What the lines so far set.
+ghost use Rattle.std.specs.Prelude.{◌≡◌, ◌++◌, IfOk, OnOk, OnErr, nat_eq};
+ghost use Rattle.std.specs.List.{position};
+ghost use Rattle.ug_conf.specs.Faults.{Answers};
+ghost use Rattle.ug_conf.specs.Draft as drafts;
+ghost use Rattle.ug_conf.specs.Draft.{with_setting, key_read, value_read, assigned, line_read, Takes};
+
+use crate::blanks::{without_end, without_front};
+use crate::fault::{FaultKind, LineFault};
+use crate::keys::{Key, known_key};
+use crate::principal::Principal;
+use crate::settings::Settings;
+use crate::values::{Setting, make_setting};
+use std::alloc::Global;
+use ug_types::{List, NoMemory};
+
+// Both, one behind the other.
+fn joined(
+    alloc: Global,
+    front: &[Principal],
+    behind: &[Principal],
+) -> Result<List<Principal>, NoMemory>
+    ensures { IfOk result (λ all. all ≡ front.now ++ behind.now) }
+{
+    let mut all = Vec::from_slice(alloc, front)?;
+    all.extend_from_slice(behind)?;
+    Ok(List::from_vec(all))
+}
+
+// Sets what the line of that number says. A refusal changes nothing.
+fn set(
+    alloc: Global,
+    settings: &mut Settings,
+    number: u64,
+    setting: Setting,
+) -> Result<(), NoMemory>
+    ensures ok { OnOk result (settings.new ≡ with_setting number setting settings.old) }
+    ensures err { OnErr result (settings.new ≡ settings.old) }
+{
+    match setting {
+        Setting::RuleFile(path) => settings.rule_file = path,
+        Setting::RuleFolder(path) => {
+            settings.unused.push(number)?;
+            settings.rule_folder = path;
+        }
+        Setting::Implicit(target) => settings.implicit = target,
+        Setting::PresentDevice(policy) => settings.present_device = policy,
+        Setting::PresentController(policy) => settings.present_controller = policy,
+        Setting::Inserted(policy) => settings.inserted = policy,
+        Setting::Default(default) => {
+            settings.unused.push(number)?;
+            settings.default = default;
+        }
+        Setting::Users(users) => {
+            settings.users = joined(alloc, users.as_slice(), settings.users.as_slice())?;
+        }
+        Setting::Groups(groups) => {
+            settings.users = joined(alloc, settings.users.as_slice(), groups.as_slice())?;
+        }
+        Setting::AccessFolder(path) => settings.access_folder = path,
+        Setting::WithPort(with_port) => settings.with_port = with_port,
+        Setting::Unused => settings.unused.push(number)?,
+    }
+    Ok(())
+}
+
+// The key that a word is, unless it was set before.
+fn new_key(seen: &[Key], word: &[u8]) -> Result<Key, LineFault>
+    ensures { Answers result (key_read seen.now word.now) }
+{
+    match known_key(word) {
+        Some(key) => {
+            if seen.contains(&key) {
+                return Err(LineFault::at(FaultKind::Repeated, 0));
+            }
+            Ok(key)
+        }
+        None => Err(LineFault::at(FaultKind::UnknownKey, 0)),
+    }
+}
+
+fn value(alloc: Global, key: Key, text: &[u8], place: u64) -> Result<Setting, LineFault>
+    ensures { Answers result (value_read place key text.now) }
+{
+    match make_setting(alloc, key, text)? {
+        Some(setting) => Ok(setting),
+        None => Err(LineFault::at(FaultKind::BadValue, place)),
+    }
+}
+
+// Takes what stands before and behind the first `=`. The value's place is given.
+fn add_assignment(
+    alloc: Global,
+    settings: &mut Settings,
+    seen: &mut Vec<Key>,
+    number: u64,
+    word: &[u8],
+    text: &[u8],
+    place: u64,
+) -> Result<(), LineFault>
+    ensures { Takes result (settings.old, seen.old.items) (settings.new, seen.new.items) (assigned number (settings.old, seen.old.items) word.now text.now place) }
+{
+    let key = new_key(seen.as_slice(), word)?;
+    let setting = value(alloc, key, text, place)?;
+    match seen.reserve(1) {
+        Ok(()) => {}
+        Err(_) => return Err(LineFault::Memory),
+    }
+    set(alloc, settings, number, setting)?;
+    let _done = seen.push(key);
+    Ok(())
+}
+
+fn equals_in(text: &[u8]) -> Option<usize>
+    ensures { result ≡ position (nat_eq 61) text.now }
+{
+    text.iter().position(|byte| b'=' == *byte)
+}
+
+// Takes a line that is neither empty nor a comment, without its blanks.
+fn add_text(
+    alloc: Global,
+    settings: &mut Settings,
+    seen: &mut Vec<Key>,
+    number: u64,
+    text: &[u8],
+) -> Result<(), LineFault>
+    ensures { Takes result (settings.old, seen.old.items) (settings.new, seen.new.items) (drafts.equation_read number (settings.old, seen.old.items) text.now) }
+{
+    match equals_in(text) {
+        Some(at) => {
+            let word = without_end(&text[..at]);
+            let value = without_front(&text[at + 1..]);
+            let place = (text.len() - value.len()) as u64;
+            add_assignment(alloc, settings, seen, number, word, value, place)
+        }
+        None => Err(LineFault::at(FaultKind::NoEquals, 0)),
+    }
+}
+
+/// Takes the line of that number. A refusal changes nothing.
+pub fn add_line(
+    alloc: Global,
+    settings: &mut Settings,
+    seen: &mut Vec<Key>,
+    number: u64,
+    line: &[u8],
+) -> Result<(), LineFault>
+    ensures { Takes result (settings.old, seen.old.items) (settings.new, seen.new.items) (line_read number (settings.old, seen.old.items) line.now) }
+{
+    let text = without_end(without_front(line));
+    if text.is_empty() {
+        return Ok(());
+    }
+    if text[0] == b'#' {
+        return Ok(());
+    }
+    add_text(alloc, settings, seen, number, text)
+}

@@ -1,0 +1,24 @@
+// Settings of the daemon: usbguard-daemon.conf(5).
+#![tactic(auto)]
+
+mod blanks;
+mod defaults;
+mod draft;
+mod fault;
+mod keys;
+mod names;
+mod principal;
+mod reader;
+mod settings;
+#[cfg(test)]
+mod tests;
+mod texts;
+mod values;
+
+pub use defaults::default_settings;
+pub use fault::{Fault, FaultKind, LineFault};
+pub use keys::Key;
+pub use principal::Principal;
+pub use reader::SettingsReader;
+pub use settings::{AuthDefault, Inserted, Present, Settings};
+pub use texts::parse_conf;
