@@ -54,7 +54,7 @@ holds_is k name held i j d f h =
     sym h.is ∙ ap (λ (v : HeldFile). v.device) (some_same (slice_get k.held held) h.file own h.at f.file)
 
 -- what isn't live isn't so later
-gone_later : (k l : Kernel) (name : List ℕ) (held i : ℕ) → Grows k l → IsAuthorizedFile k name held i → ((d : Device) → Live k.devices i d → ⊥) → IsGoneAt held l
+pub gone_later : (k l : Kernel) (name : List ℕ) (held i : ℕ) → Grows k l → IsAuthorizedFile k name held i → ((d : Device) → Live k.devices i d → ⊥) → IsGoneAt held l
 gone_later k l name held i g f dead j e h live =
     let is = holds_is l name held i j e (file_later k l name held i g f) h in
     dead f.d (live_before k l i f.d e g f.device (subst (λ (v : ℕ). Live l.devices v e) is live)).0

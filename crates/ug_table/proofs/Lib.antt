@@ -2,6 +2,7 @@ pub mod Loops
 pub mod Allowed
 pub mod Devices
 pub mod Standings
+pub mod RemoveMarks
 pub mod Account
 pub mod Says
 pub mod Joined
