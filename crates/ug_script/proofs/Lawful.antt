@@ -127,7 +127,7 @@ plays_hold [] stage h = h
 plays_hold (line ∷ lines) stage h = plays_hold lines (advance script_step stage line) (advance_holds stage line h)
 
 pub no_standing : (k : Kernel) → Stand k [] 1
-no_standing k = record { devices = λ s a. absurd a; numbers = λ s a. absurd a; names = tt; distinct = tt }
+no_standing k = record { devices = λ s a. absurd a; numbers = λ s a. absurd a; names = tt; distinct = tt; removed = λ s a. absurd a }
 
 pub stays_lawful : (w : World) → w.ran_out ≡ false → IsKernel w.kernel → StaysLawful w
 stays_lawful w run sound lines n text s v e =

@@ -14,7 +14,7 @@ use Rattle.ug_kernel.specs.Kernel.{Kernel, Live}
 use Rattle.ug_sysfs.specs.World.{World, begun}
 use Rattle.ug_audit.specs.declared.entry.Entry.{Entry}
 use Rattle.ug_audit.specs.declared.entry.Entry.TheVariants as entry
-use Rattle.ug_table.specs.Bring.{write_of}
+use Rattle.ug_table.specs.Bring.{CallsFor}
 use Rattle.ug_table.specs.Laws.{IsDevice, IsProbed, MayHave, wrote_entries, IsJudged, IsAsJudged}
 use Rattle.ug_table.specs.declared.standing.Standing.{Standing}
 use Rattle.ug_play.specs.Play.{play, NameNobody}
@@ -74,7 +74,7 @@ pub record IsExplained (rules : List IdRule) (entries : List Entry) (first k : K
   pub after : List Entry
   pub at : entries ≡ before ++ (wrote_entries number name effect.write outcome ++ after)
   pub may : MayHave outcome
-  pub wanted : effect.write ≡ write_of verdict
+  pub wanted : CallsFor verdict effect.write
   pub judged : WasJudged rules before first k effect.device number name held verdict
 
 -- each effect since the first kernel is explained
