@@ -23,6 +23,7 @@ pub mod Swept
 pub mod Walked
 pub mod OtherNames
 pub mod OnePart
+pub mod Within
 pub mod Parted
 pub mod Faults
 pub mod Once

@@ -1,5 +1,5 @@
 -- A run of a sweep goes along its parts.
-use Rattle.std.proofs.Common.{◌≡◌, ℕ, Bool, true, false, not, ◌||◌, ◌⊎◌, List, [], ◌∷◌, ◌++◌, Option, Some, None, inl, inr, refl, sym, ◌∙◌, ap, subst, append_assoc, append-nil}
+use Rattle.std.proofs.Common.{◌≡◌, ◌≤◌, ℕ, Bool, true, false, not, ◌||◌, ◌⊎◌, List, [], ◌∷◌, ◌++◌, Option, Some, None, inl, inr, refl, sym, ◌∙◌, ap, subst, append_assoc, append-nil}
 use Rattle.std.specs.List.{filter}
 use Rattle.ug_types.specs.Sweep.{in_sweep_order}
 use Rattle.ug_kernel.specs.declared.calls.Listing.{Listing}
@@ -13,7 +13,7 @@ use Rattle.ug_kernel.specs.Calls.{Call, Names, Open, Read, Ask_alive, Put, Close
 use Rattle.ug_itree.specs.Tree.{Runs}
 use Rattle.ug_itree.specs.Along.{Made, answered, Along, failure, failures}
 use Rattle.ug_itree.proofs.Runs.{runs_split}
-use Rattle.ug_itree.proofs.Walks.{Mays, seen_after, Walked, walked, along_more}
+use Rattle.ug_itree.proofs.Walks.{Mays, seen_after, along_more}
 use Rattle.ug_audit.specs.declared.entry.Entry.{Entry}
 use Rattle.ug_audit.specs.declared.entry.Entry.TheVariants as entry
 use Rattle.ug_audit.specs.declared.entry.Fault.{Fault}
@@ -22,12 +22,13 @@ use Rattle.ug_table.specs.State.{State, Kept, kept_of, Answers, Laters}
 use Rattle.ug_table.specs.Standings.{standing_of, lists, farewells}
 use Rattle.ug_table.specs.Settle.{settling, resettling}
 use Rattle.ug_table.specs.Sweep.{settling_all, resettling_all, parted, names_of, resumed, unlisted, marked_listed, if_room, after_list, sweeping}
-use Rattle.ug_table.specs.Parts.{OpenFile, AreAbout, EndsAtFailure, AreDue, AtMostOneEach, LacksRoom, PutMade, puts_of, put_of, writes_in, TellsWrites, IsBoundAnew, known_files, Part, InParts, AfterListing, GoesInParts}
+use Rattle.ug_table.specs.Parts.{OpenFile, AreAbout, EndsAtFailure, AreDue, AtMostOneEach, LacksRoom, PutMade, puts_of, put_of, writes_in, TellsWrites, IsBoundAnew, known_files, Part, InParts, AfterListing, GoesInParts, count_calls}
 use Rattle.ug_table.specs.declared.standing.Standing.{Standing}
 use Rattle.ug_table.specs.declared.standing.Known.{Known}
 use Rattle.ug_table.specs.declared.standing.Settled.{Settled}
 use Rattle.ug_table.proofs.Walked.{short_open, short_of, Seen, seen_of, first_of, puts_more, see, May}
 use Rattle.ug_table.proofs.OnePart.{from_none, Leaves, Anew, settling_goes, resettling_goes}
+use Rattle.ug_table.proofs.Within.{WalkedWithin, walked_within, settling_within, resettling_within}
 
 -- what the rule of a part's calls says of all of them
 are_about : (name : List ℕ) (q : Seen) (ms : List Made) → Mays (May name) see q ms → AreAbout name q.files ms
@@ -113,8 +114,9 @@ record WentPart {S : Type 0} (gives : S → (call : Call) → Answer call → S 
   pub entries : fs ≡ es ++ rest
   pub part : Part name ss rs calls rest
 
-went_part : {S R : Type 0} (gives : S → (call : Call) → Answer call → S → Type 0) (name : List ℕ) (ss : List Standing) (es : List Entry) (standings : R → List Standing) (entries : R → List Entry) (s : S) (r : R) (t : S) → Walked gives (May name) see (λ q v. Leaves name (Anew (standing_of name ss)) ss es q (standings v) (entries v)) (seen_of None from_none (known_files (standing_of name ss)) [] []) s r t → WentPart gives name s ss es t (standings r) (entries r)
-went_part gives name ss es standings entries s r t w =
+went_part : {S R : Type 0} (gives : S → (call : Call) → Answer call → S → Type 0) (name : List ℕ) (ss : List Standing) (es : List Entry) (standings : R → List Standing) (entries : R → List Entry) (s : S) (r : R) (t : S) → WalkedWithin gives (May name) see (λ q v. Leaves name (Anew (standing_of name ss)) ss es q (standings v) (entries v)) 14 (seen_of None from_none (known_files (standing_of name ss)) [] []) s r t → WentPart gives name s ss es t (standings r) (entries r)
+went_part gives name ss es standings entries s r t x =
+    let w = x.walk in
     let files : List OpenFile = known_files (standing_of name ss) in
     let q : Seen = seen_of None from_none files [] [] in
     record {
@@ -131,6 +133,7 @@ went_part gives name ss es standings entries s r t w =
         due = are_due name q w.made w.mays;
         single = subst (λ (v : List PutMade). AtMostOneEach v) (puts_seen q w.made) w.result.tells.single;
         writes = subst (λ v. TellsWrites name v (writes_in w.result.rest)) (puts_seen q w.made) w.result.tells.writes;
+        few = x.few;
         others = w.result.others;
       };
     }
@@ -166,7 +169,7 @@ settling_all_went {S} {J} gives answer later (name ∷ names) present w s v t h 
     let q : Seen = seen_of None from_none (known_files (standing_of name w.standings)) [] [] in
     one_more gives name names s k.1 t w.standings k.0.1.standings v.standings w.entries k.0.1.entries v.entries
     (went_part gives name w.standings w.entries (λ (r : Settled × State J). r.1.standings) (λ (r : Settled × State J). r.1.entries) s k.0 k.1
-    (walked gives (May name) see P q (settling answer later name present w) s k.0 k.1 (settling_goes answer later name present w) k.2))
+    (walked_within gives (May name) see P 14 q (settling answer later name present w) s k.0 k.1 (settling_goes answer later name present w) k.2 (settling_within answer later name present w)))
     (settling_all_went gives answer later names present k.0.1 k.1 v t k.3)
 
 resettling_all_went : {S : Type 0} (gives : S → (call : Call) → Answer call → S → Type 0) (names : List (List ℕ)) (w : Kept) (s : S) (v : Kept) (t : S) → Runs gives s (resettling_all names w) v t → WentParts gives names s w.standings w.entries t v.standings v.entries
@@ -183,7 +186,7 @@ resettling_all_went {S} gives (name ∷ names) w s v t h =
     let q : Seen = seen_of None from_none (known_files (standing_of name w.standings)) [] [] in
     one_more gives name names s k.1 t w.standings k.0.1.standings v.standings w.entries k.0.1.entries v.entries
     (went_part gives name w.standings w.entries (λ (r : Settled × Kept). r.1.standings) (λ (r : Settled × Kept). r.1.entries) s k.0 k.1
-    (walked gives (May name) see P q (resettling name w) s k.0 k.1 (resettling_goes name w) k.2))
+    (walked_within gives (May name) see P 14 q (resettling name w) s k.0 k.1 (resettling_goes name w) k.2 (resettling_within name w)))
     (resettling_all_went gives names k.0.1 k.1 v t k.3)
 
 -- a listing, and the parts that it leads to

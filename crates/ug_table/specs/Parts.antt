@@ -1,5 +1,5 @@
 -- A sweep's calls, in parts: the listing, and a part for each name; and which failed calls its `unsettled` entries tell.
-use Rattle.std.specs.Prelude.{◌≡◌, ℕ, ◌^◌, ◌<◌, Bool, true, false, map, List, [], ◌∷◌, ◌++◌, Option, Some, None, ◌⊎◌}
+use Rattle.std.specs.Prelude.{◌≡◌, ℕ, ◌+◌, ◌^◌, ◌<◌, ◌≤◌, Bool, true, false, map, List, [], ◌∷◌, ◌++◌, Option, Some, None, ◌⊎◌}
 use Rattle.std.specs.List.{filter}
 use Rattle.ug_types.specs.Elements.{Has, AllDistinct}
 use Rattle.ug_types.specs.Names.{parent_of}
@@ -105,6 +105,19 @@ IsClosing (Open name control) = ⊥
 IsClosing (Read name attr) = ⊥
 IsClosing (Ask_alive held) = ⊥
 IsClosing (Put held what) = ⊥
+
+-- how many calls there are; closings aren't counted
+abbrev pub counts_as : Call → ℕ
+counts_as (Close held) = 0
+counts_as Names = 1
+counts_as (Open name control) = 1
+counts_as (Read name attr) = 1
+counts_as (Ask_alive held) = 1
+counts_as (Put held what) = 1
+
+abbrev pub count_calls : List Made → ℕ
+count_calls [] = 0
+count_calls (m ∷ ms) = counts_as m.call + count_calls ms
 
 -- behind a call that failed there are closings alone
 abbrev pub EndsAtFailure : List Failure → List Made → Type 0
@@ -212,7 +225,7 @@ LacksRoom stands calls = ((known : Known) × (stands ≡ Some known) × (is_to_g
 
 -- One name's part of a sweep, from the standings before it to those after it: its calls are about the name, and are over with
 -- one that fails; its entries tell that failure, and no other; what is told of want of memory is of a new device, or of one that is
--- still to be removed; each write is due and told, and there is one of each kind at most; and the standings of other names stay.
+-- still to be removed; each write is due and told, and there is one of each kind at most; there are few calls; and the standings of other names stay.
 pub record Part (name : List ℕ) (before after : List Standing) (calls : List Made) (entries : List Entry) : Type 0 where
   pub about : AreAbout name (known_files (standing_of name before)) calls
   pub ends : EndsAtFailure [] calls
@@ -222,6 +235,7 @@ pub record Part (name : List ℕ) (before after : List Standing) (calls : List M
   pub due : AreDue (record { last = None; earlier = None }) calls
   pub single : AtMostOneEach (puts_of calls)
   pub writes : TellsWrites name (puts_of calls) (writes_in entries)
+  pub few : count_calls calls ≤ 14
   pub others : (other : List ℕ) → (other ≡ name → ⊥) → standing_of other after ≡ standing_of other before
 
 -- a part for each name, in this order

@@ -115,12 +115,13 @@ fn write_remove<Y: Sysfs>(
 {
     let number = known.number;
     let write = Write::Remove;
-    out.push(Entry::Intent {
+    let intent = Entry::Intent {
         number,
         name: *name,
         write,
-    });
-    let outcome = sysfs.write(file, write);
+    };
+    out.push(intent);
+    let wrote = sysfs.write(file, write);
     let call = sysfs.calls();
     let count = sysfs.faults();
     sysfs.close(file);
@@ -128,9 +129,9 @@ fn write_remove<Y: Sysfs>(
         number,
         name: *name,
         write,
-        outcome,
+        outcome: wrote,
     });
-    match outcome {
+    match wrote {
         Wrote::Done => Settled::Stands,
         Wrote::Gone => {
             out.push(Entry::Gone {
@@ -140,10 +141,8 @@ fn write_remove<Y: Sysfs>(
             Settled::Nobody
         }
         Wrote::Failed => {
-            out.push(Entry::Unsettled {
-                name: *name,
-                fault: Fault::Call { call, count },
-            });
+            let fault = Fault::Call { call, count };
+            out.push(Entry::Unsettled { name: *name, fault });
             Settled::Fault { call, count }
         }
     }
@@ -173,10 +172,8 @@ fn remove<Y: Sysfs>(
             Settled::Nobody
         }
         RemoveHold::Failed { call, count } => {
-            out.push(Entry::Unsettled {
-                name: *name,
-                fault: Fault::Call { call, count },
-            });
+            let fault = Fault::Call { call, count };
+            out.push(Entry::Unsettled { name: *name, fault });
             Settled::Fault { call, count }
         }
         RemoveHold::Memory => {
