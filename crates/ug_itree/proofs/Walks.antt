@@ -1,8 +1,8 @@
 -- Programs whose calls keep to a rule that speaks of what was seen of the calls before.
-use Rattle.std.proofs.Common.{Bool, List, [], ◌∷◌, ◌++◌, sym, subst}
+use Rattle.std.proofs.Common.{Bool, List, [], ◌∷◌, ◌++◌, subst}
 use Rattle.ug_kernel.specs.Calls.{Call, Answer}
-use Rattle.ug_itree.specs.Tree.{Prog, Return, Ask, Room, Runs, then}
-use Rattle.ug_itree.specs.Along.{Made, answered, Along}
+use Rattle.ug_itree.specs.Tree.{Prog, Return, Ask, Room, then}
+use Rattle.ug_itree.specs.Along.{Made, Along}
 
 -- from what was seen, each call may be made, and each result with what is seen then has P
 abbrev pub Walks : {Q R : Type 0} → (Q → Call → Type 0) → (Q → (call : Call) → Answer call → Q) → Q → Prog R → (Q → R → Type 0) → Type 0
@@ -36,13 +36,6 @@ pub record Walked {S Q R : Type 0} (gives : S → (call : Call) → Answer call 
   pub along : Along gives s made t
   pub mays : Mays may see q made
   pub result : P (seen_after see q made) r
-
-pub walked : {S Q R : Type 0} (gives : S → (call : Call) → Answer call → S → Type 0) (may : Q → Call → Type 0) (see : Q → (call : Call) → Answer call → Q) (P : Q → R → Type 0) (q : Q) (p : Prog R) (s : S) (r : R) (t : S) → Walks may see q p P → Runs gives s p r t → Walked gives may see P q s r t
-walked gives may see P q (Return value) s r t w h = record { made = []; along = h.1; mays = tt; result = subst (λ v. P q v) (sym h.0) w }
-walked gives may see P q (Ask call next) s r t w h =
-    let k = walked gives may see P (see q call h.0) (next h.0) h.1 r t (w.1 h.0) h.3 in
-    record { made = answered call h.0 ∷ k.made; along = (h.1, h.2, k.along); mays = (w.0, k.mays); result = k.result }
-walked gives may see P q (Room next) s r t w h = walked gives may see P q (next h.0) s r t (w h.0) h.1
 
 pub along_more : {S : Type 0} (gives : S → (call : Call) → Answer call → S → Type 0) (ms ns : List Made) (s u t : S) → Along gives s ms u → Along gives u ns t → Along gives s (ms ++ ns) t
 along_more gives [] ns s u t a b = subst (λ v. Along gives v ns t) a b

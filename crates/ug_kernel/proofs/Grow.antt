@@ -1,5 +1,5 @@
 -- What each call leaves as it was.
-use Rattle.std.proofs.Common.{◌≡◌, ℕ, Bool, true, false, ◌==◌, Option, Some, slice_get, inl, inr, refl, sym, ◌∙◌, subst, arith}
+use Rattle.std.proofs.Common.{◌≡◌, ℕ, Bool, true, false, ◌==◌, Option, Some, slice_get, inl, inr, refl, sym, ◌∙◌, subst, arith, List}
 use Rattle.ug_kernel.specs.declared.device.Device.{Device}
 use Rattle.ug_kernel.specs.declared.calls.Write.{Write}
 use Rattle.ug_kernel.specs.declared.calls.Wrote.{Wrote}
@@ -9,17 +9,21 @@ use Rattle.ug_kernel.specs.Kernel.{Kernel, Stays}
 use Rattle.ug_kernel.specs.Called.{value_after, does_put, Does, IsWritten, Called}
 use Rattle.ug_kernel.specs.Quiet.{Quiet, Grows}
 use Rattle.ug_kernel.proofs.Quiet.{stays_refl, stays_trans, moves_quiet, does_quiet}
+use Rattle.ug_types.specs.Elements.{Has}
+use Rattle.ug_types.proofs.Elements.{has_left}
+use Rattle.ug_kernel.specs.declared.device.Effect.{Effect}
 
 pub quiet_grows : (k l : Kernel) → Quiet k l → Grows k l
-quiet_grows k l h = record { devices = λ i d e. let a = h.devices i d e in (a.0, a.1, a.2.stays); held = h.held }
+quiet_grows k l h = record { devices = λ i d e. let a = h.devices i d e in (a.0, a.1, a.2.stays); held = h.held; log = λ e a. subst (λ (v : List Effect). Has v e) (sym h.log) a }
 
 pub grows_refl : (k : Kernel) → Grows k k
-grows_refl k = record { devices = λ i d e. (d, e, stays_refl d); held = λ h f e. e }
+grows_refl k = record { devices = λ i d e. (d, e, stays_refl d); held = λ h f e. e; log = λ e a. a }
 
 pub grows_trans : (k l m : Kernel) → Grows k l → Grows l m → Grows k m
 grows_trans k l m h j = record {
   devices = λ i d e. let a = h.devices i d e in let b = j.devices i a.0 a.1 in (b.0, b.1, stays_trans d a.0 b.0 a.2 b.2);
   held = λ f x e. j.held f x (h.held f x e);
+  log = λ e a. j.log e (h.log e a);
 }
 
 pub some_same : {X : Type 0} (o : Option X) (x y : X) → o ≡ Some x → o ≡ Some y → x ≡ y
@@ -39,6 +43,7 @@ pub written_grows : (held : ℕ) (write : Write) (k l : Kernel) → IsWritten he
 written_grows held write k l w = record {
   devices = λ i d. written_get held write k l w i d (i == w.i) refl;
   held = λ f x e. subst (λ v. slice_get v f ≡ Some x) (sym w.files) e;
+  log = λ e a. subst (λ (v : List Effect). Has v e) (sym w.log) (has_left k.log _ e a);
 }
 
 same_grows : (k l : Kernel) → l ≡ k → Grows k l

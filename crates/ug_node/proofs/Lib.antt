@@ -2,3 +2,4 @@ pub mod Laws
 mod ReadAs
 mod Rises
 mod Unwritten
+pub mod Removing

@@ -32,7 +32,7 @@ abbrev Tells : {X : Type 0} → Tally → Tally → Result X Stop → Type 0
 Tells v w (Ok x) = Unit {0}
 Tells v w (Err why) = StopTells v w why
 
-fault_earlier : (earlier faults calls_after faults_after number count : ℕ) → earlier ≤ faults → faults ≤ faults_after → IsFault faults calls_after faults_after number count → IsFault earlier calls_after faults_after number count
+pub fault_earlier : (earlier faults calls_after faults_after number count : ℕ) → earlier ≤ faults → faults ≤ faults_after → IsFault faults calls_after faults_after number count → IsFault earlier calls_after faults_after number count
 fault_earlier earlier faults calls_after faults_after number count a b h = record { number = h.number; total = h.total; rises = λ few. grind (arith, h.rises, few, a, b) }
 
 stop_earlier : (v u w : Tally) (why : Stop) → v.faults ≤ u.faults → u.faults ≤ w.faults → StopTells u w why → StopTells v w why
@@ -44,7 +44,7 @@ tells_ends : {X : Type 0} (v u w : Tally) (x r : Result X Stop) → Tells v u x 
 tells_ends v u w x r h e f = subst (λ y. Tells v y r) (sym f) (subst (λ y. Tells v u y) (sym e) h)
 
 -- a fault's numbers are read before the held file is closed
-counted_fault : {X : Type 0} (failed : X → Bool) (answer : X) (number count : ℕ) (v u x : Tally) → failed answer ≡ true → Counted failed (record { answer = answer; number = number; count = count }) v.calls v.faults u.calls u.faults → x.calls ≡ u.calls → x.faults ≡ u.faults → IsFault v.faults x.calls x.faults number count
+pub counted_fault : {X : Type 0} (failed : X → Bool) (answer : X) (number count : ℕ) (v u x : Tally) → failed answer ≡ true → Counted failed (record { answer = answer; number = number; count = count }) v.calls v.faults u.calls u.faults → x.calls ≡ u.calls → x.faults ≡ u.faults → IsFault v.faults x.calls x.faults number count
 counted_fault failed answer number count v u x e h a b = record { number = h.number ∙ sym a; total = h.count ∙ sym b; rises = λ few. let r = h.rises e few in omega (arith, b, r) }
 
 -- one file

@@ -1,3 +1,4 @@
 pub mod Files
 pub mod Bind
 pub mod Bound
+pub mod Removal

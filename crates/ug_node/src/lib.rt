@@ -1,8 +1,10 @@
-// Binds a name to the very device behind a held file.
+// Binds a name to the very device behind a held file, and opens the file by which that device is removed.
 #![tactic(auto)]
 
 mod files;
 mod identity;
+mod removal;
 
 pub use files::{File, Stop};
 pub use identity::{Binding, Bound, bind};
+pub use removal::{RemoveHold, hold_remove};

@@ -1,4 +1,4 @@
--- Want of memory in a binding is its answer.
+-- Want of memory in a binding, and in an opening of a `remove` file, is its answer.
 use Rattle.std.proofs.Common.{◌≡◌, ℕ, List, Option, Some, None, Result, Ok, Err, refl, sym, subst}
 use Rattle.ug_types.specs.declared.record.Attrs.{Attrs}
 use Rattle.ug_kernel.specs.declared.calls.Attr.{Attr}
@@ -12,12 +12,16 @@ use Rattle.ug_kernel.specs.declared.calls.Probe.TheVariants as probe
 use Rattle.ug_itree.specs.Tree.{Prog, then}
 use Rattle.ug_node.specs.Files.{giving_up, if_absent, after_read, reading, after_connect, after_serial, after_product, after_descriptors, reading_own, after_parent_serial, after_parent_product, after_parent_descriptors, reading_parent}
 use Rattle.ug_node.specs.Bind.{after_probe, probing, after_parent, to_parent, after_own, after_open, binding}
+use Rattle.ug_node.specs.Removal.{after_remove_probe, after_remove_open, holding_remove}
+use Rattle.ug_node.specs.declared.removal.RemoveHold.{RemoveHold}
+use Rattle.ug_node.specs.declared.removal.RemoveHold.TheVariants as hold
 use Rattle.ug_node.specs.declared.files.File.{File}
 use Rattle.ug_node.specs.declared.files.Stop.{Stop}
 use Rattle.ug_node.specs.declared.files.Stop.TheVariants as stop
 use Rattle.ug_node.specs.declared.identity.Binding.{Binding}
 use Rattle.ug_node.specs.declared.identity.Binding.TheVariants as bound
 use Rattle.ug_play.proofs.Trees.{Returns, Tells, returns_any, tells_then}
+use Rattle.ug_types.specs.declared.verdict.Held.{Held}
 
 abbrev IsMemory : {X : Type 0} → Result X Stop → Type 0
 IsMemory r = r ≡ Err stop.Memory
@@ -114,3 +118,20 @@ tells_after_open name parent opened.Memory number count = tt
 pub tells_binding : (name : List ℕ) (parent : Option (List ℕ)) → Tells (λ (b : Binding). b ≡ bound.Memory) (binding name parent)
 unfolding binding
 tells_binding name parent = (λ a. tells_after_open name parent a.answer a.number a.count, λ a m. subst (λ (r : Opened). Returns IsUnread (after_open name parent r a.number a.count)) (sym m) refl)
+
+-- and in an opening of a `remove` file
+
+tells_remove_probe : (file : Held) (r : Probe) (number count : ℕ) → Tells (λ (h : RemoveHold). h ≡ hold.Memory) (after_remove_probe file r number count)
+tells_remove_probe file (probe.Alive on) number count = tt
+tells_remove_probe file probe.Gone number count = (λ a. tt, λ a m. absurd m)
+tells_remove_probe file probe.Failed number count = (λ a. tt, λ a m. absurd m)
+
+tells_remove_open : (held : ℕ) (r : Opened) (number count : ℕ) → Tells (λ (h : RemoveHold). h ≡ hold.Memory) (after_remove_open held r number count)
+tells_remove_open held (opened.Token file) number count = (λ a. tells_remove_probe file a.answer a.number a.count, λ a m. absurd m)
+tells_remove_open held opened.Absent number count = tt
+tells_remove_open held opened.Failed number count = tt
+tells_remove_open held opened.Memory number count = tt
+
+pub tells_holding : (name : List ℕ) (held : ℕ) → Tells (λ (h : RemoveHold). h ≡ hold.Memory) (holding_remove name held)
+unfolding holding_remove
+tells_holding name held = (λ a. tells_remove_open held a.answer a.number a.count, λ a m. subst (λ (r : Opened). Returns (λ (h : RemoveHold). h ≡ hold.Memory) (after_remove_open held r a.number a.count)) (sym m) refl)

@@ -13,6 +13,7 @@ use Rattle.ug_kernel.specs.declared.calls.Control.{Control}
 use Rattle.ug_kernel.specs.declared.calls.Attr.{Attr}
 use Rattle.ug_kernel.specs.declared.calls.Attr.TheVariants as attr
 use Rattle.ug_kernel.specs.declared.calls.Write.{Write}
+use Rattle.ug_kernel.specs.declared.calls.Write.TheVariants as write
 use Rattle.ug_kernel.specs.declared.calls.Listing.{Listing}
 use Rattle.ug_kernel.specs.declared.calls.Listing.TheVariants as listing
 use Rattle.ug_kernel.specs.declared.calls.Opened.{Opened}
@@ -41,16 +42,21 @@ use Rattle.ug_node.specs.declared.identity.Binding.TheVariants as bound
 use Rattle.ug_audit.specs.declared.entry.Entry.{Entry}
 use Rattle.ug_audit.specs.declared.entry.Entry.TheVariants as entry
 use Rattle.ug_record.specs.Records.{judged_of}
+use Rattle.ug_node.specs.Removal.{after_remove_probe, after_remove_open, holding_remove}
+use Rattle.ug_node.specs.declared.removal.RemoveHold.{RemoveHold}
+use Rattle.ug_node.specs.declared.removal.RemoveHold.TheVariants as hold
 use Rattle.ug_table.specs.State.{State, Answers, Laters}
 use Rattle.ug_table.specs.Standings.{standing_of, farewells, lists}
-use Rattle.ug_table.specs.Bring.{wants, write_of, after_write, to_write, to_bring, bringing}
+use Rattle.ug_table.specs.Bring.{wants, write_of, after_write, to_write, to_value, valuing, after_hold, removing, is_to_go, if_to_go, after_value, bringing}
 use Rattle.ug_table.specs.Settle.{to_keep, standing_for, known_in, judged_entry, judging, admitting, after_bind, entering, to_mark, dropped, after_known, from_standing, settling}
 use Rattle.ug_table.specs.Sweep.{settling_all, parted, marked_listed, after_list, sweeping}
 use Rattle.ug_table.specs.declared.standing.Standing.{Standing}
 use Rattle.ug_table.specs.declared.standing.Known.{Known}
 use Rattle.ug_table.specs.declared.standing.Settled.{Settled}
+use Rattle.ug_table.specs.declared.standing.Settled.TheVariants as settled
 use Rattle.ug_play.specs.Play.{play, names_somebody, NameNobody}
 use Rattle.ug_play.proofs.Plays.{told_unless}
+use Rattle.ug_types.specs.declared.verdict.Held.{Held}
 
 -- an answer that neither failed nor wants memory
 
@@ -302,15 +308,60 @@ goes_after_write name number what es wrote.Failed call count n f = absurd f
 goes_to_write : (name : List ℕ) (known : Known) (what : Write) (es : List Entry) → NameNobody es → Goes Written_well (to_write name known what es)
 goes_to_write name known what es n = λ a f. goes_after_write name known.number what (es ++ entry.Intent known.number name what ∷ []) a.answer a.number a.count (nobody_more es (entry.Intent known.number name what ∷ []) n refl) f
 
-goes_to_bring : (name : List ℕ) (known : Known) (es : List Entry) (a b : Bool) → NameNobody es → Goes Written_well (to_bring name known es a b)
-goes_to_bring name known es true true n = n
-goes_to_bring name known es false false n = n
-goes_to_bring name known es true false n = goes_to_write name known (write_of known.verdict) es n
-goes_to_bring name known es false true n = goes_to_write name known (write_of known.verdict) es n
+goes_to_value : (name : List ℕ) (known : Known) (es : List Entry) (a b : Bool) → NameNobody es → Goes Written_well (to_value name known es a b)
+goes_to_value name known es true true n = n
+goes_to_value name known es false false n = n
+goes_to_value name known es true false n = goes_to_write name known (write_of known.verdict) es n
+goes_to_value name known es false true n = goes_to_write name known (write_of known.verdict) es n
+
+goes_valuing : (name : List ℕ) (known : Known) (on : Bool) (es : List Entry) → NameNobody es → Goes Written_well (valuing name known on es)
+unfolding valuing
+goes_valuing name known on es n = goes_to_value name known es (wants known.verdict) on n
+
+abbrev Fine_hold : RemoveHold → Type 0
+Fine_hold (hold.Ready file) = Unit {0}
+Fine_hold hold.Gone = Unit {0}
+Fine_hold (hold.Failed call count) = ⊥
+Fine_hold hold.Memory = ⊥
+
+goes_remove_probe : (file : Held) (r : Probe) (number count : ℕ) → fine_probe r → Goes Fine_hold (after_remove_probe file r number count)
+goes_remove_probe file (probe.Alive on) number count f = tt
+goes_remove_probe file probe.Gone number count f = λ a g. tt
+goes_remove_probe file probe.Failed number count f = absurd f
+
+goes_remove_open : (held : ℕ) (r : Opened) (number count : ℕ) → fine_open r → Goes Fine_hold (after_remove_open held r number count)
+goes_remove_open held (opened.Token file) number count f = λ a g. goes_remove_probe file a.answer a.number a.count g
+goes_remove_open held opened.Absent number count f = tt
+goes_remove_open held opened.Failed number count f = absurd f
+goes_remove_open held opened.Memory number count f = absurd f
+
+goes_holding : (name : List ℕ) (held : ℕ) → Goes Fine_hold (holding_remove name held)
+unfolding holding_remove
+goes_holding name held = λ a f. goes_remove_open held a.answer a.number a.count f
+
+goes_after_hold : (name : List ℕ) (known : Known) (es : List Entry) (r : RemoveHold) → NameNobody es → Fine_hold r → Goes Written_well (after_hold name known es r)
+goes_after_hold name known es (hold.Ready file) n f = λ a g closed h. goes_after_write name known.number write.Remove (es ++ entry.Intent known.number name write.Remove ∷ []) a.answer a.number a.count (nobody_more es (entry.Intent known.number name write.Remove ∷ []) n refl) g
+goes_after_hold name known es hold.Gone n f = nobody_more es (entry.Gone known.number name ∷ []) n refl
+goes_after_hold name known es (hold.Failed call count) n f = absurd f
+goes_after_hold name known es hold.Memory n f = absurd f
+
+goes_removing : (name : List ℕ) (known : Known) (es : List Entry) → NameNobody es → Goes Written_well (removing name known es)
+unfolding removing
+goes_removing name known es n = goes_then Fine_hold Written_well (holding_remove name known.held.0) (after_hold name known es) (goes_holding name known.held.0) (λ r f. goes_after_hold name known es r n f)
+
+goes_if_to_go : (name : List ℕ) (known : Known) (es : List Entry) (go : Bool) → NameNobody es → Goes Written_well (if_to_go name known es go)
+goes_if_to_go name known es true n = goes_removing name known es n
+goes_if_to_go name known es false n = n
+
+goes_after_value : (name : List ℕ) (known : Known) (es : List Entry) (how : Settled) → NameNobody es → Goes Written_well (after_value name known es how)
+goes_after_value name known es settled.Stands n = goes_if_to_go name known es (is_to_go known) n
+goes_after_value name known es settled.Nobody n = n
+goes_after_value name known es (settled.Fault call count) n = n
+goes_after_value name known es settled.Memory n = n
 
 goes_bringing : (name : List ℕ) (known : Known) (on : Bool) (es : List Entry) → NameNobody es → Goes Written_well (bringing name known on es)
 unfolding bringing
-goes_bringing name known on es n = goes_to_bring name known es (wants known.verdict) on n
+goes_bringing name known on es n = goes_then Written_well Written_well (valuing name known on es) (λ (q : Settled × List Entry). after_value name known q.1 q.0) (goes_valuing name known on es n) (λ q m. goes_after_value name known q.1 q.0 m)
 
 goes_judging : {J : Type 0} (later : J) (w : State J) (name : List ℕ) (held : ℕ) (judged : Judged) (on : Bool) (given : Target × Cause) → NameNobody w.entries → Goes Settled_well (judging later w name held judged on given)
 goes_judging {J} later w name held judged on given n =

@@ -8,14 +8,15 @@ use Rattle.ug_types.specs.declared.record.Judged.{Judged}
 use Rattle.ug_types.specs.declared.verdict.Target.{Target}
 use Rattle.ug_types.specs.declared.verdict.Cause.{Cause}
 use Rattle.ug_kernel.specs.declared.calls.Write.{Write}
+use Rattle.ug_kernel.specs.declared.calls.Write.TheVariants as write
 use Rattle.ug_kernel.specs.declared.calls.Listing.{Listing}
 use Rattle.ug_kernel.specs.declared.calls.Listing.TheVariants as listing
 use Rattle.ug_kernel.specs.declared.calls.Probe.{Probe}
 use Rattle.ug_kernel.specs.declared.calls.Probe.TheVariants as probe
 use Rattle.ug_kernel.specs.declared.calls.Wrote.{Wrote}
 use Rattle.ug_kernel.specs.declared.calls.Wrote.TheVariants as wrote
-use Rattle.ug_kernel.specs.Calls.{Ask_alive, Put}
-use Rattle.ug_itree.specs.Tree.{Prog, Runs, then}
+use Rattle.ug_kernel.specs.Calls.{Ask_alive, Put, Close, Told}
+use Rattle.ug_itree.specs.Tree.{Prog, Ask, Runs, then}
 use Rattle.ug_record.specs.Records.{judged_of}
 use Rattle.ug_node.specs.Bind.{binding}
 use Rattle.ug_node.specs.declared.identity.Bound.{Bound}
@@ -28,15 +29,19 @@ use Rattle.ug_audit.specs.declared.entry.Fault.TheVariants as fault
 use Rattle.ug_sysfs.specs.World.{World, Gives}
 use Rattle.ug_table.specs.declared.standing.Known.{Known}
 use Rattle.ug_table.specs.declared.standing.Settled.{Settled}
+use Rattle.ug_table.specs.declared.standing.Settled.TheVariants as settled
+use Rattle.ug_node.specs.Removal.{holding_remove}
+use Rattle.ug_node.specs.declared.removal.RemoveHold.{RemoveHold}
+use Rattle.ug_node.specs.declared.removal.RemoveHold.TheVariants as hold
 use Rattle.ug_table.specs.State.{State, Kept, kept_of, Answers, Laters}
 use Rattle.ug_table.specs.Standings.{standing_of, farewells}
-use Rattle.ug_table.specs.Bring.{wants, write_of, after_write, to_write, to_bring, bringing}
+use Rattle.ug_table.specs.Bring.{wants, write_of, after_write, to_write, to_value, valuing, to_remove, after_hold, removing, is_to_go, if_to_go, after_value, bringing}
 use Rattle.ug_table.specs.Settle.{to_keep, no_room, standing_for, known_in, judged_entry, judging, if_place, if_record, admitting, after_bind, entering, to_mark, dropped, after_known, from_standing, settling, to_keep_mark, after_again, again, resettling}
 use Rattle.ug_table.specs.Sweep.{settling_all, resettling_all, parted, names_of, resumed, unlisted, marked_listed, if_room, after_list, sweeping}
 use Rattle.ug_play.specs.Play.{entry_tells_memory, tells_memory, TellsMemory, IsPlayed}
 use Rattle.ug_play.proofs.Trees.{Returns, returns_any, returns_more, returns_then, tells_more, tells_then}
 use Rattle.ug_play.proofs.Played.{played}
-use Rattle.ug_play.proofs.Bindings.{tells_binding}
+use Rattle.ug_play.proofs.Bindings.{tells_binding, tells_holding}
 use Rattle.ug_play.proofs.Journals.{Appends, appends_none, appends_one, appends_more, memory_one, memory_still, Journals, journals_more, journals_then, journals_call, journals_room}
 
 abbrev written : Settled × List Entry → List Entry
@@ -65,15 +70,59 @@ to_write_journals name known what entries =
     journals_call written entries (Put known.held.0 what) (λ t. after_write name known.number what (entries ++ e ∷ []) t.answer t.number t.count) (λ a m. m)
     (λ a. journals_more written entries (entries ++ e ∷ []) (after_write name known.number what (entries ++ e ∷ []) a.answer a.number a.count) (appends_one entries e) (after_write_journals name known.number what (entries ++ e ∷ []) a.answer a.number a.count))
 
-to_bring_journals : (name : List ℕ) (known : Known) (entries : List Entry) (a b : Bool) → Journals written entries (to_bring name known entries a b)
-to_bring_journals name known entries true true = record { appends = appends_none entries; memory = tt }
-to_bring_journals name known entries false false = record { appends = appends_none entries; memory = tt }
-to_bring_journals name known entries true false = to_write_journals name known (write_of known.verdict) entries
-to_bring_journals name known entries false true = to_write_journals name known (write_of known.verdict) entries
+to_value_journals : (name : List ℕ) (known : Known) (entries : List Entry) (a b : Bool) → Journals written entries (to_value name known entries a b)
+to_value_journals name known entries true true = record { appends = appends_none entries; memory = tt }
+to_value_journals name known entries false false = record { appends = appends_none entries; memory = tt }
+to_value_journals name known entries true false = to_write_journals name known (write_of known.verdict) entries
+to_value_journals name known entries false true = to_write_journals name known (write_of known.verdict) entries
+
+valuing_journals : (name : List ℕ) (known : Known) (on : Bool) (entries : List Entry) → Journals written entries (valuing name known on entries)
+unfolding valuing
+valuing_journals name known on entries = to_value_journals name known entries (wants known.verdict) on
+
+to_remove_journals : (name : List ℕ) (known : Known) (file : ℕ) (entries : List Entry) → Journals written entries (to_remove name known file entries)
+to_remove_journals name known file entries =
+    let e : Entry = entry.Intent known.number name write.Remove in
+    let f : Told Wrote → Prog (Settled × List Entry) = λ t. after_write name known.number write.Remove (entries ++ e ∷ []) t.answer t.number t.count in
+    journals_call written entries (Put file write.Remove) (λ t. Ask (Close file) (λ closed. f t)) (λ a m. m)
+    (λ a. journals_call written entries (Close file) (λ closed. f a) (λ b m. m)
+    (λ b. journals_more written entries (entries ++ e ∷ []) (f a) (appends_one entries e) (after_write_journals name known.number write.Remove (entries ++ e ∷ []) a.answer a.number a.count)))
+
+after_hold_journals : (name : List ℕ) (known : Known) (entries : List Entry) (r : RemoveHold) → Journals written entries (after_hold name known entries r)
+after_hold_journals name known entries (hold.Ready file) = to_remove_journals name known file.0 entries
+after_hold_journals name known entries hold.Gone = record { appends = appends_one entries (entry.Gone known.number name); memory = tt }
+after_hold_journals name known entries (hold.Failed call count) = record { appends = appends_one entries (entry.Unsettled name (fault.Call call count)); memory = tt }
+after_hold_journals name known entries hold.Memory = record { appends = appends_one entries (entry.Unsettled name fault.Memory); memory = tt }
+
+removing_journals : (name : List ℕ) (known : Known) (entries : List Entry) → Journals written entries (removing name known entries)
+unfolding removing
+removing_journals name known entries =
+    let p : Prog RemoveHold = holding_remove name known.held.0 in
+    let f : RemoveHold → Prog (Settled × List Entry) = after_hold name known entries in
+    let E : RemoveHold → Type 0 = λ (r : RemoveHold). Unit {0} in
+    let P : RemoveHold → Type 0 = λ (r : RemoveHold). r ≡ hold.Memory in
+    let Q : Settled × List Entry → Type 0 = λ (v : Settled × List Entry). Appends entries v.1 in
+    let N : Settled × List Entry → Type 0 = λ (v : Settled × List Entry). TellsMemory entries v.1 in
+    record {
+      appends = returns_then E Q p f (returns_any p) (λ r u. (after_hold_journals name known entries r).appends);
+      memory = tells_then E P N p f (returns_any p) (tells_holding name known.held.0)
+          (λ r u. (after_hold_journals name known entries r).memory)
+          (λ r e. subst (λ (x : RemoveHold). Returns N (after_hold name known entries x)) (sym e) (memory_one entries (entry.Unsettled name fault.Memory) refl));
+    }
+
+if_to_go_journals : (name : List ℕ) (known : Known) (entries : List Entry) (go : Bool) → Journals written entries (if_to_go name known entries go)
+if_to_go_journals name known entries true = removing_journals name known entries
+if_to_go_journals name known entries false = record { appends = appends_none entries; memory = tt }
+
+after_value_journals : (name : List ℕ) (known : Known) (entries : List Entry) (how : Settled) → Journals written entries (after_value name known entries how)
+after_value_journals name known entries settled.Stands = if_to_go_journals name known entries (is_to_go known)
+after_value_journals name known entries settled.Nobody = record { appends = appends_none entries; memory = tt }
+after_value_journals name known entries (settled.Fault call count) = record { appends = appends_none entries; memory = tt }
+after_value_journals name known entries settled.Memory = record { appends = appends_none entries; memory = tt }
 
 bringing_journals : (name : List ℕ) (known : Known) (on : Bool) (entries : List Entry) → Journals written entries (bringing name known on entries)
 unfolding bringing
-bringing_journals name known on entries = to_bring_journals name known entries (wants known.verdict) on
+bringing_journals name known on entries = journals_then written written entries (valuing name known on entries) (λ (q : Settled × List Entry). after_value name known q.1 q.0) (valuing_journals name known on entries) (λ q. after_value_journals name known q.1 q.0)
 
 no_room_memory : {J : Type 0} (w : State J) (name : List ℕ) (held : ℕ) → Returns (λ (v : Settled × State J). TellsMemory w.entries v.1.entries) (no_room w name held)
 no_room_memory w name held = λ closed. memory_one w.entries (entry.Unsettled name fault.Memory) refl

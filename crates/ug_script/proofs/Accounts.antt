@@ -11,7 +11,7 @@ use Rattle.ug_kernel.specs.declared.calls.Wrote.{Wrote}
 use Rattle.ug_kernel.specs.Kernel.{Kernel}
 use Rattle.ug_audit.specs.declared.entry.Entry.{Entry}
 use Rattle.ug_audit.specs.declared.entry.Entry.TheVariants as entry
-use Rattle.ug_table.specs.Bring.{write_of}
+use Rattle.ug_table.specs.Bring.{CallsFor}
 use Rattle.ug_table.specs.Laws.{IsDevice, IsProbed, IsTold, AreLeft, TellsNeither, MayHave, HasVerdict, wrote_entries, Account, Start, Note, Judge, Had, Had_not, Went}
 use Rattle.ug_table.specs.declared.standing.Standing.{Standing}
 use Rattle.ug_types.proofs.Elements.{has_left, only_left, last_is}
@@ -27,8 +27,8 @@ pub judge_later : (policy : Judging) (present : Bool) (start k : Kernel) (before
 judge_later policy present start k before log0 judge0 next0 es log judge next Start first = first
 judge_later policy present start k before log0 judge0 next0 es log judge next (Note fs m j n e t h) first = judge_later policy present start k before log0 judge0 next0 fs m j n h first
 judge_later policy present start k before log0 judge0 next0 es log judge next (Judge fs m j n i name held judged on ss d b left h) first = later_verdict policy j (allowed_records ss) judged (is_none (parent_of name)) present (judge_later policy present start k before log0 judge0 next0 fs m j n h first)
-judge_later policy present start k before log0 judge0 next0 es log judge next (Had fs m j n i number name held judged verdict outcome d v may h) first = judge_later policy present start k before log0 judge0 next0 fs m j n h first
-judge_later policy present start k before log0 judge0 next0 es log judge next (Had_not fs m j n i number name held judged verdict outcome d v may h) first = judge_later policy present start k before log0 judge0 next0 fs m j n h first
+judge_later policy present start k before log0 judge0 next0 es log judge next (Had fs m j n i number name held judged verdict what outcome d v due once may h) first = judge_later policy present start k before log0 judge0 next0 fs m j n h first
+judge_later policy present start k before log0 judge0 next0 es log judge next (Had_not fs m j n i number name held judged verdict what outcome d v due once may h) first = judge_later policy present start k before log0 judge0 next0 fs m j n h first
 judge_later policy present start k before log0 judge0 next0 es log judge next (Went fs m j n i number name held judged verdict d o v h) first = judge_later policy present start k before log0 judge0 next0 fs m j n h first
 
 -- the policy gives that verdict on the record of the very device of the held file, which lived until it was probed, beside standings
@@ -90,16 +90,16 @@ judged_given policy present start k before log0 judge0 next0 es log judge next (
   | inl x ↦ given_more policy start k before fs _ name held verdict cause (judged_given policy present start k before log0 judge0 next0 fs m j n a first number name held verdict cause x)
   | inr same ↦ given_more policy start k before fs _ name held verdict cause (given_by policy j start k before fs ss i n other file judged present on (judge_later policy present start k before log0 judge0 next0 fs m j n a first) left d b number name held verdict cause same)
 ]
-judged_given policy present start k before log0 judge0 next0 es log judge next (Had fs m j n i other title file judged target outcome d v may a) first number name held verdict cause h =
-    given_more policy start k before fs (wrote_entries other title (write_of target) outcome) name held verdict cause (judged_given policy present start k before log0 judge0 next0 fs m j n a first number name held verdict cause (only_left fs (wrote_entries other title (write_of target) outcome) (entry.Judged number name held verdict cause) ((plain_wrote other title (write_of target) outcome).judged number name held verdict cause) h))
-judged_given policy present start k before log0 judge0 next0 es log judge next (Had_not fs m j n i other title file judged target outcome d v may a) first number name held verdict cause h =
-    given_more policy start k before fs (wrote_entries other title (write_of target) outcome) name held verdict cause (judged_given policy present start k before log0 judge0 next0 fs m j n a first number name held verdict cause (only_left fs (wrote_entries other title (write_of target) outcome) (entry.Judged number name held verdict cause) ((plain_wrote other title (write_of target) outcome).judged number name held verdict cause) h))
+judged_given policy present start k before log0 judge0 next0 es log judge next (Had fs m j n i other title file judged target what outcome d v due once may a) first number name held verdict cause h =
+    given_more policy start k before fs (wrote_entries other title what outcome) name held verdict cause (judged_given policy present start k before log0 judge0 next0 fs m j n a first number name held verdict cause (only_left fs (wrote_entries other title what outcome) (entry.Judged number name held verdict cause) ((plain_wrote other title what outcome).judged number name held verdict cause) h))
+judged_given policy present start k before log0 judge0 next0 es log judge next (Had_not fs m j n i other title file judged target what outcome d v due once may a) first number name held verdict cause h =
+    given_more policy start k before fs (wrote_entries other title what outcome) name held verdict cause (judged_given policy present start k before log0 judge0 next0 fs m j n a first number name held verdict cause (only_left fs (wrote_entries other title what outcome) (entry.Judged number name held verdict cause) ((plain_wrote other title what outcome).judged number name held verdict cause) h))
 judged_given policy present start k before log0 judge0 next0 es log judge next (Went fs m j n i other title file judged target d o v a) first number name held verdict cause h = elim (last_is fs (entry.Gone other title) (entry.Judged number name held verdict cause) h) [
   | inl x ↦ given_more policy start k before fs (entry.Gone other title ∷ []) name held verdict cause (judged_given policy present start k before log0 judge0 next0 fs m j n a first number name held verdict cause x)
   | inr same ↦ absurd (let none : ⊥ = cc in none)
 ]
 
--- an effect is that of a write that is told, which the verdict of its number wants
+-- an effect is that of a write that is told, which the verdict of its number calls for
 pub record WasWritten (before : List Standing) (entries : List Entry) (k : Kernel) (effect : Effect) : Type 0 where
   pub number : ℕ
   pub name : List ℕ
@@ -111,7 +111,7 @@ pub record WasWritten (before : List Standing) (entries : List Entry) (k : Kerne
   pub back : List Entry
   pub at : entries ≡ front ++ (wrote_entries number name effect.write outcome ++ back)
   pub may : MayHave outcome
-  pub wanted : effect.write ≡ write_of verdict
+  pub wanted : CallsFor verdict effect.write
   pub device : IsDevice k effect.device name held judged
   pub had : HasVerdict before front number name held verdict
 
@@ -148,12 +148,12 @@ all_added present start k before log0 judge0 next0 es log judge next Start = rec
 all_added present start k before log0 judge0 next0 es log judge next (Note fs m j n e t a) = added_more before fs (e ∷ []) k log0 m (all_added present start k before log0 judge0 next0 fs m j n a)
 all_added present start k before log0 judge0 next0 es log judge next (Judge fs m j n i name held judged on ss d b left a) = added_more before fs _ k log0 m (all_added present start k before log0 judge0 next0 fs m j n a)
 all_added present start k before log0 judge0 next0 es log judge next (Went fs m j n i number name held judged verdict d o v a) = added_more before fs (entry.Gone number name ∷ []) k log0 m (all_added present start k before log0 judge0 next0 fs m j n a)
-all_added present start k before log0 judge0 next0 es log judge next (Had_not fs m j n i number name held judged verdict outcome d v may a) = added_more before fs (wrote_entries number name (write_of verdict) outcome) k log0 m (all_added present start k before log0 judge0 next0 fs m j n a)
-all_added present start k before log0 judge0 next0 es log judge next (Had fs m j n i number name held judged verdict outcome d v may a) =
-    let two : List Entry = wrote_entries number name (write_of verdict) outcome in
-    let new : Effect = record { device = i; write = write_of verdict } in
+all_added present start k before log0 judge0 next0 es log judge next (Had_not fs m j n i number name held judged verdict what outcome d v due once may a) = added_more before fs (wrote_entries number name what outcome) k log0 m (all_added present start k before log0 judge0 next0 fs m j n a)
+all_added present start k before log0 judge0 next0 es log judge next (Had fs m j n i number name held judged verdict what outcome d v due once may a) =
+    let two : List Entry = wrote_entries number name what outcome in
+    let new : Effect = record { device = i; write = what } in
     let old : Added before (fs ++ two) k log0 m = added_more before fs two k log0 m (all_added present start k before log0 judge0 next0 fs m j n a) in
-    let this : WasWritten before (fs ++ two) k new = record { number = number; name = name; held = held; judged = judged; verdict = verdict; outcome = outcome; front = fs; back = []; at = ap (λ (l : List Entry). fs ++ l) (sym (append-nil two)); may = may; wanted = refl; device = d; had = v } in
+    let this : WasWritten before (fs ++ two) k new = record { number = number; name = name; held = held; judged = judged; verdict = verdict; outcome = outcome; front = fs; back = []; at = ap (λ (l : List Entry). fs ++ l) (sym (append-nil two)); may = may; wanted = due; device = d; had = v } in
     record {
       effects = old.effects ++ new ∷ [];
       log_is = ap (λ (l : List Effect). l ++ new ∷ []) old.log_is ∙ append_assoc log0 old.effects (new ∷ []);
@@ -201,6 +201,6 @@ numbers_follow present start k before log0 judge0 next0 es log judge next Start 
 numbers_follow present start k before log0 judge0 next0 es log judge next (Note fs m j n e t a) = follow_none next0 n fs (e ∷ []) (numbers_none e t) (numbers_follow present start k before log0 judge0 next0 fs m j n a)
 numbers_follow present start k before log0 judge0 next0 es log judge next (Judge fs m j n i name held judged on ss d b left a) =
     subst (λ (l : List ℕ). Follow next0 l (n + 1)) (sym (numbers_append fs _)) (follow_append next0 (told_numbers fs) (n ∷ []) n (n + 1) (numbers_follow present start k before log0 judge0 next0 fs m j n a) (refl, refl))
-numbers_follow present start k before log0 judge0 next0 es log judge next (Had fs m j n i number name held judged verdict outcome d v may a) = follow_none next0 n fs (wrote_entries number name (write_of verdict) outcome) refl (numbers_follow present start k before log0 judge0 next0 fs m j n a)
-numbers_follow present start k before log0 judge0 next0 es log judge next (Had_not fs m j n i number name held judged verdict outcome d v may a) = follow_none next0 n fs (wrote_entries number name (write_of verdict) outcome) refl (numbers_follow present start k before log0 judge0 next0 fs m j n a)
+numbers_follow present start k before log0 judge0 next0 es log judge next (Had fs m j n i number name held judged verdict what outcome d v due once may a) = follow_none next0 n fs (wrote_entries number name what outcome) refl (numbers_follow present start k before log0 judge0 next0 fs m j n a)
+numbers_follow present start k before log0 judge0 next0 es log judge next (Had_not fs m j n i number name held judged verdict what outcome d v due once may a) = follow_none next0 n fs (wrote_entries number name what outcome) refl (numbers_follow present start k before log0 judge0 next0 fs m j n a)
 numbers_follow present start k before log0 judge0 next0 es log judge next (Went fs m j n i number name held judged verdict d o v a) = follow_none next0 n fs (entry.Gone number name ∷ []) refl (numbers_follow present start k before log0 judge0 next0 fs m j n a)

@@ -14,7 +14,7 @@ use Rattle.ug_kernel.specs.Kernel.{Kernel, Live}
 use Rattle.ug_sysfs.specs.World.{World}
 use Rattle.ug_audit.specs.declared.entry.Entry.{Entry}
 use Rattle.ug_audit.specs.declared.entry.Entry.TheVariants as entry
-use Rattle.ug_table.specs.Bring.{write_of}
+use Rattle.ug_table.specs.Bring.{CallsFor}
 use Rattle.ug_table.specs.Laws.{IsDevice, IsProbed, MayHave, wrote_entries, IsJudged, IsAsJudged}
 use Rattle.ug_table.specs.declared.standing.Standing.{Standing}
 use Rattle.ug_play.specs.Play.{NameNobody}
@@ -78,7 +78,7 @@ pub record WasJudged (policy : Judging) (before entries : List Entry) (first k :
   pub told : Has before (entry.Judged number name held verdict cause)
 
 -- The effect is that of a write that is told. Before its intent it was told that the very device got that verdict from the
--- rules, and the write is the one that the verdict wants.
+-- rules, and the write is one that the verdict calls for.
 pub record IsExplained (policy : Judging) (entries : List Entry) (first k : Kernel) (effect : Effect) : Type 0 where
   pub number : ℕ
   pub name : List ℕ
@@ -89,7 +89,7 @@ pub record IsExplained (policy : Judging) (entries : List Entry) (first k : Kern
   pub after : List Entry
   pub at : entries ≡ before ++ (wrote_entries number name effect.write outcome ++ after)
   pub may : MayHave outcome
-  pub wanted : effect.write ≡ write_of verdict
+  pub wanted : CallsFor verdict effect.write
   pub judged : WasJudged policy before entries first k effect.device number name held verdict
 
 -- each effect since the first kernel is explained

@@ -59,7 +59,7 @@ after_again_own name i w known (probe.Alive on) call count k m l p e sound f lat
     let x = probed_own name known.held.0 i on call count k m sound (open_found name w.standings known k e f) first c in
     let cut = runs_split calls m (bringing name known on w.entries) (to_keep_mark w name) p l r in
     let u = cut.1 in
-    let own = tried_own name known i on s.s w.standings w.entries m u cut.0 s.has (ap (λ (v : Known). v.held) s.known) (ap (λ (v : Known). v.verdict) s.known) (subst (λ y. LiveAs y i name) cut.3.1 live) x.0 x.1 cut.2 in
+    let own = tried_own name known i on s.s w.standings w.entries m u cut.0 c.sound s.named s.has (ap (λ (v : Known). v.held) s.known) (ap (λ (v : Known). v.verdict) s.known) (subst (λ y. LiveAs y i name) cut.3.1 live) x.0 x.1 cut.2 in
     subst (λ y. Ends w y p i name) (sym cut.3.1) (subst (λ (v : Settled × Kept). Ends w u v i name) (sym cut.3.0) (inl own))
 after_again_own name i w known probe.Gone call count k m l p e sound f later first live c r =
     let same : p.1.standings ≡ without name w.standings = ap (λ (v : Settled × Kept). v.1.standings) r.0 in

@@ -12,6 +12,9 @@ use Rattle.ug_record.specs.Records.{judged_of}
 use Rattle.ug_node.specs.Bound.{attrs_of, parent_attrs_of, IsParentRead}
 use Rattle.ug_table.specs.Laws.{IsRecordOf, IsDevice, IsGone, IsProbed, Stand}
 use Rattle.ug_table.specs.declared.standing.Standing.{Standing}
+use Rattle.ug_types.specs.Elements.{Has}
+use Rattle.ug_table.proofs.Values.{file_same, file_later}
+use Rattle.ug_kernel.specs.declared.calls.Write.TheVariants as write
 
 attrs_stay : (d e : Device) → Stays d e → attrs_of d ≡ attrs_of e
 attrs_stay d e s =
@@ -61,4 +64,8 @@ stand_stays k l ss next g h = record {
   numbers = h.numbers;
   names = h.names;
   distinct = h.distinct;
+  removed = λ s a r i f.
+      let x = h.devices s a in
+      let is : x.0 ≡ i = file_same l s.held.0 x.0 i (file_later k l s.held.0 x.0 g x.1.file) f in
+      subst (λ (v : ℕ). Has l.log (record { device = v; write = write.Remove })) is (g.log (record { device = x.0; write = write.Remove }) (h.removed s a r x.0 x.1.file));
 }

@@ -1,5 +1,5 @@
 -- The settling of one name is fair.
-use Rattle.std.proofs.Common.{◌≡◌, ℕ, ◌+◌, ◌<◌, Bool, true, false, is_none, List, [], ◌∷◌, ◌++◌, Option, Some, None, slice_get, inl, inr, refl, sym, ◌∙◌, ap, subst, arith}
+use Rattle.std.proofs.Common.{◌≡◌, ℕ, ◌+◌, ◌<◌, Bool, true, false, ◌||◌, ◌⊎◌, is_none, List, [], ◌∷◌, ◌++◌, Option, Some, None, slice_get, inl, inr, refl, sym, ◌∙◌, ap, subst, arith}
 use Rattle.ug_types.specs.Elements.{Has, AllDistinct}
 use Rattle.ug_types.specs.Names.{parent_of}
 use Rattle.ug_types.specs.declared.record.Attrs.{Attrs}
@@ -29,12 +29,14 @@ use Rattle.ug_audit.specs.declared.entry.Entry.{Entry}
 use Rattle.ug_audit.specs.declared.entry.Entry.TheVariants as entry
 use Rattle.ug_audit.specs.declared.entry.Fault.{Fault}
 use Rattle.ug_audit.specs.declared.entry.Fault.TheVariants as fault
+use Rattle.ug_kernel.specs.declared.calls.Write.TheVariants as write
+use Rattle.ug_kernel.specs.declared.calls.Wrote.TheVariants as wrote
 use Rattle.ug_table.specs.State.{State, Kept, with_kept, Answers, Laters}
-use Rattle.ug_table.specs.Standings.{known_of, standing_of, without, with_standing, place_for}
-use Rattle.ug_table.specs.Bring.{bringing}
+use Rattle.ug_table.specs.Standings.{known_of, standing_of, without, with_standing, place_for, settled_standing}
+use Rattle.ug_table.specs.Bring.{bringing, is_reject}
 use Rattle.ug_table.specs.Settle.{kept_standings, to_keep, unsettled, no_room, standing_for, known_in, judged_entry, to_judge, if_place, if_record, admitting, after_bind, entering, tried_standings, to_mark, dropped, after_known, from_standing, settling, to_keep_mark, after_again, again, resettling}
 use Rattle.ug_table.specs.Sweep.{names_of}
-use Rattle.ug_table.specs.Laws.{IsDevice, IsProbed, Stand, numbers_of, Account, Judge, Start, IsOne, IsTold, HasStanding, IsFair}
+use Rattle.ug_table.specs.Laws.{IsDevice, IsProbed, Stand, numbers_of, Account, Judge, Start, IsOne, IsTold, HasStanding, IsFair, IsRemoveMarked}
 use Rattle.ug_table.specs.declared.standing.Standing.{Standing}
 use Rattle.ug_table.specs.declared.standing.Known.{Known}
 use Rattle.ug_table.specs.declared.standing.Settled.{Settled}
@@ -42,10 +44,11 @@ use Rattle.ug_table.specs.declared.standing.Settled.TheVariants as settled
 use Rattle.ug_types.proofs.Elements.{map_has, has_map, insert_has, has_new, has_old, distinct_insert}
 use Rattle.ug_table.proofs.Values.{IsFileOf, file_same}
 use Rattle.ug_table.proofs.Devices.{stand_stays}
-use Rattle.ug_table.proofs.Standings.{found, missing, missing_without}
+use Rattle.ug_table.proofs.Standings.{found, missing, missing_without, or_all, or_by}
 use Rattle.ug_table.proofs.Joined.{FairFrom, fair_trans}
 use Rattle.ug_table.proofs.Steps.{Same, After, one_itself, fair_end, then_quiet, then_called, then_note, then_same, then_went, without_less, tried_after, left_all}
 use Rattle.ug_table.proofs.Written.{bringing_fair}
+use Rattle.ug_table.proofs.RemoveMarks.{Keeps, keeps_itself, keep_one, Marks}
 
 second : {A B : Type 0} (p q : A × B) → p ≡ q → p.1 ≡ q.1
 second p q e = ap (λ (x : _). x.1) e
@@ -72,8 +75,8 @@ new_number ss next number e low a =
     let same = m.2 in
     let none : ⊥ = omega (arith, below, same, e) in none
 
-stand_more : (k : Kernel) (ss : List Standing) (next i : ℕ) (s : Standing) → IsDevice k i s.name s.held s.judged → s.number ≡ next → (Has (names_of ss) s.name → ⊥) → Stand k ss next → Stand k (with_standing s ss) (next + 1)
-stand_more k ss next i s d number absent stand = record {
+stand_more : (k : Kernel) (ss : List Standing) (next i : ℕ) (s : Standing) → IsDevice k i s.name s.held s.judged → s.number ≡ next → s.removed ≡ false → (Has (names_of ss) s.name → ⊥) → Stand k ss next → Stand k (with_standing s ss) (next + 1)
+stand_more k ss next i s d number fresh absent stand = record {
   devices = λ t h. elim (insert_has ss (place_for s.name ss) s t h) [
     | inl e ↦ subst (λ (v : Standing). (i : ℕ) × IsDevice k i v.name v.held v.judged) e (i, d)
     | inr a ↦ stand.devices t a
@@ -84,7 +87,27 @@ stand_more k ss next i s d number absent stand = record {
   ];
   names = distinct_insert (λ (v : Standing). v.name) ss (place_for s.name ss) s stand.names absent;
   distinct = distinct_insert (λ (v : Standing). v.number) ss (place_for s.name ss) s stand.distinct (λ a. new_number ss next s.number number stand.numbers a);
+  removed = λ t h r. elim (insert_has ss (place_for s.name ss) s t h) [
+    | inl e ↦ let was : true ≡ false = sym r ∙ ap (λ (v : Standing). v.removed) (sym e) ∙ fresh in absurd (let none : ⊥ = cc in none)
+    | inr a ↦ stand.removed t a r
+  ];
 }
+
+-- a new standing isn't marked as removed
+new_marks : (ss : List Standing) (next : ℕ) (s t : Standing) (e : Entry) → s.number ≡ next → s.removed ≡ false → AllDistinct (numbers_of ss) → ((x : Standing) → Has ss x → x.number < next) → ((number : ℕ) (name : List ℕ) → Has (e ∷ []) (entry.Wrote number name write.Remove wrote.Done) → ⊥) → Has (with_standing s ss) t → IsRemoveMarked ss (e ∷ []) t
+new_marks ss next s t e number fresh distinct low none h = elim (insert_has ss (place_for s.name ss) s t h) [
+  | inl is ↦ subst (λ (v : Standing). IsRemoveMarked ss (e ∷ []) v) is (inr (
+    fresh,
+    λ w. elim w [
+      | inl b ↦
+          let below = low b.0 b.1 in
+          let same = b.2 in
+          let none : ⊥ = omega (arith, below, same, number) in none
+      | inr b ↦ none s.number b.0 b.1
+    ],
+  ))
+  | inr a ↦ keep_one ss (e ∷ []) t (keeps_itself ss t a) distinct (none t.number)
+]
 
 -- a device of the name had no standing, where the name had none
 none_stood : (k : Kernel) (ss : List Standing) (next i : ℕ) (name : List ℕ) (held : Held) (judged : Judged) → IsDevice k i name held judged → (Has (names_of ss) name → ⊥) → Stand k ss next → HasStanding k ss i → ⊥
@@ -115,13 +138,13 @@ judged_fair answer later present n m u name held i judged on sound q d probed ab
     let file : Held = record { 0 = held } in
     let now = just_judged answer later u name held judged present on in
     let there = stand_stays n m u.standings u.next (quiet_grows n m q) stand in
-    let account : Account answer later present n m u.standings m.log u.judge u.next (e ∷ []) m.log now.judge now.next = Judge [] m.log u.judge u.next i name file judged on u.standings d probed (left_all u.standings) Start in
+    let account : Account answer later present n m u.standings m.log u.judge u.next (e ∷ []) m.log now.judge now.next = Judge [] m.log u.judge u.next i name file judged on u.standings d probed (left_all u.standings stand.distinct) Start in
     let fair : IsFair answer later present n u m now = record {
       sound = sound;
       grows = quiet_grows n m q;
       rest = e ∷ [];
       entries = refl;
-      stand = stand_more m u.standings u.next i s d refl absent there;
+      stand = stand_more m u.standings u.next i s d refl refl absent there;
       account = subst (λ (v : List Effect). Account answer later present n m u.standings v u.judge u.next (e ∷ []) m.log now.judge now.next) q.log account;
       left = record {
         told = λ t a. elim (insert_has u.standings (place_for name u.standings) s t a) [
@@ -133,6 +156,7 @@ judged_fair answer later present n m u name held i judged on sound q d probed ab
             let x = judged_same u.next number name m file held given.0 verdict given.1 cause a in
             inl (s, has_new u.standings (place_for name u.standings) s, x.0, x.1, x.2, x.3, x.4);
         ended = λ t other a g. elim g [ inl is ↦ let none : ⊥ = cc in none | inr none ↦ none ];
+        removed = λ t a. new_marks u.standings u.next s t e refl refl stand.distinct stand.numbers (λ number m h. elim h [ inl is ↦ let none : ⊥ = cc in none | inr none ↦ none ]) a;
       };
       gone = tt;
       once = λ j a b x y. sym (judged_same u.next a name x.name file x.held given.0 x.verdict given.1 x.cause x.has).0 ∙ (judged_same u.next b name y.name file y.held given.0 y.verdict given.1 y.cause y.has).0;
@@ -161,12 +185,13 @@ kept_after k ss next s settled.Nobody number absent stand = record {
     | inr old ↦ inl (one_itself ss t old)
   ];
   apart = λ t a e. let n = stand.numbers t a in let none : ⊥ = omega (arith, n, e, number) in none;
+  marks = λ t a. keeps_itself (with_standing s ss) t (has_old ss (place_for s.name ss) s t a);
   names = stand.names;
   distinct = stand.distinct;
 }
 kept_after k ss next s settled.Stands number absent stand =
-    let new : Standing = record s { settled = true } in
-    record {
+    let new : Standing = settled_standing s in
+    let same : Same (with_standing s ss) (with_standing new ss) = record {
       there = λ t a. elim (insert_has ss (place_for s.name ss) new t a) [
         | inl e ↦ subst (λ (v : Standing). IsOne (with_standing s ss) v) e (s, has_new ss (place_for s.name ss) s, refl, refl, refl, refl, refl, refl)
         | inr old ↦ one_itself (with_standing s ss) t (has_old ss (place_for s.name ss) s t old)
@@ -177,9 +202,27 @@ kept_after k ss next s settled.Stands number absent stand =
       ];
       names = distinct_insert (λ (v : Standing). v.name) ss (place_for s.name ss) new stand.names absent;
       distinct = distinct_insert (λ (v : Standing). v.number) ss (place_for s.name ss) new stand.distinct (λ a. new_number ss next s.number number stand.numbers a);
-    }
-kept_after k ss next s (settled.Fault call count) number absent stand = new_same ss next s number absent stand.names stand.distinct stand.numbers
-kept_after k ss next s settled.Memory number absent stand = new_same ss next s number absent stand.names stand.distinct stand.numbers
+    } in
+    let whole : List Standing = with_standing s ss in
+    let own : Keeps whole new ⊎ ((new.number ≡ s.number) × (new.held ≡ s.held) × (new.removed ≡ true) × (is_reject s.verdict ≡ true)) = elim (or_by s.removed (is_reject s.verdict)) [
+      | inl h ↦ inl (s, has_new ss (place_for s.name ss) s, refl, refl, sym h)
+      | inr h ↦ inr (refl, refl, h.0, h.1)
+    ] in
+    let marks : Marks s whole (with_standing new ss) = record {
+      each = λ t a. elim (insert_has ss (place_for s.name ss) new t a) [
+        | inl e ↦ subst (λ (v : Standing). Keeps whole v ⊎ ((v.number ≡ s.number) × (v.held ≡ s.held) × (v.removed ≡ true) × (is_reject s.verdict ≡ true))) e own
+        | inr old ↦ inl (keeps_itself whole t (has_old ss (place_for s.name ss) s t old))
+      ];
+      own = λ t a e r. elim (insert_has ss (place_for s.name ss) new t a) [
+        | inl is ↦ subst (λ (v : Standing). v.removed ≡ true) is (ap (λ (b : Bool). s.removed || b) r ∙ or_all s.removed)
+        | inr old ↦
+            let n = stand.numbers t old in
+            let none : ⊥ = omega (arith, n, e, number) in absurd none
+      ];
+    } in
+    (same, marks)
+kept_after k ss next s (settled.Fault call count) number absent stand = (new_same ss next s number absent stand.names stand.distinct stand.numbers, keeps_itself (with_standing s ss))
+kept_after k ss next s settled.Memory number absent stand = (new_same ss next s number absent stand.names stand.distinct stand.numbers, keeps_itself (with_standing s ss))
 
 to_judge_fair : {J : Type 0} {answer : Answers J} {later : Laters J} {present : Bool} {k m : Kernel} {w u : State J} (l : Kernel) (name : List ℕ) (b : Bound) (judged : Judged) (p : Settled × State J) → (Has (names_of u.standings) name → ⊥) → FairFrom answer later present k w m u → FairFrom answer later present k w m (just_judged answer later u name b.held.0 judged present b.on) → Runs calls m (to_judge answer later name present u b judged) p l → FairFrom answer later present k w l p.1
 to_judge_fair {J} {answer} {later} {present} {k} {m} {w} {u} l name b judged p absent h first r =
@@ -259,7 +302,8 @@ then_dropped {J} {answer} {later} {present} {k} {m} {w} {u} name known at gone h
 then_failed : {J : Type 0} {answer : Answers J} {later : Laters J} {present : Bool} {k m : Kernel} {w u : State J} (name : List ℕ) (known : Known) (call count : ℕ) → standing_of name u.standings ≡ Some known → FairFrom answer later present k w m u → FairFrom answer later present k w m (record u { standings = tried_standings u.standings name (settled.Fault call count); entries = u.entries ++ entry.Unsettled name (fault.Call call count) ∷ [] })
 then_failed {m = m} {u = u} name known call count at h =
     let f = found name u.standings known at in
-    then_same (tried_standings u.standings name (settled.Fault call count)) (tried_after m u.standings u.next name f.s (settled.Fault call count) f.has f.named h.fair.stand) (then_note (entry.Unsettled name (fault.Call call count)) tt h)
+    let after = tried_after m u.standings u.next name f.s (settled.Fault call count) f.has f.named h.fair.stand in
+    then_same (tried_standings u.standings name (settled.Fault call count)) after.0 after.1 (then_note (entry.Unsettled name (fault.Call call count)) tt h)
 
 after_known_fair : {J : Type 0} {answer : Answers J} {later : Laters J} {present : Bool} {k m : Kernel} {w u : State J} (n l : Kernel) (name : List ℕ) (known : Known) (a : Probe) (number count : ℕ) (p : Settled × State J) → standing_of name u.standings ≡ Some known → says_probe known.held.0 a n m → FairFrom answer later present k w m u → Runs calls m (after_known answer later name present u known a number count) p l → FairFrom answer later present k w l p.1
 after_known_fair {m = m} {u = u} n l name known (probe.Alive on) number count p at says h r =

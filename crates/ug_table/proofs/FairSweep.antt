@@ -22,6 +22,8 @@ use Rattle.ug_audit.specs.declared.entry.Entry.{Entry}
 use Rattle.ug_audit.specs.declared.entry.Entry.TheVariants as entry
 use Rattle.ug_audit.specs.declared.entry.Fault.{Fault}
 use Rattle.ug_audit.specs.declared.entry.Fault.TheVariants as fault
+use Rattle.ug_kernel.specs.declared.calls.Write.TheVariants as write
+use Rattle.ug_kernel.specs.declared.calls.Wrote.TheVariants as wrote
 use Rattle.ug_table.specs.State.{State, Kept, kept_of, with_kept, Answers, Laters}
 use Rattle.ug_table.specs.Standings.{lists, farewells}
 use Rattle.ug_table.specs.Settle.{settling, resettling}
@@ -36,6 +38,7 @@ use Rattle.ug_table.proofs.Says.{gone_has}
 use Rattle.ug_table.proofs.Joined.{FairFrom, fair_trans}
 use Rattle.ug_table.proofs.Steps.{one_itself, stand_of, fair_refl, fair_end, then_called, then_note, gone_device}
 use Rattle.ug_table.proofs.Fair.{then_settling, then_resettling}
+use Rattle.ug_table.proofs.RemoveMarks.{keeps_itself, keep_marks}
 
 then_settling_all : {J : Type 0} {answer : Answers J} {later : Laters J} {present : Bool} {k : Kernel} {w : State J} (names : List (List ℕ)) (m l : Kernel) (u v : State J) → FairFrom answer later present k w m u → Runs calls m (settling_all answer later names present u) v l → FairFrom answer later present k w l v
 then_settling_all [] m l u v h r = fair_end l v r.0 r.1 h
@@ -120,7 +123,7 @@ parted_fair answer later present m u names sound stand gone =
       grows = grows_refl m;
       rest = farewells names ss;
       entries = refl;
-      stand = stand_of m ss rs u.next there (distinct_filter (λ (s : Standing). s.name) listed ss stand.names) (distinct_filter (λ (s : Standing). s.number) listed ss stand.distinct) stand;
+      stand = stand_of m ss rs u.next there (distinct_filter (λ (s : Standing). s.name) listed ss stand.names) (distinct_filter (λ (s : Standing). s.number) listed ss stand.distinct) (λ s a. stand.removed s (filter_has listed ss s a).0) stand;
       account = farewell_account answer later present m names ss m.log u.judge u.next ss [] stand gone (λ s a. a) Start;
       left = record {
         told = λ s a. inl (there s a);
@@ -138,6 +141,7 @@ parted_fair answer later present m u names sound stand gone =
             let same : t.0 ≡ s = distinct_one (λ (v : Standing). v.number) ss t.0 s stand.distinct t.1 f.0 number in
             let was : true ≡ false = sym f.1 ∙ sym (ap (λ (v : Standing). lists names v.name) same) ∙ t.2 in
             true≢false was;
+        removed = keep_marks ss rs (farewells names ss) stand.distinct (λ s a. keeps_itself ss s (filter_has listed ss s a).0) (λ number name a. let t = farewell_has names ss (entry.Wrote number name write.Remove wrote.Done) a in let e = t.3 in let none : ⊥ = cc in none);
       };
       gone = farewell_distinct names ss stand.distinct;
       once = λ i a b p q. absurd (none a p.name p.held p.verdict p.cause p.has);

@@ -13,7 +13,7 @@ use Rattle.ug_kernel.proofs.Quiet.{moves_quiet}
 use Rattle.ug_audit.specs.declared.entry.Entry.{Entry}
 use Rattle.ug_audit.specs.declared.entry.Entry.TheVariants as entry
 use Rattle.ug_table.specs.State.{State, Answers, Laters}
-use Rattle.ug_table.specs.Laws.{IsDevice, IsGone, IsProbed, Stand, HasVerdict, IsOne, Stands, HasStanding, IsJudged, gone_of, IsFair, AreLeft, wrote_entries, Account, Start, Note, Judge, Had, Had_not, Went}
+use Rattle.ug_table.specs.Laws.{IsDevice, IsGone, IsProbed, Stand, HasVerdict, IsOne, Stands, HasStanding, IsJudged, gone_of, IsFair, AreLeft, wrote_entries, Account, Start, Note, Judge, Had, Had_not, Went, WasRemoved, IsRemoveMarked, IsFirst}
 use Rattle.ug_table.specs.declared.standing.Standing.{Standing}
 use Rattle.ug_types.proofs.Elements.{has_left, has_right, has_cases, distinct_append}
 use Rattle.ug_table.proofs.Values.{IsFileOf, file_same, file_later}
@@ -21,8 +21,11 @@ use Rattle.ug_table.proofs.Account.{account_stays, verdict_before, told_before}
 use Rattle.ug_table.proofs.Says.{Says, gone_has, gone_append, account_says, one_held, AreLow}
 use Rattle.ug_types.specs.Names.{parent_of}
 use Rattle.ug_kernel.specs.declared.device.Effect.{Effect}
-use Rattle.ug_table.specs.Bring.{write_of}
 use Rattle.ug_table.proofs.Devices.{probed_from}
+use Rattle.ug_kernel.specs.declared.calls.Write.{Write}
+use Rattle.ug_kernel.specs.declared.calls.Wrote.{Wrote}
+use Rattle.ug_kernel.specs.declared.calls.Write.TheVariants as write
+use Rattle.ug_kernel.specs.declared.calls.Wrote.TheVariants as wrote
 
 pub gone_as : (es : List Entry) (number n : ℕ) (name m : List ℕ) → number ≡ n → name ≡ m → Has es (entry.Gone number name) → Has es (entry.Gone n m)
 gone_as es number n name m e f h = let same : entry.Gone number name ≡ entry.Gone n m = cc in subst (λ (v : Entry). Has es v) same h
@@ -41,9 +44,52 @@ stands_by ss rs es fs number name held verdict cause kept (inl t) = elim (kept t
 ]
 stands_by ss rs es fs number name held verdict cause kept (inr g) = inr (has_left es fs (entry.Gone number name) g)
 
+-- a number of the second part that was marked or told as removed in the first is marked so between them
+removed_back : (before middle : List Standing) (es fs : List Entry) (bound number : ℕ) → AreLow before bound → ((n : ℕ) (name : List ℕ) (what : Write) (outcome : Wrote) → Has es (entry.Wrote n name what outcome) → n < bound) → AreLeft before es middle → ((t : Standing) × Has middle t × (t.number ≡ number)) ⊎ (bound ≤ number) → WasRemoved before (es ++ fs) number → WasRemoved middle fs number
+removed_back before middle es fs bound number low told a (inl t) w =
+    let removed : WasRemoved before es number → WasRemoved middle fs number = λ x. elim (a.removed t.0 t.1) [
+      | inl y ↦ inl (t.0, t.1, t.2, y.0)
+      | inr y ↦ absurd (y.1 (subst (λ (v : ℕ). WasRemoved before es v) (sym t.2) x))
+    ] in
+    elim w [
+      | inl b ↦ removed (inl b)
+      | inr b ↦ elim (has_cases es fs (entry.Wrote number b.0 write.Remove wrote.Done) b.1) [ inl x ↦ removed (inr (b.0, x)) | inr x ↦ inr (b.0, x) ]
+    ]
+removed_back before middle es fs bound number low told a (inr new) w = elim w [
+  | inl b ↦
+      let below = low b.0 b.1 in
+      let is = b.2 in
+      let none : ⊥ = omega (arith, below, is, new) in absurd none
+  | inr b ↦ elim (has_cases es fs (entry.Wrote number b.0 write.Remove wrote.Done) b.1) [
+    | inl x ↦
+        let below = told number b.0 write.Remove wrote.Done x in
+        let none : ⊥ = omega (arith, below, new) in absurd none
+    | inr x ↦ inr (b.0, x)
+  ]
+]
+
+removed_on : (before middle : List Standing) (es fs : List Entry) (number : ℕ) → AreLeft before es middle → WasRemoved middle fs number → WasRemoved before (es ++ fs) number
+removed_on before middle es fs number a (inl t) = elim (a.removed t.0 t.1) [
+  | inl y ↦ elim y.1 [
+    | inl b ↦ inl (b.0, b.1, b.2 ∙ t.2, b.3)
+    | inr b ↦ inr (b.0, has_left es fs (entry.Wrote number b.0 write.Remove wrote.Done) (subst (λ (v : ℕ). Has es (entry.Wrote v b.0 write.Remove wrote.Done)) t.2 b.1))
+  ]
+  | inr y ↦ let was : true ≡ false = sym t.3 ∙ y.0 in let none : ⊥ = cc in absurd none
+]
+removed_on before middle es fs number a (inr b) = inr (b.0, has_right es fs (entry.Wrote number b.0 write.Remove wrote.Done) b.1)
+
+first_on : (before middle : List Standing) (es fs : List Entry) (bound number : ℕ) (what : Write) → AreLow before bound → ((n : ℕ) (name : List ℕ) (w : Write) (outcome : Wrote) → Has es (entry.Wrote n name w outcome) → n < bound) → AreLeft before es middle → ((t : Standing) × Has middle t × (t.number ≡ number)) ⊎ (bound ≤ number) → IsFirst middle fs number what → IsFirst before (es ++ fs) number what
+first_on before middle es fs bound number write.On low told a n f = tt
+first_on before middle es fs bound number write.Off low told a n f = tt
+first_on before middle es fs bound number write.Remove low told a n f = λ w. f (removed_back before middle es fs bound number low told a n w)
+
+marked_on : (before middle : List Standing) (es fs : List Entry) (bound : ℕ) (s : Standing) → AreLow before bound → ((n : ℕ) (name : List ℕ) (w : Write) (outcome : Wrote) → Has es (entry.Wrote n name w outcome) → n < bound) → AreLeft before es middle → ((t : Standing) × Has middle t × (t.number ≡ s.number)) ⊎ (bound ≤ s.number) → IsRemoveMarked middle fs s → IsRemoveMarked before (es ++ fs) s
+marked_on before middle es fs bound s low told a n (inl y) = inl (y.0, removed_on before middle es fs s.number a y.1)
+marked_on before middle es fs bound s low told a n (inr y) = inr (y.0, λ w. y.1 (removed_back before middle es fs bound s.number low told a n w))
+
 -- what is left by entries, and then by others whose verdicts have numbers above those that the first tell gone
-left_trans : (before middle ss : List Standing) (es fs : List Entry) (bound : ℕ) → ((number : ℕ) (name : List ℕ) → Has es (entry.Gone number name) → number < bound) → ((number : ℕ) (name : List ℕ) (held : Held) (verdict : Target) (cause : Cause) → Has fs (entry.Judged number name held verdict cause) → bound ≤ number) → AreLeft before es middle → AreLeft middle fs ss → AreLeft before (es ++ fs) ss
-left_trans before middle ss es fs bound below after a b = record {
+left_trans : (before middle ss : List Standing) (es fs : List Entry) (bound : ℕ) → AreLow before bound → ((number : ℕ) (name : List ℕ) (what : Write) (outcome : Wrote) → Has es (entry.Wrote number name what outcome) → number < bound) → ((number : ℕ) (name : List ℕ) → Has es (entry.Gone number name) → number < bound) → ((number : ℕ) (name : List ℕ) (held : Held) (verdict : Target) (cause : Cause) → Has fs (entry.Judged number name held verdict cause) → bound ≤ number) → AreLeft before es middle → AreLeft middle fs ss → AreLeft before (es ++ fs) ss
+left_trans before middle ss es fs bound first wrote below after a b = record {
   told = λ s h. told_before before middle es fs s a.told (b.told s h);
   kept = λ x h. kept_by middle ss es fs x b.kept (a.kept x h);
   judged = λ number name held verdict cause h. elim (has_cases es fs (entry.Judged number name held verdict cause) h) [
@@ -63,7 +109,18 @@ left_trans before middle ss es fs bound below after a b = record {
     ]
     | inr x ↦ b.ended s name h x
   ];
+  removed = λ s h.
+      let n : ((t : Standing) × Has middle t × (t.number ≡ s.number)) ⊎ (bound ≤ s.number) = elim (b.told s h) [ inl t ↦ inl (t.0, t.1, sym t.2) | inr j ↦ inr (after s.number s.name s.held s.verdict s.cause j) ] in
+      marked_on before middle es fs bound s first wrote a n (b.removed s h);
 }
+
+-- numbers below one are below a later one
+low_later : (ss : List Standing) (next later : ℕ) → next ≤ later → AreLow ss next → AreLow ss later
+low_later ss next later le low s a = let below = low s a in omega (arith, below, le)
+
+had_number : {J : Type 0} (answer : Answers J) (later : Laters J) (present : Bool) (mid k : Kernel) (middle : List Standing) (log1 : List Effect) (judge1 : J) (next1 : ℕ) (gs : List Entry) (log : List Effect) (judge : J) (next number : ℕ) (name : List ℕ) (held : Held) (verdict : Target) → AreLow middle next1 → Account answer later present mid k middle log1 judge1 next1 gs log judge next → HasVerdict middle gs number name held verdict → ((t : Standing) × Has middle t × (t.number ≡ number)) ⊎ (next1 ≤ number)
+had_number answer later present mid k middle log1 judge1 next1 gs log judge next number name held verdict low a (inl h) = inl (h.0, h.1, h.2)
+had_number answer later present mid k middle log1 judge1 next1 gs log judge next number name held verdict low a (inr h) = inr ((account_says answer later present mid k middle log1 judge1 next1 gs log judge next low a).judged number name held verdict h.0 h.1).after
 
 account_trans : {J : Type 0} (answer : Answers J) (later : Laters J) (present : Bool) (start mid k : Kernel) (before middle : List Standing) (log0 log1 : List Effect) (judge0 judge1 : J) (next0 next1 : ℕ) (es : List Entry) (log : List Effect) (judge : J) (next : ℕ) (fs : List Entry) → Grows start mid → AreLow before next0 → AreLow middle next1 → AreLeft before es middle → Account answer later present start k before log0 judge0 next0 es log1 judge1 next1 → Account answer later present mid k middle log1 judge1 next1 fs log judge next → Account answer later present start k before log0 judge0 next0 (es ++ fs) log judge next
 account_trans answer later present start mid k before middle log0 log1 judge0 judge1 next0 next1 es log judge next fs g low mlow left a Start = subst (λ v. Account answer later present start k before log0 judge0 next0 v log1 judge1 next1) (sym (append-nil es)) a
@@ -74,16 +131,28 @@ account_trans answer later present start mid k before middle log0 log1 judge0 ju
     subst (λ v. Account answer later present start k before log0 judge0 next0 v m (later j judged (is_none (parent_of name)) present on ss) (n + 1)) (append_assoc es gs _)
     (Judge (es ++ gs) m j n i name held judged on ss d (probed_from start mid k name held.0 i on g b)
     (left_trans before middle ss es gs next1
+    (low_later before next0 next1 (account_says answer later present start k before log0 judge0 next0 es log1 judge1 next1 low a).rises low)
+    (account_says answer later present start k before log0 judge0 next0 es log1 judge1 next1 low a).wrote
     (λ number other x. ((account_says answer later present start k before log0 judge0 next0 es log1 judge1 next1 low a).gone number other x).below)
     (λ number other file verdict cause x. ((account_says answer later present mid k middle log1 judge1 next1 gs m j n mlow h).judged number other file verdict cause x).after)
     left there)
     (account_trans answer later present start mid k before middle log0 log1 judge0 judge1 next0 next1 es m j n gs g low mlow left a h))
-account_trans answer later present start mid k before middle log0 log1 judge0 judge1 next0 next1 es log judge next fs g low mlow left a (Had gs m j n i number name held judged verdict outcome d v may h) =
-    subst (λ x. Account answer later present start k before log0 judge0 next0 x (m ++ record { device = i; write = write_of verdict } ∷ []) j n) (append_assoc es gs (wrote_entries number name (write_of verdict) outcome))
-    (Had (es ++ gs) m j n i number name held judged verdict outcome d (verdict_before before middle es gs number name held verdict left.told v) may (account_trans answer later present start mid k before middle log0 log1 judge0 judge1 next0 next1 es m j n gs g low mlow left a h))
-account_trans answer later present start mid k before middle log0 log1 judge0 judge1 next0 next1 es log judge next fs g low mlow left a (Had_not gs m j n i number name held judged verdict outcome d v may h) =
-    subst (λ x. Account answer later present start k before log0 judge0 next0 x m j n) (append_assoc es gs (wrote_entries number name (write_of verdict) outcome))
-    (Had_not (es ++ gs) m j n i number name held judged verdict outcome d (verdict_before before middle es gs number name held verdict left.told v) may (account_trans answer later present start mid k before middle log0 log1 judge0 judge1 next0 next1 es m j n gs g low mlow left a h))
+account_trans answer later present start mid k before middle log0 log1 judge0 judge1 next0 next1 es log judge next fs g low mlow left a (Had gs m j n i number name held judged verdict what outcome d v due first may h) =
+    subst (λ x. Account answer later present start k before log0 judge0 next0 x (m ++ record { device = i; write = what } ∷ []) j n) (append_assoc es gs (wrote_entries number name what outcome))
+    (Had (es ++ gs) m j n i number name held judged verdict what outcome d (verdict_before before middle es gs number name held verdict left.told v) due
+    (first_on before middle es gs next1 number what
+    (low_later before next0 next1 (account_says answer later present start k before log0 judge0 next0 es log1 judge1 next1 low a).rises low)
+    (account_says answer later present start k before log0 judge0 next0 es log1 judge1 next1 low a).wrote left
+    (had_number answer later present mid k middle log1 judge1 next1 gs m j n number name held verdict mlow h v) first)
+    may (account_trans answer later present start mid k before middle log0 log1 judge0 judge1 next0 next1 es m j n gs g low mlow left a h))
+account_trans answer later present start mid k before middle log0 log1 judge0 judge1 next0 next1 es log judge next fs g low mlow left a (Had_not gs m j n i number name held judged verdict what outcome d v due first may h) =
+    subst (λ x. Account answer later present start k before log0 judge0 next0 x m j n) (append_assoc es gs (wrote_entries number name what outcome))
+    (Had_not (es ++ gs) m j n i number name held judged verdict what outcome d (verdict_before before middle es gs number name held verdict left.told v) due
+    (first_on before middle es gs next1 number what
+    (low_later before next0 next1 (account_says answer later present start k before log0 judge0 next0 es log1 judge1 next1 low a).rises low)
+    (account_says answer later present start k before log0 judge0 next0 es log1 judge1 next1 low a).wrote left
+    (had_number answer later present mid k middle log1 judge1 next1 gs m j n number name held verdict mlow h v) first)
+    may (account_trans answer later present start mid k before middle log0 log1 judge0 judge1 next0 next1 es m j n gs g low mlow left a h))
 account_trans answer later present start mid k before middle log0 log1 judge0 judge1 next0 next1 es log judge next fs g low mlow left a (Went gs m j n i number name held judged verdict d o v h) =
     subst (λ x. Account answer later present start k before log0 judge0 next0 x m j n) (append_assoc es gs (entry.Gone number name ∷ []))
     (Went (es ++ gs) m j n i number name held judged verdict d o (verdict_before before middle es gs number name held verdict left.told v) (account_trans answer later present start mid k before middle log0 log1 judge0 judge1 next0 next1 es m j n gs g low mlow left a h))
@@ -200,7 +269,7 @@ fair_trans {J} {answer} {later} {present} {k} {m} {l} {w} {u} {v} a b =
       entries = b.fair.entries ∙ ap (λ (x : List Entry). x ++ fs) a.fair.entries ∙ append_assoc w.entries es fs;
       stand = b.fair.stand;
       account = account_trans answer later present k m l w.standings u.standings k.log m.log w.judge u.judge w.next u.next es l.log v.judge v.next fs a.fair.grows a.stood.numbers b.stood.numbers a.fair.left account b.fair.account;
-      left = left_trans w.standings u.standings v.standings es fs u.next (λ number name x. ((says_of a).gone number name x).below) (λ number name held verdict cause x. ((says_of b).judged number name held verdict cause x).after) a.fair.left b.fair.left;
+      left = left_trans w.standings u.standings v.standings es fs u.next (low_later w.standings w.next u.next (says_of a).rises a.stood.numbers) (says_of a).wrote (λ number name x. ((says_of a).gone number name x).below) (λ number name held verdict cause x. ((says_of b).judged number name held verdict cause x).after) a.fair.left b.fair.left;
       gone = subst (λ (x : List ℕ). AllDistinct x) (sym (gone_append es fs)) (distinct_append (gone_of es) (gone_of fs) a.fair.gone b.fair.gone (λ n x y. gone_by a b n x y));
       once = λ i x y p q. once_by a b i x y (judged_split l es fs x i p) (judged_split l es fs y i q);
       unjudged = λ i n h p. unjudged_by a b i n h (judged_split l es fs n i p);

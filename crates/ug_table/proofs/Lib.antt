@@ -2,6 +2,7 @@ pub mod Loops
 pub mod Allowed
 pub mod Devices
 pub mod Standings
+pub mod RemoveMarks
 pub mod Account
 pub mod Says
 pub mod Joined
@@ -22,6 +23,7 @@ pub mod Swept
 pub mod Walked
 pub mod OtherNames
 pub mod OnePart
+pub mod Within
 pub mod Parted
 pub mod Faults
 pub mod Once

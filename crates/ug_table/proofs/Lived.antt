@@ -19,7 +19,7 @@ use Rattle.ug_audit.specs.declared.entry.Entry.TheVariants as entry
 use Rattle.ug_audit.specs.declared.entry.Fault.{Fault}
 use Rattle.ug_audit.specs.declared.entry.Fault.TheVariants as fault
 use Rattle.ug_table.specs.State.{State, Kept, kept_of, Answers, Laters}
-use Rattle.ug_table.specs.Bring.{wants}
+use Rattle.ug_table.specs.Bring.{wants, is_reject}
 use Rattle.ug_table.specs.Standings.{same_name, standing_of, lists, farewells}
 use Rattle.ug_table.specs.Settle.{settling, resettling}
 use Rattle.ug_table.specs.Sweep.{settling_all, resettling_all, parted, names_of, resumed, unlisted, marked_listed, if_room, after_list, sweeping}
@@ -32,7 +32,7 @@ use Rattle.ug_table.proofs.Values.{file_later, LiveAs, lives_between, lived, ope
 use Rattle.ug_table.proofs.Standings.{same_is, is_same, found, missing}
 use Rattle.ug_table.proofs.Places.{Files, files_later}
 use Rattle.ug_table.proofs.Apart.{Appends, appends_refl, appends_trans, Apart, settling_apart, resettling_apart}
-use Rattle.ug_table.proofs.Own.{Good, good_before, as_judged, settling_own}
+use Rattle.ug_table.proofs.Own.{StandsSo, Good, good_before, as_judged, settling_own}
 use Rattle.ug_table.proofs.Again.{Well, well_before, none_stands, stood, resettling_own, resettling_was}
 
 -- another name leaves it so
@@ -44,7 +44,7 @@ good_apart other name i es k ss fs l rs gs ne f live g apart (inl e) =
     let s = e.standing.s in
     let named = open_named k s.name name s.held.0 i (f s e.standing.has) e.standing.file live in
     let value = apart.others i (wants s.verdict) live.d live.live.at (λ x. ne (sym x ∙ live.named)) (e.d, e.device, e.value) in
-    inl (as_judged l rs i s.held s.verdict s (apart.rest s e.standing.has (λ x. ne (sym x ∙ named))) refl refl (file_later k l s.held.0 i g e.standing.file) value)
+    inl (as_judged l rs i s.held s.verdict s (apart.rest s e.standing.has (λ x. ne (sym x ∙ named))) refl refl (file_later k l s.held.0 i g e.standing.file) value e.removed)
 
 well_apart : (other name : List ℕ) (i : ℕ) (es : List Entry) (k : Kernel) (ss : List Standing) (fs : List Entry) (l : Kernel) (rs : List Standing) (gs : List Entry) → (other ≡ name → ⊥) → Files k ss → LiveAs k i name → Grows k l → Apart other k ss fs l rs gs → (HasStanding l rs i → HasStanding k ss i) → Well es k ss fs i name → Well es l rs gs i name
 well_apart other name i es k ss fs l rs gs ne f live g apart back (inl h) = inl (good_apart other name i es k ss fs l rs gs ne f live g apart h)
@@ -100,7 +100,7 @@ resettling_all_well (n ∷ names) name i es w k l v sound f first live a c r =
 
 -- what is said of a device at the end of a sweep
 abbrev Ended : Kernel → List Standing → List Entry → ℕ → List ℕ → Type 0
-Ended l ss rest i name = IsAsJudged l ss i ⊎ (IsNamed rest name ⊎ (((why : Fault) × Has rest (entry.UnsettledAll why)) × (HasStanding l ss i → ⊥)))
+Ended l ss rest i name = StandsSo l ss i ⊎ (IsNamed rest name ⊎ (((why : Fault) × Has rest (entry.UnsettledAll why)) × (HasStanding l ss i → ⊥)))
 
 good_ended : (es : List Entry) (l : Kernel) (ss : List Standing) (fs rest : List Entry) (i : ℕ) (name : List ℕ) → fs ≡ es ++ rest → Good es l ss fs i name → Ended l ss rest i name
 good_ended es l ss fs rest i name e (inl h) = inl h
@@ -170,7 +170,19 @@ lives_last k l i d g lives =
 pub stand_files : (k : Kernel) (ss : List Standing) (next : ℕ) → Stand k ss next → Files k ss
 stand_files k ss next h s a = let x = h.devices s a in record { i = x.0; d = x.1.d; file = x.1.file; device = x.1.device; named = x.1.named }
 
+-- what is marked as removed was removed
+judged_at : (l : Kernel) (ss : List Standing) (next i : ℕ) → Stand l ss next → StandsSo l ss i → IsAsJudged l ss i
+judged_at l ss next i stand h = record {
+  standing = h.standing;
+  d = h.d;
+  device = h.device;
+  value = h.value;
+  removal = λ e. stand.removed h.standing.s h.standing.has (h.removed (ap is_reject e)) i h.standing.file;
+}
+
 -- whatever the entries that were added
-pub sweeping_settled : {J : Type 0} (answer : Answers J) (later : Laters J) (w : State J) (k l : Kernel) (v : State J) (rest : List Entry) → Stand k w.standings w.next → Runs calls k (sweeping answer later w) v l → v.entries ≡ w.entries ++ rest → IsSettled k l v.standings rest
-sweeping_settled answer later w k l v rest stand r e i d lives =
-    sweeping_ended answer later w k l v rest i d.name (stand_files k w.standings w.next stand) e (lives_first k l i d lives) (lives_last k l i d (runs_grow (sweeping answer later w) k v l r) lives) r
+pub sweeping_settled : {J : Type 0} (answer : Answers J) (later : Laters J) (w : State J) (k l : Kernel) (v : State J) (rest : List Entry) → Stand k w.standings w.next → Stand l v.standings v.next → Runs calls k (sweeping answer later w) v l → v.entries ≡ w.entries ++ rest → IsSettled k l v.standings rest
+sweeping_settled answer later w k l v rest stand end r e i d lives = elim (sweeping_ended answer later w k l v rest i d.name (stand_files k w.standings w.next stand) e (lives_first k l i d lives) (lives_last k l i d (runs_grow (sweeping answer later w) k v l r) lives) r) [
+  | inl h ↦ inl (judged_at l v.standings v.next i end h)
+  | inr h ↦ inr h
+]

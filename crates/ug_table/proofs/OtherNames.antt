@@ -1,7 +1,7 @@
 -- What settling a name leaves of the standings of others.
-use Rattle.std.proofs.Common.{◌≡◌, ℕ, Bool, true, false, not, List, [], ◌∷◌, ◌++◌, Option, Some, map, cond, take, drop, refl, sym, ◌∙◌, ap}
+use Rattle.std.proofs.Common.{◌≡◌, ℕ, Bool, true, false, not, ◌&&◌, ◌||◌, List, [], ◌∷◌, ◌++◌, Option, Some, map, cond, take, drop, refl, sym, ◌∙◌, ap}
 use Rattle.std.proofs.lemmas.List.{take-append-drop}
-use Rattle.ug_table.specs.Standings.{same_name, known_of, standing_of, without, marked, place_for, with_standing}
+use Rattle.ug_table.specs.Standings.{same_name, known_of, standing_of, without, marked, place_for, with_standing, removed_of, settled_standing}
 use Rattle.ug_table.specs.Settle.{kept_standings, tried_standings}
 use Rattle.ug_table.specs.declared.standing.Standing.{Standing}
 use Rattle.ug_table.specs.declared.standing.Known.{Known}
@@ -9,6 +9,7 @@ use Rattle.ug_table.specs.declared.standing.Settled.{Settled}
 use Rattle.ug_table.specs.declared.standing.Settled.TheVariants as settled
 use Rattle.ug_table.proofs.Standings.{same_is}
 use Rattle.ug_table.proofs.Places.{other_test}
+use Rattle.ug_table.specs.Bring.{is_reject}
 
 -- another name has the standing that it had
 abbrev pub OthersStand : List ℕ → List Standing → List Standing → Type 0
@@ -16,10 +17,6 @@ OthersStand name before after = (other : List ℕ) → (other ≡ name → ⊥) 
 
 pub others_stand : (name : List ℕ) (ss : List Standing) → OthersStand name ss ss
 others_stand name ss = λ other n. refl
-
-marked_stand : (name other : List ℕ) (mark : Bool) (ss : List Standing) → standing_of other (map (marked name mark) ss) ≡ standing_of other ss
-marked_stand name other mark [] = refl
-marked_stand name other mark (s ∷ ss) = ap (λ (v : Option Known). cond (same_name s.name other) (Some (known_of s)) v) (marked_stand name other mark ss)
 
 -- a standing of another name is passed over
 passed : (other : List ℕ) (s : Standing) (ss : List Standing) → same_name s.name other ≡ false → standing_of other (s ∷ ss) ≡ standing_of other ss
@@ -31,6 +28,19 @@ not_named name other s e n = other_test s.name other (λ f. n (sym f ∙ e))
 without_by : (name other : List ℕ) (s : Standing) (ss : List Standing) (b : Bool) → same_name s.name name ≡ b → (other ≡ name → ⊥) → standing_of other (without name ss) ≡ standing_of other ss → standing_of other (cond (not b) (s ∷ without name ss) (without name ss)) ≡ standing_of other (s ∷ ss)
 without_by name other s ss true e n h = h ∙ sym (passed other s ss (not_named name other s (same_is s.name name e) n))
 without_by name other s ss false e n h = ap (λ (v : Option Known). cond (same_name s.name other) (Some (known_of s)) v) h
+
+marked_by : (name other : List ℕ) (mark : Bool) (s : Standing) (ss : List Standing) (b : Bool) → same_name s.name name ≡ b → (other ≡ name → ⊥) → standing_of other (map (marked name mark) ss) ≡ standing_of other ss → standing_of other (map (marked name mark) (s ∷ ss)) ≡ standing_of other (s ∷ ss)
+marked_by name other mark s ss true e n h =
+    let out : same_name s.name other ≡ false = not_named name other s (same_is s.name name e) n in
+    passed other (marked name mark s) (map (marked name mark) ss) out ∙ h ∙ sym (passed other s ss out)
+marked_by name other mark s ss false e n h =
+    let flag : removed_of name mark s ≡ s.removed = ap (λ (t : Bool). cond t (s.removed || (mark && is_reject s.verdict)) s.removed) e in
+    ap (λ (f : Bool). let k : Known = record { number = s.number; held = s.held; verdict = s.verdict; removed = f } in cond (same_name s.name other) (Some k) (standing_of other (map (marked name mark) ss))) flag
+    ∙ ap (λ (v : Option Known). cond (same_name s.name other) (Some (known_of s)) v) h
+
+marked_stand : (name other : List ℕ) (mark : Bool) (ss : List Standing) → (other ≡ name → ⊥) → standing_of other (map (marked name mark) ss) ≡ standing_of other ss
+marked_stand name other mark [] n = refl
+marked_stand name other mark (s ∷ ss) n = marked_by name other mark s ss (same_name s.name name) refl n (marked_stand name other mark ss n)
 
 pub without_stand : (name other : List ℕ) (ss : List Standing) → (other ≡ name → ⊥) → standing_of other (without name ss) ≡ standing_of other ss
 without_stand name other [] n = refl
@@ -47,12 +57,12 @@ with_stand other x ss e =
 
 pub kept_stand : (name : List ℕ) (ss : List Standing) (x : Standing) (how : Settled) → x.name ≡ name → OthersStand name ss (kept_standings ss x how)
 kept_stand name ss x settled.Nobody e = λ other n. refl
-kept_stand name ss x settled.Stands e = λ other n. with_stand other (record x { settled = true }) ss (not_named name other x e n)
+kept_stand name ss x settled.Stands e = λ other n. with_stand other (settled_standing x) ss (not_named name other x e n)
 kept_stand name ss x (settled.Fault call count) e = λ other n. with_stand other x ss (not_named name other x e n)
 kept_stand name ss x settled.Memory e = λ other n. with_stand other x ss (not_named name other x e n)
 
 pub tried_stand : (name : List ℕ) (ss : List Standing) (how : Settled) → OthersStand name ss (tried_standings ss name how)
 tried_stand name ss settled.Nobody = λ other n. without_stand name other ss n
-tried_stand name ss settled.Stands = λ other n. marked_stand name other true ss
-tried_stand name ss (settled.Fault call count) = λ other n. marked_stand name other false ss
-tried_stand name ss settled.Memory = λ other n. marked_stand name other false ss
+tried_stand name ss settled.Stands = λ other n. marked_stand name other true ss n
+tried_stand name ss (settled.Fault call count) = λ other n. marked_stand name other false ss n
+tried_stand name ss settled.Memory = λ other n. marked_stand name other false ss n

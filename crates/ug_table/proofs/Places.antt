@@ -1,17 +1,18 @@
 -- What settling a name leaves of the standings.
-use Rattle.std.proofs.Common.{◌≡◌, ℕ, Bool, true, false, not, List, map, inl, inr, refl, sym, ap, subst}
+use Rattle.std.proofs.Common.{◌≡◌, ℕ, Bool, true, false, not, ◌&&◌, ◌||◌, List, map, inl, inr, refl, sym, ◌∙◌, ap, subst}
 use Rattle.std.specs.Prelude.{if◌then◌else◌}
 use Rattle.ug_types.specs.Elements.{Has}
 use Rattle.ug_kernel.specs.Kernel.{Kernel}
 use Rattle.ug_kernel.specs.Quiet.{Grows}
-use Rattle.ug_table.specs.Standings.{same_name, marked, place_for, with_standing}
+use Rattle.ug_table.specs.Standings.{same_name, marked, place_for, with_standing, settled_standing}
 use Rattle.ug_table.specs.Settle.{kept_standings, tried_standings}
 use Rattle.ug_table.specs.declared.standing.Standing.{Standing}
 use Rattle.ug_table.specs.declared.standing.Settled.{Settled}
 use Rattle.ug_table.specs.declared.standing.Settled.TheVariants as settled
 use Rattle.ug_types.proofs.Elements.{filter_has, has_filter, map_has, has_map, insert_has, has_new, has_old}
-use Rattle.ug_table.proofs.Standings.{same_is}
+use Rattle.ug_table.proofs.Standings.{same_is, is_same, or_all, reject_removed}
 use Rattle.ug_table.proofs.Values.{IsOpen, open_later}
+use Rattle.ug_table.specs.Bring.{is_reject}
 
 other_by : (a b : List ℕ) (t : Bool) → same_name a b ≡ t → (a ≡ b → ⊥) → same_name a b ≡ false
 other_by a b true e ne = absurd (ne (same_is a b e))
@@ -32,7 +33,7 @@ files_later k l ss g f s a = open_later k l s.name s.held.0 g (f s a)
 
 pub kept_has : (ss : List Standing) (x : Standing) (how : Settled) (s : Standing) → Has ss s → Has (kept_standings ss x how) s
 kept_has ss x settled.Nobody s h = h
-kept_has ss x settled.Stands s h = has_old ss (place_for x.name ss) (record x { settled = true }) s h
+kept_has ss x settled.Stands s h = has_old ss (place_for x.name ss) (settled_standing x) s h
 kept_has ss x (settled.Fault call count) s h = has_old ss (place_for x.name ss) x s h
 kept_has ss x settled.Memory s h = has_old ss (place_for x.name ss) x s h
 
@@ -44,17 +45,21 @@ with_files k ss x f o s a = elim (insert_has ss (place_for x.name ss) x s a) [
 
 pub kept_files : (k : Kernel) (ss : List Standing) (x : Standing) (how : Settled) → Files k ss → IsOpen k x.name x.held.0 → Files k (kept_standings ss x how)
 kept_files k ss x settled.Nobody f o = f
-kept_files k ss x settled.Stands f o = with_files k ss (record x { settled = true }) f o
+kept_files k ss x settled.Stands f o = with_files k ss (settled_standing x) f o
 kept_files k ss x (settled.Fault call count) f o = with_files k ss x f o
 kept_files k ss x settled.Memory f o = with_files k ss x f o
 
-pub kept_new : (ss : List Standing) (x : Standing) (how : Settled) → how ≡ settled.Stands → (s : Standing) × Has (kept_standings ss x how) s × (s.held ≡ x.held) × (s.verdict ≡ x.verdict)
-kept_new ss x how e = subst (λ (v : Settled). (s : Standing) × Has (kept_standings ss x v) s × (s.held ≡ x.held) × (s.verdict ≡ x.verdict)) (sym e) (record x { settled = true }, has_new ss (place_for x.name ss) (record x { settled = true }), refl, refl)
+-- a rejected one is marked as removed
+abbrev pub IsRemovedIf : Standing → Type 0
+IsRemovedIf s = is_reject s.verdict ≡ true → s.removed ≡ true
+
+pub kept_new : (ss : List Standing) (x : Standing) (how : Settled) → how ≡ settled.Stands → (s : Standing) × Has (kept_standings ss x how) s × (s.held ≡ x.held) × (s.verdict ≡ x.verdict) × IsRemovedIf s
+kept_new ss x how e = subst (λ (v : Settled). (s : Standing) × Has (kept_standings ss x v) s × (s.held ≡ x.held) × (s.verdict ≡ x.verdict) × IsRemovedIf s) (sym e) (settled_standing x, has_new ss (place_for x.name ss) (settled_standing x), refl, refl, λ r. ap (λ (t : Bool). x.removed || t) r ∙ or_all x.removed)
 
 -- a standing that is tried again
 
 pub marked_other : (name : List ℕ) (b : Bool) (s : Standing) → (s.name ≡ name → ⊥) → marked name b s ≡ s
-marked_other name b s ne = ap (λ (t : Bool). let v : Standing = record s { settled = if t then b else s.settled } in v) (other_test s.name name ne)
+marked_other name b s ne = ap (λ (t : Bool). let v : Standing = record s { settled = if t then b else s.settled; removed = if t then s.removed || (b && is_reject s.verdict) else s.removed } in v) (other_test s.name name ne)
 
 marked_has : (ss : List Standing) (name : List ℕ) (b : Bool) (s : Standing) → Has ss s → (s.name ≡ name → ⊥) → Has (map (marked name b) ss) s
 marked_has ss name b s h ne = subst (λ (v : Standing). Has (map (marked name b) ss) v) (marked_other name b s ne) (has_map (marked name b) ss s h)
@@ -83,5 +88,5 @@ tried_files k ss name how f s a =
     let t = tried_was ss name how s a in
     subst (λ v. IsOpen k v s.held.0) t.2 (subst (λ v. IsOpen k t.0.name v.0) t.3 (f t.0 t.1))
 
-pub tried_new : (ss : List Standing) (name : List ℕ) (how : Settled) (s : Standing) → how ≡ settled.Stands → Has ss s → (t : Standing) × Has (tried_standings ss name how) t × (t.held ≡ s.held) × (t.verdict ≡ s.verdict)
-tried_new ss name how s e h = subst (λ (v : Settled). (t : Standing) × Has (tried_standings ss name v) t × (t.held ≡ s.held) × (t.verdict ≡ s.verdict)) (sym e) (marked name true s, has_map (marked name true) ss s h, refl, refl)
+pub tried_new : (ss : List Standing) (name : List ℕ) (how : Settled) (s : Standing) → how ≡ settled.Stands → s.name ≡ name → Has ss s → (t : Standing) × Has (tried_standings ss name how) t × (t.held ≡ s.held) × (t.verdict ≡ s.verdict) × IsRemovedIf t
+tried_new ss name how s e named h = subst (λ (v : Settled). (t : Standing) × Has (tried_standings ss name v) t × (t.held ≡ s.held) × (t.verdict ≡ s.verdict) × IsRemovedIf t) (sym e) (marked name true s, has_map (marked name true) ss s h, refl, refl, λ r. reject_removed name s (is_same s.name name named) r)

@@ -11,10 +11,9 @@ use Rattle.ug_kernel.specs.declared.calls.Wrote.{Wrote}
 use Rattle.ug_kernel.specs.Kernel.{Kernel}
 use Rattle.ug_audit.specs.declared.entry.Entry.{Entry}
 use Rattle.ug_audit.specs.declared.entry.Entry.TheVariants as entry
-use Rattle.ug_table.specs.Bring.{write_of}
 use Rattle.ug_table.specs.Laws.{IsDevice, IsGone, IsProbed, TellsNeither, HasVerdict, wrote_entries, Account, Start, Note, Judge, Had, Had_not, Went, numbers_of, gone_of}
 use Rattle.ug_table.specs.declared.standing.Standing.{Standing}
-use Rattle.ug_types.proofs.Elements.{has_left, only_left, last_is, distinct_one}
+use Rattle.ug_types.proofs.Elements.{has_left, only_left, last_is, distinct_one, has_cases}
 use Rattle.ug_table.specs.State.{Answers, Laters}
 
 -- entries that tell no verdict and no end of a standing
@@ -57,7 +56,7 @@ plain_distinct es p = distinct_none (gone_of es) (λ n a. let h = gone_has es n 
 pub plain_none : Plain []
 plain_none = record { judged = λ number name held verdict cause a. a; gone = λ number name a. a }
 
-one_neither : (e x : Entry) → TellsNeither e → Has (e ∷ []) x → TellsNeither x
+pub one_neither : (e x : Entry) → TellsNeither e → Has (e ∷ []) x → TellsNeither x
 one_neither e x t (inl is) = subst (λ (v : Entry). TellsNeither v) is t
 one_neither e x t (inr none) = absurd none
 
@@ -109,6 +108,13 @@ pub record Says (start k : Kernel) (before : List Standing) (next0 : ℕ) (es : 
   pub judged : (number : ℕ) (name : List ℕ) (held : Held) (verdict : Target) (cause : Cause) → Has es (entry.Judged number name held verdict cause) → WasJudged start k next0 next number name held
   pub gone : (number : ℕ) (name : List ℕ) → Has es (entry.Gone number name) → WentAway k before es next number name
   pub one : (number : ℕ) (n m : List ℕ) (h g : Held) (v u : Target) (c d : Cause) → Has es (entry.Judged number n h v c) → Has es (entry.Judged number m g u d) → h ≡ g
+  pub wrote : (number : ℕ) (name : List ℕ) (what : Write) (outcome : Wrote) → Has es (entry.Wrote number name what outcome) → number < next
+
+-- the two entries of a write bear its number
+wrote_below : (number next : ℕ) (name : List ℕ) (what : Write) (outcome : Wrote) → number < next → (n : ℕ) (m : List ℕ) (w : Write) (o : Wrote) → Has (wrote_entries number name what outcome) (entry.Wrote n m w o) → n < next
+wrote_below number next name what outcome low n m w o (inl e) = let none : ⊥ = cc in absurd none
+wrote_below number next name what outcome low n m w o (inr (inl e)) = let same : number ≡ n = cc in subst (λ (v : ℕ). v < next) same low
+wrote_below number next name what outcome low n m w o (inr (inr none)) = absurd none
 
 verdict_more : (before : List Standing) (es fs : List Entry) (number : ℕ) (name : List ℕ) (held : Held) (verdict : Target) → HasVerdict before es number name held verdict → HasVerdict before (es ++ fs) number name held verdict
 verdict_more before es fs number name held verdict (inl h) = inl h
@@ -129,12 +135,13 @@ went_more k before es fs next later number name le h = record {
 judged_more : (start k : Kernel) (next0 next number : ℕ) (name : List ℕ) (held : Held) → WasJudged start k next0 next number name held → WasJudged start k next0 (next + 1) number name held
 judged_more start k next0 next number name held h = record { after = h.after; below = let b = h.below in omega (arith, b); i = h.i; judged = h.judged; on = h.on; device = h.device; probed = h.probed }
 
-says_plain : (start k : Kernel) (before : List Standing) (next0 : ℕ) (es fs : List Entry) (next : ℕ) → Plain fs → Says start k before next0 es next → Says start k before next0 (es ++ fs) next
-says_plain start k before next0 es fs next p h = record {
+says_plain : (start k : Kernel) (before : List Standing) (next0 : ℕ) (es fs : List Entry) (next : ℕ) → Plain fs → ((number : ℕ) (name : List ℕ) (what : Write) (outcome : Wrote) → Has fs (entry.Wrote number name what outcome) → number < next) → Says start k before next0 es next → Says start k before next0 (es ++ fs) next
+says_plain start k before next0 es fs next p below h = record {
   rises = h.rises;
   judged = λ number name held verdict cause a. h.judged number name held verdict cause (only_left es fs (entry.Judged number name held verdict cause) (p.judged number name held verdict cause) a);
   gone = λ number name a. went_more k before es fs next next number name (omega arith) (h.gone number name (only_left es fs (entry.Gone number name) (p.gone number name) a));
   one = λ number n m x y v u c d a b. h.one number n m x y v u c d (only_left es fs (entry.Judged number n x v c) (p.judged number n x v c) a) (only_left es fs (entry.Judged number m y u d) (p.judged number m y u d) b);
+  wrote = λ number name what outcome a. elim (has_cases es fs (entry.Wrote number name what outcome) a) [ inl x ↦ h.wrote number name what outcome x | inr x ↦ below number name what outcome x ];
 }
 
 judged_as : (start k : Kernel) (next0 next n : ℕ) (name m : List ℕ) (held g : Held) (verdict u : Target) (cause d : Cause) → WasJudged start k next0 (next + 1) next name held → entry.Judged next name held verdict cause ≡ entry.Judged n m g u d → WasJudged start k next0 (next + 1) n m g
@@ -175,6 +182,10 @@ says_judged start k before next0 es next i name held judged on verdict cause dev
         | inr is ↦ absurd (let none : ⊥ = cc in none)
       ];
       one = λ number n m x y v u c d a b. one_judged start k before next0 es next name held verdict cause number n m x y v u c d h (last_is es e (entry.Judged number n x v c) a) (last_is es e (entry.Judged number m y u d) b);
+      wrote = λ n m what outcome a. elim (last_is es e (entry.Wrote n m what outcome) a) [
+        | inl x ↦ let low = h.wrote n m what outcome x in omega (arith, low)
+        | inr is ↦ absurd (let none : ⊥ = cc in none)
+      ];
     }
 
 went_as : (k : Kernel) (before : List Standing) (es : List Entry) (next number n : ℕ) (name m : List ℕ) → WentAway k before es next number name → entry.Gone number name ≡ entry.Gone n m → WentAway k before es next n m
@@ -195,6 +206,7 @@ says_went start k before next0 es next number name w h =
         | inr is ↦ went_more k before es (e ∷ []) next next n m (omega arith) (went_as k before es next number n name m w is)
       ];
       one = λ number n m x y v u c d a b. h.one number n m x y v u c d (left number n x v c a) (left number m y u d b);
+      wrote = λ n m what outcome a. elim (last_is es e (entry.Wrote n m what outcome) a) [ inl x ↦ h.wrote n m what outcome x | inr is ↦ absurd (let none : ⊥ = cc in none) ];
     }
 
 -- numbers from before are below the next
@@ -215,11 +227,16 @@ account_says answer later present start k before log0 judge0 next0 es log judge 
   judged = λ number name held verdict cause a. absurd a;
   gone = λ number name a. absurd a;
   one = λ number n m x y v u c d a b. absurd a;
+  wrote = λ number name what outcome a. absurd a;
 }
-account_says answer later present start k before log0 judge0 next0 es log judge next low (Note fs m j n e t h) = says_plain start k before next0 fs (e ∷ []) n (plain_note e t) (account_says answer later present start k before log0 judge0 next0 fs m j n low h)
+account_says answer later present start k before log0 judge0 next0 es log judge next low (Note fs m j n e t h) = says_plain start k before next0 fs (e ∷ []) n (plain_note e t) (λ number name what outcome a. absurd (one_neither e (entry.Wrote number name what outcome) t a)) (account_says answer later present start k before log0 judge0 next0 fs m j n low h)
 account_says answer later present start k before log0 judge0 next0 es log judge next low (Judge fs m j n i name held judged on ss d b left h) = says_judged start k before next0 fs n i name held judged on _ _ d b (account_says answer later present start k before log0 judge0 next0 fs m j n low h)
-account_says answer later present start k before log0 judge0 next0 es log judge next low (Had fs m j n i number name held judged verdict outcome d v may h) = says_plain start k before next0 fs (wrote_entries number name (write_of verdict) outcome) n (plain_wrote number name (write_of verdict) outcome) (account_says answer later present start k before log0 judge0 next0 fs m j n low h)
-account_says answer later present start k before log0 judge0 next0 es log judge next low (Had_not fs m j n i number name held judged verdict outcome d v may h) = says_plain start k before next0 fs (wrote_entries number name (write_of verdict) outcome) n (plain_wrote number name (write_of verdict) outcome) (account_says answer later present start k before log0 judge0 next0 fs m j n low h)
+account_says answer later present start k before log0 judge0 next0 es log judge next low (Had fs m j n i number name held judged verdict what outcome d v due first may h) =
+    let says = account_says answer later present start k before log0 judge0 next0 fs m j n low h in
+    says_plain start k before next0 fs (wrote_entries number name what outcome) n (plain_wrote number name what outcome) (wrote_below number n name what outcome (verdict_low start k before next0 fs n number name held verdict low says v)) says
+account_says answer later present start k before log0 judge0 next0 es log judge next low (Had_not fs m j n i number name held judged verdict what outcome d v due first may h) =
+    let says = account_says answer later present start k before log0 judge0 next0 fs m j n low h in
+    says_plain start k before next0 fs (wrote_entries number name what outcome) n (plain_wrote number name what outcome) (wrote_below number n name what outcome (verdict_low start k before next0 fs n number name held verdict low says v)) says
 account_says answer later present start k before log0 judge0 next0 es log judge next low (Went fs m j n i number name held judged verdict d o v h) =
     let says = account_says answer later present start k before log0 judge0 next0 fs m j n low h in
     says_went start k before next0 fs n number name (record { below = verdict_low start k before next0 fs n number name held verdict low says v; i = i; held = held; judged = judged; verdict = verdict; device = d; gone = o; had = v }) says

@@ -1,13 +1,14 @@
 -- The standings of names.
-use Rattle.std.proofs.Common.{◌≡◌, ℕ, Bool, true, false, not, ◌||◌, List, [], ◌∷◌, Some, None, map, cond, ◌⊎◌, inl, inr, refl, ap, arith}
+use Rattle.std.proofs.Common.{◌≡◌, ℕ, Bool, true, false, not, ◌∙◌, ◌||◌, List, [], ◌∷◌, Some, None, map, cond, ◌⊎◌, inl, inr, refl, ap, arith}
 use Rattle.std.specs.Cmp.Lexicographic.{bytes_decides}
 use Rattle.ug_types.specs.Elements.{Has}
-use Rattle.ug_table.specs.Standings.{same_name, known_of, standing_of, without, marked, lists}
+use Rattle.ug_table.specs.Standings.{same_name, known_of, standing_of, without, marked, lists, removed_of}
 use Rattle.ug_table.specs.Sweep.{names_of}
 use Rattle.ug_table.specs.Laws.{numbers_of}
 use Rattle.ug_table.specs.declared.standing.Standing.{Standing}
 use Rattle.ug_table.specs.declared.standing.Known.{Known}
 use Rattle.ug_types.proofs.Elements.{filter_has, map_has}
+use Rattle.ug_table.specs.Bring.{is_reject}
 
 pub same_is : (a b : List ℕ) → same_name a b ≡ true → a ≡ b
 same_is a b e = (bytes_decides a b).0 e
@@ -54,6 +55,37 @@ names_marked name mark (s ∷ ss) = ap (λ (v : List (List ℕ)). s.name ∷ v) 
 pub numbers_marked : (name : List ℕ) (mark : Bool) (ss : List Standing) → numbers_of (map (marked name mark) ss) ≡ numbers_of ss
 numbers_marked name mark [] = refl
 numbers_marked name mark (s ∷ ss) = ap (λ (v : List ℕ). s.number ∷ v) (numbers_marked name mark ss)
+
+-- the marks of removed devices
+
+or_none : (b : Bool) → (b || false) ≡ b
+or_none true = refl
+or_none false = refl
+
+pub or_all : (b : Bool) → (b || true) ≡ true
+or_all true = refl
+or_all false = refl
+
+pub or_by : (a b : Bool) → ((a || b) ≡ a) ⊎ (((a || b) ≡ true) × (b ≡ true))
+or_by true b = inl refl
+or_by false true = inr (refl, refl)
+or_by false false = inl refl
+
+pub still_removed : (name : List ℕ) (s : Standing) (b : Bool) → same_name s.name name ≡ b → removed_of name false s ≡ s.removed
+still_removed name s true e = ap (λ (t : Bool). cond t (s.removed || false) s.removed) e ∙ or_none s.removed
+still_removed name s false e = ap (λ (t : Bool). cond t (s.removed || false) s.removed) e
+
+pub settled_removed : (name : List ℕ) (s : Standing) (b : Bool) → same_name s.name name ≡ b → (removed_of name true s ≡ s.removed) ⊎ ((s.name ≡ name) × (removed_of name true s ≡ true) × (is_reject s.verdict ≡ true))
+settled_removed name s true e =
+    let flag : removed_of name true s ≡ (s.removed || is_reject s.verdict) = ap (λ (t : Bool). cond t (s.removed || is_reject s.verdict) s.removed) e in
+    elim (or_by s.removed (is_reject s.verdict)) [
+      | inl h ↦ inl (flag ∙ h)
+      | inr h ↦ inr (same_is s.name name e, flag ∙ h.0, h.1)
+    ]
+settled_removed name s false e = inl (ap (λ (t : Bool). cond t (s.removed || is_reject s.verdict) s.removed) e)
+
+pub reject_removed : (name : List ℕ) (s : Standing) → same_name s.name name ≡ true → is_reject s.verdict ≡ true → removed_of name true s ≡ true
+reject_removed name s e r = ap (λ (t : Bool). cond t (s.removed || is_reject s.verdict) s.removed) e ∙ ap (λ (t : Bool). s.removed || t) r ∙ or_all s.removed
 
 -- names of a list
 

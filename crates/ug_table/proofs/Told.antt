@@ -22,9 +22,13 @@ use Rattle.ug_audit.specs.declared.entry.Entry.{Entry}
 use Rattle.ug_audit.specs.declared.entry.Entry.TheVariants as entry
 use Rattle.ug_audit.specs.declared.entry.Fault.{Fault}
 use Rattle.ug_audit.specs.declared.entry.Fault.TheVariants as fault
+use Rattle.ug_kernel.specs.declared.calls.Write.TheVariants as write
+use Rattle.ug_node.specs.Removal.{holding_remove}
+use Rattle.ug_node.specs.declared.removal.RemoveHold.{RemoveHold}
+use Rattle.ug_node.specs.declared.removal.RemoveHold.TheVariants as hold
 use Rattle.ug_table.specs.State.{State, Kept, Answers, Laters}
-use Rattle.ug_table.specs.Bring.{wants, write_of, after_write, to_bring, bringing}
-use Rattle.ug_table.specs.Standings.{same_name, standing_of, without, marked, place_for, with_standing}
+use Rattle.ug_table.specs.Bring.{wants, write_of, after_write, to_value, valuing, after_hold, removing, is_to_go, if_to_go, after_value, bringing}
+use Rattle.ug_table.specs.Standings.{same_name, standing_of, without, marked, place_for, with_standing, settled_standing}
 use Rattle.ug_table.specs.Settle.{kept_standings, to_keep, unsettled, no_room, standing_for, known_in, judged_entry, judging, if_place, if_record, admitting, after_bind, entering, tried_standings, to_mark, dropped, after_known, from_standing, settling, to_keep_mark, after_again, again, resettling}
 use Rattle.ug_table.specs.Sweep.{names_of}
 use Rattle.ug_table.specs.Laws.{IsNamed, IsMarked}
@@ -109,44 +113,90 @@ Tells settled.Memory name rest = IsNamed rest name
 
 -- the writes
 
-pub record Brings (name : List ℕ) (es : List Entry) (p : Settled × List Entry) : Type 0 where
+-- a device that isn't to be removed isn't told for memory
+pub record Brings (name : List ℕ) (go : Bool) (es : List Entry) (p : Settled × List Entry) : Type 0 where
   pub rest : List Entry
   pub entries : p.1 ≡ es ++ rest
   pub only : Each (NamesOnly name) rest
-  pub spared : Each NotMemory rest
+  pub spared : go ≡ false → Each NotMemory rest
   pub tells : Tells p.0 name rest
 
-after_write_brings : (name : List ℕ) (number : ℕ) (what : Write) (es : List Entry) (outcome : Wrote) (call count : ℕ) → EndsSo (Brings name es) (after_write name number what (es ++ entry.Intent number name what ∷ []) outcome call count)
-after_write_brings name number what es wrote.Done call count =
+after_write_brings : (name : List ℕ) (go : Bool) (number : ℕ) (what : Write) (es : List Entry) (outcome : Wrote) (call count : ℕ) → EndsSo (Brings name go es) (after_write name number what (es ++ entry.Intent number name what ∷ []) outcome call count)
+after_write_brings name go number what es wrote.Done call count =
     let rest = entry.Intent number name what ∷ entry.Wrote number name what wrote.Done ∷ [] in
-    record { rest = rest; entries = append_assoc es _ _; only = (tt, (tt, tt)); spared = (tt, (tt, tt)); tells = none_named rest name (tt, (tt, tt)) }
-after_write_brings name number what es wrote.Gone call count = record {
+    record { rest = rest; entries = append_assoc es _ _; only = (tt, (tt, tt)); spared = λ e. (tt, (tt, tt)); tells = none_named rest name (tt, (tt, tt)) }
+after_write_brings name go number what es wrote.Gone call count = record {
   rest = entry.Intent number name what ∷ entry.Wrote number name what wrote.Gone ∷ entry.Gone number name ∷ [];
   entries = append_assoc (es ++ entry.Intent number name what ∷ []) _ _ ∙ append_assoc es _ _;
   only = (tt, (tt, (tt, tt)));
-  spared = (tt, (tt, (tt, tt)));
+  spared = λ e. (tt, (tt, (tt, tt)));
   tells = tt;
 }
-after_write_brings name number what es wrote.Failed call count = record {
+after_write_brings name go number what es wrote.Failed call count = record {
   rest = entry.Intent number name what ∷ entry.Wrote number name what wrote.Failed ∷ entry.Unsettled name (fault.Call call count) ∷ [];
   entries = append_assoc (es ++ entry.Intent number name what ∷ []) _ _ ∙ append_assoc es _ _;
   only = (tt, (tt, (refl, tt)));
-  spared = (tt, (tt, (tt, tt)));
+  spared = λ e. (tt, (tt, (tt, tt)));
   tells = (fault.Call call count, inr (inr (inl refl)));
 }
 
-as_it_was : (name : List ℕ) (es : List Entry) → Brings name es (settled.Stands, es)
-as_it_was name es = record { rest = []; entries = sym (append-nil es); only = tt; spared = tt; tells = none_named [] name tt }
+as_it_was : (name : List ℕ) (go : Bool) (es : List Entry) → Brings name go es (settled.Stands, es)
+as_it_was name go es = record { rest = []; entries = sym (append-nil es); only = tt; spared = λ e. tt; tells = none_named [] name tt }
 
-to_bring_brings : (name : List ℕ) (known : Known) (es : List Entry) (want on : Bool) → EndsSo (Brings name es) (to_bring name known es want on)
-to_bring_brings name known es true true = as_it_was name es
-to_bring_brings name known es false false = as_it_was name es
-to_bring_brings name known es true false = λ t. after_write_brings name known.number (write_of known.verdict) es t.answer t.number t.count
-to_bring_brings name known es false true = λ t. after_write_brings name known.number (write_of known.verdict) es t.answer t.number t.count
+to_value_brings : (name : List ℕ) (go : Bool) (known : Known) (es : List Entry) (want on : Bool) → EndsSo (Brings name go es) (to_value name known es want on)
+to_value_brings name go known es true true = as_it_was name go es
+to_value_brings name go known es false false = as_it_was name go es
+to_value_brings name go known es true false = λ t. after_write_brings name go known.number (write_of known.verdict) es t.answer t.number t.count
+to_value_brings name go known es false true = λ t. after_write_brings name go known.number (write_of known.verdict) es t.answer t.number t.count
 
-pub bringing_brings : (name : List ℕ) (known : Known) (on : Bool) (es : List Entry) → EndsSo (Brings name es) (bringing name known on es)
+valuing_brings : (name : List ℕ) (go : Bool) (known : Known) (on : Bool) (es : List Entry) → EndsSo (Brings name go es) (valuing name known on es)
+unfolding valuing
+valuing_brings name go known on es = to_value_brings name go known es (wants known.verdict) on
+
+-- the removal
+
+after_hold_brings : (name : List ℕ) (known : Known) (es : List Entry) (answer : RemoveHold) → EndsSo (Brings name true es) (after_hold name known es answer)
+after_hold_brings name known es (hold.Ready file) = λ t closed. after_write_brings name true known.number write.Remove es t.answer t.number t.count
+after_hold_brings name known es hold.Gone = record { rest = entry.Gone known.number name ∷ []; entries = refl; only = (tt, tt); spared = λ e. (tt, tt); tells = tt }
+after_hold_brings name known es (hold.Failed call count) = record { rest = entry.Unsettled name (fault.Call call count) ∷ []; entries = refl; only = (refl, tt); spared = λ e. (tt, tt); tells = (fault.Call call count, inl refl) }
+after_hold_brings name known es hold.Memory = record { rest = entry.Unsettled name fault.Memory ∷ []; entries = refl; only = (refl, tt); spared = λ e. absurd (let none : ⊥ = cc in none); tells = (fault.Memory, inl refl) }
+
+removing_brings : (name : List ℕ) (known : Known) (es : List Entry) → EndsSo (Brings name true es) (removing name known es)
+unfolding removing
+removing_brings name known es =
+    ends_then (λ (r : RemoveHold). Unit {0}) (Brings name true es) (holding_remove name known.held.0) (after_hold name known es) (ends_any (holding_remove name known.held.0))
+    (λ r u. after_hold_brings name known es r)
+
+tells_more : (how : Settled) (name : List ℕ) (es fs : List Entry) → (IsNamed es name → ⊥) → Tells how name fs → Tells how name (es ++ fs)
+tells_more settled.Stands name es fs none t = λ a. elim (has_cases es fs (entry.Unsettled name a.0) a.1) [ inl b ↦ none (a.0, b) | inr b ↦ t (a.0, b) ]
+tells_more (settled.Fault call count) name es fs none t = (t.0, has_right es fs (entry.Unsettled name t.0) t.1)
+tells_more settled.Nobody name es fs none t = tt
+tells_more settled.Memory name es fs none t = (t.0, has_right es fs (entry.Unsettled name t.0) t.1)
+
+brings_more : (name : List ℕ) (es fs : List Entry) (p : Settled × List Entry) → Brings name true es (settled.Stands, fs) → Brings name true fs p → Brings name true es p
+brings_more name es fs p a b = record {
+  rest = a.rest ++ b.rest;
+  entries = b.entries ∙ ap (λ (v : List Entry). v ++ b.rest) a.entries ∙ append_assoc es a.rest b.rest;
+  only = each_append (NamesOnly name) a.rest b.rest a.only b.only;
+  spared = λ e. absurd (let none : ⊥ = cc in none);
+  tells = tells_more p.0 name a.rest b.rest a.tells b.tells;
+}
+
+if_to_go_brings : (name : List ℕ) (known : Known) (es fs : List Entry) (go : Bool) → Brings name go es (settled.Stands, fs) → EndsSo (Brings name go es) (if_to_go name known fs go)
+if_to_go_brings name known es fs true a = ends_map (Brings name true fs) (Brings name true es) (removing name known fs) (λ p b. brings_more name es fs p a b) (removing_brings name known fs)
+if_to_go_brings name known es fs false a = a
+
+after_value_brings : (name : List ℕ) (known : Known) (es fs : List Entry) (how : Settled) → Brings name (is_to_go known) es (how, fs) → EndsSo (Brings name (is_to_go known) es) (after_value name known fs how)
+after_value_brings name known es fs settled.Stands a = if_to_go_brings name known es fs (is_to_go known) a
+after_value_brings name known es fs settled.Nobody a = a
+after_value_brings name known es fs (settled.Fault call count) a = a
+after_value_brings name known es fs settled.Memory a = a
+
+pub bringing_brings : (name : List ℕ) (known : Known) (on : Bool) (es : List Entry) → EndsSo (Brings name (is_to_go known) es) (bringing name known on es)
 unfolding bringing
-bringing_brings name known on es = to_bring_brings name known es (wants known.verdict) on
+bringing_brings name known on es =
+    ends_then (Brings name (is_to_go known) es) (Brings name (is_to_go known) es) (valuing name known on es) (λ (q : Settled × List Entry). after_value name known q.1 q.0) (valuing_brings name (is_to_go known) known on es)
+    (λ q b. after_value_brings name known es q.1 q.0 b)
 
 -- a name
 
@@ -176,7 +226,7 @@ new_others ss x s a ne = elim (insert_has ss (place_for x.name ss) x s a) [
 
 kept_others : (ss : List Standing) (x : Standing) (how : Settled) (s : Standing) → Has (kept_standings ss x how) s → (s.name ≡ x.name → ⊥) → Has ss s
 kept_others ss x settled.Nobody s a ne = a
-kept_others ss x settled.Stands s a ne = new_others ss (record x { settled = true }) s a ne
+kept_others ss x settled.Stands s a ne = new_others ss (settled_standing x) s a ne
 kept_others ss x (settled.Fault call count) s a ne = new_others ss x s a ne
 kept_others ss x settled.Memory s a ne = new_others ss x s a ne
 
@@ -188,7 +238,7 @@ new_mark ss x s rest absent m a e = elim (insert_has ss (place_for x.name ss) x 
 
 kept_mark : (ss : List Standing) (x : Standing) (how : Settled) (rest : List Entry) (s : Standing) → (Has (names_of ss) x.name → ⊥) → x.settled ≡ false → Tells how x.name rest → Has (kept_standings ss x how) s → s.name ≡ x.name → IsMarked rest s
 kept_mark ss x settled.Nobody rest s absent f t a e = absurd (absent (subst (λ (v : List ℕ). Has (names_of ss) v) e (has_map (λ (v : Standing). v.name) ss s a)))
-kept_mark ss x settled.Stands rest s absent f t a e = new_mark ss (record x { settled = true }) s rest absent (inl (refl, t)) a e
+kept_mark ss x settled.Stands rest s absent f t a e = new_mark ss (settled_standing x) s rest absent (inl (refl, t)) a e
 kept_mark ss x (settled.Fault call count) rest s absent f t a e = new_mark ss x s rest absent (inr (f, t)) a e
 kept_mark ss x settled.Memory rest s absent f t a e = new_mark ss x s rest absent (inr (f, t)) a e
 
@@ -218,8 +268,8 @@ tried_mark ss name settled.Stands rest s t a e = inl (marked_mark ss name true s
 tried_mark ss name (settled.Fault call count) rest s t a e = inr (marked_mark ss name false s a e, subst (λ (v : List ℕ). IsNamed rest v) (sym e) t)
 tried_mark ss name settled.Memory rest s t a e = inr (marked_mark ss name false s a e, subst (λ (v : List ℕ). IsNamed rest v) (sym e) t)
 
-tried_part : (ss : List Standing) (es : List Entry) (name : List ℕ) (q : Settled × List Entry) → Brings name es q → Part name ss es (tried_standings ss name q.0) q.1
-tried_part ss es name q b = record {
+tried_part : (ss : List Standing) (es : List Entry) (name : List ℕ) (go : Bool) (q : Settled × List Entry) → Brings name go es q → Part name ss es (tried_standings ss name q.0) q.1
+tried_part ss es name go q b = record {
   rest = b.rest;
   entries = b.entries;
   only = b.only;
@@ -260,7 +310,7 @@ judging_part {J} later name held judged on given w absent =
     let e = judged_entry w name held given in
     let es = w.entries ++ e ∷ [] in
     let x = standing_for w name held judged given in
-    ends_then (Brings name es) (PartOf name w) (bringing name (known_in w held given) on es) (to_keep (record w { next = w.next + 1; judge = later }) x)
+    ends_then (Brings name (is_to_go (known_in w held given)) es) (PartOf name w) (bringing name (known_in w held given) on es) (to_keep (record w { next = w.next + 1; judge = later }) x)
     (bringing_brings name (known_in w held given) on es)
     (λ q b.
     let part : Part name w.standings w.entries (kept_standings w.standings x q.0) q.1 = record {
@@ -317,8 +367,8 @@ dropped_part name number w p h =
 
 after_known_part : {J : Type 0} (answer : Answers J) (later : Laters J) (name : List ℕ) (present : Bool) (w : State J) (known : Known) (a : Probe) (call count : ℕ) → EndsSo (PartOf name w) (after_known answer later name present w known a call count)
 after_known_part answer later name present w known (probe.Alive on) call count =
-    ends_then (Brings name w.entries) (PartOf name w) (bringing name known on w.entries) (to_mark w name) (bringing_brings name known on w.entries)
-    (λ q b. (tried_part w.standings w.entries name q b, refl))
+    ends_then (Brings name (is_to_go known) w.entries) (PartOf name w) (bringing name known on w.entries) (to_mark w name) (bringing_brings name known on w.entries)
+    (λ q b. (tried_part w.standings w.entries name (is_to_go known) q b, refl))
 after_known_part answer later name present w known probe.Gone call count =
     ends_map (PartOf name (dropped w name known.number)) (PartOf name w) (entering answer later name present (dropped w name known.number)) (λ p h. dropped_part name known.number w p h)
     (entering_part answer later name present (dropped w name known.number) (missing_without name w.standings))
@@ -348,8 +398,8 @@ gone_part ss es name number = record {
 
 after_again_part : (name : List ℕ) (w : Kept) (known : Known) (a : Probe) (call count : ℕ) → EndsSo (KeptPart name w) (after_again name w known a call count)
 after_again_part name w known (probe.Alive on) call count =
-    ends_then (Brings name w.entries) (KeptPart name w) (bringing name known on w.entries) (to_keep_mark w name) (bringing_brings name known on w.entries)
-    (λ q b. tried_part w.standings w.entries name q b)
+    ends_then (Brings name (is_to_go known) w.entries) (KeptPart name w) (bringing name known on w.entries) (to_keep_mark w name) (bringing_brings name known on w.entries)
+    (λ q b. tried_part w.standings w.entries name (is_to_go known) q b)
 after_again_part name w known probe.Gone call count = gone_part w.standings w.entries name known.number
 after_again_part name w known probe.Failed call count = failed_part w.standings w.entries name call count
 

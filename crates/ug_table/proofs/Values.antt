@@ -4,8 +4,10 @@ use Rattle.ug_types.specs.declared.verdict.Target.{Target}
 use Rattle.ug_types.specs.declared.verdict.Target.TheVariants as target
 use Rattle.ug_kernel.specs.declared.device.Device.{Device}
 use Rattle.ug_kernel.specs.declared.device.HeldFile.{HeldFile}
-use Rattle.ug_kernel.specs.declared.calls.Control.TheVariants.{Authorized}
+use Rattle.ug_kernel.specs.declared.calls.Control.{Control}
+use Rattle.ug_kernel.specs.declared.calls.Control.TheVariants.{Authorized, Remove}
 use Rattle.ug_kernel.specs.declared.calls.Write.{Write}
+use Rattle.ug_kernel.specs.declared.calls.Write.TheVariants as write
 use Rattle.ug_kernel.specs.declared.calls.Wrote.{Wrote}
 use Rattle.ug_kernel.specs.declared.calls.Wrote.TheVariants as wrote
 use Rattle.ug_kernel.specs.Calls.{Told, Put}
@@ -56,9 +58,13 @@ Value k i on = (d : Device) × (slice_get k.devices i ≡ Some d) × (d.on ≡ o
 pub quiet_value : (k l : Kernel) (i : ℕ) (on : Bool) → Quiet k l → Value k i on → Value l i on
 quiet_value k l i on q v = let a = q.devices i v.0 v.1 in (a.0, a.1, a.2.on ∙ v.2)
 
-written_device : (held i : ℕ) (write : Write) (k l : Kernel) (w : IsWritten held write k l) → IsFileOf k held i → w.i ≡ i
-written_device held i write k l w file =
-    let same : w.holds.file ≡ record { device = i; control = Authorized } = some_same (slice_get k.held held) w.holds.file (record { device = i; control = Authorized }) w.holds.at file in
+-- the held file is that device's, of that control
+abbrev pub IsHeldAs : Kernel → ℕ → ℕ → Control → Type 0
+IsHeldAs k held i control = slice_get k.held held ≡ Some (record { device = i; control = control })
+
+written_device : (held i : ℕ) (control : Control) (write : Write) (k l : Kernel) (w : IsWritten held write k l) → IsHeldAs k held i control → w.i ≡ i
+written_device held i control write k l w file =
+    let same : w.holds.file ≡ record { device = i; control = control } = some_same (slice_get k.held held) w.holds.file (record { device = i; control = control }) w.holds.at file in
     sym w.holds.is ∙ ap (λ (v : HeldFile). v.device) same
 
 written_other : (held i : ℕ) (write : Write) (on : Bool) (k l : Kernel) (w : IsWritten held write k l) → (w.i ≡ i → ⊥) → Value k i on → Value l i on
@@ -71,12 +77,12 @@ does_put_other held i write wrote.Failed on k l ne (inl e) v = subst (λ x. Valu
 does_put_other held i write wrote.Failed on k l ne (inr w) v = written_other held i write on k l w (ne w) v
 
 -- a write to another device
-pub put_other : (held i j : ℕ) (write : Write) (answer : Told Wrote) (on : Bool) (k l : Kernel) → IsFileOf k held j → (j ≡ i → ⊥) → Called (Put held write) answer k l → Value k i on → Value l i on
-put_other held i j write answer on k l file ne c v =
+put_other : (held i j : ℕ) (control : Control) (write : Write) (answer : Told Wrote) (on : Bool) (k l : Kernel) → IsHeldAs k held j control → (j ≡ i → ⊥) → Called (Put held write) answer k l → Value k i on → Value l i on
+put_other held i j control write answer on k l file ne c v =
     let before = moves_quiet k c.before c.moves_before in
-    let at = before.held held (record { device = j; control = Authorized }) file in
+    let at = before.held held (record { device = j; control = control }) file in
     quiet_value c.after l i on (moves_quiet c.after l c.moves_after)
-    (does_put_other held i write answer.answer on c.before c.after (λ w e. ne (sym (written_device held j write c.before c.after w at) ∙ e)) c.effect (quiet_value k c.before i on before v))
+    (does_put_other held i write answer.answer on c.before c.after (λ w e. ne (sym (written_device held j control write c.before c.after w at) ∙ e)) c.effect (quiet_value k c.before i on before v))
 
 verdict_value : (verdict : Target) (was : Bool) → value_after (write_of verdict) was ≡ wants verdict
 verdict_value target.Allow was = refl
@@ -88,10 +94,21 @@ pub done_value : (held i : ℕ) (verdict : Target) (number count : ℕ) (k l : K
 done_value held i verdict number count k l file c =
     let w : IsWritten held (write_of verdict) c.before c.after = c.effect in
     let at = (moves_quiet k c.before c.moves_before).held held (record { device = i; control = Authorized }) file in
-    let is = written_device held i (write_of verdict) c.before c.after w at in
+    let is = written_device held i Authorized (write_of verdict) c.before c.after w at in
     let d : Device = record w.d { on = value_after (write_of verdict) w.d.on } in
     let now : slice_get c.after.devices i ≡ Some d = subst (λ x. slice_get c.after.devices x ≡ Some d) is w.now in
     quiet_value c.after l i (wants verdict) (moves_quiet c.after l c.moves_after) (d, now, verdict_value verdict w.d.on)
+
+-- a removal leaves the value
+pub removal_value : (file i : ℕ) (on : Bool) (number count : ℕ) (k l : Kernel) → IsHeldAs k file i Remove → Called (Put file write.Remove) (record { answer = wrote.Done; number = number; count = count }) k l → Value k i on → Value l i on
+removal_value file i on number count k l of c v =
+    let w : IsWritten file write.Remove c.before c.after = c.effect in
+    let moved = moves_quiet k c.before c.moves_before in
+    let is = written_device file i Remove write.Remove c.before c.after w (moved.held file (record { device = i; control = Remove }) of) in
+    let was = quiet_value k c.before i on moved v in
+    let same : w.d ≡ was.0 = some_same (slice_get c.before.devices i) w.d was.0 (subst (λ x. slice_get c.before.devices x ≡ Some w.d) is w.live.at) was.1 in
+    let now : slice_get c.after.devices i ≡ Some w.d = subst (λ x. slice_get c.after.devices x ≡ Some w.d) is w.now in
+    quiet_value c.after l i on (moves_quiet c.after l c.moves_after) (w.d, now, ap (λ (x : Device). x.on) same ∙ was.2)
 
 -- devices of other names keep their values
 abbrev pub Others : List ℕ → Kernel → Kernel → Type 0
@@ -128,12 +145,13 @@ open_named k name other held i o file live =
     let same : o.d ≡ live.d = some_same (slice_get k.devices i) o.d live.d (subst (λ v. slice_get k.devices v ≡ Some o.d) is o.device) live.live.at in
     sym o.named ∙ ap (λ (v : Device). v.name) same ∙ live.named
 
-pub others_put : (name : List ℕ) (held : ℕ) (write : Write) (answer : Told Wrote) (k l : Kernel) → IsOpen k name held → Called (Put held write) answer k l → Others name k l
-others_put name held write answer k l o c i on d e ne v =
+-- a write through a file of a device of that name
+pub others_put : (name : List ℕ) (held file : ℕ) (control : Control) (write : Write) (answer : Told Wrote) (k l : Kernel) (o : IsOpen k name held) → IsHeldAs k file o.i control → Called (Put file write) answer k l → Others name k l
+others_put name held file control write answer k l o of c i on d e ne v =
     let other : o.i ≡ i → ⊥ = λ is.
     let same : o.d ≡ d = some_same (slice_get k.devices i) o.d d (subst (λ x. slice_get k.devices x ≡ Some o.d) is o.device) e in
     ne (ap (λ (x : Device). x.name) (sym same) ∙ o.named) in
-    put_other held i o.i write answer on k l o.file other c v
+    put_other file i o.i control write answer on k l of other c v
 
 -- what is alive behind the file of a device is that device
 pub alive_open : (k : Kernel) (name : List ℕ) (held : ℕ) (on : Bool) → IsOpen k name held → IsAlive held on k → (i : ℕ) × IsFileOf k held i × LiveAs k i name × Value k i on

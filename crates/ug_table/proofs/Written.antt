@@ -1,66 +1,92 @@
--- A write with its two entries, to the device of a standing, and what becomes of the standing.
-use Rattle.std.proofs.Common.{◌≡◌, ℕ, Bool, true, false, List, [], ◌∷◌, ◌++◌, ◌⊎◌, Some, slice_get, inl, inr, refl, sym, ◌∙◌, ap, subst, append_assoc}
+-- The writes to the device of a standing, with their entries, and what becomes of the standing.
+use Rattle.std.proofs.Common.{◌≡◌, ℕ, Bool, true, false, not, ◌&&◌, List, [], ◌∷◌, ◌++◌, ◌⊎◌, Some, slice_get, inl, inr, refl, sym, ◌∙◌, ap, subst, append_assoc}
 use Rattle.ug_types.specs.Elements.{Has}
+use Rattle.ug_types.specs.declared.verdict.Target.{Target}
+use Rattle.ug_types.specs.declared.verdict.Target.TheVariants as target
 use Rattle.ug_kernel.specs.declared.device.HeldFile.{HeldFile}
 use Rattle.ug_kernel.specs.declared.device.Effect.{Effect}
-use Rattle.ug_kernel.specs.declared.calls.Control.TheVariants.{Authorized}
+use Rattle.ug_kernel.specs.declared.calls.Control.{Control}
+use Rattle.ug_kernel.specs.declared.calls.Control.TheVariants.{Authorized, Remove}
 use Rattle.ug_kernel.specs.declared.calls.Write.{Write}
+use Rattle.ug_kernel.specs.declared.calls.Write.TheVariants as write
 use Rattle.ug_kernel.specs.declared.calls.Wrote.{Wrote}
 use Rattle.ug_kernel.specs.declared.calls.Wrote.TheVariants as wrote
-use Rattle.ug_kernel.specs.Calls.{Put}
+use Rattle.ug_kernel.specs.Calls.{Put, Close}
 use Rattle.ug_kernel.specs.Kernel.{Kernel, Moves}
-use Rattle.ug_kernel.specs.Called.{IsWritten, says_put, Called}
+use Rattle.ug_kernel.specs.Called.{IsWritten, IsGoneAt, says_put, Called}
+use Rattle.ug_kernel.specs.Quiet.{Grows}
 use Rattle.ug_kernel.proofs.Grow.{some_same, called_grows}
 use Rattle.ug_itree.specs.Tree.{Runs, calls}
+use Rattle.ug_itree.proofs.Runs.{runs_split}
+use Rattle.ug_node.specs.Removal.{holding_remove, RemoveSays}
+use Rattle.ug_node.specs.declared.removal.RemoveHold.{RemoveHold}
+use Rattle.ug_node.specs.declared.removal.RemoveHold.TheVariants as hold
+use Rattle.ug_node.proofs.Removing.{holding_law, gone_later}
 use Rattle.ug_audit.specs.declared.entry.Entry.{Entry}
 use Rattle.ug_audit.specs.declared.entry.Entry.TheVariants as entry
 use Rattle.ug_audit.specs.declared.entry.Fault.TheVariants as fault
-use Rattle.ug_table.specs.Bring.{wants, write_of, after_write, to_write, to_bring, bringing}
+use Rattle.ug_table.specs.Bring.{wants, write_of, is_reject, CallsFor, after_write, to_write, to_value, valuing, after_hold, removing, is_to_go, if_to_go, after_value, bringing}
 use Rattle.ug_table.specs.State.{State, Answers, Laters}
 use Rattle.ug_table.specs.Standings.{known_of}
-use Rattle.ug_table.specs.Laws.{MayHave, MayHaveNot, wrote_entries, Account, Start, Had, Had_not}
+use Rattle.ug_table.specs.Laws.{IsDevice, MayHave, MayHaveNot, wrote_entries, HasRemoval, IsFirst, Account, Start, Had, Had_not}
 use Rattle.ug_table.specs.declared.standing.Standing.{Standing}
 use Rattle.ug_table.specs.declared.standing.Settled.{Settled}
 use Rattle.ug_table.specs.declared.standing.Settled.TheVariants as settled
-use Rattle.ug_table.proofs.Devices.{device_stays}
+use Rattle.ug_types.proofs.Elements.{has_right, distinct_one}
+use Rattle.ug_table.proofs.Values.{IsHeldAs, file_same, file_later}
+use Rattle.ug_table.proofs.Devices.{device_stays, stand_stays}
+use Rattle.ug_table.proofs.RemoveMarks.{NoRemoval, keeps_itself, removal_marks, removal_removed, marks_keep}
 use Rattle.ug_table.proofs.Says.{plain_wrote}
 use Rattle.ug_table.proofs.Joined.{FairFrom, fair_trans}
-use Rattle.ug_table.proofs.Steps.{After, same_refl, plain_fair, fair_end, then_note, then_same, then_went}
+use Rattle.ug_table.proofs.Steps.{After, same_refl, plain_fair, keep_fair, fair_end, then_quiet, then_called, then_note, then_same, then_went}
 
-one_more : (held i : ℕ) (write : Write) (k before after l : Kernel) → slice_get k.held held ≡ Some (record { device = i; control = Authorized }) → Moves k before → IsWritten held write before after → Moves after l → l.log ≡ k.log ++ record { device = i; write = write } ∷ []
-one_more held i write k before after l file b w a =
-    let f : HeldFile = record { device = i; control = Authorized } in
+-- the log after a write
+
+one_more : (held i : ℕ) (control : Control) (what : Write) (k before after l : Kernel) → IsHeldAs k held i control → Moves k before → IsWritten held what before after → Moves after l → l.log ≡ k.log ++ record { device = i; write = what } ∷ []
+one_more held i control what k before after l file b w a =
+    let f : HeldFile = record { device = i; control = control } in
     let same : w.holds.file ≡ f = some_same (slice_get before.held held) w.holds.file f w.holds.at (subst (λ v. slice_get v held ≡ Some f) (sym b.held) file) in
     let is : w.i ≡ i = sym w.holds.is ∙ ap (λ (v : HeldFile). v.device) same in
-    a.log ∙ w.log ∙ ap (λ (v : List Effect). v ++ record { device = w.i; write = write } ∷ []) b.log ∙ ap (λ (v : ℕ). let e : Effect = record { device = v; write = write } in k.log ++ e ∷ []) is
+    a.log ∙ w.log ∙ ap (λ (v : List Effect). v ++ record { device = w.i; write = what } ∷ []) b.log ∙ ap (λ (v : ℕ). let e : Effect = record { device = v; write = what } in k.log ++ e ∷ []) is
 
 -- the log after a write through a file of that device
 abbrev PutLogs : ℕ → Write → Wrote → Kernel → Kernel → Type 0
-PutLogs i write outcome k l = (MayHave outcome × (l.log ≡ k.log ++ record { device = i; write = write } ∷ [])) ⊎ (MayHaveNot outcome × (l.log ≡ k.log))
+PutLogs i what outcome k l = (MayHave outcome × (l.log ≡ k.log ++ record { device = i; write = what } ∷ [])) ⊎ (MayHaveNot outcome × (l.log ≡ k.log))
 
-put_logs : (held i : ℕ) (write : Write) (outcome : Wrote) (number count : ℕ) (k l : Kernel) → slice_get k.held held ≡ Some (record { device = i; control = Authorized }) → Called (Put held write) (record { answer = outcome; number = number; count = count }) k l → PutLogs i write outcome k l
-put_logs held i write wrote.Done number count k l file c = inl (tt, one_more held i write k c.before c.after l file c.moves_before c.effect c.moves_after)
-put_logs held i write wrote.Gone number count k l file c = inr (tt, c.moves_after.log ∙ ap (λ (v : Kernel). v.log) c.effect ∙ c.moves_before.log)
-put_logs held i write wrote.Failed number count k l file c = elim c.effect [
+put_logs : (held i : ℕ) (control : Control) (what : Write) (outcome : Wrote) (number count : ℕ) (k l : Kernel) → IsHeldAs k held i control → Called (Put held what) (record { answer = outcome; number = number; count = count }) k l → PutLogs i what outcome k l
+put_logs held i control what wrote.Done number count k l file c = inl (tt, one_more held i control what k c.before c.after l file c.moves_before c.effect c.moves_after)
+put_logs held i control what wrote.Gone number count k l file c = inr (tt, c.moves_after.log ∙ ap (λ (v : Kernel). v.log) c.effect ∙ c.moves_before.log)
+put_logs held i control what wrote.Failed number count k l file c = elim c.effect [
   | inl e ↦ inr (tt, c.moves_after.log ∙ ap (λ (v : Kernel). v.log) e ∙ c.moves_before.log)
-  | inr w ↦ inl (tt, one_more held i write k c.before c.after l file c.moves_before w c.moves_after)
+  | inr w ↦ inl (tt, one_more held i control what k c.before c.after l file c.moves_before w c.moves_after)
 ]
 
-abbrev with_write : {J : Type 0} → State J → Standing → Wrote → State J
-with_write w s outcome = record w { entries = (w.entries ++ entry.Intent s.number s.name (write_of s.verdict) ∷ []) ++ entry.Wrote s.number s.name (write_of s.verdict) outcome ∷ [] }
+-- the entries of a write
 
-put_fair : {J : Type 0} {answer : Answers J} {later : Laters J} {present : Bool} {k m : Kernel} {w u : State J} (l : Kernel) (s : Standing) (outcome : Wrote) (number count : ℕ) → Has u.standings s → Called (Put s.held.0 (write_of s.verdict)) (record { answer = outcome; number = number; count = count }) m l → FairFrom answer later present k w m u → FairFrom answer later present k w l (with_write u s outcome)
-put_fair {J} {answer} {later} {present} {k} {m} {w} {u} l s outcome number count has c h =
-    let g = called_grows (Put s.held.0 (write_of s.verdict)) (record { answer = outcome; number = number; count = count }) m l c in
-    let x = h.fair.stand.devices s has in
-    let here = device_stays m l x.0 s.name s.held s.judged g x.1 in
-    let es = wrote_entries s.number s.name (write_of s.verdict) outcome in
-    let account : Account answer later present m l u.standings m.log u.judge u.next es l.log u.judge u.next = elim (put_logs s.held.0 x.0 (write_of s.verdict) outcome number count m l x.1.file c) [
-      | inl e ↦ subst (λ (v : List Effect). Account answer later present m l u.standings m.log u.judge u.next es v u.judge u.next) (sym e.1) (Had [] m.log u.judge u.next x.0 s.number s.name s.held s.judged s.verdict outcome here (inl (s, has, refl, refl, refl, refl)) e.0 Start)
-      | inr e ↦ subst (λ (v : List Effect). Account answer later present m l u.standings m.log u.judge u.next es v u.judge u.next) (sym e.1) (Had_not [] m.log u.judge u.next x.0 s.number s.name s.held s.judged s.verdict outcome here (inl (s, has, refl, refl, refl, refl)) e.0 Start)
-    ] in
-    let step = plain_fair answer later present m l u u.standings es c.sound g h.fair.stand (same_refl m u.standings u.next h.fair.stand) (plain_wrote s.number s.name (write_of s.verdict) outcome) account in
-    fair_trans h (subst (λ (v : List Entry). FairFrom answer later present m u l (record u { entries = v })) (sym (append_assoc u.entries (entry.Intent s.number s.name (write_of s.verdict) ∷ []) (entry.Wrote s.number s.name (write_of s.verdict) outcome ∷ []))) step)
+abbrev with_write : {J : Type 0} → State J → Standing → Write → Wrote → State J
+with_write w s what outcome = record w { entries = (w.entries ++ entry.Intent s.number s.name what ∷ []) ++ entry.Wrote s.number s.name what outcome ∷ [] }
+
+-- the device of a standing, with its place
+abbrev StandsAs : {J : Type 0} → Kernel → State J → Standing → ℕ → Type 0
+StandsAs m u s i = Has u.standings s × IsDevice m i s.name s.held s.judged
+
+put_account : {J : Type 0} {answer : Answers J} {later : Laters J} {present : Bool} (m l : Kernel) (u : State J) (s : Standing) (i held : ℕ) (control : Control) (what : Write) (outcome : Wrote) (number count : ℕ) → StandsAs m u s i → IsHeldAs m held i control → CallsFor s.verdict what → IsFirst u.standings [] s.number what → Called (Put held what) (record { answer = outcome; number = number; count = count }) m l → Account answer later present m l u.standings m.log u.judge u.next (wrote_entries s.number s.name what outcome) l.log u.judge u.next
+put_account {J} {answer} {later} {present} m l u s i held control what outcome number count at file due first c =
+    let g = called_grows (Put held what) (record { answer = outcome; number = number; count = count }) m l c in
+    let here = device_stays m l i s.name s.held s.judged g at.1 in
+    let es = wrote_entries s.number s.name what outcome in
+    elim (put_logs held i control what outcome number count m l file c) [
+      | inl e ↦ subst (λ (v : List Effect). Account answer later present m l u.standings m.log u.judge u.next es v u.judge u.next) (sym e.1) (Had [] m.log u.judge u.next i s.number s.name s.held s.judged s.verdict what outcome here (inl (s, at.0, refl, refl, refl, refl)) due first e.0 Start)
+      | inr e ↦ subst (λ (v : List Effect). Account answer later present m l u.standings m.log u.judge u.next es v u.judge u.next) (sym e.1) (Had_not [] m.log u.judge u.next i s.number s.name s.held s.judged s.verdict what outcome here (inl (s, at.0, refl, refl, refl, refl)) due first e.0 Start)
+    ]
+
+-- a write that leaves the marks
+put_fair : {J : Type 0} {answer : Answers J} {later : Laters J} {present : Bool} {k m : Kernel} {w u : State J} (l : Kernel) (s : Standing) (i held : ℕ) (control : Control) (what : Write) (outcome : Wrote) (number count : ℕ) → StandsAs m u s i → IsHeldAs m held i control → CallsFor s.verdict what → IsFirst u.standings [] s.number what → NoRemoval (wrote_entries s.number s.name what outcome) → Called (Put held what) (record { answer = outcome; number = number; count = count }) m l → FairFrom answer later present k w m u → FairFrom answer later present k w l (with_write u s what outcome)
+put_fair {J} {answer} {later} {present} {k} {m} {w} {u} l s i held control what outcome number count at file due first none c h =
+    let g = called_grows (Put held what) (record { answer = outcome; number = number; count = count }) m l c in
+    let es = wrote_entries s.number s.name what outcome in
+    let step = keep_fair answer later present m l u u.standings es c.sound g h.fair.stand (same_refl m u.standings u.next h.fair.stand) (keeps_itself u.standings) none (plain_wrote s.number s.name what outcome) (put_account m l u s i held control what outcome number count at file due first c) in
+    fair_trans h (subst (λ (v : List Entry). FairFrom answer later present m u l (record u { entries = v })) (sym (append_assoc u.entries (entry.Intent s.number s.name what ∷ []) (entry.Wrote s.number s.name what outcome ∷ []))) step)
 
 -- the standings after it, by how it was settled
 abbrev Afters : List Standing → Standing → (Settled → List Standing) → Type 0
@@ -72,21 +98,171 @@ with_end w after p = record w { standings = after p.0; entries = p.1 }
 ends : {J : Type 0} (w : State J) (after : Settled → List Standing) (p q : Settled × List Entry) → p ≡ q → with_end w after p ≡ with_end w after q
 ends w after p q e = ap (λ (x : Settled × List Entry). with_end w after x) e
 
-after_write_fair : {J : Type 0} {answer : Answers J} {later : Laters J} {present : Bool} {k m : Kernel} {w : State J} (u : State J) (n l : Kernel) (s : Standing) (after : Settled → List Standing) (outcome : Wrote) (number count : ℕ) (p : Settled × List Entry) → Has u.standings s → Afters u.standings s after → says_put s.held.0 outcome n m → FairFrom answer later present k w m (with_write u s outcome) → Runs calls m (after_write s.name s.number (write_of s.verdict) (u.entries ++ entry.Intent s.number s.name (write_of s.verdict) ∷ []) outcome number count) p l → FairFrom answer later present k w l (with_end u after p)
-after_write_fair u n l s after wrote.Done number count p has a says h r = fair_end l (with_end u after p) (ends u after p _ r.0) r.1 (then_same (after settled.Stands) (a settled.Stands) h)
-after_write_fair u n l s after wrote.Gone number count p has a says h r = fair_end l (with_end u after p) (ends u after p _ r.0) r.1 (then_went s (after settled.Nobody) has (a settled.Nobody) says h)
-after_write_fair u n l s after wrote.Failed number count p has a says h r = fair_end l (with_end u after p) (ends u after p _ r.0) r.1 (then_same (after (settled.Fault number count)) (a (settled.Fault number count)) (then_note (entry.Unsettled s.name (fault.Call number count)) tt h))
+-- the value: where it stands the standings aren't marked yet
 
-to_write_fair : {J : Type 0} {answer : Answers J} {later : Laters J} {present : Bool} {k m : Kernel} {w u : State J} (l : Kernel) (s : Standing) (after : Settled → List Standing) (p : Settled × List Entry) → Has u.standings s → Afters u.standings s after → FairFrom answer later present k w m u → Runs calls m (to_write s.name (known_of s) (write_of s.verdict) u.entries) p l → FairFrom answer later present k w l (with_end u after p)
+abbrev mid : {J : Type 0} → State J → (Settled → List Standing) → Settled → List Standing
+mid w after settled.Stands = w.standings
+mid w after settled.Nobody = after settled.Nobody
+mid w after (settled.Fault call count) = after (settled.Fault call count)
+mid w after settled.Memory = after settled.Memory
+
+abbrev with_mid : {J : Type 0} → State J → (Settled → List Standing) → Settled × List Entry → State J
+with_mid w after p = record w { standings = mid w after p.0; entries = p.1 }
+
+mids : {J : Type 0} (w : State J) (after : Settled → List Standing) (p q : Settled × List Entry) → p ≡ q → with_mid w after p ≡ with_mid w after q
+mids w after p q e = ap (λ (x : Settled × List Entry). with_mid w after x) e
+
+after_write_fair : {J : Type 0} {answer : Answers J} {later : Laters J} {present : Bool} {k m : Kernel} {w : State J} (u : State J) (n l : Kernel) (s : Standing) (after : Settled → List Standing) (what : Write) (outcome : Wrote) (number count : ℕ) (p : Settled × List Entry) → Has u.standings s → Afters u.standings s after → says_put s.held.0 outcome n m → FairFrom answer later present k w m (with_write u s what outcome) → Runs calls m (after_write s.name s.number what (u.entries ++ entry.Intent s.number s.name what ∷ []) outcome number count) p l → FairFrom answer later present k w l (with_mid u after p)
+after_write_fair u n l s after what wrote.Done number count p has a says h r = fair_end l (with_mid u after p) (mids u after p _ r.0) r.1 h
+after_write_fair u n l s after what wrote.Gone number count p has a says h r = fair_end l (with_mid u after p) (mids u after p _ r.0) r.1 (then_went s (after settled.Nobody) has (a settled.Nobody) says h)
+after_write_fair u n l s after what wrote.Failed number count p has a says h r = fair_end l (with_mid u after p) (mids u after p _ r.0) r.1 (let after_fault = a (settled.Fault number count) in then_same (after (settled.Fault number count)) after_fault.0 after_fault.1 (then_note (entry.Unsettled s.name (fault.Call number count)) tt h))
+
+value_called : (verdict : Target) → CallsFor verdict (write_of verdict)
+value_called target.Allow = tt
+value_called target.Block = tt
+value_called target.Reject = tt
+
+value_first : (ss : List Standing) (es : List Entry) (number : ℕ) (verdict : Target) → IsFirst ss es number (write_of verdict)
+value_first ss es number target.Allow = tt
+value_first ss es number target.Block = tt
+value_first ss es number target.Reject = tt
+
+value_no_removal : (s : Standing) (verdict : Target) (outcome : Wrote) → NoRemoval (wrote_entries s.number s.name (write_of verdict) outcome)
+value_no_removal s verdict outcome number name (inl e) = let none : ⊥ = cc in none
+value_no_removal s target.Allow outcome number name (inr (inl e)) = let none : ⊥ = cc in none
+value_no_removal s target.Block outcome number name (inr (inl e)) = let none : ⊥ = cc in none
+value_no_removal s target.Reject outcome number name (inr (inl e)) = let none : ⊥ = cc in none
+value_no_removal s verdict outcome number name (inr (inr none)) = none
+
+to_write_fair : {J : Type 0} {answer : Answers J} {later : Laters J} {present : Bool} {k m : Kernel} {w u : State J} (l : Kernel) (s : Standing) (after : Settled → List Standing) (p : Settled × List Entry) → Has u.standings s → Afters u.standings s after → FairFrom answer later present k w m u → Runs calls m (to_write s.name (known_of s) (write_of s.verdict) u.entries) p l → FairFrom answer later present k w l (with_mid u after p)
 to_write_fair {J} {answer} {later} {present} {k} {m} {w} {u} l s after p has a h r =
-    after_write_fair u m l s after r.0.answer r.0.number r.0.count p has a r.2.says (put_fair r.1 s r.0.answer r.0.number r.0.count has r.2 h) r.3
+    let x = h.fair.stand.devices s has in
+    after_write_fair u m l s after (write_of s.verdict) r.0.answer r.0.number r.0.count p has a r.2.says
+    (put_fair r.1 s x.0 s.held.0 Authorized (write_of s.verdict) r.0.answer r.0.number r.0.count (has, x.1) x.1.file (value_called s.verdict) (value_first u.standings [] s.number s.verdict) (value_no_removal s s.verdict r.0.answer) r.2 h) r.3
 
-to_bring_fair : {J : Type 0} {answer : Answers J} {later : Laters J} {present : Bool} {k m : Kernel} {w u : State J} (l : Kernel) (s : Standing) (after : Settled → List Standing) (wanted on : Bool) (p : Settled × List Entry) → Has u.standings s → Afters u.standings s after → FairFrom answer later present k w m u → Runs calls m (to_bring s.name (known_of s) u.entries wanted on) p l → FairFrom answer later present k w l (with_end u after p)
-to_bring_fair {u = u} l s after true true p has a h r = fair_end l (with_end u after p) (ends u after p _ r.0) r.1 (then_same (after settled.Stands) (a settled.Stands) h)
-to_bring_fair {u = u} l s after false false p has a h r = fair_end l (with_end u after p) (ends u after p _ r.0) r.1 (then_same (after settled.Stands) (a settled.Stands) h)
-to_bring_fair l s after true false p has a h r = to_write_fair l s after p has a h r
-to_bring_fair l s after false true p has a h r = to_write_fair l s after p has a h r
+to_value_fair : {J : Type 0} {answer : Answers J} {later : Laters J} {present : Bool} {k m : Kernel} {w u : State J} (l : Kernel) (s : Standing) (after : Settled → List Standing) (wanted on : Bool) (p : Settled × List Entry) → Has u.standings s → Afters u.standings s after → FairFrom answer later present k w m u → Runs calls m (to_value s.name (known_of s) u.entries wanted on) p l → FairFrom answer later present k w l (with_mid u after p)
+to_value_fair {u = u} l s after true true p has a h r = fair_end l (with_mid u after p) (mids u after p _ r.0) r.1 h
+to_value_fair {u = u} l s after false false p has a h r = fair_end l (with_mid u after p) (mids u after p _ r.0) r.1 h
+to_value_fair l s after true false p has a h r = to_write_fair l s after p has a h r
+to_value_fair l s after false true p has a h r = to_write_fair l s after p has a h r
+
+valuing_fair : {J : Type 0} {answer : Answers J} {later : Laters J} {present : Bool} {k m : Kernel} {w u : State J} (l : Kernel) (s : Standing) (after : Settled → List Standing) (on : Bool) (p : Settled × List Entry) → Has u.standings s → Afters u.standings s after → FairFrom answer later present k w m u → Runs calls m (valuing s.name (known_of s) on u.entries) p l → FairFrom answer later present k w l (with_mid u after p)
+unfolding valuing
+valuing_fair l s after on p has a h r = to_value_fair l s after (wants s.verdict) on p has a h r
+
+-- the removal
+
+reject_calls : (verdict : Target) → is_reject verdict ≡ true → CallsFor verdict write.Remove
+reject_calls target.Allow e = let none : ⊥ = cc in absurd none
+reject_calls target.Block e = let none : ⊥ = cc in absurd none
+reject_calls target.Reject e = tt
+
+and_first : (a b : Bool) → (a && b) ≡ true → a ≡ true
+and_first true b e = refl
+and_first false b e = e
+
+and_second : (a b : Bool) → (a && not b) ≡ true → b ≡ false
+and_second true true e = sym e
+and_second true false e = refl
+and_second false b e = let none : ⊥ = cc in absurd none
+
+removed_if : (a b : Bool) → (a && not b) ≡ false → a ≡ true → b ≡ true
+removed_if true true e r = refl
+removed_if true false e r = sym e
+removed_if false b e r = let none : ⊥ = cc in absurd none
+
+remove_first : {J : Type 0} (m : Kernel) (u : State J) (s : Standing) → Has u.standings s → s.removed ≡ false → (distinct : (t : Standing) → Has u.standings t → t.number ≡ s.number → t ≡ s) → IsFirst u.standings [] s.number write.Remove
+remove_first m u s has e one (inl b) =
+    let same : b.0 ≡ s = one b.0 b.1 b.2 in
+    let was : true ≡ false = sym b.3 ∙ ap (λ (v : Standing). v.removed) same ∙ e in
+    let none : ⊥ = cc in none
+remove_first m u s has e one (inr b) = b.1
+
+-- the log has it
+done_removal : (m l : Kernel) (s : Standing) (i file number count : ℕ) → IsDevice m i s.name s.held s.judged → IsHeldAs m file i Remove → Called (Put file write.Remove) (record { answer = wrote.Done; number = number; count = count }) m l → HasRemoval l s.held
+done_removal m l s i file number count d of c j at =
+    let g = called_grows (Put file write.Remove) (record { answer = wrote.Done; number = number; count = count }) m l c in
+    let is : i ≡ j = file_same l s.held.0 i j (file_later m l s.held.0 i g d.file) at in
+    let e : Effect = record { device = i; write = write.Remove } in
+    let logged : Has l.log e = subst (λ (v : List Effect). Has v e) (sym (one_more file i Remove write.Remove m c.before c.after l of c.moves_before c.effect c.moves_after)) (has_right m.log (e ∷ []) e (inl refl)) in
+    subst (λ (v : ℕ). Has l.log (record { device = v; write = write.Remove })) is logged
+
+-- a removal that was done marks the standing
+removed_fair : {J : Type 0} {answer : Answers J} {later : Laters J} {present : Bool} {k m : Kernel} {w u : State J} (l : Kernel) (s : Standing) (i file number count : ℕ) (rs : List Standing) → StandsAs m u s i → IsHeldAs m file i Remove → is_reject s.verdict ≡ true → s.removed ≡ false → After s u.standings settled.Stands rs → Called (Put file write.Remove) (record { answer = wrote.Done; number = number; count = count }) m l → FairFrom answer later present k w m u → FairFrom answer later present k w l (record u { standings = rs; entries = (u.entries ++ entry.Intent s.number s.name write.Remove ∷ []) ++ entry.Wrote s.number s.name write.Remove wrote.Done ∷ [] })
+removed_fair {J} {answer} {later} {present} {k} {m} {w} {u} l s i file number count rs at of reject fresh a c h =
+    let g = called_grows (Put file write.Remove) (record { answer = wrote.Done; number = number; count = count }) m l c in
+    let stand = h.fair.stand in
+    let es = wrote_entries s.number s.name write.Remove wrote.Done in
+    let first = remove_first m u s at.0 fresh (λ t b e. distinct_one (λ (v : Standing). v.number) u.standings t s stand.distinct b at.0 e) in
+    let account = put_account m l u s i file Remove write.Remove wrote.Done number count at of (reject_calls s.verdict reject) first c in
+    let removed = removal_removed l u.standings rs s (stand_stays m l u.standings u.next g stand).removed (done_removal m l s i file number count at.1 of c) a.1 in
+    let step = plain_fair answer later present m l u rs es c.sound g stand a.0 (removal_marks u.standings rs s stand.distinct reject a.1) removed (plain_wrote s.number s.name write.Remove wrote.Done) account in
+    fair_trans h (subst (λ (v : List Entry). FairFrom answer later present m u l (record u { standings = rs; entries = v })) (sym (append_assoc u.entries (entry.Intent s.number s.name write.Remove ∷ []) (entry.Wrote s.number s.name write.Remove wrote.Done ∷ []))) step)
+
+undone_no_removal : (s : Standing) (outcome : Wrote) → (outcome ≡ wrote.Done → ⊥) → NoRemoval (wrote_entries s.number s.name write.Remove outcome)
+undone_no_removal s outcome ne number name (inl e) = let none : ⊥ = cc in none
+undone_no_removal s outcome ne number name (inr (inl e)) = ne (let is : outcome ≡ wrote.Done = cc in is)
+undone_no_removal s outcome ne number name (inr (inr none)) = none
+
+-- where the `remove` file's device is gone, that of the `authorized` file is so
+gone_through : (k l : Kernel) (s : Standing) (i file : ℕ) (d : IsDevice k i s.name s.held s.judged) → IsHeldAs k file i Remove → IsGoneAt file k → Grows k l → IsGoneAt s.held.0 l
+gone_through k l s i file d of gone g =
+    gone_later k l s.name s.held.0 i g (record { d = d.d; file = d.file; device = d.device; named = d.named }) (λ e live. gone i e (record { file = record { device = i; control = Remove }; at = of; is = refl; device = live.at }) live)
+
+to_remove_fair : {J : Type 0} {answer : Answers J} {later : Laters J} {present : Bool} {k m : Kernel} {w u : State J} (x y l : Kernel) (s : Standing) (i file : ℕ) (after : Settled → List Standing) (outcome : Wrote) (number count : ℕ) (closed : _) (p : Settled × List Entry) → StandsAs m u s i → IsHeldAs m file i Remove → is_reject s.verdict ≡ true → s.removed ≡ false → Afters u.standings s after → Called (Put file write.Remove) (record { answer = outcome; number = number; count = count }) m x → Called (Close file) closed x y → FairFrom answer later present k w m u → Runs calls y (after_write s.name s.number write.Remove (u.entries ++ entry.Intent s.number s.name write.Remove ∷ []) outcome number count) p l → FairFrom answer later present k w l (with_end u after p)
+to_remove_fair {u = u} x y l s i file after wrote.Done number count closed p at of reject fresh a c d h r =
+    fair_end l (with_end u after p) (ends u after p _ r.0) r.1 (then_called (Close file) closed y tt d (removed_fair x s i file number count (after settled.Stands) at of reject fresh (a settled.Stands) c h))
+to_remove_fair {m = m} {u = u} x y l s i file after wrote.Gone number count closed p at of reject fresh a c d h r =
+    let first = remove_first m u s at.0 fresh (λ t b e. distinct_one (λ (v : Standing). v.number) u.standings t s h.fair.stand.distinct b at.0 e) in
+    let put = put_fair x s i file Remove write.Remove wrote.Gone number count at of (reject_calls s.verdict reject) first (undone_no_removal s wrote.Gone (λ e. let none : ⊥ = cc in none)) c h in
+    let g = called_grows (Put file write.Remove) (record { answer = wrote.Gone; number = number; count = count }) m x c in
+    let gone = gone_through x y s i file (device_stays m x i s.name s.held s.judged g at.1) (g.held file (record { device = i; control = Remove }) of) c.says (called_grows (Close file) closed x y d) in
+    fair_end l (with_end u after p) (ends u after p _ r.0) r.1 (then_went s (after settled.Nobody) at.0 (a settled.Nobody) gone (then_called (Close file) closed y tt d put))
+to_remove_fair {m = m} {u = u} x y l s i file after wrote.Failed number count closed p at of reject fresh a c d h r =
+    let first = remove_first m u s at.0 fresh (λ t b e. distinct_one (λ (v : Standing). v.number) u.standings t s h.fair.stand.distinct b at.0 e) in
+    let put = put_fair x s i file Remove write.Remove wrote.Failed number count at of (reject_calls s.verdict reject) first (undone_no_removal s wrote.Failed (λ e. let none : ⊥ = cc in none)) c h in
+    let failed = a (settled.Fault number count) in
+    fair_end l (with_end u after p) (ends u after p _ r.0) r.1 (then_same (after (settled.Fault number count)) failed.0 failed.1 (then_note (entry.Unsettled s.name (fault.Call number count)) tt (then_called (Close file) closed y tt d put)))
+
+after_hold_fair : {J : Type 0} {answer : Answers J} {later : Laters J} {present : Bool} {k m : Kernel} {w u : State J} (l : Kernel) (s : Standing) (i : ℕ) (after : Settled → List Standing) (answered : RemoveHold) (p : Settled × List Entry) → StandsAs m u s i → RemoveSays s.held.0 i m answered → is_reject s.verdict ≡ true → s.removed ≡ false → Afters u.standings s after → FairFrom answer later present k w m u → Runs calls m (after_hold s.name (known_of s) u.entries answered) p l → FairFrom answer later present k w l (with_end u after p)
+after_hold_fair l s i after (hold.Ready file) p at says reject fresh a h r =
+    to_remove_fair r.1 r.3.1 l s i file.0 after r.0.answer r.0.number r.0.count r.3.0 p at says reject fresh a r.2 r.3.2 h r.3.3
+after_hold_fair {u = u} l s i after hold.Gone p at says reject fresh a h r = fair_end l (with_end u after p) (ends u after p _ r.0) r.1 (then_went s (after settled.Nobody) at.0 (a settled.Nobody) says h)
+after_hold_fair {u = u} l s i after (hold.Failed call count) p at says reject fresh a h r =
+    let failed = a (settled.Fault call count) in
+    fair_end l (with_end u after p) (ends u after p _ r.0) r.1 (then_same (after (settled.Fault call count)) failed.0 failed.1 (then_note (entry.Unsettled s.name (fault.Call call count)) tt h))
+after_hold_fair {u = u} l s i after hold.Memory p at says reject fresh a h r =
+    let short = a settled.Memory in
+    fair_end l (with_end u after p) (ends u after p _ r.0) r.1 (then_same (after settled.Memory) short.0 short.1 (then_note (entry.Unsettled s.name fault.Memory) tt h))
+
+removing_fair : {J : Type 0} {answer : Answers J} {later : Laters J} {present : Bool} {k m : Kernel} {w u : State J} (l : Kernel) (s : Standing) (after : Settled → List Standing) (p : Settled × List Entry) → Has u.standings s → is_to_go (known_of s) ≡ true → Afters u.standings s after → FairFrom answer later present k w m u → Runs calls m (removing s.name (known_of s) u.entries) p l → FairFrom answer later present k w l (with_end u after p)
+unfolding removing
+removing_fair {J} {answer} {later} {present} {k} {m} {w} {u} l s after p has e a h r =
+    let cut = runs_split calls m (holding_remove s.name s.held.0) (after_hold s.name (known_of s) u.entries) p l r in
+    let x = h.fair.stand.devices s has in
+    let law = holding_law s.name s.held.0 x.0 cut.0 m cut.1 h.fair.sound (record { d = x.1.d; file = x.1.file; device = x.1.device; named = x.1.named }) cut.2 in
+    let later_h = then_quiet cut.1 law.sound law.quiet h in
+    let y = later_h.fair.stand.devices s has in
+    let is : y.0 ≡ x.0 = file_same cut.1 s.held.0 y.0 x.0 y.1.file (law.quiet.held s.held.0 (record { device = x.0; control = Authorized }) x.1.file) in
+    let at : IsDevice cut.1 x.0 s.name s.held s.judged = subst (λ (v : ℕ). IsDevice cut.1 v s.name s.held s.judged) is y.1 in
+    after_hold_fair l s x.0 after cut.0 p (has, at) law.says (and_first (is_reject s.verdict) (not s.removed) e) (and_second (is_reject s.verdict) s.removed e) a later_h cut.3
+
+-- both
+
+if_to_go_fair : {J : Type 0} {answer : Answers J} {later : Laters J} {present : Bool} {k m : Kernel} {w u : State J} (l : Kernel) (s : Standing) (after : Settled → List Standing) (go : Bool) (p : Settled × List Entry) → is_to_go (known_of s) ≡ go → Has u.standings s → Afters u.standings s after → FairFrom answer later present k w m u → Runs calls m (if_to_go s.name (known_of s) u.entries go) p l → FairFrom answer later present k w l (with_end u after p)
+if_to_go_fair l s after true p e has a h r = removing_fair l s after p has e a h r
+if_to_go_fair {u = u} l s after false p e has a h r =
+    let stands = a settled.Stands in
+    fair_end l (with_end u after p) (ends u after p _ r.0) r.1 (then_same (after settled.Stands) stands.0 (marks_keep u.standings (after settled.Stands) s has (removed_if (is_reject s.verdict) s.removed e) stands.1) h)
+
+after_value_fair : {J : Type 0} {answer : Answers J} {later : Laters J} {present : Bool} {k m : Kernel} {w : State J} (u : State J) (l : Kernel) (s : Standing) (after : Settled → List Standing) (how : Settled) (es : List Entry) (p : Settled × List Entry) → Has u.standings s → Afters u.standings s after → FairFrom answer later present k w m (with_mid u after (how, es)) → Runs calls m (after_value s.name (known_of s) es how) p l → FairFrom answer later present k w l (with_end u after p)
+after_value_fair u l s after settled.Stands es p has a h r = if_to_go_fair l s after (is_to_go (known_of s)) p refl has a h r
+after_value_fair u l s after settled.Nobody es p has a h r = fair_end l (with_end u after p) (ends u after p _ r.0) r.1 h
+after_value_fair u l s after (settled.Fault call count) es p has a h r = fair_end l (with_end u after p) (ends u after p _ r.0) r.1 h
+after_value_fair u l s after settled.Memory es p has a h r = fair_end l (with_end u after p) (ends u after p _ r.0) r.1 h
 
 pub bringing_fair : {J : Type 0} {answer : Answers J} {later : Laters J} {present : Bool} {k m : Kernel} {w u : State J} (l : Kernel) (s : Standing) (after : Settled → List Standing) (on : Bool) (p : Settled × List Entry) → Has u.standings s → ((how : Settled) → After s u.standings how (after how)) → FairFrom answer later present k w m u → Runs calls m (bringing s.name (known_of s) on u.entries) p l → FairFrom answer later present k w l (record u { standings = after p.0; entries = p.1 })
 unfolding bringing
-bringing_fair l s after on p has a h r = to_bring_fair l s after (wants s.verdict) on p has a h r
+bringing_fair {J} {answer} {later} {present} {k} {m} {w} {u} l s after on p has a h r =
+    let cut = runs_split calls m (valuing s.name (known_of s) on u.entries) (λ (q : Settled × List Entry). after_value s.name (known_of s) q.1 q.0) p l r in
+    after_value_fair u l s after cut.0.0 cut.0.1 p has a (valuing_fair cut.1 s after on cut.0 has a h cut.2) cut.3

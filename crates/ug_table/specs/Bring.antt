@@ -1,13 +1,16 @@
--- The writes that bring a device to its verdict.
-use Rattle.std.specs.Prelude.{ℕ, Bool, true, false, List, [], ◌∷◌, ◌++◌}
+-- The writes that bring a device to its verdict: of its value, and then, for one that is rejected, of its removal.
+use Rattle.std.specs.Prelude.{ℕ, Bool, true, false, not, ◌&&◌, List, [], ◌∷◌, ◌++◌}
 use Rattle.ug_types.specs.declared.verdict.Target.{Target}
 use Rattle.ug_types.specs.declared.verdict.Target.TheVariants as target
 use Rattle.ug_kernel.specs.declared.calls.Write.{Write}
 use Rattle.ug_kernel.specs.declared.calls.Write.TheVariants as write
 use Rattle.ug_kernel.specs.declared.calls.Wrote.{Wrote}
 use Rattle.ug_kernel.specs.declared.calls.Wrote.TheVariants as wrote
-use Rattle.ug_kernel.specs.Calls.{Put}
-use Rattle.ug_itree.specs.Tree.{Prog, Return, Ask}
+use Rattle.ug_kernel.specs.Calls.{Put, Close}
+use Rattle.ug_itree.specs.Tree.{Prog, Return, Ask, then}
+use Rattle.ug_node.specs.Removal.{holding_remove}
+use Rattle.ug_node.specs.declared.removal.RemoveHold.{RemoveHold}
+use Rattle.ug_node.specs.declared.removal.RemoveHold.TheVariants as hold
 use Rattle.ug_audit.specs.declared.entry.Entry.{Entry}
 use Rattle.ug_audit.specs.declared.entry.Entry.TheVariants as entry
 use Rattle.ug_audit.specs.declared.entry.Fault.TheVariants as fault
@@ -26,6 +29,23 @@ write_of target.Allow = write.On
 write_of target.Block = write.Off
 write_of target.Reject = write.Off
 
+abbrev pub is_reject : Target → Bool
+is_reject target.Allow = false
+is_reject target.Block = false
+is_reject target.Reject = true
+
+-- the writes that a verdict calls for
+abbrev pub CallsFor : Target → Write → Type 0
+CallsFor target.Allow write.On = Unit {0}
+CallsFor target.Allow write.Off = ⊥
+CallsFor target.Allow write.Remove = ⊥
+CallsFor target.Block write.On = ⊥
+CallsFor target.Block write.Off = Unit {0}
+CallsFor target.Block write.Remove = ⊥
+CallsFor target.Reject write.On = ⊥
+CallsFor target.Reject write.Off = Unit {0}
+CallsFor target.Reject write.Remove = Unit {0}
+
 -- the outcome of a write is journalled
 abbrev pub after_write : List ℕ → ℕ → Write → List Entry → Wrote → ℕ → ℕ → Prog (Settled × List Entry)
 after_write name number what entries wrote.Done call count = Return (settled.Stands, entries ++ entry.Wrote number name what wrote.Done ∷ [])
@@ -35,12 +55,44 @@ after_write name number what entries wrote.Failed call count = Return (settled.F
 abbrev pub to_write : List ℕ → Known → Write → List Entry → Prog (Settled × List Entry)
 to_write name known what entries = Ask (Put known.held.0 what) (λ t. after_write name known.number what (entries ++ entry.Intent known.number name what ∷ []) t.answer t.number t.count)
 
-abbrev pub to_bring : List ℕ → Known → List Entry → Bool → Bool → Prog (Settled × List Entry)
-to_bring name known entries true true = Return (settled.Stands, entries)
-to_bring name known entries false false = Return (settled.Stands, entries)
-to_bring name known entries true false = to_write name known (write_of known.verdict) entries
-to_bring name known entries false true = to_write name known (write_of known.verdict) entries
+abbrev pub to_value : List ℕ → Known → List Entry → Bool → Bool → Prog (Settled × List Entry)
+to_value name known entries true true = Return (settled.Stands, entries)
+to_value name known entries false false = Return (settled.Stands, entries)
+to_value name known entries true false = to_write name known (write_of known.verdict) entries
+to_value name known entries false true = to_write name known (write_of known.verdict) entries
 
 -- a write where the value differs
+unfoldable pub valuing : List ℕ → Known → Bool → List Entry → Prog (Settled × List Entry)
+valuing name known on entries = to_value name known entries (wants known.verdict) on
+
+-- its `remove` file is written, and closed
+abbrev pub to_remove : List ℕ → Known → ℕ → List Entry → Prog (Settled × List Entry)
+to_remove name known file entries = Ask (Put file write.Remove) (λ t. Ask (Close file) (λ closed. after_write name known.number write.Remove (entries ++ entry.Intent known.number name write.Remove ∷ []) t.answer t.number t.count))
+
+abbrev pub after_hold : List ℕ → Known → List Entry → RemoveHold → Prog (Settled × List Entry)
+after_hold name known entries (hold.Ready file) = to_remove name known file.0 entries
+after_hold name known entries hold.Gone = Return (settled.Nobody, entries ++ entry.Gone known.number name ∷ [])
+after_hold name known entries (hold.Failed call count) = Return (settled.Fault call count, entries ++ entry.Unsettled name (fault.Call call count) ∷ [])
+after_hold name known entries hold.Memory = Return (settled.Memory, entries ++ entry.Unsettled name fault.Memory ∷ [])
+
+-- the removal
+unfoldable pub removing : List ℕ → Known → List Entry → Prog (Settled × List Entry)
+removing name known entries = then (holding_remove name known.held.0) (after_hold name known entries)
+
+-- whether it is still to be removed
+abbrev pub is_to_go : Known → Bool
+is_to_go known = is_reject known.verdict && not known.removed
+
+abbrev pub if_to_go : List ℕ → Known → List Entry → Bool → Prog (Settled × List Entry)
+if_to_go name known entries true = removing name known entries
+if_to_go name known entries false = Return (settled.Stands, entries)
+
+abbrev pub after_value : List ℕ → Known → List Entry → Settled → Prog (Settled × List Entry)
+after_value name known entries settled.Stands = if_to_go name known entries (is_to_go known)
+after_value name known entries settled.Nobody = Return (settled.Nobody, entries)
+after_value name known entries (settled.Fault call count) = Return (settled.Fault call count, entries)
+after_value name known entries settled.Memory = Return (settled.Memory, entries)
+
+-- the value, and then the removal
 unfoldable pub bringing : List ℕ → Known → Bool → List Entry → Prog (Settled × List Entry)
-bringing name known on entries = to_bring name known entries (wants known.verdict) on
+bringing name known on entries = then (valuing name known on entries) (λ p. after_value name known p.1 p.0)

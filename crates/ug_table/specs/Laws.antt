@@ -6,11 +6,13 @@ use Rattle.ug_types.specs.declared.record.Attrs.{Attrs}
 use Rattle.ug_types.specs.declared.record.Judged.{Judged}
 use Rattle.ug_types.specs.declared.verdict.Held.{Held}
 use Rattle.ug_types.specs.declared.verdict.Target.{Target}
+use Rattle.ug_types.specs.declared.verdict.Target.TheVariants as target
 use Rattle.ug_types.specs.declared.verdict.Cause.{Cause}
 use Rattle.ug_kernel.specs.declared.device.Device.{Device}
 use Rattle.ug_kernel.specs.declared.device.Effect.{Effect}
 use Rattle.ug_kernel.specs.declared.calls.Control.TheVariants.{Authorized}
 use Rattle.ug_kernel.specs.declared.calls.Write.{Write}
+use Rattle.ug_kernel.specs.declared.calls.Write.TheVariants as write
 use Rattle.ug_kernel.specs.declared.calls.Wrote.{Wrote}
 use Rattle.ug_kernel.specs.declared.calls.Wrote.TheVariants as wrote
 use Rattle.ug_kernel.specs.Kernel.{Kernel, IsKernel}
@@ -22,7 +24,8 @@ use Rattle.ug_audit.specs.declared.entry.Entry.{Entry}
 use Rattle.ug_audit.specs.declared.entry.Entry.TheVariants as entry
 use Rattle.ug_audit.specs.declared.entry.Fault.{Fault}
 use Rattle.ug_audit.specs.declared.entry.Fault.TheVariants as fault
-use Rattle.ug_table.specs.Bring.{wants, write_of}
+use Rattle.ug_table.specs.Bring.{wants, CallsFor, is_to_go}
+use Rattle.ug_table.specs.Standings.{known_of}
 use Rattle.ug_table.specs.State.{State, Answers, Laters}
 use Rattle.ug_table.specs.Sweep.{names_of}
 use Rattle.ug_table.specs.declared.standing.Standing.{Standing}
@@ -55,18 +58,23 @@ pub record IsProbed (start now : Kernel) (name : List ℕ) (held i : ℕ) (on : 
 abbrev pub numbers_of : List Standing → List ℕ
 numbers_of ss = map (λ s. s.number) ss
 
--- each standing is of a device, its number was given out, and no name and no number has two
+-- the log has the removal of the device of that held file
+abbrev pub HasRemoval : Kernel → Held → Type 0
+HasRemoval k held = (i : ℕ) → slice_get k.held held.0 ≡ Some (record { device = i; control = Authorized }) → Has k.log (record { device = i; write = write.Remove })
+
+-- each standing is of a device, its number was given out, and no name and no number has two; and one that is marked as removed was so
 pub record Stand (k : Kernel) (ss : List Standing) (next : ℕ) : Type 0 where
   pub devices : (s : Standing) → Has ss s → (i : ℕ) × IsDevice k i s.name s.held s.judged
   pub numbers : (s : Standing) → Has ss s → s.number < next
   pub names : AllDistinct (names_of ss)
   pub distinct : AllDistinct (numbers_of ss)
+  pub removed : (s : Standing) → Has ss s → s.removed ≡ true → HasRemoval k s.held
 
 -- an entry that tells no verdict, no write and no end of a standing
 abbrev pub TellsNeither : Entry → Type 0
 TellsNeither (entry.Judged number name held verdict cause) = ⊥
-TellsNeither (entry.Intent number name write) = ⊥
-TellsNeither (entry.Wrote number name write outcome) = ⊥
+TellsNeither (entry.Intent number name what) = ⊥
+TellsNeither (entry.Wrote number name what outcome) = ⊥
 TellsNeither (entry.Gone number name) = ⊥
 TellsNeither e = Unit {0}
 
@@ -89,9 +97,9 @@ HasVerdict before entries number name held verdict =
 
 -- the two entries of a write
 abbrev pub wrote_entries : ℕ → List ℕ → Write → Wrote → List Entry
-wrote_entries number name write outcome = entry.Intent number name write ∷ entry.Wrote number name write outcome ∷ []
+wrote_entries number name what outcome = entry.Intent number name what ∷ entry.Wrote number name what outcome ∷ []
 
--- the standing is one of those, its mark aside
+-- the standing is one of those, its marks aside
 abbrev pub IsOne : List Standing → Standing → Type 0
 IsOne ss s = (b : Standing) × Has ss b × (s.number ≡ b.number) × (s.name ≡ b.name) × (s.held ≡ b.held) × (s.judged ≡ b.judged) × (s.verdict ≡ b.verdict) × (s.cause ≡ b.cause)
 
@@ -103,25 +111,45 @@ IsTold before entries s = IsOne before s ⊎ Has entries (entry.Judged s.number 
 abbrev pub Stands : List Standing → ℕ → List ℕ → Held → Target → Cause → Type 0
 Stands ss number name held verdict cause = (s : Standing) × Has ss s × (s.number ≡ number) × (s.name ≡ name) × (s.held ≡ held) × (s.verdict ≡ verdict) × (s.cause ≡ cause)
 
+-- the number was marked as removed before, or a removal that was done is told of it
+abbrev pub WasRemoved : List Standing → List Entry → ℕ → Type 0
+WasRemoved before entries number =
+    ((b : Standing) × Has before b × (b.number ≡ number) × (b.removed ≡ true))
+    ⊎ ((name : List ℕ) × Has entries (entry.Wrote number name write.Remove wrote.Done))
+
+-- the standing is marked as removed just where its number was so
+abbrev pub IsRemoveMarked : List Standing → List Entry → Standing → Type 0
+IsRemoveMarked before entries s = ((s.removed ≡ true) × WasRemoved before entries s.number) ⊎ ((s.removed ≡ false) × (WasRemoved before entries s.number → ⊥))
+
+-- no removal was done before this one
+abbrev pub IsFirst : List Standing → List Entry → ℕ → Write → Type 0
+IsFirst before entries number write.On = Unit {0}
+IsFirst before entries number write.Off = Unit {0}
+IsFirst before entries number write.Remove = WasRemoved before entries number → ⊥
+
 -- These standings are left of those from before by entries since. Each was there before or its verdict was told, and its number
--- isn't told gone; and each from before, and each verdict that was told, is there, or its number is told gone.
+-- isn't told gone; and each from before, and each verdict that was told, is there, or its number is told gone. Each is marked as
+-- removed just where it was so.
 pub record AreLeft (before : List Standing) (entries : List Entry) (ss : List Standing) : Type 0 where
   pub told : (s : Standing) → Has ss s → IsTold before entries s
   pub kept : (b : Standing) → Has before b → IsOne ss b ⊎ Has entries (entry.Gone b.number b.name)
   pub judged : (number : ℕ) (name : List ℕ) (held : Held) (verdict : Target) (cause : Cause) → Has entries (entry.Judged number name held verdict cause) → Stands ss number name held verdict cause ⊎ Has entries (entry.Gone number name)
   pub ended : (s : Standing) (name : List ℕ) → Has ss s → Has entries (entry.Gone s.number name) → ⊥
+  pub removed : (s : Standing) → Has ss s → IsRemoveMarked before entries s
 
 -- The entries since a sweep began, in order, with what they say of the log, of the judge and of the next number.
 -- Each verdict is the judge's on the record of the very device of the held file, beside the standings that are left at that moment,
--- under the next number; and that device, in this sweep, lived from the opening of the file to the probe that gave its value. Whether it was present at the start is one answer for
+-- under the next number; and that device, in this sweep, lived from the opening of the file to the probe that gave its value. Whether it
+-- was present at the start is one answer for
 -- the sweep. Each entry that was added to the log is that of a write that is told, with its intent directly before it, to the very
--- device of its number, and is what the verdict of that number wants. A number that is told gone had a verdict, and its device is gone.
+-- device of its number, and is what the verdict of that number calls for, a removal only where
+-- none was done before. A number that is told gone had a verdict, and its device is gone.
 pub data Account {J : Type 0} (answer : Answers J) (later : Laters J) (present : Bool) (start k : Kernel) (before : List Standing) (log0 : List Effect) (judge0 : J) (next0 : ℕ) : List Entry → List Effect → J → ℕ → Type 0 where
   Start : Account answer later present start k before log0 judge0 next0 [] log0 judge0 next0
   Note : (es : List Entry) (log : List Effect) (judge : J) (next : ℕ) (e : Entry) → TellsNeither e → Account answer later present start k before log0 judge0 next0 es log judge next → Account answer later present start k before log0 judge0 next0 (es ++ e ∷ []) log judge next
   Judge : (es : List Entry) (log : List Effect) (judge : J) (next i : ℕ) (name : List ℕ) (held : Held) (judged : Judged) (on : Bool) (ss : List Standing) → IsDevice k i name held judged → IsProbed start k name held.0 i on → AreLeft before es ss → Account answer later present start k before log0 judge0 next0 es log judge next → Account answer later present start k before log0 judge0 next0 (es ++ entry.Judged next name held (answer judge judged (is_none (parent_of name)) present on ss).0 (answer judge judged (is_none (parent_of name)) present on ss).1 ∷ []) log (later judge judged (is_none (parent_of name)) present on ss) (next + 1)
-  Had : (es : List Entry) (log : List Effect) (judge : J) (next i number : ℕ) (name : List ℕ) (held : Held) (judged : Judged) (verdict : Target) (outcome : Wrote) → IsDevice k i name held judged → HasVerdict before es number name held verdict → MayHave outcome → Account answer later present start k before log0 judge0 next0 es log judge next → Account answer later present start k before log0 judge0 next0 (es ++ wrote_entries number name (write_of verdict) outcome) (log ++ record { device = i; write = write_of verdict } ∷ []) judge next
-  Had_not : (es : List Entry) (log : List Effect) (judge : J) (next i number : ℕ) (name : List ℕ) (held : Held) (judged : Judged) (verdict : Target) (outcome : Wrote) → IsDevice k i name held judged → HasVerdict before es number name held verdict → MayHaveNot outcome → Account answer later present start k before log0 judge0 next0 es log judge next → Account answer later present start k before log0 judge0 next0 (es ++ wrote_entries number name (write_of verdict) outcome) log judge next
+  Had : (es : List Entry) (log : List Effect) (judge : J) (next i number : ℕ) (name : List ℕ) (held : Held) (judged : Judged) (verdict : Target) (what : Write) (outcome : Wrote) → IsDevice k i name held judged → HasVerdict before es number name held verdict → CallsFor verdict what → IsFirst before es number what → MayHave outcome → Account answer later present start k before log0 judge0 next0 es log judge next → Account answer later present start k before log0 judge0 next0 (es ++ wrote_entries number name what outcome) (log ++ record { device = i; write = what } ∷ []) judge next
+  Had_not : (es : List Entry) (log : List Effect) (judge : J) (next i number : ℕ) (name : List ℕ) (held : Held) (judged : Judged) (verdict : Target) (what : Write) (outcome : Wrote) → IsDevice k i name held judged → HasVerdict before es number name held verdict → CallsFor verdict what → IsFirst before es number what → MayHaveNot outcome → Account answer later present start k before log0 judge0 next0 es log judge next → Account answer later present start k before log0 judge0 next0 (es ++ wrote_entries number name what outcome) log judge next
   Went : (es : List Entry) (log : List Effect) (judge : J) (next i number : ℕ) (name : List ℕ) (held : Held) (judged : Judged) (verdict : Target) → IsDevice k i name held judged → IsGone k i → HasVerdict before es number name held verdict → Account answer later present start k before log0 judge0 next0 es log judge next → Account answer later present start k before log0 judge0 next0 (es ++ entry.Gone number name ∷ []) log judge next
 
 -- the device has a standing
@@ -163,12 +191,13 @@ pub record IsFair {J : Type 0} (answer : Answers J) (later : Laters J) (present 
 abbrev pub IsNamed : List Entry → List ℕ → Type 0
 IsNamed entries name = (why : Fault) × Has entries (entry.Unsettled name why)
 
--- the device has a standing, and its value is the one that the verdict wants
+-- the device has a standing, and its value is the one that the verdict wants; and where it is rejected, the log has its removal
 pub record IsAsJudged (k : Kernel) (ss : List Standing) (i : ℕ) : Type 0 where
   pub standing : HasStanding k ss i
   pub d : Device
   pub device : slice_get k.devices i ≡ Some d
   pub value : d.on ≡ wants standing.s.verdict
+  pub removal : standing.s.verdict ≡ target.Reject → Has k.log (record { device = i; write = write.Remove })
 
 -- the listing is told as one that didn't succeed
 abbrev pub IsUnlisted : List Entry → Type 0
@@ -187,9 +216,9 @@ IsListed entries before after = ((IsUnlisted entries → ⊥) × (after ≡ true
 abbrev pub IsMarked : List Entry → Standing → Type 0
 IsMarked entries s = ((s.settled ≡ true) × (IsNamed entries s.name → ⊥)) ⊎ ((s.settled ≡ false) × IsNamed entries s.name)
 
--- no device that had a standing before and lived through is named for want of memory
+-- a device that had a standing before and lived through is named for want of memory only where it was still to be removed
 abbrev pub IsSpared : Kernel → Kernel → List Standing → List Entry → Type 0
-IsSpared k l before entries = (i : ℕ) (d : Device) → Lived k.devices l.devices i d → HasStanding k before i → Has entries (entry.Unsettled d.name fault.Memory) → ⊥
+IsSpared k l before entries = (i : ℕ) (d : Device) → Lived k.devices l.devices i d → (h : HasStanding k before i) → Has entries (entry.Unsettled d.name fault.Memory) → is_to_go (known_of h.s) ≡ true
 
 -- the sweep is fair, where devices were present at the start just if no listing had succeeded before it; each device is settled
 -- or named; and so say the marks

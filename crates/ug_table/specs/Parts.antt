@@ -1,5 +1,5 @@
 -- A sweep's calls, in parts: the listing, and a part for each name; and which failed calls its `unsettled` entries tell.
-use Rattle.std.specs.Prelude.{◌≡◌, ℕ, ◌^◌, ◌<◌, Bool, List, [], ◌∷◌, ◌++◌, Option, Some, None, ◌⊎◌}
+use Rattle.std.specs.Prelude.{◌≡◌, ℕ, ◌+◌, ◌^◌, ◌<◌, ◌≤◌, Bool, true, false, map, List, [], ◌∷◌, ◌++◌, Option, Some, None, ◌⊎◌}
 use Rattle.std.specs.List.{filter}
 use Rattle.ug_types.specs.Elements.{Has, AllDistinct}
 use Rattle.ug_types.specs.Names.{parent_of}
@@ -7,6 +7,7 @@ use Rattle.ug_types.specs.Sweep.{in_sweep_order}
 use Rattle.ug_kernel.specs.declared.calls.Control.{Control}
 use Rattle.ug_kernel.specs.declared.calls.Control.TheVariants.{Authorized, Remove}
 use Rattle.ug_kernel.specs.declared.calls.Write.{Write}
+use Rattle.ug_kernel.specs.declared.calls.Write.TheVariants as write
 use Rattle.ug_kernel.specs.declared.calls.Listing.{Listing}
 use Rattle.ug_kernel.specs.declared.calls.Listing.TheVariants as listing
 use Rattle.ug_kernel.specs.declared.calls.Opened.{Opened}
@@ -16,7 +17,6 @@ use Rattle.ug_kernel.specs.declared.calls.Probe.TheVariants as probe
 use Rattle.ug_kernel.specs.declared.calls.Wrote.{Wrote}
 use Rattle.ug_kernel.specs.Calls.{Call, Names, Open, Read, Ask_alive, Put, Close, Told, Answer}
 use Rattle.ug_kernel.specs.Kernel.{Kernel, IsKernel}
-use Rattle.ug_kernel.specs.Called.{value_after}
 use Rattle.ug_itree.specs.Along.{Made, answered, Along, Failure, failure, failures, AreNumbered, Rises}
 use Rattle.ug_audit.specs.declared.entry.Entry.{Entry}
 use Rattle.ug_audit.specs.declared.entry.Entry.TheVariants as entry
@@ -28,6 +28,8 @@ use Rattle.ug_table.specs.Sweep.{names_of}
 use Rattle.ug_table.specs.Laws.{Stand, wrote_entries}
 use Rattle.ug_table.specs.declared.standing.Standing.{Standing}
 use Rattle.ug_table.specs.declared.standing.Known.{Known}
+use Rattle.ug_types.specs.declared.verdict.Held.{Held}
+use Rattle.ug_table.specs.Bring.{is_to_go}
 
 -- the failed call that an `unsettled` entry tells
 abbrev pub told_by : Fault → List Failure
@@ -53,35 +55,48 @@ abbrev pub unsettled_names : List Entry → List (List ℕ)
 unsettled_names [] = []
 unsettled_names (e ∷ es) = name_in e ++ unsettled_names es
 
--- the file that a call opened through which a device is authorised
-abbrev pub opened_by : Control → Opened → List ℕ
-opened_by Authorized (opened.Token held) = held.0 ∷ []
-opened_by Authorized opened.Absent = []
-opened_by Authorized opened.Failed = []
-opened_by Authorized opened.Memory = []
-opened_by Remove answer = []
+-- a file that a call opened, and which of the device's files it is
+pub record OpenFile : Type 0 where
+  pub held : ℕ
+  pub control : Control
 
-abbrev pub opened_file : (call : Call) → Answer call → List ℕ
-opened_file (Open name control) answer = opened_by control answer.answer
-opened_file Names answer = []
-opened_file (Read name attr) answer = []
-opened_file (Ask_alive held) answer = []
-opened_file (Put held write) answer = []
-opened_file (Close held) answer = []
+abbrev pub open_file : ℕ → Control → OpenFile
+open_file held control = record { held = held; control = control }
 
--- the call is about the name, whose held files these are: it goes to the name, or reads its parent's files, or goes to one of these
-abbrev pub IsAbout : List ℕ → List ℕ → Call → Type 0
+abbrev pub opened_by : Control → Opened → List OpenFile
+opened_by control (opened.Token held) = open_file held.0 control ∷ []
+opened_by control opened.Absent = []
+opened_by control opened.Failed = []
+opened_by control opened.Memory = []
+
+abbrev pub opened_files : (call : Call) → Answer call → List OpenFile
+opened_files (Open name control) answer = opened_by control answer.answer
+opened_files Names answer = []
+opened_files (Read name attr) answer = []
+opened_files (Ask_alive held) answer = []
+opened_files (Put held what) answer = []
+opened_files (Close held) answer = []
+
+-- the file that a write goes to
+abbrev pub control_of : Write → Control
+control_of write.On = Authorized
+control_of write.Off = Authorized
+control_of write.Remove = Remove
+
+-- The call is about the name, whose open files these are: it goes to the name, or reads its parent's files, or goes to one of these.
+-- What is probed is an `authorized` file, and what is written is the file that the write goes to.
+abbrev pub IsAbout : List ℕ → List OpenFile → Call → Type 0
 IsAbout name files Names = ⊥
 IsAbout name files (Open other control) = other ≡ name
 IsAbout name files (Read other attr) = (other ≡ name) ⊎ (parent_of name ≡ Some other)
-IsAbout name files (Ask_alive held) = Has files held
-IsAbout name files (Put held write) = Has files held
-IsAbout name files (Close held) = Has files held
+IsAbout name files (Ask_alive held) = Has files (open_file held Authorized)
+IsAbout name files (Put held what) = Has files (open_file held (control_of what))
+IsAbout name files (Close held) = (control : Control) × Has files (open_file held control)
 
 -- each of the calls is; a file that one of them opened is the name's from then on
-abbrev pub AreAbout : List ℕ → List ℕ → List Made → Type 0
+abbrev pub AreAbout : List ℕ → List OpenFile → List Made → Type 0
 AreAbout name files [] = Unit {0}
-AreAbout name files (m ∷ ms) = IsAbout name files m.call × AreAbout name (opened_file m.call m.answer ++ files) ms
+AreAbout name files (m ∷ ms) = IsAbout name files m.call × AreAbout name (opened_files m.call m.answer ++ files) ms
 
 abbrev pub IsClosing : Call → Type 0
 IsClosing (Close held) = Unit {0}
@@ -89,25 +104,61 @@ IsClosing Names = ⊥
 IsClosing (Open name control) = ⊥
 IsClosing (Read name attr) = ⊥
 IsClosing (Ask_alive held) = ⊥
-IsClosing (Put held write) = ⊥
+IsClosing (Put held what) = ⊥
+
+-- how many calls there are; closings aren't counted
+abbrev pub counts_as : Call → ℕ
+counts_as (Close held) = 0
+counts_as Names = 1
+counts_as (Open name control) = 1
+counts_as (Read name attr) = 1
+counts_as (Ask_alive held) = 1
+counts_as (Put held what) = 1
+
+abbrev pub count_calls : List Made → ℕ
+count_calls [] = 0
+count_calls (m ∷ ms) = counts_as m.call + count_calls ms
 
 -- behind a call that failed there are closings alone
 abbrev pub EndsAtFailure : List Failure → List Made → Type 0
 EndsAtFailure before [] = Unit {0}
 EndsAtFailure before (m ∷ ms) = ((before ≡ []) ⊎ IsClosing m.call) × EndsAtFailure (before ++ failure m.call m.answer) ms
 
--- a write stands directly behind a probe of its held file that found the other value
-abbrev pub IsDue : Option Made → Call → Type 0
-IsDue last (Put held write) = (t : Told Probe) × (on : Bool) × (last ≡ Some (answered (Ask_alive held) t)) × (t.answer ≡ probe.Alive on) × (value_after write on ≡ on → ⊥)
-IsDue last Names = Unit {0}
-IsDue last (Open name control) = Unit {0}
-IsDue last (Read name attr) = Unit {0}
-IsDue last (Ask_alive held) = Unit {0}
-IsDue last (Close held) = Unit {0}
+-- the last call was a probe that found the device alive, with that value
+abbrev pub FoundAlive : Option Made → Bool → Type 0
+FoundAlive last on = (held : ℕ) × (t : Told Probe) × (last ≡ Some (answered (Ask_alive held) t)) × (t.answer ≡ probe.Alive on)
 
-abbrev pub AreDue : Option Made → List Made → Type 0
-AreDue last [] = Unit {0}
-AreDue last (m ∷ ms) = IsDue last m.call × AreDue (Some m) ms
+-- the last call opened that `remove` file
+abbrev pub OpenedRemove : Option Made → ℕ → Type 0
+OpenedRemove last file = (name : List ℕ) × (t : Told Opened) × (held : Held) × (last ≡ Some (answered (Open name Remove) t)) × (t.answer ≡ opened.Token held) × (held.0 ≡ file)
+
+-- the last two calls, the last one first
+pub record Behind : Type 0 where
+  pub last : Option Made
+  pub earlier : Option Made
+
+-- A write of a value stands directly behind a probe of its file that found the other value. A removal stands directly behind a probe
+-- that found the device alive, and that directly behind the opening of its file.
+abbrev pub IsWriteDue : Behind → ℕ → Write → Type 0
+IsWriteDue behind held write.On = (t : Told Probe) × (behind.last ≡ Some (answered (Ask_alive held) t)) × (t.answer ≡ probe.Alive false)
+IsWriteDue behind held write.Off = (t : Told Probe) × (behind.last ≡ Some (answered (Ask_alive held) t)) × (t.answer ≡ probe.Alive true)
+IsWriteDue behind held write.Remove = ((on : Bool) × FoundAlive behind.last on) × OpenedRemove behind.earlier held
+
+abbrev pub IsDue : Behind → Call → Type 0
+IsDue behind (Put held what) = IsWriteDue behind held what
+IsDue behind Names = Unit {0}
+IsDue behind (Open name control) = Unit {0}
+IsDue behind (Read name attr) = Unit {0}
+IsDue behind (Ask_alive held) = Unit {0}
+IsDue behind (Close held) = Unit {0}
+
+-- a call more
+abbrev pub behind_more : Behind → Made → Behind
+behind_more behind m = record { last = Some m; earlier = behind.last }
+
+abbrev pub AreDue : Behind → List Made → Type 0
+AreDue behind [] = Unit {0}
+AreDue behind (m ∷ ms) = IsDue behind m.call × AreDue (behind_more behind m) ms
 
 -- a write with its outcome
 pub record PutMade : Type 0 where
@@ -115,7 +166,7 @@ pub record PutMade : Type 0 where
   pub outcome : Wrote
 
 abbrev pub put_of : (call : Call) → Answer call → List PutMade
-put_of (Put held write) answer = record { write = write; outcome = answer.answer } ∷ []
+put_of (Put held what) answer = record { write = what; outcome = answer.answer } ∷ []
 put_of Names answer = []
 put_of (Open name control) answer = []
 put_of (Read name attr) answer = []
@@ -127,15 +178,14 @@ abbrev pub puts_of : List Made → List PutMade
 puts_of [] = []
 puts_of (m ∷ ms) = put_of m.call m.answer ++ puts_of ms
 
-abbrev pub AtMostOne : {X : Type 0} → List X → Type 0
-AtMostOne [] = Unit {0}
-AtMostOne (x ∷ []) = Unit {0}
-AtMostOne (x ∷ y ∷ ys) = ⊥
+-- each kind of write stands at most once
+abbrev pub AtMostOneEach : List PutMade → Type 0
+AtMostOneEach puts = AllDistinct (map (λ (p : PutMade). p.write) puts)
 
 -- an entry that tells of a write
 abbrev pub write_in : Entry → List Entry
-write_in (entry.Intent number name write) = entry.Intent number name write ∷ []
-write_in (entry.Wrote number name write outcome) = entry.Wrote number name write outcome ∷ []
+write_in (entry.Intent number name what) = entry.Intent number name what ∷ []
+write_in (entry.Wrote number name what outcome) = entry.Wrote number name what outcome ∷ []
 write_in e = []
 
 abbrev pub writes_in : List Entry → List Entry
@@ -165,22 +215,27 @@ FoundGone stands m = (known : Known) × (t : Told Probe) × (stands ≡ Some kno
 abbrev pub IsBoundAnew : Option Known → List Made → Type 0
 IsBoundAnew stands calls = (stands ≡ None) ⊎ ((m : Made) × (later : List Made) × (calls ≡ m ∷ later) × FoundGone stands m)
 
-abbrev pub known_files : Option Known → List ℕ
+abbrev pub known_files : Option Known → List OpenFile
 known_files None = []
-known_files (Some known) = known.held.0 ∷ []
+known_files (Some known) = open_file known.held.0 Authorized ∷ []
+
+-- the device of a standing is still to be removed, and there was no memory to open its `remove` file
+abbrev pub LacksRoom : Option Known → List Made → Type 0
+LacksRoom stands calls = ((known : Known) × (stands ≡ Some known) × (is_to_go known ≡ true)) × ((name : List ℕ) × (t : Told Opened) × Has calls (answered (Open name Remove) t) × (t.answer ≡ opened.Memory))
 
 -- One name's part of a sweep, from the standings before it to those after it: its calls are about the name, and are over with
--- one that fails; its entries tell that failure, and no other; what is told of want of memory is of a new device; each write
--- is due and told, and there is one at most; and the standings of other names stay.
+-- one that fails; its entries tell that failure, and no other; what is told of want of memory is of a new device, or of one that is
+-- still to be removed; each write is due and told, and there is one of each kind at most; there are few calls; and the standings of other names stay.
 pub record Part (name : List ℕ) (before after : List Standing) (calls : List Made) (entries : List Entry) : Type 0 where
   pub about : AreAbout name (known_files (standing_of name before)) calls
   pub ends : EndsAtFailure [] calls
   pub told : failures_told entries ≡ failures calls
   pub last : EndsUnsettled name entries
-  pub memory : Has entries (entry.Unsettled name fault.Memory) → IsBoundAnew (standing_of name before) calls
-  pub due : AreDue None calls
-  pub single : AtMostOne (puts_of calls)
+  pub memory : Has entries (entry.Unsettled name fault.Memory) → IsBoundAnew (standing_of name before) calls ⊎ LacksRoom (standing_of name before) calls
+  pub due : AreDue (record { last = None; earlier = None }) calls
+  pub single : AtMostOneEach (puts_of calls)
   pub writes : TellsWrites name (puts_of calls) (writes_in entries)
+  pub few : count_calls calls ≤ 14
   pub others : (other : List ℕ) → (other ≡ name → ⊥) → standing_of other after ≡ standing_of other before
 
 -- a part for each name, in this order

@@ -18,7 +18,7 @@ use Rattle.ug_audit.specs.declared.entry.Entry.TheVariants as entry
 use Rattle.ug_audit.specs.declared.entry.Fault.{Fault}
 use Rattle.ug_audit.specs.declared.entry.Fault.TheVariants as fault
 use Rattle.ug_table.specs.State.{State, noted, Kept, Answers, Laters}
-use Rattle.ug_table.specs.Standings.{standing_of, without, marked, with_standing}
+use Rattle.ug_table.specs.Standings.{standing_of, without, marked, with_standing, settled_standing}
 use Rattle.ug_table.specs.Bring.{bringing}
 use Rattle.ug_table.specs.declared.standing.Standing.{Standing}
 use Rattle.ug_table.specs.declared.standing.Known.{Known}
@@ -34,7 +34,7 @@ stands settled.Memory = false
 -- a new standing is kept, unless its device is gone
 abbrev pub kept_standings : List Standing → Standing → Settled → List Standing
 kept_standings ss s settled.Nobody = ss
-kept_standings ss s settled.Stands = with_standing (record s { settled = true }) ss
+kept_standings ss s settled.Stands = with_standing (settled_standing s) ss
 kept_standings ss s (settled.Fault call count) = with_standing s ss
 kept_standings ss s settled.Memory = with_standing s ss
 
@@ -58,10 +58,11 @@ standing_for w name held judged given = record {
   verdict = given.0;
   cause = given.1;
   settled = false;
+  removed = false;
 }
 
 abbrev pub known_in : {J : Type 0} → State J → ℕ → Target × Cause → Known
-known_in w held given = record { number = w.next; held = record { 0 = held }; verdict = given.0 }
+known_in w held given = record { number = w.next; held = record { 0 = held }; verdict = given.0; removed = false }
 
 abbrev pub judged_entry : {J : Type 0} → State J → List ℕ → ℕ → Target × Cause → Entry
 judged_entry w name held given = entry.Judged w.next name (record { 0 = held }) given.0 given.1

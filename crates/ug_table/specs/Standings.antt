@@ -1,5 +1,5 @@
 -- The standings as a list, in sweep order of their names, each of which has one.
-use Rattle.std.specs.Prelude.{ℕ, ◌+◌, Bool, not, List, [], ◌∷◌, Option, Some, None, if◌then◌else◌, nat_eq, insert}
+use Rattle.std.specs.Prelude.{ℕ, ◌+◌, Bool, true, not, ◌&&◌, ◌||◌, List, [], ◌∷◌, Option, Some, None, if◌then◌else◌, nat_eq, insert}
 use Rattle.std.specs.List.{filter, list_any}
 use Rattle.std.specs.Cmp.Lexicographic.{pointwise}
 use Rattle.std.specs.Ordering.{is_gt}
@@ -8,12 +8,13 @@ use Rattle.ug_audit.specs.declared.entry.Entry.{Entry}
 use Rattle.ug_audit.specs.declared.entry.Entry.TheVariants as entry
 use Rattle.ug_table.specs.declared.standing.Standing.{Standing}
 use Rattle.ug_table.specs.declared.standing.Known.{Known}
+use Rattle.ug_table.specs.Bring.{is_reject}
 
 abbrev pub same_name : List ℕ → List ℕ → Bool
 same_name a b = pointwise nat_eq a b
 
 abbrev pub known_of : Standing → Known
-known_of s = record { number = s.number; held = s.held; verdict = s.verdict }
+known_of s = record { number = s.number; held = s.held; verdict = s.verdict; removed = s.removed }
 
 -- the standing of that name
 abbrev pub standing_of : List ℕ → List Standing → Option Known
@@ -27,8 +28,16 @@ without name standings = filter (λ s. not (same_name s.name name)) standings
 abbrev pub mark_of : List ℕ → Bool → Standing → Bool
 mark_of name settled s = if same_name s.name name then settled else s.settled
 
+-- a rejected device that is settled was removed
+abbrev pub removed_of : List ℕ → Bool → Standing → Bool
+removed_of name settled s = if same_name s.name name then s.removed || (settled && is_reject s.verdict) else s.removed
+
 abbrev pub marked : List ℕ → Bool → Standing → Standing
-marked name settled s = record s { settled = mark_of name settled s }
+marked name settled s = record s { settled = mark_of name settled s; removed = removed_of name settled s }
+
+-- the same of a standing by itself
+abbrev pub settled_standing : Standing → Standing
+settled_standing s = record s { settled = true; removed = s.removed || is_reject s.verdict }
 
 -- how many standings have names that come before it
 abbrev pub place_for : List ℕ → List Standing → ℕ

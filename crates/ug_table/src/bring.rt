@@ -1,12 +1,14 @@
 // Brings a device to its verdict.
 ghost use Rattle.std.specs.Prelude.{◌≡◌, ◌≤◌, ◌+◌};
 ghost use Rattle.ug_itree.specs.Tree.{Runs};
-ghost use Rattle.ug_table.specs.Bring.{wants, write_of, bringing};
+ghost use Rattle.ug_table.specs.Bring.{wants, write_of, is_reject, is_to_go, valuing, to_remove, removing, bringing};
 
 use crate::standing::{Known, Settled};
+use std::alloc::Global;
 use ug_audit::{Entries, Entry, Fault};
+use ug_node::{RemoveHold, hold_remove};
 use ug_sysfs::{Sysfs, Write, Wrote};
-use ug_types::{NodeName, Target};
+use ug_types::{Held, NodeName, Target};
 
 /// Whether a verdict wants the device to be authorised.
 pub fn is_wanted(verdict: Target) -> bool
@@ -29,9 +31,26 @@ fn write_for(verdict: Target) -> Write
     }
 }
 
+pub fn is_reject(verdict: Target) -> bool
+    ensures { result ≡ is_reject verdict }
+{
+    match verdict {
+        Target::Allow => false,
+        Target::Block => false,
+        Target::Reject => true,
+    }
+}
+
+// Whether a device is still to be removed.
+fn is_to_go(known: Known) -> bool
+    ensures { result ≡ is_to_go known }
+{
+    is_reject(known.verdict) && !known.removed
+}
+
 /// Writes where the value differs from the one that the verdict wants.
-#[tactic(auto, unfolding(crate::specs::Bring::bringing))]
-pub fn bring<Y: Sysfs>(
+#[tactic(auto, unfolding(crate::specs::Bring::valuing))]
+fn set_value<Y: Sysfs>(
     sysfs: &mut Y,
     name: &NodeName,
     known: Known,
@@ -39,7 +58,7 @@ pub fn bring<Y: Sysfs>(
     out: &mut Entries,
 ) -> Settled
     requires { 3 ≤ out.old.spare }
-    ensures runs { Runs Y.gives sysfs.old (bringing name.now known on out.old.entries) (result, out.new.entries) sysfs.new }
+    ensures runs { Runs Y.gives sysfs.old (valuing name.now known on out.old.entries) (result, out.new.entries) sysfs.new }
     ensures spare { out.old.spare ≤ out.new.spare + 3 }
     ensures room { out.new.room ≡ out.old.room }
 {
@@ -78,5 +97,120 @@ pub fn bring<Y: Sysfs>(
             });
             Settled::Fault { call, count }
         }
+    }
+}
+
+/// Writes to a device's `remove` file, and closes it.
+fn write_remove<Y: Sysfs>(
+    sysfs: &mut Y,
+    name: &NodeName,
+    known: Known,
+    file: Held,
+    out: &mut Entries,
+) -> Settled
+    requires { 3 ≤ out.old.spare }
+    ensures runs { Runs Y.gives sysfs.old (to_remove name.now known file.0 out.old.entries) (result, out.new.entries) sysfs.new }
+    ensures spare { out.old.spare ≤ out.new.spare + 3 }
+    ensures room { out.new.room ≡ out.old.room }
+{
+    let number = known.number;
+    let write = Write::Remove;
+    let intent = Entry::Intent {
+        number,
+        name: *name,
+        write,
+    };
+    out.push(intent);
+    let wrote = sysfs.write(file, write);
+    let call = sysfs.calls();
+    let count = sysfs.faults();
+    sysfs.close(file);
+    out.push(Entry::Wrote {
+        number,
+        name: *name,
+        write,
+        outcome: wrote,
+    });
+    match wrote {
+        Wrote::Done => Settled::Stands,
+        Wrote::Gone => {
+            out.push(Entry::Gone {
+                number,
+                name: *name,
+            });
+            Settled::Nobody
+        }
+        Wrote::Failed => {
+            let fault = Fault::Call { call, count };
+            out.push(Entry::Unsettled { name: *name, fault });
+            Settled::Fault { call, count }
+        }
+    }
+}
+
+/// Removes a device.
+#[tactic(auto, unfolding(crate::specs::Bring::removing), using(ug_itree::proofs::Runs::runs_then))]
+fn remove<Y: Sysfs>(
+    alloc: Global,
+    sysfs: &mut Y,
+    name: &NodeName,
+    known: Known,
+    out: &mut Entries,
+) -> Settled
+    requires { 3 ≤ out.old.spare }
+    ensures runs { Runs Y.gives sysfs.old (removing name.now known out.old.entries) (result, out.new.entries) sysfs.new }
+    ensures spare { out.old.spare ≤ out.new.spare + 3 }
+    ensures room { out.new.room ≡ out.old.room }
+{
+    match hold_remove(alloc, sysfs, name, known.held) {
+        RemoveHold::Ready(file) => write_remove(sysfs, name, known, file, out),
+        RemoveHold::Gone => {
+            out.push(Entry::Gone {
+                number: known.number,
+                name: *name,
+            });
+            Settled::Nobody
+        }
+        RemoveHold::Failed { call, count } => {
+            let fault = Fault::Call { call, count };
+            out.push(Entry::Unsettled { name: *name, fault });
+            Settled::Fault { call, count }
+        }
+        RemoveHold::Memory => {
+            out.push(Entry::Unsettled {
+                name: *name,
+                fault: Fault::Memory,
+            });
+            Settled::Memory
+        }
+    }
+}
+
+/// Writes where the value differs from the one that the verdict wants, and then removes a device that is rejected and
+/// wasn't removed yet.
+#[tactic(auto, unfolding(crate::specs::Bring::bringing), using(ug_itree::proofs::Runs::runs_then))]
+pub fn bring<Y: Sysfs>(
+    alloc: Global,
+    sysfs: &mut Y,
+    name: &NodeName,
+    known: Known,
+    on: bool,
+    out: &mut Entries,
+) -> Settled
+    requires { 6 ≤ out.old.spare }
+    ensures runs { Runs Y.gives sysfs.old (bringing name.now known on out.old.entries) (result, out.new.entries) sysfs.new }
+    ensures spare { out.old.spare ≤ out.new.spare + 6 }
+    ensures room { out.new.room ≡ out.old.room }
+{
+    match set_value(sysfs, name, known, on, out) {
+        Settled::Stands => {
+            if is_to_go(known) {
+                return remove(alloc, sysfs, name, known, out);
+            }
+            Settled::Stands
+        }
+        Settled::Nobody => Settled::Nobody,
+        Settled::Fault { call, count } => Settled::Fault { call, count },
+        Settled::Memory => Settled::Memory,
     }
 }

@@ -7,6 +7,8 @@ mod settle;
 mod standing;
 mod sweep;
 mod table;
+#[cfg(test)]
+mod tests;
 
 pub use judge::Judge;
 pub use standing::{Known, Settled, Standing};

@@ -5,7 +5,7 @@ ghost use Rattle.ug_itree.specs.Tree.{Runs};
 ghost use Rattle.ug_table.specs.State.{state_of, kept_of};
 ghost use Rattle.ug_table.specs.Settle.{stands, kept_standings, tried_standings, admitting, entering, settling, resettling};
 
-use crate::bring::bring;
+use crate::bring::{bring, is_reject};
 use crate::judge::Judge;
 use crate::standing::{Known, Settled, Standing};
 use crate::table::{Table, find, forget, mark, put_in};
@@ -43,6 +43,7 @@ fn keep(standings: &mut Vec<Standing>, standing: Standing, settled: Settled)
         Settled::Nobody => {}
         Settled::Stands => {
             standing.settled = true;
+            standing.removed = standing.removed || is_reject(standing.verdict);
             put_in(standings, standing);
         }
         _ => put_in(standings, standing),
@@ -91,10 +92,10 @@ impl Table {
         bound: Bound,
         out: &mut Entries,
     ) -> Settled
-        requires room { 4 ≤ out.old.spare }
+        requires room { 7 ≤ out.old.spare }
         requires next { self.old.next < 2 ^ 64 - 1 }
         ensures runs { Runs Y.gives sysfs.old (admitting A.answer A.later name.now present (state_of self.old (A.meaning judge.old) out.old.entries) bound) (result, state_of self.new (A.meaning judge.new) out.new.entries) sysfs.new }
-        ensures spare { out.old.spare ≤ out.new.spare + 4 }
+        ensures spare { out.old.spare ≤ out.new.spare + 7 }
         ensures room { out.new.room ≡ out.old.room }
         ensures len { vec_len self.new.standings ≤ vec_len self.old.standings + 1 }
         ensures next { self.new.next ≤ self.old.next + 1 }
@@ -134,8 +135,9 @@ impl Table {
             number,
             held,
             verdict,
+            removed: false,
         };
-        let settled = bring(sysfs, name, known, bound.on, out);
+        let settled = bring(alloc, sysfs, name, known, bound.on, out);
         let standing = Standing {
             number,
             name: *name,
@@ -144,6 +146,7 @@ impl Table {
             verdict,
             cause,
             settled: false,
+            removed: false,
         };
         keep(&mut self.standings, standing, settled);
         settled
@@ -160,10 +163,10 @@ impl Table {
         judge: &mut A,
         out: &mut Entries,
     ) -> Settled
-        requires room { 4 ≤ out.old.spare }
+        requires room { 7 ≤ out.old.spare }
         requires next { self.old.next < 2 ^ 64 - 1 }
         ensures runs { Runs Y.gives sysfs.old (entering A.answer A.later name.now present (state_of self.old (A.meaning judge.old) out.old.entries)) (result, state_of self.new (A.meaning judge.new) out.new.entries) sysfs.new }
-        ensures spare { out.old.spare ≤ out.new.spare + 4 }
+        ensures spare { out.old.spare ≤ out.new.spare + 7 }
         ensures room { out.new.room ≡ out.old.room }
         ensures len { vec_len self.new.standings ≤ vec_len self.old.standings + 1 }
         ensures next { self.new.next ≤ self.old.next + 1 }
@@ -200,10 +203,10 @@ impl Table {
         judge: &mut A,
         out: &mut Entries,
     ) -> Settled
-        requires room { 5 ≤ out.old.spare }
+        requires room { 8 ≤ out.old.spare }
         requires next { self.old.next < 2 ^ 64 - 1 }
         ensures runs { Runs Y.gives sysfs.old (settling A.answer A.later name.now present (state_of self.old (A.meaning judge.old) out.old.entries)) (result, state_of self.new (A.meaning judge.new) out.new.entries) sysfs.new }
-        ensures spare { out.old.spare ≤ out.new.spare + 5 }
+        ensures spare { out.old.spare ≤ out.new.spare + 8 }
         ensures room { out.new.room ≡ out.old.room }
         ensures len { vec_len self.new.standings ≤ vec_len self.old.standings + 1 }
         ensures next { self.new.next ≤ self.old.next + 1 }
@@ -214,7 +217,7 @@ impl Table {
         };
         match sysfs.probe(known.held) {
             Probe::Alive(on) => {
-                let settled = bring(sysfs, name, known, on, out);
+                let settled = bring(alloc, sysfs, name, known, on, out);
                 remember(&mut self.standings, name, settled);
                 settled
             }
@@ -240,17 +243,18 @@ impl Table {
     }
 }
 
-/// Settles one known name where the listing didn't succeed. It takes no memory.
+/// Settles one known name where the listing didn't succeed. It takes memory only to open a `remove` file.
 #[tactic(auto, unfolding(crate::specs::Settle::resettling), using(ug_itree::proofs::Runs::runs_then))]
 pub fn resettle<Y: Sysfs>(
+    alloc: Global,
     standings: &mut Vec<Standing>,
     sysfs: &mut Y,
     name: &NodeName,
     out: &mut Entries,
 ) -> Settled
-    requires { 3 ≤ out.old.spare }
+    requires { 6 ≤ out.old.spare }
     ensures runs { Runs Y.gives sysfs.old (resettling name.now (kept_of standings.old.items out.old.entries)) (result, kept_of standings.new.items out.new.entries) sysfs.new }
-    ensures spare { out.old.spare ≤ out.new.spare + 3 }
+    ensures spare { out.old.spare ≤ out.new.spare + 6 }
     ensures room { out.new.room ≡ out.old.room }
     ensures len { vec_len standings.new ≤ vec_len standings.old }
 {
@@ -260,7 +264,7 @@ pub fn resettle<Y: Sysfs>(
     };
     match sysfs.probe(known.held) {
         Probe::Alive(on) => {
-            let settled = bring(sysfs, name, known, on, out);
+            let settled = bring(alloc, sysfs, name, known, on, out);
             remember(standings, name, settled);
             settled
         }

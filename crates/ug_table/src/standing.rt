@@ -13,6 +13,8 @@ pub struct Standing {
     pub cause: Cause,
     /// Its last settling came to its end without a failure.
     pub settled: bool,
+    /// It was written to the device's `remove` file.
+    pub removed: bool,
 }
 
 /// What the writes of a standing need.
@@ -21,6 +23,7 @@ pub struct Known {
     pub number: u64,
     pub held: Held,
     pub verdict: Target,
+    pub removed: bool,
 }
 
 /// How the settling of a name ended.

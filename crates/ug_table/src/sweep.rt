@@ -63,19 +63,20 @@ fn names_into(standings: &[Standing], names: &mut Vec<NodeName>)
 /// Settles each known name in order.
 #[tactic(auto, using(ug_itree::proofs::Runs::runs_then))]
 fn resettle_all<Y: Sysfs>(
+    alloc: Global,
     standings: &mut Vec<Standing>,
     sysfs: &mut Y,
     names: &[NodeName],
     out: &mut Entries,
 )
-    requires { 3 * length names.now ≤ out.old.spare }
+    requires { 6 * length names.now ≤ out.old.spare }
     ensures runs { Runs Y.gives sysfs.old (resettling_all names.now (kept_of standings.old.items out.old.entries)) (kept_of standings.new.items out.new.entries) sysfs.new }
-    ensures spare { out.old.spare ≤ out.new.spare + 3 * length names.now }
+    ensures spare { out.old.spare ≤ out.new.spare + 6 * length names.now }
     ensures room { out.new.room ≡ out.old.room }
     ensures len { vec_len standings.new ≤ vec_len standings.old }
 {
     for name in names {
-        let _settled = resettle(standings, sysfs, name, out);
+        let _settled = resettle(alloc, standings, sysfs, name, out);
     }
 }
 
@@ -104,11 +105,11 @@ impl Table {
         judge: &mut A,
         out: &mut Entries,
     )
-        requires room { 5 * length names.now ≤ out.old.spare }
+        requires room { 8 * length names.now ≤ out.old.spare }
         requires next { self.old.next + length names.now < 2 ^ 64 }
         ensures runs { Runs Y.gives sysfs.old (settling_all A.answer A.later names.now present (state_of self.old (A.meaning judge.old) out.old.entries)) (state_of self.new (A.meaning judge.new) out.new.entries) sysfs.new }
         ensures next { self.new.next ≤ self.old.next + length names.now }
-        ensures spare { out.old.spare ≤ out.new.spare + 5 * length names.now }
+        ensures spare { out.old.spare ≤ out.new.spare + 8 * length names.now }
         ensures room { out.new.room ≡ out.old.room }
         ensures len { vec_len self.new.standings ≤ vec_len self.old.standings + length names.now }
     {
@@ -121,12 +122,13 @@ impl Table {
     #[tactic(auto, using(ug_itree::proofs::Runs::runs_then))]
     fn go_unlisted<Y: Sysfs, A: Judge>(
         &mut self,
+        alloc: Global,
         sysfs: &mut Y,
         fault: Fault,
         judge: &A,
         out: &mut Entries,
     )
-        requires { 3 * vec_len self.old.standings + 2 ≤ out.old.spare }
+        requires { 6 * vec_len self.old.standings + 2 ≤ out.old.spare }
         ensures runs { Runs Y.gives sysfs.old (unlisted fault (state_of self.old (A.meaning judge.now) out.old.entries)) (state_of self.new (A.meaning judge.now) out.new.entries) sysfs.new }
         ensures next { self.new.next ≡ self.old.next }
         ensures spare { 0 < out.new.spare }
@@ -136,7 +138,7 @@ impl Table {
         out.push(Entry::UnsettledAll { fault });
         self.names.clear();
         names_into(&self.standings, &mut self.names);
-        resettle_all(&mut self.standings, sysfs, &self.names, out);
+        resettle_all(alloc, &mut self.standings, sysfs, &self.names, out);
     }
 
     /// Lists the names, drops the standings of names that aren't listed, and settles each listed name in sweep order.
@@ -183,16 +185,16 @@ impl Table {
                     call: sysfs.calls(),
                     count: sysfs.faults(),
                 };
-                self.go_unlisted(sysfs, fault, judge, out);
+                self.go_unlisted(alloc, sysfs, fault, judge, out);
                 return;
             }
             Listing::Memory => {
-                self.go_unlisted(sysfs, Fault::Memory, judge, out);
+                self.go_unlisted(alloc, sysfs, Fault::Memory, judge, out);
                 return;
             }
         };
         if out.reserve(room_for(&self.standings, &names)).is_err() {
-            self.go_unlisted(sysfs, Fault::Memory, judge, out);
+            self.go_unlisted(alloc, sysfs, Fault::Memory, judge, out);
             return;
         }
         let present = !self.listed;

@@ -3,8 +3,9 @@ ghost use Rattle.std.specs.Prelude.{◌≡◌, ◌≤◌, ◌<◌, ◌+◌, ◌+
 ghost use Rattle.std.specs.List.{filter, list_any};
 ghost use Rattle.ug_match.specs.Queries.{query_matches};
 ghost use Rattle.ug_table.specs.Allowed.{allowed_of, allowed_records};
-ghost use Rattle.ug_table.specs.Standings.{standing_of, without, marked, mark_of, with_standing, place_for};
+ghost use Rattle.ug_table.specs.Standings.{standing_of, without, marked, mark_of, removed_of, with_standing, place_for};
 
+use crate::bring::is_reject;
 use crate::standing::{Known, Standing};
 use std::alloc::Global;
 use ug_match::matches;
@@ -72,6 +73,7 @@ pub fn find(standings: &[Standing], name: &NodeName) -> Option<Known>
                 number: s.number,
                 held: s.held,
                 verdict: s.verdict,
+                removed: s.removed,
             });
         }
     }
@@ -86,12 +88,13 @@ pub fn forget(standings: &mut Vec<Standing>, name: &NodeName)
     standings.retain(|s| s.name != *name);
 }
 
-/// Notes whether the standing of a name is settled.
+/// Notes whether the standing of a name is settled. A rejected device that is settled was removed.
 #[tactic(auto, using(std::proofs::lemmas::List::Edits::map_over_more))]
 pub fn mark(standings: &mut [Standing], name: &NodeName, settled: bool)
     ensures { standings.new ≡ map (marked name.now settled) standings.old }
 {
     for s in standings.iter_mut() {
+        s.removed = removed_for(s, name, settled);
         s.settled = mark_for(s, name, settled);
     }
 }
@@ -100,6 +103,16 @@ fn mark_for(s: &Standing, name: &NodeName, settled: bool) -> bool
     ensures { result ≡ mark_of name.now settled s.now }
 {
     if s.name == *name { settled } else { s.settled }
+}
+
+fn removed_for(s: &Standing, name: &NodeName, settled: bool) -> bool
+    ensures { result ≡ removed_of name.now settled s.now }
+{
+    if s.name == *name {
+        s.removed || (settled && is_reject(s.verdict))
+    } else {
+        s.removed
+    }
 }
 
 // Where a standing of that name belongs.

@@ -8,8 +8,8 @@ use Rattle.ug_table.proofs.sweep.resettle_all.Given as goal
 abbrev pub invariant-loop-name : goal.invariant-loop-name
 invariant-loop-name g l = record {
   runs : (r : Kept) (t : _) → Runs g.Y.Sysfs.gives l.sysfs (resettling_all (drop l.name-index l.names) (kept_of l.standings.items l.out.entries)) r t → Runs g.Y.Sysfs.gives l.fn.sysfs (resettling_all l.names (kept_of l.fn.standings.items l.fn.out.entries)) r t;
-  room : 3 * (length l.names - l.name-index) ≤ l.out.spare;
-  spare : l.fn.out.spare ≤ l.out.spare + 3 * l.name-index;
+  room : 6 * (length l.names - l.name-index) ≤ l.out.spare;
+  spare : l.fn.out.spare ≤ l.out.spare + 6 * l.name-index;
   space : l.out.room ≡ l.fn.out.room;
   len : vec_len l.standings ≤ vec_len l.fn.standings;
 }
