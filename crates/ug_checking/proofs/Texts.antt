@@ -6,6 +6,8 @@ use Rattle.ug_types.specs.declared.text_fault.TextFault.{TextFault}
 use Rattle.ug_rule.specs.declared.fault.Fault.{Fault}
 use Rattle.ug_rule.specs.Faults.{on_ok}
 use Rattle.ug_rule.specs.Files.{line_read, added, rules_from}
+use Rattle.ug_rule.specs.FirstFault.{IsBadLine}
+use Rattle.ug_rule.proofs.TextLines.{blank_line, line_blank, line_rule, rule_line, bad_line, line_bad}
 use Rattle.ug_checking.specs.Texts.{AreRules, NoLines, Blank, OneMore, fault_on, IsFirstBad}
 
 one_more : (a b : ℕ) → a + 1 + b ≡ a + suc b
@@ -23,9 +25,9 @@ past number old lines behind rules NoLines =
     let n : number ≡ number + 0 = omega arith in
     ap (λ (l : List Rule). rules_from number l behind) (sym (append-nil old)) ∙ ap (λ (k : ℕ). rules_from k (old ++ []) behind) n
 past number old lines behind rules (Blank line more same e r) =
-    next number old line (more ++ behind) (Ok None) e ∙ past (number + 1) old more behind rules r ∙ ap (λ (k : ℕ). rules_from k (old ++ rules) behind) (one_more number (length more))
+    next number old line (more ++ behind) (Ok None) (line_blank line e) ∙ past (number + 1) old more behind rules r ∙ ap (λ (k : ℕ). rules_from k (old ++ rules) behind) (one_more number (length more))
 past number old lines behind rules (OneMore line rule more rest e r) =
-    next number old line (more ++ behind) (Ok (Some rule)) e ∙ past (number + 1) (old ++ rule ∷ []) more behind rest r
+    next number old line (more ++ behind) (Ok (Some rule)) (rule_line line rule e) ∙ past (number + 1) (old ++ rule ∷ []) more behind rest r
     ∙ ap (λ (k : ℕ). rules_from k ((old ++ rule ∷ []) ++ rest) behind) (one_more number (length more))
     ∙ ap (λ (l : List Rule). rules_from (number + suc (length more)) l behind) (append_assoc old (rule ∷ []) rest)
 
@@ -48,9 +50,9 @@ good-from number old (line ∷ lines) all e = by (line_read line) refl (λ (o : 
   where
     by : (v : Result (Option Rule) Fault) → line_read line ≡ v → ((o : List Rule) → rules_from (number + 1) o lines ≡ Ok all → Good o lines all) → Good old (line ∷ lines) all
     by (Ok None) q f = let g = f old (sym (next number old line lines (Ok None) q) ∙ e) in
-        record { rules = g.rules; good = Blank line lines g.rules q g.good; is = g.is }
+        record { rules = g.rules; good = Blank line lines g.rules (blank_line line q) g.good; is = g.is }
     by (Ok (Some rule)) q f = let g = f (old ++ rule ∷ []) (sym (next number old line lines (Ok (Some rule)) q) ∙ e) in
-        record { rules = rule ∷ g.rules; good = OneMore line rule lines g.rules q g.good; is = g.is ∙ append_assoc old (rule ∷ []) g.rules }
+        record { rules = rule ∷ g.rules; good = OneMore line rule lines g.rules (line_rule line rule q) g.good; is = g.is ∙ append_assoc old (rule ∷ []) g.rules }
     by (Err found) q f = let w = sym (next number old line lines (Err found) q) ∙ e in absurd (cc)
 
 -- the first bad line of lines that are numbered from a number on
@@ -62,7 +64,7 @@ record BadFrom (number : ℕ) (lines : List (List ℕ)) (fault : TextFault) : Ty
   found : Fault
   split : lines ≡ before ++ line ∷ behind
   good : AreRules before rules
-  bad : line_read line ≡ Err found
+  bad : IsBadLine line found
   told : fault ≡ fault_on (number + length before) found
 
 bad-from : (number : ℕ) (old : List Rule) (lines : List (List ℕ)) (fault : TextFault) → rules_from number old lines ≡ Err fault → BadFrom number lines fault
@@ -77,7 +79,7 @@ bad-from number old (line ∷ lines) fault e = by (line_read line) refl (λ (o :
       rules = g.rules;
       found = g.found;
       split = ap (λ (ls : List (List ℕ)). line ∷ ls) g.split;
-      good = Blank line g.before g.rules q g.good;
+      good = Blank line g.before g.rules (blank_line line q) g.good;
       bad = g.bad;
       told = g.told ∙ ap (λ (k : ℕ). fault_on k g.found) (one_more number (length g.before));
     }
@@ -88,7 +90,7 @@ bad-from number old (line ∷ lines) fault e = by (line_read line) refl (λ (o :
       rules = rule ∷ g.rules;
       found = g.found;
       split = ap (λ (ls : List (List ℕ)). line ∷ ls) g.split;
-      good = OneMore line rule g.before g.rules q g.good;
+      good = OneMore line rule g.before g.rules (line_rule line rule q) g.good;
       bad = g.bad;
       told = g.told ∙ ap (λ (k : ℕ). fault_on k g.found) (one_more number (length g.before));
     }
@@ -103,7 +105,7 @@ bad-from number old (line ∷ lines) fault e = by (line_read line) refl (λ (o :
           found = found;
           split = refl;
           good = NoLines;
-          bad = q;
+          bad = bad_line line found q;
           told = p ∙ ap (λ (k : ℕ). fault_on k found) n;
         }
 
@@ -130,5 +132,5 @@ pub read-fault : (lines : List (List ℕ)) (fault : TextFault) → IsFirstBad li
 read-fault lines fault b =
     let n : 1 + length b.before ≡ length b.before + 1 = omega arith in
     ap (λ (l : List (List ℕ)). rules_from 1 [] l) b.split ∙ past 1 [] b.before (b.line ∷ b.behind) b.rules b.good
-    ∙ next (1 + length b.before) b.rules b.line b.behind (Err b.found) b.bad
+    ∙ next (1 + length b.before) b.rules b.line b.behind (Err b.found) (line_bad b.line b.found b.bad)
     ∙ ap (λ (k : ℕ). Err (fault_on k b.found)) n ∙ ap (λ (t : TextFault). Err t) (sym b.told)

@@ -1,10 +1,11 @@
 -- Texts of rules as relations: their lines, the rules of the lines, and the first bad line.
-use Rattle.std.specs.Prelude.{ℕ, ◌≡◌, ◌≢◌, ◌+◌, List, [], ◌∷◌, ◌++◌, length, Some, None, Ok, Err}
+use Rattle.std.specs.Prelude.{ℕ, ◌≡◌, ◌≢◌, ◌+◌, List, [], ◌∷◌, ◌++◌, length}
 use Rattle.ug_types.specs.declared.rule.Rule.{Rule}
 use Rattle.ug_types.specs.declared.text_fault.TextFault.{TextFault}
 use Rattle.ug_rule.specs.declared.fault.Fault.{Fault}
 use Rattle.ug_rule.specs.Faults.{kind_number}
-use Rattle.ug_rule.specs.Files.{line_read}
+use Rattle.ug_rule.specs.FirstFault.{IsBlankLine, IsBadLine}
+use Rattle.ug_rule.specs.Grammar.{Says}
 
 -- no newline is among the bytes
 abbrev pub IsLine : List ℕ → Type 0
@@ -18,11 +19,11 @@ pub data Splits : List ℕ → List (List ℕ) → Type 0 where
   Open : (b : ℕ) (line : List ℕ) → IsLine (b ∷ line) → Splits (b ∷ line) ((b ∷ line) ∷ [])
   Closed : (line text : List ℕ) (lines : List (List ℕ)) → IsLine line → Splits text lines → Splits (line ++ 10 ∷ text) (line ∷ lines)
 
--- the rules of lines, each of which is a rule, blank or a comment
+-- the rules of lines, each of which is a rule, or has no token since it is blank or a comment
 pub data AreRules : List (List ℕ) → List Rule → Type 0 where
   NoLines : AreRules [] []
-  Blank : (line : List ℕ) (lines : List (List ℕ)) (rules : List Rule) → line_read line ≡ Ok None → AreRules lines rules → AreRules (line ∷ lines) rules
-  OneMore : (line : List ℕ) (rule : Rule) (lines : List (List ℕ)) (rules : List Rule) → line_read line ≡ Ok (Some rule) → AreRules lines rules → AreRules (line ∷ lines) (rule ∷ rules)
+  Blank : (line : List ℕ) (lines : List (List ℕ)) (rules : List Rule) → IsBlankLine line → AreRules lines rules → AreRules (line ∷ lines) rules
+  OneMore : (line : List ℕ) (rule : Rule) (lines : List (List ℕ)) (rules : List Rule) → Says line rule → AreRules lines rules → AreRules (line ∷ lines) (rule ∷ rules)
 
 -- a fault on the line of that number
 abbrev pub fault_on : ℕ → Fault → TextFault
@@ -37,5 +38,5 @@ pub record IsFirstBad (lines : List (List ℕ)) (fault : TextFault) : Type 0 whe
   pub found : Fault
   pub split : lines ≡ before ++ line ∷ behind
   pub good : AreRules before rules
-  pub bad : line_read line ≡ Err found
+  pub bad : IsBadLine line found
   pub told : fault ≡ fault_on (length before + 1) found

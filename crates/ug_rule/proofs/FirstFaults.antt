@@ -1,5 +1,5 @@
 -- A reading stops where its tokens can go on to nothing that is wanted.
-use Rattle.std.proofs.Common.{◌≡◌, ℕ, Option, ◌≤◌, inl, inr, List, [], ◌∷◌, ◌++◌, length, take, Some, None, Result, Ok, Err, refl, sym, ap, subst, ◌∙◌, append_assoc, arith}
+use Rattle.std.proofs.Common.{◌≡◌, ℕ, ◌≤◌, inl, inr, List, [], ◌∷◌, ◌++◌, length, take, Some, None, Result, Ok, Err, refl, sym, ap, subst, ◌∙◌, append_assoc, arith}
 use Rattle.std.proofs.Math.Seq.{take-take}
 use Rattle.std.proofs.lemmas.List.{append-nil}
 use Rattle.ug_lex.proofs.Meaning.{good_read, read_good, bad_read, read_bad, in_order, same_list, not_both}
@@ -12,9 +12,7 @@ use Rattle.ug_rule.specs.declared.fault.FaultKind.{FaultKind}
 use Rattle.ug_rule.specs.Faults.{fault_at, on_ok}
 use Rattle.ug_rule.specs.FaultKinds.{rule_stray_kind, query_stray_kind, rule_early_kind, query_early_kind}
 use Rattle.ug_rule.specs.FirstFault.{AreRule, AreQuery, end_behind, BeginsSome, IsStray, place_at_end, open_braces, EndsEarly, lexical_fault, FirstFault, Lexical, Stray, Early}
-use Rattle.ug_rule.specs.Files.{rule_in, line_read}
-use Rattle.ug_types.specs.declared.rule.Rule.{Rule}
-use Rattle.ug_rule.specs.Rules.{rule_of, rule_read, whole_query}
+use Rattle.ug_rule.specs.Rules.{rule_of, whole_query}
 use Rattle.ug_rule.specs.Tokens.{word_of, read_by, tokens_read}
 use Rattle.ug_rule.proofs.Completions.{ending, leads}
 use Rattle.ug_rule.proofs.ContextKinds.{rule_strays, query_strays, rule_ends_early, query_ends_early}
@@ -202,7 +200,7 @@ one_fault Are stray early line tokens a b g (Early x f h s) (Early y e k t) = s.
 
 -- ---- lines
 
-lexical_found : {X : Type 0} (fault : lexing.Fault) (next : List Token → Result X Fault) → on_ok (read_by (Err fault)) next ≡ Err (lexical_fault fault)
+pub lexical_found : {X : Type 0} (fault : lexing.Fault) (next : List Token → Result X Fault) → on_ok (read_by (Err fault)) next ≡ Err (lexical_fault fault)
 lexical_found (lexing.BadEscape place) next = refl
 lexical_found (lexing.OpenString place) next = refl
 lexical_found (lexing.BadByte place) next = refl
@@ -263,21 +261,3 @@ query_reading = record {
 
 pub query_kinds : Kinds query_stray_kind query_early_kind (Front Alone End)
 query_kinds = record { strays = query_strays; lacks = query_ends_early }
-
--- ---- lines of a text
-
-bad_rule : (r : Result Rule Fault) (fault : Fault) → on_ok {Y = Option Rule} r (λ rule. Ok (Some rule)) ≡ Err fault → r ≡ Err fault
-bad_rule (Ok rule) fault h = let none : ⊥ = cc in absurd none
-bad_rule (Err found) fault h = let e : found ≡ fault = cc in ap (λ f. Err f) e
-
-bad_tokens : (line : List ℕ) (fault : Fault) (read : Lexed) → on_ok (read_by read) (rule_in line) ≡ Err fault → on_ok (read_by read) (rule_of line) ≡ Err fault
-bad_tokens line fault (Ok []) h = let none : ⊥ = cc in absurd none
-bad_tokens line fault (Ok (token ∷ tokens)) h = bad_rule (rule_of line (token ∷ tokens)) fault h
-bad_tokens line fault (Err bad) h =
-    let same : ◌≡◌ {A = Result (Option Rule) Fault} (Err (lexical_fault bad)) (Err fault) = sym (lexical_found bad (rule_in line)) ∙ h in
-    let s : lexical_fault bad ≡ fault = cc in
-    lexical_found bad (rule_of line) ∙ ap (λ f. Err f) s
-
--- a bad line of a text is a line that is no rule
-pub bad_line : (line : List ℕ) (fault : Fault) → line_read line ≡ Err fault → rule_read line ≡ Err fault
-bad_line line fault h = bad_tokens line fault (tokens_of line) h

@@ -10,6 +10,7 @@ use Rattle.ug_types.specs.declared.rule.Rule.{Rule}
 use Rattle.ug_rule.specs.declared.fault.Fault.{Fault}
 use Rattle.ug_rule.specs.declared.fault.FaultKind.{FaultKind}
 use Rattle.ug_rule.specs.declared.fault.FaultKind.TheVariants.{BadEscape, OpenString, BadByte}
+use Rattle.ug_rule.specs.FaultKinds.{rule_stray_kind, rule_early_kind}
 use Rattle.ug_rule.specs.Faults.{fault_at}
 use Rattle.ug_rule.specs.Grammar.{IsQuery, IsRule}
 
@@ -86,3 +87,13 @@ pub data FirstFault (Are : List ℕ → List Token → Type 0) (stray_kind : Lis
   Lexical : (fault : lexing.Fault) → Bad line fault → FirstFault Are stray_kind early_kind line (lexical_fault fault)
   Stray : (tokens : List Token) (fault : Fault) → Good line tokens → IsStray Are stray_kind line tokens fault → FirstFault Are stray_kind early_kind line fault
   Early : (tokens : List Token) (fault : Fault) → Good line tokens → EndsEarly Are early_kind line tokens fault → FirstFault Are stray_kind early_kind line fault
+
+-- ---- lines of a text
+
+-- the line has no token: it is blank or a comment
+abbrev pub IsBlankLine : List ℕ → Type 0
+IsBlankLine line = Good line []
+
+-- the line is neither blank nor a comment, and no rule
+abbrev pub IsBadLine : List ℕ → Fault → Type 0
+IsBadLine line fault = (IsBlankLine line → ⊥) × FirstFault AreRule rule_stray_kind rule_early_kind line fault

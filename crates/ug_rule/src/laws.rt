@@ -1,12 +1,12 @@
 // Laws of the meaning of a rule's text.
-ghost use Rattle.std.specs.Prelude.{◌≡◌, ◌↔◌, ◌⊎◌, ℕ, List};
+ghost use Rattle.std.specs.Prelude.{◌≡◌, ◌↔◌, ◌⊎◌, ℕ, List, Some, None, Ok, Err};
 ghost use Rattle.ug_lex.specs.declared.token.Token.{Token};
 ghost use Rattle.ug_rule.specs.declared.fault.Ending.{Ending};
 ghost use Rattle.ug_rule.specs.declared.fault.Fault.{Fault};
 ghost use Rattle.ug_rule.specs.Conditions.{conditions_of};
 ghost use Rattle.ug_rule.specs.FaultKinds.{query_early_kind, query_stray_kind, rule_early_kind, rule_stray_kind};
 ghost use Rattle.ug_rule.specs.Files.{line_read};
-ghost use Rattle.ug_rule.specs.FirstFault.{AreQuery, AreRule, FirstFault};
+ghost use Rattle.ug_rule.specs.FirstFault.{AreQuery, AreRule, FirstFault, IsBadLine, IsBlankLine};
 ghost use Rattle.ug_rule.specs.Grammar.{AllAttributes, Asks, IsConditions, IsQuery, IsRule, IsValue, Says, WellFormed};
 ghost use Rattle.ug_rule.specs.Queries.{attributes_of};
 ghost use Rattle.ug_rule.specs.Rules.{rule_of, rule_read, whole_query, query_read};
@@ -62,11 +62,17 @@ pub fn lines_law()
 
 /// A line that is no rule has its fault at the first token with which the tokens so far go on to no rule, or where it ends
 /// too early, at its outermost open brace or else at its length. What is wrong there hangs on what the tokens before ask
-/// for. Faults of the tokens themselves come first. So it is with the bad lines of a text, and with queries.
+/// for. Faults of the tokens themselves come first. So it is with queries.
 pub fn first_fault_law()
     ensures rules { (line : List ℕ) (fault : Fault) → (rule_read line ≡ Err fault) ↔ FirstFault AreRule rule_stray_kind rule_early_kind line fault }
-    ensures lines { (line : List ℕ) (fault : Fault) → line_read line ≡ Err fault → FirstFault AreRule rule_stray_kind rule_early_kind line fault }
     ensures queries { (line : List ℕ) (fault : Fault) → (query_read line ≡ Err fault) ↔ FirstFault AreQuery query_stray_kind query_early_kind line fault }
+{}
+
+/// A line of a text is blank or a comment exactly where it has no token; else it is a rule, or has a first fault.
+pub fn text_lines_law()
+    ensures blank { (line : List ℕ) → (line_read line ≡ Ok None) ↔ IsBlankLine line }
+    ensures rules { (line : List ℕ) (rule : Rule) → (line_read line ≡ Ok (Some rule)) ↔ Says line rule }
+    ensures faults { (line : List ℕ) (fault : Fault) → (line_read line ≡ Err fault) ↔ IsBadLine line fault }
 {}
 
 /// A line is one rule, or has one first fault, and never both. So it is with queries.

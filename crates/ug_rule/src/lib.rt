@@ -17,7 +17,7 @@ mod words;
 pub use fault::RuleFault;
 pub use files::parse_file;
 pub use laws::{
-    attributes_law, conditions_law, first_fault_law, lines_law, one_meaning, rules_law, values_law,
-    words_law,
+    attributes_law, conditions_law, first_fault_law, lines_law, one_meaning, rules_law,
+    text_lines_law, values_law, words_law,
 };
 pub use rules::{parse_query, parse_rule};
