@@ -26,7 +26,7 @@ use Rattle.ug_script.specs.Journal.{told_numbers, Follow}
 pub judge_stays : (present : Bool) (start k : Kernel) (before : List Standing) (log0 : List Effect) (judge0 : Policy) (next0 : ℕ) (es : List Entry) (log : List Effect) (judge : Policy) (next : ℕ) → Account policy_answer policy_later present start k before log0 judge0 next0 es log judge next → judge ≡ judge0
 judge_stays present start k before log0 judge0 next0 es log judge next Start = refl
 judge_stays present start k before log0 judge0 next0 es log judge next (Note fs m j n e t h) = judge_stays present start k before log0 judge0 next0 fs m j n h
-judge_stays present start k before log0 judge0 next0 es log judge next (Judge fs m j n i name held judged on ss d b left h) = judge_stays present start k before log0 judge0 next0 fs m j n h
+judge_stays present start k before log0 judge0 next0 es log judge next (Judge fs m j n i name held judged on ss d b left so h) = judge_stays present start k before log0 judge0 next0 fs m j n h
 judge_stays present start k before log0 judge0 next0 es log judge next (Had fs m j n i number name held judged verdict what outcome d v due first may h) = judge_stays present start k before log0 judge0 next0 fs m j n h
 judge_stays present start k before log0 judge0 next0 es log judge next (Had_not fs m j n i number name held judged verdict what outcome d v due first may h) = judge_stays present start k before log0 judge0 next0 fs m j n h
 judge_stays present start k before log0 judge0 next0 es log judge next (Went fs m j n i number name held judged verdict d o v h) = judge_stays present start k before log0 judge0 next0 fs m j n h
@@ -61,7 +61,7 @@ pub judged_given : (present : Bool) (start k : Kernel) (before : List Standing) 
 judged_given present start k before log0 judge0 next0 es log judge next Start number name held verdict cause h = absurd h
 judged_given present start k before log0 judge0 next0 es log judge next (Note fs m j n e t a) number name held verdict cause h =
     judged_given present start k before log0 judge0 next0 fs m j n a number name held verdict cause (only_left fs (e ∷ []) (entry.Judged number name held verdict cause) ((plain_note e t).judged number name held verdict cause) h)
-judged_given present start k before log0 judge0 next0 es log judge next (Judge fs m j n i other file judged on ss d b left a) number name held verdict cause h = elim (last_is fs _ (entry.Judged number name held verdict cause) h) [
+judged_given present start k before log0 judge0 next0 es log judge next (Judge fs m j n i other file judged on ss d b left so a) number name held verdict cause h = elim (last_is fs _ (entry.Judged number name held verdict cause) h) [
   | inl x ↦ judged_given present start k before log0 judge0 next0 fs m j n a number name held verdict cause x
   | inr same ↦ subst (λ (p : Policy). IsGiven p.rules start k name held verdict cause) (judge_stays present start k before log0 judge0 next0 fs m j n a) (given_by j.rules start k i n other file judged present on d b number name held verdict cause same)
 ]
@@ -121,7 +121,7 @@ added_more before es fs k log0 log a = record { effects = a.effects; log_is = a.
 pub all_added : (present : Bool) (start k : Kernel) (before : List Standing) (log0 : List Effect) (judge0 : Policy) (next0 : ℕ) (es : List Entry) (log : List Effect) (judge : Policy) (next : ℕ) → Account policy_answer policy_later present start k before log0 judge0 next0 es log judge next → Added before es k log0 log
 all_added present start k before log0 judge0 next0 es log judge next Start = record { effects = []; log_is = sym (append-nil log0); each = λ e h. absurd h }
 all_added present start k before log0 judge0 next0 es log judge next (Note fs m j n e t a) = added_more before fs (e ∷ []) k log0 m (all_added present start k before log0 judge0 next0 fs m j n a)
-all_added present start k before log0 judge0 next0 es log judge next (Judge fs m j n i name held judged on ss d b left a) = added_more before fs _ k log0 m (all_added present start k before log0 judge0 next0 fs m j n a)
+all_added present start k before log0 judge0 next0 es log judge next (Judge fs m j n i name held judged on ss d b left so a) = added_more before fs _ k log0 m (all_added present start k before log0 judge0 next0 fs m j n a)
 all_added present start k before log0 judge0 next0 es log judge next (Went fs m j n i number name held judged verdict d o v a) = added_more before fs (entry.Gone number name ∷ []) k log0 m (all_added present start k before log0 judge0 next0 fs m j n a)
 all_added present start k before log0 judge0 next0 es log judge next (Had_not fs m j n i number name held judged verdict what outcome d v due first may a) = added_more before fs (wrote_entries number name what outcome) k log0 m (all_added present start k before log0 judge0 next0 fs m j n a)
 all_added present start k before log0 judge0 next0 es log judge next (Had fs m j n i number name held judged verdict what outcome d v due first may a) =
@@ -174,7 +174,7 @@ follow_none a b es fs none f =
 pub numbers_follow : (present : Bool) (start k : Kernel) (before : List Standing) (log0 : List Effect) (judge0 : Policy) (next0 : ℕ) (es : List Entry) (log : List Effect) (judge : Policy) (next : ℕ) → Account policy_answer policy_later present start k before log0 judge0 next0 es log judge next → Follow next0 (told_numbers es) next
 numbers_follow present start k before log0 judge0 next0 es log judge next Start = refl
 numbers_follow present start k before log0 judge0 next0 es log judge next (Note fs m j n e t a) = follow_none next0 n fs (e ∷ []) (numbers_none e t) (numbers_follow present start k before log0 judge0 next0 fs m j n a)
-numbers_follow present start k before log0 judge0 next0 es log judge next (Judge fs m j n i name held judged on ss d b left a) =
+numbers_follow present start k before log0 judge0 next0 es log judge next (Judge fs m j n i name held judged on ss d b left so a) =
     subst (λ (l : List ℕ). Follow next0 l (n + 1)) (sym (numbers_append fs _)) (follow_append next0 (told_numbers fs) (n ∷ []) n (n + 1) (numbers_follow present start k before log0 judge0 next0 fs m j n a) (refl, refl))
 numbers_follow present start k before log0 judge0 next0 es log judge next (Had fs m j n i number name held judged verdict what outcome d v due first may a) = follow_none next0 n fs (wrote_entries number name what outcome) refl (numbers_follow present start k before log0 judge0 next0 fs m j n a)
 numbers_follow present start k before log0 judge0 next0 es log judge next (Had_not fs m j n i number name held judged verdict what outcome d v due first may a) = follow_none next0 n fs (wrote_entries number name what outcome) refl (numbers_follow present start k before log0 judge0 next0 fs m j n a)
