@@ -26,7 +26,7 @@ use Rattle.ug_script.specs.Journal.{told_numbers, Follow}
 pub judge_later : (policy : Judging) (present : Bool) (start k : Kernel) (before : List Standing) (log0 : List Effect) (judge0 : Judging) (next0 : ℕ) (es : List Entry) (log : List Effect) (judge : Judging) (next : ℕ) → Account policy_answer policy_later present start k before log0 judge0 next0 es log judge next → IsLater policy judge0 → IsLater policy judge
 judge_later policy present start k before log0 judge0 next0 es log judge next Start first = first
 judge_later policy present start k before log0 judge0 next0 es log judge next (Note fs m j n e t h) first = judge_later policy present start k before log0 judge0 next0 fs m j n h first
-judge_later policy present start k before log0 judge0 next0 es log judge next (Judge fs m j n i name held judged on ss d b left h) first = later_verdict policy j (allowed_records ss) judged (is_none (parent_of name)) present (judge_later policy present start k before log0 judge0 next0 fs m j n h first)
+judge_later policy present start k before log0 judge0 next0 es log judge next (Judge fs m j n i name held judged on ss d b left so h) first = later_verdict policy j (allowed_records ss) judged (is_none (parent_of name)) present (judge_later policy present start k before log0 judge0 next0 fs m j n h first)
 judge_later policy present start k before log0 judge0 next0 es log judge next (Had fs m j n i number name held judged verdict what outcome d v due once may h) first = judge_later policy present start k before log0 judge0 next0 fs m j n h first
 judge_later policy present start k before log0 judge0 next0 es log judge next (Had_not fs m j n i number name held judged verdict what outcome d v due once may h) first = judge_later policy present start k before log0 judge0 next0 fs m j n h first
 judge_later policy present start k before log0 judge0 next0 es log judge next (Went fs m j n i number name held judged verdict d o v h) first = judge_later policy present start k before log0 judge0 next0 fs m j n h first
@@ -86,7 +86,7 @@ pub judged_given : (policy : Judging) (present : Bool) (start k : Kernel) (befor
 judged_given policy present start k before log0 judge0 next0 es log judge next Start first number name held verdict cause h = absurd h
 judged_given policy present start k before log0 judge0 next0 es log judge next (Note fs m j n e t a) first number name held verdict cause h =
     given_more policy start k before fs (e ∷ []) name held verdict cause (judged_given policy present start k before log0 judge0 next0 fs m j n a first number name held verdict cause (only_left fs (e ∷ []) (entry.Judged number name held verdict cause) ((plain_note e t).judged number name held verdict cause) h))
-judged_given policy present start k before log0 judge0 next0 es log judge next (Judge fs m j n i other file judged on ss d b left a) first number name held verdict cause h = elim (last_is fs _ (entry.Judged number name held verdict cause) h) [
+judged_given policy present start k before log0 judge0 next0 es log judge next (Judge fs m j n i other file judged on ss d b left so a) first number name held verdict cause h = elim (last_is fs _ (entry.Judged number name held verdict cause) h) [
   | inl x ↦ given_more policy start k before fs _ name held verdict cause (judged_given policy present start k before log0 judge0 next0 fs m j n a first number name held verdict cause x)
   | inr same ↦ given_more policy start k before fs _ name held verdict cause (given_by policy j start k before fs ss i n other file judged present on (judge_later policy present start k before log0 judge0 next0 fs m j n a first) left d b number name held verdict cause same)
 ]
@@ -146,7 +146,7 @@ added_more before es fs k log0 log a = record { effects = a.effects; log_is = a.
 pub all_added : (present : Bool) (start k : Kernel) (before : List Standing) (log0 : List Effect) (judge0 : Judging) (next0 : ℕ) (es : List Entry) (log : List Effect) (judge : Judging) (next : ℕ) → Account policy_answer policy_later present start k before log0 judge0 next0 es log judge next → Added before es k log0 log
 all_added present start k before log0 judge0 next0 es log judge next Start = record { effects = []; log_is = sym (append-nil log0); each = λ e h. absurd h }
 all_added present start k before log0 judge0 next0 es log judge next (Note fs m j n e t a) = added_more before fs (e ∷ []) k log0 m (all_added present start k before log0 judge0 next0 fs m j n a)
-all_added present start k before log0 judge0 next0 es log judge next (Judge fs m j n i name held judged on ss d b left a) = added_more before fs _ k log0 m (all_added present start k before log0 judge0 next0 fs m j n a)
+all_added present start k before log0 judge0 next0 es log judge next (Judge fs m j n i name held judged on ss d b left so a) = added_more before fs _ k log0 m (all_added present start k before log0 judge0 next0 fs m j n a)
 all_added present start k before log0 judge0 next0 es log judge next (Went fs m j n i number name held judged verdict d o v a) = added_more before fs (entry.Gone number name ∷ []) k log0 m (all_added present start k before log0 judge0 next0 fs m j n a)
 all_added present start k before log0 judge0 next0 es log judge next (Had_not fs m j n i number name held judged verdict what outcome d v due once may a) = added_more before fs (wrote_entries number name what outcome) k log0 m (all_added present start k before log0 judge0 next0 fs m j n a)
 all_added present start k before log0 judge0 next0 es log judge next (Had fs m j n i number name held judged verdict what outcome d v due once may a) =
@@ -199,7 +199,7 @@ follow_none a b es fs none f =
 pub numbers_follow : (present : Bool) (start k : Kernel) (before : List Standing) (log0 : List Effect) (judge0 : Judging) (next0 : ℕ) (es : List Entry) (log : List Effect) (judge : Judging) (next : ℕ) → Account policy_answer policy_later present start k before log0 judge0 next0 es log judge next → Follow next0 (told_numbers es) next
 numbers_follow present start k before log0 judge0 next0 es log judge next Start = refl
 numbers_follow present start k before log0 judge0 next0 es log judge next (Note fs m j n e t a) = follow_none next0 n fs (e ∷ []) (numbers_none e t) (numbers_follow present start k before log0 judge0 next0 fs m j n a)
-numbers_follow present start k before log0 judge0 next0 es log judge next (Judge fs m j n i name held judged on ss d b left a) =
+numbers_follow present start k before log0 judge0 next0 es log judge next (Judge fs m j n i name held judged on ss d b left so a) =
     subst (λ (l : List ℕ). Follow next0 l (n + 1)) (sym (numbers_append fs _)) (follow_append next0 (told_numbers fs) (n ∷ []) n (n + 1) (numbers_follow present start k before log0 judge0 next0 fs m j n a) (refl, refl))
 numbers_follow present start k before log0 judge0 next0 es log judge next (Had fs m j n i number name held judged verdict what outcome d v due once may a) = follow_none next0 n fs (wrote_entries number name what outcome) refl (numbers_follow present start k before log0 judge0 next0 fs m j n a)
 numbers_follow present start k before log0 judge0 next0 es log judge next (Had_not fs m j n i number name held judged verdict what outcome d v due once may a) = follow_none next0 n fs (wrote_entries number name what outcome) refl (numbers_follow present start k before log0 judge0 next0 fs m j n a)

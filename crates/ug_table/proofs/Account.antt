@@ -17,7 +17,7 @@ use Rattle.ug_table.specs.State.{Answers, Laters}
 pub account_stays : {J : Type 0} (answer : Answers J) (later : Laters J) (present : Bool) (start k l : Kernel) (before : List Standing) (log0 : List Effect) (judge0 : J) (next0 : ℕ) (es : List Entry) (log : List Effect) (judge : J) (next : ℕ) → Grows k l → Account answer later present start k before log0 judge0 next0 es log judge next → Account answer later present start l before log0 judge0 next0 es log judge next
 account_stays answer later present start k l before log0 judge0 next0 es log judge next g Start = Start
 account_stays answer later present start k l before log0 judge0 next0 es log judge next g (Note fs m j n e t h) = Note fs m j n e t (account_stays answer later present start k l before log0 judge0 next0 fs m j n g h)
-account_stays answer later present start k l before log0 judge0 next0 es log judge next g (Judge fs m j n i name held judged on ss d b left h) = Judge fs m j n i name held judged on ss (device_stays k l i name held judged g d) (probed_stays start k l name held.0 i on g b) left (account_stays answer later present start k l before log0 judge0 next0 fs m j n g h)
+account_stays answer later present start k l before log0 judge0 next0 es log judge next g (Judge fs m j n i name held judged on ss d b left so h) = Judge fs m j n i name held judged on ss (device_stays k l i name held judged g d) (probed_stays start k l name held.0 i on g b) left so (account_stays answer later present start k l before log0 judge0 next0 fs m j n g h)
 account_stays answer later present start k l before log0 judge0 next0 es log judge next g (Had fs m j n i number name held judged verdict what outcome d v due first may h) = Had fs m j n i number name held judged verdict what outcome (device_stays k l i name held judged g d) v due first may (account_stays answer later present start k l before log0 judge0 next0 fs m j n g h)
 account_stays answer later present start k l before log0 judge0 next0 es log judge next g (Had_not fs m j n i number name held judged verdict what outcome d v due first may h) = Had_not fs m j n i number name held judged verdict what outcome (device_stays k l i name held judged g d) v due first may (account_stays answer later present start k l before log0 judge0 next0 fs m j n g h)
 account_stays answer later present start k l before log0 judge0 next0 es log judge next g (Went fs m j n i number name held judged verdict d o v h) = Went fs m j n i number name held judged verdict (device_stays k l i name held judged g d) (gone_stays k l i g o) v (account_stays answer later present start k l before log0 judge0 next0 fs m j n g h)

@@ -43,12 +43,14 @@ use Rattle.ug_table.specs.declared.standing.Settled.{Settled}
 use Rattle.ug_table.specs.declared.standing.Settled.TheVariants as settled
 use Rattle.ug_types.proofs.Elements.{map_has, has_map, insert_has, has_new, has_old, distinct_insert}
 use Rattle.ug_table.proofs.Values.{IsFileOf, file_same}
-use Rattle.ug_table.proofs.Devices.{stand_stays}
+use Rattle.ug_table.proofs.Devices.{stand_stays, probed_from}
 use Rattle.ug_table.proofs.Standings.{found, missing, missing_without, or_all, or_by}
-use Rattle.ug_table.proofs.Joined.{FairFrom, fair_trans}
+use Rattle.ug_table.proofs.Joined.{FairFrom, fair_by}
 use Rattle.ug_table.proofs.Steps.{Same, After, one_itself, fair_end, then_quiet, then_called, then_note, then_same, then_went, without_less, tried_after, left_all}
 use Rattle.ug_table.proofs.Written.{bringing_fair}
 use Rattle.ug_table.proofs.RemoveMarks.{Keeps, keeps_itself, keep_one, Marks}
+use Rattle.ug_table.proofs.SoFar.{so_far_first, AreSoFar, dropped_so_far}
+use Rattle.ug_table.proofs.Account.{account_stays}
 
 second : {A B : Type 0} (p q : A × B) → p ≡ q → p.1 ≡ q.1
 second p q e = ap (λ (x : _). x.1) e
@@ -138,7 +140,7 @@ judged_fair answer later present n m u name held i judged on sound q d probed ab
     let file : Held = record { 0 = held } in
     let now = just_judged answer later u name held judged present on in
     let there = stand_stays n m u.standings u.next (quiet_grows n m q) stand in
-    let account : Account answer later present n m u.standings m.log u.judge u.next (e ∷ []) m.log now.judge now.next = Judge [] m.log u.judge u.next i name file judged on u.standings d probed (left_all u.standings stand.distinct) Start in
+    let account : Account answer later present n m u.standings m.log u.judge u.next (e ∷ []) m.log now.judge now.next = Judge [] m.log u.judge u.next i name file judged on u.standings d probed (left_all u.standings stand.distinct) (so_far_first u.standings) Start in
     let fair : IsFair answer later present n u m now = record {
       sound = sound;
       grows = quiet_grows n m q;
@@ -261,24 +263,31 @@ bound_device name k l b x =
     let own : judged_of x.d.name b.attrs b.parent ≡ judged_of x.d.name (attrs_of x.d) b.parent = ap (λ (v : Attrs). judged_of x.d.name v b.parent) x.own in
     record { d = x.d; device = x.device; file = x.file; named = x.named; of = (b.parent, x.parents, cc (named, own)) }
 
-bound_fair : {J : Type 0} {answer : Answers J} {later : Laters J} {present : Bool} {k n : Kernel} {w u : State J} (m : Kernel) (name : List ℕ) (b : Bound) → IsKernel m → Quiet n m → IsBound name n m b → (Has (names_of u.standings) name → ⊥) → FairFrom answer later present k w n u → FairFrom answer later present k w m (just_judged answer later u name b.held.0 (judged_of name b.attrs b.parent) present b.on)
-bound_fair {J} {answer} {later} {present} {k} {n} {w} {u} m name b sound q x absent h =
+bound_fair : {J : Type 0} {answer : Answers J} {later : Laters J} {present : Bool} {k n : Kernel} {w u : State J} (m : Kernel) (name : List ℕ) (b : Bound) → IsKernel m → Quiet n m → IsBound name n m b → (Has (names_of u.standings) name → ⊥) → AreSoFar w u → FairFrom answer later present k w n u → FairFrom answer later present k w m (just_judged answer later u name b.held.0 (judged_of name b.attrs b.parent) present b.on)
+unfolding judged_fair
+bound_fair {J} {answer} {later} {present} {k} {n} {w} {u} m name b sound q x absent so h =
     let probed : IsProbed n m name b.held.0 x.i b.on = record { first = n; last = m; since = grows_refl n; lived = x.lived; until = grows_refl m } in
-    fair_trans h (judged_fair answer later present n m u name b.held.0 x.i (judged_of name b.attrs b.parent) b.on sound q (bound_device name n m b x) probed absent h.fair.stand)
+    let judged = judged_of name b.attrs b.parent in
+    let device = bound_device name n m b x in
+    let step = judged_fair answer later present n m u name b.held.0 x.i judged b.on sound q device probed absent h.fair.stand in
+    let now = just_judged answer later u name b.held.0 judged present b.on in
+    let before = account_stays answer later present k n m w.standings k.log w.judge w.next h.fair.rest n.log u.judge u.next (quiet_grows n m q) h.fair.account in
+    let whole : Account answer later present k m w.standings k.log w.judge w.next (h.fair.rest ++ judged_entry u name b.held.0 (given_of answer u name judged present b.on) ∷ []) n.log now.judge now.next = Judge h.fair.rest n.log u.judge u.next x.i name b.held judged b.on u.standings device (probed_from k n m name b.held.0 x.i b.on h.fair.grows probed) h.fair.left (so h.fair.rest h.fair.entries) before in
+    fair_by h step (subst (λ (v : List Effect). Account answer later present k m w.standings k.log w.judge w.next (h.fair.rest ++ judged_entry u name b.held.0 (given_of answer u name judged present b.on) ∷ []) v now.judge now.next) (sym q.log) whole)
 
-after_bind_fair : {J : Type 0} {answer : Answers J} {later : Laters J} {present : Bool} {k n : Kernel} {w u : State J} (m l : Kernel) (name : List ℕ) (a : Binding) (p : Settled × State J) → IsKernel m → Quiet n m → BindSays name n m a → (Has (names_of u.standings) name → ⊥) → FairFrom answer later present k w n u → Runs calls m (after_bind answer later name present u a) p l → FairFrom answer later present k w l p.1
-after_bind_fair m l name (bound.Bound b) p sound q says absent h r = admitting_fair l name b p absent (then_quiet m sound q h) (bound_fair m name b sound q says absent h) r
-after_bind_fair m l name bound.Absent p sound q says absent h r = same_fair l settled.Nobody p (then_quiet m sound q h) r
-after_bind_fair m l name bound.Vanished p sound q says absent h r = same_fair l settled.Nobody p (then_quiet m sound q h) r
-after_bind_fair m l name (bound.Failed call count) p sound q says absent h r = unsettled_fair l name (fault.Call call count) (settled.Fault call count) p (then_quiet m sound q h) r
-after_bind_fair m l name bound.Memory p sound q says absent h r = unsettled_fair l name fault.Memory settled.Memory p (then_quiet m sound q h) r
+after_bind_fair : {J : Type 0} {answer : Answers J} {later : Laters J} {present : Bool} {k n : Kernel} {w u : State J} (m l : Kernel) (name : List ℕ) (a : Binding) (p : Settled × State J) → IsKernel m → Quiet n m → BindSays name n m a → (Has (names_of u.standings) name → ⊥) → AreSoFar w u → FairFrom answer later present k w n u → Runs calls m (after_bind answer later name present u a) p l → FairFrom answer later present k w l p.1
+after_bind_fair m l name (bound.Bound b) p sound q says absent so h r = admitting_fair l name b p absent (then_quiet m sound q h) (bound_fair m name b sound q says absent so h) r
+after_bind_fair m l name bound.Absent p sound q says absent so h r = same_fair l settled.Nobody p (then_quiet m sound q h) r
+after_bind_fair m l name bound.Vanished p sound q says absent so h r = same_fair l settled.Nobody p (then_quiet m sound q h) r
+after_bind_fair m l name (bound.Failed call count) p sound q says absent so h r = unsettled_fair l name (fault.Call call count) (settled.Fault call count) p (then_quiet m sound q h) r
+after_bind_fair m l name bound.Memory p sound q says absent so h r = unsettled_fair l name fault.Memory settled.Memory p (then_quiet m sound q h) r
 
-entering_fair : {J : Type 0} {answer : Answers J} {later : Laters J} {present : Bool} {k m : Kernel} {w u : State J} (l : Kernel) (name : List ℕ) (p : Settled × State J) → (Has (names_of u.standings) name → ⊥) → FairFrom answer later present k w m u → Runs calls m (entering answer later name present u) p l → FairFrom answer later present k w l p.1
+entering_fair : {J : Type 0} {answer : Answers J} {later : Laters J} {present : Bool} {k m : Kernel} {w u : State J} (l : Kernel) (name : List ℕ) (p : Settled × State J) → (Has (names_of u.standings) name → ⊥) → AreSoFar w u → FairFrom answer later present k w m u → Runs calls m (entering answer later name present u) p l → FairFrom answer later present k w l p.1
 unfolding entering
-entering_fair {J} {answer} {later} {present} {k} {m} {w} {u} l name p absent h r =
+entering_fair {J} {answer} {later} {present} {k} {m} {w} {u} l name p absent so h r =
     let cut = runs_split calls m (binding name (parent_of name)) (after_bind answer later name present u) p l r in
     let law = binding_law name (parent_of name) cut.0 m cut.1 refl h.fair.sound cut.2 in
-    after_bind_fair cut.1 l name cut.0 p law.sound law.quiet law.says absent h cut.3
+    after_bind_fair cut.1 l name cut.0 p law.sound law.quiet law.says absent so h cut.3
 
 -- a known device is brought to its verdict
 known_brought : {J : Type 0} {answer : Answers J} {later : Laters J} {present : Bool} {k m : Kernel} {w u : State J} (l : Kernel) (name : List ℕ) (known : Known) (on : Bool) (q : Settled × List Entry) → standing_of name u.standings ≡ Some known → FairFrom answer later present k w m u → Runs calls m (bringing name known on u.entries) q l → FairFrom answer later present k w l (record u { standings = tried_standings u.standings name q.0; entries = q.1 })
@@ -305,23 +314,23 @@ then_failed {m = m} {u = u} name known call count at h =
     let after = tried_after m u.standings u.next name f.s (settled.Fault call count) f.has f.named h.fair.stand in
     then_same (tried_standings u.standings name (settled.Fault call count)) after.0 after.1 (then_note (entry.Unsettled name (fault.Call call count)) tt h)
 
-after_known_fair : {J : Type 0} {answer : Answers J} {later : Laters J} {present : Bool} {k m : Kernel} {w u : State J} (n l : Kernel) (name : List ℕ) (known : Known) (a : Probe) (number count : ℕ) (p : Settled × State J) → standing_of name u.standings ≡ Some known → says_probe known.held.0 a n m → FairFrom answer later present k w m u → Runs calls m (after_known answer later name present u known a number count) p l → FairFrom answer later present k w l p.1
-after_known_fair {m = m} {u = u} n l name known (probe.Alive on) number count p at says h r =
+after_known_fair : {J : Type 0} {answer : Answers J} {later : Laters J} {present : Bool} {k m : Kernel} {w u : State J} (n l : Kernel) (name : List ℕ) (known : Known) (a : Probe) (number count : ℕ) (p : Settled × State J) → standing_of name u.standings ≡ Some known → says_probe known.held.0 a n m → AreSoFar w u → FairFrom answer later present k w m u → Runs calls m (after_known answer later name present u known a number count) p l → FairFrom answer later present k w l p.1
+after_known_fair {m = m} {u = u} n l name known (probe.Alive on) number count p at says so h r =
     let cut = runs_split calls m (bringing name known on u.entries) (to_mark u name) p l r in
     fair_end l p.1 (second p _ cut.3.0) cut.3.1 (known_brought cut.1 name known on cut.0 at h cut.2)
-after_known_fair {u = u} n l name known probe.Gone number count p at says h r =
-    entering_fair l name p (missing_without name u.standings) (then_dropped name known at says h) r
-after_known_fair n l name known probe.Failed number count p at says h r =
+after_known_fair {w = w} {u = u} n l name known probe.Gone number count p at says so h r =
+    entering_fair l name p (missing_without name u.standings) (dropped_so_far w u name known.number h.fair.rest h.fair.entries so) (then_dropped name known at says h) r
+after_known_fair n l name known probe.Failed number count p at says so h r =
     fair_end l p.1 (second p _ r.0) r.1 (then_failed name known number count at h)
 
-from_standing_fair : {J : Type 0} {answer : Answers J} {later : Laters J} {present : Bool} {k m : Kernel} {w u : State J} (l : Kernel) (name : List ℕ) (o : Option Known) (p : Settled × State J) → standing_of name u.standings ≡ o → FairFrom answer later present k w m u → Runs calls m (from_standing answer later name present u o) p l → FairFrom answer later present k w l p.1
-from_standing_fair {m = m} l name (Some known) p at h r =
-    after_known_fair m l name known r.0.answer r.0.number r.0.count p at r.2.says (then_called (Ask_alive known.held.0) r.0 r.1 tt r.2 h) r.3
-from_standing_fair {u = u} l name None p at h r = entering_fair l name p (missing name u.standings at) h r
+from_standing_fair : {J : Type 0} {answer : Answers J} {later : Laters J} {present : Bool} {k m : Kernel} {w u : State J} (l : Kernel) (name : List ℕ) (o : Option Known) (p : Settled × State J) → standing_of name u.standings ≡ o → AreSoFar w u → FairFrom answer later present k w m u → Runs calls m (from_standing answer later name present u o) p l → FairFrom answer later present k w l p.1
+from_standing_fair {m = m} l name (Some known) p at so h r =
+    after_known_fair m l name known r.0.answer r.0.number r.0.count p at r.2.says so (then_called (Ask_alive known.held.0) r.0 r.1 tt r.2 h) r.3
+from_standing_fair {u = u} l name None p at so h r = entering_fair l name p (missing name u.standings at) so h r
 
-pub then_settling : {J : Type 0} {answer : Answers J} {later : Laters J} {present : Bool} {k m : Kernel} {w u : State J} (l : Kernel) (name : List ℕ) (p : Settled × State J) → FairFrom answer later present k w m u → Runs calls m (settling answer later name present u) p l → FairFrom answer later present k w l p.1
+pub then_settling : {J : Type 0} {answer : Answers J} {later : Laters J} {present : Bool} {k m : Kernel} {w u : State J} (l : Kernel) (name : List ℕ) (p : Settled × State J) → AreSoFar w u → FairFrom answer later present k w m u → Runs calls m (settling answer later name present u) p l → FairFrom answer later present k w l p.1
 unfolding settling
-then_settling {u = u} l name p h r = from_standing_fair l name (standing_of name u.standings) p refl h r
+then_settling {u = u} l name p so h r = from_standing_fair l name (standing_of name u.standings) p refl so h r
 
 -- where the listing didn't succeed
 

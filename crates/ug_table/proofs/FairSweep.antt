@@ -28,23 +28,31 @@ use Rattle.ug_table.specs.State.{State, Kept, kept_of, with_kept, Answers, Later
 use Rattle.ug_table.specs.Standings.{lists, farewells}
 use Rattle.ug_table.specs.Settle.{settling, resettling}
 use Rattle.ug_table.specs.Sweep.{settling_all, resettling_all, parted, names_of, resumed, unlisted, marked_listed, if_room, after_list, sweeping}
-use Rattle.ug_table.specs.Laws.{IsDevice, IsGone, Stand, Account, Start, Went, IsOne, numbers_of, gone_of, IsFair}
+use Rattle.ug_table.specs.Laws.{IsDevice, IsGone, Stand, Account, Start, Went, IsOne, numbers_of, gone_of, IsFair, IsNamed}
 use Rattle.ug_table.specs.declared.standing.Standing.{Standing}
 use Rattle.ug_table.specs.declared.standing.Settled.{Settled}
 use Rattle.ug_types.proofs.Elements.{filter_has, has_filter, has_map, distinct_filter, distinct_one}
 use Rattle.ug_table.proofs.Values.{file_same, file_later}
 use Rattle.ug_table.proofs.Standings.{listed_is}
 use Rattle.ug_table.proofs.Says.{gone_has}
-use Rattle.ug_table.proofs.Joined.{FairFrom, fair_trans}
+use Rattle.ug_table.proofs.Joined.{FairFrom, fair_trans, StepFrom}
 use Rattle.ug_table.proofs.Steps.{one_itself, stand_of, fair_refl, fair_end, then_called, then_note, gone_device}
 use Rattle.ug_table.proofs.Fair.{then_settling, then_resettling}
 use Rattle.ug_table.proofs.RemoveMarks.{keeps_itself, keep_marks}
+use Rattle.ug_table.proofs.SoFar.{AreSoFar, AreFresh, parted_so_far, parted_fresh, part_so_far, part_fresh}
+use Rattle.ug_table.proofs.Told.{ends_run, PartOf, settling_part}
+use Rattle.ug_table.proofs.Marks.{order_distinct}
 
-then_settling_all : {J : Type 0} {answer : Answers J} {later : Laters J} {present : Bool} {k : Kernel} {w : State J} (names : List (List ℕ)) (m l : Kernel) (u v : State J) → FairFrom answer later present k w m u → Runs calls m (settling_all answer later names present u) v l → FairFrom answer later present k w l v
-then_settling_all [] m l u v h r = fair_end l v r.0 r.1 h
-then_settling_all {J} {answer} {later} {present} (name ∷ names) m l u v h r =
+then_settling_all : {J : Type 0} {answer : Answers J} {later : Laters J} {present : Bool} {k : Kernel} {w : State J} (names : List (List ℕ)) (m l : Kernel) (u v : State J) → AllDistinct names → AreSoFar w u → AreFresh names w u → FairFrom answer later present k w m u → Runs calls m (settling_all answer later names present u) v l → FairFrom answer later present k w l v
+then_settling_all [] m l u v distinct so fresh h r = fair_end l v r.0 r.1 h
+then_settling_all {J} {answer} {later} {present} {k} {w} (name ∷ names) m l u v distinct so fresh h r =
     let cut = runs_split calls m (settling answer later name present u) (λ (p : Settled × State J). settling_all answer later names present p.1) v l r in
-    then_settling_all names cut.1 l cut.0.1 v (then_settling cut.1 name cut.0 h cut.2) cut.3
+    let part = ends_run (PartOf name u) (settling answer later name present u) m cut.0 cut.1 (settling_part answer later name present u) cut.2 in
+    let none : IsNamed h.fair.rest name → ⊥ = fresh h.fair.rest h.fair.entries name (inl refl) in
+    then_settling_all names cut.1 l cut.0.1 v distinct.1
+    (part_so_far w u name h.fair.rest cut.0 h.fair.entries so none part)
+    (part_fresh w u name names h.fair.rest cut.0 h.fair.entries distinct fresh part)
+    (then_settling cut.1 name cut.0 so h cut.2) cut.3
 
 then_resettling_all : {J : Type 0} {answer : Answers J} {later : Laters J} {present : Bool} {k : Kernel} {w : State J} (u : State J) (names : List (List ℕ)) (m l : Kernel) (x y : Kept) → FairFrom answer later present k w m (with_kept u x) → Runs calls m (resettling_all names x) y l → FairFrom answer later present k w l (with_kept u y)
 then_resettling_all u [] m l x y h r = fair_end l (with_kept u y) (ap (λ (v : Kept). with_kept u v) r.0) r.1 h
@@ -111,7 +119,7 @@ farewell_account {J} answer later present m names before log judge next (s ∷ s
       | false ↦ λ q. subst (λ (v : List Entry). A v) (append_assoc es (e ∷ []) (farewells names ss)) (rec (es ++ e ∷ []) (Went es log judge next d.0 s.number s.name s.held s.judged s.verdict d.1 (gone s d.0 has d.1 q) (inl (s, has, refl, refl, refl, refl)) a))
     ]) refl
 
-parted_fair : {J : Type 0} (answer : Answers J) (later : Laters J) (present : Bool) (m : Kernel) (u : State J) (names : List (List ℕ)) → IsKernel m → Stand m u.standings u.next → AreGone m names u.standings → FairFrom answer later present m u m (parted names u)
+parted_fair : {J : Type 0} (answer : Answers J) (later : Laters J) (present : Bool) (m : Kernel) (u : State J) (names : List (List ℕ)) → IsKernel m → Stand m u.standings u.next → AreGone m names u.standings → StepFrom answer later present m u m (parted names u)
 parted_fair answer later present m u names sound stand gone =
     let ss = u.standings in
     let listed : Standing → Bool = λ s. lists names s.name in
@@ -147,7 +155,7 @@ parted_fair answer later present m u names sound stand gone =
       once = λ i a b p q. absurd (none a p.name p.held p.verdict p.cause p.has);
       unjudged = λ i a h p. none a p.name p.held p.verdict p.cause p.has;
     } in
-    record { stood = stand; fair = fair }
+    record { step = record { stood = stand; fair = fair }; none = none }
 
 then_parted : {J : Type 0} {answer : Answers J} {later : Laters J} {present : Bool} {k m : Kernel} {w u : State J} (names : List (List ℕ)) → AreGone m names u.standings → FairFrom answer later present k w m u → FairFrom answer later present k w m (parted names u)
 then_parted {J} {answer} {later} {present} {k} {m} {w} {u} names gone h = fair_trans h (parted_fair answer later present m u names h.fair.sound h.fair.stand gone)
@@ -171,12 +179,12 @@ then_listed {J} {answer} {later} {present} {k} {m} {w} {u} h =
     let fair : IsFair answer later present k w m (marked_listed u) = record { sound = x.sound; grows = x.grows; rest = x.rest; entries = x.entries; stand = x.stand; account = x.account; left = x.left; gone = x.gone; once = x.once; unjudged = x.unjudged } in
     record { stood = h.stood; fair = fair }
 
-if_room_fair : {J : Type 0} {answer : Answers J} {later : Laters J} {k m : Kernel} {w u : State J} (l : Kernel) (names : List (List ℕ)) (room : Bool) (v : State J) → AreGone m names u.standings → FairFrom answer later (not u.listed) k w m u → Runs calls m (if_room answer later names u room) v l → FairFrom answer later (not u.listed) k w l v
-if_room_fair {m = m} {u = u} l names true v gone h r = then_settling_all names m l (marked_listed (parted names u)) v (then_listed (then_parted names gone h)) r
-if_room_fair l names false v gone h r = then_unlisted l fault.Memory v h r
+if_room_fair : {J : Type 0} {answer : Answers J} {later : Laters J} {k m : Kernel} {w : State J} (l : Kernel) (names : List (List ℕ)) (room : Bool) (v : State J) → AllDistinct names → AreGone m names w.standings → FairFrom answer later (not w.listed) k w m w → Runs calls m (if_room answer later names w room) v l → FairFrom answer later (not w.listed) k w l v
+if_room_fair {m = m} {w = w} l names true v distinct gone h r = then_settling_all names m l (marked_listed (parted names w)) v distinct (parted_so_far names w) (parted_fresh names w) (then_listed (then_parted names gone h)) r
+if_room_fair l names false v distinct gone h r = then_unlisted l fault.Memory v h r
 
 after_list_fair : {J : Type 0} (answer : Answers J) (later : Laters J) (w : State J) (k m l : Kernel) (a : Listing) (number count : ℕ) (v : State J) → Grows k m → says_listing a k m → FairFrom answer later (not w.listed) k w m w → Runs calls m (after_list answer later w a number count) v l → FairFrom answer later (not w.listed) k w l v
-after_list_fair answer later w k m l (listing.Names names) number count v g says h r = if_room_fair l (in_sweep_order names) r.0 v (listing_gone k m names w.standings w.next g says h.stood) h r.1
+after_list_fair answer later w k m l (listing.Names names) number count v g says h r = if_room_fair l (in_sweep_order names) r.0 v (order_distinct names says.1) (listing_gone k m names w.standings w.next g says h.stood) h r.1
 after_list_fair answer later w k m l listing.Failed number count v g says h r = then_unlisted l (fault.Call number count) v h r
 after_list_fair answer later w k m l listing.Memory number count v g says h r = then_unlisted l fault.Memory v h r
 

@@ -1,5 +1,5 @@
 -- One fair part of a sweep after another.
-use Rattle.std.proofs.Common.{◌≡◌, ℕ, ◌+◌, ◌<◌, ◌≤◌, is_none, append-nil, Bool, true, false, List, [], ◌∷◌, ◌++◌, ◌⊎◌, inl, inr, Some, slice_get, refl, sym, ◌∙◌, ap, subst, append_assoc, arith}
+use Rattle.std.proofs.Common.{◌≡◌, ℕ, ◌<◌, ◌≤◌, append-nil, Bool, true, false, List, [], ◌∷◌, ◌++◌, ◌⊎◌, inl, inr, Some, slice_get, refl, sym, ◌∙◌, ap, subst, append_assoc, arith}
 use Rattle.ug_types.specs.Elements.{Has, AllDistinct}
 use Rattle.ug_types.specs.declared.record.Judged.{Judged}
 use Rattle.ug_types.specs.declared.verdict.Held.{Held}
@@ -19,9 +19,7 @@ use Rattle.ug_types.proofs.Elements.{has_left, has_right, has_cases, distinct_ap
 use Rattle.ug_table.proofs.Values.{IsFileOf, file_same, file_later}
 use Rattle.ug_table.proofs.Account.{account_stays, verdict_before, told_before}
 use Rattle.ug_table.proofs.Says.{Says, gone_has, gone_append, account_says, one_held, AreLow}
-use Rattle.ug_types.specs.Names.{parent_of}
 use Rattle.ug_kernel.specs.declared.device.Effect.{Effect}
-use Rattle.ug_table.proofs.Devices.{probed_from}
 use Rattle.ug_kernel.specs.declared.calls.Write.{Write}
 use Rattle.ug_kernel.specs.declared.calls.Wrote.{Wrote}
 use Rattle.ug_kernel.specs.declared.calls.Write.TheVariants as write
@@ -122,40 +120,39 @@ had_number : {J : Type 0} (answer : Answers J) (later : Laters J) (present : Boo
 had_number answer later present mid k middle log1 judge1 next1 gs log judge next number name held verdict low a (inl h) = inl (h.0, h.1, h.2)
 had_number answer later present mid k middle log1 judge1 next1 gs log judge next number name held verdict low a (inr h) = inr ((account_says answer later present mid k middle log1 judge1 next1 gs log judge next low a).judged number name held verdict h.0 h.1).after
 
-account_trans : {J : Type 0} (answer : Answers J) (later : Laters J) (present : Bool) (start mid k : Kernel) (before middle : List Standing) (log0 log1 : List Effect) (judge0 judge1 : J) (next0 next1 : ℕ) (es : List Entry) (log : List Effect) (judge : J) (next : ℕ) (fs : List Entry) → Grows start mid → AreLow before next0 → AreLow middle next1 → AreLeft before es middle → Account answer later present start k before log0 judge0 next0 es log1 judge1 next1 → Account answer later present mid k middle log1 judge1 next1 fs log judge next → Account answer later present start k before log0 judge0 next0 (es ++ fs) log judge next
-account_trans answer later present start mid k before middle log0 log1 judge0 judge1 next0 next1 es log judge next fs g low mlow left a Start = subst (λ v. Account answer later present start k before log0 judge0 next0 v log1 judge1 next1) (sym (append-nil es)) a
-account_trans answer later present start mid k before middle log0 log1 judge0 judge1 next0 next1 es log judge next fs g low mlow left a (Note gs m j n e t h) =
+-- no verdict is told
+abbrev pub NoJudged : List Entry → Type 0
+NoJudged es = (number : ℕ) (name : List ℕ) (held : Held) (verdict : Target) (cause : Cause) → Has es (entry.Judged number name held verdict cause) → ⊥
+
+none_left : (es fs : List Entry) → NoJudged (es ++ fs) → NoJudged es
+none_left es fs none number name held verdict cause a = none number name held verdict cause (has_left es fs (entry.Judged number name held verdict cause) a)
+
+account_trans : {J : Type 0} (answer : Answers J) (later : Laters J) (present : Bool) (start mid k : Kernel) (before middle : List Standing) (log0 log1 : List Effect) (judge0 judge1 : J) (next0 next1 : ℕ) (es : List Entry) (log : List Effect) (judge : J) (next : ℕ) (fs : List Entry) → Grows start mid → AreLow before next0 → AreLow middle next1 → AreLeft before es middle → Account answer later present start k before log0 judge0 next0 es log1 judge1 next1 → Account answer later present mid k middle log1 judge1 next1 fs log judge next → NoJudged fs → Account answer later present start k before log0 judge0 next0 (es ++ fs) log judge next
+account_trans answer later present start mid k before middle log0 log1 judge0 judge1 next0 next1 es log judge next fs g low mlow left a Start none = subst (λ v. Account answer later present start k before log0 judge0 next0 v log1 judge1 next1) (sym (append-nil es)) a
+account_trans answer later present start mid k before middle log0 log1 judge0 judge1 next0 next1 es log judge next fs g low mlow left a (Note gs m j n e t h) none =
     subst (λ v. Account answer later present start k before log0 judge0 next0 v m j n) (append_assoc es gs (e ∷ []))
-    (Note (es ++ gs) m j n e t (account_trans answer later present start mid k before middle log0 log1 judge0 judge1 next0 next1 es m j n gs g low mlow left a h))
-account_trans answer later present start mid k before middle log0 log1 judge0 judge1 next0 next1 es log judge next fs g low mlow left a (Judge gs m j n i name held judged on ss d b there h) =
-    subst (λ v. Account answer later present start k before log0 judge0 next0 v m (later j judged (is_none (parent_of name)) present on ss) (n + 1)) (append_assoc es gs _)
-    (Judge (es ++ gs) m j n i name held judged on ss d (probed_from start mid k name held.0 i on g b)
-    (left_trans before middle ss es gs next1
-    (low_later before next0 next1 (account_says answer later present start k before log0 judge0 next0 es log1 judge1 next1 low a).rises low)
-    (account_says answer later present start k before log0 judge0 next0 es log1 judge1 next1 low a).wrote
-    (λ number other x. ((account_says answer later present start k before log0 judge0 next0 es log1 judge1 next1 low a).gone number other x).below)
-    (λ number other file verdict cause x. ((account_says answer later present mid k middle log1 judge1 next1 gs m j n mlow h).judged number other file verdict cause x).after)
-    left there)
-    (account_trans answer later present start mid k before middle log0 log1 judge0 judge1 next0 next1 es m j n gs g low mlow left a h))
-account_trans answer later present start mid k before middle log0 log1 judge0 judge1 next0 next1 es log judge next fs g low mlow left a (Had gs m j n i number name held judged verdict what outcome d v due first may h) =
+    (Note (es ++ gs) m j n e t (account_trans answer later present start mid k before middle log0 log1 judge0 judge1 next0 next1 es m j n gs g low mlow left a h (none_left gs _ none)))
+account_trans answer later present start mid k before middle log0 log1 judge0 judge1 next0 next1 es log judge next fs g low mlow left a (Judge gs m j n i name held judged on ss d b there so h) none =
+    absurd (none n name held _ _ (has_right gs (_ ∷ []) _ (inl refl)))
+account_trans answer later present start mid k before middle log0 log1 judge0 judge1 next0 next1 es log judge next fs g low mlow left a (Had gs m j n i number name held judged verdict what outcome d v due first may h) none =
     subst (λ x. Account answer later present start k before log0 judge0 next0 x (m ++ record { device = i; write = what } ∷ []) j n) (append_assoc es gs (wrote_entries number name what outcome))
     (Had (es ++ gs) m j n i number name held judged verdict what outcome d (verdict_before before middle es gs number name held verdict left.told v) due
     (first_on before middle es gs next1 number what
     (low_later before next0 next1 (account_says answer later present start k before log0 judge0 next0 es log1 judge1 next1 low a).rises low)
     (account_says answer later present start k before log0 judge0 next0 es log1 judge1 next1 low a).wrote left
     (had_number answer later present mid k middle log1 judge1 next1 gs m j n number name held verdict mlow h v) first)
-    may (account_trans answer later present start mid k before middle log0 log1 judge0 judge1 next0 next1 es m j n gs g low mlow left a h))
-account_trans answer later present start mid k before middle log0 log1 judge0 judge1 next0 next1 es log judge next fs g low mlow left a (Had_not gs m j n i number name held judged verdict what outcome d v due first may h) =
+    may (account_trans answer later present start mid k before middle log0 log1 judge0 judge1 next0 next1 es m j n gs g low mlow left a h (none_left gs _ none)))
+account_trans answer later present start mid k before middle log0 log1 judge0 judge1 next0 next1 es log judge next fs g low mlow left a (Had_not gs m j n i number name held judged verdict what outcome d v due first may h) none =
     subst (λ x. Account answer later present start k before log0 judge0 next0 x m j n) (append_assoc es gs (wrote_entries number name what outcome))
     (Had_not (es ++ gs) m j n i number name held judged verdict what outcome d (verdict_before before middle es gs number name held verdict left.told v) due
     (first_on before middle es gs next1 number what
     (low_later before next0 next1 (account_says answer later present start k before log0 judge0 next0 es log1 judge1 next1 low a).rises low)
     (account_says answer later present start k before log0 judge0 next0 es log1 judge1 next1 low a).wrote left
     (had_number answer later present mid k middle log1 judge1 next1 gs m j n number name held verdict mlow h v) first)
-    may (account_trans answer later present start mid k before middle log0 log1 judge0 judge1 next0 next1 es m j n gs g low mlow left a h))
-account_trans answer later present start mid k before middle log0 log1 judge0 judge1 next0 next1 es log judge next fs g low mlow left a (Went gs m j n i number name held judged verdict d o v h) =
+    may (account_trans answer later present start mid k before middle log0 log1 judge0 judge1 next0 next1 es m j n gs g low mlow left a h (none_left gs _ none)))
+account_trans answer later present start mid k before middle log0 log1 judge0 judge1 next0 next1 es log judge next fs g low mlow left a (Went gs m j n i number name held judged verdict d o v h) none =
     subst (λ x. Account answer later present start k before log0 judge0 next0 x m j n) (append_assoc es gs (entry.Gone number name ∷ []))
-    (Went (es ++ gs) m j n i number name held judged verdict d o (verdict_before before middle es gs number name held verdict left.told v) (account_trans answer later present start mid k before middle log0 log1 judge0 judge1 next0 next1 es m j n gs g low mlow left a h))
+    (Went (es ++ gs) m j n i number name held judged verdict d o (verdict_before before middle es gs number name held verdict left.told v) (account_trans answer later present start mid k before middle log0 log1 judge0 judge1 next0 next1 es m j n gs g low mlow left a h (none_left gs _ none)))
 
 -- a fair part, with the standings that it began with
 pub record FairFrom {J : Type 0} (answer : Answers J) (later : Laters J) (present : Bool) (k : Kernel) (w : State J) (l : Kernel) (v : State J) : Type 0 where
@@ -257,21 +254,34 @@ gone_by a b number x y =
           let none : ⊥ = omega (arith, after, below) in none
     ]
 
-pub fair_trans : {J : Type 0} {answer : Answers J} {later : Laters J} {present : Bool} {k m l : Kernel} {w u v : State J} → FairFrom answer later present k w m u → FairFrom answer later present m u l v → FairFrom answer later present k w l v
-fair_trans {J} {answer} {later} {present} {k} {m} {l} {w} {u} {v} a b =
+-- a small step, in which nothing is judged
+pub record StepFrom {J : Type 0} (answer : Answers J) (later : Laters J) (present : Bool) (k : Kernel) (w : State J) (l : Kernel) (v : State J) : Type 0 where
+  pub step : FairFrom answer later present k w l v
+  pub none : NoJudged step.fair.rest
+
+-- one part after another, with its account
+pub fair_by : {J : Type 0} {answer : Answers J} {later : Laters J} {present : Bool} {k m l : Kernel} {w u v : State J} (a : FairFrom answer later present k w m u) (b : FairFrom answer later present m u l v) → Account answer later present k l w.standings k.log w.judge w.next (a.fair.rest ++ b.fair.rest) l.log v.judge v.next → FairFrom answer later present k w l v
+fair_by {J} {answer} {later} {present} {k} {m} {l} {w} {u} {v} a b account =
     let es = a.fair.rest in
     let fs = b.fair.rest in
-    let account = account_stays answer later present k m l w.standings k.log w.judge w.next es m.log u.judge u.next b.fair.grows a.fair.account in
     let fair : IsFair answer later present k w l v = record {
       sound = b.fair.sound;
       grows = grows_trans k m l a.fair.grows b.fair.grows;
       rest = es ++ fs;
       entries = b.fair.entries ∙ ap (λ (x : List Entry). x ++ fs) a.fair.entries ∙ append_assoc w.entries es fs;
       stand = b.fair.stand;
-      account = account_trans answer later present k m l w.standings u.standings k.log m.log w.judge u.judge w.next u.next es l.log v.judge v.next fs a.fair.grows a.stood.numbers b.stood.numbers a.fair.left account b.fair.account;
+      account = account;
       left = left_trans w.standings u.standings v.standings es fs u.next (low_later w.standings w.next u.next (says_of a).rises a.stood.numbers) (says_of a).wrote (λ number name x. ((says_of a).gone number name x).below) (λ number name held verdict cause x. ((says_of b).judged number name held verdict cause x).after) a.fair.left b.fair.left;
       gone = subst (λ (x : List ℕ). AllDistinct x) (sym (gone_append es fs)) (distinct_append (gone_of es) (gone_of fs) a.fair.gone b.fair.gone (λ n x y. gone_by a b n x y));
       once = λ i x y p q. once_by a b i x y (judged_split l es fs x i p) (judged_split l es fs y i q);
       unjudged = λ i n h p. unjudged_by a b i n h (judged_split l es fs n i p);
     } in
     record { stood = a.stood; fair = fair }
+
+pub fair_trans : {J : Type 0} {answer : Answers J} {later : Laters J} {present : Bool} {k m l : Kernel} {w u v : State J} → FairFrom answer later present k w m u → StepFrom answer later present m u l v → FairFrom answer later present k w l v
+fair_trans {J} {answer} {later} {present} {k} {m} {l} {w} {u} {v} a s =
+    let b = s.step in
+    let es = a.fair.rest in
+    let fs = b.fair.rest in
+    let account = account_stays answer later present k m l w.standings k.log w.judge w.next es m.log u.judge u.next b.fair.grows a.fair.account in
+    fair_by a b (account_trans answer later present k m l w.standings u.standings k.log m.log w.judge u.judge w.next u.next es l.log v.judge v.next fs a.fair.grows a.stood.numbers b.stood.numbers a.fair.left account b.fair.account s.none)

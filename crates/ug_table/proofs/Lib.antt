@@ -8,6 +8,7 @@ pub mod Says
 pub mod Joined
 pub mod Steps
 pub mod Written
+pub mod SoFar
 pub mod Fair
 pub mod FairSweep
 pub mod Values

@@ -1,5 +1,5 @@
 -- A run of a sweep goes along its parts.
-use Rattle.std.proofs.Common.{◌≡◌, ◌≤◌, ℕ, Bool, true, false, not, ◌||◌, ◌⊎◌, List, [], ◌∷◌, ◌++◌, Option, Some, None, inl, inr, refl, sym, ◌∙◌, ap, subst, append_assoc, append-nil}
+use Rattle.std.proofs.Common.{◌≡◌, ℕ, Bool, true, false, not, ◌||◌, ◌⊎◌, List, [], ◌∷◌, ◌++◌, Option, Some, None, inl, inr, refl, sym, ◌∙◌, ap, subst, append_assoc, append-nil}
 use Rattle.std.specs.List.{filter}
 use Rattle.ug_types.specs.Sweep.{in_sweep_order}
 use Rattle.ug_kernel.specs.declared.calls.Listing.{Listing}
@@ -22,7 +22,7 @@ use Rattle.ug_table.specs.State.{State, Kept, kept_of, Answers, Laters}
 use Rattle.ug_table.specs.Standings.{standing_of, lists, farewells}
 use Rattle.ug_table.specs.Settle.{settling, resettling}
 use Rattle.ug_table.specs.Sweep.{settling_all, resettling_all, parted, names_of, resumed, unlisted, marked_listed, if_room, after_list, sweeping}
-use Rattle.ug_table.specs.Parts.{OpenFile, AreAbout, EndsAtFailure, AreDue, AtMostOneEach, LacksRoom, PutMade, puts_of, put_of, writes_in, TellsWrites, IsBoundAnew, known_files, Part, InParts, AfterListing, GoesInParts, count_calls}
+use Rattle.ug_table.specs.Parts.{OpenFile, AreAbout, EndsAtFailure, AreDue, AtMostOneEach, LacksRoom, PutMade, puts_of, put_of, writes_in, TellsWrites, IsBoundAnew, known_files, Part, InParts, AfterListing, GoesInParts}
 use Rattle.ug_table.specs.declared.standing.Standing.{Standing}
 use Rattle.ug_table.specs.declared.standing.Known.{Known}
 use Rattle.ug_table.specs.declared.standing.Settled.{Settled}

@@ -230,7 +230,7 @@ account_says answer later present start k before log0 judge0 next0 es log judge 
   wrote = λ number name what outcome a. absurd a;
 }
 account_says answer later present start k before log0 judge0 next0 es log judge next low (Note fs m j n e t h) = says_plain start k before next0 fs (e ∷ []) n (plain_note e t) (λ number name what outcome a. absurd (one_neither e (entry.Wrote number name what outcome) t a)) (account_says answer later present start k before log0 judge0 next0 fs m j n low h)
-account_says answer later present start k before log0 judge0 next0 es log judge next low (Judge fs m j n i name held judged on ss d b left h) = says_judged start k before next0 fs n i name held judged on _ _ d b (account_says answer later present start k before log0 judge0 next0 fs m j n low h)
+account_says answer later present start k before log0 judge0 next0 es log judge next low (Judge fs m j n i name held judged on ss d b left so h) = says_judged start k before next0 fs n i name held judged on _ _ d b (account_says answer later present start k before log0 judge0 next0 fs m j n low h)
 account_says answer later present start k before log0 judge0 next0 es log judge next low (Had fs m j n i number name held judged verdict what outcome d v due first may h) =
     let says = account_says answer later present start k before log0 judge0 next0 fs m j n low h in
     says_plain start k before next0 fs (wrote_entries number name what outcome) n (plain_wrote number name what outcome) (wrote_below number n name what outcome (verdict_low start k before next0 fs n number name held verdict low says v)) says

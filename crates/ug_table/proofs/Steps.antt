@@ -28,7 +28,7 @@ use Rattle.ug_types.proofs.Elements.{filter_has, has_filter, map_has, has_map, d
 use Rattle.ug_table.proofs.Devices.{stand_stays}
 use Rattle.ug_table.proofs.Standings.{same_is, is_same, names_marked, numbers_marked, still_removed, settled_removed, reject_removed}
 use Rattle.ug_table.proofs.Says.{Plain, plain_none, plain_note, plain_distinct, one_neither}
-use Rattle.ug_table.proofs.Joined.{FairFrom, gone_as, fair_trans}
+use Rattle.ug_table.proofs.Joined.{FairFrom, gone_as, fair_trans, StepFrom}
 use Rattle.ug_table.proofs.RemoveMarks.{KeepMarks, keeps_itself, NoRemoval, AreMarked, AreRemoved, keep_one, keep_marks, keep_removal, keep_removed, Marks}
 
 -- the standings are the same, their marks aside
@@ -80,7 +80,7 @@ stand_of k before ss next there names distinct removed stand = record {
 }
 
 -- a step whose entries tell no verdict and no end
-pub plain_fair : {J : Type 0} (answer : Answers J) (later : Laters J) (present : Bool) (m l : Kernel) (u : State J) (rs : List Standing) (fs : List Entry) → IsKernel l → Grows m l → Stand m u.standings u.next → Same u.standings rs → AreMarked u.standings fs rs → AreRemoved l rs → Plain fs → Account answer later present m l u.standings m.log u.judge u.next fs l.log u.judge u.next → FairFrom answer later present m u l (record u { standings = rs; entries = u.entries ++ fs })
+pub plain_fair : {J : Type 0} (answer : Answers J) (later : Laters J) (present : Bool) (m l : Kernel) (u : State J) (rs : List Standing) (fs : List Entry) → IsKernel l → Grows m l → Stand m u.standings u.next → Same u.standings rs → AreMarked u.standings fs rs → AreRemoved l rs → Plain fs → Account answer later present m l u.standings m.log u.judge u.next fs l.log u.judge u.next → StepFrom answer later present m u l (record u { standings = rs; entries = u.entries ++ fs })
 plain_fair answer later present m l u rs fs sound g stand same marked removed plain account =
     let fair : IsFair answer later present m u l (record u { standings = rs; entries = u.entries ++ fs }) = record {
       sound = sound;
@@ -100,22 +100,22 @@ plain_fair answer later present m l u rs fs sound g stand same marked removed pl
       once = λ i a b p q. absurd (plain.judged a p.name p.held p.verdict p.cause p.has);
       unjudged = λ i a h p. plain.judged a p.name p.held p.verdict p.cause p.has;
     } in
-    record { stood = stand; fair = fair }
+    record { step = record { stood = stand; fair = fair }; none = plain.judged }
 
 -- a step that leaves the marks
-pub keep_fair : {J : Type 0} (answer : Answers J) (later : Laters J) (present : Bool) (m l : Kernel) (u : State J) (rs : List Standing) (fs : List Entry) → IsKernel l → Grows m l → Stand m u.standings u.next → Same u.standings rs → KeepMarks u.standings rs → NoRemoval fs → Plain fs → Account answer later present m l u.standings m.log u.judge u.next fs l.log u.judge u.next → FairFrom answer later present m u l (record u { standings = rs; entries = u.entries ++ fs })
+pub keep_fair : {J : Type 0} (answer : Answers J) (later : Laters J) (present : Bool) (m l : Kernel) (u : State J) (rs : List Standing) (fs : List Entry) → IsKernel l → Grows m l → Stand m u.standings u.next → Same u.standings rs → KeepMarks u.standings rs → NoRemoval fs → Plain fs → Account answer later present m l u.standings m.log u.judge u.next fs l.log u.judge u.next → StepFrom answer later present m u l (record u { standings = rs; entries = u.entries ++ fs })
 keep_fair answer later present m l u rs fs sound g stand same keep none plain account =
     plain_fair answer later present m l u rs fs sound g stand same (keep_marks u.standings rs fs stand.distinct keep none) (keep_removed m l u.standings rs u.next stand g keep) plain account
 
 -- a step from a state at which what went before is fair
-fair_quiet : {J : Type 0} (answer : Answers J) (later : Laters J) (present : Bool) (k l : Kernel) (w : State J) → IsKernel l → Quiet k l → Stand k w.standings w.next → FairFrom answer later present k w l w
+fair_quiet : {J : Type 0} (answer : Answers J) (later : Laters J) (present : Bool) (k l : Kernel) (w : State J) → IsKernel l → Quiet k l → Stand k w.standings w.next → StepFrom answer later present k w l w
 fair_quiet answer later present k l w sound q stand =
     let account : Account answer later present k l w.standings k.log w.judge w.next [] l.log w.judge w.next = subst (λ v. Account answer later present k l w.standings k.log w.judge w.next [] v w.judge w.next) (sym q.log) Start in
     let step = keep_fair answer later present k l w w.standings [] sound (quiet_grows k l q) stand (same_refl k w.standings w.next stand) (keeps_itself w.standings) (λ number name h. h) plain_none account in
-    subst (λ (x : List Entry). FairFrom answer later present k w l (record w { entries = x })) (append-nil w.entries) step
+    subst (λ (x : List Entry). StepFrom answer later present k w l (record w { entries = x })) (append-nil w.entries) step
 
 pub fair_refl : {J : Type 0} (answer : Answers J) (later : Laters J) (present : Bool) (k : Kernel) (w : State J) → IsKernel k → Stand k w.standings w.next → FairFrom answer later present k w k w
-fair_refl answer later present k w sound stand = fair_quiet answer later present k k w sound (quiet_refl k) stand
+fair_refl answer later present k w sound stand = (fair_quiet answer later present k k w sound (quiet_refl k) stand).step
 
 pub then_quiet : {J : Type 0} {answer : Answers J} {later : Laters J} {present : Bool} {k m : Kernel} {w u : State J} (l : Kernel) → IsKernel l → Quiet m l → FairFrom answer later present k w m u → FairFrom answer later present k w l u
 then_quiet {J} {answer} {later} {present} {k} {m} {w} {u} l sound q h = fair_trans h (fair_quiet answer later present m l u sound q h.fair.stand)
@@ -134,7 +134,7 @@ then_note {J} {answer} {later} {present} {k} {l} {w} {u} e t h =
 pub then_same : {J : Type 0} {answer : Answers J} {later : Laters J} {present : Bool} {k l : Kernel} {w u : State J} (ss : List Standing) → Same u.standings ss → KeepMarks u.standings ss → FairFrom answer later present k w l u → FairFrom answer later present k w l (record u { standings = ss })
 then_same {J} {answer} {later} {present} {k} {l} {w} {u} ss same keep h =
     let step = keep_fair answer later present l l u ss [] h.fair.sound (grows_refl l) h.fair.stand same keep (λ number name a. a) plain_none Start in
-    fair_trans h (subst (λ (x : List Entry). FairFrom answer later present l u l (record u { standings = ss; entries = x })) (append-nil u.entries) step)
+    fair_trans h (subst (λ (x : List Entry). StepFrom answer later present l u l (record u { standings = ss; entries = x })) (append-nil u.entries) step)
 
 -- a standing that ends
 
@@ -148,7 +148,7 @@ gone_device k i name held judged x dead = (x.d, x.device, gone_flag k i x.d x.d.
 gone_held : (k : Kernel) (i : ℕ) (name : List ℕ) (held : Held) (judged : Judged) → IsDevice k i name held judged → IsGoneAt held.0 k → IsGone k i
 gone_held k i name held judged x gone = gone_device k i name held judged x (λ live. gone i x.d (record { file = record { device = i; control = Authorized }; at = x.file; is = refl; device = x.device }) live)
 
-went_fair : {J : Type 0} (answer : Answers J) (later : Laters J) (present : Bool) (m : Kernel) (u : State J) (x : Standing) (rs : List Standing) → IsKernel m → Stand m u.standings u.next → Has u.standings x → Less x u.standings rs → IsGoneAt x.held.0 m → FairFrom answer later present m u m (record u { standings = rs; entries = u.entries ++ entry.Gone x.number x.name ∷ [] })
+went_fair : {J : Type 0} (answer : Answers J) (later : Laters J) (present : Bool) (m : Kernel) (u : State J) (x : Standing) (rs : List Standing) → IsKernel m → Stand m u.standings u.next → Has u.standings x → Less x u.standings rs → IsGoneAt x.held.0 m → StepFrom answer later present m u m (record u { standings = rs; entries = u.entries ++ entry.Gone x.number x.name ∷ [] })
 went_fair answer later present m u x rs sound stand has less gone =
     let e = entry.Gone x.number x.name in
     let d = stand.devices x has in
@@ -174,7 +174,7 @@ went_fair answer later present m u x rs sound stand has less gone =
       once = λ i a b p q. absurd (none a p.name p.held p.verdict p.cause p.has);
       unjudged = λ i a h p. none a p.name p.held p.verdict p.cause p.has;
     } in
-    record { stood = stand; fair = fair }
+    record { step = record { stood = stand; fair = fair }; none = none }
 
 pub then_went : {J : Type 0} {answer : Answers J} {later : Laters J} {present : Bool} {k m : Kernel} {w u : State J} (x : Standing) (rs : List Standing) → Has u.standings x → Less x u.standings rs → IsGoneAt x.held.0 m → FairFrom answer later present k w m u → FairFrom answer later present k w m (record u { standings = rs; entries = u.entries ++ entry.Gone x.number x.name ∷ [] })
 then_went {J} {answer} {later} {present} {k} {m} {w} {u} x rs has less gone h = fair_trans h (went_fair answer later present m u x rs h.fair.sound h.fair.stand has less gone)

@@ -1,5 +1,5 @@
 -- How many calls a part makes at most.
-use Rattle.std.proofs.Common.{◌≡◌, ℕ, ◌+◌, ◌≤◌, Bool, true, false, is_none, List, [], ◌∷◌, ◌++◌, Option, Some, None, Result, Ok, Err, sym, subst, arith}
+use Rattle.std.proofs.Common.{ℕ, ◌+◌, ◌≤◌, Bool, true, false, is_none, List, [], ◌∷◌, ◌++◌, Option, Some, None, Result, Ok, Err, sym, subst, arith}
 use Rattle.ug_types.specs.Names.{parent_of}
 use Rattle.ug_types.specs.declared.record.Attrs.{Attrs}
 use Rattle.ug_types.specs.declared.record.Judged.{Judged}

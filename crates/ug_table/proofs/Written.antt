@@ -37,7 +37,7 @@ use Rattle.ug_table.proofs.Values.{IsHeldAs, file_same, file_later}
 use Rattle.ug_table.proofs.Devices.{device_stays, stand_stays}
 use Rattle.ug_table.proofs.RemoveMarks.{NoRemoval, keeps_itself, removal_marks, removal_removed, marks_keep}
 use Rattle.ug_table.proofs.Says.{plain_wrote}
-use Rattle.ug_table.proofs.Joined.{FairFrom, fair_trans}
+use Rattle.ug_table.proofs.Joined.{FairFrom, fair_trans, StepFrom}
 use Rattle.ug_table.proofs.Steps.{After, same_refl, plain_fair, keep_fair, fair_end, then_quiet, then_called, then_note, then_same, then_went}
 
 -- the log after a write
@@ -86,7 +86,7 @@ put_fair {J} {answer} {later} {present} {k} {m} {w} {u} l s i held control what 
     let g = called_grows (Put held what) (record { answer = outcome; number = number; count = count }) m l c in
     let es = wrote_entries s.number s.name what outcome in
     let step = keep_fair answer later present m l u u.standings es c.sound g h.fair.stand (same_refl m u.standings u.next h.fair.stand) (keeps_itself u.standings) none (plain_wrote s.number s.name what outcome) (put_account m l u s i held control what outcome number count at file due first c) in
-    fair_trans h (subst (λ (v : List Entry). FairFrom answer later present m u l (record u { entries = v })) (sym (append_assoc u.entries (entry.Intent s.number s.name what ∷ []) (entry.Wrote s.number s.name what outcome ∷ []))) step)
+    fair_trans h (subst (λ (v : List Entry). StepFrom answer later present m u l (record u { entries = v })) (sym (append_assoc u.entries (entry.Intent s.number s.name what ∷ []) (entry.Wrote s.number s.name what outcome ∷ []))) step)
 
 -- the standings after it, by how it was settled
 abbrev Afters : List Standing → Standing → (Settled → List Standing) → Type 0
@@ -197,7 +197,7 @@ removed_fair {J} {answer} {later} {present} {k} {m} {w} {u} l s i file number co
     let account = put_account m l u s i file Remove write.Remove wrote.Done number count at of (reject_calls s.verdict reject) first c in
     let removed = removal_removed l u.standings rs s (stand_stays m l u.standings u.next g stand).removed (done_removal m l s i file number count at.1 of c) a.1 in
     let step = plain_fair answer later present m l u rs es c.sound g stand a.0 (removal_marks u.standings rs s stand.distinct reject a.1) removed (plain_wrote s.number s.name write.Remove wrote.Done) account in
-    fair_trans h (subst (λ (v : List Entry). FairFrom answer later present m u l (record u { standings = rs; entries = v })) (sym (append_assoc u.entries (entry.Intent s.number s.name write.Remove ∷ []) (entry.Wrote s.number s.name write.Remove wrote.Done ∷ []))) step)
+    fair_trans h (subst (λ (v : List Entry). StepFrom answer later present m u l (record u { standings = rs; entries = v })) (sym (append_assoc u.entries (entry.Intent s.number s.name write.Remove ∷ []) (entry.Wrote s.number s.name write.Remove wrote.Done ∷ []))) step)
 
 undone_no_removal : (s : Standing) (outcome : Wrote) → (outcome ≡ wrote.Done → ⊥) → NoRemoval (wrote_entries s.number s.name write.Remove outcome)
 undone_no_removal s outcome ne number name (inl e) = let none : ⊥ = cc in none

@@ -137,17 +137,31 @@ pub record AreLeft (before : List Standing) (entries : List Entry) (ss : List St
   pub ended : (s : Standing) (name : List ℕ) → Has ss s → Has entries (entry.Gone s.number name) → ⊥
   pub removed : (s : Standing) → Has ss s → IsRemoveMarked before entries s
 
+-- the name is told as unsettled
+abbrev pub IsNamed : List Entry → List ℕ → Type 0
+IsNamed entries name = (why : Fault) × Has entries (entry.Unsettled name why)
+
+-- the number was marked as unsettled before
+abbrev pub WasUnsettled : List Standing → ℕ → Type 0
+WasUnsettled before number = (b : Standing) × Has before b × (b.number ≡ number) × (b.settled ≡ false)
+
+-- a standing that is marked as settled isn't told as unsettled, and one that isn't is told so, or was so before
+abbrev pub IsMarkedSoFar : List Standing → List Entry → Standing → Type 0
+IsMarkedSoFar before entries s = ((s.settled ≡ true) × (IsNamed entries s.name → ⊥)) ⊎ ((s.settled ≡ false) × (IsNamed entries s.name ⊎ WasUnsettled before s.number))
+
+abbrev pub AreMarkedSoFar : List Standing → List Entry → List Standing → Type 0
+AreMarkedSoFar before entries ss = (s : Standing) → Has ss s → IsMarkedSoFar before entries s
+
 -- The entries since a sweep began, in order, with what they say of the log, of the judge and of the next number.
--- Each verdict is the judge's on the record of the very device of the held file, beside the standings that are left at that moment,
--- under the next number; and that device, in this sweep, lived from the opening of the file to the probe that gave its value. Whether it
--- was present at the start is one answer for
--- the sweep. Each entry that was added to the log is that of a write that is told, with its intent directly before it, to the very
--- device of its number, and is what the verdict of that number calls for, a removal only where
--- none was done before. A number that is told gone had a verdict, and its device is gone.
+-- Each verdict is the judge's on the record of the very device of the held file, under the next number, beside the standings that are
+-- left at that moment, marked as they are so far; and that device, in this sweep, lived from the opening of the file to the probe that
+-- gave its value. Whether it was present at the start is one answer for the sweep. Each entry that was added to the log is that of a
+-- write that is told, with its intent directly before it, to the very device of its number, and is what the verdict of that number
+-- calls for, a removal only where none was done before. A number that is told gone had a verdict, and its device is gone.
 pub data Account {J : Type 0} (answer : Answers J) (later : Laters J) (present : Bool) (start k : Kernel) (before : List Standing) (log0 : List Effect) (judge0 : J) (next0 : ℕ) : List Entry → List Effect → J → ℕ → Type 0 where
   Start : Account answer later present start k before log0 judge0 next0 [] log0 judge0 next0
   Note : (es : List Entry) (log : List Effect) (judge : J) (next : ℕ) (e : Entry) → TellsNeither e → Account answer later present start k before log0 judge0 next0 es log judge next → Account answer later present start k before log0 judge0 next0 (es ++ e ∷ []) log judge next
-  Judge : (es : List Entry) (log : List Effect) (judge : J) (next i : ℕ) (name : List ℕ) (held : Held) (judged : Judged) (on : Bool) (ss : List Standing) → IsDevice k i name held judged → IsProbed start k name held.0 i on → AreLeft before es ss → Account answer later present start k before log0 judge0 next0 es log judge next → Account answer later present start k before log0 judge0 next0 (es ++ entry.Judged next name held (answer judge judged (is_none (parent_of name)) present on ss).0 (answer judge judged (is_none (parent_of name)) present on ss).1 ∷ []) log (later judge judged (is_none (parent_of name)) present on ss) (next + 1)
+  Judge : (es : List Entry) (log : List Effect) (judge : J) (next i : ℕ) (name : List ℕ) (held : Held) (judged : Judged) (on : Bool) (ss : List Standing) → IsDevice k i name held judged → IsProbed start k name held.0 i on → AreLeft before es ss → AreMarkedSoFar before es ss → Account answer later present start k before log0 judge0 next0 es log judge next → Account answer later present start k before log0 judge0 next0 (es ++ entry.Judged next name held (answer judge judged (is_none (parent_of name)) present on ss).0 (answer judge judged (is_none (parent_of name)) present on ss).1 ∷ []) log (later judge judged (is_none (parent_of name)) present on ss) (next + 1)
   Had : (es : List Entry) (log : List Effect) (judge : J) (next i number : ℕ) (name : List ℕ) (held : Held) (judged : Judged) (verdict : Target) (what : Write) (outcome : Wrote) → IsDevice k i name held judged → HasVerdict before es number name held verdict → CallsFor verdict what → IsFirst before es number what → MayHave outcome → Account answer later present start k before log0 judge0 next0 es log judge next → Account answer later present start k before log0 judge0 next0 (es ++ wrote_entries number name what outcome) (log ++ record { device = i; write = what } ∷ []) judge next
   Had_not : (es : List Entry) (log : List Effect) (judge : J) (next i number : ℕ) (name : List ℕ) (held : Held) (judged : Judged) (verdict : Target) (what : Write) (outcome : Wrote) → IsDevice k i name held judged → HasVerdict before es number name held verdict → CallsFor verdict what → IsFirst before es number what → MayHaveNot outcome → Account answer later present start k before log0 judge0 next0 es log judge next → Account answer later present start k before log0 judge0 next0 (es ++ wrote_entries number name what outcome) log judge next
   Went : (es : List Entry) (log : List Effect) (judge : J) (next i number : ℕ) (name : List ℕ) (held : Held) (judged : Judged) (verdict : Target) → IsDevice k i name held judged → IsGone k i → HasVerdict before es number name held verdict → Account answer later present start k before log0 judge0 next0 es log judge next → Account answer later present start k before log0 judge0 next0 (es ++ entry.Gone number name ∷ []) log judge next
@@ -186,10 +200,6 @@ pub record IsFair {J : Type 0} (answer : Answers J) (later : Laters J) (present 
   pub gone : AllDistinct (gone_of rest)
   pub once : (i a b : ℕ) → IsJudged l rest a i → IsJudged l rest b i → a ≡ b
   pub unjudged : (i a : ℕ) → HasStanding l w.standings i → IsJudged l rest a i → ⊥
-
--- the name is told as unsettled
-abbrev pub IsNamed : List Entry → List ℕ → Type 0
-IsNamed entries name = (why : Fault) × Has entries (entry.Unsettled name why)
 
 -- the device has a standing, and its value is the one that the verdict wants; and where it is rejected, the log has its removal
 pub record IsAsJudged (k : Kernel) (ss : List Standing) (i : ℕ) : Type 0 where
