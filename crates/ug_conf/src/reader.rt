@@ -57,6 +57,13 @@ impl SettingsReader {
         }
     }
 
+    /// The settings of the lines so far, where more may come.
+    pub fn so_far(&self) -> &Settings
+        ensures { result.now ≡ self.now.draft.0 }
+    {
+        &self.settings
+    }
+
     /// The settings of the lines so far.
     pub fn finish(self) -> Settings
         ensures { result ≡ self.draft.0 }

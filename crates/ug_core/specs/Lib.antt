@@ -1,3 +1,4 @@
+pub mod Settings
 pub mod Policy
 pub mod Verdicts
 pub mod Event

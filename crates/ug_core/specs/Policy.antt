@@ -22,6 +22,11 @@ use Rattle.ug_policy.specs.Edits.{new_entry}
 use Rattle.ug_policy.specs.Matching.{answer_by}
 use Rattle.ug_table.specs.Allowed.{allowed_records}
 use Rattle.ug_table.specs.State.{Answers, Laters}
+use Rattle.ug_conf.specs.declared.settings.Inserted.{Inserted}
+use Rattle.ug_conf.specs.declared.settings.Inserted.TheVariants as inserted
+use Rattle.ug_conf.specs.declared.settings.Present.{Present}
+use Rattle.ug_conf.specs.declared.settings.Present.TheVariants as present
+use Rattle.ug_core.specs.declared.classes.Classes.{Classes}
 use Rattle.ug_core.specs.declared.policy.Policy.{Policy}
 
 -- the words that a generator gives
@@ -36,8 +41,10 @@ seeded seed = stream_from (of_seed seed)
 abbrev pub clock_of : TimeZone → ℕ → ℕ
 clock_of zone second = local_second_at zone second
 
--- what judges: the rules in order, the id of the next one, the local clock, when a device is judged, and the words to come
+-- what judges: the settings for each class of devices, the rules in order, the id of the next one, the local clock, when a device is
+-- judged, and the words to come
 pub record Judging : Type 0 where
+  pub classes : Classes
   pub rules : List RuleEntry
   pub next : ℕ
   pub clock : ℕ → ℕ
@@ -46,7 +53,7 @@ pub record Judging : Type 0 where
 
 -- what a policy judges by
 abbrev pub judging_of : Policy → Judging
-judging_of p = record { rules = p.rules.entries; next = p.rules.next; clock = clock_of p.zone; ctx = p.ctx; stream = stream_from p.rng }
+judging_of p = record { classes = p.classes; rules = p.rules.entries; next = p.rules.next; clock = clock_of p.zone; ctx = p.ctx; stream = stream_from p.rng }
 
 -- a moment, with its second of the local day; behind the last second that the calendar has, that one counts
 abbrev pub context_at : (ℕ → ℕ) → Moment → Context
@@ -60,52 +67,78 @@ as_given rules = map (λ e. new_entry e.id e.rule e.temporary) rules
 abbrev pub found_for : Judging → List DeviceRecord → DeviceRecord → Found
 found_for p records dev = find_decider dev p.ctx records p.rules p.stream
 
+-- what is done with a device that is inserted
+abbrev pub choice_of : Inserted → Present
+choice_of inserted.Block = present.Block
+choice_of inserted.Reject = present.Reject
+choice_of inserted.Apply = present.Apply
+
+-- what the settings say of a root hub or of another device, that was or wasn't there at the start
+abbrev pub choice_for : Classes → Bool → Bool → Present
+choice_for classes true true = classes.present_controller
+choice_for classes false true = classes.present_device
+choice_for classes controller false = choice_of classes.inserted
+
+abbrev pub cause_for : Bool → Cause
+cause_for true = cause.Present
+cause_for false = cause.Inserted
+
 -- what it had is kept
 abbrev pub kept : Bool → Target × Cause
 kept on = if on then (target.Allow, cause.Keep) else (target.Block, cause.Keep)
 
--- a root hub that was there at the start keeps what it had; the rules decide on others, which are blocked where none does
-abbrev pub by_class : Found → Bool → Bool → Bool → Target × Cause
-by_class found true true on = kept on
-by_class found true false on = answer_by target.Block (decider found)
-by_class found false present on = answer_by target.Block (decider found)
+-- the settings decide, or what it had does, or the rules, and the implicit target where none of them does
+abbrev pub by_choice : Present → Bool → Bool → Target → Found → Target × Cause
+by_choice present.Allow was on implicit found = (target.Allow, cause_for was)
+by_choice present.Block was on implicit found = (target.Block, cause_for was)
+by_choice present.Reject was on implicit found = (target.Reject, cause_for was)
+by_choice present.Keep was on implicit found = kept on
+by_choice present.Apply was on implicit found = answer_by implicit (decider found)
+
+abbrev pub by_class : Classes → Found → Bool → Bool → Bool → Target × Cause
+by_class classes found controller was on = by_choice (choice_for classes controller was) was on classes.implicit found
 
 -- a malformed device is blocked
 abbrev pub verdict_of : Judging → List DeviceRecord → Judged → Bool → Bool → Bool → Target × Cause
-verdict_of p records (judged.Malformed kind place) controller present on = (target.Block, cause.Malformed kind place)
-verdict_of p records (judged.Good dev) controller present on = by_class (found_for p records dev) controller present on
+verdict_of p records (judged.Malformed kind place) controller was on = (target.Block, cause.Malformed kind place)
+verdict_of p records (judged.Good dev) controller was on = by_class p.classes (found_for p records dev) controller was on
+
+-- the rules are asked
+abbrev pub is_apply : Present → Bool
+is_apply present.Allow = false
+is_apply present.Block = false
+is_apply present.Reject = false
+is_apply present.Keep = false
+is_apply present.Apply = true
+
+abbrev pub asks : Classes → Bool → Bool → Bool
+asks classes controller was = is_apply (choice_for classes controller was)
 
 -- where the rules are asked, those that are evaluated have the moment in their histories
-abbrev pub rules_by_class : List RuleEntry → Found → DeviceRecord → Moment → Bool → Bool → List RuleEntry
-rules_by_class rules found dev moment true true = rules
-rules_by_class rules found dev moment true false = rules_judged dev moment found
-rules_by_class rules found dev moment false present = rules_judged dev moment found
+abbrev pub rules_if : Bool → List RuleEntry → Found → DeviceRecord → Moment → List RuleEntry
+rules_if asked rules found dev moment = if asked then rules_judged dev moment found else rules
 
 -- and their random conditions have taken their words
-abbrev pub stream_by_class : Stream → Found → DeviceRecord → Bool → Bool → Stream
-stream_by_class stream found dev true true = stream
-stream_by_class stream found dev true false = behind (words_taken dev (reached found)) stream
-stream_by_class stream found dev false present = behind (words_taken dev (reached found)) stream
+abbrev pub stream_if : Bool → Stream → Found → DeviceRecord → Stream
+stream_if asked stream found dev = if asked then behind (words_taken dev (reached found)) stream else stream
 
 abbrev pub later_of : Judging → List DeviceRecord → Judged → Bool → Bool → Judging
-later_of p records (judged.Malformed kind place) controller present = p
-later_of p records (judged.Good dev) controller present = record p {
-  rules = rules_by_class p.rules (found_for p records dev) dev p.ctx.moment controller present;
-  stream = stream_by_class p.stream (found_for p records dev) dev controller present;
+later_of p records (judged.Malformed kind place) controller was = p
+later_of p records (judged.Good dev) controller was = record p {
+  rules = rules_if (asks p.classes controller was) p.rules (found_for p records dev) dev p.ctx.moment;
+  stream = stream_if (asks p.classes controller was) p.stream (found_for p records dev) dev;
 }
 
-abbrev pub judgements_by_class : Found → DeviceRecord → Moment → Bool → Bool → List Judgement
-judgements_by_class found dev moment true true = []
-judgements_by_class found dev moment true false = judgement_found dev moment found ∷ []
-judgements_by_class found dev moment false present = judgement_found dev moment found ∷ []
+abbrev pub judgements_if : Bool → Found → DeviceRecord → Moment → List Judgement
+judgements_if asked found dev moment = if asked then judgement_found dev moment found ∷ [] else []
 
 -- the judgement by rules that a verdict is, where the rules are asked
 abbrev pub judgements_of : Judging → List DeviceRecord → Judged → Bool → Bool → List Judgement
-judgements_of p records (judged.Malformed kind place) controller present = []
-judgements_of p records (judged.Good dev) controller present = judgements_by_class (found_for p records dev) dev p.ctx.moment controller present
+judgements_of p records (judged.Malformed kind place) controller was = []
+judgements_of p records (judged.Good dev) controller was = judgements_if (asks p.classes controller was) (found_for p records dev) dev p.ctx.moment
 
 abbrev pub policy_answer : Answers Judging
-policy_answer p dev controller present on ss = verdict_of p (allowed_records ss) dev controller present on
+policy_answer p dev controller was on ss = verdict_of p (allowed_records ss) dev controller was on
 
 abbrev pub policy_later : Laters Judging
-policy_later p dev controller present on ss = later_of p (allowed_records ss) dev controller present
+policy_later p dev controller was on ss = later_of p (allowed_records ss) dev controller was

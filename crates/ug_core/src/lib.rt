@@ -2,6 +2,7 @@
 #![tactic(auto)]
 
 mod calls;
+mod classes;
 mod daemon;
 mod laws;
 mod policy;
@@ -9,6 +10,7 @@ mod report;
 #[cfg(test)]
 mod tests;
 
+pub use classes::Classes;
 pub use daemon::{Daemon, Event};
 pub use laws::verdict_law;
 pub use policy::Policy;

@@ -3,19 +3,22 @@ ghost use Rattle.std.specs.Prelude.{◌≡◌, ◌<◌, ◌+◌, ◌-◌, ◌^�
 ghost use Rattle.ug_policy.specs.Deciding.{find_decider};
 ghost use Rattle.ug_policy.specs.Edits.{new_entry};
 ghost use Rattle.ug_table.specs.Allowed.{allowed_records};
-ghost use Rattle.ug_core.specs.Policy.{Judging, by_class, clock_of, context_at, judging_of, kept, policy_answer, policy_later, rules_by_class, seeded, stream_by_class, stream_from};
+ghost use Rattle.ug_core.specs.Policy.{Judging, asks, by_class, clock_of, context_at, judging_of, policy_answer, policy_later, rules_if, seeded, stream_from, stream_if};
 
+use crate::classes::{Class, Classes, cause_for, keep};
 use jiff::tz::TimeZone;
 use rand_chacha::ChaCha20Rng;
 use rand_core::SeedableRng;
 use ug_cond::{Allowed, Context, local_second};
+use ug_conf::Present;
 use ug_policy::RuleList;
 use ug_table::{Judge, Table};
 use ug_types::{After, Cause, DeviceRecord, Judged, Moment, NoMemory, Query, Rule, Target};
 
-/// The rules in order, the local time zone, when devices are judged, and the generator of random words.
+/// The settings for classes of devices, the rules in order, the local time zone, when devices are judged, and the generator of random words.
 #[derive(Drop)]
 pub struct Policy {
+    classes: Classes,
     rules: RuleList,
     zone: TimeZone<'static>,
     ctx: Context,
@@ -36,27 +39,9 @@ impl<'a> Allowed for AllowedIn<'a> {
     }
 }
 
-/// A root hub that was there at the start keeps what it had.
-fn keep(on: bool) -> (Target, Cause)
-    ensures { result ≡ kept on }
-{
-    if on {
-        (Target::Allow, Cause::Keep)
-    } else {
-        (Target::Block, Cause::Keep)
-    }
-}
-
-/// What a device is, beside its record: a root hub or not, there at the start or not, on or off.
-#[derive(Clone, Copy)]
-struct Class {
-    controller: bool,
-    present: bool,
-    on: bool,
-}
-
 /// The verdict on a device whose descriptors can be read.
 fn judge(
+    classes: Classes,
     rules: &mut RuleList,
     rng: &mut ChaCha20Rng,
     ctx: &Context,
@@ -64,16 +49,21 @@ fn judge(
     class: Class,
     table: &Table,
 ) -> (Target, Cause)
-    ensures answer { result ≡ by_class (find_decider device.now ctx.now (allowed_records table.now.standings.items) rules.old.entries (stream_from rng.old)) class.controller class.present class.on }
-    ensures rules { rules.new.entries ≡ rules_by_class rules.old.entries (find_decider device.now ctx.now (allowed_records table.now.standings.items) rules.old.entries (stream_from rng.old)) device.now ctx.now.moment class.controller class.present }
+    ensures answer { result ≡ by_class classes (find_decider device.now ctx.now (allowed_records table.now.standings.items) rules.old.entries (stream_from rng.old)) class.controller class.present class.on }
+    ensures rules { rules.new.entries ≡ rules_if (asks classes class.controller class.present) rules.old.entries (find_decider device.now ctx.now (allowed_records table.now.standings.items) rules.old.entries (stream_from rng.old)) device.now ctx.now.moment }
     ensures next { rules.new.next ≡ rules.old.next }
-    ensures words { stream_from rng.new ≡ stream_by_class (stream_from rng.old) (find_decider device.now ctx.now (allowed_records table.now.standings.items) rules.old.entries (stream_from rng.old)) device.now class.controller class.present }
+    ensures words { stream_from rng.new ≡ stream_if (asks classes class.controller class.present) (stream_from rng.old) (find_decider device.now ctx.now (allowed_records table.now.standings.items) rules.old.entries (stream_from rng.old)) device.now }
 {
-    if class.controller && class.present {
-        return keep(class.on);
+    match classes.choice_for(class) {
+        Present::Allow => (Target::Allow, cause_for(class.present)),
+        Present::Block => (Target::Block, cause_for(class.present)),
+        Present::Reject => (Target::Reject, cause_for(class.present)),
+        Present::Keep => keep(class.on),
+        Present::Apply => {
+            let allowed = AllowedIn { table };
+            rules.judge(device, ctx, &allowed, classes.implicit, rng)
+        }
     }
-    let allowed = AllowedIn { table };
-    rules.judge(device, ctx, &allowed, Target::Block, rng)
 }
 
 /// Puts a rule behind the others. There are fewer than 65,536, and an id is left.
@@ -91,11 +81,12 @@ fn append(rules: &mut RuleList, rule: Rule) -> Result<(), NoMemory>
 }
 
 impl Policy {
-    /// These rules, with the clock of that zone and the words of a seed of 32 bytes.
-    pub fn new(rules: RuleList, zone: TimeZone<'static>, seed: [u8; 32]) -> Policy
-        ensures { judging_of result ≡ record { rules = rules.entries; next = rules.next; clock = clock_of zone.entry; ctx = record { moment = record { 0 = 0 }; second = 0 }; stream = seeded seed } }
+    /// These settings and rules, with the clock of that zone and the words of a seed of 32 bytes.
+    pub fn new(classes: Classes, rules: RuleList, zone: TimeZone<'static>, seed: [u8; 32]) -> Policy
+        ensures { judging_of result ≡ record { classes = classes; rules = rules.entries; next = rules.next; clock = clock_of zone.entry; ctx = record { moment = record { 0 = 0 }; second = 0 }; stream = seeded seed } }
     {
         Policy {
+            classes,
             rules,
             zone,
             ctx: Context {
@@ -121,6 +112,13 @@ impl Policy {
         ensures err { OnErr result (judging_of self.new ≡ judging_of self.old) }
     {
         append(&mut self.rules, rule)
+    }
+
+    /// Verdicts go by these settings.
+    pub fn set_classes(&mut self, classes: Classes)
+        ensures { judging_of self.new ≡ record (judging_of self.old) { classes = classes } }
+    {
+        self.classes = classes;
     }
 
     /// The clock is that of the zone.
@@ -180,6 +178,7 @@ impl Judge for Policy {
                     on,
                 };
                 judge(
+                    self.classes,
                     &mut self.rules,
                     &mut self.rng,
                     &self.ctx,
