@@ -1,6 +1,6 @@
 -- What is written is the text of the journal, each effect is explained, numbers follow one another, and a script without
 -- failures names nobody and judges each device once.
-use Rattle.std.proofs.Common.{◌≡◌, ℕ, ◌+◌, Bool, true, false, not, is_none, ◌&&◌, ◌||◌, cond, nat_eq, nat_lt, List, [], ◌∷◌, ◌++◌, length, reverse, Option, Some, None, inl, inr, refl, sym, ◌∙◌, ap, subst, append_assoc, append-nil}
+use Rattle.std.proofs.Common.{◌≡◌, ℕ, ◌+◌, Bool, true, false, not, is_none, ◌&&◌, ◌||◌, cond, nat_eq, nat_lt, List, [], ◌∷◌, ◌++◌, length, reverse, Option, Some, None, Result, Ok, Err, inl, inr, refl, sym, ◌∙◌, ap, subst, append_assoc, append-nil}
 use Rattle.std.specs.Cmp.Lexicographic.{pointwise}
 use Rattle.std.specs.List.{list_any}
 use Rattle.ug_types.specs.Elements.{Has}
@@ -29,9 +29,13 @@ use Rattle.ug_core.specs.Event.{DaemonState, handling, has_numbers}
 use Rattle.ug_core.specs.Laws.{Handled}
 use Rattle.ug_lines.specs.Fold.{Fault, BadLine, Outcome, Writes, Refused, Stage, Going, Halted, is_within, stage_after, plays}
 use Rattle.ug_script.specs.declared.step.Step.{Step}
-use Rattle.ug_script.specs.declared.step.Step.TheVariants.{Skip, Rule, Seed, Zone, Plug, Unplug, Schedule, Fail, Sweep}
+use Rattle.ug_script.specs.declared.step.Step.TheVariants.{Skip, Rule, Conf, Seed, Zone, Plug, Unplug, Schedule, Fail, Sweep}
+use Rattle.ug_conf.specs.declared.fault.Fault as conf
+use Rattle.ug_conf.specs.Draft.{Draft, line_read}
+use Rattle.ug_conf.specs.Reader.{next_number}
+use Rattle.ug_core.specs.Settings.{classes_of}
 use Rattle.ug_script.specs.Grammar.{step_of_line}
-use Rattle.ug_script.specs.Replay.{Script, with_rule, header, fresh, terminated, lines_text, quiet, bad, seed_given, policy_of, is_reject, has_place, with_seed, with_zone, is_offset, with_devices, after_event, taken, taken_if, script_step}
+use Rattle.ug_script.specs.Replay.{Script, with_rule, header, fresh, terminated, lines_text, quiet, bad, seed_given, policy_of, has_place, is_setting, conf_read, with_classes, with_seed, with_zone, is_offset, with_devices, after_event, taken, taken_if, script_step}
 use Rattle.ug_sysfs.specs.declared.script.Failing.{Failing}
 use Rattle.ug_sysfs.specs.declared.script.Scheduled.{Scheduled}
 use Rattle.ug_script.specs.Schedule.{with_move, arranged}
@@ -86,7 +90,7 @@ kept_setup first q es text s t w setup standings next moves words h =
       since = h.since;
       setup = λ _. (none.0, nobody_stands);
       untaken = λ _. words;
-      later = record { rules = refl; next = refl; clock = refl; words = 0; stream = words };
+      later = record { classes = refl; rules = refl; next = refl; clock = refl; words = 0; stream = words };
       facts = record {
         judged = λ x a. absurd (subst (λ (v : List Standing). Has v x) nobody_stands a);
         explained = record { added = f.explained.added; log = f.explained.log; each = λ e a. absurd (explained_nowhere (policy_of s) first.kernel w.kernel e (subst (λ (v : List Entry). IsExplained (policy_of s) v first.kernel w.kernel e) none.0 (f.explained.each e a))) };
@@ -138,7 +142,7 @@ event_facts : (policy : Judging) (first : Kernel) (es : List Entry) (moment : Mo
 event_facts policy first es moment k l d e later since stood facts law =
     let v : State Judging = law.swept in
     let y : Entry = entry.End d.event in
-    let start : IsLater policy (event.begun d moment).judge = record { rules = later.rules; next = later.next; clock = later.clock; words = later.words; stream = later.stream } in
+    let start : IsLater policy (event.begun d moment).judge = record { classes = later.classes; rules = later.rules; next = later.next; clock = later.clock; words = later.words; stream = later.stream } in
     let at = swept_facts policy first es (not d.sweep.listed) k l (event.begun d moment) v d.event d.event moment start since stood facts law.law.fair in
     let framed_at : Facts policy first (es ++ (v.entries ++ y ∷ [])) l v.standings v.next = subst (λ (z : List Entry). Facts policy first (es ++ (z ++ y ∷ [])) l v.standings v.next) (sym law.law.fair.entries) at in
     subst (λ (z : State Judging). Facts policy first (es ++ z.entries) l z.standings z.next) (sym law.entries) framed_at
@@ -146,12 +150,12 @@ event_facts policy first es moment k l d e later since stood facts law =
 event_later : (policy : Judging) (moment : Moment) (k l : Kernel) (d e : DaemonState) → IsLater policy d.sweep.judge → Handled moment k d l e → IsLater policy e.sweep.judge
 event_later policy moment k l d e later law =
     let v : State Judging = law.swept in
-    let start : IsLater policy (event.begun d moment).judge = record { rules = later.rules; next = later.next; clock = later.clock; words = later.words; stream = later.stream } in
+    let start : IsLater policy (event.begun d moment).judge = record { classes = later.classes; rules = later.rules; next = later.next; clock = later.clock; words = later.words; stream = later.stream } in
     subst (λ (z : State Judging). IsLater policy z.judge) (sym law.entries) (judge_later policy (not d.sweep.listed) k l d.sweep.standings k.log (event.begun d moment).judge d.sweep.next law.law.fair.rest l.log v.judge v.next law.law.fair.account start)
 
 -- an event leaves the policy as the setup lines gave it
 policy_stays : (s t : Script) → t.seed ≡ s.seed → IsLater (policy_of s) t.daemon.sweep.judge → policy_of t ≡ policy_of s
-policy_stays s t seed h = λ i. record { rules = h.rules i; next = h.next i; clock = h.clock i; ctx = (policy_of s).ctx; stream = seeded (seed_given (seed i)) }
+policy_stays s t seed h = λ i. record { classes = h.classes i; rules = h.rules i; next = h.next i; clock = h.clock i; ctx = (policy_of s).ctx; stream = seeded (seed_given (seed i)) }
 
 event_kept : (first : World) (q : Type 0) (es : List Entry) (text : List ℕ) (moment : Moment) (s : Script) (w : World) → HoldsAfter (after_event s (event_of moment s w)) → Kept first q es text s w → KeptAfter first q es text (event_of moment s w).0.sweep.entries (after_event s (event_of moment s w))
 event_kept first q es text moment s w holds h =
@@ -258,6 +262,16 @@ kept_if : (first : World) (q : Type 0) (es : List Entry) (text : List ℕ) (new 
 kept_if first q es text new other true o p x y = x refl
 kept_if first q es text new other false o p x y = y refl
 
+kept_conf : (first : World) (q : Type 0) (es : List Entry) (text : List ℕ) (r : Result Draft conf.Fault) (s : Script) (w : World) → s.setup ≡ true → Kept first q es text s w → KeptAfter first q es text [] (conf_read r s w)
+kept_conf first q es text (Ok draft) s w setup h =
+    let t : Script = record s { settings = record { draft = draft; lines = next_number s.settings.lines }; daemon = with_classes (classes_of draft.0) s.daemon } in
+    kept_still first q es text (Some t, w) (kept_setup first q es text s t w setup refl refl refl (h.untaken setup) h)
+kept_conf first q es text (Err fault) s w setup h = tt
+
+kept_conf_if : (first : World) (q : Type 0) (es : List Entry) (text : List ℕ) (r : Result Draft conf.Fault) (s : Script) (w : World) (b : Bool) → (b ≡ true → s.setup ≡ true) → Kept first q es text s w → KeptAfter first q es text [] (cond b (conf_read r s w) (bad s w))
+kept_conf_if first q es text r s w true f h = kept_conf first q es text r s w (f refl) h
+kept_conf_if first q es text r s w false f h = tt
+
 abbrev IsQuiet : Option Step → Type 0
 IsQuiet step = is_quiet step ≡ true
 
@@ -281,7 +295,10 @@ step_kept : (first : World) (q : Type 0) (es : List Entry) (text : List ℕ) (st
 step_kept first q es text Skip s w h = weaker_after first q (q × (true ≡ true)) es text [] (quiet s w) (λ x. x.0) (kept_still first q es text (Some s, w) h)
 step_kept first q es text (Rule rule) s w h =
     let t : Script = record s { daemon = with_rule rule s.daemon } in
-    weaker_after first q (q × (true ≡ true)) es text [] (taken (Rule rule) s w) (λ x. x.0) (kept_setup_if first q es text s t w (s.setup && (not (is_reject rule.target) && has_place s.daemon)) (λ e. both s.setup (not (is_reject rule.target) && has_place s.daemon) e) refl refl refl h.untaken h)
+    weaker_after first q (q × (true ≡ true)) es text [] (taken (Rule rule) s w) (λ x. x.0) (kept_setup_if first q es text s t w (s.setup && has_place s.daemon) (λ e. both s.setup (has_place s.daemon) e) refl refl refl h.untaken h)
+step_kept first q es text (Conf line) s w h =
+    let r = line_read (next_number s.settings.lines) s.settings.draft line in
+    weaker_after first q (q × (true ≡ true)) es text [] (taken (Conf line) s w) (λ x. x.0) (kept_conf_if first q es text r s w (s.setup && is_setting line) (λ e. both s.setup (is_setting line) e) h)
 step_kept first q es text (Seed seed) s w h =
     let t : Script = record s { seed = Some seed; daemon = with_seed seed s.daemon } in
     weaker_after first q (q × (true ≡ true)) es text [] (taken (Seed seed) s w) (λ x. x.0) (kept_setup_if first q es text s t w (s.setup && is_none s.seed) (λ e. both s.setup (is_none s.seed) e) refl refl refl (λ e. refl) h)
@@ -310,7 +327,7 @@ kept_fresh first q h = record {
   since = grows_refl first.kernel;
   setup = λ e. (refl, refl);
   untaken = λ e. refl;
-  later = record { rules = refl; next = refl; clock = refl; words = 0; stream = refl };
+  later = record { classes = refl; rules = refl; next = refl; clock = refl; words = 0; stream = refl };
   facts = record {
     judged = λ x a. absurd a;
     explained = record { added = []; log = sym (append-nil first.kernel.log); each = λ e a. absurd a };

@@ -1,5 +1,5 @@
 -- Each line keeps the kernel sound and each standing of a device.
-use Rattle.std.proofs.Common.{◌≡◌, ℕ, ◌+◌, ◌++◌, Bool, true, false, not, is_none, ◌&&◌, if◌then◌else◌, nat_eq, nat_lt, List, [], ◌∷◌, length, Option, Some, None, refl, sym, ◌∙◌, subst}
+use Rattle.std.proofs.Common.{◌≡◌, ℕ, ◌+◌, ◌++◌, Bool, true, false, not, is_none, ◌&&◌, if◌then◌else◌, nat_eq, nat_lt, List, [], ◌∷◌, length, Option, Some, None, Result, Ok, Err, refl, sym, ◌∙◌, subst}
 use Rattle.std.specs.Cmp.Lexicographic.{pointwise}
 use Rattle.std.proofs.lemmas.Option.{same_Some}
 use Rattle.ug_types.specs.declared.verdict.Moment.{Moment}
@@ -32,9 +32,12 @@ use Rattle.ug_core.specs.Laws.{Handled, TellsEvent}
 use Rattle.ug_core.proofs.Failures.{event_tells, event_names}
 use Rattle.ug_lines.specs.Fold.{BadLine, Outcome, Writes, Refused, Stage, Going, Halted, is_within, stage_after, advance, plays}
 use Rattle.ug_script.specs.declared.step.Step.{Step}
-use Rattle.ug_script.specs.declared.step.Step.TheVariants.{Skip, Rule, Seed, Zone, Plug, Unplug, Schedule, Fail, Sweep}
+use Rattle.ug_script.specs.declared.step.Step.TheVariants.{Skip, Rule, Conf, Seed, Zone, Plug, Unplug, Schedule, Fail, Sweep}
+use Rattle.ug_conf.specs.declared.fault.Fault.{Fault}
+use Rattle.ug_conf.specs.Draft.{Draft, line_read}
+use Rattle.ug_conf.specs.Reader.{next_number}
 use Rattle.ug_script.specs.Grammar.{step_of_line}
-use Rattle.ug_script.specs.Replay.{Script, with_rule, header, fresh, quiet, bad, is_reject, has_place, with_seed, with_zone, is_offset, with_devices, after_event, taken, taken_if, script_step}
+use Rattle.ug_script.specs.Replay.{Script, with_rule, header, fresh, quiet, bad, has_place, is_setting, conf_read, with_seed, with_zone, is_offset, with_devices, after_event, taken, taken_if, script_step}
 use Rattle.ug_sysfs.specs.declared.script.Scheduled.{Scheduled}
 use Rattle.ug_script.specs.Schedule.{arranged}
 use Rattle.ug_script.specs.Laws.{event_of, Begins, faults_of, IsLawfulEvent, StaysLawful}
@@ -103,9 +106,14 @@ when : (b : Bool) (o p : Outcome (Option Script × World)) → HoldsAfter o → 
 when true o p x y = x
 when false o p x y = y
 
+conf_holds : (r : Result Draft Fault) (s : Script) (w : World) → HoldsIn (Some s, w) → HoldsAfter (conf_read r s w)
+conf_holds (Ok draft) s w h = h
+conf_holds (Err fault) s w h = h
+
 pub taken_holds : (step : Step) (s : Script) (w : World) → HoldsIn (Some s, w) → HoldsAfter (taken step s w)
 taken_holds Skip s w h = h
-taken_holds (Rule rule) s w h = when (s.setup && (not (is_reject rule.target) && has_place s.daemon)) (quiet (record s { daemon = with_rule rule s.daemon }) w) (bad s w) h h
+taken_holds (Rule rule) s w h = when (s.setup && has_place s.daemon) (quiet (record s { daemon = with_rule rule s.daemon }) w) (bad s w) h h
+taken_holds (Conf text) s w h = when (s.setup && is_setting text) (conf_read (line_read (next_number s.settings.lines) s.settings.draft text) s w) (bad s w) (conf_holds (line_read (next_number s.settings.lines) s.settings.draft text) s w h) h
 taken_holds (Seed seed) s w h = when (s.setup && is_none s.seed) (quiet (record s { seed = Some seed; daemon = with_seed seed s.daemon }) w) (bad s w) h h
 taken_holds (Zone offset) s w h = when (s.setup && (not s.zoned && is_offset offset)) (quiet (record s { zoned = true; daemon = with_zone offset s.daemon }) w) (bad s w) h h
 taken_holds (Plug device) s w h = record {

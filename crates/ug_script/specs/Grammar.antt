@@ -6,7 +6,7 @@ use Rattle.ug_kernel.specs.declared.device.Device.{Device}
 use Rattle.ug_rule.specs.declared.fault.Fault.{Fault}
 use Rattle.ug_rule.specs.Rules.{rule_read}
 use Rattle.ug_script.specs.declared.step.Step.{Step}
-use Rattle.ug_script.specs.declared.step.Step.TheVariants.{Skip, Rule, Seed, Zone, Plug, Unplug, Schedule, Fail, Sweep}
+use Rattle.ug_script.specs.declared.step.Step.TheVariants.{Skip, Rule, Conf, Seed, Zone, Plug, Unplug, Schedule, Fail, Sweep}
 use Rattle.ug_script.specs.declared.step.StepFault.{StepFault}
 use Rattle.ug_script.specs.declared.step.StepFault.TheVariants.{Bad, Memory}
 use Rattle.ug_script.specs.Plugs.{device_of}
@@ -35,6 +35,7 @@ zone_step (Some offset) = Some (Zone offset)
 unfoldable pub setup_step : List ℕ → Option Step
 setup_step line =
     if starts_with nat_eq line (codes "rule ") then step_of_rule (rule_read (drop 5 line))
+    else if starts_with nat_eq line (codes "conf ") then Some (Conf (drop 5 line))
     else if starts_with nat_eq line (codes "seed ") then seed_step (seed_of (drop 5 line))
     else if starts_with nat_eq line (codes "zone ") then zone_step (offset_of (drop 5 line))
     else None

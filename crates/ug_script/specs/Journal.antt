@@ -24,7 +24,7 @@ use Rattle.ug_core.specs.Verdicts.{IsLater, IsVerdict}
 use Rattle.ug_core.specs.Event.{DaemonState, has_numbers}
 use Rattle.ug_lines.specs.Fold.{Outcome, Writes, Refused, Going, plays}
 use Rattle.ug_script.specs.declared.step.Step.{Step}
-use Rattle.ug_script.specs.declared.step.Step.TheVariants.{Skip, Rule, Seed, Zone, Plug, Unplug, Schedule, Fail, Sweep}
+use Rattle.ug_script.specs.declared.step.Step.TheVariants.{Skip, Rule, Conf, Seed, Zone, Plug, Unplug, Schedule, Fail, Sweep}
 use Rattle.ug_script.specs.Grammar.{step_of_line}
 use Rattle.ug_script.specs.Replay.{Script, policy_of, lines_text, script_step}
 use Rattle.ug_script.specs.Laws.{event_of}
@@ -34,6 +34,7 @@ abbrev pub noted_by : Option Step → Script → World → List Entry
 noted_by None s w = []
 noted_by (Some Skip) s w = []
 noted_by (Some (Rule rule)) s w = []
+noted_by (Some (Conf text)) s w = []
 noted_by (Some (Seed seed)) s w = []
 noted_by (Some (Zone offset)) s w = []
 noted_by (Some (Plug device)) s w = []
@@ -124,6 +125,7 @@ abbrev pub is_quiet : Option Step → Bool
 is_quiet None = true
 is_quiet (Some Skip) = true
 is_quiet (Some (Rule rule)) = true
+is_quiet (Some (Conf text)) = true
 is_quiet (Some (Seed seed)) = true
 is_quiet (Some (Zone offset)) = true
 is_quiet (Some (Plug device)) = true

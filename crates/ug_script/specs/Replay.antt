@@ -1,11 +1,9 @@
 -- What each line of a script writes, and what it leaves.
-use Rattle.std.specs.Prelude.{◌≡◌, ℕ, ◌+◌, ◌-◌, ◌^◌, ℤ, pos, neg_ℤ, ◌+ℤ◌, int_le, unsigned_abs, replicate, Bool, true, false, not, is_none, ◌&&◌, nat_lt, nat_eq, if◌then◌else◌, List, [], ◌∷◌, ◌++◌, length, codes, decimal, Option, Some, None, Result, Ok, Err, flat_map}
+use Rattle.std.specs.Prelude.{◌≡◌, ℕ, ◌+◌, ◌-◌, ◌^◌, ℤ, pos, neg_ℤ, ◌+ℤ◌, int_le, unsigned_abs, replicate, Bool, true, false, not, is_none, ◌&&◌, ◌||◌, nat_lt, nat_eq, if◌then◌else◌, List, [], ◌∷◌, ◌++◌, length, codes, decimal, Option, Some, None, Result, Ok, Err, flat_map, find}
 use Rattle.std.specs.Cmp.Lexicographic.{pointwise}
 use Rattle.std.specs.Int.{int_rem_euclid}
 use Rattle.ug_types.specs.declared.rule.Rule as types
 use Rattle.ug_types.specs.declared.verdict.Moment.{Moment}
-use Rattle.ug_types.specs.declared.verdict.Target.{Target}
-use Rattle.ug_types.specs.declared.verdict.Target.TheVariants.{Allow, Block, Reject}
 use Rattle.ug_kernel.specs.declared.device.Device.{Device}
 use Rattle.ug_sysfs.specs.Devices.{plugged, unplugged}
 use Rattle.ug_sysfs.specs.World.{World, begun, over}
@@ -14,30 +12,37 @@ use Rattle.ug_audit.specs.Lines.{entry_line}
 use Rattle.ug_play.specs.Play.{play, tells_memory}
 use Rattle.ug_policy.specs.declared.entry.RuleEntry.{RuleEntry}
 use Rattle.ug_policy.specs.Edits.{new_entry}
+use Rattle.ug_conf.specs.declared.fault.Fault as conf
+use Rattle.ug_conf.specs.Settings.{defaults}
+use Rattle.ug_conf.specs.Draft.{Draft, line_read}
+use Rattle.ug_conf.specs.Reader.{Progress, next_number}
+use Rattle.ug_core.specs.declared.classes.Classes.{Classes}
+use Rattle.ug_core.specs.Settings.{classes_of}
 use Rattle.ug_core.specs.Policy.{Judging, as_given, seeded}
 use Rattle.ug_core.specs.Event.{DaemonState, daemon_of, handling, has_numbers}
 use Rattle.ug_lines.specs.Fold.{Outcome, Writes, Refused, BadLine}
 use Rattle.ug_script.specs.declared.runner.Runner.{Runner}
 use Rattle.ug_script.specs.declared.running.Running.{Running}
 use Rattle.ug_script.specs.declared.step.Step.{Step}
-use Rattle.ug_script.specs.declared.step.Step.TheVariants.{Skip, Rule, Seed, Zone, Plug, Unplug, Schedule, Fail, Sweep}
+use Rattle.ug_script.specs.declared.step.Step.TheVariants.{Skip, Rule, Conf, Seed, Zone, Plug, Unplug, Schedule, Fail, Sweep}
 use Rattle.ug_script.specs.declared.step.StepFault.{StepFault}
 use Rattle.ug_script.specs.declared.step.StepFault.TheVariants.{Bad, Memory}
 use Rattle.ug_sysfs.specs.declared.script.Scheduled.{Scheduled}
 use Rattle.ug_script.specs.Grammar.{step_of_line}
 use Rattle.ug_script.specs.Schedule.{with_move, arranged}
 
--- A script whose first line was read: whether rules may still come, the seed if one was given, whether a zone was, the moves that
--- are scheduled for the next event, the last first, and the daemon.
+-- A script whose first line was read: whether rules may still come, the settings so far, the seed if one was given, whether a zone
+-- was, the moves that are scheduled for the next event, the last first, and the daemon.
 pub record Script : Type 0 where
   pub setup : Bool
+  pub settings : Progress
   pub seed : Option (List ℕ)
   pub zoned : Bool
   pub moves : List Scheduled
   pub daemon : DaemonState
 
 abbrev pub script_of : Running → Script
-script_of r = record { setup = r.setup; seed = r.seed; zoned = r.zoned; moves = r.schedule; daemon = daemon_of r.daemon }
+script_of r = record { setup = r.setup; settings = r.settings; seed = r.seed; zoned = r.zoned; moves = r.schedule; daemon = daemon_of r.daemon }
 
 abbrev pub script_in : Option Running → Option Script
 script_in None = None
@@ -58,11 +63,12 @@ no_seed = replicate 32 0
 abbrev pub fresh : Script
 fresh = record {
   setup = true;
+  settings = record { draft = (defaults, []); lines = 0 };
   seed = None;
   zoned = false;
   moves = [];
   daemon = record {
-    sweep = record { standings = []; next = 1; listed = false; judge = record { rules = []; next = 1; clock = clock_ahead (pos 0); ctx = record { moment = record { 0 = 0 }; second = 0 }; stream = seeded no_seed }; entries = [] };
+    sweep = record { standings = []; next = 1; listed = false; judge = record { classes = classes_of defaults; rules = []; next = 1; clock = clock_ahead (pos 0); ctx = record { moment = record { 0 = 0 }; second = 0 }; stream = seeded no_seed }; entries = [] };
     event = 1;
   };
 }
@@ -89,9 +95,10 @@ abbrev pub seed_given : Option (List ℕ) → List ℕ
 seed_given None = no_seed
 seed_given (Some seed) = seed
 
--- the policy that the setup lines gave: the rules without histories, the clock, and all words of the seed
+-- the policy that the setup lines gave: the settings, the rules without histories, the clock, and all words of the seed
 abbrev pub policy_of : Script → Judging
 policy_of s = record {
+  classes = s.daemon.sweep.judge.classes;
   rules = as_given s.daemon.sweep.judge.rules;
   next = s.daemon.sweep.judge.next;
   clock = s.daemon.sweep.judge.clock;
@@ -109,21 +116,36 @@ with_rule rule d = record d {
   };
 }
 
-abbrev pub is_reject : Target → Bool
-is_reject Allow = false
-is_reject Block = false
-is_reject Reject = true
-
 -- there are fewer than 65,536 rules, and an id is left
 abbrev pub has_place : DaemonState → Bool
 has_place d = nat_lt (length d.sweep.judge.rules) 65536 && nat_lt d.sweep.judge.next (2 ^ 64 - 1)
 
 -- one rule more, while rules may come
 abbrev pub rule_step : types.Rule → Script → World → Outcome (Option Script × World)
-rule_step rule s w = if s.setup && (not (is_reject rule.target) && has_place s.daemon) then quiet (record s { daemon = with_rule rule s.daemon }) w else bad s w
+rule_step rule s w = if s.setup && has_place s.daemon then quiet (record s { daemon = with_rule rule s.daemon }) w else bad s w
 
 abbrev pub with_judge : Judging → DaemonState → DaemonState
 with_judge judge d = record d { sweep = record d.sweep { judge = judge } }
+
+-- neither blank nor a comment
+abbrev pub begins_setting : Option ℕ → Bool
+begins_setting None = false
+begins_setting (Some b) = not (nat_eq b 35)
+
+abbrev pub is_setting : List ℕ → Bool
+is_setting text = begins_setting (find (λ b. not (nat_eq b 32 || nat_eq b 9)) text)
+
+-- verdicts go by these settings
+abbrev pub with_classes : Classes → DaemonState → DaemonState
+with_classes classes d = with_judge (record d.sweep.judge { classes = classes }) d
+
+abbrev pub conf_read : Result Draft conf.Fault → Script → World → Outcome (Option Script × World)
+conf_read (Ok draft) s w = quiet (record s { settings = record { draft = draft; lines = next_number s.settings.lines }; daemon = with_classes (classes_of draft.0) s.daemon }) w
+conf_read (Err fault) s w = bad s w
+
+-- one settings line, while rules may come
+abbrev pub conf_taken : List ℕ → Script → World → Outcome (Option Script × World)
+conf_taken text s w = if s.setup && is_setting text then conf_read (line_read (next_number s.settings.lines) s.settings.draft text) s w else bad s w
 
 -- the words are those of that seed
 abbrev pub with_seed : List ℕ → DaemonState → DaemonState
@@ -163,6 +185,7 @@ sweep_step moment s w = if has_numbers s.daemon w.faults 0 then after_event s (p
 abbrev pub taken : Step → Script → World → Outcome (Option Script × World)
 taken Skip s w = quiet s w
 taken (Rule rule) s w = rule_step rule s w
+taken (Conf text) s w = conf_taken text s w
 taken (Seed seed) s w = seed_taken seed s w
 taken (Zone offset) s w = zone_taken offset s w
 taken (Plug device) s w = quiet (record s { setup = false }) (with_devices (plugged device w.kernel.devices) w)

@@ -1,11 +1,12 @@
 // A script whose first line was read.
-ghost use Rattle.std.specs.Prelude.{◌≡◌, ◌≤◌, ◌&&◌, true, not, Some, IsTrue, IfOk};
+ghost use Rattle.std.specs.Prelude.{◌≡◌, ◌≤◌, ◌&&◌, ◌||◌, ℕ, List, Option, find, nat_eq, true, not, Some, IsTrue, IfOk};
 ghost use Rattle.ug_types.specs.Ends.{Rose};
 ghost use Rattle.ug_lines.specs.Runs.{Steps};
 ghost use Rattle.ug_play.specs.Play.{IsPlayed};
 ghost use Rattle.ug_core.specs.Event.{daemon_of, handling, has_numbers};
 ghost use Rattle.ug_core.specs.Policy.{clock_of, judging_of};
-ghost use Rattle.ug_sysfs.specs.World.{begun};
+ghost use Rattle.ug_conf.specs.Settings.{defaults};
+ghost use Rattle.ug_sysfs.specs.World.{World, begun};
 ghost use Rattle.ug_script.specs.Replay as replay;
 ghost use Rattle.ug_script.specs.Replay.{fresh, script_of, sweep_step, taken, tells};
 
@@ -14,38 +15,31 @@ use crate::step::Step;
 use crate::text::{put, tells_memory, text_of};
 use jiff::tz::{Offset, TimeZone};
 use std::alloc::Global;
-use ug_core::{Daemon, Event, Policy};
+use ug_conf::{LineFault, Settings, SettingsReader};
+use ug_core::{Classes, Daemon, Event, Policy};
 use ug_lines::Ran;
 use ug_policy::RuleList;
 use ug_sysfs::{SimKernel, Sysfs};
-use ug_types::{Moment, NoMemory, Rule, Sink, Target};
+use ug_types::{Moment, NoMemory, Rule, Sink};
 
-/// Whether rules may still come, the seed if one was given, whether a zone was, what is scheduled for the next event, and
+/// Whether rules may still come, the settings so far, the seed if one was given, whether a zone was, what is scheduled for the next event, and
 /// the daemon.
 #[derive(Drop)]
 pub struct Running {
     pub setup: bool,
+    pub settings: SettingsReader,
     pub seed: Option<[u8; 32]>,
     pub zoned: bool,
     pub schedule: Schedule,
     pub daemon: Daemon,
 }
 
-fn is_reject(target: Target) -> bool
-    ensures { result ≡ replay.is_reject target }
+/// These settings, no rules, the clock of UTC, and the words of a seed of 32 bytes 0.
+fn first_policy(alloc: Global, settings: &Settings) -> Policy
+    ensures { settings.now ≡ defaults → judging_of result ≡ fresh.daemon.sweep.judge }
 {
-    match target {
-        Target::Allow => false,
-        Target::Block => false,
-        Target::Reject => true,
-    }
-}
-
-/// No rules, the clock of UTC, and the words of a seed of 32 bytes 0.
-fn no_rules(alloc: Global) -> Policy
-    ensures { judging_of result ≡ fresh.daemon.sweep.judge }
-{
-    Policy::new(RuleList::new(alloc), zone_ahead(0), [0; 32])
+    let rules = RuleList::new(alloc);
+    Policy::new(Classes::of(settings), rules, zone_ahead(0), [0; 32])
 }
 
 /// The zone whose clocks are always so many seconds ahead of UTC, less than a day.
@@ -63,6 +57,23 @@ fn is_offset(seconds: i32) -> bool
     ensures { result ≡ replay.is_offset seconds }
 {
     -86399 <= seconds && seconds <= 86399
+}
+
+/// The first byte that is neither a space nor a tab.
+fn first_byte(text: &[u8]) -> Option<u8>
+    ensures { result ≡ find (λ b. not (nat_eq b 32 || nat_eq b 9)) text.now }
+{
+    text.iter().copied().find(|b| *b != b' ' && *b != b'\t')
+}
+
+/// Whether a line of settings is neither blank nor a comment.
+fn is_setting(text: &[u8]) -> bool
+    ensures { result ≡ replay.is_setting text.now }
+{
+    match first_byte(text) {
+        None => false,
+        Some(b) => b != b'#',
+    }
 }
 
 /// A rule that may not stand there.
@@ -84,19 +95,42 @@ impl Running {
     pub fn start(alloc: Global) -> Result<Running, NoMemory>
         ensures { IfOk result (λ r. script_of r ≡ fresh) }
     {
+        let settings = SettingsReader::new(alloc)?;
+        let policy = first_policy(alloc, settings.so_far());
         Ok(Running {
             setup: true,
+            settings,
             seed: None,
             zoned: false,
             schedule: Schedule::new(alloc),
-            daemon: Daemon::start(alloc, no_rules(alloc), 1)?,
+            daemon: Daemon::start(alloc, policy, 1)?,
         })
     }
 
-    fn takes(&self, rule: &Rule) -> bool
-        ensures { result ≡ (self.now.setup && (not (replay.is_reject rule.now.target) && replay.has_place (daemon_of self.now.daemon))) }
+    fn takes_rules(&self) -> bool
+        ensures { result ≡ (self.now.setup && replay.has_place (daemon_of self.now.daemon)) }
     {
-        self.setup && !is_reject(rule.target) && self.daemon.policy.has_place()
+        self.setup && self.daemon.policy.has_place()
+    }
+
+    /// Takes a line of settings, and writes nothing.
+    fn configure(&mut self, text: &[u8]) -> Ran
+        ensures silent { ¬ (result ≡ Ran.SinkFailed) }
+        ensures ran { (w : World) (held : Option (List ℕ)) → Steps (replay.conf_taken text.now (script_of self.old) w) (Some (script_of self.new), w) held held result }
+    {
+        if !self.setup || !is_setting(text) {
+            return Ran::Bad;
+        }
+        match self.settings.line(text) {
+            Ok(()) => {
+                let classes = Classes::of(self.settings.so_far());
+                let daemon = &mut self.daemon;
+                daemon.policy.set_classes(classes);
+                Ran::Done
+            }
+            Err(LineFault::Bad(_)) => Ran::Bad,
+            Err(LineFault::Memory) => Ran::Memory,
+        }
     }
 
     fn sweep<K: Sink>(
@@ -144,7 +178,7 @@ impl Running {
         match step {
             Step::Skip => Ran::Done,
             Step::Rule(rule) => {
-                if !self.takes(&rule) {
+                if !self.takes_rules() {
                     return refuse(rule);
                 }
                 let daemon = &mut self.daemon;
@@ -153,6 +187,7 @@ impl Running {
                     Err(_) => Ran::Memory,
                 }
             }
+            Step::Conf(text) => self.configure(text.bytes()),
             Step::Seed(seed) => {
                 if !self.setup || self.seed.is_some() {
                     return Ran::Bad;

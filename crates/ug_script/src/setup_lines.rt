@@ -1,4 +1,4 @@
-// Lines that stand before all others: rules, a seed and a time zone.
+// Lines that stand before all others: rules, settings, a seed and a time zone.
 ghost use Rattle.std.specs.Prelude.{◌≡◌, ◌≤◌, Some};
 ghost use Rattle.ug_rule.specs.Rules.{rule_read};
 ghost use Rattle.ug_script.specs.Grammar as grammar;
@@ -9,6 +9,7 @@ ghost use Rattle.ug_script.specs.Words.{Parses, offset_of, seed_of, signed_by, w
 use crate::step::{Step, StepFault};
 use std::alloc::Global;
 use ug_rule::{RuleFault, parse_rule};
+use ug_types::Text;
 
 /// What stands behind `rule `, read as usbguard-rules.conf(5) says.
 fn rule_line(alloc: Global, text: &[u8]) -> Result<Step, StepFault>
@@ -105,7 +106,8 @@ fn seed_line(text: &[u8]) -> Option<Step>
     }
 }
 
-/// Reads a line that stands before all others. `rule` takes a rule of usbguard-rules.conf(5), `seed` 64 hexadecimal digits,
+/// Reads a line that stands before all others. `rule` takes a rule of usbguard-rules.conf(5), `conf` a line, which is read
+/// when it is taken, `seed` 64 hexadecimal digits,
 /// `zone` an offset from UTC as `+HH:MM` or `-HH:MM`, hours to 23.
 #[tactic(auto, unfolding(crate::specs::Grammar::setup_step))]
 pub fn setup_line(alloc: Global, line: &[u8]) -> Result<Step, StepFault>
@@ -113,6 +115,12 @@ pub fn setup_line(alloc: Global, line: &[u8]) -> Result<Step, StepFault>
 {
     if line.starts_with(b"rule ") {
         return rule_line(alloc, &line[5..]);
+    }
+    if line.starts_with(b"conf ") {
+        return match Text::of(alloc, &line[5..]) {
+            Ok(text) => Ok(Step::Conf(text)),
+            Err(_) => Err(StepFault::Memory),
+        };
     }
     if line.starts_with(b"seed ") {
         return seed_line(&line[5..]).ok_or(StepFault::Bad);

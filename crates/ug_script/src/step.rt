@@ -1,6 +1,6 @@
 // What a line of a script asks for.
 use ug_sysfs::{Device, Failing, Scheduled};
-use ug_types::{Moment, NodeName, Rule};
+use ug_types::{Moment, NodeName, Rule, Text};
 
 /// One line's step.
 #[derive(Drop)]
@@ -9,6 +9,8 @@ pub enum Step {
     Skip,
     /// One more rule behind those before.
     Rule(Rule),
+    /// A line of settings: usbguard-daemon.conf(5).
+    Conf(Text),
     /// The seed of random words.
     Seed([u8; 32]),
     /// How many seconds local clocks are ahead of UTC.
