@@ -63,7 +63,7 @@ pub record WasJudged (rules : List IdRule) (entries : List Entry) (first k : Ker
   pub told : Has entries (entry.Judged number name held verdict cause)
 
 -- The effect is that of a write that is told. Before its intent it was told that the very device got that verdict from the
--- rules, and the write is the one that the verdict wants.
+-- rules, and the write is one that the verdict calls for.
 pub record IsExplained (rules : List IdRule) (entries : List Entry) (first k : Kernel) (effect : Effect) : Type 0 where
   pub number : ℕ
   pub name : List ℕ
