@@ -100,7 +100,7 @@ fn set_value<Y: Sysfs>(
     }
 }
 
-/// Writes to a device's `remove` file, and closes it.
+// Writes to a device's `remove` file, and closes it.
 fn write_remove<Y: Sysfs>(
     sysfs: &mut Y,
     name: &NodeName,
@@ -141,14 +141,17 @@ fn write_remove<Y: Sysfs>(
             Settled::Nobody
         }
         Wrote::Failed => {
-            let fault = Fault::Call { call, count };
-            out.push(Entry::Unsettled { name: *name, fault });
+            let failed = Fault::Call { call, count };
+            out.push(Entry::Unsettled {
+                name: *name,
+                fault: failed,
+            });
             Settled::Fault { call, count }
         }
     }
 }
 
-/// Removes a device.
+// Opens the `remove` file of a device, and writes to it.
 #[tactic(auto, unfolding(crate::specs::Bring::removing), using(ug_itree::proofs::Runs::runs_then))]
 fn remove<Y: Sysfs>(
     alloc: Global,

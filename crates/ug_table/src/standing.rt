@@ -13,7 +13,7 @@ pub struct Standing {
     pub cause: Cause,
     /// Its last settling came to its end without a failure.
     pub settled: bool,
-    /// It was written to the device's `remove` file.
+    /// A removal of the device was written, and done.
     pub removed: bool,
 }
 

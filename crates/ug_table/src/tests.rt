@@ -1,12 +1,13 @@
-// Sweeps over a kernel in memory, by a judge that rejects each device: the journal's lines.
+// Sweeps over a kernel in memory, by a judge that allows root hubs and rejects each other device: the journal's lines.
+ghost use Rattle.std.specs.Prelude.{if◌then◌else◌};
 ghost use Rattle.ug_types.specs.declared.verdict.Cause.TheVariants.{Implicit};
-ghost use Rattle.ug_types.specs.declared.verdict.Target.TheVariants.{Reject};
+ghost use Rattle.ug_types.specs.declared.verdict.Target.TheVariants.{Allow, Reject};
 
 use crate::{Judge, Table};
 use std::alloc::Global;
 use std::test::Fail;
 use ug_audit::{Entries, line_of};
-use ug_sysfs::{Device, SimKernel};
+use ug_sysfs::{Device, Move, SimKernel};
 use ug_types::{Cause, Judged, NodeName, Target, Text};
 
 // A device descriptor alone: vendor 1050, product 11.
@@ -19,32 +20,36 @@ const KEY: [u8; 18] = [
 struct Rejecting {}
 
 impl Judge for Rejecting {
-    ghost answer = { λ judge dev controller present on ss. (Reject, Implicit) };
+    ghost answer = { λ judge dev controller present on ss. if controller then (Allow, Implicit) else (Reject, Implicit) };
 
     ghost later = { λ judge dev controller present on ss. judge };
 
     fn verdict(
         &mut self,
         _dev: &Judged,
-        _controller: bool,
+        controller: bool,
         _present: bool,
         _on: bool,
         _allowed: &Table,
     ) -> (Target, Cause) {
-        (Target::Reject, Cause::Implicit)
+        if controller {
+            (Target::Allow, Cause::Implicit)
+        } else {
+            (Target::Reject, Cause::Implicit)
+        }
     }
 }
 
-fn hub(alloc: Global) -> Result<Device, Fail> {
+fn device(alloc: Global, name: &[u8], on: bool) -> Result<Device, Fail> {
     Ok(Device {
-        name: NodeName::parse(b"usb1")?,
+        name: NodeName::parse(name)?,
         parent: None,
         descriptors: Text::of(alloc, &KEY)?,
         product: None,
         serial: None,
         connect: None,
         gone: false,
-        on: true,
+        on,
     })
 }
 
@@ -61,21 +66,47 @@ fn notes(entries: &Entries, lines: &[&[u8]]) -> bool {
 fn removes_a_rejected_device_once(rt: HostRuntime) -> Result<(), Fail> {
     let alloc = rt.alloc();
     let mut kernel = SimKernel::new(alloc);
-    kernel.plug(hub(alloc)?)?;
+    kernel.plug(device(alloc, b"usb1", true)?)?;
+    kernel.plug(device(alloc, b"1-1", true)?)?;
     let mut table = Table::new(alloc);
     let mut entries = Entries::new(alloc);
     entries.reserve(64)?;
     table.sweep(alloc, &mut kernel, &mut Rejecting {}, &mut entries);
-    let removed: [&[u8]; 5] = [
-        b"judged 1 usb1 reject implicit",
-        b"intent 1 usb1 off",
-        b"wrote 1 usb1 off done",
-        b"intent 1 usb1 remove",
-        b"wrote 1 usb1 remove done",
+    let removed: [&[u8]; 6] = [
+        b"judged 1 usb1 allow implicit",
+        b"judged 2 1-1 reject implicit",
+        b"intent 2 1-1 off",
+        b"wrote 2 1-1 off done",
+        b"intent 2 1-1 remove",
+        b"wrote 2 1-1 remove done",
     ];
     assert!(rt; notes(&entries, &removed));
     entries.clear();
     table.sweep(alloc, &mut kernel, &mut Rejecting {}, &mut entries);
     assert!(rt; notes(&entries, &[]));
+    Ok(())
+}
+
+// The device is replaced by another of its name as its `remove` is opened.
+#[test]
+fn removes_no_stranger(rt: HostRuntime) -> Result<(), Fail> {
+    let alloc = rt.alloc();
+    let mut kernel = SimKernel::new(alloc);
+    kernel.plug(device(alloc, b"usb1", true)?)?;
+    kernel.plug(device(alloc, b"1-1", false)?)?;
+    let name = NodeName::parse(b"1-1")?;
+    kernel.schedule(17, false, Move::Unplug(name))?;
+    kernel.schedule(17, false, Move::Plug(device(alloc, b"1-1", false)?))?;
+    let mut table = Table::new(alloc);
+    let mut entries = Entries::new(alloc);
+    entries.reserve(64)?;
+    table.sweep(alloc, &mut kernel, &mut Rejecting {}, &mut entries);
+    let left: [&[u8]; 3] = [
+        b"judged 1 usb1 allow implicit",
+        b"judged 2 1-1 reject implicit",
+        b"gone 2 1-1",
+    ];
+    assert!(rt; notes(&entries, &left));
+    assert!(rt; kernel.log().is_empty());
     Ok(())
 }
