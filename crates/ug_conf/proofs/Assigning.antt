@@ -1,13 +1,12 @@
 -- The values of keys are those of the table.
-use Rattle.std.proofs.Common.{◌≡◌, ◌≢◌, ℕ, Bool, true, false, List, [], ◌∷◌, Option, Some, None, refl, sym, ap, ◌∙◌}
+use Rattle.std.proofs.Common.{◌≡◌, ◌≢◌, ℕ, true, false, List, [], ◌∷◌, Option, Some, None, refl, sym, ap, ◌∙◌}
 use Rattle.std.specs.Option.{option_map}
 use Rattle.std.proofs.lemmas.Option.{none-some, same_Some}
-use Rattle.ug_types.specs.declared.verdict.Target.{Target}
 use Rattle.ug_conf.specs.declared.keys.Key.{Key}
 use Rattle.ug_conf.specs.declared.keys.Key.TheVariants as key
 use Rattle.ug_conf.specs.declared.values.Setting.{Setting}
 use Rattle.ug_conf.specs.declared.values.Setting.TheVariants as setting
-use Rattle.ug_conf.specs.Grammar.{IsValue, target_word, present_word, inserted_word, default_word, flag_word, AreNames}
+use Rattle.ug_conf.specs.Grammar.{IsValue}
 use Rattle.ug_conf.specs.Names.{words_of, all_named}
 use Rattle.ug_conf.specs.Values.{setting_of, path_of, target_of, present_of, inserted_of, default_of, flag_of}
 use Rattle.ug_conf.proofs.Spacing.{names_read, names_found}

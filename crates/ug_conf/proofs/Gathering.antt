@@ -4,12 +4,8 @@ use Rattle.std.specs.Prelude.{filter}
 use Rattle.std.proofs.lemmas.List.{append-nil}
 use Rattle.std.proofs.lemmas.Option.{none-some, same_Some}
 use Rattle.ug_types.specs.Elements.{Has, AllDistinct}
-use Rattle.ug_types.specs.declared.verdict.Target.{Target}
 use Rattle.ug_conf.specs.declared.keys.Key.{Key}
 use Rattle.ug_conf.specs.declared.keys.Key.TheVariants as key
-use Rattle.ug_conf.specs.declared.settings.AuthDefault.{AuthDefault}
-use Rattle.ug_conf.specs.declared.settings.Inserted.{Inserted}
-use Rattle.ug_conf.specs.declared.settings.Present.{Present}
 use Rattle.ug_conf.specs.declared.settings.Settings.{Settings}
 use Rattle.ug_conf.specs.declared.values.Setting.{Setting}
 use Rattle.ug_conf.specs.declared.values.Setting.TheVariants as setting

@@ -1,10 +1,8 @@
 -- A line is skipped, sets a key, or is bad, and is read so.
-use Rattle.std.proofs.Common.{◌≡◌, ℕ, ◌+◌, ◌-◌, ◌≤◌, ◌⊎◌, inl, inr, Bool, true, false, cond, nat_eq, List, [], ◌∷◌, ◌++◌, length, take, drop, Option, Some, None, Result, Ok, Err, refl, sym, ap, subst, ◌∙◌, arith}
-use Rattle.std.specs.Prelude.{◌||◌}
+use Rattle.std.proofs.Common.{◌≡◌, ℕ, ◌+◌, ◌-◌, ◌≤◌, ◌⊎◌, inl, inr, Bool, true, false, cond, nat_eq, List, [], ◌∷◌, ◌++◌, length, drop, Option, Some, None, Result, Ok, Err, refl, sym, ap, subst, ◌∙◌, arith}
 use Rattle.std.proofs.lemmas.Bool.{false≢true}
 use Rattle.std.proofs.lemmas.Bool.Decides.{nat_tests}
-use Rattle.std.proofs.lemmas.Option.{none-some, same_Some}
-use Rattle.std.specs.List.{position}
+use Rattle.std.proofs.lemmas.Option.{none-some}
 use Rattle.ug_types.specs.Elements.{Has}
 use Rattle.ug_conf.specs.declared.fault.Fault.{Fault}
 use Rattle.ug_conf.specs.declared.fault.FaultKind.{FaultKind}
@@ -12,14 +10,14 @@ use Rattle.ug_conf.specs.declared.fault.FaultKind.TheVariants.{NoEquals, Unknown
 use Rattle.ug_conf.specs.declared.keys.Key.{Key}
 use Rattle.ug_conf.specs.declared.values.Setting.{Setting}
 use Rattle.ug_conf.specs.Blanks.{without_front, without_end}
-use Rattle.ug_conf.specs.Draft.{Draft, with_setting, has_key, unless_seen, or_bad, key_read, value_read, assigned, parted, parted_at, equation_read, text_read, line_read}
+use Rattle.ug_conf.specs.Draft.{Draft, with_setting, has_key, unless_seen, or_bad, key_read, value_read, parted, parted_at, equation_read, text_read, line_read}
 use Rattle.ug_conf.specs.Faults.{fault_at, on_ok}
-use Rattle.ug_conf.specs.Keys.{key_of, same_key}
+use Rattle.ug_conf.specs.Keys.{key_of}
 use Rattle.ug_conf.specs.Values.{setting_of}
-use Rattle.ug_conf.specs.Grammar.{IsTextOf, IsSkipped, IsEquation, word_of, IsValue, IsSkippedLine, IsSetting, IsBad, IsBadLine, IsLine, Skipped, SetsKey, Bad}
+use Rattle.ug_conf.specs.Grammar.{IsTextOf, IsSkipped, IsEquation, word_of, IsValue, IsSkippedLine, IsSetting, IsBadLine, IsLine, Skipped, SetsKey, Bad}
 use Rattle.ug_conf.proofs.Assigning as values
 use Rattle.ug_conf.proofs.SeenKeys.{key_seen, seen_key}
-use Rattle.ug_conf.proofs.Signs.{Sign, sign, sign_missing, Parts, parts, equation, value_place}
+use Rattle.ug_conf.proofs.Signs.{sign, sign_missing, Parts, parts, equation, value_place}
 use Rattle.ug_conf.proofs.Tables.{key_written, key_read as word_read}
 use Rattle.ug_conf.proofs.Trimming as trimming
 

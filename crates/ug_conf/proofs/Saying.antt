@@ -1,13 +1,13 @@
 -- A text reads as what it says.
-use Rattle.std.proofs.Common.{◌≡◌, ℕ, ◌+◌, ◌⊎◌, inl, inr, List, [], ◌∷◌, ◌++◌, length, Result, Ok, Err, refl, sym, ap, subst, ◌∙◌, arith}
+use Rattle.std.proofs.Common.{◌≡◌, ℕ, ◌+◌, ◌⊎◌, inl, inr, List, [], length, Result, Ok, Err, refl, sym, ap, subst, ◌∙◌, arith}
 use Rattle.ug_lines.specs.Lines.{lines_of}
 use Rattle.ug_types.specs.declared.text_fault.TextFault.{TextFault}
 use Rattle.ug_conf.specs.declared.settings.Settings.{Settings}
 use Rattle.ug_conf.specs.Draft.{Draft}
-use Rattle.ug_conf.specs.Faults.{fault_at, text_fault, kind_number}
-use Rattle.ug_conf.specs.Meaning.{Entry, AreEntries, keys_of, Gives, Says, IsFirstBad}
+use Rattle.ug_conf.specs.Faults.{fault_at, text_fault}
+use Rattle.ug_conf.specs.Meaning.{Entry, Gives, Says, IsFirstBad}
 use Rattle.ug_conf.specs.Settings.{defaults}
-use Rattle.ug_conf.specs.Texts.{conf_read, lines_read, settled}
+use Rattle.ug_conf.specs.Texts.{conf_read, settled}
 use Rattle.ug_conf.proofs.Entries.{FirstBad, Decided, decide, entries_fit, good_lines_read, bad_lines_read}
 use Rattle.ug_conf.proofs.Gathering.{applied, gathered, one_gathering}
 

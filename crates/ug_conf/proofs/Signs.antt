@@ -1,14 +1,13 @@
 -- Words and values about the first equals sign.
-use Rattle.std.proofs.Common.{◌≡◌, ℕ, suc, ◌+◌, ◌-◌, ◌<◌, ◌≤◌, ◌⊎◌, inl, inr, Bool, true, false, cond, not, nat_eq, nat_lt, List, [], ◌∷◌, ◌++◌, length, take, drop, Option, Some, None, refl, sym, ap, subst, ◌∙◌, append_assoc, arith, length-append}
-use Rattle.std.proofs.lemmas.Bool.{cond-true, cond-false, false≢true}
+use Rattle.std.proofs.Common.{◌≡◌, ℕ, ◌+◌, ◌≤◌, ◌⊎◌, inl, inr, Bool, true, false, nat_eq, nat_lt, List, [], ◌∷◌, ◌++◌, length, take, drop, Some, None, refl, sym, ap, subst, ◌∙◌, append_assoc, arith, length-append}
 use Rattle.std.proofs.lemmas.Bool.Decides.{nat_tests}
 use Rattle.std.proofs.Math.Seq.{take-append_seam}
 use Rattle.std.proofs.lemmas.List.{drop_at}
 use Rattle.std.specs.List.{position, position_or_len}
 use Rattle.ug_types.specs.Elements.{Has}
-use Rattle.ug_types.proofs.Elements.{has_cases, has_left, has_right}
+use Rattle.ug_types.proofs.Elements.{has_cases, has_left}
 use Rattle.ug_conf.specs.Blanks.{without_front, without_end}
-use Rattle.ug_conf.specs.Grammar.{IsBlank, AreBlanks, IsEquation}
+use Rattle.ug_conf.specs.Grammar.{AreBlanks, IsEquation}
 use Rattle.ug_conf.proofs.Trimming.{Front, front, End, end, front-blanks, front-bare, end-blanks, end-bare}
 
 -- no equals sign is among blanks

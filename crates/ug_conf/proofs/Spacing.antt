@@ -1,11 +1,9 @@
 -- Words are what stands between blanks.
-use Rattle.std.proofs.Common.{◌≡◌, ◌≢◌, ℕ, ◌⊎◌, inl, inr, Bool, true, false, cond, List, [], ◌∷◌, ◌++◌, map, Option, Some, None, refl, sym, ap, subst, ◌∙◌, append_assoc, if◌then◌else◌}
-use Rattle.std.specs.Prelude.{IsTrue}
+use Rattle.std.proofs.Common.{◌≡◌, ◌≢◌, ℕ, Bool, true, false, List, [], ◌∷◌, ◌++◌, map, Option, Some, None, refl, sym, ap, subst, ◌∙◌, if◌then◌else◌}
 use Rattle.std.specs.Option.{option_map}
 use Rattle.std.proofs.lemmas.Option.{none-some, same_Some}
-use Rattle.std.proofs.lemmas.Bool.{false≢true}
 use Rattle.ug_conf.specs.Blanks.{is_blank}
-use Rattle.ug_conf.specs.Names.{words, cut, words_of, with_name, all_named}
+use Rattle.ug_conf.specs.Names.{words, cut, words_of, all_named}
 use Rattle.ug_conf.specs.Principals.{Named, is_name}
 use Rattle.ug_conf.specs.Grammar.{IsBlank, AreBlanks, NoBlanks, IsWord, BeginsBlank, AreSpaced, AreAll, AreNames}
 use Rattle.ug_conf.proofs.Trimming.{blank, is_blank_so, not_blank, bare}
