@@ -8,7 +8,7 @@ use Rattle.ug_conf.specs.declared.fault.Fault.{Fault}
 use Rattle.ug_conf.specs.declared.fault.FaultKind.{FaultKind}
 use Rattle.ug_conf.specs.declared.keys.Key.{Key}
 use Rattle.ug_conf.specs.declared.settings.Settings.{Settings}
-use Rattle.ug_conf.specs.Draft.{Draft, line_read, with_setting}
+use Rattle.ug_conf.specs.Draft.{Draft, draft_of, line_read, with_setting}
 use Rattle.ug_conf.specs.Faults.{fault_at, text_fault, on_ok}
 use Rattle.ug_conf.specs.Grammar.{IsSetting, IsBadLine, IsLine, Skipped, SetsKey, Bad}
 use Rattle.ug_conf.specs.Meaning.{Entry, AreEntries, keys_of}
@@ -37,33 +37,33 @@ unfolding lines_read
 one_line number draft after line lines e = ap (λ (r : Result Draft Fault). on_ok (in_line number r) (λ more. lines_read (number + 1) more lines)) e
 
 -- good lines are read, and what is behind them goes on from there
-pub entries_read : (lines behind : List (List ℕ)) (number : ℕ) (entries : List Entry) (draft : Draft) → AreEntries number lines entries → AllDistinct (draft.1 ++ keys_of entries)
-    → lines_read number draft (lines ++ behind) ≡ lines_read (number + length lines) (applied entries draft.0, draft.1 ++ keys_of entries) behind
+pub entries_read : (lines behind : List (List ℕ)) (number : ℕ) (entries : List Entry) (draft : Draft) → AreEntries number lines entries → AllDistinct (draft.seen ++ keys_of entries)
+    → lines_read number draft (lines ++ behind) ≡ lines_read (number + length lines) (draft_of (applied entries draft.settings) (draft.seen ++ keys_of entries)) behind
 entries_read [] behind number entries draft h d =
     let still : number ≡ number + 0 = omega arith in
-    let none : draft.1 ≡ draft.1 ++ keys_of entries = sym (ap (λ (es : List Entry). draft.1 ++ keys_of es) h ∙ append-nil draft.1) in
-    let same : draft.0 ≡ applied entries draft.0 = sym (ap (λ (es : List Entry). applied es draft.0) h) in
+    let none : draft.seen ≡ draft.seen ++ keys_of entries = sym (ap (λ (es : List Entry). draft.seen ++ keys_of es) h ∙ append-nil draft.seen) in
+    let same : draft.settings ≡ applied entries draft.settings = sym (ap (λ (es : List Entry). applied es draft.settings) h) in
     ap (λ (n : ℕ). lines_read n draft behind) still
-    ∙ ap (λ (s : Settings). lines_read (number + 0) (s, draft.1) behind) same
-    ∙ ap (λ (ks : List Key). lines_read (number + 0) (applied entries draft.0, ks) behind) none
+    ∙ ap (λ (s : Settings). lines_read (number + 0) (draft_of s draft.seen) behind) same
+    ∙ ap (λ (ks : List Key). lines_read (number + 0) (draft_of (applied entries draft.settings) ks) behind) none
 entries_read (line ∷ lines) behind number entries draft (inl h) d =
     let next : number + 1 + length lines ≡ number + length (line ∷ lines) = omega arith in
     one_line number draft draft line (lines ++ behind) (skipped_read number draft line h.0)
     ∙ entries_read lines behind (number + 1) entries draft h.1 d
-    ∙ ap (λ (n : ℕ). lines_read n (applied entries draft.0, draft.1 ++ keys_of entries) behind) next
+    ∙ ap (λ (n : ℕ). lines_read n (draft_of (applied entries draft.settings) (draft.seen ++ keys_of entries)) behind) next
 entries_read (line ∷ lines) behind number entries draft (inr h) d =
     let e : Entry = h.0 in
     let others : List Entry = h.1 in
     let same : entries ≡ e ∷ others = h.2 in
-    let distinct : AllDistinct (draft.1 ++ e.key ∷ keys_of others) = subst (λ (es : List Entry). AllDistinct (draft.1 ++ keys_of es)) same d in
-    let after : Draft = (with_setting number e.set draft.0, draft.1 ++ e.key ∷ []) in
+    let distinct : AllDistinct (draft.seen ++ e.key ∷ keys_of others) = subst (λ (es : List Entry). AllDistinct (draft.seen ++ keys_of es)) same d in
+    let after : Draft = draft_of (with_setting number e.set draft.settings) (draft.seen ++ e.key ∷ []) in
     let next : number + 1 + length lines ≡ number + length (line ∷ lines) = omega arith in
-    one_line number draft after line (lines ++ behind) (setting_read number draft line e.key e.set h.4 (apart draft.1 e.key (keys_of others) distinct))
-    ∙ entries_read lines behind (number + 1) others after h.5 (regrouped draft.1 e.key (keys_of others) distinct)
-    ∙ ap (λ (n : ℕ). lines_read n (applied others after.0, after.1 ++ keys_of others) behind) next
-    ∙ ap (λ (ks : List Key). lines_read (number + length (line ∷ lines)) (applied others after.0, ks) behind) (append_assoc draft.1 (e.key ∷ []) (keys_of others))
-    ∙ ap (λ (n : ℕ). lines_read (number + length (line ∷ lines)) (applied others (with_setting n e.set draft.0), draft.1 ++ keys_of (e ∷ others)) behind) (sym h.3)
-    ∙ ap (λ (es : List Entry). lines_read (number + length (line ∷ lines)) (applied es draft.0, draft.1 ++ keys_of es) behind) (sym same)
+    one_line number draft after line (lines ++ behind) (setting_read number draft line e.key e.set h.4 (apart draft.seen e.key (keys_of others) distinct))
+    ∙ entries_read lines behind (number + 1) others after h.5 (regrouped draft.seen e.key (keys_of others) distinct)
+    ∙ ap (λ (n : ℕ). lines_read n (draft_of (applied others after.settings) (after.seen ++ keys_of others)) behind) next
+    ∙ ap (λ (ks : List Key). lines_read (number + length (line ∷ lines)) (draft_of (applied others after.settings) ks) behind) (append_assoc draft.seen (e.key ∷ []) (keys_of others))
+    ∙ ap (λ (n : ℕ). lines_read (number + length (line ∷ lines)) (draft_of (applied others (with_setting n e.set draft.settings)) (draft.seen ++ keys_of (e ∷ others))) behind) (sym h.3)
+    ∙ ap (λ (es : List Entry). lines_read (number + length (line ∷ lines)) (draft_of (applied es draft.settings) (draft.seen ++ keys_of es)) behind) (sym same)
 
 -- a bad line behind good ones
 pub record FirstBad (number : ℕ) (seen : List Key) (lines : List (List ℕ)) : Type 0 where
@@ -82,14 +82,14 @@ stopped : (number : ℕ) (draft : Draft) (line : List ℕ) (lines : List (List �
 unfolding lines_read
 stopped number draft line lines fault e = ap (λ (r : Result Draft Fault). on_ok (in_line number r) (λ more. lines_read (number + 1) more lines)) e
 
-pub bad_lines_read : (number : ℕ) (draft : Draft) (lines : List (List ℕ)) → (b : FirstBad number draft.1 lines) → lines_read number draft lines ≡ Err (text_fault (number + length b.before) (fault_at b.kind b.place))
+pub bad_lines_read : (number : ℕ) (draft : Draft) (lines : List (List ℕ)) → (b : FirstBad number draft.seen lines) → lines_read number draft lines ≡ Err (text_fault (number + length b.before) (fault_at b.kind b.place))
 bad_lines_read number draft lines b =
-    let after : Draft = (applied b.entries draft.0, draft.1 ++ keys_of b.entries) in
+    let after : Draft = draft_of (applied b.entries draft.settings) (draft.seen ++ keys_of b.entries) in
     ap (lines_read number draft) b.parts
     ∙ entries_read b.before (b.line ∷ b.behind) number b.entries draft b.good b.once
     ∙ stopped (number + length b.before) after b.line b.behind (fault_at b.kind b.place) (bad_read (number + length b.before) after b.line b.kind b.place b.bad)
 
-pub good_lines_read : (number : ℕ) (draft : Draft) (lines : List (List ℕ)) (entries : List Entry) → AreEntries number lines entries → AllDistinct (draft.1 ++ keys_of entries) → lines_read number draft lines ≡ Ok (applied entries draft.0, draft.1 ++ keys_of entries)
+pub good_lines_read : (number : ℕ) (draft : Draft) (lines : List (List ℕ)) (entries : List Entry) → AreEntries number lines entries → AllDistinct (draft.seen ++ keys_of entries) → lines_read number draft lines ≡ Ok (draft_of (applied entries draft.settings) (draft.seen ++ keys_of entries))
 unfolding lines_read
 good_lines_read number draft lines entries h d = ap (lines_read number draft) (sym (append-nil lines)) ∙ entries_read lines [] number entries draft h d
 

@@ -10,7 +10,7 @@ use Rattle.ug_conf.specs.declared.fault.FaultKind.TheVariants.{NoEquals, Unknown
 use Rattle.ug_conf.specs.declared.keys.Key.{Key}
 use Rattle.ug_conf.specs.declared.values.Setting.{Setting}
 use Rattle.ug_conf.specs.Blanks.{without_front, without_end}
-use Rattle.ug_conf.specs.Draft.{Draft, with_setting, has_key, unless_seen, or_bad, key_read, value_read, parted, parted_at, equation_read, text_read, line_read}
+use Rattle.ug_conf.specs.Draft.{Draft, draft_of, with_setting, has_key, unless_seen, or_bad, key_read, value_read, parted, parted_at, equation_read, text_read, line_read}
 use Rattle.ug_conf.specs.Faults.{fault_at, on_ok}
 use Rattle.ug_conf.specs.Keys.{key_of}
 use Rattle.ug_conf.specs.Values.{setting_of}
@@ -56,7 +56,7 @@ line_parted : (number : ℕ) (draft : Draft) (line text word value : List ℕ) �
 line_parted number draft line text word value t s e = on_text number draft line text t ∙ shown_read number draft text s ∙ parted_read number draft text word value e
 
 abbrev after_key : ℕ → Draft → List ℕ → ℕ → Result Key Fault → Outcome
-after_key number draft value place read = on_ok read (λ key. on_ok (value_read place key value) (λ set. Ok (with_setting number set draft.0, draft.1 ++ key ∷ [])))
+after_key number draft value place read = on_ok read (λ key. on_ok (value_read place key value) (λ set. Ok (draft_of (with_setting number set draft.settings) (draft.seen ++ key ∷ []))))
 
 new_key : (seen : List Key) (key : Key) → ¬ Has seen key → key_read seen (word_of key) ≡ Ok key
 new_key seen key h = ap (unless_seen seen) (word_read key) ∙ by (has_key seen key) refl
@@ -68,13 +68,13 @@ new_key seen key h = ap (unless_seen seen) (word_read key) ∙ by (has_key seen 
 old_key : (seen : List Key) (key : Key) → Has seen key → key_read seen (word_of key) ≡ Err (fault_at Repeated 0)
 old_key seen key h = ap (unless_seen seen) (word_read key) ∙ ap (λ (v : Bool). cond v (Err (fault_at Repeated 0)) (Ok key)) (seen_key seen key h)
 
-pub setting_read : (number : ℕ) (draft : Draft) (line : List ℕ) (key : Key) (set : Setting) → IsSetting line key set → ¬ Has draft.1 key
-    → line_read number draft line ≡ Ok (with_setting number set draft.0, draft.1 ++ key ∷ [])
+pub setting_read : (number : ℕ) (draft : Draft) (line : List ℕ) (key : Key) (set : Setting) → IsSetting line key set → ¬ Has draft.seen key
+    → line_read number draft line ≡ Ok (draft_of (with_setting number set draft.settings) (draft.seen ++ key ∷ []))
 setting_read number draft line key set s n =
     let place : ℕ = length s.text - length s.value in
     line_parted number draft line s.text (word_of key) s.value s.text_of s.shown s.equation
-    ∙ ap (after_key number draft s.value place) (new_key draft.1 key n)
-    ∙ ap (λ (o : Option Setting). on_ok (or_bad place o) (λ set. Ok (with_setting number set draft.0, draft.1 ++ key ∷ []))) (values.value_read key s.value set s.has_value)
+    ∙ ap (after_key number draft s.value place) (new_key draft.seen key n)
+    ∙ ap (λ (o : Option Setting). on_ok (or_bad place o) (λ set. Ok (draft_of (with_setting number set draft.settings) (draft.seen ++ key ∷ [])))) (values.value_read key s.value set s.has_value)
 
 unknown : (word : List ℕ) → ((key : Key) → ¬ (word ≡ word_of key)) → key_of word ≡ None
 unknown word h = by (key_of word) refl
@@ -90,26 +90,26 @@ valueless key value h = by (setting_of key value) refl
     by None e = e
     by (Some set) e = absurd (h set (values.value_found key value set e))
 
-pub bad_read : (number : ℕ) (draft : Draft) (line : List ℕ) (kind : FaultKind) (place : ℕ) → IsBadLine draft.1 line kind place → line_read number draft line ≡ Err (fault_at kind place)
+pub bad_read : (number : ℕ) (draft : Draft) (line : List ℕ) (kind : FaultKind) (place : ℕ) → IsBadLine draft.seen line kind place → line_read number draft line ≡ Err (fault_at kind place)
 bad_read number draft line NoEquals place h =
     on_text number draft line h.0 h.1 ∙ shown_read number draft h.0 h.2
     ∙ ap (parted_at number draft h.0) (sign_missing h.0 h.3.1) ∙ ap (λ (p : ℕ). Err (fault_at NoEquals p)) (sym h.3.0)
 bad_read number draft line UnknownKey place h =
     let b = h.3 in
     line_parted number draft line h.0 b.1 b.2 h.1 h.2 b.3
-    ∙ ap (λ (o : Option Key). after_key number draft b.2 (length h.0 - length b.2) (unless_seen draft.1 o)) (unknown b.1 b.4)
+    ∙ ap (λ (o : Option Key). after_key number draft b.2 (length h.0 - length b.2) (unless_seen draft.seen o)) (unknown b.1 b.4)
     ∙ ap (λ (p : ℕ). Err (fault_at UnknownKey p)) (sym b.0)
 bad_read number draft line Repeated place h =
     let b = h.3 in
     line_parted number draft line h.0 (word_of b.1) b.2 h.1 h.2 b.3
-    ∙ ap (after_key number draft b.2 (length h.0 - length b.2)) (old_key draft.1 b.1 b.4)
+    ∙ ap (after_key number draft b.2 (length h.0 - length b.2)) (old_key draft.seen b.1 b.4)
     ∙ ap (λ (p : ℕ). Err (fault_at Repeated p)) (sym b.0)
 bad_read number draft line BadValue place h =
     let b = h.3 in
     let where_ : length h.0 - length b.1 ≡ place = omega (arith, b.5) in
     line_parted number draft line h.0 (word_of b.0) b.1 h.1 h.2 b.2
-    ∙ ap (after_key number draft b.1 (length h.0 - length b.1)) (new_key draft.1 b.0 b.3)
-    ∙ ap (λ (o : Option Setting). on_ok (or_bad (length h.0 - length b.1) o) (λ set. Ok (with_setting number set draft.0, draft.1 ++ b.0 ∷ []))) (valueless b.0 b.1 b.4)
+    ∙ ap (after_key number draft b.1 (length h.0 - length b.1)) (new_key draft.seen b.0 b.3)
+    ∙ ap (λ (o : Option Setting). on_ok (or_bad (length h.0 - length b.1) o) (λ set. Ok (draft_of (with_setting number set draft.settings) (draft.seen ++ b.0 ∷ [])))) (valueless b.0 b.1 b.4)
     ∙ ap (λ (p : ℕ). Err (fault_at BadValue p)) where_
 
 skip : (text : List ℕ) → IsSkipped text ⊎ (¬ IsSkipped text)

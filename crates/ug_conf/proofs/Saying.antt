@@ -3,7 +3,7 @@ use Rattle.std.proofs.Common.{◌≡◌, ℕ, ◌+◌, ◌⊎◌, inl, inr, List
 use Rattle.ug_lines.specs.Lines.{lines_of}
 use Rattle.ug_types.specs.declared.text_fault.TextFault.{TextFault}
 use Rattle.ug_conf.specs.declared.settings.Settings.{Settings}
-use Rattle.ug_conf.specs.Draft.{Draft}
+use Rattle.ug_conf.specs.Draft.{draft_of}
 use Rattle.ug_conf.specs.Faults.{fault_at, text_fault}
 use Rattle.ug_conf.specs.Meaning.{Entry, Gives, Says, IsFirstBad}
 use Rattle.ug_conf.specs.Settings.{defaults}
@@ -13,9 +13,6 @@ use Rattle.ug_conf.proofs.Gathering.{applied, gathered, one_gathering}
 
 abbrev Read : Type 0
 Read = Result Settings TextFault
-
-start : Draft
-start = (defaults, [])
 
 same_ok : (s t : Settings) → ◌≡◌ {A = Read} (Ok s) (Ok t) → s ≡ t
 same_ok s t h = let e : s ≡ t = cc in e
@@ -31,14 +28,14 @@ said_read text settings h =
     let entries : List Entry = h.0 in
     let g : Gives entries settings = h.2 in
     let fit = entries_fit (lines_of text) 1 entries h.1 in
-    ap settled (good_lines_read 1 (defaults, []) (lines_of text) entries h.1 g.once)
+    ap settled (good_lines_read 1 (draft_of defaults []) (lines_of text) entries h.1 g.once)
     ∙ ap Ok (one_gathering entries (applied entries defaults) settings fit (gathered entries g.once fit) g)
 
 abbrev fault_of : (text : List ℕ) → FirstBad 1 [] (lines_of text) → TextFault
 fault_of text b = text_fault (1 + length b.before) (fault_at b.kind b.place)
 
 bad_text : (text : List ℕ) → (b : FirstBad 1 [] (lines_of text)) → conf_read text ≡ Err (fault_of text b)
-bad_text text b = ap settled (bad_lines_read 1 (defaults, []) (lines_of text) b)
+bad_text text b = ap settled (bad_lines_read 1 (draft_of defaults []) (lines_of text) b)
 
 first_bad : (text : List ℕ) → (b : FirstBad 1 [] (lines_of text)) → IsFirstBad text (fault_of text b)
 first_bad text b = record {

@@ -2,7 +2,7 @@
 ghost use Rattle.std.specs.Prelude.{◌≡◌, ◌↔◌, ◌⊎◌, ℕ, List, [], ◌∷◌, ◌++◌};
 ghost use Rattle.ug_types.specs.Elements.{Has};
 ghost use Rattle.ug_types.specs.declared.text_fault.TextFault.{TextFault};
-ghost use Rattle.ug_conf.specs.Draft.{Draft, line_read, with_setting};
+ghost use Rattle.ug_conf.specs.Draft.{Draft, draft_of, line_read, with_setting};
 ghost use Rattle.ug_conf.specs.Faults.{fault_at};
 ghost use Rattle.ug_conf.specs.Grammar.{IsLine, IsSkippedLine, IsSetting, IsBadLine};
 ghost use Rattle.ug_conf.specs.Meaning.{Says, IsFirstBad};
@@ -17,8 +17,8 @@ use crate::values::Setting;
 pub fn lines_law()
     ensures each { (seen : List Key) (line : List ℕ) → IsLine seen line }
     ensures skipped { (number : ℕ) (draft : Draft) (line : List ℕ) → IsSkippedLine line → line_read number draft line ≡ Ok draft }
-    ensures sets { (number : ℕ) (draft : Draft) (line : List ℕ) (key : Key) (set : Setting) → IsSetting line key set → ¬ Has draft.1 key → line_read number draft line ≡ Ok (with_setting number set draft.0, draft.1 ++ key ∷ []) }
-    ensures bad { (number : ℕ) (draft : Draft) (line : List ℕ) (kind : FaultKind) (place : ℕ) → IsBadLine draft.1 line kind place → line_read number draft line ≡ Err (fault_at kind place) }
+    ensures sets { (number : ℕ) (draft : Draft) (line : List ℕ) (key : Key) (set : Setting) → IsSetting line key set → ¬ Has draft.seen key → line_read number draft line ≡ Ok (draft_of (with_setting number set draft.settings) (draft.seen ++ key ∷ [])) }
+    ensures bad { (number : ℕ) (draft : Draft) (line : List ℕ) (kind : FaultKind) (place : ℕ) → IsBadLine draft.seen line kind place → line_read number draft line ≡ Err (fault_at kind place) }
 {}
 
 /// A text reads as settings exactly where its lines give them, and has a fault exactly where that is its first bad line.

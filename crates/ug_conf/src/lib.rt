@@ -18,7 +18,6 @@ mod values;
 
 pub use defaults::default_settings;
 pub use fault::{Fault, FaultKind, LineFault};
-pub use keys::Key;
 pub use laws::{lines_law, one_meaning, reading_is_grammar};
 pub use principal::Principal;
 pub use reader::SettingsReader;
