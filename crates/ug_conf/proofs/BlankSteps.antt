@@ -1,18 +1,12 @@
 -- Texts without their blanks, byte by byte.
 use Rattle.std.proofs.Common.{◌≡◌, ℕ, suc, ◌+◌, ◌-◌, ◌<◌, ◌≤◌, Bool, true, false, cond, List, [], ◌∷◌, ◌++◌, length, take, drop, get_or, refl, sym, ap, ◌∙◌, arith, drop-cons}
 use Rattle.std.proofs.lemmas.List.{take_more}
-use Rattle.ug_conf.specs.Blanks.{is_blank, without_front, before_end, without_end}
+use Rattle.ug_conf.specs.Blanks.{is_blank, before_end, without_end}
 
 pub next : (i : ℕ) (text : List ℕ) → i < length text → drop i text ≡ get_or text i 0 ∷ drop (i + 1) text
 next i text h = let one : suc i ≡ i + 1 = omega arith in drop-cons text i 0 h ∙ ap (λ (k : ℕ). get_or text i 0 ∷ drop k text) one
 
--- one more blank in front
-pub front_blank : (i : ℕ) (text : List ℕ) → i < length text → is_blank (get_or text i 0) ≡ true → without_front (drop i text) ≡ without_front (drop (i + 1) text)
-front_blank i text h e = ap without_front (next i text h) ∙ ap (λ (v : Bool). cond v (without_front (drop (i + 1) text)) (get_or text i 0 ∷ drop (i + 1) text)) e
-
-pub front_found : (i : ℕ) (text : List ℕ) → i < length text → is_blank (get_or text i 0) ≡ false → without_front (drop i text) ≡ drop i text
-front_found i text h e = ap without_front (next i text h) ∙ ap (λ (v : Bool). cond v (without_front (drop (i + 1) text)) (get_or text i 0 ∷ drop (i + 1) text)) e ∙ sym (next i text h)
-
+-- a blank more behind
 pub end_blank : (xs : List ℕ) (b : ℕ) → is_blank b ≡ true → without_end (xs ++ b ∷ []) ≡ without_end xs
 end_blank [] b e = ap (λ (v : Bool). cond v [] (b ∷ [])) e
 end_blank (x ∷ xs) b e = ap (before_end x) (end_blank xs b e)

@@ -77,7 +77,7 @@ stops number draft after text line more read (Bad fault) e h q =
     sym q ∙ ap settled (one_line number draft text line more e)
     ∙ ap (λ r. settled (on_ok (in_line number r) (λ next. lines_read (number + 1) next (lines_of more)))) h.0
 
-pub ends : (number : ℕ) (draft : Draft) (text : List ℕ) (read : Read) → length text ≡ 0 → settled (lines_read number draft (lines_of text)) ≡ read → read ≡ Ok draft.0
+pub ends : (number : ℕ) (draft : Draft) (text : List ℕ) (read : Read) → length text ≡ 0 → settled (lines_read number draft (lines_of text)) ≡ read → read ≡ Ok draft.settings
 unfolding lines_read
 ends number draft [] read h q = sym q ∙ ap (λ ls. settled (lines_read number draft ls)) (nothing [] refl)
 ends number draft (b ∷ bytes) read h q = absurd (omega arith)

@@ -1,5 +1,5 @@
 -- Words and names from the left.
-use Rattle.std.proofs.Common.{◌≡◌, ℕ, suc, ◌+◌, ◌-◌, ◌<◌, ◌≤◌, Bool, true, false, cond, List, [], ◌∷◌, ◌++◌, length, take, drop, get_or, Option, Some, None, refl, sym, ap, subst, ◌∙◌, arith, append_assoc, length-drop}
+use Rattle.std.proofs.Common.{◌≡◌, ℕ, ◌-◌, ◌<◌, ◌≤◌, Bool, true, false, cond, List, [], ◌∷◌, ◌++◌, length, take, drop, Option, Some, None, refl, sym, ap, subst, ◌∙◌, arith, append_assoc, length-drop}
 use Rattle.std.proofs.lemmas.List.{append-nil}
 use Rattle.std.proofs.lemmas.Option.{cond_some, none-some}
 use Rattle.std.specs.Option.{option_map}
@@ -7,13 +7,6 @@ use Rattle.ug_types.proofs.Known.{to_end}
 use Rattle.ug_conf.specs.Blanks.{is_blank, without_front}
 use Rattle.ug_conf.specs.Names.{first_blank, cut, words_of, all_named}
 use Rattle.ug_conf.specs.Principals.{Named, is_name, principal_named}
-use Rattle.ug_conf.proofs.BlankSteps.{next}
-
-pub blank_found : (i : ℕ) (text : List ℕ) → i < length text → is_blank (get_or text i 0) ≡ true → first_blank (drop i text) ≡ 0
-blank_found i text h e = ap first_blank (next i text h) ∙ ap (λ (v : Bool). cond v 0 (suc (first_blank (drop (i + 1) text)))) e
-
-pub blank_later : (i : ℕ) (text : List ℕ) → i < length text → is_blank (get_or text i 0) ≡ false → first_blank (drop i text) ≡ suc (first_blank (drop (i + 1) text))
-blank_later i text h e = ap first_blank (next i text h) ∙ ap (λ (v : Bool). cond v 0 (suc (first_blank (drop (i + 1) text)))) e
 
 -- it doesn't begin with a blank
 abbrev pub IsBare : List ℕ → Type 0

@@ -15,8 +15,12 @@ use Rattle.ug_conf.specs.Keys.{key_of, same_key}
 use Rattle.ug_conf.specs.Values.{setting_of}
 
 -- the settings so far, and the keys that were set
-abbrev pub Draft : Type 0
-Draft = Settings × List Key
+pub record Draft : Type 0 where
+  pub settings : Settings
+  pub seen : List Key
+
+abbrev pub draft_of : Settings → List Key → Draft
+draft_of settings seen = record { settings = settings; seen = seen }
 
 -- the settings with what the line of that number says
 abbrev pub with_setting : ℕ → Setting → Settings → Settings
@@ -54,7 +58,7 @@ value_read place key text = or_bad place (setting_of key text)
 -- a word, and a value at a place
 abbrev pub assigned : ℕ → Draft → List ℕ → List ℕ → ℕ → Result Draft Fault
 assigned number draft word text place =
-    on_ok (key_read draft.1 word) (λ key. on_ok (value_read place key text) (λ setting. Ok (with_setting number setting draft.0, draft.1 ++ key ∷ [])))
+    on_ok (key_read draft.seen word) (λ key. on_ok (value_read place key text) (λ setting. Ok (draft_of (with_setting number setting draft.settings) (draft.seen ++ key ∷ []))))
 
 abbrev pub parted : ℕ → Draft → List ℕ → List ℕ → List ℕ → Result Draft Fault
 parted number draft text word value = assigned number draft word value (length text - length value)

@@ -173,3 +173,9 @@ IsBad seen text BadValue place = (key : Key) × (value : List ℕ) × IsEquation
 
 abbrev pub IsBadLine : List Key → List ℕ → FaultKind → ℕ → Type 0
 IsBadLine seen line kind place = (text : List ℕ) × IsTextOf line text × (¬ IsSkipped text) × IsBad seen text kind place
+
+-- what a line is behind lines that set some keys: skipped, a key that is set for the first time, or bad
+pub data IsLine (seen : List Key) (line : List ℕ) : Type 0 where
+  Skipped : IsSkippedLine line → IsLine seen line
+  SetsKey : (key : Key) (set : Setting) → IsSetting line key set → ¬ Has seen key → IsLine seen line
+  Bad : (kind : FaultKind) (place : ℕ) → IsBadLine seen line kind place → IsLine seen line

@@ -1,7 +1,10 @@
 -- Users and groups.
 use Rattle.std.specs.Prelude.{ℕ, Bool, true, false, ◌&&◌, ◌||◌, nat_eq, nat_le, if◌then◌else◌, List, [], ◌∷◌, length, Option, Some, None}
 use Rattle.std.specs.Char.{is_ascii_alphanumeric}
+use Rattle.std.specs.Cmp.Lexicographic.{pointwise}
 use Rattle.std.specs.List.{list_all}
+use Rattle.std.specs.Ordering.{eq_of_both, on}
+use Rattle.std.specs.Bool.{beq}
 
 pub record Named : Type 0 where
   pub group : Bool
@@ -22,3 +25,7 @@ principal_named group name = if is_name name then Some (record { group = group; 
 abbrev pub principal_of : List ℕ → Option Named
 principal_of [] = None
 principal_of (b ∷ bytes) = if nat_eq b 58 then principal_named true bytes else principal_named false (b ∷ bytes)
+
+-- of one kind, and by one name
+abbrev pub same_principal : Named → Named → Bool
+same_principal = eq_of_both (on (λ p. p.group) beq) (on (λ p. p.name) (pointwise nat_eq))

@@ -6,7 +6,7 @@ use Rattle.ug_types.specs.declared.text_fault.FileFault.TheVariants.{Bad, Memory
 use Rattle.ug_types.specs.declared.text_fault.TextFault.{TextFault}
 use Rattle.ug_conf.specs.declared.fault.Fault.{Fault}
 use Rattle.ug_conf.specs.declared.settings.Settings.{Settings}
-use Rattle.ug_conf.specs.Draft.{Draft, line_read}
+use Rattle.ug_conf.specs.Draft.{Draft, draft_of, line_read}
 use Rattle.ug_conf.specs.Faults.{text_fault, on_ok}
 use Rattle.ug_conf.specs.Settings.{defaults}
 
@@ -20,12 +20,12 @@ lines_read number draft [] = Ok draft
 lines_read number draft (line ∷ lines) = on_ok (in_line number (line_read number draft line)) (λ more. lines_read (number + 1) more lines)
 
 abbrev pub settled : Result Draft TextFault → Result Settings TextFault
-settled (Ok draft) = Ok draft.0
+settled (Ok draft) = Ok draft.settings
 settled (Err fault) = Err fault
 
 -- the settings of a text, whose lines count from 1, or its first bad line
 abbrev pub conf_read : List ℕ → Result Settings TextFault
-conf_read text = settled (lines_read 1 (defaults, []) (lines_of text))
+conf_read text = settled (lines_read 1 (draft_of defaults []) (lines_of text))
 
 abbrev pub IsFault : FileFault → Result Settings TextFault → Type 0
 IsFault (Bad fault) read = read ≡ Err fault

@@ -3,7 +3,7 @@ ghost use Rattle.std.specs.Prelude.{◌≡◌, ◌++◌, IfOk, OnOk, OnErr, nat_
 ghost use Rattle.std.specs.List.{position};
 ghost use Rattle.ug_conf.specs.Faults.{Answers};
 ghost use Rattle.ug_conf.specs.Draft as drafts;
-ghost use Rattle.ug_conf.specs.Draft.{with_setting, key_read, value_read, assigned, line_read, Takes};
+ghost use Rattle.ug_conf.specs.Draft.{draft_of, with_setting, key_read, value_read, assigned, line_read, Takes};
 
 use crate::blanks::{without_end, without_front};
 use crate::fault::{FaultKind, LineFault};
@@ -98,7 +98,7 @@ fn add_assignment(
     text: &[u8],
     place: u64,
 ) -> Result<(), LineFault>
-    ensures { Takes result (settings.old, seen.old.items) (settings.new, seen.new.items) (assigned number (settings.old, seen.old.items) word.now text.now place) }
+    ensures { Takes result (draft_of settings.old seen.old.items) (draft_of settings.new seen.new.items) (assigned number (draft_of settings.old seen.old.items) word.now text.now place) }
 {
     let key = new_key(seen.as_slice(), word)?;
     let setting = value(alloc, key, text, place)?;
@@ -125,7 +125,7 @@ fn add_text(
     number: u64,
     text: &[u8],
 ) -> Result<(), LineFault>
-    ensures { Takes result (settings.old, seen.old.items) (settings.new, seen.new.items) (drafts.equation_read number (settings.old, seen.old.items) text.now) }
+    ensures { Takes result (draft_of settings.old seen.old.items) (draft_of settings.new seen.new.items) (drafts.equation_read number (draft_of settings.old seen.old.items) text.now) }
 {
     match equals_in(text) {
         Some(at) => {
@@ -146,7 +146,7 @@ pub fn add_line(
     number: u64,
     line: &[u8],
 ) -> Result<(), LineFault>
-    ensures { Takes result (settings.old, seen.old.items) (settings.new, seen.new.items) (line_read number (settings.old, seen.old.items) line.now) }
+    ensures { Takes result (draft_of settings.old seen.old.items) (draft_of settings.new seen.new.items) (line_read number (draft_of settings.old seen.old.items) line.now) }
 {
     let text = without_end(without_front(line));
     if text.is_empty() {

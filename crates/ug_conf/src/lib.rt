@@ -6,6 +6,7 @@ mod defaults;
 mod draft;
 mod fault;
 mod keys;
+mod laws;
 mod names;
 mod principal;
 mod reader;
@@ -17,7 +18,7 @@ mod values;
 
 pub use defaults::default_settings;
 pub use fault::{Fault, FaultKind, LineFault};
-pub use keys::Key;
+pub use laws::{lines_law, one_meaning, reading_is_grammar};
 pub use principal::Principal;
 pub use reader::SettingsReader;
 pub use settings::{AuthDefault, Inserted, Present, Settings};

@@ -2,7 +2,10 @@
 ghost use Rattle.std.specs.Prelude.{◌≡◌, ◌≤◌, IsTrue, length, true};
 ghost use Rattle.std.specs.List.{list_all};
 ghost use Rattle.ug_conf.specs.Principals as principals;
-ghost use Rattle.ug_conf.specs.Principals.{is_name, principal_of, principal_named};
+ghost use Rattle.ug_conf.specs.Principals.{is_name, principal_of, principal_named, same_principal};
+ghost use Rattle.std.proofs.Common.{rules};
+ghost use Rattle.std.specs.Cmp as Cmp;
+ghost use Rattle.std.specs.Cmp.Rules.{comparing};
 
 use std::marker::Model;
 
@@ -105,4 +108,18 @@ impl Principal {
     {
         &self.bytes[..self.len as usize]
     }
+}
+
+impl PartialEq for Principal {
+    ghost eq = { same_principal };
+
+    ghost laws = { Cmp.partial_equiv_from_equiv (Prim.search (comparing, rules)) };
+
+    fn eq(&self, other: &Principal) -> bool {
+        self.is_group() == other.is_group() && self.name() == other.name()
+    }
+}
+
+impl Eq for Principal {
+    ghost laws = { Prim.search (comparing, rules) };
 }

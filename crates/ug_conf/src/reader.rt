@@ -1,5 +1,6 @@
 // Settings that come a line at a time.
 ghost use Rattle.std.specs.Prelude.{◌≡◌, [], IfOk};
+ghost use Rattle.ug_conf.specs.Draft.{draft_of};
 ghost use Rattle.ug_conf.specs.Settings.{defaults};
 ghost use Rattle.ug_conf.specs.Reader.{TakesLine};
 
@@ -22,17 +23,18 @@ pub struct SettingsReader {
 }
 
 impl Model for SettingsReader {
+    ghost use Rattle.ug_conf.specs.Draft.{draft_of};
     ghost use Rattle.ug_conf.specs.Reader.{Progress};
 
     ghost Value = { Progress };
 
-    ghost view = { λ r. record { draft = (r.settings, r.seen.items); lines = r.lines } };
+    ghost view = { λ r. record { draft = draft_of r.settings r.seen.items; lines = r.lines } };
 }
 
 impl SettingsReader {
     /// No line yet: the settings are those of `default_settings`.
     pub fn new(alloc: Global) -> Result<SettingsReader, NoMemory>
-        ensures { IfOk result (λ reader. reader ≡ record { draft = (defaults, []); lines = 0 }) }
+        ensures { IfOk result (λ reader. reader ≡ record { draft = draft_of defaults []; lines = 0 }) }
     {
         Ok(SettingsReader {
             alloc,
@@ -66,7 +68,7 @@ impl SettingsReader {
 
     /// The settings of the lines so far.
     pub fn finish(self) -> Settings
-        ensures { result ≡ self.draft.0 }
+        ensures { result ≡ self.draft.settings }
     {
         self.settings
     }

@@ -171,6 +171,8 @@ fn reads_names_of_users_and_groups(rt: HostRuntime) {
     assert!(rt; Principal::parse(b":").is_none());
     assert!(rt; Principal::parse(b"::a").is_none());
     assert!(rt; Principal::parse(b"a b").is_none());
+    assert_eq!(rt; Principal::parse(b":adm"), Principal::named(true, b"adm"));
+    assert_ne!(rt; Principal::parse(b"adm"), Principal::named(true, b"adm"));
 }
 
 #[test]

@@ -1,0 +1,105 @@
+-- Words are keys and values exactly as these are written.
+use Rattle.std.proofs.Common.{◌≡◌, ℕ, Bool, true, false, cond, nat_eq, List, Option, Some, refl, sym, ap, ◌∙◌}
+use Rattle.std.specs.Prelude.{codes}
+use Rattle.std.specs.Cmp.Lexicographic.{pointwise, same_text}
+use Rattle.std.proofs.lemmas.Option.{none-some, same_Some}
+use Rattle.ug_types.specs.declared.verdict.Target.{Target}
+use Rattle.ug_types.specs.declared.verdict.Target.TheVariants as target
+use Rattle.ug_conf.specs.declared.keys.Key.{Key}
+use Rattle.ug_conf.specs.declared.keys.Key.TheVariants as key
+use Rattle.ug_conf.specs.declared.settings.AuthDefault.{AuthDefault}
+use Rattle.ug_conf.specs.declared.settings.AuthDefault.TheVariants as auth_default
+use Rattle.ug_conf.specs.declared.settings.Inserted.{Inserted}
+use Rattle.ug_conf.specs.declared.settings.Inserted.TheVariants as inserted
+use Rattle.ug_conf.specs.declared.settings.Present.{Present}
+use Rattle.ug_conf.specs.declared.settings.Present.TheVariants as present
+use Rattle.ug_conf.specs.Keys.{key_of, unused_key_of}
+use Rattle.ug_conf.specs.Values.{target_of, present_of, inserted_of, default_of, flag_of}
+use Rattle.ug_conf.specs.Grammar.{word_of, target_word, present_word, inserted_word, default_word, flag_word}
+
+-- one row of a table
+named : {X : Type 0} (spell : X → List ℕ) (word text : List ℕ) (here it : X) (rest : Option X) → text ≡ spell here → (rest ≡ Some it → word ≡ spell it) → cond (pointwise nat_eq word text) (Some here) rest ≡ Some it → word ≡ spell it
+named {X} spell word text here it rest t f h = by (pointwise nat_eq word text) refl h
+  where
+    by : (v : Bool) → pointwise nat_eq word text ≡ v → cond v (Some here) rest ≡ Some it → word ≡ spell it
+    by true e k = same_text word text (sym e) ∙ t ∙ ap spell (same_Some here it k)
+    by false e k = f k
+
+unused_key_written : (word : List ℕ) (it : Key) → unused_key_of word ≡ Some it → word ≡ word_of it
+unfolding unused_key_of
+unused_key_written word it h = named word_of word (codes "RestoreControllerDeviceState") key.RestoreControllerDeviceState it _ refl (λ h. named word_of word (codes "DeviceManagerBackend") key.DeviceManagerBackend it _ refl (λ h. named word_of word (codes "AuditBackend") key.AuditBackend it _ refl (λ h. named word_of word (codes "AuditFilePath") key.AuditFilePath it _ refl (λ h. named word_of word (codes "HidePII") key.HidePii it _ refl (λ h. absurd (none-some it h)) h) h) h) h) h
+
+pub key_written : (word : List ℕ) (it : Key) → key_of word ≡ Some it → word ≡ word_of it
+unfolding key_of
+key_written word it h = named word_of word (codes "RuleFile") key.RuleFile it _ refl (λ h. named word_of word (codes "RuleFolder") key.RuleFolder it _ refl (λ h. named word_of word (codes "ImplicitPolicyTarget") key.ImplicitPolicyTarget it _ refl (λ h. named word_of word (codes "PresentDevicePolicy") key.PresentDevicePolicy it _ refl (λ h. named word_of word (codes "PresentControllerPolicy") key.PresentControllerPolicy it _ refl (λ h. named word_of word (codes "InsertedDevicePolicy") key.InsertedDevicePolicy it _ refl (λ h. named word_of word (codes "AuthorizedDefault") key.AuthorizedDefault it _ refl (λ h. named word_of word (codes "IPCAllowedUsers") key.IpcAllowedUsers it _ refl (λ h. named word_of word (codes "IPCAllowedGroups") key.IpcAllowedGroups it _ refl (λ h. named word_of word (codes "IPCAccessControlFiles") key.IpcAccessControlFiles it _ refl (λ h. named word_of word (codes "DeviceRulesWithPort") key.DeviceRulesWithPort it _ refl (λ h. unused_key_written word it h) h) h) h) h) h) h) h) h) h) h) h
+
+pub key_read : (it : Key) → key_of (word_of it) ≡ Some it
+unfolding key_of unused_key_of
+key_read key.RuleFile = refl
+key_read key.RuleFolder = refl
+key_read key.ImplicitPolicyTarget = refl
+key_read key.PresentDevicePolicy = refl
+key_read key.PresentControllerPolicy = refl
+key_read key.InsertedDevicePolicy = refl
+key_read key.AuthorizedDefault = refl
+key_read key.IpcAllowedUsers = refl
+key_read key.IpcAllowedGroups = refl
+key_read key.IpcAccessControlFiles = refl
+key_read key.DeviceRulesWithPort = refl
+key_read key.RestoreControllerDeviceState = refl
+key_read key.DeviceManagerBackend = refl
+key_read key.AuditBackend = refl
+key_read key.AuditFilePath = refl
+key_read key.HidePii = refl
+
+pub target_written : (word : List ℕ) (it : Target) → target_of word ≡ Some it → word ≡ target_word it
+unfolding target_of
+target_written word it h = named target_word word (codes "allow") target.Allow it _ refl (λ h. named target_word word (codes "block") target.Block it _ refl (λ h. named target_word word (codes "reject") target.Reject it _ refl (λ h. absurd (none-some it h)) h) h) h
+
+pub target_read : (it : Target) → target_of (target_word it) ≡ Some it
+unfolding target_of
+target_read target.Allow = refl
+target_read target.Block = refl
+target_read target.Reject = refl
+
+pub present_written : (word : List ℕ) (it : Present) → present_of word ≡ Some it → word ≡ present_word it
+unfolding present_of
+present_written word it h = named present_word word (codes "allow") present.Allow it _ refl (λ h. named present_word word (codes "block") present.Block it _ refl (λ h. named present_word word (codes "reject") present.Reject it _ refl (λ h. named present_word word (codes "keep") present.Keep it _ refl (λ h. named present_word word (codes "apply-policy") present.Apply it _ refl (λ h. absurd (none-some it h)) h) h) h) h) h
+
+pub present_read : (it : Present) → present_of (present_word it) ≡ Some it
+unfolding present_of
+present_read present.Allow = refl
+present_read present.Block = refl
+present_read present.Reject = refl
+present_read present.Keep = refl
+present_read present.Apply = refl
+
+pub inserted_written : (word : List ℕ) (it : Inserted) → inserted_of word ≡ Some it → word ≡ inserted_word it
+unfolding inserted_of
+inserted_written word it h = named inserted_word word (codes "block") inserted.Block it _ refl (λ h. named inserted_word word (codes "reject") inserted.Reject it _ refl (λ h. named inserted_word word (codes "apply-policy") inserted.Apply it _ refl (λ h. absurd (none-some it h)) h) h) h
+
+pub inserted_read : (it : Inserted) → inserted_of (inserted_word it) ≡ Some it
+unfolding inserted_of
+inserted_read inserted.Block = refl
+inserted_read inserted.Reject = refl
+inserted_read inserted.Apply = refl
+
+pub default_written : (word : List ℕ) (it : AuthDefault) → default_of word ≡ Some it → word ≡ default_word it
+unfolding default_of
+default_written word it h = named default_word word (codes "keep") auth_default.Keep it _ refl (λ h. named default_word word (codes "none") auth_default.None it _ refl (λ h. named default_word word (codes "all") auth_default.All it _ refl (λ h. named default_word word (codes "internal") auth_default.Internal it _ refl (λ h. absurd (none-some it h)) h) h) h) h
+
+pub default_read : (it : AuthDefault) → default_of (default_word it) ≡ Some it
+unfolding default_of
+default_read auth_default.Keep = refl
+default_read auth_default.None = refl
+default_read auth_default.All = refl
+default_read auth_default.Internal = refl
+
+pub flag_written : (word : List ℕ) (it : Bool) → flag_of word ≡ Some it → word ≡ flag_word it
+unfolding flag_of
+flag_written word it h = named flag_word word (codes "true") true it _ refl (λ h. named flag_word word (codes "false") false it _ refl (λ h. absurd (none-some it h)) h) h
+
+pub flag_read : (it : Bool) → flag_of (flag_word it) ≡ Some it
+unfolding flag_of
+flag_read true = refl
+flag_read false = refl
