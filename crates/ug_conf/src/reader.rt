@@ -61,7 +61,7 @@ impl SettingsReader {
 
     /// The settings of the lines so far, where more may come.
     pub fn so_far(&self) -> &Settings
-        ensures { result.now ≡ self.now.draft.0 }
+        ensures { result.now ≡ self.now.draft.settings }
     {
         &self.settings
     }

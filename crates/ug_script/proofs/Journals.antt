@@ -264,7 +264,7 @@ kept_if first q es text new other false o p x y = y refl
 
 kept_conf : (first : World) (q : Type 0) (es : List Entry) (text : List ℕ) (r : Result Draft conf.Fault) (s : Script) (w : World) → s.setup ≡ true → Kept first q es text s w → KeptAfter first q es text [] (conf_read r s w)
 kept_conf first q es text (Ok draft) s w setup h =
-    let t : Script = record s { settings = record { draft = draft; lines = next_number s.settings.lines }; daemon = with_classes (classes_of draft.0) s.daemon } in
+    let t : Script = record s { settings = record { draft = draft; lines = next_number s.settings.lines }; daemon = with_classes (classes_of draft.settings) s.daemon } in
     kept_still first q es text (Some t, w) (kept_setup first q es text s t w setup refl refl refl (h.untaken setup) h)
 kept_conf first q es text (Err fault) s w setup h = tt
 

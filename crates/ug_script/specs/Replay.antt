@@ -14,7 +14,7 @@ use Rattle.ug_policy.specs.declared.entry.RuleEntry.{RuleEntry}
 use Rattle.ug_policy.specs.Edits.{new_entry}
 use Rattle.ug_conf.specs.declared.fault.Fault as conf
 use Rattle.ug_conf.specs.Settings.{defaults}
-use Rattle.ug_conf.specs.Draft.{Draft, line_read}
+use Rattle.ug_conf.specs.Draft.{Draft, draft_of, line_read}
 use Rattle.ug_conf.specs.Reader.{Progress, next_number}
 use Rattle.ug_core.specs.declared.classes.Classes.{Classes}
 use Rattle.ug_core.specs.Settings.{classes_of}
@@ -63,7 +63,7 @@ no_seed = replicate 32 0
 abbrev pub fresh : Script
 fresh = record {
   setup = true;
-  settings = record { draft = (defaults, []); lines = 0 };
+  settings = record { draft = draft_of defaults []; lines = 0 };
   seed = None;
   zoned = false;
   moves = [];
@@ -140,7 +140,7 @@ abbrev pub with_classes : Classes → DaemonState → DaemonState
 with_classes classes d = with_judge (record d.sweep.judge { classes = classes }) d
 
 abbrev pub conf_read : Result Draft conf.Fault → Script → World → Outcome (Option Script × World)
-conf_read (Ok draft) s w = quiet (record s { settings = record { draft = draft; lines = next_number s.settings.lines }; daemon = with_classes (classes_of draft.0) s.daemon }) w
+conf_read (Ok draft) s w = quiet (record s { settings = record { draft = draft; lines = next_number s.settings.lines }; daemon = with_classes (classes_of draft.settings) s.daemon }) w
 conf_read (Err fault) s w = bad s w
 
 -- one settings line, while rules may come
