@@ -23,11 +23,12 @@ fn next_line(text: &[u8]) -> (&[u8], &[u8])
     (text, &text[text.len()..])
 }
 
-/// The settings that a text gives, or its first bad line: usbguard-daemon.conf(5). Lines are empty, begin with `#`, or are
-/// `Key=Value`, where blanks, space and tab, may stand at both ends and about the first `=`. A key stands once at most, and
-/// one that no line has is as in `default_settings`. A fault is of `FaultKind`, and of a line several things are wrong
-/// with, the first of them in the order `NoEquals`, `UnknownKey`, `Repeated`, `BadValue` counts. The place of a bad value is
-/// where it begins, and 0 for the others. The last line may lack its newline. Linear in the number of bytes.
+/// The settings of a text, or its first bad line: usbguard-daemon.conf(5). A line is empty, a comment that begins with `#`,
+/// or `Key=Value`. Blanks, space and tab, may stand at its ends and about the first `=`. Each key stands once at most; those
+/// that don't stand are as in `default_settings`. A bad line is told by its number, counted from 1, the number of its
+/// `FaultKind`, and the place where the value begins for `BadValue`, else 0. Where several things are wrong with it, the
+/// first of `NoEquals`, `UnknownKey`, `Repeated` and `BadValue` is told. The last line may lack its newline. Linear in the
+/// number of bytes.
 pub fn parse_conf(alloc: Global, text: &[u8]) -> Result<Settings, FileFault>
     ensures good { IfOk result (λ settings. conf_read text.now ≡ Ok settings) }
     ensures bad { IfErr result (λ fault. IsFault fault (conf_read text.now)) }
