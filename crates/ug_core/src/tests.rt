@@ -1,10 +1,10 @@
 // Events over a kernel in memory: the journal's lines of each.
-ghost use Rattle.std.specs.Prelude.{◌≡◌, None, IfOk};
-
-use crate::{Daemon, Event, line_of};
+use crate::{Classes, Daemon, Event, Policy, line_of};
+use jiff::tz::TimeZone;
 use std::alloc::Global;
 use std::process::Abort;
 use std::test::Fail;
+use ug_conf::default_settings;
 use ug_policy::RuleList;
 use ug_sysfs::{Device, SimKernel, Sysfs};
 use ug_types::{Id, List, Moment, NodeName, Op, Query, Rule, Target, Text, Values};
@@ -28,9 +28,7 @@ fn device(alloc: Global, name: &[u8], on: bool) -> Result<Device, Fail> {
     })
 }
 
-fn rule(alloc: Global, target: Target, product: u16) -> Result<Rule, Fail>
-    ensures { IfOk result (λ r. r.conds ≡ None) }
-{
+fn rule(alloc: Global, target: Target, product: u16) -> Result<Rule, Fail> {
     let id = Id {
         vendor: Some(0x1050),
         product: Some(product),
@@ -54,11 +52,17 @@ fn rule(alloc: Global, target: Target, product: u16) -> Result<Rule, Fail>
     })
 }
 
-fn add(rt: &impl Abort, daemon: &mut Daemon, rule: Rule) -> Result<(), Fail>
-    requires { rule.conds ≡ None }
-{
+// Settings by default, no rules, the clock of UTC, and a seed of zeros.
+fn start(alloc: Global, first: u64) -> Result<Daemon, Fail> {
+    let classes = Classes::of(&default_settings(alloc)?);
+    let policy = Policy::new(classes, RuleList::new(alloc), TimeZone::UTC, [0; 32]);
+    Ok(Daemon::start(alloc, policy, first)?)
+}
+
+fn add(rt: &impl Abort, daemon: &mut Daemon, rule: Rule) -> Result<(), Fail> {
     assert!(rt; daemon.policy.has_place());
-    daemon.policy.append(rule)?;
+    let policy = &mut daemon.policy;
+    policy.append(rule)?;
     Ok(())
 }
 
@@ -77,7 +81,7 @@ fn keeps_a_hub_and_allows_by_a_rule(rt: HostRuntime) -> Result<(), Fail> {
     let mut kernel = SimKernel::new(alloc);
     kernel.plug(device(alloc, b"usb1", true)?)?;
     kernel.plug(device(alloc, b"1-1", false)?)?;
-    let mut daemon = Daemon::start(alloc, RuleList::new(alloc), 7)?;
+    let mut daemon = start(alloc, 7)?;
     add(&rt, &mut daemon, rule(alloc, Target::Block, 0x12)?)?;
     add(&rt, &mut daemon, rule(alloc, Target::Allow, 0x11)?)?;
     add(&rt, &mut daemon, rule(alloc, Target::Block, 0x11)?)?;
@@ -101,7 +105,7 @@ fn judges_anew_after_a_replug(rt: HostRuntime) -> Result<(), Fail> {
     let mut kernel = SimKernel::new(alloc);
     kernel.plug(device(alloc, b"usb1", false)?)?;
     kernel.plug(device(alloc, b"1-1", true)?)?;
-    let mut daemon = Daemon::start(alloc, RuleList::new(alloc), 1)?;
+    let mut daemon = start(alloc, 1)?;
     assert!(rt; daemon.has_numbers(kernel.faults(), 0));
     daemon.handle(alloc, &Event::Sweep(Moment(5)), &mut kernel);
     let blocked: [&[u8]; 6] = [

@@ -4,7 +4,7 @@ use std::alloc::AllocError;
 
 #[test]
 fn a_bad_line_is_named_behind_what_was_written(rt: HostRuntime) -> Result<(), AllocError> {
-    let lines: [&[u8]; 13] = [
+    let lines: [&[u8]; 21] = [
         b"frobnicate",
         b"usbguard-replay 1",
         b"sweep",
@@ -18,6 +18,14 @@ fn a_bad_line_is_named_behind_what_was_written(rt: HostRuntime) -> Result<(), Al
         b"unplug usb",
         b"rule allow 1050:0011",
         b"\xff",
+        b"fail",
+        b"fail 0",
+        b"fail 1048577",
+        b"fail 1 Effect",
+        b"before 1",
+        b"before 1 sweep 1",
+        b"after 0 unplug usb1",
+        b"after 1 plug usb1 1 12 - -",
     ];
     for line in lines {
         let mut text = Vec::from_slice(rt.alloc(), b"usbguard-replay 1\nsweep 250000000000\n")?;

@@ -18,6 +18,12 @@ mod grammar_tests;
 #[cfg(test)]
 mod limit_tests;
 #[cfg(test)]
+mod condition_tests;
+#[cfg(test)]
+mod race_tests;
+#[cfg(test)]
+mod settings_tests;
+#[cfg(test)]
 mod policy_tests;
 #[cfg(test)]
 mod sweep_tests;
