@@ -10,6 +10,8 @@ pub use tool::run_tool;
 #[cfg(test)]
 mod checking_tests;
 #[cfg(test)]
+mod condition_tests;
+#[cfg(test)]
 mod descriptor_tests;
 #[cfg(test)]
 mod fault_tests;
@@ -18,13 +20,11 @@ mod grammar_tests;
 #[cfg(test)]
 mod limit_tests;
 #[cfg(test)]
-mod condition_tests;
+mod policy_tests;
 #[cfg(test)]
 mod race_tests;
 #[cfg(test)]
 mod settings_tests;
-#[cfg(test)]
-mod policy_tests;
 #[cfg(test)]
 mod sweep_tests;
 #[cfg(test)]

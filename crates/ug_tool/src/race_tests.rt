@@ -6,21 +6,20 @@ use ug_sysfs::{SimKernel, Write};
 use ug_types::{MemSink, MemSource};
 
 // Two root hubs and two devices, each of which a rule allows.
-const LAPTOP: &[u8] = b"usbguard-replay 1\nrule allow id 1d6b:0002 serial \"\" name \"\" hash \"UifcM5riWUglSXgfOD6TcVxlq6V0aYExxnpoqsaD/yE=\" parent-hash \"\" with-interface 09:00:00 with-connect-type \"\"\nrule allow id 1d6b:0002 serial \"\" name \"\" hash \"UifcM5riWUglSXgfOD6TcVxlq6V0aYExxnpoqsaD/yE=\" parent-hash \"\" with-interface 09:00:00 with-connect-type \"\"\nrule allow id 046d:0825 serial \"\" name \"USB Webcam\" hash \"qUosfV9cR6K5a6wJ6p/JPtrOskQq9B/GqEQAlBlG5HM=\" parent-hash \"UifcM5riWUglSXgfOD6TcVxlq6V0aYExxnpoqsaD/yE=\" with-interface { 0e:01:00 0e:02:00 0e:02:00 0e:02:00 } with-connect-type \"hotplug\"\nrule allow id 046d:c31c serial \"\" name \"USB Keyboard\" hash \"tAIpAbwVls8slwmSO+6fs+0iCw6RjR+7jdOS5qWnej0=\" parent-hash \"UifcM5riWUglSXgfOD6TcVxlq6V0aYExxnpoqsaD/yE=\" with-interface 03:01:01 with-connect-type \"hotplug\"\nplug usb1 1 12010002090001406b1d020006060302010109021900010100e0000904000001090000000705810304000c - - -\nplug usb2 1 12010002090001406b1d020006060302010109021900010100e0000904000001090000000705810304000c - - -\nplug 1-1 0 12010002ef0201406d04250812000000020109022d0002010080fa09040000000e01000009040100000e02000009040101000e02000009040102000e020000 \"USB Webcam\" - \"hotplug\"\nplug 1-2 0 12011001000000086d041cc300640102000109022200010100a0320904000001030101000921100100012241000705810308000a \"USB Keyboard\" - \"hotplug\"\n";
+const LAPTOP: &[u8] =
+    b"usbguard-replay 1\nrule allow id 1d6b:0002 serial \"\" name \"\" hash \"UifcM5riWUglSXgfOD6TcVxlq6V0aYExxnpoqsaD/yE=\" parent-hash \"\" with-interface 09:00:00 with-connect-type \"\"\nrule allow id 1d6b:0002 serial \"\" name \"\" hash \"UifcM5riWUglSXgfOD6TcVxlq6V0aYExxnpoqsaD/yE=\" parent-hash \"\" with-interface 09:00:00 with-connect-type \"\"\nrule allow id 046d:0825 serial \"\" name \"USB Webcam\" hash \"qUosfV9cR6K5a6wJ6p/JPtrOskQq9B/GqEQAlBlG5HM=\" parent-hash \"UifcM5riWUglSXgfOD6TcVxlq6V0aYExxnpoqsaD/yE=\" with-interface { 0e:01:00 0e:02:00 0e:02:00 0e:02:00 } with-connect-type \"hotplug\"\nrule allow id 046d:c31c serial \"\" name \"USB Keyboard\" hash \"tAIpAbwVls8slwmSO+6fs+0iCw6RjR+7jdOS5qWnej0=\" parent-hash \"UifcM5riWUglSXgfOD6TcVxlq6V0aYExxnpoqsaD/yE=\" with-interface 03:01:01 with-connect-type \"hotplug\"\nplug usb1 1 12010002090001406b1d020006060302010109021900010100e0000904000001090000000705810304000c - - -\nplug usb2 1 12010002090001406b1d020006060302010109021900010100e0000904000001090000000705810304000c - - -\nplug 1-1 0 12010002ef0201406d04250812000000020109022d0002010080fa09040000000e01000009040100000e02000009040101000e02000009040102000e020000 \"USB Webcam\" - \"hotplug\"\nplug 1-2 0 12011001000000086d041cc300640102000109022200010100a0320904000001030101000921100100012241000705810308000a \"USB Keyboard\" - \"hotplug\"\n";
 
 // The calls of its first event.
 const CALLS: u8 = 33;
 
 #[test]
 fn a_device_replaced_while_it_is_bound(rt: HostRuntime) -> Result<(), AllocError> {
-    let cases: [Case; 1] = [
-        (
-            b"usbguard-replay 1\nrule allow 1050:0011\nplug usb1 1 12010002090001406b1d020006060302010109021900010100e0000904000001090000000705810304000c - - -\nsweep 100\nplug 1-1 0 120100020000004050101100000100000001 - - -\nbefore 4 unplug 1-1\nbefore 4 plug 1-1 0 120100020000004050101200000100000001 - - -\nsweep 101\nsweep 102\n",
-            0,
-            0,
-            b"event 1 sweep 100\njudged 1 usb1 allow keep\nend 1\nevent 2 sweep 101\nend 2\nevent 3 sweep 102\njudged 2 1-1 block implicit\nend 3\ndone 3\n",
-        ),
-    ];
+    let cases: [Case; 1] = [(
+        b"usbguard-replay 1\nrule allow 1050:0011\nplug usb1 1 12010002090001406b1d020006060302010109021900010100e0000904000001090000000705810304000c - - -\nsweep 100\nplug 1-1 0 120100020000004050101100000100000001 - - -\nbefore 4 unplug 1-1\nbefore 4 plug 1-1 0 120100020000004050101200000100000001 - - -\nsweep 101\nsweep 102\n",
+        0,
+        0,
+        b"event 1 sweep 100\njudged 1 usb1 allow keep\nend 1\nevent 2 sweep 101\nend 2\nevent 3 sweep 102\njudged 2 1-1 block implicit\nend 3\ndone 3\n",
+    )];
     for case in &cases {
         assert!(rt; is_told(rt.alloc(), case)?);
     }
@@ -29,14 +28,12 @@ fn a_device_replaced_while_it_is_bound(rt: HostRuntime) -> Result<(), AllocError
 
 #[test]
 fn a_device_replaced_at_its_write(rt: HostRuntime) -> Result<(), AllocError> {
-    let cases: [Case; 1] = [
-        (
-            b"usbguard-replay 1\nrule allow 1050:0011\nplug usb1 1 12010002090001406b1d020006060302010109021900010100e0000904000001090000000705810304000c - - -\nsweep 100\nplug 1-1 0 120100020000004050101100000100000001 - - -\nbefore 12 unplug 1-1\nbefore 12 plug 1-1 0 120100020000004050101200000100000001 - - -\nsweep 101\nsweep 102\n",
-            0,
-            0,
-            b"event 1 sweep 100\njudged 1 usb1 allow keep\nend 1\nevent 2 sweep 101\njudged 2 1-1 allow rule 1\nintent 2 1-1 on\nwrote 2 1-1 on gone\ngone 2 1-1\nend 2\nevent 3 sweep 102\njudged 3 1-1 block implicit\nend 3\ndone 3\n",
-        ),
-    ];
+    let cases: [Case; 1] = [(
+        b"usbguard-replay 1\nrule allow 1050:0011\nplug usb1 1 12010002090001406b1d020006060302010109021900010100e0000904000001090000000705810304000c - - -\nsweep 100\nplug 1-1 0 120100020000004050101100000100000001 - - -\nbefore 12 unplug 1-1\nbefore 12 plug 1-1 0 120100020000004050101200000100000001 - - -\nsweep 101\nsweep 102\n",
+        0,
+        0,
+        b"event 1 sweep 100\njudged 1 usb1 allow keep\nend 1\nevent 2 sweep 101\njudged 2 1-1 allow rule 1\nintent 2 1-1 on\nwrote 2 1-1 on gone\ngone 2 1-1\nend 2\nevent 3 sweep 102\njudged 3 1-1 block implicit\nend 3\ndone 3\n",
+    )];
     for case in &cases {
         assert!(rt; is_told(rt.alloc(), case)?);
     }
@@ -67,14 +64,12 @@ fn a_write_that_fails_is_tried_again(rt: HostRuntime) -> Result<(), AllocError> 
 
 #[test]
 fn a_listing_that_fails(rt: HostRuntime) -> Result<(), AllocError> {
-    let cases: [Case; 1] = [
-        (
-            b"usbguard-replay 1\nrule allow 1050:0011\nplug usb1 1 12010002090001406b1d020006060302010109021900010100e0000904000001090000000705810304000c - - -\nplug 1-1 0 120100020000004050101100000100000001 - - -\nfail 17\nsweep 100\nfail 1\nsweep 101\n",
-            0,
-            1,
-            b"event 1 sweep 100\njudged 1 usb1 allow keep\njudged 2 1-1 allow rule 1\nintent 2 1-1 on\nwrote 2 1-1 on failed\nunsettled 1-1 fault 17 1\nend 1\nevent 2 sweep 101\nunsettled * fault 1 2\nintent 2 1-1 on\nwrote 2 1-1 on done\nend 2\ndone 2\n",
-        ),
-    ];
+    let cases: [Case; 1] = [(
+        b"usbguard-replay 1\nrule allow 1050:0011\nplug usb1 1 12010002090001406b1d020006060302010109021900010100e0000904000001090000000705810304000c - - -\nplug 1-1 0 120100020000004050101100000100000001 - - -\nfail 17\nsweep 100\nfail 1\nsweep 101\n",
+        0,
+        1,
+        b"event 1 sweep 100\njudged 1 usb1 allow keep\njudged 2 1-1 allow rule 1\nintent 2 1-1 on\nwrote 2 1-1 on failed\nunsettled 1-1 fault 17 1\nend 1\nevent 2 sweep 101\nunsettled * fault 1 2\nintent 2 1-1 on\nwrote 2 1-1 on done\nend 2\ndone 2\n",
+    )];
     for case in &cases {
         assert!(rt; is_told(rt.alloc(), case)?);
     }
@@ -99,12 +94,7 @@ fn push_number(text: &mut Vec<u8>, number: u8) -> Result<(), AllocError> {
 }
 
 // The laptop's script with a line for one call, and two events.
-fn with_line(
-    alloc: Global,
-    word: &[u8],
-    call: u8,
-    rest: &[u8],
-) -> Result<Vec<u8>, AllocError> {
+fn with_line(alloc: Global, word: &[u8], call: u8, rest: &[u8]) -> Result<Vec<u8>, AllocError> {
     let mut text = Vec::from_slice(alloc, LAPTOP)?;
     text.extend_from_slice(word)?;
     push_number(&mut text, call)?;
@@ -127,7 +117,10 @@ fn second(text: &[u8]) -> &[u8] {
 }
 
 fn all_on(kernel: &SimKernel) -> bool {
-    kernel.devices().iter().all(|device| device.gone || device.on)
+    kernel
+        .devices()
+        .iter()
+        .all(|device| device.gone || device.on)
 }
 
 #[test]
@@ -164,10 +157,7 @@ fn a_device_that_goes_at_any_call(rt: HostRuntime) -> Result<(), AllocError> {
 
 // The fifth device is the one that took the other's place.
 fn reached_stranger(kernel: &SimKernel) -> bool {
-    kernel
-        .log()
-        .iter()
-        .any(|effect| effect.device == 4 && matches!(effect.write, Write::On))
+    kernel.log().iter().any(|effect| effect.device == 4 && matches!(effect.write, Write::On))
 }
 
 #[test]

@@ -27,14 +27,12 @@ fn settings_decide_by_classes(rt: HostRuntime) -> Result<(), AllocError> {
 
 #[test]
 fn a_rejected_device_is_switched_off_and_removed(rt: HostRuntime) -> Result<(), AllocError> {
-    let cases: [Case; 1] = [
-        (
-            b"usbguard-replay 1\nrule reject 1050:0011\nplug usb1 1 12010002090001406b1d020006060302010109021900010100e0000904000001090000000705810304000c - - -\nplug 1-1 1 120100020000004050101100000100000001 - - -\nsweep 100\nsweep 101\n",
-            0,
-            2,
-            b"event 1 sweep 100\njudged 1 usb1 allow keep\njudged 2 1-1 reject rule 1\nintent 2 1-1 off\nwrote 2 1-1 off done\nintent 2 1-1 remove\nwrote 2 1-1 remove done\nend 1\nevent 2 sweep 101\nend 2\ndone 2\n",
-        ),
-    ];
+    let cases: [Case; 1] = [(
+        b"usbguard-replay 1\nrule reject 1050:0011\nplug usb1 1 12010002090001406b1d020006060302010109021900010100e0000904000001090000000705810304000c - - -\nplug 1-1 1 120100020000004050101100000100000001 - - -\nsweep 100\nsweep 101\n",
+        0,
+        2,
+        b"event 1 sweep 100\njudged 1 usb1 allow keep\njudged 2 1-1 reject rule 1\nintent 2 1-1 off\nwrote 2 1-1 off done\nintent 2 1-1 remove\nwrote 2 1-1 remove done\nend 1\nevent 2 sweep 101\nend 2\ndone 2\n",
+    )];
     for case in &cases {
         assert!(rt; is_told(rt.alloc(), case)?);
     }
@@ -43,14 +41,12 @@ fn a_rejected_device_is_switched_off_and_removed(rt: HostRuntime) -> Result<(), 
 
 #[test]
 fn a_stranger_is_not_removed(rt: HostRuntime) -> Result<(), AllocError> {
-    let cases: [Case; 1] = [
-        (
-            b"usbguard-replay 1\nrule reject 1050:0011\nplug usb1 1 12010002090001406b1d020006060302010109021900010100e0000904000001090000000705810304000c - - -\nsweep 100\nplug 1-1 0 120100020000004050101100000100000001 - - -\nbefore 12 unplug 1-1\nbefore 12 plug 1-1 0 120100020000004050101200000100000001 - - -\nsweep 101\nsweep 102\n",
-            0,
-            0,
-            b"event 1 sweep 100\njudged 1 usb1 allow keep\nend 1\nevent 2 sweep 101\njudged 2 1-1 reject rule 1\ngone 2 1-1\nend 2\nevent 3 sweep 102\njudged 3 1-1 block implicit\nend 3\ndone 3\n",
-        ),
-    ];
+    let cases: [Case; 1] = [(
+        b"usbguard-replay 1\nrule reject 1050:0011\nplug usb1 1 12010002090001406b1d020006060302010109021900010100e0000904000001090000000705810304000c - - -\nsweep 100\nplug 1-1 0 120100020000004050101100000100000001 - - -\nbefore 12 unplug 1-1\nbefore 12 plug 1-1 0 120100020000004050101200000100000001 - - -\nsweep 101\nsweep 102\n",
+        0,
+        0,
+        b"event 1 sweep 100\njudged 1 usb1 allow keep\nend 1\nevent 2 sweep 101\njudged 2 1-1 reject rule 1\ngone 2 1-1\nend 2\nevent 3 sweep 102\njudged 3 1-1 block implicit\nend 3\ndone 3\n",
+    )];
     for case in &cases {
         assert!(rt; is_told(rt.alloc(), case)?);
     }
@@ -59,14 +55,12 @@ fn a_stranger_is_not_removed(rt: HostRuntime) -> Result<(), AllocError> {
 
 #[test]
 fn a_device_that_was_not_bound_is_not_present(rt: HostRuntime) -> Result<(), AllocError> {
-    let cases: [Case; 1] = [
-        (
-            b"usbguard-replay 1\nconf PresentDevicePolicy=allow\nplug usb1 1 12010002090001406b1d020006060302010109021900010100e0000904000001090000000705810304000c - - -\nplug 1-1 0 120100020000004050101100000100000001 - - -\nfail 8\nsweep 100\nunplug 1-1\nplug 1-1 0 120100020000004050101200000100000001 - - -\nsweep 101\n",
-            0,
-            0,
-            b"event 1 sweep 100\njudged 1 usb1 allow keep\nunsettled 1-1 fault 8 1\nend 1\nevent 2 sweep 101\njudged 2 1-1 block implicit\nend 2\ndone 2\n",
-        ),
-    ];
+    let cases: [Case; 1] = [(
+        b"usbguard-replay 1\nconf PresentDevicePolicy=allow\nplug usb1 1 12010002090001406b1d020006060302010109021900010100e0000904000001090000000705810304000c - - -\nplug 1-1 0 120100020000004050101100000100000001 - - -\nfail 8\nsweep 100\nunplug 1-1\nplug 1-1 0 120100020000004050101200000100000001 - - -\nsweep 101\n",
+        0,
+        0,
+        b"event 1 sweep 100\njudged 1 usb1 allow keep\nunsettled 1-1 fault 8 1\nend 1\nevent 2 sweep 101\njudged 2 1-1 block implicit\nend 2\ndone 2\n",
+    )];
     for case in &cases {
         assert!(rt; is_told(rt.alloc(), case)?);
     }
