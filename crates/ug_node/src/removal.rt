@@ -35,12 +35,7 @@ pub fn hold_remove<Y: Sysfs>(
 }
 
 #[tactic(auto, unfolding(crate::specs::Removal::holding_remove))]
-fn open_remove<Y: Sysfs>(
-    alloc: Global,
-    sysfs: &mut Y,
-    name: &NodeName,
-    held: Held,
-) -> RemoveHold
+fn open_remove<Y: Sysfs>(alloc: Global, sysfs: &mut Y, name: &NodeName, held: Held) -> RemoveHold
     ensures { Runs Y.gives sysfs.old (holding_remove name.now held.0) result sysfs.new }
 {
     let file = match sysfs.open_control(alloc, name, Control::Remove) {
