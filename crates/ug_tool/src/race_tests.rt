@@ -139,6 +139,27 @@ fn each_call_that_fails_is_made_good(rt: HostRuntime) -> Result<(), AllocError> 
     Ok(())
 }
 
+// The laptop's script with two failing calls, and two events.
+fn with_pair(alloc: Global, first: u8, second: u8) -> Result<Vec<u8>, AllocError> {
+    let mut rest = Vec::from_slice(alloc, b"\nfail ")?;
+    push_number(&mut rest, second)?;
+    with_line(alloc, b"fail ", first, &rest)
+}
+
+#[test]
+fn each_pair_of_calls_that_fail_is_made_good(rt: HostRuntime) -> Result<(), AllocError> {
+    for first in 1..CALLS {
+        for second_call in first + 1..CALLS + 1 {
+            let text = with_pair(rt.alloc(), first, second_call)?;
+            let (status, output, kernel) = run(rt.alloc(), &text)?;
+            assert_eq!(rt; status, 0);
+            assert!(rt; !holds(second(&output), b"unsettled"));
+            assert!(rt; all_on(&kernel));
+        }
+    }
+    Ok(())
+}
+
 #[test]
 fn a_device_that_goes_at_any_call(rt: HostRuntime) -> Result<(), AllocError> {
     let words: [&[u8]; 2] = [b"before ", b"after "];
@@ -192,6 +213,34 @@ fn moves_of_one_call_come_as_written(rt: HostRuntime) -> Result<(), AllocError> 
             b"event 1 sweep 7\nend 1\nevent 2 sweep 8\njudged 1 usb1 block implicit\nintent 1 usb1 off\nwrote 1 usb1 off done\nend 2\ndone 2\n",
         ),
     ];
+    for case in &cases {
+        assert!(rt; is_told(rt.alloc(), case)?);
+    }
+    Ok(())
+}
+
+#[test]
+fn a_listing_fails_while_a_device_is_replaced(rt: HostRuntime) -> Result<(), AllocError> {
+    let cases: [Case; 1] = [(
+        b"usbguard-replay 1\nrule allow 1050:0011\nplug usb1 1 12010002090001406b1d020006060302010109021900010100e0000904000001090000000705810304000c - - -\nplug 1-1 0 120100020000004050101100000100000001 - - -\nsweep 100\nfail 1\nafter 1 unplug 1-1\nafter 1 plug 1-1 1 120100020000004050101200000100000001 - - -\nsweep 101\nsweep 102\n",
+        0,
+        2,
+        b"event 1 sweep 100\njudged 1 usb1 allow keep\njudged 2 1-1 allow rule 1\nintent 2 1-1 on\nwrote 2 1-1 on done\nend 1\nevent 2 sweep 101\nunsettled * fault 1 1\ngone 2 1-1\nend 2\nevent 3 sweep 102\njudged 3 1-1 block implicit\nintent 3 1-1 off\nwrote 3 1-1 off done\nend 3\ndone 3\n",
+    )];
+    for case in &cases {
+        assert!(rt; is_told(rt.alloc(), case)?);
+    }
+    Ok(())
+}
+
+#[test]
+fn a_parent_goes_between_the_readings_of_its_child(rt: HostRuntime) -> Result<(), AllocError> {
+    let cases: [Case; 1] = [(
+        b"usbguard-replay 1\nplug usb1 1 12010002090001406b1d020006060302010109021900010100e0000904000001090000000705810304000c - - -\nplug 1-1 1 12010002090001406b1d020006060302010109021900010100e0000904000001090000000705810304000c - - -\nplug 1-1.1 0 120100020000004050101100000100000001 - - -\nbefore 23 unplug 1-1\nsweep 100\nsweep 101\n",
+        0,
+        1,
+        b"event 1 sweep 100\njudged 1 usb1 allow keep\njudged 2 1-1 block implicit\nintent 2 1-1 off\nwrote 2 1-1 off done\nend 1\nevent 2 sweep 101\ngone 2 1-1\nend 2\ndone 2\n",
+    )];
     for case in &cases {
         assert!(rt; is_told(rt.alloc(), case)?);
     }
