@@ -16,7 +16,7 @@ use Rattle.ug_policy.specs.Kept.{StandsFor}
 use Rattle.ug_policy.specs.Matching.{matched, answer_by, greatest}
 use Rattle.ug_policy.specs.Rules.{IsNumbered}
 use Rattle.ug_policy.proofs.Finding.{behind_add, some_decider, outcome_at, outcome_none, whole_list, first_matches, numbered_found}
-use Rattle.ug_policy.proofs.Stands.{FirstMatches, stands_found}
+use Rattle.ug_policy.proofs.Stands.{stands_found}
 use Rattle.ug_conf.specs.declared.settings.Present.{Present}
 use Rattle.ug_conf.specs.declared.settings.Present.TheVariants as present
 use Rattle.ug_core.specs.Policy.{Judging, as_given, found_for, kept, choice_for, by_choice, by_class, verdict_of, asks, rules_if, stream_if, judgements_if, judgements_of, later_of}
@@ -66,7 +66,7 @@ numbered_class : (p : Judging) (records : List DeviceRecord) (dev : DeviceRecord
 numbered_class p records dev true n = numbered_rules p records dev n
 numbered_class p records dev false n = n
 
-pub numbered_later : (p : Judging) (records : List DeviceRecord) (dev : Judged) (controller was : Bool) → IsNumbered p.rules p.next → IsNumbered (later_of p records dev controller was).rules p.next
+numbered_later : (p : Judging) (records : List DeviceRecord) (dev : Judged) (controller was : Bool) → IsNumbered p.rules p.next → IsNumbered (later_of p records dev controller was).rules p.next
 numbered_later p records (judged.Malformed kind place) controller was n = n
 numbered_later p records (judged.Good dev) controller was n = numbered_class p records dev (asks p.classes controller was) n
 
@@ -149,4 +149,7 @@ later_verdict policy p records (judged.Good dev) controller was h =
       clock = h.clock;
       words = words.0;
       stream = words.1;
+      numbered = numbered_later p records (judged.Good dev) controller was h.numbered;
+      judgements = h.judgements ++ judgements_of p records (judged.Good dev) controller was;
+      histories = stands_later p records (judged.Good dev) controller was h.judgements h.numbered h.histories;
     }

@@ -9,7 +9,10 @@ use Rattle.ug_types.specs.declared.verdict.Cause.{Cause}
 use Rattle.ug_types.specs.declared.verdict.Cause.TheVariants as cause
 use Rattle.ug_policy.specs.declared.entry.RuleEntry.{RuleEntry}
 use Rattle.ug_policy.specs.Deciding.{IsDecider, HasNoDecider}
+use Rattle.ug_cond.specs.Judgements.{Judgement}
 use Rattle.ug_cond.specs.Words.{behind}
+use Rattle.ug_policy.specs.Kept.{StandsFor}
+use Rattle.ug_policy.specs.Rules.{IsNumbered}
 use Rattle.ug_conf.specs.declared.settings.Present.TheVariants as present
 use Rattle.ug_core.specs.Policy.{Judging, as_given, cause_for, choice_for}
 
@@ -32,7 +35,7 @@ pub data IsVerdict (p : Judging) (records : List DeviceRecord) : Judged → Bool
 
 -- What judges has given verdicts since: but for their histories the rules are the same, and so are the
 -- settings, the next id and the clock; random
--- conditions have taken some words.
+-- conditions have taken some words, and the histories stand for all judgements.
 pub record IsLater (policy p : Judging) : Type 0 where
   pub classes : p.classes ≡ policy.classes
   pub rules : as_given p.rules ≡ policy.rules
@@ -40,3 +43,6 @@ pub record IsLater (policy p : Judging) : Type 0 where
   pub clock : p.clock ≡ policy.clock
   pub words : ℕ
   pub stream : p.stream ≡ behind words policy.stream
+  pub numbered : IsNumbered p.rules p.next
+  pub judgements : List Judgement
+  pub histories : StandsFor p.rules p.next judgements

@@ -5,7 +5,7 @@ use Rattle.ug_types.specs.declared.verdict.Moment.{Moment}
 use Rattle.ug_sysfs.specs.World.{World, Gives, begun, over}
 use Rattle.ug_itree.specs.Tree.{Runs}
 use Rattle.ug_audit.specs.declared.entry.Entry.TheVariants as entry
-use Rattle.ug_play.specs.Play.{play, tells_memory, IsPlayed}
+use Rattle.ug_play.specs.Play.{tells_memory, IsPlayed}
 use Rattle.ug_play.proofs.Journals.{appends_one}
 use Rattle.ug_play.proofs.Sweeps.{event_played}
 use Rattle.ug_core.specs.Event as event

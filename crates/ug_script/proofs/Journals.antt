@@ -1,6 +1,7 @@
 -- What is written is the text of the journal, each effect is explained, numbers follow one another, and a script without
 -- failures names nobody and judges each device once.
-use Rattle.std.proofs.Common.{◌≡◌, ℕ, ◌+◌, Bool, true, false, not, is_none, ◌&&◌, ◌||◌, cond, nat_eq, nat_lt, List, [], ◌∷◌, ◌++◌, length, reverse, Option, Some, None, Result, Ok, Err, inl, inr, refl, sym, ◌∙◌, ap, subst, append_assoc, append-nil}
+use Rattle.std.proofs.lemmas.Bool.Decides.{nat_tests}
+use Rattle.std.proofs.Common.{◌≡◌, ℕ, ◌+◌, ◌-◌, ◌^◌, ◌<◌, arith, Bool, true, false, not, is_none, ◌&&◌, ◌||◌, cond, nat_eq, nat_lt, List, [], ◌∷◌, ◌++◌, length, reverse, Option, Some, None, Result, Ok, Err, inl, inr, refl, sym, ◌∙◌, ap, subst, append_assoc, append-nil}
 use Rattle.std.specs.Cmp.Lexicographic.{pointwise}
 use Rattle.std.specs.List.{list_any}
 use Rattle.ug_types.specs.Elements.{Has}
@@ -40,7 +41,15 @@ use Rattle.ug_sysfs.specs.declared.script.Failing.{Failing}
 use Rattle.ug_sysfs.specs.declared.script.Scheduled.{Scheduled}
 use Rattle.ug_script.specs.Schedule.{with_move, arranged}
 use Rattle.ug_script.specs.Laws.{event_of}
-use Rattle.ug_script.specs.Journal.{is_quiet, AreQuiet, noted_by, noted, left_by, journal, told_numbers, Follow, IsExplained, IsJudgedOnce, JudgesOnce, Recorded, StaysRecorded}
+use Rattle.ug_script.specs.Journal.{is_quiet, AreQuiet, noted_by, noted, left_by, journal, told_numbers, Follow, IsExplained, JudgesOnce, Recorded, StaysRecorded}
+use Rattle.std.proofs.lemmas.List.Edits.{insert_end}
+use Rattle.ug_cond.specs.Judgements.{Judgement}
+use Rattle.ug_policy.specs.declared.entry.RuleEntry.{RuleEntry}
+use Rattle.ug_policy.specs.Edits.{new_entry}
+use Rattle.ug_policy.specs.Kept.{StandsFor}
+use Rattle.ug_policy.specs.Rules.{IsNumbered}
+use Rattle.ug_policy.proofs.Numbering.{numbered_insert}
+use Rattle.ug_policy.proofs.Stands.{stands_insert}
 use Rattle.ug_script.proofs.Accounts.{judge_later}
 use Rattle.ug_script.proofs.Recorded.{explained_nowhere, Facts, facts_grow, framed, swept_facts, judged_once}
 use Rattle.ug_script.proofs.Lawful.{Holds, arranged_holds, HoldsIn, HoldsAfter, plays_sweep, handled, swept_holds, taken_holds, no_standing}
@@ -79,9 +88,30 @@ KeptAt first q es (Halted fault n text p) = Unit {0}
 kept_still : (first : World) (q : Type 0) (es : List Entry) (text : List ℕ) (p : Option Script × World) → KeptIn first q es text p → KeptIn first q (es ++ []) (text ++ []) p
 kept_still first q es text p h = subst (λ (v : List Entry). KeptIn first q v (text ++ []) p) (sym (append-nil es)) (subst (λ (v : List ℕ). KeptIn first q es v p) (sym (append-nil text)) h)
 
+-- the rules of a script are numbered, and their histories stand for some judgements
+record IsPast (s : Script) : Type 0 where
+  numbered : IsNumbered s.daemon.sweep.judge.rules s.daemon.sweep.judge.next
+  judgements : List Judgement
+  histories : StandsFor s.daemon.sweep.judge.rules s.daemon.sweep.judge.next judgements
+
+past_of : (first : World) (q : Type 0) (es : List Entry) (text : List ℕ) (s : Script) (w : World) → Kept first q es text s w → IsPast s
+past_of first q es text s w h = record { numbered = h.later.numbered; judgements = h.later.judgements; histories = h.later.histories }
+
+-- one rule more
+past_with : (rule : types.Rule) (s : Script) → length s.daemon.sweep.judge.rules < 65536 → IsPast s → IsPast (record s { daemon = with_rule rule s.daemon })
+past_with rule s few p =
+    let es : List RuleEntry = s.daemon.sweep.judge.rules in
+    let next : ℕ = s.daemon.sweep.judge.next in
+    let new : RuleEntry = new_entry next rule false in
+    record {
+      numbered = subst (λ (v : List RuleEntry). IsNumbered v (next + 1)) (insert_end es new) (numbered_insert es next (length es) new p.numbered refl (omega arith) few);
+      judgements = p.judgements;
+      histories = subst (λ (v : List RuleEntry). StandsFor v (next + 1) p.judgements) (insert_end es new) (stands_insert es next (length es) rule false p.judgements p.histories);
+    }
+
 -- what a setup line leaves: another policy, before anything else
-kept_setup : (first : World) (q : Type 0) (es : List Entry) (text : List ℕ) (s t : Script) (w : World) → s.setup ≡ true → t.daemon.sweep.standings ≡ s.daemon.sweep.standings → t.daemon.sweep.next ≡ s.daemon.sweep.next → t.moves ≡ s.moves → t.daemon.sweep.judge.stream ≡ seeded (seed_given t.seed) → Kept first q es text s w → Kept first q es text t w
-kept_setup first q es text s t w setup standings next moves words h =
+kept_setup : (first : World) (q : Type 0) (es : List Entry) (text : List ℕ) (s t : Script) (w : World) → s.setup ≡ true → t.daemon.sweep.standings ≡ s.daemon.sweep.standings → t.daemon.sweep.next ≡ s.daemon.sweep.next → t.moves ≡ s.moves → t.daemon.sweep.judge.stream ≡ seeded (seed_given t.seed) → IsPast t → Kept first q es text s w → Kept first q es text t w
+kept_setup first q es text s t w setup standings next moves words past h =
     let none = h.setup setup in
     let f = h.facts in
     let nobody_stands : t.daemon.sweep.standings ≡ [] = standings ∙ none.1 in
@@ -90,7 +120,7 @@ kept_setup first q es text s t w setup standings next moves words h =
       since = h.since;
       setup = λ _. (none.0, nobody_stands);
       untaken = λ _. words;
-      later = record { classes = refl; rules = refl; next = refl; clock = refl; words = 0; stream = words };
+      later = record { classes = refl; rules = refl; next = refl; clock = refl; words = 0; stream = words; numbered = past.numbered; judgements = past.judgements; histories = past.histories };
       facts = record {
         judged = λ x a. absurd (subst (λ (v : List Standing). Has v x) nobody_stands a);
         explained = record { added = f.explained.added; log = f.explained.log; each = λ e a. absurd (explained_nowhere (policy_of s) first.kernel w.kernel e (subst (λ (v : List Entry). IsExplained (policy_of s) v first.kernel w.kernel e) none.0 (f.explained.each e a))) };
@@ -108,9 +138,19 @@ both : (a b : Bool) → (a && b) ≡ true → a ≡ true
 both true b e = refl
 both false b e = let none : ⊥ = cc in absurd none
 
-kept_setup_if : (first : World) (q : Type 0) (es : List Entry) (text : List ℕ) (s t : Script) (w : World) (b : Bool) → (b ≡ true → s.setup ≡ true) → t.daemon.sweep.standings ≡ s.daemon.sweep.standings → t.daemon.sweep.next ≡ s.daemon.sweep.next → t.moves ≡ s.moves → (s.setup ≡ true → t.daemon.sweep.judge.stream ≡ seeded (seed_given t.seed)) → Kept first q es text s w → KeptAfter first q es text [] (cond b (quiet t w) (bad s w))
-kept_setup_if first q es text s t w true f standings next moves words h = kept_still first q es text (Some t, w) (kept_setup first q es text s t w (f refl) standings next moves (words (f refl)) h)
-kept_setup_if first q es text s t w false f standings next moves words h = tt
+second : (a b : Bool) → (a && b) ≡ true → b ≡ true
+second true b e = e
+second false b e = let none : ⊥ = cc in absurd none
+
+-- there is place for a rule
+few_by : (s : Script) → has_place s.daemon ≡ true → length s.daemon.sweep.judge.rules < 65536
+few_by s e =
+    let t : nat_lt (length s.daemon.sweep.judge.rules) 65536 ≡ true = both (nat_lt (length s.daemon.sweep.judge.rules) 65536) (nat_lt s.daemon.sweep.judge.next (2 ^ 64 - 1)) e in
+    grind (arith, nat_tests, t)
+
+kept_setup_if : (first : World) (q : Type 0) (es : List Entry) (text : List ℕ) (s t : Script) (w : World) (b : Bool) → (b ≡ true → s.setup ≡ true) → t.daemon.sweep.standings ≡ s.daemon.sweep.standings → t.daemon.sweep.next ≡ s.daemon.sweep.next → t.moves ≡ s.moves → (s.setup ≡ true → t.daemon.sweep.judge.stream ≡ seeded (seed_given t.seed)) → (b ≡ true → IsPast t) → Kept first q es text s w → KeptAfter first q es text [] (cond b (quiet t w) (bad s w))
+kept_setup_if first q es text s t w true f standings next moves words past h = kept_still first q es text (Some t, w) (kept_setup first q es text s t w (f refl) standings next moves (words (f refl)) (past refl) h)
+kept_setup_if first q es text s t w false f standings next moves words past h = tt
 
 -- devices come and go
 kept_moves : (first : World) (q : Type 0) (es : List Entry) (text : List ℕ) (s : Script) (w v : World) → HoldsIn (Some s, v) → Moves w.kernel v.kernel → v.fails ≡ w.fails → v.moves ≡ w.moves → Kept first q es text s w → Kept first q es text (record s { setup = false }) v
@@ -142,7 +182,7 @@ event_facts : (policy : Judging) (first : Kernel) (es : List Entry) (moment : Mo
 event_facts policy first es moment k l d e later since stood facts law =
     let v : State Judging = law.swept in
     let y : Entry = entry.End d.event in
-    let start : IsLater policy (event.begun d moment).judge = record { classes = later.classes; rules = later.rules; next = later.next; clock = later.clock; words = later.words; stream = later.stream } in
+    let start : IsLater policy (event.begun d moment).judge = record { classes = later.classes; rules = later.rules; next = later.next; clock = later.clock; words = later.words; stream = later.stream; numbered = later.numbered; judgements = later.judgements; histories = later.histories } in
     let at = swept_facts policy first es (not d.sweep.listed) k l (event.begun d moment) v d.event d.event moment start since stood facts law.law.fair in
     let framed_at : Facts policy first (es ++ (v.entries ++ y ∷ [])) l v.standings v.next = subst (λ (z : List Entry). Facts policy first (es ++ (z ++ y ∷ [])) l v.standings v.next) (sym law.law.fair.entries) at in
     subst (λ (z : State Judging). Facts policy first (es ++ z.entries) l z.standings z.next) (sym law.entries) framed_at
@@ -150,7 +190,7 @@ event_facts policy first es moment k l d e later since stood facts law =
 event_later : (policy : Judging) (moment : Moment) (k l : Kernel) (d e : DaemonState) → IsLater policy d.sweep.judge → Handled moment k d l e → IsLater policy e.sweep.judge
 event_later policy moment k l d e later law =
     let v : State Judging = law.swept in
-    let start : IsLater policy (event.begun d moment).judge = record { classes = later.classes; rules = later.rules; next = later.next; clock = later.clock; words = later.words; stream = later.stream } in
+    let start : IsLater policy (event.begun d moment).judge = record { classes = later.classes; rules = later.rules; next = later.next; clock = later.clock; words = later.words; stream = later.stream; numbered = later.numbered; judgements = later.judgements; histories = later.histories } in
     subst (λ (z : State Judging). IsLater policy z.judge) (sym law.entries) (judge_later policy (not d.sweep.listed) k l d.sweep.standings k.log (event.begun d moment).judge d.sweep.next law.law.fair.rest l.log v.judge v.next law.law.fair.account start)
 
 -- an event leaves the policy as the setup lines gave it
@@ -265,7 +305,8 @@ kept_if first q es text new other false o p x y = y refl
 kept_conf : (first : World) (q : Type 0) (es : List Entry) (text : List ℕ) (r : Result Draft conf.Fault) (s : Script) (w : World) → s.setup ≡ true → Kept first q es text s w → KeptAfter first q es text [] (conf_read r s w)
 kept_conf first q es text (Ok draft) s w setup h =
     let t : Script = record s { settings = record { draft = draft; lines = next_number s.settings.lines }; daemon = with_classes (classes_of draft.settings) s.daemon } in
-    kept_still first q es text (Some t, w) (kept_setup first q es text s t w setup refl refl refl (h.untaken setup) h)
+    let p = past_of first q es text s w h in
+    kept_still first q es text (Some t, w) (kept_setup first q es text s t w setup refl refl refl (h.untaken setup) (record { numbered = p.numbered; judgements = p.judgements; histories = p.histories }) h)
 kept_conf first q es text (Err fault) s w setup h = tt
 
 kept_conf_if : (first : World) (q : Type 0) (es : List Entry) (text : List ℕ) (r : Result Draft conf.Fault) (s : Script) (w : World) (b : Bool) → (b ≡ true → s.setup ≡ true) → Kept first q es text s w → KeptAfter first q es text [] (cond b (conf_read r s w) (bad s w))
@@ -295,16 +336,16 @@ step_kept : (first : World) (q : Type 0) (es : List Entry) (text : List ℕ) (st
 step_kept first q es text Skip s w h = weaker_after first q (q × (true ≡ true)) es text [] (quiet s w) (λ x. x.0) (kept_still first q es text (Some s, w) h)
 step_kept first q es text (Rule rule) s w h =
     let t : Script = record s { daemon = with_rule rule s.daemon } in
-    weaker_after first q (q × (true ≡ true)) es text [] (taken (Rule rule) s w) (λ x. x.0) (kept_setup_if first q es text s t w (s.setup && has_place s.daemon) (λ e. both s.setup (has_place s.daemon) e) refl refl refl h.untaken h)
+    weaker_after first q (q × (true ≡ true)) es text [] (taken (Rule rule) s w) (λ x. x.0) (kept_setup_if first q es text s t w (s.setup && has_place s.daemon) (λ e. both s.setup (has_place s.daemon) e) refl refl refl h.untaken (λ e. past_with rule s (few_by s (second s.setup (has_place s.daemon) e)) (past_of first q es text s w h)) h)
 step_kept first q es text (Conf line) s w h =
     let r = line_read (next_number s.settings.lines) s.settings.draft line in
     weaker_after first q (q × (true ≡ true)) es text [] (taken (Conf line) s w) (λ x. x.0) (kept_conf_if first q es text r s w (s.setup && is_setting line) (λ e. both s.setup (is_setting line) e) h)
 step_kept first q es text (Seed seed) s w h =
     let t : Script = record s { seed = Some seed; daemon = with_seed seed s.daemon } in
-    weaker_after first q (q × (true ≡ true)) es text [] (taken (Seed seed) s w) (λ x. x.0) (kept_setup_if first q es text s t w (s.setup && is_none s.seed) (λ e. both s.setup (is_none s.seed) e) refl refl refl (λ e. refl) h)
+    weaker_after first q (q × (true ≡ true)) es text [] (taken (Seed seed) s w) (λ x. x.0) (kept_setup_if first q es text s t w (s.setup && is_none s.seed) (λ e. both s.setup (is_none s.seed) e) refl refl refl (λ e. refl) (λ e. let p = past_of first q es text s w h in record { numbered = p.numbered; judgements = p.judgements; histories = p.histories }) h)
 step_kept first q es text (Zone offset) s w h =
     let t : Script = record s { zoned = true; daemon = with_zone offset s.daemon } in
-    weaker_after first q (q × (true ≡ true)) es text [] (taken (Zone offset) s w) (λ x. x.0) (kept_setup_if first q es text s t w (s.setup && (not s.zoned && is_offset offset)) (λ e. both s.setup (not s.zoned && is_offset offset) e) refl refl refl h.untaken h)
+    weaker_after first q (q × (true ≡ true)) es text [] (taken (Zone offset) s w) (λ x. x.0) (kept_setup_if first q es text s t w (s.setup && (not s.zoned && is_offset offset)) (λ e. both s.setup (not s.zoned && is_offset offset) e) refl refl refl h.untaken (λ e. let p = past_of first q es text s w h in record { numbered = p.numbered; judgements = p.judgements; histories = p.histories }) h)
 step_kept first q es text (Plug device) s w h =
     let v : World = with_devices (plugged device w.kernel.devices) w in
     weaker_after first q (q × (true ≡ true)) es text [] (taken (Plug device) s w) (λ x. x.0) (kept_still first q es text (Some (record s { setup = false }), v) (kept_moves first q es text s w v (taken_holds (Plug device) s w h.holds) (plugged_moves device w.kernel) refl refl h))
@@ -327,7 +368,7 @@ kept_fresh first q h = record {
   since = grows_refl first.kernel;
   setup = λ e. (refl, refl);
   untaken = λ e. refl;
-  later = record { classes = refl; rules = refl; next = refl; clock = refl; words = 0; stream = refl };
+  later = record { classes = refl; rules = refl; next = refl; clock = refl; words = 0; stream = refl; numbered = record { distinct = tt; below = λ id a. absurd a; few = omega arith }; judgements = []; histories = record { evaluated = λ j id a. absurd a; applied = λ j id a. absurd a; histories = λ e a. absurd a } };
   facts = record {
     judged = λ x a. absurd a;
     explained = record { added = []; log = sym (append-nil first.kernel.log); each = λ e a. absurd a };

@@ -1,5 +1,5 @@
 -- What each line of a script asks for.
-use Rattle.std.specs.Prelude.{◌≡◌, ℕ, ℤ, ◌+◌, ◌-◌, Bool, true, false, ◌||◌, nat_eq, if◌then◌else◌, List, [], ◌∷◌, length, take, drop, Option, Some, None, Result, Ok, Err, codes}
+use Rattle.std.specs.Prelude.{ℕ, ℤ, ◌+◌, ◌-◌, Bool, true, false, ◌||◌, nat_eq, if◌then◌else◌, List, length, take, drop, Option, Some, None, Result, Ok, Err, codes}
 use Rattle.std.specs.List.{starts_with, ends_with, position}
 use Rattle.ug_types.specs.declared.rule.Rule as types
 use Rattle.ug_kernel.specs.declared.device.Device.{Device}
@@ -7,8 +7,6 @@ use Rattle.ug_rule.specs.declared.fault.Fault.{Fault}
 use Rattle.ug_rule.specs.Rules.{rule_read}
 use Rattle.ug_script.specs.declared.step.Step.{Step}
 use Rattle.ug_script.specs.declared.step.Step.TheVariants.{Skip, Rule, Conf, Seed, Zone, Plug, Unplug, Schedule, Fail, Sweep}
-use Rattle.ug_script.specs.declared.step.StepFault.{StepFault}
-use Rattle.ug_script.specs.declared.step.StepFault.TheVariants.{Bad, Memory}
 use Rattle.ug_script.specs.Plugs.{device_of}
 use Rattle.ug_sysfs.specs.declared.script.Move.{Move}
 use Rattle.ug_sysfs.specs.declared.script.Move.TheVariants as move

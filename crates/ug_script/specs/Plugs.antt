@@ -1,11 +1,11 @@
 -- The device that a `plug` line plugs in.
-use Rattle.std.specs.Prelude.{ℕ, ◌+◌, ◌-◌, Bool, true, false, ◌&&◌, nat_eq, if◌then◌else◌, List, [], ◌∷◌, ◌++◌, length, take, drop, get_or, Option, Some, None, Result, Ok, Err, codes}
+use Rattle.std.specs.Prelude.{ℕ, ◌+◌, ◌-◌, Bool, true, false, ◌&&◌, nat_eq, if◌then◌else◌, List, [], ◌∷◌, ◌++◌, length, take, drop, get_or, Option, Some, None, Ok, Err, codes}
 use Rattle.std.specs.List.{starts_with, position}
 use Rattle.ug_kernel.specs.declared.device.Device.{Device}
 use Rattle.ug_lex.specs.declared.token.Token.{Token}
 use Rattle.ug_lex.specs.declared.token.TokenKind.{TokenKind}
 use Rattle.ug_lex.specs.declared.token.TokenKind.TheVariants.{Word, Str, Open, Close, ParenOpen, ParenClose, Bang}
-use Rattle.ug_lex.specs.Lexing.{Fault, Lexed, tokens_of}
+use Rattle.ug_lex.specs.Lexing.{Lexed, tokens_of}
 use Rattle.ug_script.specs.declared.plugs.Files.{Files}
 use Rattle.ug_script.specs.Words.{name_of, bytes_of}
 

@@ -10,7 +10,6 @@ use Rattle.ug_sysfs.specs.World.{World, begun, over}
 use Rattle.ug_audit.specs.declared.entry.Entry.{Entry}
 use Rattle.ug_audit.specs.Lines.{entry_line}
 use Rattle.ug_play.specs.Play.{play, tells_memory}
-use Rattle.ug_policy.specs.declared.entry.RuleEntry.{RuleEntry}
 use Rattle.ug_policy.specs.Edits.{new_entry}
 use Rattle.ug_conf.specs.declared.fault.Fault as conf
 use Rattle.ug_conf.specs.Settings.{defaults}

@@ -20,6 +20,12 @@ const KEY: [u8; 18] = [
 struct Rejecting {}
 
 impl Judge for Rejecting {
+    ghost use Rattle.ug_table.specs.declared.tests.Rejecting.{Rejecting};
+
+    ghost Meaning = { Rejecting };
+
+    ghost meaning = { λ judge. judge };
+
     ghost answer = { λ judge dev controller present on ss. if controller then (Allow, Implicit) else (Reject, Implicit) };
 
     ghost later = { λ judge dev controller present on ss. judge };
