@@ -69,5 +69,7 @@ printf 'allow 1050:0011 name "a\\x41"\nblock if { true !random(0.5) }\n' >"$fold
 printf '\022\001\000\002\000\000\000\100\120\020\021\000\000\001\000\000\000\001' >"$folder/device"
 try replay "$root/examples/first.script"
 try replay "$root/examples/replug.script"
+try replay "$root/examples/race.script"
+try replay "$root/examples/policy.script"
 try check-rules "$folder/rules"
 try read-descriptor "$folder/device"
