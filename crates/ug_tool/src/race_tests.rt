@@ -104,7 +104,7 @@ fn with_line(alloc: Global, word: &[u8], call: u8, rest: &[u8]) -> Result<Vec<u8
 }
 
 fn holds(text: &[u8], part: &[u8]) -> bool {
-    text.windows(part.len()).any(|window| window == part)
+    !part.is_empty() && text.windows(part.len()).any(|window| window == part)
 }
 
 // What stands behind the first line of the second event.
