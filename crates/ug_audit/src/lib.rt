@@ -3,10 +3,12 @@
 
 mod entries;
 mod entry;
+mod journal;
 mod lines;
 #[cfg(test)]
 mod lines_tests;
 
 pub use entries::Entries;
 pub use entry::{Entry, Fault};
+pub use journal::Journal;
 pub use lines::line_of;

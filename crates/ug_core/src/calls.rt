@@ -9,7 +9,7 @@ use crate::daemon::{Daemon, Event};
 use crate::policy::Policy;
 use crate::report::Report;
 use std::alloc::Global;
-use ug_audit::{Entries, Entry};
+use ug_audit::{Entries, Entry, Journal};
 use ug_sysfs::Sysfs;
 use ug_table::Table;
 use ug_types::{Moment, NoMemory};
@@ -77,11 +77,12 @@ impl Daemon {
         let number = self.next_event;
         sysfs.begin();
         self.policy.set_moment(moment);
-        let entries = &mut self.report.entries;
-        entries.clear();
-        entries.push(Entry::Event { number, moment });
-        self.table.sweep(alloc, sysfs, &mut self.policy, entries);
-        entries.push(Entry::End { number });
+        self.report.entries.clear();
+        let mut journal = Journal::join(&mut self.report.entries);
+        journal.push(Entry::Event { number, moment });
+        self.table
+            .sweep(alloc, sysfs, &mut self.policy, &mut journal);
+        journal.push(Entry::End { number });
         self.report.event = number;
         self.next_event += 1;
     }

@@ -133,6 +133,49 @@ impl Running {
         }
     }
 
+    /// Takes a rule, and writes nothing.
+    fn append(&mut self, rule: Rule) -> Ran
+        ensures silent { ¬ (result ≡ Ran.SinkFailed) }
+        ensures ran { (w : World) (held : Option (List ℕ)) → Steps (replay.rule_step rule (script_of self.old) w) (Some (script_of self.new), w) held held result }
+    {
+        if !self.takes_rules() {
+            return refuse(rule);
+        }
+        let daemon = &mut self.daemon;
+        match daemon.policy.append(rule) {
+            Ok(()) => Ran::Done,
+            Err(_) => Ran::Memory,
+        }
+    }
+
+    /// Takes the seed, of which there is one at most, and writes nothing.
+    fn set_seed(&mut self, seed: [u8; 32]) -> Ran
+        ensures silent { ¬ (result ≡ Ran.SinkFailed) }
+        ensures ran { (w : World) (held : Option (List ℕ)) → Steps (replay.seed_taken seed (script_of self.old) w) (Some (script_of self.new), w) held held result }
+    {
+        if !self.setup || self.seed.is_some() {
+            return Ran::Bad;
+        }
+        self.seed = Some(seed);
+        let daemon = &mut self.daemon;
+        daemon.policy.set_seed(seed);
+        Ran::Done
+    }
+
+    /// Takes the zone, of which there is one at most, as seconds ahead of UTC, and writes nothing.
+    fn set_zone(&mut self, offset: i32) -> Ran
+        ensures silent { ¬ (result ≡ Ran.SinkFailed) }
+        ensures ran { (w : World) (held : Option (List ℕ)) → Steps (replay.zone_taken offset (script_of self.old) w) (Some (script_of self.new), w) held held result }
+    {
+        if !self.setup || self.zoned || !is_offset(offset) {
+            return Ran::Bad;
+        }
+        self.zoned = true;
+        let daemon = &mut self.daemon;
+        daemon.policy.set_zone(zone_ahead(offset));
+        Ran::Done
+    }
+
     fn sweep<K: Sink>(
         &mut self,
         alloc: Global,
@@ -177,35 +220,10 @@ impl Running {
     {
         match step {
             Step::Skip => Ran::Done,
-            Step::Rule(rule) => {
-                if !self.takes_rules() {
-                    return refuse(rule);
-                }
-                let daemon = &mut self.daemon;
-                match daemon.policy.append(rule) {
-                    Ok(()) => Ran::Done,
-                    Err(_) => Ran::Memory,
-                }
-            }
+            Step::Rule(rule) => self.append(rule),
             Step::Conf(text) => self.configure(text.bytes()),
-            Step::Seed(seed) => {
-                if !self.setup || self.seed.is_some() {
-                    return Ran::Bad;
-                }
-                self.seed = Some(seed);
-                let daemon = &mut self.daemon;
-                daemon.policy.set_seed(seed);
-                Ran::Done
-            }
-            Step::Zone(offset) => {
-                if !self.setup || self.zoned || !is_offset(offset) {
-                    return Ran::Bad;
-                }
-                self.zoned = true;
-                let daemon = &mut self.daemon;
-                daemon.policy.set_zone(zone_ahead(offset));
-                Ran::Done
-            }
+            Step::Seed(seed) => self.set_seed(seed),
+            Step::Zone(offset) => self.set_zone(offset),
             Step::Plug(device) => {
                 self.setup = false;
                 match kernel.plug(device) {

@@ -47,7 +47,7 @@ then_settling_all : {J : Type 0} {answer : Answers J} {later : Laters J} {presen
 then_settling_all [] m l u v distinct so fresh h r = fair_end l v r.0 r.1 h
 then_settling_all {J} {answer} {later} {present} {k} {w} (name ∷ names) m l u v distinct so fresh h r =
     let cut = runs_split calls m (settling answer later name present u) (λ (p : Settled × State J). settling_all answer later names present p.1) v l r in
-    let part = ends_run (PartOf name u) (settling answer later name present u) m cut.0 cut.1 (settling_part answer later name present u) cut.2 in
+    let part = ends_run calls (PartOf name u) (settling answer later name present u) m cut.0 cut.1 (settling_part answer later name present u) cut.2 in
     let none : IsNamed h.fair.rest name → ⊥ = fresh h.fair.rest h.fair.entries name (inl refl) in
     then_settling_all names cut.1 l cut.0.1 v distinct.1
     (part_so_far w u name h.fair.rest cut.0 h.fair.entries so none part)

@@ -194,7 +194,7 @@ stands_or_gone a number name held verdict (inr h) = elim (a.fair.left.judged num
 ]
 
 -- so its device has a standing, or is gone
-had_before : {J : Type 0} {answer : Answers J} {later : Laters J} {present : Bool} {k m : Kernel} {w u : State J} (a : FairFrom answer later present k w m u) (l : Kernel) (i number : ℕ) (name : List ℕ) (held : Held) (verdict : Target) → Grows m l → HasVerdict w.standings a.fair.rest number name held verdict → IsFileOf l held.0 i → HasStanding l u.standings i ⊎ IsGone m i
+pub had_before : {J : Type 0} {answer : Answers J} {later : Laters J} {present : Bool} {k m : Kernel} {w u : State J} (a : FairFrom answer later present k w m u) (l : Kernel) (i number : ℕ) (name : List ℕ) (held : Held) (verdict : Target) → Grows m l → HasVerdict w.standings a.fair.rest number name held verdict → IsFileOf l held.0 i → HasStanding l u.standings i ⊎ IsGone m i
 had_before {k = k} {m = m} {w = w} {u = u} a l i number name held verdict g v file = elim (stands_or_gone a number name held verdict v) [
   | inl t ↦ inl (record { s = t.0; has = t.1; file = subst (λ (x : Held). IsFileOf l x.0 i) (sym t.2) file })
   | inr e ↦

@@ -28,3 +28,5 @@ pub mod Within
 pub mod Parted
 pub mod Faults
 pub mod Once
+pub mod Answered
+pub mod One

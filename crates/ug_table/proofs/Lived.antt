@@ -171,7 +171,7 @@ pub stand_files : (k : Kernel) (ss : List Standing) (next : ℕ) → Stand k ss 
 stand_files k ss next h s a = let x = h.devices s a in record { i = x.0; d = x.1.d; file = x.1.file; device = x.1.device; named = x.1.named }
 
 -- what is marked as removed was removed
-judged_at : (l : Kernel) (ss : List Standing) (next i : ℕ) → Stand l ss next → StandsSo l ss i → IsAsJudged l ss i
+pub judged_at : (l : Kernel) (ss : List Standing) (next i : ℕ) → Stand l ss next → StandsSo l ss i → IsAsJudged l ss i
 judged_at l ss next i stand h = record {
   standing = h.standing;
   d = h.d;

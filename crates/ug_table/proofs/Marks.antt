@@ -168,7 +168,7 @@ listed_ends : {J : Type 0} (answer : Answers J) (later : Laters J) (names : List
 listed_ends answer later names w k l v rest distinct r e =
     let x = marked_listed (parted names w) in
     let bye = farewells names w.standings in
-    let h = ends_run (PartsOf names x) (settling_all answer later names (not w.listed) x) k v l (settling_all_parts answer later names (not w.listed) x distinct) r in
+    let h = ends_run calls (PartsOf names x) (settling_all answer later names (not w.listed) x) k v l (settling_all_parts answer later names (not w.listed) x distinct) r in
     let same : bye ++ h.0.rest ≡ rest = cancel w.entries (bye ++ h.0.rest) rest (sym (append_assoc w.entries bye h.0.rest) ∙ sym h.0.entries ∙ e) in
     let none = farewell_none names w.standings in
     let listed : IsUnlisted (bye ++ h.0.rest) → ⊥ = λ a. elim (has_cases bye h.0.rest (entry.UnsettledAll a.0) a.1) [ inl b ↦ none_unlisted bye none (a.0, b) | inr b ↦ in_unlisted names h.0.rest h.0.only (a.0, b) ] in
@@ -182,7 +182,7 @@ unlisted_ends {J} why w k l v rest distinct r e =
     let x = kept_of w.standings (w.entries ++ all ∷ []) in
     let P : Kept → Type 0 = λ y. Parts names x.standings x.entries y.standings y.entries in
     let cut = runs_split calls k (resettling_all names x) (resumed w) v l r in
-    let h = ends_run P (resettling_all names x) k cut.0 cut.1 (resettling_all_parts names x distinct) cut.2 in
+    let h = ends_run calls P (resettling_all names x) k cut.0 cut.1 (resettling_all_parts names x distinct) cut.2 in
     let z = cut.0 in
     let entries : v.entries ≡ z.entries = ap (λ (y : State J). y.entries) cut.3.0 in
     let standings : v.standings ≡ z.standings = ap (λ (y : State J). y.standings) cut.3.0 in

@@ -107,7 +107,7 @@ anew stands files ms (inl (inr h)) = let k = first_seen files h.0 ms h.1 in inl 
 anew stands files ms (inr h) = inr (h.0, short_seen (seen_of None from_none files [] []) ms refl h.1)
 
 -- a run that went along one part
-record WentPart {S : Type 0} (gives : S → (call : Call) → Answer call → S → Type 0) (name : List ℕ) (s : S) (ss : List Standing) (es : List Entry) (t : S) (rs : List Standing) (fs : List Entry) : Type 0 where
+pub record WentPart {S : Type 0} (gives : S → (call : Call) → Answer call → S → Type 0) (name : List ℕ) (s : S) (ss : List Standing) (es : List Entry) (t : S) (rs : List Standing) (fs : List Entry) : Type 0 where
   pub calls : List Made
   pub along : Along gives s calls t
   pub rest : List Entry
@@ -155,6 +155,20 @@ one_more gives name names s u t ss ms rs es gs fs a b = record {
   parts = (ms, a.calls, b.calls, a.rest, b.rest, refl, refl, a.part, b.parts);
 }
 
+pub settling_went : {S J : Type 0} (gives : S → (call : Call) → Answer call → S → Type 0) (answer : Answers J) (later : Laters J) (name : List ℕ) (present : Bool) (w : State J) (s : S) (p : Settled × State J) (t : S) → Runs gives s (settling answer later name present w) p t → WentPart gives name s w.standings w.entries t p.1.standings p.1.entries
+settling_went {S} {J} gives answer later name present w s p t h =
+    let P : Seen → Settled × State J → Type 0 = λ (q : Seen) (r : Settled × State J). Leaves name (Anew (standing_of name w.standings)) w.standings w.entries q r.1.standings r.1.entries in
+    let q : Seen = seen_of None from_none (known_files (standing_of name w.standings)) [] [] in
+    went_part gives name w.standings w.entries (λ (r : Settled × State J). r.1.standings) (λ (r : Settled × State J). r.1.entries) s p t
+    (walked_within gives (May name) see P 14 q (settling answer later name present w) s p t (settling_goes answer later name present w) h (settling_within answer later name present w))
+
+pub resettling_went : {S : Type 0} (gives : S → (call : Call) → Answer call → S → Type 0) (name : List ℕ) (w : Kept) (s : S) (p : Settled × Kept) (t : S) → Runs gives s (resettling name w) p t → WentPart gives name s w.standings w.entries t p.1.standings p.1.entries
+resettling_went {S} gives name w s p t h =
+    let P : Seen → Settled × Kept → Type 0 = λ (q : Seen) (r : Settled × Kept). Leaves name (Anew (standing_of name w.standings)) w.standings w.entries q r.1.standings r.1.entries in
+    let q : Seen = seen_of None from_none (known_files (standing_of name w.standings)) [] [] in
+    went_part gives name w.standings w.entries (λ (r : Settled × Kept). r.1.standings) (λ (r : Settled × Kept). r.1.entries) s p t
+    (walked_within gives (May name) see P 14 q (resettling name w) s p t (resettling_goes name w) h (resettling_within name w))
+
 settling_all_went : {S J : Type 0} (gives : S → (call : Call) → Answer call → S → Type 0) (answer : Answers J) (later : Laters J) (names : List (List ℕ)) (present : Bool) (w : State J) (s : S) (v : State J) (t : S) → Runs gives s (settling_all answer later names present w) v t → WentParts gives names s w.standings w.entries t v.standings v.entries
 settling_all_went {S} {J} gives answer later [] present w s v t h = record {
   calls = [];
@@ -165,11 +179,8 @@ settling_all_went {S} {J} gives answer later [] present w s v t h = record {
 }
 settling_all_went {S} {J} gives answer later (name ∷ names) present w s v t h =
     let k = runs_split gives s (settling answer later name present w) (λ (p : Settled × State J). settling_all answer later names present p.1) v t h in
-    let P : Seen → Settled × State J → Type 0 = λ (q : Seen) (r : Settled × State J). Leaves name (Anew (standing_of name w.standings)) w.standings w.entries q r.1.standings r.1.entries in
-    let q : Seen = seen_of None from_none (known_files (standing_of name w.standings)) [] [] in
     one_more gives name names s k.1 t w.standings k.0.1.standings v.standings w.entries k.0.1.entries v.entries
-    (went_part gives name w.standings w.entries (λ (r : Settled × State J). r.1.standings) (λ (r : Settled × State J). r.1.entries) s k.0 k.1
-    (walked_within gives (May name) see P 14 q (settling answer later name present w) s k.0 k.1 (settling_goes answer later name present w) k.2 (settling_within answer later name present w)))
+    (settling_went gives answer later name present w s k.0 k.1 k.2)
     (settling_all_went gives answer later names present k.0.1 k.1 v t k.3)
 
 resettling_all_went : {S : Type 0} (gives : S → (call : Call) → Answer call → S → Type 0) (names : List (List ℕ)) (w : Kept) (s : S) (v : Kept) (t : S) → Runs gives s (resettling_all names w) v t → WentParts gives names s w.standings w.entries t v.standings v.entries
@@ -182,11 +193,8 @@ resettling_all_went {S} gives [] w s v t h = record {
 }
 resettling_all_went {S} gives (name ∷ names) w s v t h =
     let k = runs_split gives s (resettling name w) (λ (p : Settled × Kept). resettling_all names p.1) v t h in
-    let P : Seen → Settled × Kept → Type 0 = λ (q : Seen) (r : Settled × Kept). Leaves name (Anew (standing_of name w.standings)) w.standings w.entries q r.1.standings r.1.entries in
-    let q : Seen = seen_of None from_none (known_files (standing_of name w.standings)) [] [] in
     one_more gives name names s k.1 t w.standings k.0.1.standings v.standings w.entries k.0.1.entries v.entries
-    (went_part gives name w.standings w.entries (λ (r : Settled × Kept). r.1.standings) (λ (r : Settled × Kept). r.1.entries) s k.0 k.1
-    (walked_within gives (May name) see P 14 q (resettling name w) s k.0 k.1 (resettling_goes name w) k.2 (resettling_within name w)))
+    (resettling_went gives name w s k.0 k.1 k.2)
     (resettling_all_went gives names k.0.1 k.1 v t k.3)
 
 -- a listing, and the parts that it leads to

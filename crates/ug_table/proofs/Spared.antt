@@ -60,7 +60,7 @@ record OneHeld (ss : List Standing) (name : List ℕ) (held : Held) : Type 0 whe
 after_known_calm : {J : Type 0} (answer : Answers J) (later : Laters J) (name : List ℕ) (present : Bool) (i : ℕ) (w : State J) (known : Known) (what : Probe) (call count : ℕ) (k m l : Kernel) (p : Settled × State J) → is_to_go known ≡ false → IsFileOf k known.held.0 i → LiveAs m i name → Called (Ask_alive known.held.0) (record { answer = what; number = call; count = count }) k m → Runs calls m (after_known answer later name present w known what call count) p l → Calm w.entries p.1.entries name
 after_known_calm answer later name present i w known (probe.Alive on) call count k m l p stays file live c r =
     let cut = runs_split calls m (bringing name known on w.entries) (to_mark w name) p l r in
-    let b = ends_run (Brings name (is_to_go known) w.entries) (bringing name known on w.entries) m cut.0 cut.1 (bringing_brings name known on w.entries) cut.2 in
+    let b = ends_run calls (Brings name (is_to_go known) w.entries) (bringing name known on w.entries) m cut.0 cut.1 (bringing_brings name known on w.entries) cut.2 in
     (b.rest, ap (λ (v : _). v.1.entries) cut.3.0 ∙ b.entries, λ h. each_has NotMemory b.rest (entry.Unsettled name fault.Memory) (b.spared stays) h)
 after_known_calm answer later name present i w known probe.Gone call count k m l p stays file live c r =
     let g = called_grows (Ask_alive known.held.0) (record { answer = probe.Gone; number = call; count = count }) k m c in
@@ -99,8 +99,8 @@ settling_all_calm {J} answer later (n ∷ names) present name i held w k l v res
     let cut = runs_split calls k (settling answer later n present w) (λ (p : Settled × State J). settling_all answer later names present p.1) v l r in
     let x = cut.0.1 in
     let u = cut.1 in
-    let a = ends_run (PartOf n w) (settling answer later n present w) k cut.0 u (settling_part answer later n present w) cut.2 in
-    let b = ends_run (PartsOf names x) (settling_all answer later names present x) u v l (settling_all_parts answer later names present x distinct.1) cut.3 in
+    let a = ends_run calls (PartOf n w) (settling answer later n present w) k cut.0 u (settling_part answer later n present w) cut.2 in
+    let b = ends_run calls (PartsOf names x) (settling_all answer later names present x) u v l (settling_all_parts answer later names present x distinct.1) cut.3 in
     let es = a.0.rest in
     let fs = b.0.rest in
     let same : rest ≡ es ++ fs = cancel w.entries rest (es ++ fs) (sym e ∙ b.0.entries ∙ ap (λ (y : List Entry). y ++ fs) a.0.entries ∙ append_assoc w.entries es fs) in
@@ -179,7 +179,7 @@ unlisted_calm why w k l v rest name stays r e h =
     let names = names_of w.standings in
     let x = kept_of w.standings (w.entries ++ all ∷ []) in
     let cut = runs_split calls k (resettling_all names x) (resumed w) v l r in
-    let a = ends_run (λ (y : Kept). Calm x.entries y.entries name) (resettling_all names x) k cut.0 cut.1 (resettling_all_calm names name x stays) cut.2 in
+    let a = ends_run calls (λ (y : Kept). Calm x.entries y.entries name) (resettling_all names x) k cut.0 cut.1 (resettling_all_calm names name x stays) cut.2 in
     let entries : v.entries ≡ cut.0.entries = ap (λ (y : State _). y.entries) cut.3.0 in
     let same : rest ≡ all ∷ a.0 = cancel w.entries rest (all ∷ a.0) (sym e ∙ entries ∙ a.1 ∙ append_assoc w.entries (all ∷ []) a.0) in
     elim (subst (λ (y : List Entry). Has y (entry.Unsettled name fault.Memory)) same h) [ inl is ↦ let none : ⊥ = cc in none | inr b ↦ a.2 b ]
@@ -191,7 +191,7 @@ listed_calm answer later names name i held w k l v rest distinct has sound f one
     let x = marked_listed (parted names w) in
     let bye = farewells names w.standings in
     let listed : Standing → Bool = λ s. lists names s.name in
-    let a = ends_run (PartsOf names x) (settling_all answer later names (not w.listed) x) k v l (settling_all_parts answer later names (not w.listed) x distinct) r in
+    let a = ends_run calls (PartsOf names x) (settling_all answer later names (not w.listed) x) k v l (settling_all_parts answer later names (not w.listed) x distinct) r in
     let same : rest ≡ bye ++ a.0.rest = cancel w.entries rest (bye ++ a.0.rest) (sym e ∙ a.0.entries ∙ append_assoc w.entries bye a.0.rest) in
     let kept : OneHeld x.standings name held = record {
       one = one.one;

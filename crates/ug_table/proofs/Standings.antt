@@ -1,8 +1,8 @@
 -- The standings of names.
-use Rattle.std.proofs.Common.{◌≡◌, ℕ, Bool, true, false, not, ◌∙◌, ◌||◌, List, [], ◌∷◌, Some, None, map, cond, ◌⊎◌, inl, inr, refl, ap, arith}
+use Rattle.std.proofs.Common.{◌≡◌, ◌↔◌, ℕ, nat_eq, Option, option_copied, IsNone, Bor, sym, Bool, true, false, not, ◌∙◌, ◌||◌, List, [], ◌∷◌, Some, None, map, cond, ◌⊎◌, inl, inr, refl, ap, arith}
 use Rattle.std.specs.Cmp.Lexicographic.{bytes_decides}
 use Rattle.ug_types.specs.Elements.{Has}
-use Rattle.ug_table.specs.Standings.{same_name, known_of, standing_of, without, marked, lists, removed_of}
+use Rattle.ug_table.specs.Standings.{same_name, known_of, standing_of, numbered, without, marked, lists, removed_of}
 use Rattle.ug_table.specs.Sweep.{names_of}
 use Rattle.ug_table.specs.Laws.{numbers_of}
 use Rattle.ug_table.specs.declared.standing.Standing.{Standing}
@@ -47,6 +47,32 @@ missing_without name ss a =
     let f = filter_has (λ (s : Standing). not (same_name s.name name)) ss m.0 m.1 in
     let same = is_same m.0.name name m.2 in
     let none : ⊥ = grind (arith, f.1, same) in none
+
+-- the standing of a number
+
+numbered_by : (number : ℕ) (y x : Standing) (ss : List Standing) (b : Bool) → nat_eq y.number number ≡ b → (numbered number ss ≡ Some x → Has ss x × (x.number ≡ number)) → cond b (Some y) (numbered number ss) ≡ Some x → Has (y ∷ ss) x × (x.number ≡ number)
+numbered_by number y x ss true e f h = let same : y ≡ x = cc in let at : y.number ≡ number = grind (arith, e) in (inl same, sym (ap (λ (v : Standing). v.number) same) ∙ at)
+numbered_by number y x ss false e f h = let k = f h in (inr k.0, k.1)
+
+pub numbered_has : (number : ℕ) (ss : List Standing) (x : Standing) → numbered number ss ≡ Some x → Has ss x × (x.number ≡ number)
+numbered_has number [] x h = let none : ⊥ = cc in absurd none
+numbered_has number (y ∷ ss) x h = numbered_by number y x ss (nat_eq y.number number) refl (λ k. numbered_has number ss x k) h
+
+unnumbered_by : (number : ℕ) (y s : Standing) (ss : List Standing) (b : Bool) → nat_eq y.number number ≡ b → (numbered number ss ≡ None → Has ss s → s.number ≡ number → ⊥) → cond b (Some y) (numbered number ss) ≡ None → Has (y ∷ ss) s → s.number ≡ number → ⊥
+unnumbered_by number y s ss true e f h a n = let none : ⊥ = cc in none
+unnumbered_by number y s ss false e f h (inl is) n =
+    let same : y.number ≡ number = ap (λ (v : Standing). v.number) is ∙ n in
+    let none : ⊥ = grind (arith, same, e) in none
+unnumbered_by number y s ss false e f h (inr a) n = f h a n
+
+unnumbered : (number : ℕ) (ss : List Standing) (s : Standing) → numbered number ss ≡ None → Has ss s → s.number ≡ number → ⊥
+unnumbered number [] s h a n = a
+unnumbered number (y ∷ ss) s h a n = unnumbered_by number y s ss (nat_eq y.number number) refl (λ k b m. unnumbered number ss s k b m) h a n
+
+-- none is found exactly where no standing has it
+pub none_numbered : (o : Option (Bor Standing)) (number : ℕ) (ss : List Standing) → option_copied o ≡ numbered number ss → IsNone o ↔ ((s : Standing) → Has ss s → s.number ≡ number → ⊥)
+none_numbered None number ss e = (λ n s a m. unnumbered number ss s (sym e) a m, λ f. refl)
+none_numbered (Some x) number ss e = (λ n. let none : ⊥ = cc in absurd none, λ f. let k = numbered_has number ss x.now (sym e) in absurd (f x.now k.0 k.1))
 
 pub names_marked : (name : List ℕ) (mark : Bool) (ss : List Standing) → names_of (map (marked name mark) ss) ≡ names_of ss
 names_marked name mark [] = refl

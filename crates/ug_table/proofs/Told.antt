@@ -10,9 +10,8 @@ use Rattle.ug_kernel.specs.declared.calls.Wrote.{Wrote}
 use Rattle.ug_kernel.specs.declared.calls.Wrote.TheVariants as wrote
 use Rattle.ug_kernel.specs.declared.calls.Probe.{Probe}
 use Rattle.ug_kernel.specs.declared.calls.Probe.TheVariants as probe
-use Rattle.ug_kernel.specs.Calls.{Answer}
-use Rattle.ug_kernel.specs.Kernel.{Kernel}
-use Rattle.ug_itree.specs.Tree.{Prog, Return, Ask, Room, Runs, then, calls}
+use Rattle.ug_kernel.specs.Calls.{Call, Answer}
+use Rattle.ug_itree.specs.Tree.{Prog, Return, Ask, Room, Runs, then}
 use Rattle.ug_record.specs.Records.{judged_of}
 use Rattle.ug_node.specs.Bind.{binding}
 use Rattle.ug_node.specs.declared.identity.Bound.{Bound}
@@ -46,10 +45,10 @@ EndsSo p (Return value) = p value
 EndsSo p (Ask call next) = (a : Answer call) → EndsSo p (next a)
 EndsSo p (Room next) = (b : Bool) → EndsSo p (next b)
 
-pub ends_run : {R : Type 0} (p : R → Type 0) (t : Prog R) (k : Kernel) (r : R) (l : Kernel) → EndsSo p t → Runs calls k t r l → p r
-ends_run p (Return value) k r l e h = subst (λ (x : _). p x) (sym h.0) e
-ends_run p (Ask call next) k r l e h = ends_run p (next h.0) h.1 r l (e h.0) h.3
-ends_run p (Room next) k r l e h = ends_run p (next h.0) k r l (e h.0) h.1
+pub ends_run : {S R : Type 0} (gives : S → (call : Call) → Answer call → S → Type 0) (p : R → Type 0) (t : Prog R) (s : S) (r : R) (u : S) → EndsSo p t → Runs gives s t r u → p r
+ends_run gives p (Return value) s r u e h = subst (λ (x : _). p x) (sym h.0) e
+ends_run gives p (Ask call next) s r u e h = ends_run gives p (next h.0) h.1 r u (e h.0) h.3
+ends_run gives p (Room next) s r u e h = ends_run gives p (next h.0) s r u (e h.0) h.1
 
 pub ends_then : {A B : Type 0} (p : A → Type 0) (q : B → Type 0) (t : Prog A) (f : A → Prog B) → EndsSo p t → ((a : A) → p a → EndsSo q (f a)) → EndsSo q (then t f)
 ends_then p q (Return value) f e g = g value e
@@ -61,7 +60,7 @@ ends_map p q (Return value) f e = f value e
 ends_map p q (Ask call next) f e = λ a. ends_map p q (next a) f (e a)
 ends_map p q (Room next) f e = λ b. ends_map p q (next b) f (e b)
 
-ends_any : {R : Type 0} (t : Prog R) → EndsSo (λ (r : R). Unit {0}) t
+pub ends_any : {R : Type 0} (t : Prog R) → EndsSo (λ (r : R). Unit {0}) t
 ends_any (Return value) = tt
 ends_any (Ask call next) = λ a. ends_any (next a)
 ends_any (Room next) = λ b. ends_any (next b)

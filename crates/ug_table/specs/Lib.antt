@@ -6,3 +6,4 @@ pub mod Sweep
 pub mod Allowed
 pub mod Laws
 pub mod Parts
+pub mod One

@@ -1,6 +1,6 @@
 -- The standings as a list, in sweep order of their names, each of which has one.
 use Rattle.std.specs.Prelude.{ℕ, ◌+◌, Bool, true, not, ◌&&◌, ◌||◌, List, [], ◌∷◌, Option, Some, None, if◌then◌else◌, nat_eq, insert}
-use Rattle.std.specs.List.{filter, list_any}
+use Rattle.std.specs.List.{filter, find, list_any}
 use Rattle.std.specs.Cmp.Lexicographic.{pointwise}
 use Rattle.std.specs.Ordering.{is_gt}
 use Rattle.ug_types.specs.Names.{sweep_cmp}
@@ -20,6 +20,10 @@ known_of s = record { number = s.number; held = s.held; verdict = s.verdict; rem
 abbrev pub standing_of : List ℕ → List Standing → Option Known
 standing_of name [] = None
 standing_of name (s ∷ ss) = if same_name s.name name then Some (known_of s) else standing_of name ss
+
+-- the standing of that number
+abbrev pub numbered : ℕ → List Standing → Option Standing
+numbered number ss = find (λ s. nat_eq s.number number) ss
 
 -- the standings of the other names
 abbrev pub without : List ℕ → List Standing → List Standing

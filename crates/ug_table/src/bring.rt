@@ -5,7 +5,7 @@ ghost use Rattle.ug_table.specs.Bring.{wants, write_of, is_reject, is_to_go, val
 
 use crate::standing::{Known, Settled};
 use std::alloc::Global;
-use ug_audit::{Entries, Entry, Fault};
+use ug_audit::{Entry, Fault, Journal};
 use ug_node::{RemoveHold, hold_remove};
 use ug_sysfs::{Sysfs, Write, Wrote};
 use ug_types::{Held, NodeName, Target};
@@ -55,12 +55,13 @@ fn set_value<Y: Sysfs>(
     name: &NodeName,
     known: Known,
     on: bool,
-    out: &mut Entries,
+    out: &mut Journal,
 ) -> Settled
-    requires { 3 ≤ out.old.spare }
-    ensures runs { Runs Y.gives sysfs.old (valuing name.now known on out.old.entries) (result, out.new.entries) sysfs.new }
-    ensures spare { out.old.spare ≤ out.new.spare + 3 }
-    ensures room { out.new.room ≡ out.old.room }
+    requires { 3 ≤ out.old.entries.now.spare }
+    ensures runs { Runs Y.gives sysfs.old (valuing name.now known on out.old.entries.now.entries) (result, out.new.entries.now.entries) sysfs.new }
+    ensures spare { out.old.entries.now.spare ≤ out.new.entries.now.spare + 3 }
+    ensures room { out.new.entries.now.room ≡ out.old.entries.now.room }
+    ensures same { out.new.entries.ghost_name ≡ out.old.entries.ghost_name }
 {
     if is_wanted(known.verdict) == on {
         return Settled::Stands;
@@ -106,12 +107,13 @@ fn write_remove<Y: Sysfs>(
     name: &NodeName,
     known: Known,
     file: Held,
-    out: &mut Entries,
+    out: &mut Journal,
 ) -> Settled
-    requires { 3 ≤ out.old.spare }
-    ensures runs { Runs Y.gives sysfs.old (to_remove name.now known file.0 out.old.entries) (result, out.new.entries) sysfs.new }
-    ensures spare { out.old.spare ≤ out.new.spare + 3 }
-    ensures room { out.new.room ≡ out.old.room }
+    requires { 3 ≤ out.old.entries.now.spare }
+    ensures runs { Runs Y.gives sysfs.old (to_remove name.now known file.0 out.old.entries.now.entries) (result, out.new.entries.now.entries) sysfs.new }
+    ensures spare { out.old.entries.now.spare ≤ out.new.entries.now.spare + 3 }
+    ensures room { out.new.entries.now.room ≡ out.old.entries.now.room }
+    ensures same { out.new.entries.ghost_name ≡ out.old.entries.ghost_name }
 {
     let number = known.number;
     let write = Write::Remove;
@@ -158,12 +160,13 @@ fn remove<Y: Sysfs>(
     sysfs: &mut Y,
     name: &NodeName,
     known: Known,
-    out: &mut Entries,
+    out: &mut Journal,
 ) -> Settled
-    requires { 3 ≤ out.old.spare }
-    ensures runs { Runs Y.gives sysfs.old (removing name.now known out.old.entries) (result, out.new.entries) sysfs.new }
-    ensures spare { out.old.spare ≤ out.new.spare + 3 }
-    ensures room { out.new.room ≡ out.old.room }
+    requires { 3 ≤ out.old.entries.now.spare }
+    ensures runs { Runs Y.gives sysfs.old (removing name.now known out.old.entries.now.entries) (result, out.new.entries.now.entries) sysfs.new }
+    ensures spare { out.old.entries.now.spare ≤ out.new.entries.now.spare + 3 }
+    ensures room { out.new.entries.now.room ≡ out.old.entries.now.room }
+    ensures same { out.new.entries.ghost_name ≡ out.old.entries.ghost_name }
 {
     match hold_remove(alloc, sysfs, name, known.held) {
         RemoveHold::Ready(file) => write_remove(sysfs, name, known, file, out),
@@ -198,12 +201,13 @@ pub fn bring<Y: Sysfs>(
     name: &NodeName,
     known: Known,
     on: bool,
-    out: &mut Entries,
+    out: &mut Journal,
 ) -> Settled
-    requires { 6 ≤ out.old.spare }
-    ensures runs { Runs Y.gives sysfs.old (bringing name.now known on out.old.entries) (result, out.new.entries) sysfs.new }
-    ensures spare { out.old.spare ≤ out.new.spare + 6 }
-    ensures room { out.new.room ≡ out.old.room }
+    requires { 6 ≤ out.old.entries.now.spare }
+    ensures runs { Runs Y.gives sysfs.old (bringing name.now known on out.old.entries.now.entries) (result, out.new.entries.now.entries) sysfs.new }
+    ensures spare { out.old.entries.now.spare ≤ out.new.entries.now.spare + 6 }
+    ensures room { out.new.entries.now.room ≡ out.old.entries.now.room }
+    ensures same { out.new.entries.ghost_name ≡ out.old.entries.ghost_name }
 {
     match set_value(sysfs, name, known, on, out) {
         Settled::Stands => {

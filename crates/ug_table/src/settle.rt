@@ -1,20 +1,24 @@
 // The settling of one name.
-ghost use Rattle.std.specs.Prelude.{◌≡◌, ◌≤◌, ◌<◌, ◌+◌, ◌-◌, ◌^◌, vec_len, vec_capacity, is_none, OnOk};
+ghost use Rattle.std.specs.Prelude.{◌≡◌, ◌≤◌, ◌<◌, ◌+◌, ◌-◌, ◌^◌, vec_len, vec_capacity, is_none, IsSome, OnOk, Some};
 ghost use Rattle.ug_types.specs.Names.{parent_of};
 ghost use Rattle.ug_itree.specs.Tree.{Runs};
 ghost use Rattle.ug_table.specs.State.{state_of, kept_of};
-ghost use Rattle.ug_table.specs.Settle.{stands, kept_standings, tried_standings, admitting, entering, settling, resettling};
+ghost use Rattle.ug_table.specs.Standings.{numbered};
+ghost use Rattle.ug_table.specs.One.{resettling_numbered, GoesAsPart, SettlesOne, ResettlesOne, NeedsRoom};
+ghost use Rattle.ug_table.specs.declared.standing.Standing.{Standing};
+ghost use Rattle.ug_table.specs.declared.standing.Settled.TheVariants.{Memory};
+ghost use Rattle.ug_table.specs.Settle.{stands, kept_standings, tried_standings, no_room, to_judge, admitting, entering, settling, resettling};
 
 use crate::bring::{bring, is_reject};
 use crate::judge::Judge;
 use crate::standing::{Known, Settled, Standing};
-use crate::table::{Table, find, forget, mark, put_in};
+use crate::table::{Table, find, forget, known_of, mark, put_in};
 use std::alloc::Global;
-use ug_audit::{Entries, Entry, Fault};
+use ug_audit::{Entry, Fault, Journal};
 use ug_node::{Binding, Bound, bind};
 use ug_record::record_of;
 use ug_sysfs::{Probe, Sysfs};
-use ug_types::{NoMemory, NodeName};
+use ug_types::{Held, Judged, NoMemory, NodeName};
 
 // Whether the name is a root hub's.
 fn is_controller(name: &NodeName) -> bool
@@ -80,64 +84,57 @@ impl Table {
         }
     }
 
-    /// Gives a bound device its number and verdict, and makes the writes.
-    #[tactic(auto, unfolding(crate::specs::Settle::admitting), using(ug_itree::proofs::Runs::runs_then))]
-    fn admit<Y: Sysfs, A: Judge>(
+    // There is no memory for a new standing: the file is closed.
+    fn lack_memory<Y: Sysfs, A: Judge>(
+        &self,
+        sysfs: &mut Y,
+        name: &NodeName,
+        held: Held,
+        judge: &A,
+        out: &mut Journal,
+    ) -> Settled
+        requires { 1 ≤ out.old.entries.now.spare }
+        ensures runs { Runs Y.gives sysfs.old (no_room (state_of self.now (A.meaning judge.now) out.old.entries.now.entries) name.now held.0) (result, state_of self.now (A.meaning judge.now) out.new.entries.now.entries) sysfs.new }
+        ensures spare { out.old.entries.now.spare ≤ out.new.entries.now.spare + 1 }
+        ensures room { out.new.entries.now.room ≡ out.old.entries.now.room }
+        ensures same { out.new.entries.ghost_name ≡ out.old.entries.ghost_name }
+    {
+        sysfs.close(held);
+        out.push(Entry::Unsettled {
+            name: *name,
+            fault: Fault::Memory,
+        });
+        Settled::Memory
+    }
+
+    // A device that has a record and room gets the next number and a verdict, and the writes are made.
+    #[tactic(auto, using(ug_itree::proofs::Runs::runs_then))]
+    fn judge_bound<Y: Sysfs, A: Judge>(
         &mut self,
         alloc: Global,
         sysfs: &mut Y,
         name: &NodeName,
         present: bool,
         judge: &mut A,
-        bound: Bound,
-        out: &mut Entries,
+        bound: &Bound,
+        judged: Judged,
+        out: &mut Journal,
     ) -> Settled
-        requires room { 7 ≤ out.old.spare }
+        requires room { 7 ≤ out.old.entries.now.spare }
         requires next { self.old.next < 2 ^ 64 - 1 }
-        ensures runs { Runs Y.gives sysfs.old (admitting A.answer A.later name.now present (state_of self.old (A.meaning judge.old) out.old.entries) bound) (result, state_of self.new (A.meaning judge.new) out.new.entries) sysfs.new }
-        ensures spare { out.old.spare ≤ out.new.spare + 7 }
-        ensures room { out.new.room ≡ out.old.room }
+        requires place { vec_len self.old.standings < vec_capacity self.old.standings }
+        requires names { vec_len self.old.standings < vec_capacity self.old.names }
+        ensures runs { Runs Y.gives sysfs.old (to_judge A.answer A.later name.now present (state_of self.old (A.meaning judge.old) out.old.entries.now.entries) bound.now judged) (result, state_of self.new (A.meaning judge.new) out.new.entries.now.entries) sysfs.new }
+        ensures spare { out.old.entries.now.spare ≤ out.new.entries.now.spare + 7 }
+        ensures room { out.new.entries.now.room ≡ out.old.entries.now.room }
+        ensures same { out.new.entries.ghost_name ≡ out.old.entries.ghost_name }
         ensures len { vec_len self.new.standings ≤ vec_len self.old.standings + 1 }
         ensures next { self.new.next ≤ self.old.next + 1 }
     {
-        let held = bound.held;
-        let judged = match record_of(alloc, name, &bound.attrs, bound.parent.as_ref()) {
-            Ok(judged) => judged,
-            Err(_) => {
-                sysfs.close(held);
-                out.push(Entry::Unsettled {
-                    name: *name,
-                    fault: Fault::Memory,
-                });
-                return Settled::Memory;
-            }
-        };
-        if self.make_room().is_err() {
-            sysfs.close(held);
-            out.push(Entry::Unsettled {
-                name: *name,
-                fault: Fault::Memory,
-            });
-            return Settled::Memory;
-        }
-        let controller = is_controller(name);
-        let (verdict, cause) = judge.verdict(&judged, controller, present, bound.on, self);
         let number = self.next;
+        let held = bound.held;
+        let (verdict, cause) = judge.verdict(&judged, is_controller(name), present, bound.on, self);
         self.next += 1;
-        out.push(Entry::Judged {
-            number,
-            name: *name,
-            held,
-            verdict,
-            cause,
-        });
-        let known = Known {
-            number,
-            held,
-            verdict,
-            removed: false,
-        };
-        let settled = bring(alloc, sysfs, name, known, bound.on, out);
         let standing = Standing {
             number,
             name: *name,
@@ -148,8 +145,47 @@ impl Table {
             settled: false,
             removed: false,
         };
+        out.push(Entry::Judged {
+            number,
+            name: *name,
+            held,
+            verdict,
+            cause,
+        });
+        let settled = bring(alloc, sysfs, name, known_of(&standing), bound.on, out);
         keep(&mut self.standings, standing, settled);
         settled
+    }
+
+    /// Gives a bound device its number and verdict, and makes the writes.
+    #[tactic(auto, unfolding(crate::specs::Settle::admitting))]
+    fn admit<Y: Sysfs, A: Judge>(
+        &mut self,
+        alloc: Global,
+        sysfs: &mut Y,
+        name: &NodeName,
+        present: bool,
+        judge: &mut A,
+        bound: Bound,
+        out: &mut Journal,
+    ) -> Settled
+        requires room { 7 ≤ out.old.entries.now.spare }
+        requires next { self.old.next < 2 ^ 64 - 1 }
+        ensures runs { Runs Y.gives sysfs.old (admitting A.answer A.later name.now present (state_of self.old (A.meaning judge.old) out.old.entries.now.entries) bound) (result, state_of self.new (A.meaning judge.new) out.new.entries.now.entries) sysfs.new }
+        ensures spare { out.old.entries.now.spare ≤ out.new.entries.now.spare + 7 }
+        ensures room { out.new.entries.now.room ≡ out.old.entries.now.room }
+        ensures same { out.new.entries.ghost_name ≡ out.old.entries.ghost_name }
+        ensures len { vec_len self.new.standings ≤ vec_len self.old.standings + 1 }
+        ensures next { self.new.next ≤ self.old.next + 1 }
+    {
+        let judged = match record_of(alloc, name, &bound.attrs, bound.parent.as_ref()) {
+            Ok(judged) => judged,
+            Err(_) => return self.lack_memory(sysfs, name, bound.held, judge, out),
+        };
+        if self.make_room().is_err() {
+            return self.lack_memory(sysfs, name, bound.held, judge, out);
+        }
+        self.judge_bound(alloc, sysfs, name, present, judge, &bound, judged, out)
     }
 
     /// Binds a name that has no standing, and judges its device.
@@ -161,13 +197,14 @@ impl Table {
         name: &NodeName,
         present: bool,
         judge: &mut A,
-        out: &mut Entries,
+        out: &mut Journal,
     ) -> Settled
-        requires room { 7 ≤ out.old.spare }
+        requires room { 7 ≤ out.old.entries.now.spare }
         requires next { self.old.next < 2 ^ 64 - 1 }
-        ensures runs { Runs Y.gives sysfs.old (entering A.answer A.later name.now present (state_of self.old (A.meaning judge.old) out.old.entries)) (result, state_of self.new (A.meaning judge.new) out.new.entries) sysfs.new }
-        ensures spare { out.old.spare ≤ out.new.spare + 7 }
-        ensures room { out.new.room ≡ out.old.room }
+        ensures runs { Runs Y.gives sysfs.old (entering A.answer A.later name.now present (state_of self.old (A.meaning judge.old) out.old.entries.now.entries)) (result, state_of self.new (A.meaning judge.new) out.new.entries.now.entries) sysfs.new }
+        ensures spare { out.old.entries.now.spare ≤ out.new.entries.now.spare + 7 }
+        ensures room { out.new.entries.now.room ≡ out.old.entries.now.room }
+        ensures same { out.new.entries.ghost_name ≡ out.old.entries.ghost_name }
         ensures len { vec_len self.new.standings ≤ vec_len self.old.standings + 1 }
         ensures next { self.new.next ≤ self.old.next + 1 }
     {
@@ -192,8 +229,8 @@ impl Table {
         }
     }
 
-    /// Settles one listed name.
-    #[tactic(auto, unfolding(crate::specs::Settle::settling), using(ug_itree::proofs::Runs::runs_then))]
+    /// Settles one listed name: a known one is probed and written, another is bound, judged and written. It answers
+    /// `Fault` only where a call about the name failed, and `Nobody` only where no device of the name lived through.
     pub fn settle<Y: Sysfs, A: Judge>(
         &mut self,
         alloc: Global,
@@ -201,13 +238,87 @@ impl Table {
         name: &NodeName,
         present: bool,
         judge: &mut A,
-        out: &mut Entries,
+        out: &mut Journal,
     ) -> Settled
-        requires room { 8 ≤ out.old.spare }
+        requires room { 8 ≤ out.old.entries.now.spare }
         requires next { self.old.next < 2 ^ 64 - 1 }
-        ensures runs { Runs Y.gives sysfs.old (settling A.answer A.later name.now present (state_of self.old (A.meaning judge.old) out.old.entries)) (result, state_of self.new (A.meaning judge.new) out.new.entries) sysfs.new }
-        ensures spare { out.old.spare ≤ out.new.spare + 8 }
-        ensures room { out.new.room ≡ out.old.room }
+        ensures runs { Runs Y.gives sysfs.old (settling A.answer A.later name.now present (state_of self.old (A.meaning judge.old) out.old.entries.now.entries)) (result, state_of self.new (A.meaning judge.new) out.new.entries.now.entries) sysfs.new }
+        ensures part { GoesAsPart Y.gives Y.calls Y.faults name.now sysfs.old self.old.standings.items out.old.entries.now.entries sysfs.new self.new.standings.items out.new.entries.now.entries result }
+        ensures law { SettlesOne Y.told A.answer A.later present name.now sysfs.old (state_of self.old (A.meaning judge.old) out.old.entries.now.entries) sysfs.new (state_of self.new (A.meaning judge.new) out.new.entries.now.entries) result }
+        ensures spare { out.old.entries.now.spare ≤ out.new.entries.now.spare + 8 }
+        ensures room { out.new.entries.now.room ≡ out.old.entries.now.room }
+        ensures same { out.new.entries.ghost_name ≡ out.old.entries.ghost_name }
+        ensures len { vec_len self.new.standings ≤ vec_len self.old.standings + 1 }
+        ensures next { self.new.next ≤ self.old.next + 1 }
+    {
+        self.settle_name(alloc, sysfs, name, present, judge, out)
+    }
+
+    /// Settles the standing of that number again, where the listing didn't succeed. It takes memory only to open the `remove`
+    /// file of a device that is still to be removed, and answers `Nobody` only where the device is gone.
+    pub fn resettle<Y: Sysfs>(
+        &mut self,
+        alloc: Global,
+        sysfs: &mut Y,
+        number: u64,
+        out: &mut Journal,
+    ) -> Settled
+        requires stands { IsSome (numbered number self.old.standings.items) }
+        requires room { 6 ≤ out.old.entries.now.spare }
+        ensures runs { Runs Y.gives sysfs.old (resettling_numbered number (kept_of self.old.standings.items out.old.entries.now.entries)) (result, kept_of self.new.standings.items out.new.entries.now.entries) sysfs.new }
+        ensures part { (s : Standing) → numbered number self.old.standings.items ≡ Some s → GoesAsPart Y.gives Y.calls Y.faults s.name sysfs.old self.old.standings.items out.old.entries.now.entries sysfs.new self.new.standings.items out.new.entries.now.entries result }
+        ensures law { ResettlesOne Y.told number sysfs.old (state_of self.old tt out.old.entries.now.entries) sysfs.new (state_of self.new tt out.new.entries.now.entries) result }
+        ensures memory { (s : Standing) → numbered number self.old.standings.items ≡ Some s → result ≡ Memory → NeedsRoom s.name self.old.standings.items }
+        ensures spare { out.old.entries.now.spare ≤ out.new.entries.now.spare + 6 }
+        ensures room { out.new.entries.now.room ≡ out.old.entries.now.room }
+        ensures same { out.new.entries.ghost_name ≡ out.old.entries.ghost_name }
+        ensures len { vec_len self.new.standings ≤ vec_len self.old.standings }
+        ensures next { self.new.next ≡ self.old.next }
+        ensures listed { self.new.listed ≡ self.old.listed }
+    {
+        self.settle_numbered(alloc, sysfs, number, out)
+    }
+
+    #[tactic(auto, unfolding(crate::specs::One::resettling_numbered))]
+    fn settle_numbered<Y: Sysfs>(
+        &mut self,
+        alloc: Global,
+        sysfs: &mut Y,
+        number: u64,
+        out: &mut Journal,
+    ) -> Settled
+        requires { 6 ≤ out.old.entries.now.spare }
+        ensures runs { Runs Y.gives sysfs.old (resettling_numbered number (kept_of self.old.standings.items out.old.entries.now.entries)) (result, kept_of self.new.standings.items out.new.entries.now.entries) sysfs.new }
+        ensures spare { out.old.entries.now.spare ≤ out.new.entries.now.spare + 6 }
+        ensures room { out.new.entries.now.room ≡ out.old.entries.now.room }
+        ensures same { out.new.entries.ghost_name ≡ out.old.entries.ghost_name }
+        ensures len { vec_len self.new.standings ≤ vec_len self.old.standings }
+        ensures next { self.new.next ≡ self.old.next }
+        ensures listed { self.new.listed ≡ self.old.listed }
+    {
+        let name = match self.standing(number) {
+            Some(s) => s.name,
+            None => return Settled::Nobody,
+        };
+        settle_known(alloc, &mut self.standings, sysfs, &name, out)
+    }
+
+    #[tactic(auto, unfolding(crate::specs::Settle::settling), using(ug_itree::proofs::Runs::runs_then))]
+    fn settle_name<Y: Sysfs, A: Judge>(
+        &mut self,
+        alloc: Global,
+        sysfs: &mut Y,
+        name: &NodeName,
+        present: bool,
+        judge: &mut A,
+        out: &mut Journal,
+    ) -> Settled
+        requires room { 8 ≤ out.old.entries.now.spare }
+        requires next { self.old.next < 2 ^ 64 - 1 }
+        ensures runs { Runs Y.gives sysfs.old (settling A.answer A.later name.now present (state_of self.old (A.meaning judge.old) out.old.entries.now.entries)) (result, state_of self.new (A.meaning judge.new) out.new.entries.now.entries) sysfs.new }
+        ensures spare { out.old.entries.now.spare ≤ out.new.entries.now.spare + 8 }
+        ensures room { out.new.entries.now.room ≡ out.old.entries.now.room }
+        ensures same { out.new.entries.ghost_name ≡ out.old.entries.ghost_name }
         ensures len { vec_len self.new.standings ≤ vec_len self.old.standings + 1 }
         ensures next { self.new.next ≤ self.old.next + 1 }
     {
@@ -245,17 +356,18 @@ impl Table {
 
 /// Settles one known name where the listing didn't succeed. It takes memory only to open a `remove` file.
 #[tactic(auto, unfolding(crate::specs::Settle::resettling), using(ug_itree::proofs::Runs::runs_then))]
-pub fn resettle<Y: Sysfs>(
+pub fn settle_known<Y: Sysfs>(
     alloc: Global,
     standings: &mut Vec<Standing>,
     sysfs: &mut Y,
     name: &NodeName,
-    out: &mut Entries,
+    out: &mut Journal,
 ) -> Settled
-    requires { 6 ≤ out.old.spare }
-    ensures runs { Runs Y.gives sysfs.old (resettling name.now (kept_of standings.old.items out.old.entries)) (result, kept_of standings.new.items out.new.entries) sysfs.new }
-    ensures spare { out.old.spare ≤ out.new.spare + 6 }
-    ensures room { out.new.room ≡ out.old.room }
+    requires { 6 ≤ out.old.entries.now.spare }
+    ensures runs { Runs Y.gives sysfs.old (resettling name.now (kept_of standings.old.items out.old.entries.now.entries)) (result, kept_of standings.new.items out.new.entries.now.entries) sysfs.new }
+    ensures spare { out.old.entries.now.spare ≤ out.new.entries.now.spare + 6 }
+    ensures room { out.new.entries.now.room ≡ out.old.entries.now.room }
+    ensures same { out.new.entries.ghost_name ≡ out.old.entries.ghost_name }
     ensures len { vec_len standings.new ≤ vec_len standings.old }
 {
     let known = match find(standings, name) {

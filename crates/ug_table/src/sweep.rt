@@ -10,11 +10,11 @@ ghost use Rattle.ug_table.specs.Laws.{Sweeps};
 ghost use Rattle.ug_table.specs.Parts.{TellsFaults, NamesOnce};
 
 use crate::judge::Judge;
-use crate::settle::resettle;
+use crate::settle::settle_known;
 use crate::standing::Standing;
 use crate::table::Table;
 use std::alloc::Global;
-use ug_audit::{Entries, Entry, Fault};
+use ug_audit::{Entry, Fault, Journal};
 use ug_sysfs::{Listing, Sysfs};
 use ug_types::{List, NodeName, sort_names};
 
@@ -25,11 +25,12 @@ fn has(names: &[NodeName], name: &NodeName) -> bool
 }
 
 /// An entry for each standing whose name isn't listed.
-fn bid(standings: &[Standing], names: &[NodeName], out: &mut Entries)
-    requires { length standings.now ≤ out.old.spare }
-    ensures entries { out.new.entries ≡ out.old.entries ++ farewells names.now standings.now }
-    ensures spare { out.old.spare ≤ out.new.spare + length standings.now }
-    ensures room { out.new.room ≡ out.old.room }
+fn bid(standings: &[Standing], names: &[NodeName], out: &mut Journal)
+    requires { length standings.now ≤ out.old.entries.now.spare }
+    ensures entries { out.new.entries.now.entries ≡ out.old.entries.now.entries ++ farewells names.now standings.now }
+    ensures spare { out.old.entries.now.spare ≤ out.new.entries.now.spare + length standings.now }
+    ensures room { out.new.entries.now.room ≡ out.old.entries.now.room }
+    ensures same { out.new.entries.ghost_name ≡ out.old.entries.ghost_name }
 {
     for s in standings {
         if !has(names, &s.name) {
@@ -67,26 +68,28 @@ fn resettle_all<Y: Sysfs>(
     standings: &mut Vec<Standing>,
     sysfs: &mut Y,
     names: &[NodeName],
-    out: &mut Entries,
+    out: &mut Journal,
 )
-    requires { 6 * length names.now ≤ out.old.spare }
-    ensures runs { Runs Y.gives sysfs.old (resettling_all names.now (kept_of standings.old.items out.old.entries)) (kept_of standings.new.items out.new.entries) sysfs.new }
-    ensures spare { out.old.spare ≤ out.new.spare + 6 * length names.now }
-    ensures room { out.new.room ≡ out.old.room }
+    requires { 6 * length names.now ≤ out.old.entries.now.spare }
+    ensures runs { Runs Y.gives sysfs.old (resettling_all names.now (kept_of standings.old.items out.old.entries.now.entries)) (kept_of standings.new.items out.new.entries.now.entries) sysfs.new }
+    ensures spare { out.old.entries.now.spare ≤ out.new.entries.now.spare + 6 * length names.now }
+    ensures room { out.new.entries.now.room ≡ out.old.entries.now.room }
+    ensures same { out.new.entries.ghost_name ≡ out.old.entries.ghost_name }
     ensures len { vec_len standings.new ≤ vec_len standings.old }
 {
     for name in names {
-        let _settled = resettle(alloc, standings, sysfs, name, out);
+        let _settled = settle_known(alloc, standings, sysfs, name, out);
     }
 }
 
 impl Table {
     /// Drops the standings of other names than these.
-    fn part<A: Judge>(&mut self, names: &[NodeName], judge: &A, out: &mut Entries)
-        requires { vec_len self.old.standings ≤ out.old.spare }
-        ensures state { state_of self.new (A.meaning judge.now) out.new.entries ≡ parted names.now (state_of self.old (A.meaning judge.now) out.old.entries) }
-        ensures spare { out.old.spare ≤ out.new.spare + vec_len self.old.standings }
-        ensures room { out.new.room ≡ out.old.room }
+    fn part<A: Judge>(&mut self, names: &[NodeName], judge: &A, out: &mut Journal)
+        requires { vec_len self.old.standings ≤ out.old.entries.now.spare }
+        ensures state { state_of self.new (A.meaning judge.now) out.new.entries.now.entries ≡ parted names.now (state_of self.old (A.meaning judge.now) out.old.entries.now.entries) }
+        ensures spare { out.old.entries.now.spare ≤ out.new.entries.now.spare + vec_len self.old.standings }
+        ensures room { out.new.entries.now.room ≡ out.old.entries.now.room }
+        ensures same { out.new.entries.ghost_name ≡ out.old.entries.ghost_name }
         ensures next { self.new.next ≡ self.old.next }
         ensures len { vec_len self.new.standings ≤ vec_len self.old.standings }
     {
@@ -103,14 +106,15 @@ impl Table {
         names: &[NodeName],
         present: bool,
         judge: &mut A,
-        out: &mut Entries,
+        out: &mut Journal,
     )
-        requires room { 8 * length names.now ≤ out.old.spare }
+        requires room { 8 * length names.now ≤ out.old.entries.now.spare }
         requires next { self.old.next + length names.now < 2 ^ 64 }
-        ensures runs { Runs Y.gives sysfs.old (settling_all A.answer A.later names.now present (state_of self.old (A.meaning judge.old) out.old.entries)) (state_of self.new (A.meaning judge.new) out.new.entries) sysfs.new }
+        ensures runs { Runs Y.gives sysfs.old (settling_all A.answer A.later names.now present (state_of self.old (A.meaning judge.old) out.old.entries.now.entries)) (state_of self.new (A.meaning judge.new) out.new.entries.now.entries) sysfs.new }
         ensures next { self.new.next ≤ self.old.next + length names.now }
-        ensures spare { out.old.spare ≤ out.new.spare + 8 * length names.now }
-        ensures room { out.new.room ≡ out.old.room }
+        ensures spare { out.old.entries.now.spare ≤ out.new.entries.now.spare + 8 * length names.now }
+        ensures room { out.new.entries.now.room ≡ out.old.entries.now.room }
+        ensures same { out.new.entries.ghost_name ≡ out.old.entries.ghost_name }
         ensures len { vec_len self.new.standings ≤ vec_len self.old.standings + length names.now }
     {
         for name in names {
@@ -126,13 +130,14 @@ impl Table {
         sysfs: &mut Y,
         fault: Fault,
         judge: &A,
-        out: &mut Entries,
+        out: &mut Journal,
     )
-        requires { 6 * vec_len self.old.standings + 2 ≤ out.old.spare }
-        ensures runs { Runs Y.gives sysfs.old (unlisted fault (state_of self.old (A.meaning judge.now) out.old.entries)) (state_of self.new (A.meaning judge.now) out.new.entries) sysfs.new }
+        requires { 6 * vec_len self.old.standings + 2 ≤ out.old.entries.now.spare }
+        ensures runs { Runs Y.gives sysfs.old (unlisted fault (state_of self.old (A.meaning judge.now) out.old.entries.now.entries)) (state_of self.new (A.meaning judge.now) out.new.entries.now.entries) sysfs.new }
         ensures next { self.new.next ≡ self.old.next }
-        ensures spare { 0 < out.new.spare }
-        ensures room { out.new.room ≡ out.old.room }
+        ensures spare { 0 < out.new.entries.now.spare }
+        ensures room { out.new.entries.now.room ≡ out.old.entries.now.room }
+        ensures same { out.new.entries.ghost_name ≡ out.old.entries.ghost_name }
         ensures len { vec_len self.new.standings ≤ vec_len self.old.standings }
     {
         out.push(Entry::UnsettledAll { fault });
@@ -148,17 +153,18 @@ impl Table {
         alloc: Global,
         sysfs: &mut Y,
         judge: &mut A,
-        out: &mut Entries,
+        out: &mut Journal,
     )
-        requires room { 8 * vec_len self.old.standings + 2 ≤ out.old.spare }
+        requires room { 8 * vec_len self.old.standings + 2 ≤ out.old.entries.now.spare }
         requires next { self.old.next + 65536 < 2 ^ 64 }
-        ensures runs { Runs Y.gives sysfs.old (sweeping A.answer A.later (state_of self.old (A.meaning judge.old) out.old.entries)) (state_of self.new (A.meaning judge.new) out.new.entries) sysfs.new }
+        ensures runs { Runs Y.gives sysfs.old (sweeping A.answer A.later (state_of self.old (A.meaning judge.old) out.old.entries.now.entries)) (state_of self.new (A.meaning judge.new) out.new.entries.now.entries) sysfs.new }
         ensures next { self.new.next ≤ self.old.next + 65536 }
-        ensures spare { 0 < out.new.spare }
-        ensures room { 8 * vec_len self.old.standings + 64 ≤ out.old.room → 8 * vec_len self.new.standings + 64 ≤ out.new.room }
-        ensures swept { Sweeps Y.told A.answer A.later sysfs.old (state_of self.old (A.meaning judge.old) out.old.entries) sysfs.new (state_of self.new (A.meaning judge.new) out.new.entries) }
-        ensures once { NamesOnce Y.told sysfs.old (state_of self.old (A.meaning judge.old) out.old.entries) sysfs.new (state_of self.new (A.meaning judge.new) out.new.entries) }
-        ensures faults { TellsFaults Y.gives Y.calls Y.faults sysfs.old (state_of self.old (A.meaning judge.old) out.old.entries) sysfs.new (state_of self.new (A.meaning judge.new) out.new.entries) }
+        ensures spare { 0 < out.new.entries.now.spare }
+        ensures room { 8 * vec_len self.old.standings + 64 ≤ out.old.entries.now.room → 8 * vec_len self.new.standings + 64 ≤ out.new.entries.now.room }
+        ensures same { out.new.entries.ghost_name ≡ out.old.entries.ghost_name }
+        ensures swept { Sweeps Y.told A.answer A.later sysfs.old (state_of self.old (A.meaning judge.old) out.old.entries.now.entries) sysfs.new (state_of self.new (A.meaning judge.new) out.new.entries.now.entries) }
+        ensures once { NamesOnce Y.told sysfs.old (state_of self.old (A.meaning judge.old) out.old.entries.now.entries) sysfs.new (state_of self.new (A.meaning judge.new) out.new.entries.now.entries) }
+        ensures faults { TellsFaults Y.gives Y.calls Y.faults sysfs.old (state_of self.old (A.meaning judge.old) out.old.entries.now.entries) sysfs.new (state_of self.new (A.meaning judge.new) out.new.entries.now.entries) }
     {
         self.sweep_names(alloc, sysfs, judge, out);
     }
@@ -169,14 +175,15 @@ impl Table {
         alloc: Global,
         sysfs: &mut Y,
         judge: &mut A,
-        out: &mut Entries,
+        out: &mut Journal,
     )
-        requires room { 8 * vec_len self.old.standings + 2 ≤ out.old.spare }
+        requires room { 8 * vec_len self.old.standings + 2 ≤ out.old.entries.now.spare }
         requires next { self.old.next + 65536 < 2 ^ 64 }
-        ensures runs { Runs Y.gives sysfs.old (sweeping A.answer A.later (state_of self.old (A.meaning judge.old) out.old.entries)) (state_of self.new (A.meaning judge.new) out.new.entries) sysfs.new }
+        ensures runs { Runs Y.gives sysfs.old (sweeping A.answer A.later (state_of self.old (A.meaning judge.old) out.old.entries.now.entries)) (state_of self.new (A.meaning judge.new) out.new.entries.now.entries) sysfs.new }
         ensures next { self.new.next ≤ self.old.next + 65536 }
-        ensures spare { 0 < out.new.spare }
-        ensures room { 8 * vec_len self.old.standings + 64 ≤ out.old.room → 8 * vec_len self.new.standings + 64 ≤ out.new.room }
+        ensures spare { 0 < out.new.entries.now.spare }
+        ensures room { 8 * vec_len self.old.standings + 64 ≤ out.old.entries.now.room → 8 * vec_len self.new.standings + 64 ≤ out.new.entries.now.room }
+        ensures same { out.new.entries.ghost_name ≡ out.old.entries.ghost_name }
     {
         let names = match sysfs.list(alloc) {
             Listing::Names(names) => sorted(names),

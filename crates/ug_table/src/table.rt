@@ -1,9 +1,11 @@
 // The list of standings, in sweep order of their names.
-ghost use Rattle.std.specs.Prelude.{◌≡◌, ◌≤◌, ◌<◌, ◌+◌, ◌++◌, [], map, length, vec_len, vec_capacity, false};
+ghost use Rattle.std.specs.Prelude.{◌≡◌, ◌↔◌, ◌≤◌, ◌<◌, ◌+◌, ◌++◌, [], map, length, vec_len, vec_capacity, false, option_copied, IsNone};
+ghost use Rattle.ug_types.specs.Elements.{Has};
+ghost use Rattle.ug_table.specs.declared.standing.Standing.{Standing};
 ghost use Rattle.std.specs.List.{filter, list_any};
 ghost use Rattle.ug_match.specs.Queries.{query_matches};
 ghost use Rattle.ug_table.specs.Allowed.{allowed_of, allowed_records};
-ghost use Rattle.ug_table.specs.Standings.{standing_of, without, marked, mark_of, removed_of, with_standing, place_for};
+ghost use Rattle.ug_table.specs.Standings.{known_of, standing_of, numbered, without, marked, mark_of, removed_of, with_standing, place_for};
 
 use crate::bring::is_reject;
 use crate::standing::{Known, Standing};
@@ -37,6 +39,14 @@ impl Table {
         }
     }
 
+    /// The standing of that number. It is none exactly where no standing has it.
+    pub fn standing(&self, number: u64) -> Option<&Standing>
+        ensures value { option_copied result ≡ numbered number self.now.standings.items }
+        ensures none { IsNone result ↔ ((s : Standing) → Has self.now.standings.items s → s.number ≡ number → ⊥) }
+    {
+        find_numbered(&self.standings, number)
+    }
+
     /// Whether a query matches a settled device whose verdict is to allow it. A malformed device matches none. It takes
     /// no memory.
     pub fn any_allowed(&self, query: &Query) -> bool
@@ -44,6 +54,12 @@ impl Table {
     {
         has_allowed(&self.standings, query)
     }
+}
+
+fn find_numbered(standings: &[Standing], number: u64) -> Option<&Standing>
+    ensures { option_copied result ≡ numbered number standings.now }
+{
+    standings.iter().find(|s| s.number == number)
 }
 
 fn has_allowed(standings: &[Standing], query: &Query) -> bool
@@ -62,6 +78,18 @@ fn is_allowed(s: &Standing, query: &Query) -> bool
     }
 }
 
+/// What the writes of a standing need.
+pub fn known_of(s: &Standing) -> Known
+    ensures { result ≡ known_of s.now }
+{
+    Known {
+        number: s.number,
+        held: s.held,
+        verdict: s.verdict,
+        removed: s.removed,
+    }
+}
+
 /// The standing of a name.
 #[tactic(auto, using(std::proofs::lemmas::List::at_drop_more))]
 pub fn find(standings: &[Standing], name: &NodeName) -> Option<Known>
@@ -69,12 +97,7 @@ pub fn find(standings: &[Standing], name: &NodeName) -> Option<Known>
 {
     for s in standings {
         if s.name == *name {
-            return Some(Known {
-                number: s.number,
-                held: s.held,
-                verdict: s.verdict,
-                removed: s.removed,
-            });
+            return Some(known_of(s));
         }
     }
     None

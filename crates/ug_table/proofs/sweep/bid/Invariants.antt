@@ -4,8 +4,9 @@ use Rattle.ug_table.proofs.sweep.bid.Given as goal
 
 abbrev pub invariant-loop-s : goal.invariant-loop-s
 invariant-loop-s l = record {
-  entries : l.out.entries ++ farewells l.names (drop l.s-index l.standings) ≡ l.fn.out.entries ++ farewells l.names l.standings;
-  room : length l.standings ≤ l.out.spare + l.s-index;
-  space : l.out.room ≡ l.fn.out.room;
-  spare : l.fn.out.spare ≤ l.out.spare + l.s-index;
+  entries : l.out.entries.now.entries ++ farewells l.names (drop l.s-index l.standings) ≡ l.fn.out.entries.now.entries ++ farewells l.names l.standings;
+  room : length l.standings ≤ l.out.entries.now.spare + l.s-index;
+  space : l.out.entries.now.room ≡ l.fn.out.entries.now.room;
+  same : l.out.entries.ghost_name ≡ l.fn.out.entries.ghost_name;
+  spare : l.fn.out.entries.now.spare ≤ l.out.entries.now.spare + l.s-index;
 }

@@ -4,9 +4,10 @@ use Rattle.ug_table.proofs.sweep.resettle_all.Goals as goal
 
 pub loop-name-preserved : goal.loop-name-preserved
 loop-name-preserved g c = record {
-  runs = λ r t k. c.loop-name.invariant.runs r t (resettling_more g.Y.Sysfs.gives c.args.names.now c.loop-name.name-index c.name-item.result _ _ _ _ c.loop-name-test.true c.name-item.is c.resettle-settled.ensures.runs r t k);
-  room = omega (arith, c.resettle-settled.ensures.spare);
-  spare = omega (arith, c.resettle-settled.ensures.spare);
-  space = c.resettle-settled.ensures.room ∙ c.loop-name.invariant.space;
-  len = omega (arith, c.resettle-settled.ensures.len);
+  runs = λ r t k. c.loop-name.invariant.runs r t (resettling_more g.Y.Sysfs.gives c.args.names.now c.loop-name.name-index c.name-item.result _ _ _ _ c.loop-name-test.true c.name-item.is c.settle_known-settled.ensures.runs r t k);
+  room = omega (arith, c.settle_known-settled.ensures.spare);
+  spare = omega (arith, c.settle_known-settled.ensures.spare);
+  space = c.settle_known-settled.ensures.room ∙ c.loop-name.invariant.space;
+  same = c.settle_known-settled.ensures.same ∙ c.loop-name.invariant.same;
+  len = omega (arith, c.settle_known-settled.ensures.len);
 }

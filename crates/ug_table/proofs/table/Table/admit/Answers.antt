@@ -1,32 +1,30 @@
-use Rattle.std.proofs.Common.{◌≡◌, true, false, [], ◌∷◌, ◌++◌, refl}
-use Rattle.ug_kernel.specs.Calls.{Closed}
+use Rattle.std.proofs.Common.{◌≡◌, ℕ, Bool, true, false, List, subst, sym, ◌∙◌, ap, Option, option_copied}
+use Rattle.ug_types.specs.declared.record.Attrs.{Attrs}
+use Rattle.ug_types.specs.declared.record.Judged.{Judged}
+use Rattle.ug_itree.specs.Tree.{Runs}
+use Rattle.ug_record.specs.Records.{judged_of}
 use Rattle.ug_audit.specs.declared.entry.Entry.{Entry}
-use Rattle.ug_audit.specs.declared.entry.Entry.TheVariants as entry
-use Rattle.ug_audit.specs.declared.entry.Fault.TheVariants as fault
-use Rattle.ug_table.specs.declared.standing.Settled.{Settled}
-use Rattle.ug_table.specs.declared.standing.Settled.TheVariants.{Memory}
-use Rattle.ug_table.specs.State.{State, noted}
-use Rattle.ug_table.specs.Settle.{admitting}
+use Rattle.ug_table.specs.declared.standing.Standing.{Standing}
+use Rattle.ug_table.specs.State.{State, state_of}
+use Rattle.ug_table.specs.Settle.{no_room, to_judge, admitting}
 use Rattle.ug_table.proofs.table.Table.admit.Goals as goal
 
--- the state is as before but for its entries
-same_state : {J : Type 0} (w v : State J) (e : Entry) → v.standings ≡ w.standings → v.next ≡ w.next → v.listed ≡ w.listed → v.judge ≡ w.judge → v.entries ≡ w.entries ++ e ∷ [] → let new : Settled × State J = (Memory, v) in let wanted : Settled × State J = (Memory, noted w e) in new ≡ wanted
-same_state w v e a b c d f = λ i. (Memory, record { standings = a i; next = b i; listed = c i; judge = d i; entries = f i })
+-- a state whose fields are those of another
+same_state : {J : Type 0} (ss rs : List Standing) (next after : ℕ) (listed seen : Bool) (judge : J) (es : List Entry) → rs ≡ ss → after ≡ next → seen ≡ listed → let made : State J = record { standings = rs; next = after; listed = seen; judge = judge; entries = es } in let was : State J = record { standings = ss; next = next; listed = listed; judge = judge; entries = es } in made ≡ was
+same_state ss rs next after listed seen judge es a b c = λ i. record { standings = a i; next = b i; listed = c i; judge = judge; entries = es }
 
 pub returns-then-is_err-clause-runs : goal.returns-then-is_err-clause-runs
 unfolding admitting
-returns-then-is_err-clause-runs g c = (
-  true,
-  (
-    false,
-    (
-      Closed,
-      c.close-then-is_err.new.self,
-      c.close-then-is_err.ensures,
-      (
-        same_state _ _ (entry.Unsettled c.args.name.now fault.Memory) c.make_room.ensures.standings c.make_room.ensures.next c.make_room.ensures.listed refl c.push-then-is_err.ensures.entries,
-        refl,
-      ),
-    ),
-  ),
-)
+returns-then-is_err-clause-runs g c =
+    let m = c.make_room.ensures in
+    let e = c.lack_memory-then-is_err in
+    (true, (false, subst (λ (w : State _). Runs g.Y.Sysfs.gives c.args.sysfs.now (no_room w c.args.name.now c.args.bound.held.0) (e.result, state_of c.make_room.new.self (g.A.Judge.meaning c.args.judge.now) e.new.out.entries.now.entries) e.new.sysfs) (same_state _ _ _ _ _ _ (g.A.Judge.meaning c.args.judge.now) c.args.out.now.entries.now.entries m.standings m.next m.listed) e.ensures.runs))
+
+pub returns-clause-runs : goal.returns-clause-runs
+unfolding admitting
+returns-clause-runs g c =
+    let m = c.make_room.ensures in
+    let h = c.judge_bound in
+    let w : State _ = state_of c.args.self.now (g.A.Judge.meaning c.args.judge.now) c.args.out.now.entries.now.entries in
+    let run = subst (λ (w : State _). Runs g.Y.Sysfs.gives c.args.sysfs.now (to_judge g.A.Judge.answer g.A.Judge.later c.args.name.now c.args.present w c.args.bound c.in-Ok.judged) (h.result, state_of h.new.self (g.A.Judge.meaning h.new.judge) h.new.out.entries.now.entries) h.new.sysfs) (same_state _ _ _ _ _ _ (g.A.Judge.meaning c.args.judge.now) c.args.out.now.entries.now.entries m.standings m.next m.listed) h.ensures.runs in
+    (true, (true, subst (λ (j : Judged). Runs g.Y.Sysfs.gives c.args.sysfs.now (to_judge g.A.Judge.answer g.A.Judge.later c.args.name.now c.args.present w c.args.bound j) (h.result, state_of h.new.self (g.A.Judge.meaning h.new.judge) h.new.out.entries.now.entries) h.new.sysfs) (c.in-Ok.ensures ∙ ap (λ (p : Option Attrs). judged_of c.args.name.now c.args.bound.attrs p) c.as_ref.ensures.value) run))

@@ -9,6 +9,7 @@ loop-name-preserved g c = record {
   next = omega (arith, c.settle-settled.ensures.next);
   spare = omega (arith, c.settle-settled.ensures.spare);
   space = c.settle-settled.ensures.room ∙ c.loop-name.invariant.space;
+  same = c.settle-settled.ensures.same ∙ c.loop-name.invariant.same;
   len = omega (arith, c.settle-settled.ensures.len);
   most = omega (arith, c.settle-settled.ensures.next);
 }

@@ -1,0 +1,187 @@
+-- What the settling of one name does, over the states of a run.
+use Rattle.std.proofs.Common.{◌≡◌, ℕ, ◌^◌, ◌<◌, Bool, true, false, List, [], ◌∷◌, ◌++◌, ◌⊎◌, Option, Some, None, inl, inr, refl, sym, ◌∙◌, ap, subst, append-nil, slice_get, true≢false}
+use Rattle.ug_types.specs.Elements.{Has}
+use Rattle.ug_kernel.specs.declared.device.Device.{Device}
+use Rattle.ug_types.specs.declared.verdict.Target.TheVariants as target
+use Rattle.ug_types.specs.declared.verdict.Cause.TheVariants as cause
+use Rattle.ug_kernel.specs.Calls.{Call, Answer}
+use Rattle.ug_kernel.specs.Kernel.{Kernel, IsKernel}
+use Rattle.ug_kernel.specs.Called.{Lived, Follows}
+use Rattle.ug_kernel.proofs.Grow.{grows_refl, some_same}
+use Rattle.ug_itree.specs.Tree.{Runs, calls}
+use Rattle.ug_itree.proofs.Rises.{Counting, along_numbered, along_rises}
+use Rattle.ug_itree.proofs.Told.{told_run}
+use Rattle.ug_audit.specs.declared.entry.Entry.{Entry}
+use Rattle.ug_audit.specs.declared.entry.Entry.TheVariants as entry
+use Rattle.ug_audit.specs.declared.entry.Fault.{Fault}
+use Rattle.ug_table.specs.State.{State, Kept, kept_of, with_kept, Answers, Laters}
+use Rattle.ug_table.specs.Bring.{is_to_go}
+use Rattle.ug_table.specs.Standings.{standing_of, numbered}
+use Rattle.ug_table.specs.Settle.{settling, resettling}
+use Rattle.ug_table.specs.Sweep.{names_of}
+use Rattle.ug_table.specs.Laws.{Stand, IsGone, IsNamed, HasStanding, IsAsJudged, AreMarkedSoFar}
+use Rattle.ug_table.specs.One.{again_numbered, resettling_numbered, why_in, whys, why_of, GoesAsPart, LivedAs, SettledOne, SettlesOne, IsOf, ResettledOne, ResettlesOne, NeedsRoom}
+use Rattle.ug_table.specs.declared.standing.Standing.{Standing}
+use Rattle.ug_table.specs.declared.standing.Known.{Known}
+use Rattle.ug_table.specs.declared.standing.Settled.{Settled}
+use Rattle.ug_table.specs.declared.standing.Settled.TheVariants as settled
+use Rattle.ug_types.proofs.Elements.{cancel, has_map}
+use Rattle.ug_table.proofs.Values.{IsFileOf, file_same, file_later, LiveAs, IsOpen, open_later, open_named}
+use Rattle.ug_table.proofs.Joined.{FairFrom, had_before}
+use Rattle.ug_table.proofs.Steps.{fair_refl}
+use Rattle.ug_table.proofs.SoFar.{AreSoFar, so_far_first}
+use Rattle.ug_table.proofs.Fair.{then_settling, then_resettling}
+use Rattle.ug_table.proofs.Own.{Good, settling_own}
+use Rattle.ug_table.proofs.Again.{resettling_own}
+use Rattle.ug_table.proofs.Lived.{lives_first, lives_last, stand_files, judged_at}
+use Rattle.ug_table.proofs.Standings.{numbered_has}
+use Rattle.ug_table.proofs.Told.{ends_run}
+use Rattle.ug_table.proofs.Answered.{Answered, settling_answered, AnsweredAgain, resettling_answered}
+use Rattle.ug_table.proofs.Parted.{WentPart, settling_went, resettling_went}
+
+-- what was added is one list
+added : (es fs xs ys : List Entry) → fs ≡ es ++ xs → fs ≡ es ++ ys → ys ≡ xs
+added es fs xs ys e f = cancel es ys xs (sym f ∙ e)
+
+as_part : {S : Type 0} (gives : S → (call : Call) → Answer call → S → Type 0) (calls faults : S → ℕ) (counted : Counting gives calls faults) (name : List ℕ) (s : S) (ss : List Standing) (es : List Entry) (t : S) (rs : List Standing) (fs : List Entry) (how : Settled) → WentPart gives name s ss es t rs fs → Answered name es how rs fs → GoesAsPart gives calls faults name s ss es t rs fs how
+as_part gives calls faults counted name s ss es t rs fs how a h = record {
+  made = a.calls;
+  along = a.along;
+  rest = a.rest;
+  entries = a.entries;
+  part = a.part;
+  why = subst (λ (v : List Entry). whys v ≡ why_of how) (added es fs a.rest h.rest a.entries h.entries) h.why;
+  stands = h.stands;
+  nobody = h.nobody;
+  numbered = along_numbered gives calls faults counted a.calls s t a.along;
+  rises = λ low. along_rises gives calls faults counted a.calls s t low a.along;
+}
+
+pub settling_part : {S J : Type 0} (gives : S → (call : Call) → Answer call → S → Type 0) (calls faults : S → ℕ) (counted : Counting gives calls faults) (answer : Answers J) (later : Laters J) (name : List ℕ) (present : Bool) (w : State J) (s : S) (p : Settled × State J) (t : S) → Runs gives s (settling answer later name present w) p t → GoesAsPart gives calls faults name s w.standings w.entries t p.1.standings p.1.entries p.0
+settling_part {S} {J} gives calls faults counted answer later name present w s p t h =
+    as_part gives calls faults counted name s w.standings w.entries t p.1.standings p.1.entries p.0
+    (settling_went gives answer later name present w s p t h)
+    (ends_run gives (λ (q : Settled × State J). Answered name w.entries q.0 q.1.standings q.1.entries) (settling answer later name present w) s p t (settling_answered answer later name present w) h)
+
+-- nothing that is told is unsettled
+right_none : (xs ys : List Fault) → xs ++ ys ≡ [] → ys ≡ []
+right_none [] ys e = e
+right_none (x ∷ xs) ys e = let none : ⊥ = cc in absurd none
+
+told_why : (es : List Entry) (name : List ℕ) (why : Fault) → whys es ≡ [] → Has es (entry.Unsettled name why) → ⊥
+told_why [] name why e a = a
+told_why (x ∷ es) name why e (inl is) =
+    let here : why ∷ whys es ≡ [] = subst (λ (v : Entry). why_in v ++ whys es ≡ []) is e in
+    let none : ⊥ = cc in none
+told_why (x ∷ es) name why e (inr a) = told_why es name why (right_none (why_in x) (whys es) e) a
+
+none_named : (es : List Entry) (name : List ℕ) → whys es ≡ [] → IsNamed es name → ⊥
+none_named es name e a = told_why es name a.0 e a.1
+
+first_so_far : {J : Type 0} (w : State J) → AreSoFar w w
+first_so_far w rest e = subst (λ (v : List Entry). AreMarkedSoFar w.standings v w.standings) (cancel w.entries [] rest (append-nil w.entries ∙ e)) (so_far_first w.standings)
+
+-- the standing of a live device of that name bears the name
+standing_named : (l : Kernel) (ss : List Standing) (next i : ℕ) (name : List ℕ) → Stand l ss next → LiveAs l i name → HasStanding l ss i → Has (names_of ss) name
+standing_named l ss next i name stand live h =
+    subst (λ (v : List ℕ). Has (names_of ss) v) (open_named l h.s.name name h.s.held.0 i (stand_files l ss next stand h.s h.has) h.file live) (has_map (λ (v : Standing). v.name) ss h.s h.has)
+
+settling_one : {J : Type 0} (answer : Answers J) (later : Laters J) (name : List ℕ) (present : Bool) (w : State J) (k l : Kernel) (p : Settled × State J) → IsKernel k → Stand k w.standings w.next → Runs calls k (settling answer later name present w) p l → SettledOne answer later present name k w l p.1 p.0
+settling_one {J} answer later name present w k l p sound stand r =
+    let a = then_settling l name p (first_so_far w) (fair_refl answer later present k w sound stand) r in
+    let h = ends_run calls (λ (q : Settled × State J). Answered name w.entries q.0 q.1.standings q.1.entries) (settling answer later name present w) k p l (settling_answered answer later name present w) r in
+    let last : (i : ℕ) → LivedAs k l name i → LiveAs l i name = λ i x. subst (λ (v : List ℕ). LiveAs l i v) x.2 (lives_last k l i x.0 a.fair.grows x.1) in
+    let ended : (i : ℕ) → LivedAs k l name i → IsAsJudged l p.1.standings i ⊎ IsNamed a.fair.rest name = λ i x.
+    let first = subst (λ (v : List ℕ). LiveAs k i v) x.2 (lives_first k l i x.0 x.1) in
+    elim (settling_own answer later name present i w k l p sound (stand_files k w.standings w.next stand) first (last i x) r) [
+      | inl g ↦ inl (judged_at l p.1.standings p.1.next i a.fair.stand g)
+      | inr n ↦ inr (subst (λ (v : List Entry). IsNamed v name) (added w.entries p.1.entries a.fair.rest n.0 a.fair.entries n.1) n.2)
+    ] in
+    record {
+      fair = a.fair;
+      ended = ended;
+      nobody = λ e i x. elim (ended i x) [
+        | inl j ↦ h.nobody e (standing_named l p.1.standings p.1.next i name a.fair.stand (last i x) j.standing)
+        | inr n ↦ none_named a.fair.rest name (subst (λ (v : List Entry). whys v ≡ []) (added w.entries p.1.entries a.fair.rest h.rest a.fair.entries h.entries) (h.why ∙ ap why_of e)) n
+      ];
+    }
+
+pub told_settles : {S J : Type 0} (gives : S → (call : Call) → Answer call → S → Type 0) (told : S → Option Kernel) (did : (s : S) (call : Call) (answer : Answer call) (t : S) (l : Kernel) → gives s call answer t → told t ≡ Some l → Follows call answer (told s) l) (answer : Answers J) (later : Laters J) (name : List ℕ) (present : Bool) (s : S) (w : State J) (t : S) (p : Settled × State J) → Runs gives s (settling answer later name present w) p t → SettlesOne told answer later present name s w t p.1 p.0
+told_settles gives told did answer later name present s w t p r = λ l e.
+    let m = told_run gives told did (settling answer later name present w) s p t l r e in
+    (m.kernel, m.was, λ sound stand. settling_one answer later name present w m.kernel l p sound stand (m.run sound).0)
+
+-- the standing of a number
+
+run_numbered : {S : Type 0} (gives : S → (call : Call) → Answer call → S → Type 0) (number : ℕ) (k : Kept) (x : Standing) (s : S) (p : Settled × Kept) (t : S) → numbered number k.standings ≡ Some x → Runs gives s (resettling_numbered number k) p t → Runs gives s (resettling x.name k) p t
+unfolding resettling_numbered
+run_numbered gives number k x s p t e r = subst (λ (o : Option Standing). Runs gives s (again_numbered k o) p t) e r
+
+pub numbered_part : {S : Type 0} (gives : S → (call : Call) → Answer call → S → Type 0) (calls faults : S → ℕ) (counted : Counting gives calls faults) (number : ℕ) (k : Kept) (x : Standing) (s : S) (p : Settled × Kept) (t : S) → numbered number k.standings ≡ Some x → Runs gives s (resettling_numbered number k) p t → GoesAsPart gives calls faults x.name s k.standings k.entries t p.1.standings p.1.entries p.0
+numbered_part gives calls faults counted number k x s p t e r =
+    let h = run_numbered gives number k x s p t e r in
+    as_part gives calls faults counted x.name s k.standings k.entries t p.1.standings p.1.entries p.0
+    (resettling_went gives x.name k s p t h)
+    (ends_run gives (AnsweredAgain x.name k) (resettling x.name k) s p t (resettling_answered x.name k) h).answered
+
+-- want of memory
+pub numbered_room : {S : Type 0} (gives : S → (call : Call) → Answer call → S → Type 0) (number : ℕ) (k : Kept) (x : Standing) (s : S) (p : Settled × Kept) (t : S) → numbered number k.standings ≡ Some x → Runs gives s (resettling_numbered number k) p t → p.0 ≡ settled.Memory → NeedsRoom x.name k.standings
+numbered_room gives number k x s p t e r = (ends_run gives (AnsweredAgain x.name k) (resettling x.name k) s p t (resettling_answered x.name k) (run_numbered gives number k x s p t e r)).room
+
+-- two open files of one device are of one name
+one_name : (k : Kernel) (a b : List ℕ) (held other i : ℕ) → IsOpen k a held → IsOpen k b other → IsFileOf k held i → IsFileOf k other i → a ≡ b
+one_name k a b held other i x y f g =
+    let is : x.i ≡ i = file_same k held x.i i x.file f in
+    let at : y.i ≡ i = file_same k other y.i i y.file g in
+    let same : x.d ≡ y.d = some_same (slice_get k.devices i) x.d y.d (subst (λ v. slice_get k.devices v ≡ Some x.d) is x.device) (subst (λ v. slice_get k.devices v ≡ Some y.d) at y.device) in
+    sym x.named ∙ ap (λ (v : Device). v.name) same ∙ y.named
+
+-- a live device isn't gone
+dead : (l : Kernel) (i : ℕ) (name : List ℕ) → IsGone l i → LiveAs l i name → ⊥
+dead l i name gone live =
+    let same : gone.0 ≡ live.d = some_same (slice_get l.devices i) gone.0 live.d gone.1 live.live.at in
+    let was : true ≡ false = sym gone.2 ∙ ap (λ (v : Device). v.gone) same ∙ live.live.here in
+    true≢false was
+
+no_verdict : Answers (Unit {0})
+no_verdict judge dev controller present on ss = (target.Block, cause.Implicit)
+
+no_later : Laters (Unit {0})
+no_later judge dev controller present on ss = tt
+
+resettling_one : (w : State (Unit {0})) (k l : Kernel) (p : Settled × Kept) (x : Standing) → IsKernel k → Stand k w.standings w.next → Has w.standings x → Runs calls k (resettling x.name (kept_of w.standings w.entries)) p l → ResettledOne x k w l (with_kept w p.1) p.0
+resettling_one w k l p x sound stand has r =
+    let kept = kept_of w.standings w.entries in
+    let fair : (answer : Answers (Unit {0})) (later : Laters (Unit {0})) (present : Bool) → FairFrom answer later present k w l (with_kept w p.1) = λ answer later present. then_resettling w l x.name kept p (fair_refl answer later present k w sound stand) r in
+    let a = fair no_verdict no_later false in
+    let g = a.fair.grows in
+    let files = stand_files k w.standings w.next stand in
+    let h = ends_run calls (AnsweredAgain x.name kept) (resettling x.name kept) k p l (resettling_answered x.name kept) r in
+    let stood : (i : ℕ) → IsOf k x i → HasStanding l p.1.standings i ⊎ IsGone l i = λ i file. had_before a l i x.number x.name x.held x.verdict (grows_refl l) (inl (x, has, refl, refl, refl, refl)) (file_later k l x.held.0 i g file) in
+    record {
+      fair = λ answer later present. (fair answer later present).fair;
+      ended = λ i d file lives.
+          let named : x.name ≡ d.name = open_named k x.name d.name x.held.0 i (files x has) file (lives_first k l i d lives) in
+          let first = subst (λ (v : List ℕ). LiveAs k i v) (sym named) (lives_first k l i d lives) in
+          let last = subst (λ (v : List ℕ). LiveAs l i v) (sym named) (lives_last k l i d g lives) in
+          elim (resettling_own x.name i kept k l p sound files first last r) [
+            | inl (inl good) ↦ inl (judged_at l p.1.standings w.next i a.fair.stand good)
+            | inl (inr n) ↦ inr n
+            | inr none ↦ elim (stood i file) [
+              | inl s ↦ absurd (none s)
+              | inr gone ↦ absurd (dead l i x.name gone last)
+            ]
+          ];
+      nobody = λ e i file. elim (stood i file) [
+        | inl s ↦
+            let same : s.s.name ≡ x.name = one_name l s.s.name x.name s.s.held.0 x.held.0 i (stand_files l p.1.standings w.next a.fair.stand s.s s.has) (open_later k l x.name x.held.0 g (files x has)) s.file (file_later k l x.held.0 i g file) in
+            absurd (h.answered.nobody e (subst (λ (v : List ℕ). Has (names_of p.1.standings) v) same (has_map (λ (v : Standing). v.name) p.1.standings s.s s.has)))
+        | inr gone ↦ gone
+      ];
+    }
+
+pub told_resettles : {S : Type 0} (gives : S → (call : Call) → Answer call → S → Type 0) (told : S → Option Kernel) (did : (s : S) (call : Call) (answer : Answer call) (t : S) (l : Kernel) → gives s call answer t → told t ≡ Some l → Follows call answer (told s) l) (number : ℕ) (s : S) (w : State (Unit {0})) (t : S) (p : Settled × Kept) → Runs gives s (resettling_numbered number (kept_of w.standings w.entries)) p t → ResettlesOne told number s w t (with_kept w p.1) p.0
+told_resettles gives told did number s w t p r = λ l e.
+    let kept = kept_of w.standings w.entries in
+    let m = told_run gives told did (resettling_numbered number kept) s p t l r e in
+    (m.kernel, m.was, λ sound stand x is. resettling_one w m.kernel l p x sound stand (numbered_has number w.standings x is).0 (run_numbered calls number kept x m.kernel p l is (m.run sound).0))

@@ -1,0 +1,99 @@
+-- What the settling of one name does, in the words of calls, devices and journal.
+use Rattle.std.specs.Prelude.{◌≡◌, ℕ, Bool, ◌^◌, ◌<◌, List, [], ◌∷◌, ◌++◌, Option, Some, None, true, ◌⊎◌, slice_get}
+use Rattle.ug_types.specs.Elements.{Has}
+use Rattle.ug_types.specs.declared.verdict.Held.{Held}
+use Rattle.ug_kernel.specs.declared.device.Device.{Device}
+use Rattle.ug_kernel.specs.declared.calls.Control.TheVariants.{Authorized}
+use Rattle.ug_kernel.specs.Calls.{Call, Answer}
+use Rattle.ug_kernel.specs.Kernel.{Kernel, IsKernel}
+use Rattle.ug_kernel.specs.Called.{Lived}
+use Rattle.ug_itree.specs.Tree.{Prog, Return}
+use Rattle.ug_itree.specs.Along.{Made, Along, failures, AreNumbered, Rises}
+use Rattle.ug_audit.specs.declared.entry.Entry.{Entry}
+use Rattle.ug_audit.specs.declared.entry.Entry.TheVariants as entry
+use Rattle.ug_audit.specs.declared.entry.Fault.{Fault}
+use Rattle.ug_audit.specs.declared.entry.Fault.TheVariants as fault
+use Rattle.ug_table.specs.State.{State, Kept, Answers, Laters}
+use Rattle.ug_table.specs.Settle.{resettling}
+use Rattle.ug_table.specs.Sweep.{names_of}
+use Rattle.ug_table.specs.Bring.{is_to_go}
+use Rattle.ug_table.specs.Standings.{standing_of, numbered}
+use Rattle.ug_table.specs.Laws.{Stand, IsFair, IsGone, IsNamed, IsAsJudged}
+use Rattle.ug_table.specs.Parts.{Part}
+use Rattle.ug_table.specs.declared.standing.Standing.{Standing}
+use Rattle.ug_table.specs.declared.standing.Known.{Known}
+use Rattle.ug_table.specs.declared.standing.Settled.{Settled}
+use Rattle.ug_table.specs.declared.standing.Settled.TheVariants as settled
+
+abbrev pub again_numbered : Kept → Option Standing → Prog (Settled × Kept)
+again_numbered k (Some s) = resettling s.name k
+again_numbered k None = Return (settled.Nobody, k)
+
+-- the known name of that number's standing
+unfoldable pub resettling_numbered : ℕ → Kept → Prog (Settled × Kept)
+resettling_numbered number k = again_numbered k (numbered number k.standings)
+
+-- why entries tell names as unsettled
+abbrev pub why_in : Entry → List Fault
+why_in (entry.Unsettled name why) = why ∷ []
+why_in e = []
+
+abbrev pub whys : List Entry → List Fault
+whys [] = []
+whys (e ∷ es) = why_in e ++ whys es
+
+-- why an answer says so
+abbrev pub why_of : Settled → List Fault
+why_of settled.Stands = []
+why_of settled.Nobody = []
+why_of (settled.Fault call count) = fault.Call call count ∷ []
+why_of settled.Memory = fault.Memory ∷ []
+
+-- The settling of a name is one part of a sweep, from the standings and the entries before it to those after it. A fault and want of
+-- memory are answered just where they are told, and so the fault is that of the part's failed call; a standing of the name is there
+-- where the answer says so, and none where it says that there is nobody. Calls are numbered on, and so both numbers of a fault rise.
+pub record GoesAsPart {S : Type 0} (gives : S → (call : Call) → Answer call → S → Type 0) (calls faults : S → ℕ) (name : List ℕ) (s : S) (before : List Standing) (es : List Entry) (t : S) (after : List Standing) (fs : List Entry) (how : Settled) : Type 0 where
+  pub made : List Made
+  pub along : Along gives s made t
+  pub rest : List Entry
+  pub entries : fs ≡ es ++ rest
+  pub part : Part name before after made rest
+  pub why : whys rest ≡ why_of how
+  pub stands : how ≡ settled.Stands → Has (names_of after) name
+  pub nobody : how ≡ settled.Nobody → Has (names_of after) name → ⊥
+  pub numbered : AreNumbered (calls s) made
+  pub rises : calls s < 2 ^ 64 → Rises (calls s) (faults s) (failures made)
+
+-- a device of that name lived through
+abbrev pub LivedAs : Kernel → Kernel → List ℕ → ℕ → Type 0
+LivedAs k l name i = (d : Device) × Lived k.devices l.devices i d × (d.name ≡ name)
+
+-- The settling of a name is fair; a device of the name that lived through is as judged or the name is told; and where the answer says
+-- that there is nobody, no device of the name lived through.
+pub record SettledOne {J : Type 0} (answer : Answers J) (later : Laters J) (present : Bool) (name : List ℕ) (k : Kernel) (w : State J) (l : Kernel) (v : State J) (how : Settled) : Type 0 where
+  pub fair : IsFair answer later present k w l v
+  pub ended : (i : ℕ) → LivedAs k l name i → IsAsJudged l v.standings i ⊎ IsNamed fair.rest name
+  pub nobody : how ≡ settled.Nobody → (i : ℕ) → LivedAs k l name i → ⊥
+
+-- where a kernel is told at its end, one was told at its start; and where that is sound and the standings are of its devices, that
+-- is so
+abbrev pub SettlesOne : {S J : Type 0} → (S → Option Kernel) → Answers J → Laters J → Bool → List ℕ → S → State J → S → State J → Settled → Type 0
+SettlesOne told answer later present name s w t v how = (l : Kernel) → told t ≡ Some l → (k : Kernel) × (told s ≡ Some k) × (IsKernel k → Stand k w.standings w.next → SettledOne answer later present name k w l v how)
+
+-- the standing's held file is the device's
+abbrev pub IsOf : Kernel → Standing → ℕ → Type 0
+IsOf k s i = slice_get k.held s.held.0 ≡ Some (record { device = i; control = Authorized })
+
+-- A standing settled again is so fairly, whatever judge there is, as none is asked; its device, where it lived through, is as judged
+-- or its name is told; and where the answer says that there is nobody, it is gone.
+pub record ResettledOne (s : Standing) (k : Kernel) (w : State (Unit {0})) (l : Kernel) (v : State (Unit {0})) (how : Settled) : Type 0 where
+  pub fair : (answer : Answers (Unit {0})) (later : Laters (Unit {0})) (present : Bool) → IsFair answer later present k w l v
+  pub ended : (i : ℕ) (d : Device) → IsOf k s i → Lived k.devices l.devices i d → IsAsJudged l v.standings i ⊎ ((rest : List Entry) × (v.entries ≡ w.entries ++ rest) × IsNamed rest s.name)
+  pub nobody : how ≡ settled.Nobody → (i : ℕ) → IsOf k s i → IsGone l i
+
+abbrev pub ResettlesOne : {S : Type 0} → (S → Option Kernel) → ℕ → S → State (Unit {0}) → S → State (Unit {0}) → Settled → Type 0
+ResettlesOne told number s w t v how = (l : Kernel) → told t ≡ Some l → (k : Kernel) × (told s ≡ Some k) × (IsKernel k → Stand k w.standings w.next → (x : Standing) → numbered number w.standings ≡ Some x → ResettledOne x k w l v how)
+
+-- want of memory is answered only where the device of the name's standing is still to be removed
+abbrev pub NeedsRoom : List ℕ → List Standing → Type 0
+NeedsRoom name ss = (known : Known) × (standing_of name ss ≡ Some known) × (is_to_go known ≡ true)
