@@ -1,28 +1,28 @@
 -- What the settling of one name does, over the states of a run.
-use Rattle.std.proofs.Common.{◌≡◌, ℕ, ◌^◌, ◌<◌, Bool, true, false, List, [], ◌∷◌, ◌++◌, ◌⊎◌, Option, Some, None, inl, inr, refl, sym, ◌∙◌, ap, subst, append-nil, slice_get, true≢false}
+use Rattle.std.proofs.Common.{◌≡◌, ℕ, Bool, true, false, List, [], ◌∷◌, ◌++◌, ◌⊎◌, Option, Some, inl, inr, refl, sym, ◌∙◌, ap, subst, append-nil, append_assoc, slice_get, true≢false}
 use Rattle.ug_types.specs.Elements.{Has}
 use Rattle.ug_kernel.specs.declared.device.Device.{Device}
 use Rattle.ug_types.specs.declared.verdict.Target.TheVariants as target
 use Rattle.ug_types.specs.declared.verdict.Cause.TheVariants as cause
 use Rattle.ug_kernel.specs.Calls.{Call, Answer}
 use Rattle.ug_kernel.specs.Kernel.{Kernel, IsKernel}
-use Rattle.ug_kernel.specs.Called.{Lived, Follows}
+use Rattle.ug_kernel.specs.Called.{Follows}
 use Rattle.ug_kernel.proofs.Grow.{grows_refl, some_same}
 use Rattle.ug_itree.specs.Tree.{Runs, calls}
+use Rattle.ug_itree.specs.Along.{Failure}
 use Rattle.ug_itree.proofs.Rises.{Counting, along_numbered, along_rises}
 use Rattle.ug_itree.proofs.Told.{told_run}
 use Rattle.ug_audit.specs.declared.entry.Entry.{Entry}
 use Rattle.ug_audit.specs.declared.entry.Entry.TheVariants as entry
 use Rattle.ug_audit.specs.declared.entry.Fault.{Fault}
 use Rattle.ug_table.specs.State.{State, Kept, kept_of, with_kept, Answers, Laters}
-use Rattle.ug_table.specs.Bring.{is_to_go}
-use Rattle.ug_table.specs.Standings.{standing_of, numbered}
+use Rattle.ug_table.specs.Standings.{numbered}
 use Rattle.ug_table.specs.Settle.{settling, resettling}
 use Rattle.ug_table.specs.Sweep.{names_of}
 use Rattle.ug_table.specs.Laws.{Stand, IsGone, IsNamed, HasStanding, IsAsJudged, AreMarkedSoFar}
-use Rattle.ug_table.specs.One.{again_numbered, resettling_numbered, why_in, whys, why_of, GoesAsPart, LivedAs, SettledOne, SettlesOne, IsOf, ResettledOne, ResettlesOne, NeedsRoom}
+use Rattle.ug_table.specs.Parts.{told_by, failure_in, failures_told, IsLast, EndsUnsettled}
+use Rattle.ug_table.specs.One.{failed_of, again_numbered, resettling_numbered, why_in, whys, why_of, GoesAsPart, LivedAs, SettledOne, SettlesOne, IsOf, ResettledOne, ResettlesOne, NeedsRoom}
 use Rattle.ug_table.specs.declared.standing.Standing.{Standing}
-use Rattle.ug_table.specs.declared.standing.Known.{Known}
 use Rattle.ug_table.specs.declared.standing.Settled.{Settled}
 use Rattle.ug_table.specs.declared.standing.Settled.TheVariants as settled
 use Rattle.ug_types.proofs.Elements.{cancel, has_map}
@@ -31,7 +31,7 @@ use Rattle.ug_table.proofs.Joined.{FairFrom, had_before}
 use Rattle.ug_table.proofs.Steps.{fair_refl}
 use Rattle.ug_table.proofs.SoFar.{AreSoFar, so_far_first}
 use Rattle.ug_table.proofs.Fair.{then_settling, then_resettling}
-use Rattle.ug_table.proofs.Own.{Good, settling_own}
+use Rattle.ug_table.proofs.Own.{settling_own}
 use Rattle.ug_table.proofs.Again.{resettling_own}
 use Rattle.ug_table.proofs.Lived.{lives_first, lives_last, stand_files, judged_at}
 use Rattle.ug_table.proofs.Standings.{numbered_has}
@@ -43,19 +43,54 @@ use Rattle.ug_table.proofs.Parted.{WentPart, settling_went, resettling_went}
 added : (es fs xs ys : List Entry) → fs ≡ es ++ xs → fs ≡ es ++ ys → ys ≡ xs
 added es fs xs ys e f = cancel es ys xs (sym f ∙ e)
 
+-- what was told of failed calls, by why
+abbrev told_all : List Fault → List Failure
+told_all [] = []
+told_all (f ∷ fs) = told_by f ++ told_all fs
+
+told_more : (fs gs : List Fault) → told_all (fs ++ gs) ≡ told_all fs ++ told_all gs
+told_more [] gs = refl
+told_more (f ∷ fs) gs = ap (λ (v : List Failure). told_by f ++ v) (told_more fs gs) ∙ sym (append_assoc (told_by f) (told_all fs) (told_all gs))
+
+tells_one : (name : List ℕ) (e : Entry) (es : List Entry) → IsLast name e es → failure_in e ≡ told_all (why_in e)
+tells_one name (entry.Unsettled other why) es last = sym (append-nil (told_by why))
+tells_one name (entry.UnsettledAll why) es last = absurd last
+tells_one name (entry.Event number moment) es last = refl
+tells_one name (entry.Judged number n held verdict cause) es last = refl
+tells_one name (entry.Intent number n what) es last = refl
+tells_one name (entry.Wrote number n what outcome) es last = refl
+tells_one name (entry.Gone number n) es last = refl
+tells_one name (entry.End number) es last = refl
+
+tells_why : (name : List ℕ) (es : List Entry) → EndsUnsettled name es → failures_told es ≡ told_all (whys es)
+tells_why name [] last = refl
+tells_why name (e ∷ es) last =
+    ap (λ (v : List Failure). failure_in e ++ v) (tells_why name es last.1)
+    ∙ ap (λ (v : List Failure). v ++ told_all (whys es)) (tells_one name e es last.0)
+    ∙ sym (told_more (why_in e) (whys es))
+
+told_of : (how : Settled) → told_all (why_of how) ≡ failed_of how
+told_of settled.Stands = refl
+told_of settled.Nobody = refl
+told_of (settled.Fault call count) = refl
+told_of settled.Memory = refl
+
 as_part : {S : Type 0} (gives : S → (call : Call) → Answer call → S → Type 0) (calls faults : S → ℕ) (counted : Counting gives calls faults) (name : List ℕ) (s : S) (ss : List Standing) (es : List Entry) (t : S) (rs : List Standing) (fs : List Entry) (how : Settled) → WentPart gives name s ss es t rs fs → Answered name es how rs fs → GoesAsPart gives calls faults name s ss es t rs fs how
-as_part gives calls faults counted name s ss es t rs fs how a h = record {
-  made = a.calls;
-  along = a.along;
-  rest = a.rest;
-  entries = a.entries;
-  part = a.part;
-  why = subst (λ (v : List Entry). whys v ≡ why_of how) (added es fs a.rest h.rest a.entries h.entries) h.why;
-  stands = h.stands;
-  nobody = h.nobody;
-  numbered = along_numbered gives calls faults counted a.calls s t a.along;
-  rises = λ low. along_rises gives calls faults counted a.calls s t low a.along;
-}
+as_part gives calls faults counted name s ss es t rs fs how a h =
+    let why : whys a.rest ≡ why_of how = subst (λ (v : List Entry). whys v ≡ why_of how) (added es fs a.rest h.rest a.entries h.entries) h.why in
+    record {
+      made = a.calls;
+      along = a.along;
+      rest = a.rest;
+      entries = a.entries;
+      part = a.part;
+      why = why;
+      failed = sym a.part.told ∙ tells_why name a.rest a.part.last ∙ ap told_all why ∙ told_of how;
+      stands = h.stands;
+      nobody = h.nobody;
+      numbered = along_numbered gives calls faults counted a.calls s t a.along;
+      rises = λ low. along_rises gives calls faults counted a.calls s t low a.along;
+    }
 
 pub settling_part : {S J : Type 0} (gives : S → (call : Call) → Answer call → S → Type 0) (calls faults : S → ℕ) (counted : Counting gives calls faults) (answer : Answers J) (later : Laters J) (name : List ℕ) (present : Bool) (w : State J) (s : S) (p : Settled × State J) (t : S) → Runs gives s (settling answer later name present w) p t → GoesAsPart gives calls faults name s w.standings w.entries t p.1.standings p.1.entries p.0
 settling_part {S} {J} gives calls faults counted answer later name present w s p t h =

@@ -1,14 +1,13 @@
 -- What the settling of one name does, in the words of calls, devices and journal.
 use Rattle.std.specs.Prelude.{◌≡◌, ℕ, Bool, ◌^◌, ◌<◌, List, [], ◌∷◌, ◌++◌, Option, Some, None, true, ◌⊎◌, slice_get}
 use Rattle.ug_types.specs.Elements.{Has}
-use Rattle.ug_types.specs.declared.verdict.Held.{Held}
 use Rattle.ug_kernel.specs.declared.device.Device.{Device}
 use Rattle.ug_kernel.specs.declared.calls.Control.TheVariants.{Authorized}
 use Rattle.ug_kernel.specs.Calls.{Call, Answer}
 use Rattle.ug_kernel.specs.Kernel.{Kernel, IsKernel}
 use Rattle.ug_kernel.specs.Called.{Lived}
 use Rattle.ug_itree.specs.Tree.{Prog, Return}
-use Rattle.ug_itree.specs.Along.{Made, Along, failures, AreNumbered, Rises}
+use Rattle.ug_itree.specs.Along.{Made, Along, Failure, failures, AreNumbered, Rises}
 use Rattle.ug_audit.specs.declared.entry.Entry.{Entry}
 use Rattle.ug_audit.specs.declared.entry.Entry.TheVariants as entry
 use Rattle.ug_audit.specs.declared.entry.Fault.{Fault}
@@ -49,9 +48,17 @@ why_of settled.Nobody = []
 why_of (settled.Fault call count) = fault.Call call count ∷ []
 why_of settled.Memory = fault.Memory ∷ []
 
--- The settling of a name is one part of a sweep, from the standings and the entries before it to those after it. A fault and want of
--- memory are answered just where they are told, and so the fault is that of the part's failed call; a standing of the name is there
--- where the answer says so, and none where it says that there is nobody. Calls are numbered on, and so both numbers of a fault rise.
+-- the failed call that an answer tells
+abbrev pub failed_of : Settled → List Failure
+failed_of settled.Stands = []
+failed_of settled.Nobody = []
+failed_of (settled.Fault call count) = record { call = call; count = count } ∷ []
+failed_of settled.Memory = []
+
+-- The settling of a name is one part of a sweep, from the standings and the entries before it to those after it. A fault is
+-- answered just where a call of the part failed, with its number and count; and want of memory just where it is told. A standing of
+-- the name is there where the answer says so, and none where it says that there is nobody. Calls are numbered on, and so both numbers
+-- of a fault rise.
 pub record GoesAsPart {S : Type 0} (gives : S → (call : Call) → Answer call → S → Type 0) (calls faults : S → ℕ) (name : List ℕ) (s : S) (before : List Standing) (es : List Entry) (t : S) (after : List Standing) (fs : List Entry) (how : Settled) : Type 0 where
   pub made : List Made
   pub along : Along gives s made t
@@ -59,6 +66,7 @@ pub record GoesAsPart {S : Type 0} (gives : S → (call : Call) → Answer call 
   pub entries : fs ≡ es ++ rest
   pub part : Part name before after made rest
   pub why : whys rest ≡ why_of how
+  pub failed : failures made ≡ failed_of how
   pub stands : how ≡ settled.Stands → Has (names_of after) name
   pub nobody : how ≡ settled.Nobody → Has (names_of after) name → ⊥
   pub numbered : AreNumbered (calls s) made

@@ -1,4 +1,4 @@
-use Rattle.std.proofs.Common.{◌≡◌, ℕ, Bool, true, false, List, subst, sym, ◌∙◌, ap, Option, option_copied}
+use Rattle.std.proofs.Common.{◌≡◌, ℕ, Bool, true, false, List, subst, ◌∙◌, ap, Option}
 use Rattle.ug_types.specs.declared.record.Attrs.{Attrs}
 use Rattle.ug_types.specs.declared.record.Judged.{Judged}
 use Rattle.ug_itree.specs.Tree.{Runs}

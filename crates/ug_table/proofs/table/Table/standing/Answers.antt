@@ -1,4 +1,4 @@
-use Rattle.std.proofs.Common.{◌∙◌, sym, ap}
+use Rattle.std.proofs.Common.{◌∙◌, ap}
 use Rattle.ug_table.proofs.Standings.{none_numbered}
 use Rattle.ug_table.specs.Standings.{numbered}
 use Rattle.ug_table.proofs.table.Table.standing.Goals as goal
