@@ -12,7 +12,7 @@ use Rattle.ug_kernel.specs.Kernel.{Kernel}
 use Rattle.ug_audit.specs.declared.entry.Entry.{Entry}
 use Rattle.ug_audit.specs.declared.entry.Entry.TheVariants as entry
 use Rattle.ug_table.specs.Bring.{CallsFor}
-use Rattle.ug_table.specs.Laws.{IsDevice, IsProbed, IsTold, AreLeft, TellsNeither, MayHave, HasVerdict, wrote_entries, Account, Start, Note, Judge, Had, Had_not, Went}
+use Rattle.ug_table.specs.Laws.{IsDevice, IsProbed, IsTold, Tries, AreLeft, TellsNeither, MayHave, HasVerdict, wrote_entries, Account, Start, Note, Judge, Had, Had_not, Went}
 use Rattle.ug_table.specs.declared.standing.Standing.{Standing}
 use Rattle.ug_types.proofs.Elements.{has_left, only_left, last_is}
 use Rattle.ug_table.proofs.Says.{plain_note, plain_wrote}
@@ -23,13 +23,13 @@ use Rattle.ug_core.proofs.Verdicts.{is_verdict, later_verdict}
 use Rattle.ug_script.specs.Journal.{told_numbers, Follow}
 
 -- what judges is later after each verdict
-pub judge_later : (policy : Judging) (present : Bool) (start k : Kernel) (before : List Standing) (log0 : List Effect) (judge0 : Judging) (next0 : ℕ) (es : List Entry) (log : List Effect) (judge : Judging) (next : ℕ) → Account policy_answer policy_later present start k before log0 judge0 next0 es log judge next → IsLater policy judge0 → IsLater policy judge
-judge_later policy present start k before log0 judge0 next0 es log judge next Start first = first
-judge_later policy present start k before log0 judge0 next0 es log judge next (Note fs m j n e t h) first = judge_later policy present start k before log0 judge0 next0 fs m j n h first
-judge_later policy present start k before log0 judge0 next0 es log judge next (Judge fs m j n i name held judged on ss d b left so h) first = later_verdict policy j (allowed_records ss) judged (is_none (parent_of name)) present (judge_later policy present start k before log0 judge0 next0 fs m j n h first)
-judge_later policy present start k before log0 judge0 next0 es log judge next (Had fs m j n i number name held judged verdict what outcome d v due once may h) first = judge_later policy present start k before log0 judge0 next0 fs m j n h first
-judge_later policy present start k before log0 judge0 next0 es log judge next (Had_not fs m j n i number name held judged verdict what outcome d v due once may h) first = judge_later policy present start k before log0 judge0 next0 fs m j n h first
-judge_later policy present start k before log0 judge0 next0 es log judge next (Went fs m j n i number name held judged verdict d o v h) first = judge_later policy present start k before log0 judge0 next0 fs m j n h first
+pub judge_later : (policy : Judging) (present : Bool) (tried : Tries) (start k : Kernel) (before : List Standing) (log0 : List Effect) (judge0 : Judging) (next0 : ℕ) (es : List Entry) (log : List Effect) (judge : Judging) (next : ℕ) → Account policy_answer policy_later present tried start k before log0 judge0 next0 es log judge next → IsLater policy judge0 → IsLater policy judge
+judge_later policy present tried start k before log0 judge0 next0 es log judge next Start first = first
+judge_later policy present tried start k before log0 judge0 next0 es log judge next (Note fs m j n e t h) first = judge_later policy present tried start k before log0 judge0 next0 fs m j n h first
+judge_later policy present tried start k before log0 judge0 next0 es log judge next (Judge fs m j n i name held judged on ss d b stand left so h) first = later_verdict policy j (allowed_records ss) judged (is_none (parent_of name)) present (judge_later policy present tried start k before log0 judge0 next0 fs m j n h first)
+judge_later policy present tried start k before log0 judge0 next0 es log judge next (Had fs m j n i number name held judged verdict what outcome d v due once may h) first = judge_later policy present tried start k before log0 judge0 next0 fs m j n h first
+judge_later policy present tried start k before log0 judge0 next0 es log judge next (Had_not fs m j n i number name held judged verdict what outcome d v due once may h) first = judge_later policy present tried start k before log0 judge0 next0 fs m j n h first
+judge_later policy present tried start k before log0 judge0 next0 es log judge next (Went fs m j n i number name held judged verdict d o v h) first = judge_later policy present tried start k before log0 judge0 next0 fs m j n h first
 
 -- the policy gives that verdict on the record of the very device of the held file, which lived until it was probed, beside standings
 -- that were there before or were told since
@@ -81,21 +81,21 @@ given_by policy judge start k before es ss i number name held judged present on 
     subst (λ (v : List ℕ). IsGiven policy start k before es v file verdict cause) names (subst (λ (v : Held). IsGiven policy start k before es name v verdict cause) files given)
 
 -- each verdict that is told was given so
-pub judged_given : (policy : Judging) (present : Bool) (start k : Kernel) (before : List Standing) (log0 : List Effect) (judge0 : Judging) (next0 : ℕ) (es : List Entry) (log : List Effect) (judge : Judging) (next : ℕ) → Account policy_answer policy_later present start k before log0 judge0 next0 es log judge next → IsLater policy judge0
+pub judged_given : (policy : Judging) (present : Bool) (tried : Tries) (start k : Kernel) (before : List Standing) (log0 : List Effect) (judge0 : Judging) (next0 : ℕ) (es : List Entry) (log : List Effect) (judge : Judging) (next : ℕ) → Account policy_answer policy_later present tried start k before log0 judge0 next0 es log judge next → IsLater policy judge0
     → (number : ℕ) (name : List ℕ) (held : Held) (verdict : Target) (cause : Cause) → Has es (entry.Judged number name held verdict cause) → IsGiven policy start k before es name held verdict cause
-judged_given policy present start k before log0 judge0 next0 es log judge next Start first number name held verdict cause h = absurd h
-judged_given policy present start k before log0 judge0 next0 es log judge next (Note fs m j n e t a) first number name held verdict cause h =
-    given_more policy start k before fs (e ∷ []) name held verdict cause (judged_given policy present start k before log0 judge0 next0 fs m j n a first number name held verdict cause (only_left fs (e ∷ []) (entry.Judged number name held verdict cause) ((plain_note e t).judged number name held verdict cause) h))
-judged_given policy present start k before log0 judge0 next0 es log judge next (Judge fs m j n i other file judged on ss d b left so a) first number name held verdict cause h = elim (last_is fs _ (entry.Judged number name held verdict cause) h) [
-  | inl x ↦ given_more policy start k before fs _ name held verdict cause (judged_given policy present start k before log0 judge0 next0 fs m j n a first number name held verdict cause x)
-  | inr same ↦ given_more policy start k before fs _ name held verdict cause (given_by policy j start k before fs ss i n other file judged present on (judge_later policy present start k before log0 judge0 next0 fs m j n a first) left d b number name held verdict cause same)
+judged_given policy present tried start k before log0 judge0 next0 es log judge next Start first number name held verdict cause h = absurd h
+judged_given policy present tried start k before log0 judge0 next0 es log judge next (Note fs m j n e t a) first number name held verdict cause h =
+    given_more policy start k before fs (e ∷ []) name held verdict cause (judged_given policy present tried start k before log0 judge0 next0 fs m j n a first number name held verdict cause (only_left fs (e ∷ []) (entry.Judged number name held verdict cause) ((plain_note e t).judged number name held verdict cause) h))
+judged_given policy present tried start k before log0 judge0 next0 es log judge next (Judge fs m j n i other file judged on ss d b stand left so a) first number name held verdict cause h = elim (last_is fs _ (entry.Judged number name held verdict cause) h) [
+  | inl x ↦ given_more policy start k before fs _ name held verdict cause (judged_given policy present tried start k before log0 judge0 next0 fs m j n a first number name held verdict cause x)
+  | inr same ↦ given_more policy start k before fs _ name held verdict cause (given_by policy j start k before fs ss i n other file judged present on (judge_later policy present tried start k before log0 judge0 next0 fs m j n a first) left d b number name held verdict cause same)
 ]
-judged_given policy present start k before log0 judge0 next0 es log judge next (Had fs m j n i other title file judged target what outcome d v due once may a) first number name held verdict cause h =
-    given_more policy start k before fs (wrote_entries other title what outcome) name held verdict cause (judged_given policy present start k before log0 judge0 next0 fs m j n a first number name held verdict cause (only_left fs (wrote_entries other title what outcome) (entry.Judged number name held verdict cause) ((plain_wrote other title what outcome).judged number name held verdict cause) h))
-judged_given policy present start k before log0 judge0 next0 es log judge next (Had_not fs m j n i other title file judged target what outcome d v due once may a) first number name held verdict cause h =
-    given_more policy start k before fs (wrote_entries other title what outcome) name held verdict cause (judged_given policy present start k before log0 judge0 next0 fs m j n a first number name held verdict cause (only_left fs (wrote_entries other title what outcome) (entry.Judged number name held verdict cause) ((plain_wrote other title what outcome).judged number name held verdict cause) h))
-judged_given policy present start k before log0 judge0 next0 es log judge next (Went fs m j n i other title file judged target d o v a) first number name held verdict cause h = elim (last_is fs (entry.Gone other title) (entry.Judged number name held verdict cause) h) [
-  | inl x ↦ given_more policy start k before fs (entry.Gone other title ∷ []) name held verdict cause (judged_given policy present start k before log0 judge0 next0 fs m j n a first number name held verdict cause x)
+judged_given policy present tried start k before log0 judge0 next0 es log judge next (Had fs m j n i other title file judged target what outcome d v due once may a) first number name held verdict cause h =
+    given_more policy start k before fs (wrote_entries other title what outcome) name held verdict cause (judged_given policy present tried start k before log0 judge0 next0 fs m j n a first number name held verdict cause (only_left fs (wrote_entries other title what outcome) (entry.Judged number name held verdict cause) ((plain_wrote other title what outcome).judged number name held verdict cause) h))
+judged_given policy present tried start k before log0 judge0 next0 es log judge next (Had_not fs m j n i other title file judged target what outcome d v due once may a) first number name held verdict cause h =
+    given_more policy start k before fs (wrote_entries other title what outcome) name held verdict cause (judged_given policy present tried start k before log0 judge0 next0 fs m j n a first number name held verdict cause (only_left fs (wrote_entries other title what outcome) (entry.Judged number name held verdict cause) ((plain_wrote other title what outcome).judged number name held verdict cause) h))
+judged_given policy present tried start k before log0 judge0 next0 es log judge next (Went fs m j n i other title file judged target d o v a) first number name held verdict cause h = elim (last_is fs (entry.Gone other title) (entry.Judged number name held verdict cause) h) [
+  | inl x ↦ given_more policy start k before fs (entry.Gone other title ∷ []) name held verdict cause (judged_given policy present tried start k before log0 judge0 next0 fs m j n a first number name held verdict cause x)
   | inr same ↦ absurd (let none : ⊥ = cc in none)
 ]
 
@@ -143,16 +143,16 @@ pub record Added (before : List Standing) (entries : List Entry) (k : Kernel) (l
 added_more : (before : List Standing) (es fs : List Entry) (k : Kernel) (log0 log : List Effect) → Added before es k log0 log → Added before (es ++ fs) k log0 log
 added_more before es fs k log0 log a = record { effects = a.effects; log_is = a.log_is; each = λ e h. written_more before es fs k e (a.each e h) }
 
-pub all_added : (present : Bool) (start k : Kernel) (before : List Standing) (log0 : List Effect) (judge0 : Judging) (next0 : ℕ) (es : List Entry) (log : List Effect) (judge : Judging) (next : ℕ) → Account policy_answer policy_later present start k before log0 judge0 next0 es log judge next → Added before es k log0 log
-all_added present start k before log0 judge0 next0 es log judge next Start = record { effects = []; log_is = sym (append-nil log0); each = λ e h. absurd h }
-all_added present start k before log0 judge0 next0 es log judge next (Note fs m j n e t a) = added_more before fs (e ∷ []) k log0 m (all_added present start k before log0 judge0 next0 fs m j n a)
-all_added present start k before log0 judge0 next0 es log judge next (Judge fs m j n i name held judged on ss d b left so a) = added_more before fs _ k log0 m (all_added present start k before log0 judge0 next0 fs m j n a)
-all_added present start k before log0 judge0 next0 es log judge next (Went fs m j n i number name held judged verdict d o v a) = added_more before fs (entry.Gone number name ∷ []) k log0 m (all_added present start k before log0 judge0 next0 fs m j n a)
-all_added present start k before log0 judge0 next0 es log judge next (Had_not fs m j n i number name held judged verdict what outcome d v due once may a) = added_more before fs (wrote_entries number name what outcome) k log0 m (all_added present start k before log0 judge0 next0 fs m j n a)
-all_added present start k before log0 judge0 next0 es log judge next (Had fs m j n i number name held judged verdict what outcome d v due once may a) =
+pub all_added : (present : Bool) (tried : Tries) (start k : Kernel) (before : List Standing) (log0 : List Effect) (judge0 : Judging) (next0 : ℕ) (es : List Entry) (log : List Effect) (judge : Judging) (next : ℕ) → Account policy_answer policy_later present tried start k before log0 judge0 next0 es log judge next → Added before es k log0 log
+all_added present tried start k before log0 judge0 next0 es log judge next Start = record { effects = []; log_is = sym (append-nil log0); each = λ e h. absurd h }
+all_added present tried start k before log0 judge0 next0 es log judge next (Note fs m j n e t a) = added_more before fs (e ∷ []) k log0 m (all_added present tried start k before log0 judge0 next0 fs m j n a)
+all_added present tried start k before log0 judge0 next0 es log judge next (Judge fs m j n i name held judged on ss d b stand left so a) = added_more before fs _ k log0 m (all_added present tried start k before log0 judge0 next0 fs m j n a)
+all_added present tried start k before log0 judge0 next0 es log judge next (Went fs m j n i number name held judged verdict d o v a) = added_more before fs (entry.Gone number name ∷ []) k log0 m (all_added present tried start k before log0 judge0 next0 fs m j n a)
+all_added present tried start k before log0 judge0 next0 es log judge next (Had_not fs m j n i number name held judged verdict what outcome d v due once may a) = added_more before fs (wrote_entries number name what outcome) k log0 m (all_added present tried start k before log0 judge0 next0 fs m j n a)
+all_added present tried start k before log0 judge0 next0 es log judge next (Had fs m j n i number name held judged verdict what outcome d v due once may a) =
     let two : List Entry = wrote_entries number name what outcome in
     let new : Effect = record { device = i; write = what } in
-    let old : Added before (fs ++ two) k log0 m = added_more before fs two k log0 m (all_added present start k before log0 judge0 next0 fs m j n a) in
+    let old : Added before (fs ++ two) k log0 m = added_more before fs two k log0 m (all_added present tried start k before log0 judge0 next0 fs m j n a) in
     let this : WasWritten before (fs ++ two) k new = record { number = number; name = name; held = held; judged = judged; verdict = verdict; outcome = outcome; front = fs; back = []; at = ap (λ (l : List Entry). fs ++ l) (sym (append-nil two)); may = may; wanted = due; device = d; had = v } in
     record {
       effects = old.effects ++ new ∷ [];
@@ -196,11 +196,11 @@ follow_none a b es fs none f =
     let same : told_numbers (es ++ fs) ≡ told_numbers es = numbers_append es fs ∙ ap (λ (l : List ℕ). told_numbers es ++ l) none ∙ append-nil (told_numbers es) in
     subst (λ (l : List ℕ). Follow a l b) (sym same) f
 
-pub numbers_follow : (present : Bool) (start k : Kernel) (before : List Standing) (log0 : List Effect) (judge0 : Judging) (next0 : ℕ) (es : List Entry) (log : List Effect) (judge : Judging) (next : ℕ) → Account policy_answer policy_later present start k before log0 judge0 next0 es log judge next → Follow next0 (told_numbers es) next
-numbers_follow present start k before log0 judge0 next0 es log judge next Start = refl
-numbers_follow present start k before log0 judge0 next0 es log judge next (Note fs m j n e t a) = follow_none next0 n fs (e ∷ []) (numbers_none e t) (numbers_follow present start k before log0 judge0 next0 fs m j n a)
-numbers_follow present start k before log0 judge0 next0 es log judge next (Judge fs m j n i name held judged on ss d b left so a) =
-    subst (λ (l : List ℕ). Follow next0 l (n + 1)) (sym (numbers_append fs _)) (follow_append next0 (told_numbers fs) (n ∷ []) n (n + 1) (numbers_follow present start k before log0 judge0 next0 fs m j n a) (refl, refl))
-numbers_follow present start k before log0 judge0 next0 es log judge next (Had fs m j n i number name held judged verdict what outcome d v due once may a) = follow_none next0 n fs (wrote_entries number name what outcome) refl (numbers_follow present start k before log0 judge0 next0 fs m j n a)
-numbers_follow present start k before log0 judge0 next0 es log judge next (Had_not fs m j n i number name held judged verdict what outcome d v due once may a) = follow_none next0 n fs (wrote_entries number name what outcome) refl (numbers_follow present start k before log0 judge0 next0 fs m j n a)
-numbers_follow present start k before log0 judge0 next0 es log judge next (Went fs m j n i number name held judged verdict d o v a) = follow_none next0 n fs (entry.Gone number name ∷ []) refl (numbers_follow present start k before log0 judge0 next0 fs m j n a)
+pub numbers_follow : (present : Bool) (tried : Tries) (start k : Kernel) (before : List Standing) (log0 : List Effect) (judge0 : Judging) (next0 : ℕ) (es : List Entry) (log : List Effect) (judge : Judging) (next : ℕ) → Account policy_answer policy_later present tried start k before log0 judge0 next0 es log judge next → Follow next0 (told_numbers es) next
+numbers_follow present tried start k before log0 judge0 next0 es log judge next Start = refl
+numbers_follow present tried start k before log0 judge0 next0 es log judge next (Note fs m j n e t a) = follow_none next0 n fs (e ∷ []) (numbers_none e t) (numbers_follow present tried start k before log0 judge0 next0 fs m j n a)
+numbers_follow present tried start k before log0 judge0 next0 es log judge next (Judge fs m j n i name held judged on ss d b stand left so a) =
+    subst (λ (l : List ℕ). Follow next0 l (n + 1)) (sym (numbers_append fs _)) (follow_append next0 (told_numbers fs) (n ∷ []) n (n + 1) (numbers_follow present tried start k before log0 judge0 next0 fs m j n a) (refl, refl))
+numbers_follow present tried start k before log0 judge0 next0 es log judge next (Had fs m j n i number name held judged verdict what outcome d v due once may a) = follow_none next0 n fs (wrote_entries number name what outcome) refl (numbers_follow present tried start k before log0 judge0 next0 fs m j n a)
+numbers_follow present tried start k before log0 judge0 next0 es log judge next (Had_not fs m j n i number name held judged verdict what outcome d v due once may a) = follow_none next0 n fs (wrote_entries number name what outcome) refl (numbers_follow present tried start k before log0 judge0 next0 fs m j n a)
+numbers_follow present tried start k before log0 judge0 next0 es log judge next (Went fs m j n i number name held judged verdict d o v a) = follow_none next0 n fs (entry.Gone number name ∷ []) refl (numbers_follow present tried start k before log0 judge0 next0 fs m j n a)

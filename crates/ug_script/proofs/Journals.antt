@@ -18,7 +18,7 @@ use Rattle.ug_audit.specs.declared.entry.Entry.{Entry}
 use Rattle.ug_audit.specs.declared.entry.Entry.TheVariants as entry
 use Rattle.ug_table.specs.State.{State}
 use Rattle.ug_table.specs.Sweep.{sweeping}
-use Rattle.ug_table.specs.Laws.{Stand, IsAsJudged}
+use Rattle.ug_table.specs.Laws.{Stand, swept_before, IsAsJudged}
 use Rattle.ug_table.specs.declared.standing.Standing.{Standing}
 use Rattle.ug_play.specs.Play.{play, names_somebody, NameNobody}
 use Rattle.ug_play.proofs.Fine.{quiet_sweep, nobody_more}
@@ -183,7 +183,7 @@ event_facts policy first es moment k l d e later since stood facts law =
     let v : State Judging = law.swept in
     let y : Entry = entry.End d.event in
     let start : IsLater policy (event.begun d moment).judge = record { classes = later.classes; rules = later.rules; next = later.next; clock = later.clock; words = later.words; stream = later.stream; numbered = later.numbered; judgements = later.judgements; histories = later.histories } in
-    let at = swept_facts policy first es (not d.sweep.listed) k l (event.begun d moment) v d.event d.event moment start since stood facts law.law.fair in
+    let at = swept_facts policy first es (not d.sweep.listed) swept_before k l (event.begun d moment) v d.event d.event moment start since stood facts law.law.fair in
     let framed_at : Facts policy first (es ++ (v.entries ++ y ∷ [])) l v.standings v.next = subst (λ (z : List Entry). Facts policy first (es ++ (z ++ y ∷ [])) l v.standings v.next) (sym law.law.fair.entries) at in
     subst (λ (z : State Judging). Facts policy first (es ++ z.entries) l z.standings z.next) (sym law.entries) framed_at
 

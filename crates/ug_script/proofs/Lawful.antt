@@ -155,7 +155,7 @@ plays_hold [] stage h = h
 plays_hold (line ∷ lines) stage h = plays_hold lines (advance script_step stage line) (advance_holds stage line h)
 
 pub no_standing : (k : Kernel) → Stand k [] 1
-no_standing k = record { devices = λ s a. absurd a; numbers = λ s a. absurd a; names = tt; distinct = tt; removed = λ s a. absurd a }
+no_standing k = record { devices = λ s a. absurd a; numbers = λ s a. absurd a; names = tt; order = tt; distinct = tt; removed = λ s a. absurd a }
 
 -- what the event's entries tell of its calls
 tells_event : (moment : Moment) (d : DaemonState) (w : World) → TellsEvent Begins Gives faults_of moment w d (play (handling moment d) (begun w)).1 (play (handling moment d) (begun w)).0

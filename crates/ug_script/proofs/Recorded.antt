@@ -16,7 +16,7 @@ use Rattle.ug_kernel.proofs.Grow.{some_same}
 use Rattle.ug_audit.specs.declared.entry.Entry.{Entry}
 use Rattle.ug_audit.specs.declared.entry.Entry.TheVariants as entry
 use Rattle.ug_table.specs.State.{State}
-use Rattle.ug_table.specs.Laws.{IsDevice, IsGone, Stand, HasVerdict, wrote_entries, IsOne, IsTold, IsJudged, IsFair, IsAsJudged}
+use Rattle.ug_table.specs.Laws.{IsDevice, IsGone, Stand, HasVerdict, wrote_entries, IsOne, IsTold, IsJudged, Tries, IsFair, IsAsJudged}
 use Rattle.ug_table.specs.declared.standing.Standing.{Standing}
 use Rattle.ug_types.proofs.Elements.{has_left, has_right, has_cases, distinct_one}
 use Rattle.ug_table.proofs.Devices.{device_stays, gone_stays, probed_stays, probed_from}
@@ -275,8 +275,8 @@ numbers_framed : (event last : ℕ) (moment : Moment) (rest : List Entry) → to
 numbers_framed event last moment rest = numbers_append (entry.Event event moment ∷ rest) (entry.End last ∷ []) ∙ append-nil (told_numbers rest)
 
 -- a sweep over a journal from before it
-pub swept_facts : (policy : Judging) (first : Kernel) (es : List Entry) (present : Bool) (k l : Kernel) (w v : State Judging) (event last : ℕ) (moment : Moment) → IsLater policy w.judge → Grows first k → Stand k w.standings w.next → Facts policy first es k w.standings w.next → (fair : IsFair policy_answer policy_later present k w l v) → Facts policy first (es ++ framed (entry.Event event moment) fair.rest (entry.End last)) l v.standings v.next
-swept_facts policy first es present k l w v event last moment later since stood facts fair =
+pub swept_facts : (policy : Judging) (first : Kernel) (es : List Entry) (present : Bool) (tried : Tries) (k l : Kernel) (w v : State Judging) (event last : ℕ) (moment : Moment) → IsLater policy w.judge → Grows first k → Stand k w.standings w.next → Facts policy first es k w.standings w.next → (fair : IsFair policy_answer policy_later present tried k w l v) → Facts policy first (es ++ framed (entry.Event event moment) fair.rest (entry.End last)) l v.standings v.next
+swept_facts policy first es present tried k l w v event last moment later since stood facts fair =
     let rest : List Entry = fair.rest in
     let x : Entry = entry.Event event moment in
     let y : Entry = entry.End last in
@@ -287,12 +287,12 @@ swept_facts policy first es present k l w v event last moment later since stood 
       stood = stood;
       facts = facts;
       told = fair.left.told;
-      given = judged_given policy present k l w.standings k.log w.judge w.next rest l.log v.judge v.next fair.account later;
+      given = judged_given policy present tried k l w.standings k.log w.judge w.next rest l.log v.judge v.next fair.account later;
       kept = fair.left.kept;
       judged = λ number name held verdict cause a. elim (fair.left.judged number name held verdict cause a) [ inl s ↦ inl (s.0, s.1, s.2, s.4) | inr g ↦ inr g ];
-      says = account_says policy_answer policy_later present k l w.standings k.log w.judge w.next rest l.log v.judge v.next stood.numbers fair.account;
+      says = account_says policy_answer policy_later present tried k l w.standings k.log w.judge w.next rest l.log v.judge v.next stood.numbers fair.account;
     } in
-    let added = all_added present k l w.standings k.log w.judge w.next rest l.log v.judge v.next fair.account in
+    let added = all_added present tried k l w.standings k.log w.judge w.next rest l.log v.judge v.next fair.account in
     let each : (e : Effect) → Has (facts.explained.added ++ added.effects) e → IsExplained policy all first l e = λ e a.
     elim (has_cases facts.explained.added added.effects e a) [
       | inl b ↦ explained_later policy es (framed x rest y) first k l e fair.grows (facts.explained.each e b)
@@ -306,7 +306,7 @@ swept_facts policy first es present k l w v event last moment later since stood 
         each = each;
       };
       numbers = subst (λ (z : List ℕ). Follow 1 z v.next) (sym (numbers_append es (framed x rest y) ∙ ap (λ (z : List ℕ). told_numbers es ++ z) (numbers_framed event last moment rest)))
-          (follow_append 1 (told_numbers es) (told_numbers rest) w.next v.next facts.numbers (numbers_follow present k l w.standings k.log w.judge w.next rest l.log v.judge v.next fair.account));
+          (follow_append 1 (told_numbers es) (told_numbers rest) w.next v.next facts.numbers (numbers_follow present tried k l w.standings k.log w.judge w.next rest l.log v.judge v.next fair.account));
       known = is_known policy first es k w.standings w.next l v.standings v.next rest event last moment seen;
     } in
     result

@@ -8,19 +8,19 @@ use Rattle.ug_kernel.specs.Kernel.{Kernel}
 use Rattle.ug_kernel.specs.Quiet.{Grows}
 use Rattle.ug_audit.specs.declared.entry.Entry.{Entry}
 use Rattle.ug_audit.specs.declared.entry.Entry.TheVariants as entry
-use Rattle.ug_table.specs.Laws.{HasVerdict, Account, Start, Note, Judge, Had, Had_not, Went, IsTold}
+use Rattle.ug_table.specs.Laws.{Tries, HasVerdict, Account, Start, Note, Judge, Had, Had_not, Went, IsTold}
 use Rattle.ug_table.specs.declared.standing.Standing.{Standing}
 use Rattle.ug_types.proofs.Elements.{has_left, has_right}
-use Rattle.ug_table.proofs.Devices.{device_stays, gone_stays, probed_stays}
+use Rattle.ug_table.proofs.Devices.{device_stays, gone_stays, probed_stays, stand_stays}
 use Rattle.ug_table.specs.State.{Answers, Laters}
 
-pub account_stays : {J : Type 0} (answer : Answers J) (later : Laters J) (present : Bool) (start k l : Kernel) (before : List Standing) (log0 : List Effect) (judge0 : J) (next0 : ℕ) (es : List Entry) (log : List Effect) (judge : J) (next : ℕ) → Grows k l → Account answer later present start k before log0 judge0 next0 es log judge next → Account answer later present start l before log0 judge0 next0 es log judge next
-account_stays answer later present start k l before log0 judge0 next0 es log judge next g Start = Start
-account_stays answer later present start k l before log0 judge0 next0 es log judge next g (Note fs m j n e t h) = Note fs m j n e t (account_stays answer later present start k l before log0 judge0 next0 fs m j n g h)
-account_stays answer later present start k l before log0 judge0 next0 es log judge next g (Judge fs m j n i name held judged on ss d b left so h) = Judge fs m j n i name held judged on ss (device_stays k l i name held judged g d) (probed_stays start k l name held.0 i on g b) left so (account_stays answer later present start k l before log0 judge0 next0 fs m j n g h)
-account_stays answer later present start k l before log0 judge0 next0 es log judge next g (Had fs m j n i number name held judged verdict what outcome d v due first may h) = Had fs m j n i number name held judged verdict what outcome (device_stays k l i name held judged g d) v due first may (account_stays answer later present start k l before log0 judge0 next0 fs m j n g h)
-account_stays answer later present start k l before log0 judge0 next0 es log judge next g (Had_not fs m j n i number name held judged verdict what outcome d v due first may h) = Had_not fs m j n i number name held judged verdict what outcome (device_stays k l i name held judged g d) v due first may (account_stays answer later present start k l before log0 judge0 next0 fs m j n g h)
-account_stays answer later present start k l before log0 judge0 next0 es log judge next g (Went fs m j n i number name held judged verdict d o v h) = Went fs m j n i number name held judged verdict (device_stays k l i name held judged g d) (gone_stays k l i g o) v (account_stays answer later present start k l before log0 judge0 next0 fs m j n g h)
+pub account_stays : {J : Type 0} (answer : Answers J) (later : Laters J) (present : Bool) (tried : Tries) (start k l : Kernel) (before : List Standing) (log0 : List Effect) (judge0 : J) (next0 : ℕ) (es : List Entry) (log : List Effect) (judge : J) (next : ℕ) → Grows k l → Account answer later present tried start k before log0 judge0 next0 es log judge next → Account answer later present tried start l before log0 judge0 next0 es log judge next
+account_stays answer later present tried start k l before log0 judge0 next0 es log judge next g Start = Start
+account_stays answer later present tried start k l before log0 judge0 next0 es log judge next g (Note fs m j n e t h) = Note fs m j n e t (account_stays answer later present tried start k l before log0 judge0 next0 fs m j n g h)
+account_stays answer later present tried start k l before log0 judge0 next0 es log judge next g (Judge fs m j n i name held judged on ss d b stands left so h) = Judge fs m j n i name held judged on ss (device_stays k l i name held judged g d) (probed_stays start k l name held.0 i on g b) (stand_stays k l ss n g stands) left so (account_stays answer later present tried start k l before log0 judge0 next0 fs m j n g h)
+account_stays answer later present tried start k l before log0 judge0 next0 es log judge next g (Had fs m j n i number name held judged verdict what outcome d v due first may h) = Had fs m j n i number name held judged verdict what outcome (device_stays k l i name held judged g d) v due first may (account_stays answer later present tried start k l before log0 judge0 next0 fs m j n g h)
+account_stays answer later present tried start k l before log0 judge0 next0 es log judge next g (Had_not fs m j n i number name held judged verdict what outcome d v due first may h) = Had_not fs m j n i number name held judged verdict what outcome (device_stays k l i name held judged g d) v due first may (account_stays answer later present tried start k l before log0 judge0 next0 fs m j n g h)
+account_stays answer later present tried start k l before log0 judge0 next0 es log judge next g (Went fs m j n i number name held judged verdict d o v h) = Went fs m j n i number name held judged verdict (device_stays k l i name held judged g d) (gone_stays k l i g o) v (account_stays answer later present tried start k l before log0 judge0 next0 fs m j n g h)
 
 -- each of these standings was there before, or was told
 abbrev AreTold : List Standing → List Entry → List Standing → Type 0

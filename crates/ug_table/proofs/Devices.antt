@@ -63,6 +63,7 @@ stand_stays k l ss next g h = record {
   devices = λ s a. let x = h.devices s a in (x.0, device_stays k l x.0 s.name s.held s.judged g x.1);
   numbers = h.numbers;
   names = h.names;
+  order = h.order;
   distinct = h.distinct;
   removed = λ s a r i f.
       let x = h.devices s a in

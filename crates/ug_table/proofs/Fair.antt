@@ -1,5 +1,5 @@
 -- The settling of one name is fair.
-use Rattle.std.proofs.Common.{◌≡◌, ℕ, ◌+◌, ◌<◌, Bool, true, false, ◌||◌, ◌⊎◌, is_none, List, [], ◌∷◌, ◌++◌, Option, Some, None, slice_get, inl, inr, refl, sym, ◌∙◌, ap, subst, arith}
+use Rattle.std.proofs.Common.{◌≡◌, ℕ, ◌+◌, ◌<◌, Bool, true, false, ◌||◌, ◌⊎◌, is_none, List, [], ◌∷◌, ◌++◌, Option, Some, slice_get, inl, inr, refl, sym, ◌∙◌, ap, subst, append_assoc, append-nil, arith}
 use Rattle.ug_types.specs.Elements.{Has, AllDistinct}
 use Rattle.ug_types.specs.Names.{parent_of}
 use Rattle.ug_types.specs.declared.record.Attrs.{Attrs}
@@ -9,15 +9,13 @@ use Rattle.ug_types.specs.declared.verdict.Target.{Target}
 use Rattle.ug_types.specs.declared.verdict.Cause.{Cause}
 use Rattle.ug_kernel.specs.declared.device.Device.{Device}
 use Rattle.ug_kernel.specs.declared.device.Effect.{Effect}
-use Rattle.ug_kernel.specs.declared.calls.Probe.{Probe}
 use Rattle.ug_kernel.specs.declared.calls.Probe.TheVariants as probe
 use Rattle.ug_kernel.specs.Calls.{Ask_alive, Close}
 use Rattle.ug_kernel.specs.Kernel.{Kernel, IsKernel}
-use Rattle.ug_kernel.specs.Called.{IsGoneAt, says_probe}
+use Rattle.ug_kernel.specs.Called.{IsGoneAt}
 use Rattle.ug_kernel.specs.Quiet.{Quiet}
 use Rattle.ug_kernel.proofs.Grow.{some_same, quiet_grows, grows_refl}
-use Rattle.ug_itree.specs.Tree.{Return, Runs, calls}
-use Rattle.ug_itree.proofs.Runs.{runs_split}
+use Rattle.ug_itree.specs.Tree.{Runs, calls}
 use Rattle.ug_record.specs.Records.{judged_of}
 use Rattle.ug_node.specs.Bind.{binding}
 use Rattle.ug_node.specs.Bound.{attrs_of, IsBound, BindSays}
@@ -27,16 +25,15 @@ use Rattle.ug_node.specs.declared.identity.Binding.TheVariants as bound
 use Rattle.ug_node.proofs.Laws.{binding_law}
 use Rattle.ug_audit.specs.declared.entry.Entry.{Entry}
 use Rattle.ug_audit.specs.declared.entry.Entry.TheVariants as entry
-use Rattle.ug_audit.specs.declared.entry.Fault.{Fault}
 use Rattle.ug_audit.specs.declared.entry.Fault.TheVariants as fault
 use Rattle.ug_kernel.specs.declared.calls.Write.TheVariants as write
 use Rattle.ug_kernel.specs.declared.calls.Wrote.TheVariants as wrote
 use Rattle.ug_table.specs.State.{State, Kept, with_kept, Answers, Laters}
 use Rattle.ug_table.specs.Standings.{known_of, standing_of, without, with_standing, place_for, settled_standing}
-use Rattle.ug_table.specs.Bring.{bringing, is_reject}
-use Rattle.ug_table.specs.Settle.{kept_standings, to_keep, unsettled, no_room, standing_for, known_in, judged_entry, to_judge, if_place, if_record, admitting, after_bind, entering, tried_standings, to_mark, dropped, after_known, from_standing, settling, to_keep_mark, after_again, again, resettling}
+use Rattle.ug_table.specs.Bring.{is_reject}
+use Rattle.ug_table.specs.Settle.{kept_standings, standing_for, judged_entry, tried_standings, dropped, settling, resettling}
 use Rattle.ug_table.specs.Sweep.{names_of}
-use Rattle.ug_table.specs.Laws.{IsDevice, IsProbed, Stand, numbers_of, Account, Judge, Start, IsOne, IsTold, HasStanding, IsFair, IsRemoveMarked}
+use Rattle.ug_table.specs.Laws.{Tries, AreInOrder, none_before, IsDevice, IsProbed, Stand, numbers_of, Account, Judge, Start, IsOne, IsTold, HasStanding, IsFair, IsRemoveMarked}
 use Rattle.ug_table.specs.declared.standing.Standing.{Standing}
 use Rattle.ug_table.specs.declared.standing.Known.{Known}
 use Rattle.ug_table.specs.declared.standing.Settled.{Settled}
@@ -47,9 +44,13 @@ use Rattle.ug_table.proofs.Devices.{stand_stays, probed_from}
 use Rattle.ug_table.proofs.Standings.{found, missing, missing_without, or_all, or_by}
 use Rattle.ug_table.proofs.Joined.{FairFrom, fair_by}
 use Rattle.ug_table.proofs.Steps.{Same, After, one_itself, fair_end, then_quiet, then_called, then_note, then_same, then_went, without_less, tried_after, left_all}
-use Rattle.ug_table.proofs.Written.{bringing_fair}
+use Rattle.ug_table.proofs.Written.{brought_fair}
+use Rattle.ug_table.proofs.Orders.{order_with}
+use Rattle.ug_itree.specs.Along.{Made, answered, Along}
+use Rattle.ug_table.proofs.Ways.{Way, way_runs, ways_run, along_split}
+use Rattle.ug_table.proofs.Shapes.{told, Brought, Opening, Fresh, Lost, Unbound_end, Absent_so, Vanished_so, Failed_so, Short_so, Flat, Unprobed, Tried, Stopped, Unbound, No_place, Judged_so, IsGiven, next_after, judge_after, Settles, settles, Resettles, resettles}
 use Rattle.ug_table.proofs.RemoveMarks.{Keeps, keeps_itself, keep_one, Marks}
-use Rattle.ug_table.proofs.SoFar.{so_far_first, AreSoFar, dropped_so_far}
+use Rattle.ug_table.proofs.SoFar.{AreIn, dropped_in}
 use Rattle.ug_table.proofs.Account.{account_stays}
 
 second : {A B : Type 0} (p q : A × B) → p ≡ q → p.1 ≡ q.1
@@ -88,6 +89,7 @@ stand_more k ss next i s d number fresh absent stand = record {
     | inr a ↦ let n = stand.numbers t a in omega (arith, n)
   ];
   names = distinct_insert (λ (v : Standing). v.name) ss (place_for s.name ss) s stand.names absent;
+  order = order_with s ss stand.order absent;
   distinct = distinct_insert (λ (v : Standing). v.number) ss (place_for s.name ss) s stand.distinct (λ a. new_number ss next s.number number stand.numbers a);
   removed = λ t h r. elim (insert_has ss (place_for s.name ss) s t h) [
     | inl e ↦ let was : true ≡ false = sym r ∙ ap (λ (v : Standing). v.removed) (sym e) ∙ fresh in absurd (let none : ⊥ = cc in none)
@@ -132,7 +134,7 @@ judged_same number n name m held g verdict u cause d (inl e) =
 judged_same number n name m held g verdict u cause d (inr none) = absurd none
 
 -- a device was bound, and is judged
-judged_fair : {J : Type 0} (answer : Answers J) (later : Laters J) (present : Bool) (n m : Kernel) (u : State J) (name : List ℕ) (held i : ℕ) (judged : Judged) (on : Bool) → IsKernel m → Quiet n m → IsDevice m i name (record { 0 = held }) judged → IsProbed n m name held i on → (Has (names_of u.standings) name → ⊥) → Stand n u.standings u.next → FairFrom answer later present n u m (just_judged answer later u name held judged present on)
+judged_fair : {J : Type 0} (answer : Answers J) (later : Laters J) (present : Bool) (n m : Kernel) (u : State J) (name : List ℕ) (held i : ℕ) (judged : Judged) (on : Bool) → IsKernel m → Quiet n m → IsDevice m i name (record { 0 = held }) judged → IsProbed n m name held i on → (Has (names_of u.standings) name → ⊥) → Stand n u.standings u.next → FairFrom answer later present none_before n u m (just_judged answer later u name held judged present on)
 judged_fair answer later present n m u name held i judged on sound q d probed absent stand =
     let given = given_of answer u name judged present on in
     let s = new_standing answer u name held judged present on in
@@ -140,14 +142,14 @@ judged_fair answer later present n m u name held i judged on sound q d probed ab
     let file : Held = record { 0 = held } in
     let now = just_judged answer later u name held judged present on in
     let there = stand_stays n m u.standings u.next (quiet_grows n m q) stand in
-    let account : Account answer later present n m u.standings m.log u.judge u.next (e ∷ []) m.log now.judge now.next = Judge [] m.log u.judge u.next i name file judged on u.standings d probed (left_all u.standings stand.distinct) (so_far_first u.standings) Start in
-    let fair : IsFair answer later present n u m now = record {
+    let account : Account answer later present none_before n m u.standings m.log u.judge u.next (e ∷ []) m.log now.judge now.next = Judge [] m.log u.judge u.next i name file judged on u.standings d probed there (left_all u.standings stand.distinct) (λ s a. inr (refl, a)) Start in
+    let fair : IsFair answer later present none_before n u m now = record {
       sound = sound;
       grows = quiet_grows n m q;
       rest = e ∷ [];
       entries = refl;
       stand = stand_more m u.standings u.next i s d refl refl absent there;
-      account = subst (λ (v : List Effect). Account answer later present n m u.standings v u.judge u.next (e ∷ []) m.log now.judge now.next) q.log account;
+      account = subst (λ (v : List Effect). Account answer later present none_before n m u.standings v u.judge u.next (e ∷ []) m.log now.judge now.next) q.log account;
       left = record {
         told = λ t a. elim (insert_has u.standings (place_for name u.standings) s t a) [
           | inl is ↦ subst (λ (v : Standing). IsTold u.standings (e ∷ []) v) is (inr (inl refl))
@@ -170,11 +172,12 @@ judged_fair answer later present n m u name held i judged on sound q d probed ab
     record { stood = stand; fair = fair }
 
 -- it is there, and nothing else changed
-new_same : (ss : List Standing) (next : ℕ) (s : Standing) → s.number ≡ next → (Has (names_of ss) s.name → ⊥) → AllDistinct (names_of ss) → AllDistinct (numbers_of ss) → ((t : Standing) → Has ss t → t.number < next) → Same (with_standing s ss) (with_standing s ss)
-new_same ss next s number absent names distinct numbers = record {
+new_same : (ss : List Standing) (next : ℕ) (s : Standing) → s.number ≡ next → (Has (names_of ss) s.name → ⊥) → AllDistinct (names_of ss) → AreInOrder (names_of ss) → AllDistinct (numbers_of ss) → ((t : Standing) → Has ss t → t.number < next) → Same (with_standing s ss) (with_standing s ss)
+new_same ss next s number absent names order distinct numbers = record {
   there = one_itself (with_standing s ss);
   kept = one_itself (with_standing s ss);
   names = distinct_insert (λ (v : Standing). v.name) ss (place_for s.name ss) s names absent;
+  order = order_with s ss order absent;
   distinct = distinct_insert (λ (v : Standing). v.number) ss (place_for s.name ss) s distinct (λ a. new_number ss next s.number number numbers a);
 }
 
@@ -189,6 +192,7 @@ kept_after k ss next s settled.Nobody number absent stand = record {
   apart = λ t a e. let n = stand.numbers t a in let none : ⊥ = omega (arith, n, e, number) in none;
   marks = λ t a. keeps_itself (with_standing s ss) t (has_old ss (place_for s.name ss) s t a);
   names = stand.names;
+  order = stand.order;
   distinct = stand.distinct;
 }
 kept_after k ss next s settled.Stands number absent stand =
@@ -203,6 +207,7 @@ kept_after k ss next s settled.Stands number absent stand =
         | inr old ↦ one_itself (with_standing new ss) t (has_old ss (place_for s.name ss) new t old)
       ];
       names = distinct_insert (λ (v : Standing). v.name) ss (place_for s.name ss) new stand.names absent;
+      order = order_with new ss stand.order absent;
       distinct = distinct_insert (λ (v : Standing). v.number) ss (place_for s.name ss) new stand.distinct (λ a. new_number ss next s.number number stand.numbers a);
     } in
     let whole : List Standing = with_standing s ss in
@@ -223,39 +228,8 @@ kept_after k ss next s settled.Stands number absent stand =
       ];
     } in
     (same, marks)
-kept_after k ss next s (settled.Fault call count) number absent stand = (new_same ss next s number absent stand.names stand.distinct stand.numbers, keeps_itself (with_standing s ss))
-kept_after k ss next s settled.Memory number absent stand = (new_same ss next s number absent stand.names stand.distinct stand.numbers, keeps_itself (with_standing s ss))
-
-to_judge_fair : {J : Type 0} {answer : Answers J} {later : Laters J} {present : Bool} {k m : Kernel} {w u : State J} (l : Kernel) (name : List ℕ) (b : Bound) (judged : Judged) (p : Settled × State J) → (Has (names_of u.standings) name → ⊥) → FairFrom answer later present k w m u → FairFrom answer later present k w m (just_judged answer later u name b.held.0 judged present b.on) → Runs calls m (to_judge answer later name present u b judged) p l → FairFrom answer later present k w l p.1
-to_judge_fair {J} {answer} {later} {present} {k} {m} {w} {u} l name b judged p absent h first r =
-    let given = given_of answer u name judged present b.on in
-    let s = new_standing answer u name b.held.0 judged present b.on in
-    let now = just_judged answer later u name b.held.0 judged present b.on in
-    let cut = runs_split calls m (bringing name (known_in u b.held.0 given) b.on now.entries) (to_keep (record u { next = now.next; judge = now.judge }) s) p l r in
-    let after = kept_standings u.standings s in
-    fair_end l p.1 (second p _ cut.3.0) cut.3.1
-    (bringing_fair cut.1 s after b.on cut.0 (has_new u.standings (place_for name u.standings) s) (λ how. kept_after m u.standings u.next s how refl absent h.fair.stand) first cut.2)
-
-unsettled_fair : {J : Type 0} {answer : Answers J} {later : Laters J} {present : Bool} {k m : Kernel} {w u : State J} (l : Kernel) (name : List ℕ) (why : Fault) (how : Settled) (p : Settled × State J) → FairFrom answer later present k w m u → Runs calls m (unsettled u name why how) p l → FairFrom answer later present k w l p.1
-unsettled_fair l name why how p h r = fair_end l p.1 (second p _ r.0) r.1 (then_note (entry.Unsettled name why) tt h)
-
-same_fair : {J : Type 0} {answer : Answers J} {later : Laters J} {present : Bool} {k m : Kernel} {w u : State J} (l : Kernel) (how : Settled) (p : Settled × State J) → FairFrom answer later present k w m u → Runs calls m (Return (how, u)) p l → FairFrom answer later present k w l p.1
-same_fair l how p h r = fair_end l p.1 (second p _ r.0) r.1 h
-
-no_room_fair : {J : Type 0} {answer : Answers J} {later : Laters J} {present : Bool} {k m : Kernel} {w u : State J} (l : Kernel) (name : List ℕ) (held : ℕ) (p : Settled × State J) → FairFrom answer later present k w m u → Runs calls m (no_room u name held) p l → FairFrom answer later present k w l p.1
-no_room_fair l name held p h r = unsettled_fair l name fault.Memory settled.Memory p (then_called (Close held) r.0 r.1 tt r.2 h) r.3
-
-if_place_fair : {J : Type 0} {answer : Answers J} {later : Laters J} {present : Bool} {k m : Kernel} {w u : State J} (l : Kernel) (name : List ℕ) (b : Bound) (judged : Judged) (room : Bool) (p : Settled × State J) → (Has (names_of u.standings) name → ⊥) → FairFrom answer later present k w m u → FairFrom answer later present k w m (just_judged answer later u name b.held.0 judged present b.on) → Runs calls m (if_place answer later name present u b judged room) p l → FairFrom answer later present k w l p.1
-if_place_fair l name b judged true p absent h first r = to_judge_fair l name b judged p absent h first r
-if_place_fair l name b judged false p absent h first r = no_room_fair l name b.held.0 p h r
-
-if_record_fair : {J : Type 0} {answer : Answers J} {later : Laters J} {present : Bool} {k m : Kernel} {w u : State J} (l : Kernel) (name : List ℕ) (b : Bound) (room : Bool) (p : Settled × State J) → (Has (names_of u.standings) name → ⊥) → FairFrom answer later present k w m u → FairFrom answer later present k w m (just_judged answer later u name b.held.0 (judged_of name b.attrs b.parent) present b.on) → Runs calls m (if_record answer later name present u b room) p l → FairFrom answer later present k w l p.1
-if_record_fair l name b true p absent h first r = if_place_fair l name b (judged_of name b.attrs b.parent) r.0 p absent h first r.1
-if_record_fair l name b false p absent h first r = no_room_fair l name b.held.0 p h r
-
-admitting_fair : {J : Type 0} {answer : Answers J} {later : Laters J} {present : Bool} {k m : Kernel} {w u : State J} (l : Kernel) (name : List ℕ) (b : Bound) (p : Settled × State J) → (Has (names_of u.standings) name → ⊥) → FairFrom answer later present k w m u → FairFrom answer later present k w m (just_judged answer later u name b.held.0 (judged_of name b.attrs b.parent) present b.on) → Runs calls m (admitting answer later name present u b) p l → FairFrom answer later present k w l p.1
-unfolding admitting
-admitting_fair l name b p absent h first r = if_record_fair l name b r.0 p absent h first r.1
+kept_after k ss next s (settled.Fault call count) number absent stand = (new_same ss next s number absent stand.names stand.order stand.distinct stand.numbers, keeps_itself (with_standing s ss))
+kept_after k ss next s settled.Memory number absent stand = (new_same ss next s number absent stand.names stand.order stand.distinct stand.numbers, keeps_itself (with_standing s ss))
 
 bound_device : (name : List ℕ) (k l : Kernel) (b : Bound) (x : IsBound name k l b) → IsDevice l x.i name b.held (judged_of name b.attrs b.parent)
 bound_device name k l b x =
@@ -263,90 +237,130 @@ bound_device name k l b x =
     let own : judged_of x.d.name b.attrs b.parent ≡ judged_of x.d.name (attrs_of x.d) b.parent = ap (λ (v : Attrs). judged_of x.d.name v b.parent) x.own in
     record { d = x.d; device = x.device; file = x.file; named = x.named; of = (b.parent, x.parents, cc (named, own)) }
 
-bound_fair : {J : Type 0} {answer : Answers J} {later : Laters J} {present : Bool} {k n : Kernel} {w u : State J} (m : Kernel) (name : List ℕ) (b : Bound) → IsKernel m → Quiet n m → IsBound name n m b → (Has (names_of u.standings) name → ⊥) → AreSoFar w u → FairFrom answer later present k w n u → FairFrom answer later present k w m (just_judged answer later u name b.held.0 (judged_of name b.attrs b.parent) present b.on)
+bound_fair : {J : Type 0} {answer : Answers J} {later : Laters J} {present : Bool} {tried : Tries} {k n : Kernel} {w u : State J} (m : Kernel) (name : List ℕ) (b : Bound) → IsKernel m → Quiet n m → IsBound name n m b → (Has (names_of u.standings) name → ⊥) → AreIn tried name w u → FairFrom answer later present tried k w n u → FairFrom answer later present tried k w m (just_judged answer later u name b.held.0 (judged_of name b.attrs b.parent) present b.on)
 unfolding judged_fair
-bound_fair {J} {answer} {later} {present} {k} {n} {w} {u} m name b sound q x absent so h =
+bound_fair {J} {answer} {later} {present} {tried} {k} {n} {w} {u} m name b sound q x absent so h =
     let probed : IsProbed n m name b.held.0 x.i b.on = record { first = n; last = m; since = grows_refl n; lived = x.lived; until = grows_refl m } in
     let judged = judged_of name b.attrs b.parent in
     let device = bound_device name n m b x in
     let step = judged_fair answer later present n m u name b.held.0 x.i judged b.on sound q device probed absent h.fair.stand in
     let now = just_judged answer later u name b.held.0 judged present b.on in
-    let before = account_stays answer later present k n m w.standings k.log w.judge w.next h.fair.rest n.log u.judge u.next (quiet_grows n m q) h.fair.account in
-    let whole : Account answer later present k m w.standings k.log w.judge w.next (h.fair.rest ++ judged_entry u name b.held.0 (given_of answer u name judged present b.on) ∷ []) n.log now.judge now.next = Judge h.fair.rest n.log u.judge u.next x.i name b.held judged b.on u.standings device (probed_from k n m name b.held.0 x.i b.on h.fair.grows probed) h.fair.left (so h.fair.rest h.fair.entries) before in
-    fair_by h step (subst (λ (v : List Effect). Account answer later present k m w.standings k.log w.judge w.next (h.fair.rest ++ judged_entry u name b.held.0 (given_of answer u name judged present b.on) ∷ []) v now.judge now.next) (sym q.log) whole)
-
-after_bind_fair : {J : Type 0} {answer : Answers J} {later : Laters J} {present : Bool} {k n : Kernel} {w u : State J} (m l : Kernel) (name : List ℕ) (a : Binding) (p : Settled × State J) → IsKernel m → Quiet n m → BindSays name n m a → (Has (names_of u.standings) name → ⊥) → AreSoFar w u → FairFrom answer later present k w n u → Runs calls m (after_bind answer later name present u a) p l → FairFrom answer later present k w l p.1
-after_bind_fair m l name (bound.Bound b) p sound q says absent so h r = admitting_fair l name b p absent (then_quiet m sound q h) (bound_fair m name b sound q says absent so h) r
-after_bind_fair m l name bound.Absent p sound q says absent so h r = same_fair l settled.Nobody p (then_quiet m sound q h) r
-after_bind_fair m l name bound.Vanished p sound q says absent so h r = same_fair l settled.Nobody p (then_quiet m sound q h) r
-after_bind_fair m l name (bound.Failed call count) p sound q says absent so h r = unsettled_fair l name (fault.Call call count) (settled.Fault call count) p (then_quiet m sound q h) r
-after_bind_fair m l name bound.Memory p sound q says absent so h r = unsettled_fair l name fault.Memory settled.Memory p (then_quiet m sound q h) r
-
-entering_fair : {J : Type 0} {answer : Answers J} {later : Laters J} {present : Bool} {k m : Kernel} {w u : State J} (l : Kernel) (name : List ℕ) (p : Settled × State J) → (Has (names_of u.standings) name → ⊥) → AreSoFar w u → FairFrom answer later present k w m u → Runs calls m (entering answer later name present u) p l → FairFrom answer later present k w l p.1
-unfolding entering
-entering_fair {J} {answer} {later} {present} {k} {m} {w} {u} l name p absent so h r =
-    let cut = runs_split calls m (binding name (parent_of name)) (after_bind answer later name present u) p l r in
-    let law = binding_law name (parent_of name) cut.0 m cut.1 refl h.fair.sound cut.2 in
-    after_bind_fair cut.1 l name cut.0 p law.sound law.quiet law.says absent so h cut.3
+    let before = account_stays answer later present tried k n m w.standings k.log w.judge w.next h.fair.rest n.log u.judge u.next (quiet_grows n m q) h.fair.account in
+    let whole : Account answer later present tried k m w.standings k.log w.judge w.next (h.fair.rest ++ judged_entry u name b.held.0 (given_of answer u name judged present b.on) ∷ []) n.log now.judge now.next = Judge h.fair.rest n.log u.judge u.next x.i name b.held judged b.on u.standings device (probed_from k n m name b.held.0 x.i b.on h.fair.grows probed) (stand_stays n m u.standings u.next (quiet_grows n m q) h.fair.stand) h.fair.left (so h.fair.rest h.fair.entries) before in
+    fair_by h step (subst (λ (v : List Effect). Account answer later present tried k m w.standings k.log w.judge w.next (h.fair.rest ++ judged_entry u name b.held.0 (given_of answer u name judged present b.on) ∷ []) v now.judge now.next) (sym q.log) whole)
 
 -- a known device is brought to its verdict
-known_brought : {J : Type 0} {answer : Answers J} {later : Laters J} {present : Bool} {k m : Kernel} {w u : State J} (l : Kernel) (name : List ℕ) (known : Known) (on : Bool) (q : Settled × List Entry) → standing_of name u.standings ≡ Some known → FairFrom answer later present k w m u → Runs calls m (bringing name known on u.entries) q l → FairFrom answer later present k w l (record u { standings = tried_standings u.standings name q.0; entries = q.1 })
-known_brought {J} {answer} {later} {present} {k} {m} {w} {u} l name known on q at h r =
+known_brought : {J : Type 0} {answer : Answers J} {later : Laters J} {present : Bool} {tried : Tries} {k m : Kernel} {w u : State J} {ms : List Made} {es : List Entry} {how : Settled} (l : Kernel) (name : List ℕ) (known : Known) (on : Bool) → standing_of name u.standings ≡ Some known → FairFrom answer later present tried k w m u → Brought name known on ms es how → Along calls m ms l → FairFrom answer later present tried k w l (record u { standings = tried_standings u.standings name how; entries = u.entries ++ es })
+known_brought {m = m} {u = u} {ms = ms} {es = es} {how = how} l name known on at h b along =
     let f = found name u.standings known at in
-    let named : Runs calls m (bringing f.s.name known on u.entries) q l = subst (λ (v : List ℕ). Runs calls m (bringing v known on u.entries) q l) (sym f.named) r in
-    let own : Runs calls m (bringing f.s.name (known_of f.s) on u.entries) q l = subst (λ (v : Known). Runs calls m (bringing f.s.name v on u.entries) q l) (sym f.known) named in
-    bringing_fair l f.s (tried_standings u.standings name) on q f.has (λ how. tried_after m u.standings u.next name f.s how f.has f.named h.fair.stand) h own
+    let named : Brought f.s.name known on ms es how = subst (λ (v : List ℕ). Brought v known on ms es how) (sym f.named) b in
+    let own : Brought f.s.name (known_of f.s) on ms es how = subst (λ (v : Known). Brought f.s.name v on ms es how) (sym f.known) named in
+    brought_fair l f.s (tried_standings u.standings name) own f.has (λ how. tried_after m u.standings u.next name f.s how f.has f.named h.fair.stand) h along
 
 -- a known device that is gone loses its standing
-then_dropped : {J : Type 0} {answer : Answers J} {later : Laters J} {present : Bool} {k m : Kernel} {w u : State J} (name : List ℕ) (known : Known) → standing_of name u.standings ≡ Some known → IsGoneAt known.held.0 m → FairFrom answer later present k w m u → FairFrom answer later present k w m (dropped u name known.number)
-then_dropped {J} {answer} {later} {present} {k} {m} {w} {u} name known at gone h =
+then_dropped : {J : Type 0} {answer : Answers J} {later : Laters J} {present : Bool} {tried : Tries} {k m : Kernel} {w u : State J} (name : List ℕ) (known : Known) → standing_of name u.standings ≡ Some known → IsGoneAt known.held.0 m → FairFrom answer later present tried k w m u → FairFrom answer later present tried k w m (dropped u name known.number)
+then_dropped {J} {answer} {later} {present} {tried} {k} {m} {w} {u} name known at gone h =
     let f = found name u.standings known at in
     let held : f.s.held ≡ known.held = ap (λ (v : Known). v.held) f.known in
     let number : f.s.number ≡ known.number = ap (λ (v : Known). v.number) f.known in
     let went = then_went f.s (without name u.standings) f.has (without_less m u.standings u.next name f.s f.has f.named h.fair.stand) (subst (λ (v : Held). IsGoneAt v.0 m) (sym held) gone) h in
     let e : entry.Gone f.s.number f.s.name ≡ entry.Gone known.number name = cc (number, f.named) in
-    subst (λ (v : Entry). FairFrom answer later present k w m (record u { standings = without name u.standings; entries = u.entries ++ v ∷ [] })) e went
+    subst (λ (v : Entry). FairFrom answer later present tried k w m (record u { standings = without name u.standings; entries = u.entries ++ v ∷ [] })) e went
 
 -- and one whose probe failed is marked
-then_failed : {J : Type 0} {answer : Answers J} {later : Laters J} {present : Bool} {k m : Kernel} {w u : State J} (name : List ℕ) (known : Known) (call count : ℕ) → standing_of name u.standings ≡ Some known → FairFrom answer later present k w m u → FairFrom answer later present k w m (record u { standings = tried_standings u.standings name (settled.Fault call count); entries = u.entries ++ entry.Unsettled name (fault.Call call count) ∷ [] })
+then_failed : {J : Type 0} {answer : Answers J} {later : Laters J} {present : Bool} {tried : Tries} {k m : Kernel} {w u : State J} (name : List ℕ) (known : Known) (call count : ℕ) → standing_of name u.standings ≡ Some known → FairFrom answer later present tried k w m u → FairFrom answer later present tried k w m (record u { standings = tried_standings u.standings name (settled.Fault call count); entries = u.entries ++ entry.Unsettled name (fault.Call call count) ∷ [] })
 then_failed {m = m} {u = u} name known call count at h =
     let f = found name u.standings known at in
     let after = tried_after m u.standings u.next name f.s (settled.Fault call count) f.has f.named h.fair.stand in
     then_same (tried_standings u.standings name (settled.Fault call count)) after.0 after.1 (then_note (entry.Unsettled name (fault.Call call count)) tt h)
 
-after_known_fair : {J : Type 0} {answer : Answers J} {later : Laters J} {present : Bool} {k m : Kernel} {w u : State J} (n l : Kernel) (name : List ℕ) (known : Known) (a : Probe) (number count : ℕ) (p : Settled × State J) → standing_of name u.standings ≡ Some known → says_probe known.held.0 a n m → AreSoFar w u → FairFrom answer later present k w m u → Runs calls m (after_known answer later name present u known a number count) p l → FairFrom answer later present k w l p.1
-after_known_fair {m = m} {u = u} n l name known (probe.Alive on) number count p at says so h r =
-    let cut = runs_split calls m (bringing name known on u.entries) (to_mark u name) p l r in
-    fair_end l p.1 (second p _ cut.3.0) cut.3.1 (known_brought cut.1 name known on cut.0 at h cut.2)
-after_known_fair {w = w} {u = u} n l name known probe.Gone number count p at says so h r =
-    entering_fair l name p (missing_without name u.standings) (dropped_so_far w u name known.number h.fair.rest h.fair.entries so) (then_dropped name known at says h) r
-after_known_fair n l name known probe.Failed number count p at says so h r =
-    fair_end l p.1 (second p _ r.0) r.1 (then_failed name known number count at h)
+-- before a binding, the name has no standing left
+record OpensFair {J : Type 0} (answer : Answers J) (later : Laters J) (present : Bool) (tried : Tries) (k : Kernel) (w : State J) (l : Kernel) (v : State J) (name : List ℕ) (binds : Bool) : Type 0 where
+  fair : FairFrom answer later present tried k w l v
+  absent : Has (names_of v.standings) name → ⊥
+  so : binds ≡ true → AreIn tried name w v
 
-from_standing_fair : {J : Type 0} {answer : Answers J} {later : Laters J} {present : Bool} {k m : Kernel} {w u : State J} (l : Kernel) (name : List ℕ) (o : Option Known) (p : Settled × State J) → standing_of name u.standings ≡ o → AreSoFar w u → FairFrom answer later present k w m u → Runs calls m (from_standing answer later name present u o) p l → FairFrom answer later present k w l p.1
-from_standing_fair {m = m} l name (Some known) p at so h r =
-    after_known_fair m l name known r.0.answer r.0.number r.0.count p at r.2.says so (then_called (Ask_alive known.held.0) r.0 r.1 tt r.2 h) r.3
-from_standing_fair {u = u} l name None p at so h r = entering_fair l name p (missing name u.standings at) so h r
+opening_fair : {J : Type 0} {answer : Answers J} {later : Laters J} {present : Bool} {tried : Tries} {binds : Bool} {k m : Kernel} {w u : State J} {name : List ℕ} {ms : List Made} {es : List Entry} {rs : List Standing} (l : Kernel) → Opening name u.standings ms es rs → (binds ≡ true → AreIn tried name w u) → FairFrom answer later present tried k w m u → Along calls m ms l → OpensFair answer later present tried k w l (record u { standings = rs; entries = u.entries ++ es }) name binds
+opening_fair {J} {answer} {later} {present} {tried} {binds} {k} {m} {w} {u} {name} l (Fresh e) so h a =
+    subst (λ (v : List Entry). OpensFair answer later present tried k w l (record u { entries = v }) name binds) (sym (append-nil u.entries)) (record { fair = fair_end l u refl a h; absent = missing name u.standings e; so = so })
+opening_fair {tried = tried} {w = w} {u = u} {name = name} l (Lost known call count e) so h a = record {
+  fair = fair_end l _ refl a.2 (then_dropped name known e a.1.says (then_called (Ask_alive known.held.0) (told probe.Gone call count) a.0 tt a.1 h));
+  absent = missing_without name u.standings;
+  so = λ b. dropped_in tried w u name known.number h.fair.rest h.fair.entries (so b);
+}
 
-pub then_settling : {J : Type 0} {answer : Answers J} {later : Laters J} {present : Bool} {k m : Kernel} {w u : State J} (l : Kernel) (name : List ℕ) (p : Settled × State J) → AreSoFar w u → FairFrom answer later present k w m u → Runs calls m (settling answer later name present u) p l → FairFrom answer later present k w l p.1
-unfolding settling
-then_settling {u = u} l name p so h r = from_standing_fair l name (standing_of name u.standings) p refl so h r
+-- the state after a name's part
+abbrev ended_as : {J : Type 0} → Laters J → Bool → List ℕ → State J → Option (List Standing × Bound) → List Standing → List Entry → State J
+ended_as later present name u o rs es = record u { standings = rs; next = next_after u o; judge = judge_after later present name u o; entries = u.entries ++ es }
+
+unbound_fair : {J : Type 0} {answer : Answers J} {later : Laters J} {present : Bool} {tried : Tries} {k l : Kernel} {w : State J} {name : List ℕ} {r : Binding} {fs : List Entry} {how : Settled} (u : State J) (rs : List Standing) (es : List Entry) → Unbound_end name r fs how → FairFrom answer later present tried k w l (record u { standings = rs; entries = u.entries ++ es }) → FairFrom answer later present tried k w l (record u { standings = rs; entries = u.entries ++ (es ++ fs) })
+unbound_fair {J} {answer} {later} {present} {tried} {k} {l} {w} {name} {r} {fs} u rs es end h = subst (λ (v : List Entry). FairFrom answer later present tried k w l (record u { standings = rs; entries = v })) (append_assoc u.entries es fs) (by end h)
+  where
+    v : State J
+    v = record u { standings = rs; entries = u.entries ++ es }
+
+    same : FairFrom answer later present tried k w l v → FairFrom answer later present tried k w l (record v { entries = v.entries ++ [] })
+    same h = subst (λ (x : List Entry). FairFrom answer later present tried k w l (record v { entries = x })) (sym (append-nil v.entries)) h
+
+    by : {r : Binding} {fs : List Entry} {how : Settled} → Unbound_end name r fs how → FairFrom answer later present tried k w l v → FairFrom answer later present tried k w l (record v { entries = v.entries ++ fs })
+    by Absent_so h = same h
+    by Vanished_so h = same h
+    by (Failed_so call count) h = then_note (entry.Unsettled name (fault.Call call count)) tt h
+    by Short_so h = then_note (entry.Unsettled name fault.Memory) tt h
+
+-- a binding leads to what it says
+binds_fair : {J : Type 0} {answer : Answers J} {later : Laters J} {present : Bool} {tried : Tries} {k n : Kernel} {w u : State J} (m : Kernel) (name : List ℕ) (ns : List Made) (r : Binding) → Way (binding name (parent_of name)) ns r → FairFrom answer later present tried k w n u → Along calls n ns m → IsKernel m × Quiet n m × BindSays name n m r × FairFrom answer later present tried k w m u
+binds_fair {n = n} m name ns r way h a =
+    let law = binding_law name (parent_of name) r n m refl h.fair.sound (way_runs calls (binding name (parent_of name)) ns n r m way a) in
+    (law.sound, law.quiet, law.says, then_quiet m law.sound law.quiet h)
+
+pub flat_fair : {J : Type 0} {answer : Answers J} {later : Laters J} {present : Bool} {tried : Tries} {binds : Bool} {given : List Standing → Bound → Standing → Type 0} {k m : Kernel} {w u : State J} {name : List ℕ} {ms : List Made} {rest : List Entry} {how : Settled} {rs : List Standing} {o : Option (List Standing × Bound)} (l : Kernel) → Flat binds given name u.standings ms rest how rs o → ((ss : List Standing) (b : Bound) (x : Standing) → given ss b x → IsGiven answer present name u ss b x) → (binds ≡ true → AreIn tried name w u) → FairFrom answer later present tried k w m u → Along calls m ms l → FairFrom answer later present tried k w l (ended_as later present name u o rs rest)
+flat_fair {name = name} l (Unprobed known call count at) is so h a = fair_end l _ refl a.2 (then_failed name known call count at (then_called (Ask_alive known.held.0) (told probe.Failed call count) a.0 tt a.1 h))
+flat_fair {name = name} l (Tried known on call count ms es how at b) is so h a = known_brought l name known on at (then_called (Ask_alive known.held.0) (told (probe.Alive on) call count) a.0 tt a.1 h) b a.2
+flat_fair l (Stopped ms es rs f opening) is so h a = (opening_fair l opening so h a).fair
+flat_fair {m = m} {u = u} {name = name} l (Unbound ms ns es fs rs r how t opening way end) is so h a =
+    let cut = along_split calls ms ns m l a in
+    let b = binds_fair l name ns r way (opening_fair cut.0 opening so h cut.1).fair cut.2 in
+    unbound_fair u rs es end b.3
+flat_fair {J} {answer} {later} {present} {tried} {k = k} {m = m} {w = w} {u = u} {name = name} l (No_place ms ns es rs b shut t opening way) is so h a =
+    let last : List Made = answered (Close b.held.0) shut ∷ [] in
+    let cut = along_split calls ms (ns ++ last) m l a in
+    let far = along_split calls ns last cut.0 l cut.2 in
+    let x = binds_fair far.0 name ns (bound.Bound b) way (opening_fair cut.0 opening so h cut.1).fair far.1 in
+    subst (λ (v : List Entry). FairFrom answer later present tried k w l (record u { standings = rs; entries = v })) (append_assoc u.entries es (entry.Unsettled name fault.Memory ∷ []))
+    (fair_end l _ refl far.2.2 (then_note (entry.Unsettled name fault.Memory) tt (then_called (Close b.held.0) shut far.2.0 tt far.2.1 x.3)))
+flat_fair {J} {answer} {later} {present} {tried} {k = k} {m = m} {w = w} {u = u} {name = name} l (Judged_so ms ns os es fs rs b x how t opening way given new brought) is so h a =
+    let cut = along_split calls ms (ns ++ os) m l a in
+    let far = along_split calls ns os cut.0 l cut.2 in
+    let o = opening_fair cut.0 opening so h cut.1 in
+    let v : State J = record u { standings = rs; entries = u.entries ++ es } in
+    let n = far.0 in
+    let y = binds_fair n name ns (bound.Bound b) way o.fair far.1 in
+    let judged : Judged = judged_of name b.attrs b.parent in
+    let first = bound_fair n name b y.0 y.1 y.2 o.absent (o.so t) o.fair in
+    let now = just_judged answer later v name b.held.0 judged present b.on in
+    let s = new_standing answer v name b.held.0 judged present b.on in
+    let e = judged_entry v name b.held.0 (given_of answer v name judged present b.on) in
+    let E : Standing → State J = λ z. ended_as later present name u (Some (rs, b)) (kept_standings rs z how) (es ++ entry.Judged z.number name z.held z.verdict z.cause ∷ fs) in
+    let T : Standing → Type 0 = λ z. Brought name (known_of z) b.on os fs how → FairFrom answer later present tried k w l (E z) in
+    let own : T s = λ br. subst (λ (q : List Entry). FairFrom answer later present tried k w l (record now { standings = kept_standings rs s how; entries = q })) (append_assoc v.entries (e ∷ []) fs ∙ append_assoc u.entries es (e ∷ fs))
+    (brought_fair l s (kept_standings rs s) br (has_new rs (place_for name rs) s) (λ how. kept_after n rs v.next s how refl o.absent y.3.fair.stand) first far.2) in
+    (subst T (sym (is rs b x given)) own) brought
+
+state_is : {J : Type 0} (v : State J) (next : ℕ) (listed : Bool) (judge : J) (es : List Entry) → v.next ≡ next → v.listed ≡ listed → v.judge ≡ judge → v.entries ≡ es → let made : State J = record { standings = v.standings; next = next; listed = listed; judge = judge; entries = es } in v ≡ made
+state_is v next listed judge es a b c d = λ i. record { standings = v.standings; next = a i; listed = b i; judge = c i; entries = d i }
+
+pub then_settling : {J : Type 0} {answer : Answers J} {later : Laters J} {present : Bool} {tried : Tries} {k m : Kernel} {w u : State J} (l : Kernel) (name : List ℕ) (p : Settled × State J) → AreIn tried name w u → FairFrom answer later present tried k w m u → Runs calls m (settling answer later name present u) p l → FairFrom answer later present tried k w l p.1
+then_settling {J} {answer} {later} {present} {tried} {k} {m} {w} {u} l name p so h r =
+    let x = ways_run calls (Settles answer later name present u) (settling answer later name present u) m p l (settles answer later name present u) r in
+    let y = x.so in
+    subst (λ (v : State J). FairFrom answer later present tried k w l v) (sym (state_is p.1 (next_after u y.judged) u.listed (judge_after later present name u y.judged) (u.entries ++ y.rest) y.next y.listed y.judge y.entries))
+    (flat_fair l y.flat (λ ss b z g. g) (λ e. so) h x.along)
 
 -- where the listing didn't succeed
 
-after_again_fair : {J : Type 0} {answer : Answers J} {later : Laters J} {present : Bool} {k m : Kernel} {w : State J} (u : State J) (n l : Kernel) (name : List ℕ) (x : Kept) (known : Known) (a : Probe) (number count : ℕ) (p : Settled × Kept) → standing_of name x.standings ≡ Some known → says_probe known.held.0 a n m → FairFrom answer later present k w m (with_kept u x) → Runs calls m (after_again name x known a number count) p l → FairFrom answer later present k w l (with_kept u p.1)
-after_again_fair {m = m} u n l name x known (probe.Alive on) number count p at says h r =
-    let cut = runs_split calls m (bringing name known on x.entries) (to_keep_mark x name) p l r in
-    fair_end l (with_kept u p.1) (ap (λ (v : Kept). with_kept u v) (second p _ cut.3.0)) cut.3.1 (known_brought cut.1 name known on cut.0 at h cut.2)
-after_again_fair u n l name x known probe.Gone number count p at says h r =
-    fair_end l (with_kept u p.1) (ap (λ (v : Kept). with_kept u v) (second p _ r.0)) r.1 (then_dropped name known at says h)
-after_again_fair u n l name x known probe.Failed number count p at says h r =
-    fair_end l (with_kept u p.1) (ap (λ (v : Kept). with_kept u v) (second p _ r.0)) r.1 (then_failed name known number count at h)
-
-again_fair : {J : Type 0} {answer : Answers J} {later : Laters J} {present : Bool} {k m : Kernel} {w : State J} (u : State J) (l : Kernel) (name : List ℕ) (x : Kept) (o : Option Known) (p : Settled × Kept) → standing_of name x.standings ≡ o → FairFrom answer later present k w m (with_kept u x) → Runs calls m (again name x o) p l → FairFrom answer later present k w l (with_kept u p.1)
-again_fair {m = m} u l name x (Some known) p at h r = after_again_fair u m l name x known r.0.answer r.0.number r.0.count p at r.2.says (then_called (Ask_alive known.held.0) r.0 r.1 tt r.2 h) r.3
-again_fair u l name x None p at h r = fair_end l (with_kept u p.1) (ap (λ (v : Kept). with_kept u v) (second p _ r.0)) r.1 h
-
-pub then_resettling : {J : Type 0} {answer : Answers J} {later : Laters J} {present : Bool} {k m : Kernel} {w : State J} (u : State J) (l : Kernel) (name : List ℕ) (x : Kept) (p : Settled × Kept) → FairFrom answer later present k w m (with_kept u x) → Runs calls m (resettling name x) p l → FairFrom answer later present k w l (with_kept u p.1)
-unfolding resettling
-then_resettling u l name x p h r = again_fair u l name x (standing_of name x.standings) p refl h r
+pub then_resettling : {J : Type 0} {answer : Answers J} {later : Laters J} {present : Bool} {tried : Tries} {k m : Kernel} {w : State J} (u : State J) (l : Kernel) (name : List ℕ) (x : Kept) (p : Settled × Kept) → FairFrom answer later present tried k w m (with_kept u x) → Runs calls m (resettling name x) p l → FairFrom answer later present tried k w l (with_kept u p.1)
+then_resettling {J} {answer} {later} {present} {tried} {k} {m} {w} u l name x p h r =
+    let y = ways_run calls (Resettles name x) (resettling name x) m p l (resettles name x) r in
+    subst (λ (v : List Entry). FairFrom answer later present tried k w l (record u { standings = p.1.standings; entries = v })) (sym y.so.entries)
+    (flat_fair l y.so.flat (λ ss b z g. absurd g) (λ e. absurd (let none : ⊥ = cc in none)) h y.along)

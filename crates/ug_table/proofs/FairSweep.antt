@@ -28,7 +28,7 @@ use Rattle.ug_table.specs.State.{State, Kept, kept_of, with_kept, Answers, Later
 use Rattle.ug_table.specs.Standings.{lists, farewells}
 use Rattle.ug_table.specs.Settle.{settling, resettling}
 use Rattle.ug_table.specs.Sweep.{settling_all, resettling_all, parted, names_of, resumed, unlisted, marked_listed, if_room, after_list, sweeping}
-use Rattle.ug_table.specs.Laws.{IsDevice, IsGone, Stand, Account, Start, Went, IsOne, numbers_of, gone_of, IsFair, IsNamed}
+use Rattle.ug_table.specs.Laws.{Tries, AreInOrder, swept_before, IsDevice, IsGone, Stand, Account, Start, Went, IsOne, numbers_of, gone_of, IsFair, IsNamed}
 use Rattle.ug_table.specs.declared.standing.Standing.{Standing}
 use Rattle.ug_table.specs.declared.standing.Settled.{Settled}
 use Rattle.ug_types.proofs.Elements.{filter_has, has_filter, has_map, distinct_filter, distinct_one}
@@ -39,29 +39,30 @@ use Rattle.ug_table.proofs.Joined.{FairFrom, fair_trans, StepFrom}
 use Rattle.ug_table.proofs.Steps.{one_itself, stand_of, fair_refl, fair_end, then_called, then_note, gone_device}
 use Rattle.ug_table.proofs.Fair.{then_settling, then_resettling}
 use Rattle.ug_table.proofs.RemoveMarks.{keeps_itself, keep_marks}
-use Rattle.ug_table.proofs.SoFar.{AreSoFar, AreFresh, parted_so_far, parted_fresh, part_so_far, part_fresh}
+use Rattle.ug_table.proofs.SoFar.{AreSplit, AreFresh, split_in, parted_split, parted_fresh, part_split, part_fresh}
+use Rattle.ug_table.proofs.Orders.{order_filter, sweep_in_order}
 use Rattle.ug_table.proofs.Told.{ends_run, PartOf, settling_part}
 use Rattle.ug_table.proofs.Marks.{order_distinct}
 
-then_settling_all : {J : Type 0} {answer : Answers J} {later : Laters J} {present : Bool} {k : Kernel} {w : State J} (names : List (List ℕ)) (m l : Kernel) (u v : State J) → AllDistinct names → AreSoFar w u → AreFresh names w u → FairFrom answer later present k w m u → Runs calls m (settling_all answer later names present u) v l → FairFrom answer later present k w l v
-then_settling_all [] m l u v distinct so fresh h r = fair_end l v r.0 r.1 h
-then_settling_all {J} {answer} {later} {present} {k} {w} (name ∷ names) m l u v distinct so fresh h r =
+then_settling_all : {J : Type 0} {answer : Answers J} {later : Laters J} {present : Bool} {k : Kernel} {w : State J} (names : List (List ℕ)) (m l : Kernel) (u v : State J) → AllDistinct names → AreInOrder names → AreSplit names w u → AreFresh names w u → FairFrom answer later present swept_before k w m u → Runs calls m (settling_all answer later names present u) v l → FairFrom answer later present swept_before k w l v
+then_settling_all [] m l u v distinct order split fresh h r = fair_end l v r.0 r.1 h
+then_settling_all {J} {answer} {later} {present} {k} {w} (name ∷ names) m l u v distinct order split fresh h r =
     let cut = runs_split calls m (settling answer later name present u) (λ (p : Settled × State J). settling_all answer later names present p.1) v l r in
     let part = ends_run calls (PartOf name u) (settling answer later name present u) m cut.0 cut.1 (settling_part answer later name present u) cut.2 in
     let none : IsNamed h.fair.rest name → ⊥ = fresh h.fair.rest h.fair.entries name (inl refl) in
-    then_settling_all names cut.1 l cut.0.1 v distinct.1
-    (part_so_far w u name h.fair.rest cut.0 h.fair.entries so none part)
+    then_settling_all names cut.1 l cut.0.1 v distinct.1 order.1
+    (part_split w u name names h.fair.rest cut.0 h.fair.entries order split none part)
     (part_fresh w u name names h.fair.rest cut.0 h.fair.entries distinct fresh part)
-    (then_settling cut.1 name cut.0 so h cut.2) cut.3
+    (then_settling cut.1 name cut.0 (split_in name names w u order split) h cut.2) cut.3
 
-then_resettling_all : {J : Type 0} {answer : Answers J} {later : Laters J} {present : Bool} {k : Kernel} {w : State J} (u : State J) (names : List (List ℕ)) (m l : Kernel) (x y : Kept) → FairFrom answer later present k w m (with_kept u x) → Runs calls m (resettling_all names x) y l → FairFrom answer later present k w l (with_kept u y)
+then_resettling_all : {J : Type 0} {answer : Answers J} {later : Laters J} {present : Bool} {tried : Tries} {k : Kernel} {w : State J} (u : State J) (names : List (List ℕ)) (m l : Kernel) (x y : Kept) → FairFrom answer later present tried k w m (with_kept u x) → Runs calls m (resettling_all names x) y l → FairFrom answer later present tried k w l (with_kept u y)
 then_resettling_all u [] m l x y h r = fair_end l (with_kept u y) (ap (λ (v : Kept). with_kept u v) r.0) r.1 h
 then_resettling_all u (name ∷ names) m l x y h r =
     let cut = runs_split calls m (resettling name x) (λ (p : Settled × Kept). resettling_all names p.1) y l r in
     then_resettling_all u names cut.1 l cut.0.1 y (then_resettling u cut.1 name x cut.0 h cut.2) cut.3
 
-then_unlisted : {J : Type 0} {answer : Answers J} {later : Laters J} {present : Bool} {k m : Kernel} {w u : State J} (l : Kernel) (why : Fault) (v : State J) → FairFrom answer later present k w m u → Runs calls m (unlisted why u) v l → FairFrom answer later present k w l v
-then_unlisted {J} {answer} {later} {present} {k} {m} {w} {u} l why v h r =
+then_unlisted : {J : Type 0} {answer : Answers J} {later : Laters J} {present : Bool} {tried : Tries} {k m : Kernel} {w u : State J} (l : Kernel) (why : Fault) (v : State J) → FairFrom answer later present tried k w m u → Runs calls m (unlisted why u) v l → FairFrom answer later present tried k w l v
+then_unlisted {J} {answer} {later} {present} {tried} {k} {m} {w} {u} l why v h r =
     let x = kept_of u.standings (u.entries ++ entry.UnsettledAll why ∷ []) in
     let cut = runs_split calls m (resettling_all (names_of u.standings) x) (resumed u) v l r in
     fair_end l v cut.3.0 cut.3.1 (then_resettling_all u (names_of u.standings) m cut.1 x cut.0 (then_note (entry.UnsettledAll why) tt h) cut.2)
@@ -106,12 +107,12 @@ farewell_distinct names (s ∷ ss) d =
 abbrev AreGone : Kernel → List (List ℕ) → List Standing → Type 0
 AreGone m names ss = (s : Standing) (i : ℕ) → Has ss s → IsDevice m i s.name s.held s.judged → lists names s.name ≡ false → IsGone m i
 
-farewell_account : {J : Type 0} (answer : Answers J) (later : Laters J) (present : Bool) (m : Kernel) (names : List (List ℕ)) (before : List Standing) (log : List Effect) (judge : J) (next : ℕ) (ss : List Standing) (es : List Entry) → Stand m before next → AreGone m names before → ((s : Standing) → Has ss s → Has before s) → Account answer later present m m before log judge next es log judge next → Account answer later present m m before log judge next (es ++ farewells names ss) log judge next
-farewell_account answer later present m names before log judge next [] es stand gone sub a = subst (λ (v : List Entry). Account answer later present m m before log judge next v log judge next) (sym (append-nil es)) a
-farewell_account {J} answer later present m names before log judge next (s ∷ ss) es stand gone sub a =
+farewell_account : {J : Type 0} (answer : Answers J) (later : Laters J) (present : Bool) (tried : Tries) (m : Kernel) (names : List (List ℕ)) (before : List Standing) (log : List Effect) (judge : J) (next : ℕ) (ss : List Standing) (es : List Entry) → Stand m before next → AreGone m names before → ((s : Standing) → Has ss s → Has before s) → Account answer later present tried m m before log judge next es log judge next → Account answer later present tried m m before log judge next (es ++ farewells names ss) log judge next
+farewell_account answer later present tried m names before log judge next [] es stand gone sub a = subst (λ (v : List Entry). Account answer later present tried m m before log judge next v log judge next) (sym (append-nil es)) a
+farewell_account {J} answer later present tried m names before log judge next (s ∷ ss) es stand gone sub a =
     let e = entry.Gone s.number s.name in
-    let A : List Entry → Type 0 = λ v. Account answer later present m m before log judge next v log judge next in
-    let rec : (fs : List Entry) → A fs → A (fs ++ farewells names ss) = λ fs b. farewell_account answer later present m names before log judge next ss fs stand gone (λ t h. sub t (inr h)) b in
+    let A : List Entry → Type 0 = λ v. Account answer later present tried m m before log judge next v log judge next in
+    let rec : (fs : List Entry) → A fs → A (fs ++ farewells names ss) = λ fs b. farewell_account answer later present tried m names before log judge next ss fs stand gone (λ t h. sub t (inr h)) b in
     let has = sub s (inl refl) in
     let d = stand.devices s has in
     (elim (lists names s.name) as (λ (b : Bool). lists names s.name ≡ b → A (es ++ cond b (farewells names ss) (e ∷ farewells names ss))) [
@@ -119,20 +120,20 @@ farewell_account {J} answer later present m names before log judge next (s ∷ s
       | false ↦ λ q. subst (λ (v : List Entry). A v) (append_assoc es (e ∷ []) (farewells names ss)) (rec (es ++ e ∷ []) (Went es log judge next d.0 s.number s.name s.held s.judged s.verdict d.1 (gone s d.0 has d.1 q) (inl (s, has, refl, refl, refl, refl)) a))
     ]) refl
 
-parted_fair : {J : Type 0} (answer : Answers J) (later : Laters J) (present : Bool) (m : Kernel) (u : State J) (names : List (List ℕ)) → IsKernel m → Stand m u.standings u.next → AreGone m names u.standings → StepFrom answer later present m u m (parted names u)
-parted_fair answer later present m u names sound stand gone =
+parted_fair : {J : Type 0} (answer : Answers J) (later : Laters J) (present : Bool) (tried : Tries) (m : Kernel) (u : State J) (names : List (List ℕ)) → IsKernel m → Stand m u.standings u.next → AreGone m names u.standings → StepFrom answer later present tried m u m (parted names u)
+parted_fair answer later present tried m u names sound stand gone =
     let ss = u.standings in
     let listed : Standing → Bool = λ s. lists names s.name in
     let rs = filter listed ss in
     let there : (s : Standing) → Has rs s → IsOne ss s = λ s a. one_itself ss s (filter_has listed ss s a).0 in
     let none : (number : ℕ) (name : List ℕ) (held : Held) (verdict : Target) (cause : Cause) → Has (farewells names ss) (entry.Judged number name held verdict cause) → ⊥ = λ number name held verdict cause a. let t = farewell_has names ss (entry.Judged number name held verdict cause) a in let e = t.3 in let none : ⊥ = cc in none in
-    let fair : IsFair answer later present m u m (parted names u) = record {
+    let fair : IsFair answer later present tried m u m (parted names u) = record {
       sound = sound;
       grows = grows_refl m;
       rest = farewells names ss;
       entries = refl;
-      stand = stand_of m ss rs u.next there (distinct_filter (λ (s : Standing). s.name) listed ss stand.names) (distinct_filter (λ (s : Standing). s.number) listed ss stand.distinct) (λ s a. stand.removed s (filter_has listed ss s a).0) stand;
-      account = farewell_account answer later present m names ss m.log u.judge u.next ss [] stand gone (λ s a. a) Start;
+      stand = stand_of m ss rs u.next there (distinct_filter (λ (s : Standing). s.name) listed ss stand.names) (order_filter listed ss stand.order) (distinct_filter (λ (s : Standing). s.number) listed ss stand.distinct) (λ s a. stand.removed s (filter_has listed ss s a).0) stand;
+      account = farewell_account answer later present tried m names ss m.log u.judge u.next ss [] stand gone (λ s a. a) Start;
       left = record {
         told = λ s a. inl (there s a);
         kept = λ s a.
@@ -157,8 +158,8 @@ parted_fair answer later present m u names sound stand gone =
     } in
     record { step = record { stood = stand; fair = fair }; none = none }
 
-then_parted : {J : Type 0} {answer : Answers J} {later : Laters J} {present : Bool} {k m : Kernel} {w u : State J} (names : List (List ℕ)) → AreGone m names u.standings → FairFrom answer later present k w m u → FairFrom answer later present k w m (parted names u)
-then_parted {J} {answer} {later} {present} {k} {m} {w} {u} names gone h = fair_trans h (parted_fair answer later present m u names h.fair.sound h.fair.stand gone)
+then_parted : {J : Type 0} {answer : Answers J} {later : Laters J} {present : Bool} {tried : Tries} {k m : Kernel} {w u : State J} (names : List (List ℕ)) → AreGone m names u.standings → FairFrom answer later present tried k w m u → FairFrom answer later present tried k w m (parted names u)
+then_parted {J} {answer} {later} {present} {tried} {k} {m} {w} {u} names gone h = fair_trans h (parted_fair answer later present tried m u names h.fair.sound h.fair.stand gone)
 
 -- what isn't listed is gone
 
@@ -173,23 +174,23 @@ listing_gone k m names ss next g says stand s i a d out =
     gone_device m i s.name s.held s.judged d dead
 
 -- a listing succeeded
-then_listed : {J : Type 0} {answer : Answers J} {later : Laters J} {present : Bool} {k m : Kernel} {w u : State J} → FairFrom answer later present k w m u → FairFrom answer later present k w m (marked_listed u)
-then_listed {J} {answer} {later} {present} {k} {m} {w} {u} h =
+then_listed : {J : Type 0} {answer : Answers J} {later : Laters J} {present : Bool} {tried : Tries} {k m : Kernel} {w u : State J} → FairFrom answer later present tried k w m u → FairFrom answer later present tried k w m (marked_listed u)
+then_listed {J} {answer} {later} {present} {tried} {k} {m} {w} {u} h =
     let x = h.fair in
-    let fair : IsFair answer later present k w m (marked_listed u) = record { sound = x.sound; grows = x.grows; rest = x.rest; entries = x.entries; stand = x.stand; account = x.account; left = x.left; gone = x.gone; once = x.once; unjudged = x.unjudged } in
+    let fair : IsFair answer later present tried k w m (marked_listed u) = record { sound = x.sound; grows = x.grows; rest = x.rest; entries = x.entries; stand = x.stand; account = x.account; left = x.left; gone = x.gone; once = x.once; unjudged = x.unjudged } in
     record { stood = h.stood; fair = fair }
 
-if_room_fair : {J : Type 0} {answer : Answers J} {later : Laters J} {k m : Kernel} {w : State J} (l : Kernel) (names : List (List ℕ)) (room : Bool) (v : State J) → AllDistinct names → AreGone m names w.standings → FairFrom answer later (not w.listed) k w m w → Runs calls m (if_room answer later names w room) v l → FairFrom answer later (not w.listed) k w l v
-if_room_fair {m = m} {w = w} l names true v distinct gone h r = then_settling_all names m l (marked_listed (parted names w)) v distinct (parted_so_far names w) (parted_fresh names w) (then_listed (then_parted names gone h)) r
-if_room_fair l names false v distinct gone h r = then_unlisted l fault.Memory v h r
+if_room_fair : {J : Type 0} {answer : Answers J} {later : Laters J} {k m : Kernel} {w : State J} (l : Kernel) (names : List (List ℕ)) (room : Bool) (v : State J) → AllDistinct names → AreInOrder names → AreGone m names w.standings → FairFrom answer later (not w.listed) swept_before k w m w → Runs calls m (if_room answer later names w room) v l → FairFrom answer later (not w.listed) swept_before k w l v
+if_room_fair {m = m} {w = w} l names true v distinct order gone h r = then_settling_all names m l (marked_listed (parted names w)) v distinct order (parted_split names w) (parted_fresh names w) (then_listed (then_parted names gone h)) r
+if_room_fair l names false v distinct order gone h r = then_unlisted l fault.Memory v h r
 
-after_list_fair : {J : Type 0} (answer : Answers J) (later : Laters J) (w : State J) (k m l : Kernel) (a : Listing) (number count : ℕ) (v : State J) → Grows k m → says_listing a k m → FairFrom answer later (not w.listed) k w m w → Runs calls m (after_list answer later w a number count) v l → FairFrom answer later (not w.listed) k w l v
-after_list_fair answer later w k m l (listing.Names names) number count v g says h r = if_room_fair l (in_sweep_order names) r.0 v (order_distinct names says.1) (listing_gone k m names w.standings w.next g says h.stood) h r.1
+after_list_fair : {J : Type 0} (answer : Answers J) (later : Laters J) (w : State J) (k m l : Kernel) (a : Listing) (number count : ℕ) (v : State J) → Grows k m → says_listing a k m → FairFrom answer later (not w.listed) swept_before k w m w → Runs calls m (after_list answer later w a number count) v l → FairFrom answer later (not w.listed) swept_before k w l v
+after_list_fair answer later w k m l (listing.Names names) number count v g says h r = if_room_fair l (in_sweep_order names) r.0 v (order_distinct names says.1) (sweep_in_order names says.1) (listing_gone k m names w.standings w.next g says h.stood) h r.1
 after_list_fair answer later w k m l listing.Failed number count v g says h r = then_unlisted l (fault.Call number count) v h r
 after_list_fair answer later w k m l listing.Memory number count v g says h r = then_unlisted l fault.Memory v h r
 
-pub sweeping_fair : {J : Type 0} (answer : Answers J) (later : Laters J) (w : State J) (k l : Kernel) (v : State J) → IsKernel k → Stand k w.standings w.next → Runs calls k (sweeping answer later w) v l → IsFair answer later (not w.listed) k w l v
+pub sweeping_fair : {J : Type 0} (answer : Answers J) (later : Laters J) (w : State J) (k l : Kernel) (v : State J) → IsKernel k → Stand k w.standings w.next → Runs calls k (sweeping answer later w) v l → IsFair answer later (not w.listed) swept_before k w l v
 unfolding sweeping
 sweeping_fair answer later w k l v sound stand r =
-    let h = after_list_fair answer later w k r.1 l r.0.answer r.0.number r.0.count v (called_grows Names r.0 k r.1 r.2) r.2.says (then_called Names r.0 r.1 tt r.2 (fair_refl answer later (not w.listed) k w sound stand)) r.3 in
+    let h = after_list_fair answer later w k r.1 l r.0.answer r.0.number r.0.count v (called_grows Names r.0 k r.1 r.2) r.2.says (then_called Names r.0 r.1 tt r.2 (fair_refl answer later (not w.listed) swept_before k w sound stand)) r.3 in
     h.fair

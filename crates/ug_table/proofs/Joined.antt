@@ -13,7 +13,7 @@ use Rattle.ug_kernel.proofs.Quiet.{moves_quiet}
 use Rattle.ug_audit.specs.declared.entry.Entry.{Entry}
 use Rattle.ug_audit.specs.declared.entry.Entry.TheVariants as entry
 use Rattle.ug_table.specs.State.{State, Answers, Laters}
-use Rattle.ug_table.specs.Laws.{IsDevice, IsGone, IsProbed, Stand, HasVerdict, IsOne, Stands, HasStanding, IsJudged, gone_of, IsFair, AreLeft, wrote_entries, Account, Start, Note, Judge, Had, Had_not, Went, WasRemoved, IsRemoveMarked, IsFirst}
+use Rattle.ug_table.specs.Laws.{Tries, IsDevice, IsGone, IsProbed, Stand, HasVerdict, IsOne, Stands, HasStanding, IsJudged, gone_of, IsFair, AreLeft, wrote_entries, Account, Start, Note, Judge, Had, Had_not, Went, WasRemoved, IsRemoveMarked, IsFirst}
 use Rattle.ug_table.specs.declared.standing.Standing.{Standing}
 use Rattle.ug_types.proofs.Elements.{has_left, has_right, has_cases, distinct_append}
 use Rattle.ug_table.proofs.Values.{IsFileOf, file_same, file_later}
@@ -116,9 +116,9 @@ left_trans before middle ss es fs bound first wrote below after a b = record {
 low_later : (ss : List Standing) (next later : ℕ) → next ≤ later → AreLow ss next → AreLow ss later
 low_later ss next later le low s a = let below = low s a in omega (arith, below, le)
 
-had_number : {J : Type 0} (answer : Answers J) (later : Laters J) (present : Bool) (mid k : Kernel) (middle : List Standing) (log1 : List Effect) (judge1 : J) (next1 : ℕ) (gs : List Entry) (log : List Effect) (judge : J) (next number : ℕ) (name : List ℕ) (held : Held) (verdict : Target) → AreLow middle next1 → Account answer later present mid k middle log1 judge1 next1 gs log judge next → HasVerdict middle gs number name held verdict → ((t : Standing) × Has middle t × (t.number ≡ number)) ⊎ (next1 ≤ number)
-had_number answer later present mid k middle log1 judge1 next1 gs log judge next number name held verdict low a (inl h) = inl (h.0, h.1, h.2)
-had_number answer later present mid k middle log1 judge1 next1 gs log judge next number name held verdict low a (inr h) = inr ((account_says answer later present mid k middle log1 judge1 next1 gs log judge next low a).judged number name held verdict h.0 h.1).after
+had_number : {J : Type 0} (answer : Answers J) (later : Laters J) (present : Bool) (tried : Tries) (mid k : Kernel) (middle : List Standing) (log1 : List Effect) (judge1 : J) (next1 : ℕ) (gs : List Entry) (log : List Effect) (judge : J) (next number : ℕ) (name : List ℕ) (held : Held) (verdict : Target) → AreLow middle next1 → Account answer later present tried mid k middle log1 judge1 next1 gs log judge next → HasVerdict middle gs number name held verdict → ((t : Standing) × Has middle t × (t.number ≡ number)) ⊎ (next1 ≤ number)
+had_number answer later present tried mid k middle log1 judge1 next1 gs log judge next number name held verdict low a (inl h) = inl (h.0, h.1, h.2)
+had_number answer later present tried mid k middle log1 judge1 next1 gs log judge next number name held verdict low a (inr h) = inr ((account_says answer later present tried mid k middle log1 judge1 next1 gs log judge next low a).judged number name held verdict h.0 h.1).after
 
 -- no verdict is told
 abbrev pub NoJudged : List Entry → Type 0
@@ -127,40 +127,40 @@ NoJudged es = (number : ℕ) (name : List ℕ) (held : Held) (verdict : Target) 
 none_left : (es fs : List Entry) → NoJudged (es ++ fs) → NoJudged es
 none_left es fs none number name held verdict cause a = none number name held verdict cause (has_left es fs (entry.Judged number name held verdict cause) a)
 
-account_trans : {J : Type 0} (answer : Answers J) (later : Laters J) (present : Bool) (start mid k : Kernel) (before middle : List Standing) (log0 log1 : List Effect) (judge0 judge1 : J) (next0 next1 : ℕ) (es : List Entry) (log : List Effect) (judge : J) (next : ℕ) (fs : List Entry) → Grows start mid → AreLow before next0 → AreLow middle next1 → AreLeft before es middle → Account answer later present start k before log0 judge0 next0 es log1 judge1 next1 → Account answer later present mid k middle log1 judge1 next1 fs log judge next → NoJudged fs → Account answer later present start k before log0 judge0 next0 (es ++ fs) log judge next
-account_trans answer later present start mid k before middle log0 log1 judge0 judge1 next0 next1 es log judge next fs g low mlow left a Start none = subst (λ v. Account answer later present start k before log0 judge0 next0 v log1 judge1 next1) (sym (append-nil es)) a
-account_trans answer later present start mid k before middle log0 log1 judge0 judge1 next0 next1 es log judge next fs g low mlow left a (Note gs m j n e t h) none =
-    subst (λ v. Account answer later present start k before log0 judge0 next0 v m j n) (append_assoc es gs (e ∷ []))
-    (Note (es ++ gs) m j n e t (account_trans answer later present start mid k before middle log0 log1 judge0 judge1 next0 next1 es m j n gs g low mlow left a h (none_left gs _ none)))
-account_trans answer later present start mid k before middle log0 log1 judge0 judge1 next0 next1 es log judge next fs g low mlow left a (Judge gs m j n i name held judged on ss d b there so h) none =
+account_trans : {J : Type 0} (answer : Answers J) (later : Laters J) (present : Bool) (tried : Tries) (start mid k : Kernel) (before middle : List Standing) (log0 log1 : List Effect) (judge0 judge1 : J) (next0 next1 : ℕ) (es : List Entry) (log : List Effect) (judge : J) (next : ℕ) (fs : List Entry) → Grows start mid → AreLow before next0 → AreLow middle next1 → AreLeft before es middle → Account answer later present tried start k before log0 judge0 next0 es log1 judge1 next1 → Account answer later present tried mid k middle log1 judge1 next1 fs log judge next → NoJudged fs → Account answer later present tried start k before log0 judge0 next0 (es ++ fs) log judge next
+account_trans answer later present tried start mid k before middle log0 log1 judge0 judge1 next0 next1 es log judge next fs g low mlow left a Start none = subst (λ v. Account answer later present tried start k before log0 judge0 next0 v log1 judge1 next1) (sym (append-nil es)) a
+account_trans answer later present tried start mid k before middle log0 log1 judge0 judge1 next0 next1 es log judge next fs g low mlow left a (Note gs m j n e t h) none =
+    subst (λ v. Account answer later present tried start k before log0 judge0 next0 v m j n) (append_assoc es gs (e ∷ []))
+    (Note (es ++ gs) m j n e t (account_trans answer later present tried start mid k before middle log0 log1 judge0 judge1 next0 next1 es m j n gs g low mlow left a h (none_left gs _ none)))
+account_trans answer later present tried start mid k before middle log0 log1 judge0 judge1 next0 next1 es log judge next fs g low mlow left a (Judge gs m j n i name held judged on ss d b stands there so h) none =
     absurd (none n name held _ _ (has_right gs (_ ∷ []) _ (inl refl)))
-account_trans answer later present start mid k before middle log0 log1 judge0 judge1 next0 next1 es log judge next fs g low mlow left a (Had gs m j n i number name held judged verdict what outcome d v due first may h) none =
-    subst (λ x. Account answer later present start k before log0 judge0 next0 x (m ++ record { device = i; write = what } ∷ []) j n) (append_assoc es gs (wrote_entries number name what outcome))
+account_trans answer later present tried start mid k before middle log0 log1 judge0 judge1 next0 next1 es log judge next fs g low mlow left a (Had gs m j n i number name held judged verdict what outcome d v due first may h) none =
+    subst (λ x. Account answer later present tried start k before log0 judge0 next0 x (m ++ record { device = i; write = what } ∷ []) j n) (append_assoc es gs (wrote_entries number name what outcome))
     (Had (es ++ gs) m j n i number name held judged verdict what outcome d (verdict_before before middle es gs number name held verdict left.told v) due
     (first_on before middle es gs next1 number what
-    (low_later before next0 next1 (account_says answer later present start k before log0 judge0 next0 es log1 judge1 next1 low a).rises low)
-    (account_says answer later present start k before log0 judge0 next0 es log1 judge1 next1 low a).wrote left
-    (had_number answer later present mid k middle log1 judge1 next1 gs m j n number name held verdict mlow h v) first)
-    may (account_trans answer later present start mid k before middle log0 log1 judge0 judge1 next0 next1 es m j n gs g low mlow left a h (none_left gs _ none)))
-account_trans answer later present start mid k before middle log0 log1 judge0 judge1 next0 next1 es log judge next fs g low mlow left a (Had_not gs m j n i number name held judged verdict what outcome d v due first may h) none =
-    subst (λ x. Account answer later present start k before log0 judge0 next0 x m j n) (append_assoc es gs (wrote_entries number name what outcome))
+    (low_later before next0 next1 (account_says answer later present tried start k before log0 judge0 next0 es log1 judge1 next1 low a).rises low)
+    (account_says answer later present tried start k before log0 judge0 next0 es log1 judge1 next1 low a).wrote left
+    (had_number answer later present tried mid k middle log1 judge1 next1 gs m j n number name held verdict mlow h v) first)
+    may (account_trans answer later present tried start mid k before middle log0 log1 judge0 judge1 next0 next1 es m j n gs g low mlow left a h (none_left gs _ none)))
+account_trans answer later present tried start mid k before middle log0 log1 judge0 judge1 next0 next1 es log judge next fs g low mlow left a (Had_not gs m j n i number name held judged verdict what outcome d v due first may h) none =
+    subst (λ x. Account answer later present tried start k before log0 judge0 next0 x m j n) (append_assoc es gs (wrote_entries number name what outcome))
     (Had_not (es ++ gs) m j n i number name held judged verdict what outcome d (verdict_before before middle es gs number name held verdict left.told v) due
     (first_on before middle es gs next1 number what
-    (low_later before next0 next1 (account_says answer later present start k before log0 judge0 next0 es log1 judge1 next1 low a).rises low)
-    (account_says answer later present start k before log0 judge0 next0 es log1 judge1 next1 low a).wrote left
-    (had_number answer later present mid k middle log1 judge1 next1 gs m j n number name held verdict mlow h v) first)
-    may (account_trans answer later present start mid k before middle log0 log1 judge0 judge1 next0 next1 es m j n gs g low mlow left a h (none_left gs _ none)))
-account_trans answer later present start mid k before middle log0 log1 judge0 judge1 next0 next1 es log judge next fs g low mlow left a (Went gs m j n i number name held judged verdict d o v h) none =
-    subst (λ x. Account answer later present start k before log0 judge0 next0 x m j n) (append_assoc es gs (entry.Gone number name ∷ []))
-    (Went (es ++ gs) m j n i number name held judged verdict d o (verdict_before before middle es gs number name held verdict left.told v) (account_trans answer later present start mid k before middle log0 log1 judge0 judge1 next0 next1 es m j n gs g low mlow left a h (none_left gs _ none)))
+    (low_later before next0 next1 (account_says answer later present tried start k before log0 judge0 next0 es log1 judge1 next1 low a).rises low)
+    (account_says answer later present tried start k before log0 judge0 next0 es log1 judge1 next1 low a).wrote left
+    (had_number answer later present tried mid k middle log1 judge1 next1 gs m j n number name held verdict mlow h v) first)
+    may (account_trans answer later present tried start mid k before middle log0 log1 judge0 judge1 next0 next1 es m j n gs g low mlow left a h (none_left gs _ none)))
+account_trans answer later present tried start mid k before middle log0 log1 judge0 judge1 next0 next1 es log judge next fs g low mlow left a (Went gs m j n i number name held judged verdict d o v h) none =
+    subst (λ x. Account answer later present tried start k before log0 judge0 next0 x m j n) (append_assoc es gs (entry.Gone number name ∷ []))
+    (Went (es ++ gs) m j n i number name held judged verdict d o (verdict_before before middle es gs number name held verdict left.told v) (account_trans answer later present tried start mid k before middle log0 log1 judge0 judge1 next0 next1 es m j n gs g low mlow left a h (none_left gs _ none)))
 
 -- a fair part, with the standings that it began with
-pub record FairFrom {J : Type 0} (answer : Answers J) (later : Laters J) (present : Bool) (k : Kernel) (w : State J) (l : Kernel) (v : State J) : Type 0 where
+pub record FairFrom {J : Type 0} (answer : Answers J) (later : Laters J) (present : Bool) (tried : Tries) (k : Kernel) (w : State J) (l : Kernel) (v : State J) : Type 0 where
   pub stood : Stand k w.standings w.next
-  pub fair : IsFair answer later present k w l v
+  pub fair : IsFair answer later present tried k w l v
 
-says_of : {J : Type 0} {answer : Answers J} {later : Laters J} {present : Bool} {k l : Kernel} {w v : State J} (a : FairFrom answer later present k w l v) → Says k l w.standings w.next a.fair.rest v.next
-says_of {J} {answer} {later} {present} {k} {l} {w} {v} a = account_says answer later present k l w.standings k.log w.judge w.next a.fair.rest l.log v.judge v.next a.stood.numbers a.fair.account
+says_of : {J : Type 0} {answer : Answers J} {later : Laters J} {present : Bool} {tried : Tries} {k l : Kernel} {w v : State J} (a : FairFrom answer later present tried k w l v) → Says k l w.standings w.next a.fair.rest v.next
+says_of {J} {answer} {later} {present} {tried} {k} {l} {w} {v} a = account_says answer later present tried k l w.standings k.log w.judge w.next a.fair.rest l.log v.judge v.next a.stood.numbers a.fair.account
 
 device_is : (m l : Kernel) (j i : ℕ) (name : List ℕ) (held : Held) (judged : Judged) → Grows m l → IsDevice m j name held judged → IsFileOf l held.0 i → j ≡ i
 device_is m l j i name held judged g d f = file_same l held.0 j i (file_later m l held.0 j g d.file) f
@@ -176,14 +176,14 @@ probed_lives m l name held i on p gone =
     let was : true ≡ false = sym (x.2.gone gone.2) ∙ ap (λ (v : Device). v.gone) same ∙ p.lived.opened.live.here in
     let none : ⊥ = cc in none
 
-judged_lives : {J : Type 0} {answer : Answers J} {later : Laters J} {present : Bool} {m l : Kernel} {u v : State J} (b : FairFrom answer later present m u l v) (i n : ℕ) → IsJudged l b.fair.rest n i → IsGone m i → ⊥
+judged_lives : {J : Type 0} {answer : Answers J} {later : Laters J} {present : Bool} {tried : Tries} {m l : Kernel} {u v : State J} (b : FairFrom answer later present tried m u l v) (i n : ℕ) → IsJudged l b.fair.rest n i → IsGone m i → ⊥
 judged_lives {m = m} {l = l} b i n x gone =
     let j = (says_of b).judged n x.name x.held x.verdict x.cause x.has in
     let is : j.i ≡ i = file_same l x.held.0 j.i i j.device.file x.file in
     probed_lives m l x.name x.held.0 j.i j.on j.probed (subst (λ (y : ℕ). IsGone m y) (sym is) gone)
 
 -- a verdict of the part, or from before it, stands after it, or its number is told gone
-stands_or_gone : {J : Type 0} {answer : Answers J} {later : Laters J} {present : Bool} {k m : Kernel} {w u : State J} (a : FairFrom answer later present k w m u) (number : ℕ) (name : List ℕ) (held : Held) (verdict : Target) → HasVerdict w.standings a.fair.rest number name held verdict → ((s : Standing) × Has u.standings s × (s.held ≡ held)) ⊎ Has a.fair.rest (entry.Gone number name)
+stands_or_gone : {J : Type 0} {answer : Answers J} {later : Laters J} {present : Bool} {tried : Tries} {k m : Kernel} {w u : State J} (a : FairFrom answer later present tried k w m u) (number : ℕ) (name : List ℕ) (held : Held) (verdict : Target) → HasVerdict w.standings a.fair.rest number name held verdict → ((s : Standing) × Has u.standings s × (s.held ≡ held)) ⊎ Has a.fair.rest (entry.Gone number name)
 stands_or_gone a number name held verdict (inl h) = elim (a.fair.left.kept h.0 h.1) [
   | inl t ↦ inl (t.0, t.1, sym t.4 ∙ h.4)
   | inr g ↦ inr (gone_as a.fair.rest h.0.number number h.0.name name h.2 h.3 g)
@@ -194,7 +194,7 @@ stands_or_gone a number name held verdict (inr h) = elim (a.fair.left.judged num
 ]
 
 -- so its device has a standing, or is gone
-pub had_before : {J : Type 0} {answer : Answers J} {later : Laters J} {present : Bool} {k m : Kernel} {w u : State J} (a : FairFrom answer later present k w m u) (l : Kernel) (i number : ℕ) (name : List ℕ) (held : Held) (verdict : Target) → Grows m l → HasVerdict w.standings a.fair.rest number name held verdict → IsFileOf l held.0 i → HasStanding l u.standings i ⊎ IsGone m i
+pub had_before : {J : Type 0} {answer : Answers J} {later : Laters J} {present : Bool} {tried : Tries} {k m : Kernel} {w u : State J} (a : FairFrom answer later present tried k w m u) (l : Kernel) (i number : ℕ) (name : List ℕ) (held : Held) (verdict : Target) → Grows m l → HasVerdict w.standings a.fair.rest number name held verdict → IsFileOf l held.0 i → HasStanding l u.standings i ⊎ IsGone m i
 had_before {k = k} {m = m} {w = w} {u = u} a l i number name held verdict g v file = elim (stands_or_gone a number name held verdict v) [
   | inl t ↦ inl (record { s = t.0; has = t.1; file = subst (λ (x : Held). IsFileOf l x.0 i) (sym t.2) file })
   | inr e ↦
@@ -206,7 +206,7 @@ had_before {k = k} {m = m} {w = w} {u = u} a l i number name held verdict g v fi
 ]
 
 -- so it isn't judged later
-judged_before : {J : Type 0} {answer : Answers J} {later : Laters J} {present : Bool} {k m l : Kernel} {w u v : State J} (a : FairFrom answer later present k w m u) (b : FairFrom answer later present m u l v) (i number n : ℕ) (name : List ℕ) (held : Held) (verdict : Target) → HasVerdict w.standings a.fair.rest number name held verdict → IsFileOf l held.0 i → IsJudged l b.fair.rest n i → ⊥
+judged_before : {J : Type 0} {answer : Answers J} {later : Laters J} {present : Bool} {tried before_this : Tries} {k m l : Kernel} {w u v : State J} (a : FairFrom answer later present tried k w m u) (b : FairFrom answer later present before_this m u l v) (i number n : ℕ) (name : List ℕ) (held : Held) (verdict : Target) → HasVerdict w.standings a.fair.rest number name held verdict → IsFileOf l held.0 i → IsJudged l b.fair.rest n i → ⊥
 judged_before {l = l} a b i number n name held verdict v file x = elim (had_before a l i number name held verdict b.fair.grows v file) [
   | inl s ↦ b.fair.unjudged i n s x
   | inr gone ↦ judged_lives b i n x gone
@@ -218,7 +218,7 @@ judged_split l es fs n i x = elim (has_cases es fs (entry.Judged n x.name x.held
   | inr h ↦ inr (record { name = x.name; held = x.held; verdict = x.verdict; cause = x.cause; has = h; file = x.file })
 ]
 
-judged_back : {J : Type 0} {answer : Answers J} {later : Laters J} {present : Bool} {k m : Kernel} {w u : State J} (a : FairFrom answer later present k w m u) (l : Kernel) (n i : ℕ) → Grows m l → IsJudged l a.fair.rest n i → IsJudged m a.fair.rest n i
+judged_back : {J : Type 0} {answer : Answers J} {later : Laters J} {present : Bool} {tried : Tries} {k m : Kernel} {w u : State J} (a : FairFrom answer later present tried k w m u) (l : Kernel) (n i : ℕ) → Grows m l → IsJudged l a.fair.rest n i → IsJudged m a.fair.rest n i
 judged_back {m = m} a l n i g x =
     let j = (says_of a).judged n x.name x.held x.verdict x.cause x.has in
     let is : j.i ≡ i = device_is m l j.i i x.name x.held j.judged g j.device x.file in
@@ -230,18 +230,18 @@ standing_back k m l ss next i stand g j h =
     let is : x.0 ≡ i = device_is k l x.0 i h.s.name h.s.held h.s.judged (grows_trans k m l g j) x.1 h.file in
     record { s = h.s; has = h.has; file = subst (λ (y : ℕ). IsFileOf m h.s.held.0 y) is (file_later k m h.s.held.0 x.0 g x.1.file) }
 
-once_by : {J : Type 0} {answer : Answers J} {later : Laters J} {present : Bool} {k m l : Kernel} {w u v : State J} (a : FairFrom answer later present k w m u) (b : FairFrom answer later present m u l v) (i x y : ℕ) → IsJudged l a.fair.rest x i ⊎ IsJudged l b.fair.rest x i → IsJudged l a.fair.rest y i ⊎ IsJudged l b.fair.rest y i → x ≡ y
+once_by : {J : Type 0} {answer : Answers J} {later : Laters J} {present : Bool} {tried before_this : Tries} {k m l : Kernel} {w u v : State J} (a : FairFrom answer later present tried k w m u) (b : FairFrom answer later present before_this m u l v) (i x y : ℕ) → IsJudged l a.fair.rest x i ⊎ IsJudged l b.fair.rest x i → IsJudged l a.fair.rest y i ⊎ IsJudged l b.fair.rest y i → x ≡ y
 once_by {l = l} a b i x y (inl p) (inl q) = a.fair.once i x y (judged_back a l x i b.fair.grows p) (judged_back a l y i b.fair.grows q)
 once_by a b i x y (inl p) (inr q) = absurd (judged_before a b i x y p.name p.held p.verdict (inr (p.cause, p.has)) p.file q)
 once_by a b i x y (inr p) (inl q) = absurd (judged_before a b i y x q.name q.held q.verdict (inr (q.cause, q.has)) q.file p)
 once_by a b i x y (inr p) (inr q) = b.fair.once i x y p q
 
-unjudged_by : {J : Type 0} {answer : Answers J} {later : Laters J} {present : Bool} {k m l : Kernel} {w u v : State J} (a : FairFrom answer later present k w m u) (b : FairFrom answer later present m u l v) (i n : ℕ) → HasStanding l w.standings i → IsJudged l a.fair.rest n i ⊎ IsJudged l b.fair.rest n i → ⊥
+unjudged_by : {J : Type 0} {answer : Answers J} {later : Laters J} {present : Bool} {tried before_this : Tries} {k m l : Kernel} {w u v : State J} (a : FairFrom answer later present tried k w m u) (b : FairFrom answer later present before_this m u l v) (i n : ℕ) → HasStanding l w.standings i → IsJudged l a.fair.rest n i ⊎ IsJudged l b.fair.rest n i → ⊥
 unjudged_by {k = k} {m = m} {l = l} {w = w} a b i n h (inl p) = a.fair.unjudged i n (standing_back k m l w.standings w.next i a.stood a.fair.grows b.fair.grows h) (judged_back a l n i b.fair.grows p)
 unjudged_by a b i n h (inr p) = judged_before a b i h.s.number n h.s.name h.s.held h.s.verdict (inl (h.s, h.has, refl, refl, refl, refl)) h.file p
 
 -- a number that was told gone has no verdict later, so it isn't told so again
-gone_by : {J : Type 0} {answer : Answers J} {later : Laters J} {present : Bool} {k m l : Kernel} {w u v : State J} (a : FairFrom answer later present k w m u) (b : FairFrom answer later present m u l v) (number : ℕ) → Has (gone_of a.fair.rest) number → Has (gone_of b.fair.rest) number → ⊥
+gone_by : {J : Type 0} {answer : Answers J} {later : Laters J} {present : Bool} {tried before_this : Tries} {k m l : Kernel} {w u v : State J} (a : FairFrom answer later present tried k w m u) (b : FairFrom answer later present before_this m u l v) (number : ℕ) → Has (gone_of a.fair.rest) number → Has (gone_of b.fair.rest) number → ⊥
 gone_by a b number x y =
     let p = gone_has a.fair.rest number x in
     let q = gone_has b.fair.rest number y in
@@ -255,16 +255,16 @@ gone_by a b number x y =
     ]
 
 -- a small step, in which nothing is judged
-pub record StepFrom {J : Type 0} (answer : Answers J) (later : Laters J) (present : Bool) (k : Kernel) (w : State J) (l : Kernel) (v : State J) : Type 0 where
-  pub step : FairFrom answer later present k w l v
+pub record StepFrom {J : Type 0} (answer : Answers J) (later : Laters J) (present : Bool) (tried : Tries) (k : Kernel) (w : State J) (l : Kernel) (v : State J) : Type 0 where
+  pub step : FairFrom answer later present tried k w l v
   pub none : NoJudged step.fair.rest
 
 -- one part after another, with its account
-pub fair_by : {J : Type 0} {answer : Answers J} {later : Laters J} {present : Bool} {k m l : Kernel} {w u v : State J} (a : FairFrom answer later present k w m u) (b : FairFrom answer later present m u l v) → Account answer later present k l w.standings k.log w.judge w.next (a.fair.rest ++ b.fair.rest) l.log v.judge v.next → FairFrom answer later present k w l v
-fair_by {J} {answer} {later} {present} {k} {m} {l} {w} {u} {v} a b account =
+pub fair_by : {J : Type 0} {answer : Answers J} {later : Laters J} {present : Bool} {tried before_this : Tries} {k m l : Kernel} {w u v : State J} (a : FairFrom answer later present tried k w m u) (b : FairFrom answer later present before_this m u l v) → Account answer later present tried k l w.standings k.log w.judge w.next (a.fair.rest ++ b.fair.rest) l.log v.judge v.next → FairFrom answer later present tried k w l v
+fair_by {J} {answer} {later} {present} {tried} {before_this} {k} {m} {l} {w} {u} {v} a b account =
     let es = a.fair.rest in
     let fs = b.fair.rest in
-    let fair : IsFair answer later present k w l v = record {
+    let fair : IsFair answer later present tried k w l v = record {
       sound = b.fair.sound;
       grows = grows_trans k m l a.fair.grows b.fair.grows;
       rest = es ++ fs;
@@ -278,10 +278,10 @@ fair_by {J} {answer} {later} {present} {k} {m} {l} {w} {u} {v} a b account =
     } in
     record { stood = a.stood; fair = fair }
 
-pub fair_trans : {J : Type 0} {answer : Answers J} {later : Laters J} {present : Bool} {k m l : Kernel} {w u v : State J} → FairFrom answer later present k w m u → StepFrom answer later present m u l v → FairFrom answer later present k w l v
-fair_trans {J} {answer} {later} {present} {k} {m} {l} {w} {u} {v} a s =
+pub fair_trans : {J : Type 0} {answer : Answers J} {later : Laters J} {present : Bool} {tried : Tries} {k m l : Kernel} {w u v : State J} → FairFrom answer later present tried k w m u → StepFrom answer later present tried m u l v → FairFrom answer later present tried k w l v
+fair_trans {J} {answer} {later} {present} {tried} {k} {m} {l} {w} {u} {v} a s =
     let b = s.step in
     let es = a.fair.rest in
     let fs = b.fair.rest in
-    let account = account_stays answer later present k m l w.standings k.log w.judge w.next es m.log u.judge u.next b.fair.grows a.fair.account in
-    fair_by a b (account_trans answer later present k m l w.standings u.standings k.log m.log w.judge u.judge w.next u.next es l.log v.judge v.next fs a.fair.grows a.stood.numbers b.stood.numbers a.fair.left account b.fair.account s.none)
+    let account = account_stays answer later present tried k m l w.standings k.log w.judge w.next es m.log u.judge u.next b.fair.grows a.fair.account in
+    fair_by a b (account_trans answer later present tried k m l w.standings u.standings k.log m.log w.judge u.judge w.next u.next es l.log v.judge v.next fs a.fair.grows a.stood.numbers b.stood.numbers a.fair.left account b.fair.account s.none)

@@ -6,6 +6,7 @@ pub mod RemoveMarks
 pub mod Account
 pub mod Says
 pub mod Joined
+pub mod Orders
 pub mod Steps
 pub mod Written
 pub mod SoFar
@@ -17,14 +18,16 @@ pub mod Apart
 pub mod Own
 pub mod Again
 pub mod Lived
+pub mod Ways
+pub mod BindShapes
+pub mod Shapes
 pub mod Told
 pub mod Marks
 pub mod Spared
 pub mod Swept
-pub mod Walked
 pub mod OtherNames
-pub mod OnePart
 pub mod Within
+pub mod OnePart
 pub mod Parted
 pub mod Faults
 pub mod Once

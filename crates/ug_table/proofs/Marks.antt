@@ -110,7 +110,7 @@ resettling_all_parts (n ∷ names) w distinct =
 
 -- the order of a sweep has each name once
 
-place_has : (name : List ℕ) (names : List (List ℕ)) (x : List ℕ) → Has (in_place name names) x → (name ≡ x) ⊎ Has names x
+pub place_has : (name : List ℕ) (names : List (List ℕ)) (x : List ℕ) → Has (in_place name names) x → (name ≡ x) ⊎ Has names x
 place_has name [] x h = h
 place_has name (first ∷ names) x h =
     let rest = place_has name names x in
@@ -126,7 +126,7 @@ place_distinct name (first ∷ names) none d =
     let apart : Has (in_place name names) first → ⊥ = λ a. elim (place_has name names first a) [ inl e ↦ none (inl (sym e)) | inr b ↦ d.0 b ] in
     elim (is_gt (sweep_cmp name first)) as (λ (b : Bool). AllDistinct (cond b (first ∷ in_place name names) (name ∷ first ∷ names))) [ true ↦ (apart, rest) | false ↦ (none, d) ]
 
-order_has : (names : List (List ℕ)) (x : List ℕ) → Has (in_sweep_order names) x → Has names x
+pub order_has : (names : List (List ℕ)) (x : List ℕ) → Has (in_sweep_order names) x → Has names x
 order_has [] x h = h
 order_has (name ∷ names) x h = elim (place_has name (in_sweep_order names) x h) [ inl e ↦ inl e | inr a ↦ inr (order_has names x a) ]
 

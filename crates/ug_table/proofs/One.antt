@@ -19,7 +19,7 @@ use Rattle.ug_table.specs.State.{State, Kept, kept_of, with_kept, Answers, Later
 use Rattle.ug_table.specs.Standings.{numbered}
 use Rattle.ug_table.specs.Settle.{settling, resettling}
 use Rattle.ug_table.specs.Sweep.{names_of}
-use Rattle.ug_table.specs.Laws.{Stand, IsGone, IsNamed, HasStanding, IsAsJudged, AreMarkedSoFar}
+use Rattle.ug_table.specs.Laws.{Tries, none_before, Stand, IsGone, IsNamed, HasStanding, IsAsJudged}
 use Rattle.ug_table.specs.Parts.{told_by, failure_in, failures_told, IsLast, EndsUnsettled}
 use Rattle.ug_table.specs.One.{failed_of, again_numbered, resettling_numbered, why_in, whys, why_of, GoesAsPart, LivedAs, SettledOne, SettlesOne, IsOf, ResettledOne, ResettlesOne, NeedsRoom}
 use Rattle.ug_table.specs.declared.standing.Standing.{Standing}
@@ -29,7 +29,7 @@ use Rattle.ug_types.proofs.Elements.{cancel, has_map}
 use Rattle.ug_table.proofs.Values.{IsFileOf, file_same, file_later, LiveAs, IsOpen, open_later, open_named}
 use Rattle.ug_table.proofs.Joined.{FairFrom, had_before}
 use Rattle.ug_table.proofs.Steps.{fair_refl}
-use Rattle.ug_table.proofs.SoFar.{AreSoFar, so_far_first}
+use Rattle.ug_table.proofs.SoFar.{AreIn}
 use Rattle.ug_table.proofs.Fair.{then_settling, then_resettling}
 use Rattle.ug_table.proofs.Own.{settling_own}
 use Rattle.ug_table.proofs.Again.{resettling_own}
@@ -113,8 +113,8 @@ told_why (x ∷ es) name why e (inr a) = told_why es name why (right_none (why_i
 none_named : (es : List Entry) (name : List ℕ) → whys es ≡ [] → IsNamed es name → ⊥
 none_named es name e a = told_why es name a.0 e a.1
 
-first_so_far : {J : Type 0} (w : State J) → AreSoFar w w
-first_so_far w rest e = subst (λ (v : List Entry). AreMarkedSoFar w.standings v w.standings) (cancel w.entries [] rest (append-nil w.entries ∙ e)) (so_far_first w.standings)
+first_in : {J : Type 0} (w : State J) (name : List ℕ) → AreIn none_before name w w
+first_in w name rest e s a = inr (refl, a)
 
 -- the standing of a live device of that name bears the name
 standing_named : (l : Kernel) (ss : List Standing) (next i : ℕ) (name : List ℕ) → Stand l ss next → LiveAs l i name → HasStanding l ss i → Has (names_of ss) name
@@ -123,7 +123,7 @@ standing_named l ss next i name stand live h =
 
 settling_one : {J : Type 0} (answer : Answers J) (later : Laters J) (name : List ℕ) (present : Bool) (w : State J) (k l : Kernel) (p : Settled × State J) → IsKernel k → Stand k w.standings w.next → Runs calls k (settling answer later name present w) p l → SettledOne answer later present name k w l p.1 p.0
 settling_one {J} answer later name present w k l p sound stand r =
-    let a = then_settling l name p (first_so_far w) (fair_refl answer later present k w sound stand) r in
+    let a = then_settling l name p (first_in w name) (fair_refl answer later present none_before k w sound stand) r in
     let h = ends_run calls (λ (q : Settled × State J). Answered name w.entries q.0 q.1.standings q.1.entries) (settling answer later name present w) k p l (settling_answered answer later name present w) r in
     let last : (i : ℕ) → LivedAs k l name i → LiveAs l i name = λ i x. subst (λ (v : List ℕ). LiveAs l i v) x.2 (lives_last k l i x.0 a.fair.grows x.1) in
     let ended : (i : ℕ) → LivedAs k l name i → IsAsJudged l p.1.standings i ⊎ IsNamed a.fair.rest name = λ i x.
@@ -187,14 +187,14 @@ no_later judge dev controller present on ss = tt
 resettling_one : (w : State (Unit {0})) (k l : Kernel) (p : Settled × Kept) (x : Standing) → IsKernel k → Stand k w.standings w.next → Has w.standings x → Runs calls k (resettling x.name (kept_of w.standings w.entries)) p l → ResettledOne x k w l (with_kept w p.1) p.0
 resettling_one w k l p x sound stand has r =
     let kept = kept_of w.standings w.entries in
-    let fair : (answer : Answers (Unit {0})) (later : Laters (Unit {0})) (present : Bool) → FairFrom answer later present k w l (with_kept w p.1) = λ answer later present. then_resettling w l x.name kept p (fair_refl answer later present k w sound stand) r in
-    let a = fair no_verdict no_later false in
+    let fair : (answer : Answers (Unit {0})) (later : Laters (Unit {0})) (present : Bool) (tried : Tries) → FairFrom answer later present tried k w l (with_kept w p.1) = λ answer later present tried. then_resettling w l x.name kept p (fair_refl answer later present tried k w sound stand) r in
+    let a = fair no_verdict no_later false none_before in
     let g = a.fair.grows in
     let files = stand_files k w.standings w.next stand in
     let h = ends_run calls (AnsweredAgain x.name kept) (resettling x.name kept) k p l (resettling_answered x.name kept) r in
     let stood : (i : ℕ) → IsOf k x i → HasStanding l p.1.standings i ⊎ IsGone l i = λ i file. had_before a l i x.number x.name x.held x.verdict (grows_refl l) (inl (x, has, refl, refl, refl, refl)) (file_later k l x.held.0 i g file) in
     record {
-      fair = λ answer later present. (fair answer later present).fair;
+      fair = λ answer later present tried. (fair answer later present tried).fair;
       ended = λ i d file lives.
           let named : x.name ≡ d.name = open_named k x.name d.name x.held.0 i (files x has) file (lives_first k l i d lives) in
           let first = subst (λ (v : List ℕ). LiveAs k i v) (sym named) (lives_first k l i d lives) in

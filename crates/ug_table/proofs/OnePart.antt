@@ -1,137 +1,245 @@
--- One name's part of a sweep, from its trees.
-use Rattle.std.proofs.Common.{◌≡◌, ℕ, ◌+◌, Bool, true, false, map, is_none, List, [], ◌∷◌, ◌++◌, Option, Some, None, ◌⊎◌, inl, inr, refl, sym, ◌∙◌, subst, append_assoc, append-nil}
+-- One name's part of a sweep, from its shapes.
+use Rattle.std.proofs.Common.{◌≡◌, ℕ, Bool, true, false, List, [], ◌∷◌, ◌++◌, Option, Some, None, ◌⊎◌, inl, inr, refl, sym, ◌∙◌, ap, subst, append_assoc, append-nil}
+use Rattle.std.specs.Prelude.{if◌then◌else◌}
 use Rattle.ug_types.specs.Elements.{Has}
 use Rattle.ug_types.specs.Names.{parent_of}
-use Rattle.ug_types.specs.declared.record.Judged.{Judged}
+use Rattle.ug_types.specs.declared.verdict.Held.{Held}
 use Rattle.ug_types.specs.declared.verdict.Target.{Target}
 use Rattle.ug_types.specs.declared.verdict.Target.TheVariants as target
-use Rattle.ug_types.specs.declared.verdict.Cause.{Cause}
-use Rattle.ug_kernel.specs.declared.calls.Probe.{Probe}
-use Rattle.ug_kernel.specs.declared.calls.Probe.TheVariants as probe
-use Rattle.ug_kernel.specs.declared.calls.Write.{Write}
-use Rattle.ug_kernel.specs.declared.calls.Wrote.{Wrote}
-use Rattle.ug_kernel.specs.declared.calls.Wrote.TheVariants as wrote
-use Rattle.ug_types.specs.declared.verdict.Held.{Held}
+use Rattle.ug_kernel.specs.declared.calls.Control.TheVariants.{Authorized, Remove}
+use Rattle.ug_kernel.specs.declared.calls.Attr.{Attr}
 use Rattle.ug_kernel.specs.declared.calls.Opened.{Opened}
 use Rattle.ug_kernel.specs.declared.calls.Opened.TheVariants as opened
-use Rattle.ug_kernel.specs.declared.calls.Control.TheVariants.{Authorized, Remove}
+use Rattle.ug_kernel.specs.declared.calls.Probe.{Probe}
+use Rattle.ug_kernel.specs.declared.calls.Probe.TheVariants as probe
+use Rattle.ug_kernel.specs.declared.calls.ReadOut.{ReadOut}
+use Rattle.ug_kernel.specs.declared.calls.ReadOut.TheVariants as out
+use Rattle.ug_kernel.specs.declared.calls.Write.{Write}
 use Rattle.ug_kernel.specs.declared.calls.Write.TheVariants as write
-use Rattle.ug_kernel.specs.Calls.{Open, Ask_alive, Put, Close, Closing, Told}
-use Rattle.ug_node.specs.Removal.{after_remove_probe, after_remove_open, holding_remove}
-use Rattle.ug_itree.specs.Tree.{Prog, then}
-use Rattle.ug_itree.specs.Along.{Made, answered}
-use Rattle.ug_itree.proofs.Walks.{walks_then, walks_more}
-use Rattle.ug_record.specs.Records.{judged_of}
-use Rattle.ug_node.specs.Bind.{binding}
+use Rattle.ug_kernel.specs.declared.calls.Wrote.{Wrote}
+use Rattle.ug_kernel.specs.Calls.{Open, Read, Ask_alive, Put, Close, Closing, Told, failed_read}
+use Rattle.ug_itree.specs.Along.{Made, answered, Failure, failure_if, failure, failures}
+use Rattle.ug_node.specs.Bind.{binding, binding_of}
+use Rattle.ug_node.specs.Removal.{holding_remove}
+use Rattle.ug_node.specs.declared.files.Stop.{Stop}
+use Rattle.ug_node.specs.declared.files.Stop.TheVariants as stop
 use Rattle.ug_node.specs.declared.identity.Bound.{Bound}
 use Rattle.ug_node.specs.declared.identity.Binding.{Binding}
 use Rattle.ug_node.specs.declared.identity.Binding.TheVariants as bound
+use Rattle.ug_node.specs.declared.removal.RemoveHold.{RemoveHold}
+use Rattle.ug_node.specs.declared.removal.RemoveHold.TheVariants as hold
 use Rattle.ug_audit.specs.declared.entry.Entry.{Entry}
 use Rattle.ug_audit.specs.declared.entry.Entry.TheVariants as entry
-use Rattle.ug_audit.specs.declared.entry.Fault.{Fault}
 use Rattle.ug_audit.specs.declared.entry.Fault.TheVariants as fault
-use Rattle.ug_table.specs.State.{State, Kept, Answers, Laters}
-use Rattle.ug_table.specs.Standings.{standing_of, without}
-use Rattle.ug_table.specs.Bring.{wants, write_of, after_write, to_write, to_value, valuing, to_remove, after_hold, removing, is_to_go, if_to_go, after_value, bringing}
-use Rattle.ug_table.specs.Settle.{to_keep, no_room, standing_for, known_in, judged_entry, judging, if_place, if_record, admitting, after_bind, entering, to_mark, dropped, after_known, from_standing, settling, to_keep_mark, after_again, again, resettling}
+use Rattle.ug_table.specs.Standings.{standing_of}
+use Rattle.ug_table.specs.Bring.{wants, write_of, is_to_go}
 use Rattle.ug_table.specs.Laws.{wrote_entries}
-use Rattle.ug_table.specs.Parts.{OpenFile, open_file, control_of, Behind, IsWriteDue, PutMade, AtMostOneEach, failures_told, EndsUnsettled, TellsWrites, writes_in, FoundGone, known_files}
+use Rattle.ug_table.specs.Parts.{OpenFile, open_file, opened_files, AreAbout, EndsAtFailure, Behind, behind_more, FoundAlive, OpenedRemove, IsWriteDue, AreDue, PutMade, put_of, puts_of, AtMostOneEach, failure_in, failures_told, write_in, writes_in, TellsWrites, EndsUnsettled, IsBoundAnew, LacksRoom, control_of, known_files, AllBear, Part}
 use Rattle.ug_table.specs.declared.standing.Standing.{Standing}
 use Rattle.ug_table.specs.declared.standing.Known.{Known}
 use Rattle.ug_table.specs.declared.standing.Settled.{Settled}
 use Rattle.ug_table.specs.declared.standing.Settled.TheVariants as settled
+use Rattle.ug_types.proofs.Elements.{has_cases, has_right}
+use Rattle.ug_table.proofs.Ways.{Way, ways_of}
+use Rattle.ug_table.proofs.BindShapes.{told, Came, Reads, No_more, Then_read, Stops, No_descriptors, Read_failed, Read_short, Binds_by, No_such, Open_failed, Open_short, Cut, Probed_gone, Probe_failed, Bound_by, binds_by, Holds_by, Not_there, Not_opened, No_memory, Held_on, Died, Unasked, holds_by}
+use Rattle.ug_table.proofs.Shapes.{Written, Done, Went, Broke, Valued, Same, Set, Unheld, Gone_by, Failed_by, Short_by, Removal, Not_held, Put_on, Brought, By_value, And_removal, Opening, Fresh, Lost, Unbound_end, Absent_so, Vanished_so, Failed_so, Short_so, Flat, Unprobed, Tried, Stopped, Unbound, No_place, Judged_so}
+use Rattle.ug_table.proofs.Told.{Each, NamesNone}
 use Rattle.ug_table.proofs.OtherNames.{OthersStand, others_stand, without_stand, kept_stand, tried_stand}
-use Rattle.ug_table.proofs.Walked.{Seen, seen_of, see, May, Goes, binding_failures, IsUnbound, BeginsWith, binding_goes}
+use Rattle.ug_table.proofs.Within.{flat_few}
 
--- no want of memory is told
-abbrev IsCall : Fault → Type 0
-IsCall (fault.Call call count) = Unit {0}
-IsCall fault.Memory = ⊥
+-- of lists joined
 
-abbrev IsNoWant : Entry → Type 0
-IsNoWant (entry.Unsettled name why) = IsCall why
-IsNoWant e = Unit {0}
+failures_more : (ms ns : List Made) → failures (ms ++ ns) ≡ failures ms ++ failures ns
+failures_more [] ns = refl
+failures_more (m ∷ ms) ns = ap (λ (v : List Failure). failure m.call m.answer ++ v) (failures_more ms ns) ∙ sym (append_assoc (failure m.call m.answer) (failures ms) (failures ns))
 
-abbrev NoWants : List Entry → Type 0
-NoWants [] = Unit {0}
-NoWants (e ∷ es) = IsNoWant e × NoWants es
+told_more : (es fs : List Entry) → failures_told (es ++ fs) ≡ failures_told es ++ failures_told fs
+told_more [] fs = refl
+told_more (e ∷ es) fs = ap (λ (v : List Failure). failure_in e ++ v) (told_more es fs) ∙ sym (append_assoc (failure_in e) (failures_told es) (failures_told fs))
 
-no_want : (name : List ℕ) (es : List Entry) → NoWants es → Has es (entry.Unsettled name fault.Memory) → ⊥
-no_want name [] n h = h
-no_want name (e ∷ es) n (inl h) = subst (λ v. IsNoWant v) h n.0
-no_want name (e ∷ es) n (inr h) = no_want name es n.1 h
+puts_more : (ms ns : List Made) → puts_of (ms ++ ns) ≡ puts_of ms ++ puts_of ns
+puts_more [] ns = refl
+puts_more (m ∷ ms) ns = ap (λ (v : List PutMade). put_of m.call m.answer ++ v) (puts_more ms ns) ∙ sym (append_assoc (put_of m.call m.answer) (puts_of ms) (puts_of ns))
 
--- these entries tell what was seen; want of memory is told only where the first call, and whether an opening was short of it, have F
-pub record Tells (name : List ℕ) (F : Option Made → Bool → Type 0) (q : Seen) (es : List Entry) : Type 0 where
-  pub told : failures_told es ≡ q.failures
-  pub last : EndsUnsettled name es
-  pub single : AtMostOneEach q.puts
-  pub writes : TellsWrites name q.puts (writes_in es)
-  pub memory : Has es (entry.Unsettled name fault.Memory) → F q.first q.short
+writes_more : (es fs : List Entry) → writes_in (es ++ fs) ≡ writes_in es ++ writes_in fs
+writes_more [] fs = refl
+writes_more (e ∷ es) fs = ap (λ (v : List Entry). write_in e ++ v) (writes_more es fs) ∙ sym (append_assoc (write_in e) (writes_in es) (writes_in fs))
 
--- a device was to be removed, and there was no memory for it
-abbrev IsShort : Bool → Option Made → Bool → Type 0
-IsShort go first short = (go ≡ true) × (short ≡ true)
+abbrev files_after : List OpenFile → List Made → List OpenFile
+files_after files [] = files
+files_after files (m ∷ ms) = files_after (opened_files m.call m.answer ++ files) ms
 
--- from standings and entries to others
-pub record Leaves (name : List ℕ) (F : Option Made → Bool → Type 0) (ss : List Standing) (es : List Entry) (q : Seen) (rs : List Standing) (fs : List Entry) : Type 0 where
-  pub rest : List Entry
-  pub entries : fs ≡ es ++ rest
-  pub tells : Tells name F q rest
-  pub others : OthersStand name ss rs
+abbrev behind_after : Behind → List Made → Behind
+behind_after b [] = b
+behind_after b (m ∷ ms) = behind_after (behind_more b m) ms
 
-abbrev Brings : List ℕ → Bool → Made → List Entry → (Seen → Settled × List Entry → Type 0) → Type 0
-Brings name go first entries P = (q : Seen) (how : Settled) (rest : List Entry) → q.first ≡ Some first → Tells name (IsShort go) q rest → P q (how, entries ++ rest)
+files_stay : (files : List OpenFile) (ms : List Made) (x : OpenFile) → Has files x → Has (files_after files ms) x
+files_stay files [] x h = h
+files_stay files (m ∷ ms) x h = files_stay (opened_files m.call m.answer ++ files) ms x (has_right (opened_files m.call m.answer) files x h)
 
--- behind an entry that begins the part
-behind : (a : List Entry) (e : Entry) (b : List Entry) → (a ++ e ∷ []) ++ b ≡ a ++ e ∷ b
-behind a e b = append_assoc a (e ∷ []) b
+files_join : (files : List OpenFile) (ms ns : List Made) → files_after files (ms ++ ns) ≡ files_after (files_after files ms) ns
+files_join files [] ns = refl
+files_join files (m ∷ ms) ns = files_join (opened_files m.call m.answer ++ files) ms ns
 
--- the value is as wanted, with the entries of a write or of none
-pub data Valued (name : List ℕ) : List PutMade → List Entry → Type 0 where
-  Same : Valued name [] []
-  Set : (number : ℕ) (what : Write) → (what ≡ write.Remove → ⊥) → Valued name (record { write = what; outcome = wrote.Done } ∷ []) (wrote_entries number name what wrote.Done)
+behind_join : (b : Behind) (ms ns : List Made) → behind_after b (ms ++ ns) ≡ behind_after (behind_after b ms) ns
+behind_join b [] ns = refl
+behind_join b (m ∷ ms) ns = behind_join (behind_more b m) ms ns
 
--- where the value is as wanted, and where it isn't
-abbrev IfValued : List ℕ → Made → List OpenFile → List Entry → (Seen → Settled × List Entry → Type 0) → Type 0
-IfValued name first files entries P = (b : Behind) (ps : List PutMade) (rest : List Entry) → Valued name ps rest → P (seen_of (Some first) b files [] ps) (settled.Stands, entries ++ rest)
+-- calls that keep to the rules of a part of the name, where these files are open and those calls stand before them
+record Keeps (name : List ℕ) (files : List OpenFile) (b : Behind) (ms : List Made) : Type 0 where
+  about : AreAbout name files ms
+  ends : EndsAtFailure [] ms
+  due : AreDue b ms
 
-abbrev IfNotValued : List ℕ → Bool → Made → List Entry → (Seen → Settled × List Entry → Type 0) → Type 0
-IfNotValued name go first entries P = (q : Seen) (how : Settled) (rest : List Entry) → (how ≡ settled.Stands → ⊥) → q.first ≡ Some first → Tells name (IsShort go) q rest → P q (how, entries ++ rest)
+about_more : (name : List ℕ) (files : List OpenFile) (ms ns : List Made) → AreAbout name files ms → AreAbout name (files_after files ms) ns → AreAbout name files (ms ++ ns)
+about_more name files [] ns a b = b
+about_more name files (m ∷ ms) ns a b = (a.0, about_more name (opened_files m.call m.answer ++ files) ms ns a.1 b)
 
-after_write_goes : (name : List ℕ) (go : Bool) (number held : ℕ) (what : Write) (entries : List Entry) (first : Made) (last : Behind) (files : List OpenFile) (P : Seen → Settled × List Entry → Type 0) (r : Wrote) (call count : ℕ) → (what ≡ write.Remove → ⊥) → IfValued name first files entries P → IfNotValued name go first entries P → Goes name (see (seen_of (Some first) last files [] []) (Put held what) (record { answer = r; number = call; count = count })) (after_write name number what (entries ++ entry.Intent number name what ∷ []) r call count) P
-after_write_goes name go number held what entries first last files P wrote.Done call count ne k e =
-    let i : Entry = entry.Intent number name what in
-    let o : Entry = entry.Wrote number name what wrote.Done in
-    let q : Seen = see (seen_of (Some first) last files [] []) (Put held what) (record { answer = wrote.Done; number = call; count = count }) in
-    subst (λ (v : List Entry). P q (settled.Stands, v)) (sym (behind entries i (o ∷ [])))
-    (k q.behind q.puts (i ∷ o ∷ []) (Set number what ne))
-after_write_goes name go number held what entries first last files P wrote.Gone call count ne k e =
-    let i : Entry = entry.Intent number name what in
-    let o : Entry = entry.Wrote number name what wrote.Gone in
-    let g : Entry = entry.Gone number name in
-    let q : Seen = see (seen_of (Some first) last files [] []) (Put held what) (record { answer = wrote.Gone; number = call; count = count }) in
-    let es : List Entry = i ∷ o ∷ g ∷ [] in
-    subst (λ (v : List Entry). P q (settled.Nobody, v)) (sym (behind (entries ++ i ∷ []) o (g ∷ []) ∙ behind entries i (o ∷ g ∷ [])))
-    (e q settled.Nobody es (λ s. let none : ⊥ = cc in none) refl (record { told = refl; last = (tt, (tt, (tt, tt))); single = (λ h. h, tt); writes = (number, [], refl, refl); memory = λ h. absurd (no_want name es (tt, (tt, (tt, tt))) h) }))
-after_write_goes name go number held what entries first last files P wrote.Failed call count ne k e =
-    let i : Entry = entry.Intent number name what in
-    let o : Entry = entry.Wrote number name what wrote.Failed in
-    let g : Entry = entry.Unsettled name (fault.Call call count) in
-    let q : Seen = see (seen_of (Some first) last files [] []) (Put held what) (record { answer = wrote.Failed; number = call; count = count }) in
-    let es : List Entry = i ∷ o ∷ g ∷ [] in
-    subst (λ (v : List Entry). P q (settled.Fault call count, v)) (sym (behind (entries ++ i ∷ []) o (g ∷ []) ∙ behind entries i (o ∷ g ∷ [])))
-    (e q (settled.Fault call count) es (λ s. let none : ⊥ = cc in none) refl (record { told = refl; last = (tt, (tt, ((refl, refl), tt))); single = (λ h. h, tt); writes = (number, [], refl, refl); memory = λ h. absurd (no_want name es (tt, (tt, (tt, tt))) h) }))
+ends_more : (before : List Failure) (ms ns : List Made) → EndsAtFailure before ms → EndsAtFailure (before ++ failures ms) ns → EndsAtFailure before (ms ++ ns)
+ends_more before [] ns a b = subst (λ v. EndsAtFailure v ns) (append-nil before) b
+ends_more before (m ∷ ms) ns a b = (a.0, ends_more (before ++ failure m.call m.answer) ms ns a.1 (subst (λ v. EndsAtFailure v ns) (sym (append_assoc before (failure m.call m.answer) (failures ms))) b))
 
--- a write that is due
+due_more : (b : Behind) (ms ns : List Made) → AreDue b ms → AreDue (behind_after b ms) ns → AreDue b (ms ++ ns)
+due_more b [] ns a c = c
+due_more b (m ∷ ms) ns a c = (a.0, due_more (behind_more b m) ms ns a.1 c)
 
-value_due : (verdict : Target) (on : Bool) (held : ℕ) (t : Told Probe) (e : Option Made) → t.answer ≡ probe.Alive on → (wants verdict ≡ on → ⊥) → IsWriteDue (record { last = Some (answered (Ask_alive held) t); earlier = e }) held (write_of verdict)
-value_due target.Allow true held t e alive ne = absurd (ne refl)
-value_due target.Allow false held t e alive ne = (t, refl, alive)
-value_due target.Block true held t e alive ne = (t, refl, alive)
-value_due target.Block false held t e alive ne = absurd (ne refl)
-value_due target.Reject true held t e alive ne = (t, refl, alive)
-value_due target.Reject false held t e alive ne = absurd (ne refl)
+keeps_more : (name : List ℕ) (files : List OpenFile) (b : Behind) (ms ns : List Made) → Keeps name files b ms → failures ms ≡ [] → Keeps name (files_after files ms) (behind_after b ms) ns → Keeps name files b (ms ++ ns)
+keeps_more name files b ms ns h f k = record { about = about_more name files ms ns h.about k.about; ends = ends_more [] ms ns h.ends (subst (λ v. EndsAtFailure v ns) (sym f) k.ends); due = due_more b ms ns h.due k.due }
+
+-- a binding
+
+-- calls without failures or writes
+abbrev IsCalm : List Made → Type 0
+IsCalm ms = (failures ms ≡ []) × (puts_of ms ≡ [])
+
+came_well : (r : ReadOut) → Came r → failed_read r ≡ false
+came_well (out.Bytes bytes) c = refl
+came_well out.Absent c = refl
+came_well out.TooLong c = refl
+came_well out.Failed c = absurd c
+came_well out.Memory c = absurd c
+
+reads_keep : {name : List ℕ} {ms : List Made} (files : List OpenFile) (b : Behind) → Reads name ms → Keeps name files b ms × IsCalm ms
+reads_keep files b No_more = (record { about = tt; ends = tt; due = tt }, (refl, refl))
+reads_keep files b (Then_read of at t ms may came r) =
+    let h = reads_keep files (behind_more b (answered (Read of at) t)) r in
+    let none : failure_if failed_read t ≡ [] = ap (λ (v : Bool). let f : Failure = record { call = t.number; count = t.count } in if v then f ∷ [] else []) (came_well t.answer came) in
+    (record { about = (may, h.0.about); ends = (inl refl, subst (λ v. EndsAtFailure v ms) (sym none) h.0.ends); due = (tt, h.0.due) }, (ap (λ v. v ++ failures ms) none ∙ h.1.0, h.1.1))
+
+abbrev binding_failures : Binding → List Failure
+binding_failures (bound.Failed call count) = record { call = call; count = count } ∷ []
+binding_failures (bound.Bound b) = []
+binding_failures bound.Absent = []
+binding_failures bound.Vanished = []
+binding_failures bound.Memory = []
+
+stop_failures : {at : Attr} {t : Told ReadOut} {why : Stop} (of : List ℕ) (file : ℕ) (shut : Closing) → Stops at t why → failures (answered (Read of at) t ∷ answered (Close file) shut ∷ []) ≡ binding_failures (binding_of why)
+stop_failures of file shut (No_descriptors call count) = refl
+stop_failures of file shut (Read_failed at call count) = refl
+stop_failures of file shut (Read_short at call count) = refl
+
+-- an opening, readings, and an end
+open_keeps : {name : List ℕ} {ms : List Made} (files : List OpenFile) (b : Behind) (file : Held) (call count : ℕ) (ns : List Made) → Reads name ms → ((fs : List OpenFile) (c : Behind) → Has fs (open_file file.0 Authorized) → Keeps name fs c ns) → let all = answered (Open name Authorized) (told (opened.Token file) call count) ∷ (ms ++ ns) in Keeps name files b all × ((failures all ≡ failures ns) × (puts_of all ≡ puts_of ns))
+open_keeps {name} {ms} files b file call count ns r k =
+    let start : Made = answered (Open name Authorized) (told (opened.Token file) call count) in
+    let own : List OpenFile = open_file file.0 Authorized ∷ files in
+    let h = reads_keep own (behind_more b start) r in
+    let rest = keeps_more name own (behind_more b start) ms ns h.0 h.1.0 (k (files_after own ms) (behind_after (behind_more b start) ms) (files_stay own ms (open_file file.0 Authorized) (inl refl))) in
+    (record { about = (refl, rest.about); ends = (inl refl, rest.ends); due = (tt, rest.due) }, (failures_more ms ns ∙ ap (λ v. v ++ failures ns) h.1.0, puts_more ms ns ∙ ap (λ v. v ++ puts_of ns) h.1.1))
+
+binds_keep : {name : List ℕ} {ms : List Made} {r : Binding} (files : List OpenFile) (b : Behind) → Binds_by name ms r → Keeps name files b ms × ((failures ms ≡ binding_failures r) × (puts_of ms ≡ []))
+binds_keep files b (No_such call count) = (record { about = (refl, tt); ends = (inl refl, tt); due = (tt, tt) }, (refl, refl))
+binds_keep files b (Open_failed call count) = (record { about = (refl, tt); ends = (inl refl, tt); due = (tt, tt) }, (refl, refl))
+binds_keep files b (Open_short call count) = (record { about = (refl, tt); ends = (inl refl, tt); due = (tt, tt) }, (refl, refl))
+binds_keep files b (Cut file call count ms of at t shut why r a few may stops e) =
+    let h = open_keeps files b file call count (answered (Read of at) t ∷ answered (Close file.0) shut ∷ []) a (λ fs c has. record { about = (may, ((Authorized, has), tt)); ends = (inl refl, (inr tt, tt)); due = (tt, (tt, tt)) }) in
+    (h.0, (h.1.0 ∙ stop_failures of file.0 shut stops ∙ ap binding_failures (sym e), h.1.1))
+binds_keep files b (Probed_gone file call count number total ms shut a few) = open_keeps files b file call count (answered (Ask_alive file.0) (told probe.Gone number total) ∷ answered (Close file.0) shut ∷ []) a (λ fs c has. record { about = (has, ((Authorized, has), tt)); ends = (inl refl, (inr tt, tt)); due = (tt, (tt, tt)) })
+binds_keep files b (Probe_failed file call count number total ms shut a few) = open_keeps files b file call count (answered (Ask_alive file.0) (told probe.Failed number total) ∷ answered (Close file.0) shut ∷ []) a (λ fs c has. record { about = (has, ((Authorized, has), tt)); ends = (inl refl, (inr tt, tt)); due = (tt, (tt, tt)) })
+binds_keep files b (Bound_by call count number total ms x a few) = open_keeps files b x.held call count (answered (Ask_alive x.held.0) (told (probe.Alive x.on) number total) ∷ []) a (λ fs c has. record { about = (has, tt); ends = (inl refl, tt); due = (tt, tt) })
+
+-- the device was found alive last, and its file is open
+record IsFound (files : List OpenFile) (b : Behind) (held : ℕ) (on : Bool) : Type 0 where
+  t : Told Probe
+  has : Has files (open_file held Authorized)
+  last : b.last ≡ Some (answered (Ask_alive held) t)
+  alive : t.answer ≡ probe.Alive on
+
+stop_unbound : (why : Stop) (x : Bound) → bound.Bound x ≡ binding_of why → ⊥
+stop_unbound stop.Vanished x e = let none : ⊥ = cc in none
+stop_unbound (stop.Fault call count) x e = let none : ⊥ = cc in none
+stop_unbound stop.Memory x e = let none : ⊥ = cc in none
+
+bound_found : {name : List ℕ} {ms : List Made} {x : Bound} (files : List OpenFile) (b : Behind) → Binds_by name ms (bound.Bound x) → IsFound (files_after files ms) (behind_after b ms) x.held.0 x.on
+bound_found {x = x} files b (Cut file call count ms of at t shut why r a few may stops e) = absurd (stop_unbound why x e)
+bound_found {name} files b (Bound_by call count number total ms x a few) =
+    let start : Made = answered (Open name Authorized) (told (opened.Token x.held) call count) in
+    let own : List OpenFile = open_file x.held.0 Authorized ∷ files in
+    let end : Made = answered (Ask_alive x.held.0) (told (probe.Alive x.on) number total) in
+    record {
+      t = told (probe.Alive x.on) number total;
+      has = subst (λ v. Has v (open_file x.held.0 Authorized)) (sym (files_join own ms (end ∷ []))) (files_stay own ms (open_file x.held.0 Authorized) (inl refl));
+      last = ap (λ (v : Behind). v.last) (behind_join (behind_more b start) ms (end ∷ []));
+      alive = refl;
+    }
+
+-- what entries tell of calls
+record Tells (name : List ℕ) (ms : List Made) (es : List Entry) : Type 0 where
+  told : failures_told es ≡ failures ms
+  writes : TellsWrites name (puts_of ms) (writes_in es)
+  last : EndsUnsettled name es
+  bears : AllBear name es
+
+bears_more : (name : List ℕ) (es fs : List Entry) → AllBear name es → AllBear name fs → AllBear name (es ++ fs)
+bears_more name [] fs a b = b
+bears_more name (e ∷ es) fs a b = (a.0, bears_more name es fs a.1 b)
+
+last_more : (name : List ℕ) (es fs : List Entry) → Each NamesNone es → EndsUnsettled name fs → EndsUnsettled name (es ++ fs)
+last_more name [] fs n h = h
+last_more name (entry.Unsettled other why ∷ es) fs n h = absurd n.0
+last_more name (entry.UnsettledAll why ∷ es) fs n h = absurd n.0
+last_more name (entry.Event number moment ∷ es) fs n h = (tt, last_more name es fs n.1 h)
+last_more name (entry.Judged number m held verdict cause ∷ es) fs n h = (tt, last_more name es fs n.1 h)
+last_more name (entry.Intent number m what ∷ es) fs n h = (tt, last_more name es fs n.1 h)
+last_more name (entry.Wrote number m what outcome ∷ es) fs n h = (tt, last_more name es fs n.1 h)
+last_more name (entry.Gone number m ∷ es) fs n h = (tt, last_more name es fs n.1 h)
+last_more name (entry.End number ∷ es) fs n h = (tt, last_more name es fs n.1 h)
+
+tells_writes : (name : List ℕ) (ps qs : List PutMade) (xs ys : List Entry) → TellsWrites name ps xs → TellsWrites name qs ys → TellsWrites name (ps ++ qs) (xs ++ ys)
+tells_writes name [] qs xs ys a b = subst (λ v. TellsWrites name qs (v ++ ys)) (sym a) b
+tells_writes name (p ∷ ps) qs xs ys a b = (a.0, a.1 ++ ys, ap (λ v. v ++ ys) a.2 ∙ append_assoc (wrote_entries a.0 name p.write p.outcome) a.1 ys, tells_writes name ps qs a.1 ys a.3 b)
+
+tells_join : (name : List ℕ) (ms ns : List Made) (es fs : List Entry) → Each NamesNone es → Tells name ms es → Tells name ns fs → Tells name (ms ++ ns) (es ++ fs)
+tells_join name ms ns es fs none a b = record {
+  told = told_more es fs ∙ ap (λ v. v ++ failures_told fs) a.told ∙ ap (λ v. failures ms ++ v) b.told ∙ sym (failures_more ms ns);
+  writes = subst (λ v. TellsWrites name v (writes_in (es ++ fs))) (sym (puts_more ms ns)) (subst (λ v. TellsWrites name (puts_of ms ++ puts_of ns) v) (sym (writes_more es fs)) (tells_writes name (puts_of ms) (puts_of ns) (writes_in es) (writes_in fs) a.writes b.writes));
+  last = last_more name es fs none b.last;
+  bears = bears_more name es fs a.bears b.bears;
+}
+
+-- behind calls of which nothing is to be told
+tells_calm : (name : List ℕ) (ms ns : List Made) (es : List Entry) → IsCalm ms → Tells name ns es → Tells name (ms ++ ns) es
+tells_calm name ms ns es c h = record {
+  told = h.told ∙ sym (failures_more ms ns ∙ ap (λ v. v ++ failures ns) c.0);
+  writes = subst (λ v. TellsWrites name v (writes_in es)) (sym (puts_more ms ns ∙ ap (λ v. v ++ puts_of ns) c.1)) h.writes;
+  last = h.last;
+  bears = h.bears;
+}
+
+-- the writes
+
+written_tells : {name : List ℕ} {number : ℕ} {what : Write} {t : Told Wrote} {es : List Entry} {how : Settled} (held : ℕ) → Written name number what t es how → Tells name (answered (Put held what) t ∷ []) es
+written_tells {name} {number} held (Done call count) = record { told = refl; writes = (number, [], refl, refl); last = (tt, (tt, tt)); bears = (refl, (refl, tt)) }
+written_tells {name} {number} held (Went call count) = record { told = refl; writes = (number, [], refl, refl); last = (tt, (tt, (tt, tt))); bears = (refl, (refl, (refl, tt))) }
+written_tells {name} {number} held (Broke call count) = record { told = refl; writes = (number, [], refl, refl); last = (tt, (tt, ((refl, refl), tt))); bears = (refl, (refl, (refl, tt))) }
+
+value_due : (verdict : Target) (on : Bool) (held : ℕ) (t : Told Probe) (b : Behind) → b.last ≡ Some (answered (Ask_alive held) t) → t.answer ≡ probe.Alive on → (wants verdict ≡ on → ⊥) → IsWriteDue b held (write_of verdict)
+value_due target.Allow true held t b e alive ne = absurd (ne refl)
+value_due target.Allow false held t b e alive ne = (t, e, alive)
+value_due target.Block true held t b e alive ne = (t, e, alive)
+value_due target.Block false held t b e alive ne = absurd (ne refl)
+value_due target.Reject true held t b e alive ne = (t, e, alive)
+value_due target.Reject false held t b e alive ne = absurd (ne refl)
 
 value_file : (verdict : Target) (held : ℕ) (files : List OpenFile) → Has files (open_file held Authorized) → Has files (open_file held (control_of (write_of verdict)))
 value_file target.Allow held files h = h
@@ -143,326 +251,270 @@ no_removal target.Allow e = let none : ⊥ = cc in none
 no_removal target.Block e = let none : ⊥ = cc in none
 no_removal target.Reject e = let none : ⊥ = cc in none
 
--- what was probed last
-abbrev probed_last : ℕ → Told Probe → Option Made → Behind
-probed_last held t e = record { last = Some (answered (Ask_alive held) t); earlier = e }
+-- no entry but one of a call tells of want of memory
+abbrev NoWant : List ℕ → List Entry → Type 0
+NoWant name es = Has es (entry.Unsettled name fault.Memory) → ⊥
 
-to_write_goes : (name : List ℕ) (go : Bool) (known : Known) (on : Bool) (entries : List Entry) (first : Made) (e : Option Made) (t : Told Probe) (files : List OpenFile) (P : Seen → Settled × List Entry → Type 0) → t.answer ≡ probe.Alive on → Has files (open_file known.held.0 Authorized) → (wants known.verdict ≡ on → ⊥) → IfValued name first files entries P → IfNotValued name go first entries P → Goes name (seen_of (Some first) (probed_last known.held.0 t e) files [] []) (to_write name known (write_of known.verdict) entries) P
-to_write_goes name go known on entries first e t files P alive has other k n = (
-  (value_file known.verdict known.held.0 files has, inl refl, value_due known.verdict on known.held.0 t e alive other),
-  λ a. after_write_goes name go known.number known.held.0 (write_of known.verdict) entries first (probed_last known.held.0 t e) files P a.answer a.number a.count (no_removal known.verdict) k n,
-)
+written_calm : {name : List ℕ} {number : ℕ} {what : Write} {t : Told Wrote} {es : List Entry} {how : Settled} → Written name number what t es how → NoWant name es
+written_calm (Done call count) (inl e) = let none : ⊥ = cc in none
+written_calm (Done call count) (inr (inl e)) = let none : ⊥ = cc in none
+written_calm (Done call count) (inr (inr n)) = n
+written_calm (Went call count) (inl e) = let none : ⊥ = cc in none
+written_calm (Went call count) (inr (inl e)) = let none : ⊥ = cc in none
+written_calm (Went call count) (inr (inr (inl e))) = let none : ⊥ = cc in none
+written_calm (Went call count) (inr (inr (inr n))) = n
+written_calm (Broke call count) (inl e) = let none : ⊥ = cc in none
+written_calm (Broke call count) (inr (inl e)) = let none : ⊥ = cc in none
+written_calm (Broke call count) (inr (inr (inl e))) = let none : ⊥ = cc in none
+written_calm (Broke call count) (inr (inr (inr n))) = n
 
-nothing_written : (name : List ℕ) (entries : List Entry) (first : Made) (b : Behind) (files : List OpenFile) (P : Seen → Settled × List Entry → Type 0) → IfValued name first files entries P → P (seen_of (Some first) b files [] []) (settled.Stands, entries)
-nothing_written name entries first b files P k = subst (λ (v : List Entry). P (seen_of (Some first) b files [] []) (settled.Stands, v)) (append-nil entries) (k b [] [] Same)
+-- the value's writes: none, or one that is no removal
+abbrev AreValue : List PutMade → Type 0
+AreValue ps = (ps ≡ []) ⊎ ((p : PutMade) × (ps ≡ p ∷ []) × (p.write ≡ write.Remove → ⊥))
 
-to_value_goes : (name : List ℕ) (go : Bool) (known : Known) (entries : List Entry) (a b : Bool) (first : Made) (e : Option Made) (t : Told Probe) (files : List OpenFile) (P : Seen → Settled × List Entry → Type 0) → wants known.verdict ≡ a → t.answer ≡ probe.Alive b → Has files (open_file known.held.0 Authorized) → IfValued name first files entries P → IfNotValued name go first entries P → Goes name (seen_of (Some first) (probed_last known.held.0 t e) files [] []) (to_value name known entries a b) P
-to_value_goes name go known entries true true first e t files P want alive has k n = nothing_written name entries first (probed_last known.held.0 t e) files P k
-to_value_goes name go known entries false false first e t files P want alive has k n = nothing_written name entries first (probed_last known.held.0 t e) files P k
-to_value_goes name go known entries true false first e t files P want alive has k n = to_write_goes name go known false entries first e t files P alive has (λ x. let none : ⊥ = cc in none) k n
-to_value_goes name go known entries false true first e t files P want alive has k n = to_write_goes name go known true entries first e t files P alive has (λ x. let none : ⊥ = cc in none) k n
+-- the removal's: none, or a removal
+abbrev AreRemoval : List PutMade → Type 0
+AreRemoval ps = (ps ≡ []) ⊎ ((p : PutMade) × (ps ≡ p ∷ []) × (p.write ≡ write.Remove))
 
-valuing_goes : (name : List ℕ) (go : Bool) (known : Known) (on : Bool) (entries : List Entry) (first : Made) (e : Option Made) (t : Told Probe) (files : List OpenFile) (P : Seen → Settled × List Entry → Type 0) → t.answer ≡ probe.Alive on → Has files (open_file known.held.0 Authorized) → IfValued name first files entries P → IfNotValued name go first entries P → Goes name (seen_of (Some first) (probed_last known.held.0 t e) files [] []) (valuing name known on entries) P
-unfolding valuing
-valuing_goes name go known on entries first e t files P alive has k n = to_value_goes name go known entries (wants known.verdict) on first e t files P refl alive has k n
+single_value : (ps : List PutMade) → AreValue ps → AtMostOneEach ps
+single_value ps (inl e) = subst (λ v. AtMostOneEach v) (sym e) tt
+single_value ps (inr h) = subst (λ v. AtMostOneEach v) (sym h.1) (λ a. a, tt)
+
+single_removal : (ps : List PutMade) → AreRemoval ps → AtMostOneEach ps
+single_removal ps (inl e) = subst (λ v. AtMostOneEach v) (sym e) tt
+single_removal ps (inr h) = subst (λ v. AtMostOneEach v) (sym h.1) (λ a. a, tt)
+
+single_both : (ps qs : List PutMade) → AreValue ps → AreRemoval qs → AtMostOneEach (ps ++ qs)
+single_both ps qs (inl e) r = subst (λ v. AtMostOneEach (v ++ qs)) (sym e) (single_removal qs r)
+single_both ps qs (inr h) (inl e) = subst (λ v. AtMostOneEach (ps ++ v)) (sym e) (subst (λ v. AtMostOneEach v) (sym (append-nil ps)) (single_value ps (inr h)))
+single_both ps qs (inr h) (inr k) = subst (λ v. AtMostOneEach (v ++ qs)) (sym h.1) (subst (λ v. AtMostOneEach (h.0 ∷ v)) (sym k.1) (λ a. elim a [ inl e ↦ h.2 (sym e ∙ k.2) | inr n ↦ n ], (λ a. a, tt)))
+
+record ValueGoes (name : List ℕ) (files : List OpenFile) (b : Behind) (ms : List Made) (es : List Entry) (how : Settled) : Type 0 where
+  keeps : Keeps name files b ms
+  tells : Tells name ms es
+  single : AreValue (puts_of ms)
+  calm : NoWant name es
+  stands : how ≡ settled.Stands → (failures ms ≡ []) × Each NamesNone es
+
+written_stands : {name : List ℕ} {number : ℕ} {what : Write} {t : Told Wrote} {es : List Entry} {how : Settled} (held : ℕ) → Written name number what t es how → how ≡ settled.Stands → (failures (answered (Put held what) t ∷ []) ≡ []) × Each NamesNone es
+written_stands held (Done call count) e = (refl, (tt, (tt, tt)))
+written_stands held (Went call count) e = let none : ⊥ = cc in absurd none
+written_stands held (Broke call count) e = let none : ⊥ = cc in absurd none
+
+value_goes : {name : List ℕ} {known : Known} {on : Bool} {ms : List Made} {es : List Entry} {how : Settled} (files : List OpenFile) (b : Behind) → IsFound files b known.held.0 on → Valued name known on ms es how → ValueGoes name files b ms es how
+value_goes files b f (Same e) = record { keeps = record { about = tt; ends = tt; due = tt }; tells = record { told = refl; writes = refl; last = tt; bears = tt }; single = inl refl; calm = λ a. a; stands = λ s. (refl, tt) }
+value_goes {known = known} {on = on} files b f (Set t es how ne w) = record {
+  keeps = record { about = (value_file known.verdict known.held.0 files f.has, tt); ends = (inl refl, tt); due = (value_due known.verdict on known.held.0 f.t b f.last f.alive ne, tt) };
+  tells = written_tells known.held.0 w;
+  single = inr (record { write = write_of known.verdict; outcome = t.answer }, refl, no_removal known.verdict);
+  calm = written_calm w;
+  stands = written_stands known.held.0 w;
+}
 
 -- the removal
 
--- the writes of a removal: none, or one
-abbrev AreRemoval : List PutMade → Type 0
-AreRemoval ps = (ps ≡ []) ⊎ ((outcome : Wrote) × (ps ≡ record { write = write.Remove; outcome = outcome } ∷ []))
+abbrev hold_failures : RemoveHold → List Failure
+hold_failures (hold.Ready file) = []
+hold_failures hold.Gone = []
+hold_failures (hold.Failed call count) = record { call = call; count = count } ∷ []
+hold_failures hold.Memory = []
 
-removal_each : (ps : List PutMade) → AreRemoval ps → AtMostOneEach ps
-removal_each ps (inl e) = subst (λ (v : List PutMade). AtMostOneEach v) (sym e) tt
-removal_each ps (inr h) = subst (λ (v : List PutMade). AtMostOneEach v) (sym h.1) (λ a. a, tt)
+holds_keep : {name : List ℕ} {held : ℕ} {ms : List Made} {r : RemoveHold} (files : List OpenFile) (b : Behind) → Has files (open_file held Authorized) → Holds_by name held ms r → Keeps name files b ms × ((failures ms ≡ hold_failures r) × (puts_of ms ≡ []))
+holds_keep files b has (Not_there call count) = (record { about = (refl, tt); ends = (inl refl, tt); due = (tt, tt) }, (refl, refl))
+holds_keep files b has (Not_opened call count) = (record { about = (refl, tt); ends = (inl refl, tt); due = (tt, tt) }, (refl, refl))
+holds_keep files b has (No_memory call count) = (record { about = (refl, tt); ends = (inl refl, tt); due = (tt, tt) }, (refl, refl))
+holds_keep files b has (Held_on file on call count number total) = (record { about = (refl, (inr has, tt)); ends = (inl refl, (inl refl, tt)); due = (tt, (tt, tt)) }, (refl, refl))
+holds_keep files b has (Died file call count number total shut) = (record { about = (refl, (inr has, ((Remove, inl refl), tt))); ends = (inl refl, (inl refl, (inr tt, tt))); due = (tt, (tt, (tt, tt))) }, (refl, refl))
+holds_keep files b has (Unasked file call count number total shut) = (record { about = (refl, (inr has, ((Remove, inl refl), tt))); ends = (inl refl, (inl refl, (inr tt, tt))); due = (tt, (tt, (tt, tt))) }, (refl, refl))
 
-removal_apart : (ps : List PutMade) (what : Write) → (what ≡ write.Remove → ⊥) → AreRemoval ps → Has (map (λ (p : PutMade). p.write) ps) what → ⊥
-removal_apart ps what ne (inl e) a = subst (λ (v : List PutMade). Has (map (λ (p : PutMade). p.write) v) what) e a
-removal_apart ps what ne (inr h) a = elim (subst (λ (v : List PutMade). Has (map (λ (p : PutMade). p.write) v) what) h.1 a) [ inl is ↦ ne (sym is) | inr none ↦ none ]
+ready_found : {name : List ℕ} {held : ℕ} {ms : List Made} {file : Held} (files : List OpenFile) (b : Behind) → Holds_by name held ms (hold.Ready file) → Has (files_after files ms) (open_file file.0 Remove) × (((on : Bool) × FoundAlive (behind_after b ms).last on) × OpenedRemove (behind_after b ms).earlier file.0)
+ready_found {name} {held} files b (Held_on file on call count number total) = (inl refl, ((on, (held, told (probe.Alive on) number total, refl, refl)), (name, told (opened.Token file) call count, file, refl, refl, refl)))
 
--- what a removal tells, behind the entries of the value
-valued_tells : (name : List ℕ) (go : Bool) (ps more : List PutMade) (rest es : List Entry) (q : Seen) → Valued name ps rest → q.puts ≡ ps ++ more → failures_told es ≡ q.failures → EndsUnsettled name es → AreRemoval more → TellsWrites name more (writes_in es) → (Has es (entry.Unsettled name fault.Memory) → IsShort go q.first q.short) → Tells name (IsShort go) q (rest ++ es)
-valued_tells name go ps more rest es q Same puts told last removal writes memory = record {
-  told = told;
-  last = last;
-  single = subst (λ (v : List PutMade). AtMostOneEach v) (sym puts) (removal_each more removal);
-  writes = subst (λ (v : List PutMade). TellsWrites name v (writes_in es)) (sym puts) writes;
-  memory = memory;
-}
-valued_tells name go ps more rest es q (Set number what ne) puts told last removal writes memory =
-    let p : PutMade = record { write = what; outcome = wrote.Done } in
-    let i : Entry = entry.Intent number name what in
-    let o : Entry = entry.Wrote number name what wrote.Done in
+unheld_tells : {name : List ℕ} {number : ℕ} {r : RemoveHold} {es : List Entry} {how : Settled} (ms : List Made) → failures ms ≡ hold_failures r → puts_of ms ≡ [] → Unheld name number r es how → Tells name ms es
+unheld_tells {name} ms f p Gone_by = record { told = sym f; writes = subst (λ v. TellsWrites name v []) (sym p) refl; last = (tt, tt); bears = (refl, tt) }
+unheld_tells {name} ms f p (Failed_by call count) = record { told = sym f; writes = subst (λ v. TellsWrites name v []) (sym p) refl; last = ((refl, refl), tt); bears = (refl, tt) }
+unheld_tells {name} ms f p Short_by = record { told = sym f; writes = subst (λ v. TellsWrites name v []) (sym p) refl; last = ((refl, refl), tt); bears = (refl, tt) }
+
+-- an opening that was short of memory is among the calls
+abbrev IsShort : List Made → Type 0
+IsShort ms = (name : List ℕ) × (t : Told Opened) × Has ms (answered (Open name Remove) t) × (t.answer ≡ opened.Memory)
+
+hold_short : {name : List ℕ} {held : ℕ} {ms : List Made} → Holds_by name held ms hold.Memory → IsShort ms
+hold_short {name} (No_memory call count) = (name, told opened.Memory call count, inl refl, refl)
+
+unheld_short : {name : List ℕ} {held number : ℕ} {ms : List Made} {r : RemoveHold} {es : List Entry} {how : Settled} → Holds_by name held ms r → Unheld name number r es how → Has es (entry.Unsettled name fault.Memory) → IsShort ms
+unheld_short h Gone_by (inl e) = let none : ⊥ = cc in absurd none
+unheld_short h Gone_by (inr n) = absurd n
+unheld_short h (Failed_by call count) (inl e) = let none : ⊥ = cc in absurd none
+unheld_short h (Failed_by call count) (inr n) = absurd n
+unheld_short h Short_by a = hold_short h
+
+record RemovalGoes (name : List ℕ) (files : List OpenFile) (b : Behind) (ms : List Made) (es : List Entry) : Type 0 where
+  keeps : Keeps name files b ms
+  tells : Tells name ms es
+  single : AreRemoval (puts_of ms)
+  short : Has es (entry.Unsettled name fault.Memory) → IsShort ms
+
+removal_goes : {name : List ℕ} {known : Known} {ms : List Made} {es : List Entry} {how : Settled} (files : List OpenFile) (b : Behind) → Has files (open_file known.held.0 Authorized) → Removal name known ms es how → RemovalGoes name files b ms es
+removal_goes {name} {known} files b has (Not_held ms r es how way u) =
+    let by = ways_of (Holds_by name known.held.0) (holding_remove name known.held.0) ms r (holds_by name known.held.0) way in
+    let h = holds_keep files b has by in
+    record { keeps = h.0; tells = unheld_tells ms h.1.0 h.1.1 u; single = inl h.1.1; short = unheld_short by u }
+removal_goes {name} {known} files b has (Put_on ms file t shut es how way w) =
+    let by = ways_of (Holds_by name known.held.0) (holding_remove name known.held.0) ms (hold.Ready file) (holds_by name known.held.0) way in
+    let h = holds_keep files b has by in
+    let x = ready_found files b by in
+    let ns : List Made = answered (Put file.0 write.Remove) t ∷ answered (Close file.0) shut ∷ [] in
+    let put = written_tells file.0 w in
+    let puts : puts_of (ms ++ ns) ≡ record { write = write.Remove; outcome = t.answer } ∷ [] = puts_more ms ns ∙ ap (λ v. v ++ puts_of ns) h.1.1 in
     record {
-      told = told;
-      last = (tt, (tt, last));
-      single = subst (λ (v : List PutMade). AtMostOneEach v) (sym puts) (removal_apart more what ne removal, removal_each more removal);
-      writes = subst (λ (v : List PutMade). TellsWrites name v (i ∷ o ∷ writes_in es)) (sym puts) (number, writes_in es, refl, writes);
-      memory = λ h. elim h [
-        | inl is ↦ absurd (let none : ⊥ = cc in none)
-        | inr b ↦ elim b [ inl is ↦ absurd (let none : ⊥ = cc in none) | inr a ↦ memory a ]
+      keeps = keeps_more name files b ms ns h.0 h.1.0 (record { about = (x.0, ((Remove, x.0), tt)); ends = (inl refl, (inr tt, tt)); due = ((x.1.0, x.1.1), (tt, tt)) });
+      tells = tells_calm name ms ns es h.1 (record { told = put.told; writes = put.writes; last = put.last; bears = put.bears });
+      single = inr (record { write = write.Remove; outcome = t.answer }, puts, refl);
+      short = λ a. absurd (written_calm w a);
+    }
+
+-- both
+
+record BroughtGoes (name : List ℕ) (known : Known) (files : List OpenFile) (b : Behind) (ms : List Made) (es : List Entry) : Type 0 where
+  keeps : Keeps name files b ms
+  tells : Tells name ms es
+  single : AtMostOneEach (puts_of ms)
+  short : Has es (entry.Unsettled name fault.Memory) → (is_to_go known ≡ true) × IsShort ms
+
+brought_goes : {name : List ℕ} {known : Known} {on : Bool} {ms : List Made} {es : List Entry} {how : Settled} (files : List OpenFile) (b : Behind) → IsFound files b known.held.0 on → Brought name known on ms es how → BroughtGoes name known files b ms es
+brought_goes files b f (By_value ms es how v k) =
+    let h = value_goes files b f v in
+    record { keeps = h.keeps; tells = h.tells; single = single_value (puts_of ms) h.single; short = λ a. absurd (h.calm a) }
+brought_goes {name} {known} files b f (And_removal ms ns es fs how go v r) =
+    let h = value_goes files b f v in
+    let k = removal_goes (files_after files ms) (behind_after b ms) (files_stay files ms (open_file known.held.0 Authorized) f.has) r in
+    let s = h.stands refl in
+    record {
+      keeps = keeps_more name files b ms ns h.keeps s.0 k.keeps;
+      tells = tells_join name ms ns es fs s.1 h.tells k.tells;
+      single = subst (λ v. AtMostOneEach v) (sym (puts_more ms ns)) (single_both (puts_of ms) (puts_of ns) h.single k.single);
+      short = λ a. elim (has_cases es fs (entry.Unsettled name fault.Memory) a) [
+        | inl x ↦ absurd (h.calm x)
+        | inr x ↦ let y = k.short x in (go, (y.0, y.1, has_right ms ns (answered (Open y.0 Remove) y.1) y.2, y.3))
       ];
     }
 
--- how a removal ends
-abbrev Ends : List ℕ → Bool → Made → List PutMade → List Entry → (Seen → Settled × List Entry → Type 0) → Type 0
-Ends name go first ps entries P = (q : Seen) (how : Settled) (more : List PutMade) (es : List Entry) → q.first ≡ Some first → q.puts ≡ ps ++ more → failures_told es ≡ q.failures → EndsUnsettled name es → AreRemoval more → TellsWrites name more (writes_in es) → (Has es (entry.Unsettled name fault.Memory) → IsShort go q.first q.short) → P q (how, entries ++ es)
+-- a name
 
-removal_ends : (name : List ℕ) (go : Bool) (first : Made) (ps : List PutMade) (entries rest : List Entry) (P : Seen → Settled × List Entry → Type 0) → Valued name ps rest → Brings name go first entries P → Ends name go first ps (entries ++ rest) P
-removal_ends name go first ps entries rest P v k q how more es begins puts told last removal writes memory =
-    subst (λ (x : List Entry). P q (how, x)) (sym (append_assoc entries rest es))
-    (k q how (rest ++ es) begins (valued_tells name go ps more rest es q v puts told last removal writes memory))
+-- before a binding
+record OpeningGoes (name : List ℕ) (o : Option Known) (b : Behind) (ms : List Made) (es : List Entry) : Type 0 where
+  keeps : Keeps name (known_files o) b ms
+  calm : IsCalm ms
+  tells : Tells name ms es
+  none : Each NamesNone es
+  anew : (ns : List Made) → IsBoundAnew o (ms ++ ns)
 
-after_remove_write_goes : (name : List ℕ) (go : Bool) (number file : ℕ) (entries : List Entry) (first : Made) (b : Behind) (files : List OpenFile) (ps : List PutMade) (P : Seen → Settled × List Entry → Type 0) (r : Wrote) (call count : ℕ) (closed : Closing) → Ends name go first ps entries P → Goes name (see (see (seen_of (Some first) b files [] ps) (Put file write.Remove) (record { answer = r; number = call; count = count })) (Close file) closed) (after_write name number write.Remove (entries ++ entry.Intent number name write.Remove ∷ []) r call count) P
-after_remove_write_goes name go number file entries first b files ps P wrote.Done call count closed k =
-    let i : Entry = entry.Intent number name write.Remove in
-    let o : Entry = entry.Wrote number name write.Remove wrote.Done in
-    let q : Seen = see (see (seen_of (Some first) b files [] ps) (Put file write.Remove) (record { answer = wrote.Done; number = call; count = count })) (Close file) closed in
-    let es : List Entry = i ∷ o ∷ [] in
-    subst (λ (v : List Entry). P q (settled.Stands, v)) (sym (behind entries i (o ∷ [])))
-    (k q settled.Stands (record { write = write.Remove; outcome = wrote.Done } ∷ []) es refl refl refl (tt, (tt, tt)) (inr (wrote.Done, refl)) (number, [], refl, refl) (λ h. absurd (no_want name es (tt, (tt, tt)) h)))
-after_remove_write_goes name go number file entries first b files ps P wrote.Gone call count closed k =
-    let i : Entry = entry.Intent number name write.Remove in
-    let o : Entry = entry.Wrote number name write.Remove wrote.Gone in
-    let g : Entry = entry.Gone number name in
-    let q : Seen = see (see (seen_of (Some first) b files [] ps) (Put file write.Remove) (record { answer = wrote.Gone; number = call; count = count })) (Close file) closed in
-    let es : List Entry = i ∷ o ∷ g ∷ [] in
-    subst (λ (v : List Entry). P q (settled.Nobody, v)) (sym (behind (entries ++ i ∷ []) o (g ∷ []) ∙ behind entries i (o ∷ g ∷ [])))
-    (k q settled.Nobody (record { write = write.Remove; outcome = wrote.Gone } ∷ []) es refl refl refl (tt, (tt, (tt, tt))) (inr (wrote.Gone, refl)) (number, [], refl, refl) (λ h. absurd (no_want name es (tt, (tt, (tt, tt))) h)))
-after_remove_write_goes name go number file entries first b files ps P wrote.Failed call count closed k =
-    let i : Entry = entry.Intent number name write.Remove in
-    let o : Entry = entry.Wrote number name write.Remove wrote.Failed in
-    let g : Entry = entry.Unsettled name (fault.Call call count) in
-    let q : Seen = see (see (seen_of (Some first) b files [] ps) (Put file write.Remove) (record { answer = wrote.Failed; number = call; count = count })) (Close file) closed in
-    let es : List Entry = i ∷ o ∷ g ∷ [] in
-    subst (λ (v : List Entry). P q (settled.Fault call count, v)) (sym (behind (entries ++ i ∷ []) o (g ∷ []) ∙ behind entries i (o ∷ g ∷ [])))
-    (k q (settled.Fault call count) (record { write = write.Remove; outcome = wrote.Failed } ∷ []) es refl refl refl (tt, (tt, ((refl, refl), tt))) (inr (wrote.Failed, refl)) (number, [], refl, refl) (λ h. absurd (no_want name es (tt, (tt, (tt, tt))) h)))
+opening_goes : {name : List ℕ} {ss : List Standing} {ms : List Made} {es : List Entry} {rs : List Standing} (b : Behind) → Opening name ss ms es rs → OpeningGoes name (standing_of name ss) b ms es
+opening_goes {name} {ss} b (Fresh e) = record { keeps = record { about = tt; ends = tt; due = tt }; calm = (refl, refl); tells = record { told = refl; writes = refl; last = tt; bears = tt }; none = tt; anew = λ ns. inl e }
+opening_goes {name} {ss} b (Lost known call count e) =
+    let m : Made = answered (Ask_alive known.held.0) (told probe.Gone call count) in
+    let g : Entry = entry.Gone known.number name in
+    subst (λ o. OpeningGoes name o b (m ∷ []) (g ∷ [])) (sym e)
+    (record { keeps = record { about = (inl refl, tt); ends = (inl refl, tt); due = (tt, tt) }; calm = (refl, refl); tells = record { told = refl; writes = refl; last = (tt, tt); bears = (refl, tt) }; none = (tt, tt); anew = λ ns. inr (m, ns, refl, (known, told probe.Gone call count, refl, refl, refl)) })
 
--- a `remove` file was opened, and the device is alive
-ready_goes : (name : List ℕ) (go : Bool) (known : Known) (entries : List Entry) (first : Made) (files : List OpenFile) (ps : List PutMade) (P : Seen → Settled × List Entry → Type 0) (a : Told Opened) (file : Held) (t : Told Probe) (on : Bool) → a.answer ≡ opened.Token file → t.answer ≡ probe.Alive on → Ends name go first ps entries P → Goes name (seen_of (Some first) (record { last = Some (answered (Ask_alive known.held.0) t); earlier = Some (answered (Open name Remove) a) }) (open_file file.0 Remove ∷ files) [] ps) (to_remove name known file.0 entries) P
-ready_goes name go known entries first files ps P a file t on token alive k = (
-  (inl refl, inl refl, ((on, (known.held.0, t, refl, alive)), (name, a, file, refl, token, refl))),
-  λ r. (((Remove, inl refl), inr tt, tt), λ closed. after_remove_write_goes name go known.number file.0 entries first (record { last = Some (answered (Ask_alive known.held.0) t); earlier = Some (answered (Open name Remove) a) }) (open_file file.0 Remove ∷ files) ps P r.answer r.number r.count closed k),
-)
+unbound_tells : {name : List ℕ} {r : Binding} {es : List Entry} {how : Settled} (ms : List Made) → failures ms ≡ binding_failures r → puts_of ms ≡ [] → Unbound_end name r es how → Tells name ms es
+unbound_tells {name} ms f p Absent_so = record { told = sym f; writes = subst (λ v. TellsWrites name v []) (sym p) refl; last = tt; bears = tt }
+unbound_tells {name} ms f p Vanished_so = record { told = sym f; writes = subst (λ v. TellsWrites name v []) (sym p) refl; last = tt; bears = tt }
+unbound_tells {name} ms f p (Failed_so call count) = record { told = sym f; writes = subst (λ v. TellsWrites name v []) (sym p) refl; last = ((refl, refl), tt); bears = (refl, tt) }
+unbound_tells {name} ms f p Short_so = record { told = sym f; writes = subst (λ v. TellsWrites name v []) (sym p) refl; last = ((refl, refl), tt); bears = (refl, tt) }
 
-no_more : (ps : List PutMade) → ps ≡ ps ++ []
-no_more ps = sym (append-nil ps)
+-- all that a part says of its calls and entries
+record FlatGoes (name : List ℕ) (o : Option Known) (ms : List Made) (es : List Entry) : Type 0 where
+  keeps : Keeps name (known_files o) (record { last = None; earlier = None }) ms
+  tells : Tells name ms es
+  single : AtMostOneEach (puts_of ms)
+  memory : Has es (entry.Unsettled name fault.Memory) → IsBoundAnew o ms ⊎ LacksRoom o ms
 
-after_remove_probe_goes : (name : List ℕ) (go : Bool) (known : Known) (entries : List Entry) (first : Made) (files : List OpenFile) (ps : List PutMade) (P : Seen → Settled × List Entry → Type 0) (open_number open_count : ℕ) (file : Held) (r : Probe) (number count : ℕ) → Ends name go first ps entries P
-    → Goes name (see (seen_of (Some first) (record { last = Some (answered (Open name Remove) (record { answer = opened.Token file; number = open_number; count = open_count })); earlier = None }) (open_file file.0 Remove ∷ files) [] ps) (Ask_alive known.held.0) (record { answer = r; number = number; count = count })) (then (after_remove_probe file r number count) (after_hold name known entries)) P
-after_remove_probe_goes name go known entries first files ps P open_number open_count file (probe.Alive on) number count k = ready_goes name go known entries first files ps P (record { answer = opened.Token file; number = open_number; count = open_count }) file (record { answer = probe.Alive on; number = number; count = count }) on refl refl k
-after_remove_probe_goes name go known entries first files ps P open_number open_count file probe.Gone number count k = (
-  ((Remove, inl refl), inr tt, tt),
-  λ closed. k _ settled.Nobody [] (entry.Gone known.number name ∷ []) refl (no_more ps) refl (tt, tt) (inl refl) refl (λ h. absurd (no_want name (entry.Gone known.number name ∷ []) (tt, tt) h)),
-)
-after_remove_probe_goes name go known entries first files ps P open_number open_count file probe.Failed number count k = (
-  ((Remove, inl refl), inr tt, tt),
-  λ closed. k _ (settled.Fault number count) [] (entry.Unsettled name (fault.Call number count) ∷ []) refl (no_more ps) refl ((refl, refl), tt) (inl refl) refl (λ h. absurd (no_want name (entry.Unsettled name (fault.Call number count) ∷ []) (tt, tt) h)),
-)
+no_puts : (ps : List PutMade) → ps ≡ [] → AtMostOneEach ps
+no_puts ps e = subst (λ v. AtMostOneEach v) (sym e) tt
 
-after_remove_open_goes : (name : List ℕ) (go : Bool) (known : Known) (entries : List Entry) (first : Made) (b : Behind) (files : List OpenFile) (ps : List PutMade) (P : Seen → Settled × List Entry → Type 0) (r : Opened) (number count : ℕ) → go ≡ true → Has files (open_file known.held.0 Authorized) → Ends name go first ps entries P
-    → Goes name (see (seen_of (Some first) b files [] ps) (Open name Remove) (record { answer = r; number = number; count = count })) (then (after_remove_open known.held.0 r number count) (after_hold name known entries)) P
-after_remove_open_goes name go known entries first b files ps P (opened.Token file) number count e has k = (
-  (inr has, inl refl, tt),
-  λ t. after_remove_probe_goes name go known entries first files ps P number count file t.answer t.number t.count k,
-)
-after_remove_open_goes name go known entries first b files ps P opened.Absent number count e has k = k _ settled.Nobody [] (entry.Gone known.number name ∷ []) refl (no_more ps) refl (tt, tt) (inl refl) refl (λ h. absurd (no_want name (entry.Gone known.number name ∷ []) (tt, tt) h))
-after_remove_open_goes name go known entries first b files ps P opened.Failed number count e has k = k _ (settled.Fault number count) [] (entry.Unsettled name (fault.Call number count) ∷ []) refl (no_more ps) refl ((refl, refl), tt) (inl refl) refl (λ h. absurd (no_want name (entry.Unsettled name (fault.Call number count) ∷ []) (tt, tt) h))
-after_remove_open_goes name go known entries first b files ps P opened.Memory number count e has k = k _ settled.Memory [] (entry.Unsettled name fault.Memory ∷ []) refl (no_more ps) refl ((refl, refl), tt) (inl refl) refl (λ h. (e, refl))
+way_binds : (name : List ℕ) (ms : List Made) (r : Binding) → Way (binding name (parent_of name)) ms r → Binds_by name ms r
+way_binds name ms r way = ways_of (Binds_by name) (binding name (parent_of name)) ms r (binds_by name) way
 
-removing_goes : (name : List ℕ) (go : Bool) (known : Known) (entries : List Entry) (first : Made) (b : Behind) (files : List OpenFile) (ps : List PutMade) (P : Seen → Settled × List Entry → Type 0) → go ≡ true → Has files (open_file known.held.0 Authorized) → Ends name go first ps entries P → Goes name (seen_of (Some first) b files [] ps) (removing name known entries) P
-unfolding removing holding_remove
-removing_goes name go known entries first b files ps P e has k = ((refl, inl refl, tt), λ a. after_remove_open_goes name go known entries first b files ps P a.answer a.number a.count e has k)
-
-if_to_go_goes : (name : List ℕ) (go : Bool) (known : Known) (entries : List Entry) (first : Made) (b : Behind) (files : List OpenFile) (ps : List PutMade) (P : Seen → Settled × List Entry → Type 0) → Has files (open_file known.held.0 Authorized) → Ends name go first ps entries P → Goes name (seen_of (Some first) b files [] ps) (if_to_go name known entries go) P
-if_to_go_goes name true known entries first b files ps P has k = removing_goes name true known entries first b files ps P refl has k
-if_to_go_goes name false known entries first b files ps P has k =
-    subst (λ (v : List Entry). P (seen_of (Some first) b files [] ps) (settled.Stands, v)) (append-nil entries)
-    (k (seen_of (Some first) b files [] ps) settled.Stands [] [] refl (no_more ps) refl tt (inl refl) refl (λ h. absurd h))
-
--- where the value isn't as wanted nothing more is done
-other_goes : (name : List ℕ) (known : Known) (how : Settled) (entries : List Entry) (q : Seen) (P : Seen → Settled × List Entry → Type 0) → (how ≡ settled.Stands → ⊥) → P q (how, entries) → Goes name q (after_value name known entries how) P
-other_goes name known settled.Stands entries q P ne h = absurd (ne refl)
-other_goes name known settled.Nobody entries q P ne h = h
-other_goes name known (settled.Fault call count) entries q P ne h = h
-other_goes name known settled.Memory entries q P ne h = h
-
-bringing_goes : (name : List ℕ) (known : Known) (on : Bool) (entries : List Entry) (first : Made) (e : Option Made) (t : Told Probe) (files : List OpenFile) (P : Seen → Settled × List Entry → Type 0) → t.answer ≡ probe.Alive on → Has files (open_file known.held.0 Authorized) → Brings name (is_to_go known) first entries P → Goes name (seen_of (Some first) (probed_last known.held.0 t e) files [] []) (bringing name known on entries) P
-unfolding bringing
-bringing_goes name known on entries first e t files P alive has k =
-    let go : Bool = is_to_go known in
-    let f : Settled × List Entry → Prog (Settled × List Entry) = λ p. after_value name known p.1 p.0 in
-    walks_then (May name) see P (seen_of (Some first) (probed_last known.held.0 t e) files [] []) (valuing name known on entries) f
-    (valuing_goes name go known on entries first e t files (λ (q : Seen) (p : Settled × List Entry). Goes name q (f p) P) alive has
-    (λ b ps rest v. if_to_go_goes name go known (entries ++ rest) first b files ps P has (removal_ends name go first ps entries rest P v k))
-    (λ q how rest ne begins tells. other_goes name known how (entries ++ rest) q P ne (k q how rest begins tells)))
-
--- what a part of the name leads to, from a state
-abbrev LeavesState : {J : Type 0} → List ℕ → (Option Made → Bool → Type 0) → State J → Seen → Settled × State J → Type 0
-LeavesState name F w q r = Leaves name F w.standings w.entries q r.1.standings r.1.entries
-
-no_room_goes : {J : Type 0} (name : List ℕ) (F : Option Made → Bool → Type 0) (w : State J) (held : ℕ) (first : Made) (last : Behind) (files : List OpenFile) → Has files (open_file held Authorized) → ((short : Bool) → F (Some first) short) → Goes name (seen_of (Some first) last files [] []) (no_room w name held) (LeavesState name F w)
-no_room_goes name F w held first last files has f = (
-  ((Authorized, has), inl refl, tt),
-  λ closed. record {
-    rest = entry.Unsettled name fault.Memory ∷ [];
-    entries = refl;
-    tells = record { told = refl; last = ((refl, refl), tt); single = tt; writes = refl; memory = λ h. f false };
-    others = others_stand name w.standings;
-  },
-)
-
-tells_judged : (name : List ℕ) (F : Option Made → Bool → Type 0) (go : Bool) (q : Seen) (first : Made) (number : ℕ) (held : ℕ) (given : Target × Cause) (es : List Entry) → q.first ≡ Some first → ((short : Bool) → F (Some first) short) → Tells name (IsShort go) q es → Tells name F q (entry.Judged number name (record { 0 = held }) given.0 given.1 ∷ es)
-tells_judged name F go q first number held given es begins f h = record {
-  told = h.told;
-  last = (tt, h.last);
-  single = h.single;
-  writes = h.writes;
-  memory = λ x. subst (λ (v : Option Made). F v q.short) (sym begins) (f q.short);
-}
-
-judging_goes : {J : Type 0} (later : J) (name : List ℕ) (F : Option Made → Bool → Type 0) (w : State J) (held : ℕ) (judged : Judged) (on : Bool) (given : Target × Cause) (first : Made) (e : Option Made) (t : Told Probe) (files : List OpenFile) → t.answer ≡ probe.Alive on → Has files (open_file held Authorized) → ((short : Bool) → F (Some first) short) → Goes name (seen_of (Some first) (probed_last held t e) files [] []) (judging later w name held judged on given) (LeavesState name F w)
-judging_goes {J} later name F w held judged on given first e t files alive has may =
-    let told : Entry = judged_entry w name held given in
-    let f : Settled × List Entry → Prog (Settled × State J) = to_keep (record w { next = w.next + 1; judge = later }) (standing_for w name held judged given) in
-    let known : Known = known_in w held given in
-    let p : Prog (Settled × List Entry) = bringing name known on (w.entries ++ told ∷ []) in
-    let q : Seen = seen_of (Some first) (probed_last held t e) files [] [] in
-    walks_then (May name) see (LeavesState name F w) q p f
-    (bringing_goes name known on (w.entries ++ told ∷ []) first e t files (λ (u : Seen) (r : Settled × List Entry). Goes name u (f r) (LeavesState name F w)) alive has
-    (λ u how es begins h. record {
-      rest = told ∷ es;
-      entries = behind w.entries told es;
-      tells = tells_judged name F (is_to_go known) u first w.next held given es begins may h;
-      others = kept_stand name w.standings (standing_for w name held judged given) how refl;
-    }))
-
-admitting_goes : {J : Type 0} (answer : Answers J) (later : Laters J) (name : List ℕ) (F : Option Made → Bool → Type 0) (present : Bool) (w : State J) (b : Bound) (first : Made) (e : Option Made) (t : Told Probe) (files : List OpenFile) → t.answer ≡ probe.Alive b.on → Has files (open_file b.held.0 Authorized) → ((short : Bool) → F (Some first) short) → Goes name (seen_of (Some first) (probed_last b.held.0 t e) files [] []) (admitting answer later name present w b) (LeavesState name F w)
-unfolding admitting
-admitting_goes {J} answer later name F present w b first e t files alive has f = record_room
-  where
-    judged : Judged
-    judged = judged_of name b.attrs b.parent
-
-    last : Behind
-    last = probed_last b.held.0 t e
-
-    place_room : (room : Bool) → Goes name (seen_of (Some first) last files [] []) (if_place answer later name present w b judged room) (LeavesState name F w)
-    place_room true = judging_goes (later w.judge judged (is_none (parent_of name)) present b.on w.standings) name F w b.held.0 judged b.on (answer w.judge judged (is_none (parent_of name)) present b.on w.standings) first e t files alive has f
-    place_room false = no_room_goes name F w b.held.0 first last files has f
-
-    record_room : (room : Bool) → Goes name (seen_of (Some first) last files [] []) (if_record answer later name present w b room) (LeavesState name F w)
-    record_room true = place_room
-    record_room false = no_room_goes name F w b.held.0 first last files has f
-
-after_bind_goes : {J : Type 0} (answer : Answers J) (later : Laters J) (name : List ℕ) (F : Option Made → Bool → Type 0) (present : Bool) (w : State J) (first : Made) (last : Behind) (files : List OpenFile) (r : Binding) → IsUnbound r → ((short : Bool) → F (Some first) short) → Goes name (seen_of (Some first) last files (binding_failures r) []) (after_bind answer later name present w r) (LeavesState name F w)
-after_bind_goes answer later name F present w first last files (bound.Bound b) u f = absurd u
-after_bind_goes answer later name F present w first last files bound.Absent u f = record { rest = []; entries = sym (append-nil w.entries); tells = record { told = refl; last = tt; single = tt; writes = refl; memory = λ h. absurd h }; others = others_stand name w.standings }
-after_bind_goes answer later name F present w first last files bound.Vanished u f = record { rest = []; entries = sym (append-nil w.entries); tells = record { told = refl; last = tt; single = tt; writes = refl; memory = λ h. absurd h }; others = others_stand name w.standings }
-after_bind_goes answer later name F present w first last files (bound.Failed call count) u f = record { rest = entry.Unsettled name (fault.Call call count) ∷ []; entries = refl; tells = record { told = refl; last = ((refl, refl), tt); single = tt; writes = refl; memory = λ h. f false }; others = others_stand name w.standings }
-after_bind_goes answer later name F present w first last files bound.Memory u f = record { rest = entry.Unsettled name fault.Memory ∷ []; entries = refl; tells = record { told = refl; last = ((refl, refl), tt); single = tt; writes = refl; memory = λ h. f false }; others = others_stand name w.standings }
-
-entering_goes : {J : Type 0} (answer : Answers J) (later : Laters J) (name : List ℕ) (F : Option Made → Bool → Type 0) (present : Bool) (w : State J) (start : Option Made) (last : Behind) (files : List OpenFile) → ((first : Made) → BeginsWith start first → (short : Bool) → F (Some first) short) → Goes name (seen_of start last files [] []) (entering answer later name present w) (LeavesState name F w)
-unfolding entering
-entering_goes {J} answer later name F present w start last files f =
-    let g : Binding → Prog (Settled × State J) = after_bind answer later name present w in
-    let P : Seen → Binding → Type 0 = λ (q : Seen) (r : Binding). Goes name q (g r) (LeavesState name F w) in
-    walks_then (May name) see (LeavesState name F w) (seen_of start last files [] []) (binding name (parent_of name)) g
-    (binding_goes name start last files P (λ first is. (
-      λ e t b alive. admitting_goes answer later name F present w b first e t (open_file b.held.0 Authorized ∷ files) alive (inl refl) (f first is),
-      λ last files r u. after_bind_goes answer later name F present w first last files r u (f first is),
-    )))
-
--- the part of a standing whose device is gone
-leaves_gone : (name : List ℕ) (F : Option Made → Bool → Type 0) (number : ℕ) (ss : List Standing) (es : List Entry) (q : Seen) (rs : List Standing) (fs : List Entry) → Leaves name F (without name ss) (es ++ entry.Gone number name ∷ []) q rs fs → Leaves name F ss es q rs fs
-leaves_gone name F number ss es q rs fs h = record {
-  rest = entry.Gone number name ∷ h.rest;
-  entries = h.entries ∙ behind es (entry.Gone number name) h.rest;
-  tells = record {
-    told = h.tells.told;
-    last = (tt, h.tells.last);
-    single = h.tells.single;
-    writes = h.tells.writes;
-    memory = λ x. elim x [ inl e ↦ let none : ⊥ = cc in absurd none | inr y ↦ h.tells.memory y ];
-  };
-  others = λ other n. h.others other n ∙ without_stand name other ss n;
-}
-
-tells_weaker : (name : List ℕ) (F G : Option Made → Bool → Type 0) (q : Seen) (es : List Entry) → ((first : Option Made) (short : Bool) → G first short → F first short) → Tells name G q es → Tells name F q es
-tells_weaker name F G q es f h = record { told = h.told; last = h.last; single = h.single; writes = h.writes; memory = λ x. f q.first q.short (h.memory x) }
-
--- the first call leads to a binding: none stands, or its device is gone; or the device of the standing was to be removed, and an
--- opening was short of memory
-abbrev pub Anew : Option Known → Option Made → Bool → Type 0
-Anew stands first short = ((stands ≡ None) ⊎ ((m : Made) × (first ≡ Some m) × FoundGone stands m)) ⊎ (((known : Known) × (stands ≡ Some known) × (is_to_go known ≡ true)) × (short ≡ true))
-
--- a known one
-short_anew : (known : Known) (first : Option Made) (short : Bool) → IsShort (is_to_go known) first short → Anew (Some known) first short
-short_anew known first short h = inr ((known, refl, h.0), h.1)
-
-abbrev pub from_none : Behind
-from_none = record { last = None; earlier = None }
-
-after_known_goes : {J : Type 0} (answer : Answers J) (later : Laters J) (name : List ℕ) (present : Bool) (w : State J) (known : Known) (r : Probe) (call count : ℕ) → Goes name (see (seen_of None from_none (open_file known.held.0 Authorized ∷ []) [] []) (Ask_alive known.held.0) (record { answer = r; number = call; count = count })) (after_known answer later name present w known r call count) (LeavesState name (Anew (Some known)) w)
-after_known_goes {J} answer later name present w known (probe.Alive on) call count =
-    let t : Told Probe = record { answer = probe.Alive on; number = call; count = count } in
+flat_goes : {binds : Bool} {given : List Standing → Bound → Standing → Type 0} {name : List ℕ} {ss : List Standing} {ms : List Made} {rest : List Entry} {how : Settled} {rs : List Standing} {o : Option (List Standing × Bound)} → Flat binds given name ss ms rest how rs o → FlatGoes name (standing_of name ss) ms rest
+flat_goes {name = name} (Unprobed known call count at) =
+    subst (λ o. FlatGoes name o (answered (Ask_alive known.held.0) (told probe.Failed call count) ∷ []) (entry.Unsettled name (fault.Call call count) ∷ [])) (sym at)
+    (record { keeps = record { about = (inl refl, tt); ends = (inl refl, tt); due = (tt, tt) }; tells = record { told = refl; writes = refl; last = ((refl, refl), tt); bears = (refl, tt) }; single = tt; memory = λ a. elim a [ inl e ↦ let none : ⊥ = cc in absurd none | inr n ↦ absurd n ] })
+flat_goes {name = name} (Tried known on call count ms es how at brought) =
+    let t : Told Probe = told (probe.Alive on) call count in
     let m : Made = answered (Ask_alive known.held.0) t in
-    let f : Settled × List Entry → Prog (Settled × State J) = to_mark w name in
-    walks_then (May name) see (LeavesState name (Anew (Some known)) w) (seen_of (Some m) (record { last = Some m; earlier = None }) (open_file known.held.0 Authorized ∷ []) [] []) (bringing name known on w.entries) f
-    (bringing_goes name known on w.entries m None t (open_file known.held.0 Authorized ∷ []) (λ (u : Seen) (r : Settled × List Entry). Goes name u (f r) (LeavesState name (Anew (Some known)) w)) refl (inl refl)
-    (λ u how es begins h. record { rest = es; entries = refl; tells = tells_weaker name (Anew (Some known)) (IsShort (is_to_go known)) u es (short_anew known) h; others = tried_stand name w.standings how }))
-after_known_goes {J} answer later name present w known probe.Gone call count =
-    let t : Told Probe = record { answer = probe.Gone; number = call; count = count } in
-    let m : Made = answered (Ask_alive known.held.0) t in
-    let d : State J = dropped w name known.number in
-    walks_more (May name) see (LeavesState name (Anew (Some known)) d) (LeavesState name (Anew (Some known)) w) (seen_of (Some m) (record { last = Some m; earlier = None }) (open_file known.held.0 Authorized ∷ []) [] []) (entering answer later name present d)
-    (λ q r h. leaves_gone name (Anew (Some known)) known.number w.standings w.entries q r.1.standings r.1.entries h)
-    (entering_goes answer later name (Anew (Some known)) present d (Some m) (record { last = Some m; earlier = None }) (open_file known.held.0 Authorized ∷ [])
-    (λ first is short. inl (inr (first, refl, (known, t, refl, is, refl)))))
-after_known_goes answer later name present w known probe.Failed call count = record {
-  rest = entry.Unsettled name (fault.Call call count) ∷ [];
-  entries = refl;
-  tells = record { told = refl; last = ((refl, refl), tt); single = tt; writes = refl; memory = λ h. absurd (no_want name (entry.Unsettled name (fault.Call call count) ∷ []) (tt, tt) h) };
-  others = tried_stand name w.standings (settled.Fault call count);
-}
+    let h = brought_goes (open_file known.held.0 Authorized ∷ []) (record { last = Some m; earlier = None }) (record { t = t; has = inl refl; last = refl; alive = refl }) brought in
+    subst (λ o. FlatGoes name o (m ∷ ms) es) (sym at)
+    (record {
+      keeps = record { about = (inl refl, h.keeps.about); ends = (inl refl, h.keeps.ends); due = (tt, h.keeps.due) };
+      tells = record { told = h.tells.told; writes = h.tells.writes; last = h.tells.last; bears = h.tells.bears };
+      single = h.single;
+      memory = λ a. let x = h.short a in inr ((known, refl, x.0), (x.1.0, x.1.1, inr x.1.2, x.1.3));
+    })
+flat_goes {name = name} {ss = ss} (Stopped ms es rs f opening) =
+    let h = opening_goes (record { last = None; earlier = None }) opening in
+    record { keeps = h.keeps; tells = h.tells; single = no_puts (puts_of ms) h.calm.1; memory = λ a. inl (subst (λ v. IsBoundAnew (standing_of name ss) v) (append-nil ms) (h.anew [])) }
+flat_goes {name = name} {ss = ss} (Unbound ms ns es fs rs r how t opening way end) =
+    let b : Behind = record { last = None; earlier = None } in
+    let h = opening_goes b opening in
+    let files = known_files (standing_of name ss) in
+    let x = binds_keep (files_after files ms) (behind_after b ms) (way_binds name ns r way) in
+    record {
+      keeps = keeps_more name files b ms ns h.keeps h.calm.0 x.0;
+      tells = tells_join name ms ns es fs h.none h.tells (unbound_tells ns x.1.0 x.1.1 end);
+      single = no_puts (puts_of (ms ++ ns)) (puts_more ms ns ∙ ap (λ v. v ++ puts_of ns) h.calm.1 ∙ x.1.1);
+      memory = λ a. inl (h.anew ns);
+    }
+flat_goes {name = name} {ss = ss} (No_place ms ns es rs v shut t opening way) =
+    let b : Behind = record { last = None; earlier = None } in
+    let h = opening_goes b opening in
+    let files = known_files (standing_of name ss) in
+    let by = way_binds name ns (bound.Bound v) way in
+    let x = binds_keep (files_after files ms) (behind_after b ms) by in
+    let found = bound_found (files_after files ms) (behind_after b ms) by in
+    let end : List Made = answered (Close v.held.0) shut ∷ [] in
+    let told_so : List Entry = entry.Unsettled name fault.Memory ∷ [] in
+    let rest = keeps_more name (files_after files ms) (behind_after b ms) ns end x.0 x.1.0 (record { about = ((Authorized, found.has), tt); ends = (inl refl, tt); due = (tt, tt) }) in
+    record {
+      keeps = keeps_more name files b ms (ns ++ end) h.keeps h.calm.0 rest;
+      tells = tells_join name ms (ns ++ end) es told_so h.none h.tells (tells_calm name ns end told_so x.1 (record { told = refl; writes = refl; last = ((refl, refl), tt); bears = (refl, tt) }));
+      single = no_puts (puts_of (ms ++ (ns ++ end))) (puts_more ms (ns ++ end) ∙ ap (λ w. w ++ puts_of (ns ++ end)) h.calm.1 ∙ puts_more ns end ∙ ap (λ w. w ++ []) x.1.1);
+      memory = λ a. inl (h.anew (ns ++ end));
+    }
+flat_goes {name = name} {ss = ss} (Judged_so ms ns os es fs rs v x how t opening way given new brought) =
+    let b : Behind = record { last = None; earlier = None } in
+    let h = opening_goes b opening in
+    let files = known_files (standing_of name ss) in
+    let by = way_binds name ns (bound.Bound v) way in
+    let mid = files_after files ms in
+    let c = behind_after b ms in
+    let y = binds_keep mid c by in
+    let f = bound_found mid c by in
+    let found : IsFound (files_after mid ns) (behind_after c ns) x.held.0 v.on = subst (λ (w : Held). IsFound (files_after mid ns) (behind_after c ns) w.0 v.on) (sym new.held) f in
+    let z = brought_goes (files_after mid ns) (behind_after c ns) found brought in
+    let e : Entry = entry.Judged x.number name x.held x.verdict x.cause in
+    let all = keeps_more name mid c ns os y.0 y.1.0 z.keeps in
+    record {
+      keeps = keeps_more name files b ms (ns ++ os) h.keeps h.calm.0 all;
+      tells = tells_join name ms (ns ++ os) es (e ∷ fs) h.none h.tells (tells_calm name ns os (e ∷ fs) y.1 (record { told = z.tells.told; writes = z.tells.writes; last = (tt, z.tells.last); bears = (refl, z.tells.bears) }));
+      single = subst (λ w. AtMostOneEach w) (sym (puts_more ms (ns ++ os) ∙ ap (λ w. w ++ puts_of (ns ++ os)) h.calm.1 ∙ puts_more ns os ∙ ap (λ w. w ++ puts_of os) y.1.1)) z.single;
+      memory = λ a. inl (h.anew (ns ++ os));
+    }
 
-from_standing_goes : {J : Type 0} (answer : Answers J) (later : Laters J) (name : List ℕ) (present : Bool) (w : State J) (stands : Option Known) → Goes name (seen_of None from_none (known_files stands) [] []) (from_standing answer later name present w stands) (LeavesState name (Anew stands) w)
-from_standing_goes answer later name present w (Some known) = ((inl refl, inl refl, tt), λ a. after_known_goes answer later name present w known a.answer a.number a.count)
-from_standing_goes answer later name present w None = entering_goes answer later name (Anew None) present w None from_none [] (λ first is short. inl (inl refl))
+opening_others : {name : List ℕ} {ss : List Standing} {ms : List Made} {es : List Entry} {rs : List Standing} → Opening name ss ms es rs → OthersStand name ss rs
+opening_others {name} {ss} (Fresh e) = others_stand name ss
+opening_others {name} {ss} (Lost known call count e) = λ other n. without_stand name other ss n
 
-pub settling_goes : {J : Type 0} (answer : Answers J) (later : Laters J) (name : List ℕ) (present : Bool) (w : State J) → Goes name (seen_of None from_none (known_files (standing_of name w.standings)) [] []) (settling answer later name present w) (λ q r. Leaves name (Anew (standing_of name w.standings)) w.standings w.entries q r.1.standings r.1.entries)
-unfolding settling
-settling_goes answer later name present w = from_standing_goes answer later name present w (standing_of name w.standings)
+flat_others : {binds : Bool} {given : List Standing → Bound → Standing → Type 0} {name : List ℕ} {ss : List Standing} {ms : List Made} {rest : List Entry} {how : Settled} {rs : List Standing} {o : Option (List Standing × Bound)} → Flat binds given name ss ms rest how rs o → OthersStand name ss rs
+flat_others {name = name} {ss = ss} (Unprobed known call count at) = tried_stand name ss (settled.Fault call count)
+flat_others {name = name} {ss = ss} (Tried known on call count ms es how at b) = tried_stand name ss how
+flat_others (Stopped ms es rs f opening) = opening_others opening
+flat_others (Unbound ms ns es fs rs r how t opening way end) = opening_others opening
+flat_others (No_place ms ns es rs b shut t opening way) = opening_others opening
+flat_others {name = name} (Judged_so ms ns os es fs rs b x how t opening way given new brought) = λ other n. kept_stand name rs x how new.named other n ∙ opening_others opening other n
 
--- the same where the listing didn't succeed
-abbrev LeavesKept : List ℕ → (Option Made → Bool → Type 0) → Kept → Seen → Settled × Kept → Type 0
-LeavesKept name F k q r = Leaves name F k.standings k.entries q r.1.standings r.1.entries
-
-after_again_goes : (name : List ℕ) (k : Kept) (known : Known) (r : Probe) (call count : ℕ) → Goes name (see (seen_of None from_none (open_file known.held.0 Authorized ∷ []) [] []) (Ask_alive known.held.0) (record { answer = r; number = call; count = count })) (after_again name k known r call count) (LeavesKept name (Anew (Some known)) k)
-after_again_goes name k known (probe.Alive on) call count =
-    let t : Told Probe = record { answer = probe.Alive on; number = call; count = count } in
-    let m : Made = answered (Ask_alive known.held.0) t in
-    let f : Settled × List Entry → Prog (Settled × Kept) = to_keep_mark k name in
-    walks_then (May name) see (LeavesKept name (Anew (Some known)) k) (seen_of (Some m) (record { last = Some m; earlier = None }) (open_file known.held.0 Authorized ∷ []) [] []) (bringing name known on k.entries) f
-    (bringing_goes name known on k.entries m None t (open_file known.held.0 Authorized ∷ []) (λ (u : Seen) (r : Settled × List Entry). Goes name u (f r) (LeavesKept name (Anew (Some known)) k)) refl (inl refl)
-    (λ u how es begins h. record { rest = es; entries = refl; tells = tells_weaker name (Anew (Some known)) (IsShort (is_to_go known)) u es (short_anew known) h; others = tried_stand name k.standings how }))
-after_again_goes name k known probe.Gone call count = record {
-  rest = entry.Gone known.number name ∷ [];
-  entries = refl;
-  tells = record { told = refl; last = (tt, tt); single = tt; writes = refl; memory = λ h. absurd (no_want name (entry.Gone known.number name ∷ []) (tt, tt) h) };
-  others = λ other n. without_stand name other k.standings n;
-}
-after_again_goes name k known probe.Failed call count = record {
-  rest = entry.Unsettled name (fault.Call call count) ∷ [];
-  entries = refl;
-  tells = record { told = refl; last = ((refl, refl), tt); single = tt; writes = refl; memory = λ h. absurd (no_want name (entry.Unsettled name (fault.Call call count) ∷ []) (tt, tt) h) };
-  others = tried_stand name k.standings (settled.Fault call count);
-}
-
-again_goes : (name : List ℕ) (k : Kept) (stands : Option Known) → Goes name (seen_of None from_none (known_files stands) [] []) (again name k stands) (LeavesKept name (Anew stands) k)
-again_goes name k (Some known) = ((inl refl, inl refl, tt), λ a. after_again_goes name k known a.answer a.number a.count)
-again_goes name k None = record { rest = []; entries = sym (append-nil k.entries); tells = record { told = refl; last = tt; single = tt; writes = refl; memory = λ h. absurd h }; others = others_stand name k.standings }
-
-pub resettling_goes : (name : List ℕ) (k : Kept) → Goes name (seen_of None from_none (known_files (standing_of name k.standings)) [] []) (resettling name k) (λ q r. Leaves name (Anew (standing_of name k.standings)) k.standings k.entries q r.1.standings r.1.entries)
-unfolding resettling
-resettling_goes name k = again_goes name k (standing_of name k.standings)
+pub flat_is_part : {binds : Bool} {given : List Standing → Bound → Standing → Type 0} {name : List ℕ} {ss : List Standing} {ms : List Made} {rest : List Entry} {how : Settled} {rs : List Standing} {o : Option (List Standing × Bound)} → Flat binds given name ss ms rest how rs o → Part name ss rs ms rest
+flat_is_part f =
+    let h = flat_goes f in
+    record { about = h.keeps.about; ends = h.keeps.ends; told = h.tells.told; last = h.tells.last; memory = h.memory; due = h.keeps.due; single = h.single; writes = h.tells.writes; few = flat_few f; bears = h.tells.bears; others = flat_others f }

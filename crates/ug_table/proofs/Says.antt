@@ -11,7 +11,7 @@ use Rattle.ug_kernel.specs.declared.calls.Wrote.{Wrote}
 use Rattle.ug_kernel.specs.Kernel.{Kernel}
 use Rattle.ug_audit.specs.declared.entry.Entry.{Entry}
 use Rattle.ug_audit.specs.declared.entry.Entry.TheVariants as entry
-use Rattle.ug_table.specs.Laws.{IsDevice, IsGone, IsProbed, TellsNeither, HasVerdict, wrote_entries, Account, Start, Note, Judge, Had, Had_not, Went, numbers_of, gone_of}
+use Rattle.ug_table.specs.Laws.{Tries, IsDevice, IsGone, IsProbed, TellsNeither, HasVerdict, wrote_entries, Account, Start, Note, Judge, Had, Had_not, Went, numbers_of, gone_of}
 use Rattle.ug_table.specs.declared.standing.Standing.{Standing}
 use Rattle.ug_types.proofs.Elements.{has_left, only_left, last_is, distinct_one, has_cases}
 use Rattle.ug_table.specs.State.{Answers, Laters}
@@ -221,24 +221,24 @@ verdict_low start k before next0 es next number name held verdict low h (inl a) 
     omega (arith, rises, below, same)
 verdict_low start k before next0 es next number name held verdict low h (inr a) = (h.judged number name held verdict a.0 a.1).below
 
-pub account_says : {J : Type 0} (answer : Answers J) (later : Laters J) (present : Bool) (start k : Kernel) (before : List Standing) (log0 : List Effect) (judge0 : J) (next0 : ℕ) (es : List Entry) (log : List Effect) (judge : J) (next : ℕ) → AreLow before next0 → Account answer later present start k before log0 judge0 next0 es log judge next → Says start k before next0 es next
-account_says answer later present start k before log0 judge0 next0 es log judge next low Start = record {
+pub account_says : {J : Type 0} (answer : Answers J) (later : Laters J) (present : Bool) (tried : Tries) (start k : Kernel) (before : List Standing) (log0 : List Effect) (judge0 : J) (next0 : ℕ) (es : List Entry) (log : List Effect) (judge : J) (next : ℕ) → AreLow before next0 → Account answer later present tried start k before log0 judge0 next0 es log judge next → Says start k before next0 es next
+account_says answer later present tried start k before log0 judge0 next0 es log judge next low Start = record {
   rises = omega arith;
   judged = λ number name held verdict cause a. absurd a;
   gone = λ number name a. absurd a;
   one = λ number n m x y v u c d a b. absurd a;
   wrote = λ number name what outcome a. absurd a;
 }
-account_says answer later present start k before log0 judge0 next0 es log judge next low (Note fs m j n e t h) = says_plain start k before next0 fs (e ∷ []) n (plain_note e t) (λ number name what outcome a. absurd (one_neither e (entry.Wrote number name what outcome) t a)) (account_says answer later present start k before log0 judge0 next0 fs m j n low h)
-account_says answer later present start k before log0 judge0 next0 es log judge next low (Judge fs m j n i name held judged on ss d b left so h) = says_judged start k before next0 fs n i name held judged on _ _ d b (account_says answer later present start k before log0 judge0 next0 fs m j n low h)
-account_says answer later present start k before log0 judge0 next0 es log judge next low (Had fs m j n i number name held judged verdict what outcome d v due first may h) =
-    let says = account_says answer later present start k before log0 judge0 next0 fs m j n low h in
+account_says answer later present tried start k before log0 judge0 next0 es log judge next low (Note fs m j n e t h) = says_plain start k before next0 fs (e ∷ []) n (plain_note e t) (λ number name what outcome a. absurd (one_neither e (entry.Wrote number name what outcome) t a)) (account_says answer later present tried start k before log0 judge0 next0 fs m j n low h)
+account_says answer later present tried start k before log0 judge0 next0 es log judge next low (Judge fs m j n i name held judged on ss d b stands left so h) = says_judged start k before next0 fs n i name held judged on _ _ d b (account_says answer later present tried start k before log0 judge0 next0 fs m j n low h)
+account_says answer later present tried start k before log0 judge0 next0 es log judge next low (Had fs m j n i number name held judged verdict what outcome d v due first may h) =
+    let says = account_says answer later present tried start k before log0 judge0 next0 fs m j n low h in
     says_plain start k before next0 fs (wrote_entries number name what outcome) n (plain_wrote number name what outcome) (wrote_below number n name what outcome (verdict_low start k before next0 fs n number name held verdict low says v)) says
-account_says answer later present start k before log0 judge0 next0 es log judge next low (Had_not fs m j n i number name held judged verdict what outcome d v due first may h) =
-    let says = account_says answer later present start k before log0 judge0 next0 fs m j n low h in
+account_says answer later present tried start k before log0 judge0 next0 es log judge next low (Had_not fs m j n i number name held judged verdict what outcome d v due first may h) =
+    let says = account_says answer later present tried start k before log0 judge0 next0 fs m j n low h in
     says_plain start k before next0 fs (wrote_entries number name what outcome) n (plain_wrote number name what outcome) (wrote_below number n name what outcome (verdict_low start k before next0 fs n number name held verdict low says v)) says
-account_says answer later present start k before log0 judge0 next0 es log judge next low (Went fs m j n i number name held judged verdict d o v h) =
-    let says = account_says answer later present start k before log0 judge0 next0 fs m j n low h in
+account_says answer later present tried start k before log0 judge0 next0 es log judge next low (Went fs m j n i number name held judged verdict d o v h) =
+    let says = account_says answer later present tried start k before log0 judge0 next0 fs m j n low h in
     says_went start k before next0 fs n number name (record { below = verdict_low start k before next0 fs n number name held verdict low says v; i = i; held = held; judged = judged; verdict = verdict; device = d; gone = o; had = v }) says
 
 -- a number has one held file

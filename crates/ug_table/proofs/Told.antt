@@ -1,34 +1,21 @@
 -- What settling a name tells as unsettled, and how it leaves the marks, whatever the kernel answers.
-use Rattle.std.proofs.Common.{◌≡◌, ℕ, ◌+◌, Bool, true, false, not, is_none, cond, List, [], ◌∷◌, ◌++◌, map, Option, Some, None, inl, inr, refl, sym, ◌∙◌, ap, subst, append_assoc, append-nil}
+use Rattle.std.proofs.Common.{◌≡◌, ℕ, Bool, true, false, not, cond, List, [], ◌∷◌, ◌++◌, map, Option, inl, inr, refl, sym, ◌∙◌, ap, subst}
 use Rattle.ug_types.specs.Elements.{Has}
-use Rattle.ug_types.specs.Names.{parent_of}
-use Rattle.ug_types.specs.declared.record.Judged.{Judged}
-use Rattle.ug_types.specs.declared.verdict.Target.{Target}
-use Rattle.ug_types.specs.declared.verdict.Cause.{Cause}
 use Rattle.ug_kernel.specs.declared.calls.Write.{Write}
 use Rattle.ug_kernel.specs.declared.calls.Wrote.{Wrote}
 use Rattle.ug_kernel.specs.declared.calls.Wrote.TheVariants as wrote
-use Rattle.ug_kernel.specs.declared.calls.Probe.{Probe}
-use Rattle.ug_kernel.specs.declared.calls.Probe.TheVariants as probe
 use Rattle.ug_kernel.specs.Calls.{Call, Answer}
-use Rattle.ug_itree.specs.Tree.{Prog, Return, Ask, Room, Runs, then}
-use Rattle.ug_record.specs.Records.{judged_of}
-use Rattle.ug_node.specs.Bind.{binding}
+use Rattle.ug_itree.specs.Tree.{Prog, Runs, then}
 use Rattle.ug_node.specs.declared.identity.Bound.{Bound}
 use Rattle.ug_node.specs.declared.identity.Binding.{Binding}
-use Rattle.ug_node.specs.declared.identity.Binding.TheVariants as bound
 use Rattle.ug_audit.specs.declared.entry.Entry.{Entry}
 use Rattle.ug_audit.specs.declared.entry.Entry.TheVariants as entry
-use Rattle.ug_audit.specs.declared.entry.Fault.{Fault}
 use Rattle.ug_audit.specs.declared.entry.Fault.TheVariants as fault
-use Rattle.ug_kernel.specs.declared.calls.Write.TheVariants as write
-use Rattle.ug_node.specs.Removal.{holding_remove}
 use Rattle.ug_node.specs.declared.removal.RemoveHold.{RemoveHold}
-use Rattle.ug_node.specs.declared.removal.RemoveHold.TheVariants as hold
 use Rattle.ug_table.specs.State.{State, Kept, Answers, Laters}
-use Rattle.ug_table.specs.Bring.{wants, write_of, after_write, to_value, valuing, after_hold, removing, is_to_go, if_to_go, after_value, bringing}
-use Rattle.ug_table.specs.Standings.{same_name, standing_of, without, marked, place_for, with_standing, settled_standing}
-use Rattle.ug_table.specs.Settle.{kept_standings, to_keep, unsettled, no_room, standing_for, known_in, judged_entry, judging, if_place, if_record, admitting, after_bind, entering, tried_standings, to_mark, dropped, after_known, from_standing, settling, to_keep_mark, after_again, again, resettling}
+use Rattle.ug_table.specs.Bring.{is_to_go, bringing}
+use Rattle.ug_table.specs.Standings.{same_name, without, marked, place_for, with_standing, settled_standing}
+use Rattle.ug_table.specs.Settle.{kept_standings, tried_standings, settling, resettling}
 use Rattle.ug_table.specs.Sweep.{names_of}
 use Rattle.ug_table.specs.Laws.{IsNamed, IsMarked}
 use Rattle.ug_table.specs.declared.standing.Standing.{Standing}
@@ -36,34 +23,25 @@ use Rattle.ug_table.specs.declared.standing.Known.{Known}
 use Rattle.ug_table.specs.declared.standing.Settled.{Settled}
 use Rattle.ug_table.specs.declared.standing.Settled.TheVariants as settled
 use Rattle.ug_types.proofs.Elements.{has_left, has_right, has_cases, filter_has, map_has, has_map, insert_has}
+use Rattle.ug_table.proofs.Ways.{Ways, ways_run, ways_next, ways_more}
+use Rattle.ug_table.proofs.Shapes.{Written, Done, Went, Broke, Valued, Same, Set, Unheld, Gone_by, Failed_by, Short_by, Removal, Not_held, Put_on, Brought, By_value, And_removal, Opening, Fresh, Lost, Unbound_end, Absent_so, Vanished_so, Failed_so, Short_so, Flat, Unprobed, Tried, Stopped, Unbound, No_place, Judged_so, Adds, brought, Settles, settles, Resettles, resettles}
+use Rattle.ug_kernel.specs.Calls.{Told}
+use Rattle.ug_itree.specs.Along.{Made}
 use Rattle.ug_table.proofs.Standings.{is_same, missing, missing_without}
 use Rattle.ug_table.proofs.Places.{marked_other}
 
 -- each end of the tree is so
 abbrev pub EndsSo : {R : Type 0} → (R → Type 0) → Prog R → Type 0
-EndsSo p (Return value) = p value
-EndsSo p (Ask call next) = (a : Answer call) → EndsSo p (next a)
-EndsSo p (Room next) = (b : Bool) → EndsSo p (next b)
+EndsSo p t = Ways t (λ ms r. p r)
 
 pub ends_run : {S R : Type 0} (gives : S → (call : Call) → Answer call → S → Type 0) (p : R → Type 0) (t : Prog R) (s : S) (r : R) (u : S) → EndsSo p t → Runs gives s t r u → p r
-ends_run gives p (Return value) s r u e h = subst (λ (x : _). p x) (sym h.0) e
-ends_run gives p (Ask call next) s r u e h = ends_run gives p (next h.0) h.1 r u (e h.0) h.3
-ends_run gives p (Room next) s r u e h = ends_run gives p (next h.0) s r u (e h.0) h.1
+ends_run gives p t s r u e h = (ways_run gives (λ ms x. p x) t s r u e h).so
 
 pub ends_then : {A B : Type 0} (p : A → Type 0) (q : B → Type 0) (t : Prog A) (f : A → Prog B) → EndsSo p t → ((a : A) → p a → EndsSo q (f a)) → EndsSo q (then t f)
-ends_then p q (Return value) f e g = g value e
-ends_then p q (Ask call next) f e g = λ a. ends_then p q (next a) f (e a) g
-ends_then p q (Room next) f e g = λ b. ends_then p q (next b) f (e b) g
+ends_then p q t f e g = ways_next (λ ms a. p a) (λ ms b. q b) t f e (λ ms a h. g a h)
 
 pub ends_map : {R : Type 0} (p q : R → Type 0) (t : Prog R) → ((r : R) → p r → q r) → EndsSo p t → EndsSo q t
-ends_map p q (Return value) f e = f value e
-ends_map p q (Ask call next) f e = λ a. ends_map p q (next a) f (e a)
-ends_map p q (Room next) f e = λ b. ends_map p q (next b) f (e b)
-
-pub ends_any : {R : Type 0} (t : Prog R) → EndsSo (λ (r : R). Unit {0}) t
-ends_any (Return value) = tt
-ends_any (Ask call next) = λ a. ends_any (next a)
-ends_any (Room next) = λ b. ends_any (next b)
+ends_map p q t f e = ways_more (λ ms r. p r) (λ ms r. q r) t (λ ms r h. f r h) e
 
 -- each entry is so
 abbrev pub Each : (Entry → Type 0) → List Entry → Type 0
@@ -113,58 +91,28 @@ Tells settled.Memory name rest = IsNamed rest name
 -- the writes
 
 -- a device that isn't to be removed isn't told for memory
-pub record Brings (name : List ℕ) (go : Bool) (es : List Entry) (p : Settled × List Entry) : Type 0 where
-  pub rest : List Entry
-  pub entries : p.1 ≡ es ++ rest
-  pub only : Each (NamesOnly name) rest
-  pub spared : go ≡ false → Each NotMemory rest
-  pub tells : Tells p.0 name rest
+record TellsSo (name : List ℕ) (go : Bool) (es : List Entry) (how : Settled) : Type 0 where
+  only : Each (NamesOnly name) es
+  spared : go ≡ false → Each NotMemory es
+  tells : Tells how name es
 
-after_write_brings : (name : List ℕ) (go : Bool) (number : ℕ) (what : Write) (es : List Entry) (outcome : Wrote) (call count : ℕ) → EndsSo (Brings name go es) (after_write name number what (es ++ entry.Intent number name what ∷ []) outcome call count)
-after_write_brings name go number what es wrote.Done call count =
-    let rest = entry.Intent number name what ∷ entry.Wrote number name what wrote.Done ∷ [] in
-    record { rest = rest; entries = append_assoc es _ _; only = (tt, (tt, tt)); spared = λ e. (tt, (tt, tt)); tells = none_named rest name (tt, (tt, tt)) }
-after_write_brings name go number what es wrote.Gone call count = record {
-  rest = entry.Intent number name what ∷ entry.Wrote number name what wrote.Gone ∷ entry.Gone number name ∷ [];
-  entries = append_assoc (es ++ entry.Intent number name what ∷ []) _ _ ∙ append_assoc es _ _;
-  only = (tt, (tt, (tt, tt)));
-  spared = λ e. (tt, (tt, (tt, tt)));
-  tells = tt;
-}
-after_write_brings name go number what es wrote.Failed call count = record {
-  rest = entry.Intent number name what ∷ entry.Wrote number name what wrote.Failed ∷ entry.Unsettled name (fault.Call call count) ∷ [];
-  entries = append_assoc (es ++ entry.Intent number name what ∷ []) _ _ ∙ append_assoc es _ _;
-  only = (tt, (tt, (refl, tt)));
-  spared = λ e. (tt, (tt, (tt, tt)));
-  tells = (fault.Call call count, inr (inr (inl refl)));
-}
+written_tells : {name : List ℕ} {number : ℕ} {what : Write} {t : Told Wrote} {es : List Entry} {how : Settled} (go : Bool) → Written name number what t es how → TellsSo name go es how
+written_tells {name} {number} {what} go (Done call count) = record { only = (tt, (tt, tt)); spared = λ e. (tt, (tt, tt)); tells = none_named (entry.Intent number name what ∷ entry.Wrote number name what wrote.Done ∷ []) name (tt, (tt, tt)) }
+written_tells go (Went call count) = record { only = (tt, (tt, (tt, tt))); spared = λ e. (tt, (tt, (tt, tt))); tells = tt }
+written_tells go (Broke call count) = record { only = (tt, (tt, (refl, tt))); spared = λ e. (tt, (tt, (tt, tt))); tells = (fault.Call call count, inr (inr (inl refl))) }
 
-as_it_was : (name : List ℕ) (go : Bool) (es : List Entry) → Brings name go es (settled.Stands, es)
-as_it_was name go es = record { rest = []; entries = sym (append-nil es); only = tt; spared = λ e. tt; tells = none_named [] name tt }
+valued_tells : {name : List ℕ} {known : Known} {on : Bool} {ms : List Made} {es : List Entry} {how : Settled} (go : Bool) → Valued name known on ms es how → TellsSo name go es how
+valued_tells {name} go (Same e) = record { only = tt; spared = λ f. tt; tells = none_named [] name tt }
+valued_tells go (Set t es how e w) = written_tells go w
 
-to_value_brings : (name : List ℕ) (go : Bool) (known : Known) (es : List Entry) (want on : Bool) → EndsSo (Brings name go es) (to_value name known es want on)
-to_value_brings name go known es true true = as_it_was name go es
-to_value_brings name go known es false false = as_it_was name go es
-to_value_brings name go known es true false = λ t. after_write_brings name go known.number (write_of known.verdict) es t.answer t.number t.count
-to_value_brings name go known es false true = λ t. after_write_brings name go known.number (write_of known.verdict) es t.answer t.number t.count
+unheld_tells : {name : List ℕ} {number : ℕ} {r : RemoveHold} {es : List Entry} {how : Settled} → Unheld name number r es how → TellsSo name true es how
+unheld_tells Gone_by = record { only = (tt, tt); spared = λ e. (tt, tt); tells = tt }
+unheld_tells (Failed_by call count) = record { only = (refl, tt); spared = λ e. (tt, tt); tells = (fault.Call call count, inl refl) }
+unheld_tells Short_by = record { only = (refl, tt); spared = λ e. absurd (let none : ⊥ = cc in none); tells = (fault.Memory, inl refl) }
 
-valuing_brings : (name : List ℕ) (go : Bool) (known : Known) (on : Bool) (es : List Entry) → EndsSo (Brings name go es) (valuing name known on es)
-unfolding valuing
-valuing_brings name go known on es = to_value_brings name go known es (wants known.verdict) on
-
--- the removal
-
-after_hold_brings : (name : List ℕ) (known : Known) (es : List Entry) (answer : RemoveHold) → EndsSo (Brings name true es) (after_hold name known es answer)
-after_hold_brings name known es (hold.Ready file) = λ t closed. after_write_brings name true known.number write.Remove es t.answer t.number t.count
-after_hold_brings name known es hold.Gone = record { rest = entry.Gone known.number name ∷ []; entries = refl; only = (tt, tt); spared = λ e. (tt, tt); tells = tt }
-after_hold_brings name known es (hold.Failed call count) = record { rest = entry.Unsettled name (fault.Call call count) ∷ []; entries = refl; only = (refl, tt); spared = λ e. (tt, tt); tells = (fault.Call call count, inl refl) }
-after_hold_brings name known es hold.Memory = record { rest = entry.Unsettled name fault.Memory ∷ []; entries = refl; only = (refl, tt); spared = λ e. absurd (let none : ⊥ = cc in none); tells = (fault.Memory, inl refl) }
-
-removing_brings : (name : List ℕ) (known : Known) (es : List Entry) → EndsSo (Brings name true es) (removing name known es)
-unfolding removing
-removing_brings name known es =
-    ends_then (λ (r : RemoveHold). Unit {0}) (Brings name true es) (holding_remove name known.held.0) (after_hold name known es) (ends_any (holding_remove name known.held.0))
-    (λ r u. after_hold_brings name known es r)
+removal_tells : {name : List ℕ} {known : Known} {ms : List Made} {es : List Entry} {how : Settled} → Removal name known ms es how → TellsSo name true es how
+removal_tells (Not_held ms r es how way u) = unheld_tells u
+removal_tells (Put_on ms file t shut es how way w) = written_tells true w
 
 tells_more : (how : Settled) (name : List ℕ) (es fs : List Entry) → (IsNamed es name → ⊥) → Tells how name fs → Tells how name (es ++ fs)
 tells_more settled.Stands name es fs none t = λ a. elim (has_cases es fs (entry.Unsettled name a.0) a.1) [ inl b ↦ none (a.0, b) | inr b ↦ t (a.0, b) ]
@@ -172,30 +120,28 @@ tells_more (settled.Fault call count) name es fs none t = (t.0, has_right es fs 
 tells_more settled.Nobody name es fs none t = tt
 tells_more settled.Memory name es fs none t = (t.0, has_right es fs (entry.Unsettled name t.0) t.1)
 
-brings_more : (name : List ℕ) (es fs : List Entry) (p : Settled × List Entry) → Brings name true es (settled.Stands, fs) → Brings name true fs p → Brings name true es p
-brings_more name es fs p a b = record {
-  rest = a.rest ++ b.rest;
-  entries = b.entries ∙ ap (λ (v : List Entry). v ++ b.rest) a.entries ∙ append_assoc es a.rest b.rest;
-  only = each_append (NamesOnly name) a.rest b.rest a.only b.only;
-  spared = λ e. absurd (let none : ⊥ = cc in none);
-  tells = tells_more p.0 name a.rest b.rest a.tells b.tells;
-}
+brought_tells : {name : List ℕ} {known : Known} {on : Bool} {ms : List Made} {es : List Entry} {how : Settled} → Brought name known on ms es how → TellsSo name (is_to_go known) es how
+brought_tells {known = known} (By_value ms es how v k) = valued_tells (is_to_go known) v
+brought_tells {name} (And_removal ms ns es fs how go v r) =
+    let a = valued_tells true v in
+    let b = removal_tells r in
+    record {
+      only = each_append (NamesOnly name) es fs a.only b.only;
+      spared = λ e. absurd (let is = go in let none : ⊥ = cc in none);
+      tells = tells_more how name es fs a.tells b.tells;
+    }
 
-if_to_go_brings : (name : List ℕ) (known : Known) (es fs : List Entry) (go : Bool) → Brings name go es (settled.Stands, fs) → EndsSo (Brings name go es) (if_to_go name known fs go)
-if_to_go_brings name known es fs true a = ends_map (Brings name true fs) (Brings name true es) (removing name known fs) (λ p b. brings_more name es fs p a b) (removing_brings name known fs)
-if_to_go_brings name known es fs false a = a
-
-after_value_brings : (name : List ℕ) (known : Known) (es fs : List Entry) (how : Settled) → Brings name (is_to_go known) es (how, fs) → EndsSo (Brings name (is_to_go known) es) (after_value name known fs how)
-after_value_brings name known es fs settled.Stands a = if_to_go_brings name known es fs (is_to_go known) a
-after_value_brings name known es fs settled.Nobody a = a
-after_value_brings name known es fs (settled.Fault call count) a = a
-after_value_brings name known es fs settled.Memory a = a
+pub record Brings (name : List ℕ) (go : Bool) (es : List Entry) (p : Settled × List Entry) : Type 0 where
+  pub rest : List Entry
+  pub entries : p.1 ≡ es ++ rest
+  pub only : Each (NamesOnly name) rest
+  pub spared : go ≡ false → Each NotMemory rest
 
 pub bringing_brings : (name : List ℕ) (known : Known) (on : Bool) (es : List Entry) → EndsSo (Brings name (is_to_go known) es) (bringing name known on es)
-unfolding bringing
 bringing_brings name known on es =
-    ends_then (Brings name (is_to_go known) es) (Brings name (is_to_go known) es) (valuing name known on es) (λ (q : Settled × List Entry). after_value name known q.1 q.0) (valuing_brings name (is_to_go known) known on es)
-    (λ q b. after_value_brings name known es q.1 q.0 b)
+    ways_more (Adds es (Brought name known on)) (λ ms p. Brings name (is_to_go known) es p) (bringing name known on es)
+    (λ ms p h. let t = brought_tells h.2 in record { rest = h.0; entries = h.1; only = t.only; spared = t.spared })
+    (brought name known on es)
 
 -- a name
 
@@ -267,145 +213,77 @@ tried_mark ss name settled.Stands rest s t a e = inl (marked_mark ss name true s
 tried_mark ss name (settled.Fault call count) rest s t a e = inr (marked_mark ss name false s a e, subst (λ (v : List ℕ). IsNamed rest v) (sym e) t)
 tried_mark ss name settled.Memory rest s t a e = inr (marked_mark ss name false s a e, subst (λ (v : List ℕ). IsNamed rest v) (sym e) t)
 
-tried_part : (ss : List Standing) (es : List Entry) (name : List ℕ) (go : Bool) (q : Settled × List Entry) → Brings name go es q → Part name ss es (tried_standings ss name q.0) q.1
-tried_part ss es name go q b = record {
-  rest = b.rest;
-  entries = b.entries;
-  only = b.only;
-  others = λ s a ne. tried_others ss name q.0 s a ne;
-  mark = λ s a e. tried_mark ss name q.0 b.rest s b.tells a e;
-}
+-- before a binding, no standing of the name is left
+pub record Opens (name : List ℕ) (ss : List Standing) (es : List Entry) (rs : List Standing) : Type 0 where
+  pub none : Each NamesNone es
+  pub less : (s : Standing) → Has rs s → Has ss s
+  pub absent : Has (names_of rs) name → ⊥
 
-failed_part : (ss : List Standing) (es : List Entry) (name : List ℕ) (call count : ℕ) → Part name ss es (tried_standings ss name (settled.Fault call count)) (es ++ entry.Unsettled name (fault.Call call count) ∷ [])
-failed_part ss es name call count =
-    let rest = entry.Unsettled name (fault.Call call count) ∷ [] in
+pub opens : {name : List ℕ} {ss : List Standing} {ms : List Made} {es : List Entry} {rs : List Standing} → Opening name ss ms es rs → Opens name ss es rs
+opens {name} {ss} (Fresh e) = record { none = tt; less = λ s a. a; absent = missing name ss e }
+opens {name} {ss} (Lost known call count e) = record { none = (tt, tt); less = λ s a. tried_others_less s a; absent = missing_without name ss }
+  where
+    tried_others_less : (s : Standing) → Has (without name ss) s → Has ss s
+    tried_others_less s a = (filter_has (λ (v : Standing). not (same_name v.name name)) ss s a).0
+
+-- a standing of the name
+own_name : (ss : List Standing) (name : List ℕ) (s : Standing) → Has ss s → s.name ≡ name → Has (names_of ss) name
+own_name ss name s a e = subst (λ (v : List ℕ). Has (names_of ss) v) e (has_map (λ (v : Standing). v.name) ss s a)
+
+unbound_only : {name : List ℕ} {r : Binding} {es : List Entry} {how : Settled} → Unbound_end name r es how → Each (NamesOnly name) es
+unbound_only Absent_so = tt
+unbound_only Vanished_so = tt
+unbound_only (Failed_so call count) = (refl, tt)
+unbound_only Short_so = (refl, tt)
+
+-- it names none, so none but this one
+only_none : (name : List ℕ) (e : Entry) → NamesNone e → NamesOnly name e
+only_none name (entry.Unsettled n why) h = absurd h
+only_none name (entry.UnsettledAll why) h = h
+only_none name (entry.Event number moment) h = h
+only_none name (entry.Judged number n held verdict cause) h = h
+only_none name (entry.Intent number n what) h = h
+only_none name (entry.Wrote number n what outcome) h = h
+only_none name (entry.Gone number n) h = h
+only_none name (entry.End number) h = h
+
+pub flat_part : {binds : Bool} {given : List Standing → Bound → Standing → Type 0} {name : List ℕ} {ss : List Standing} {ms : List Made} {rest : List Entry} {how : Settled} {rs : List Standing} {o : Option (List Standing × Bound)} (es fs : List Entry) → fs ≡ es ++ rest → Flat binds given name ss ms rest how rs o → Part name ss es rs fs
+flat_part {name = name} {ss = ss} xs ys e (Unprobed known call count at) = record { rest = _; entries = e; only = (refl, tt); others = λ s a ne. tried_others ss name (settled.Fault call count) s a ne; mark = λ s a is. tried_mark ss name (settled.Fault call count) (entry.Unsettled name (fault.Call call count) ∷ []) s (fault.Call call count, inl refl) a is }
+flat_part {name = name} {ss = ss} xs ys e (Tried known on call count ms es how at b) =
+    let t = brought_tells b in
+    record { rest = es; entries = e; only = t.only; others = λ s a ne. tried_others ss name how s a ne; mark = λ s a is. tried_mark ss name how es s t.tells a is }
+flat_part {name = name} xs ys e (Stopped ms es rs f opening) =
+    let o = opens opening in
+    record { rest = es; entries = e; only = each_map NamesNone (NamesOnly name) es (only_none name) o.none; others = λ s a ne. o.less s a; mark = λ s a is. absurd (o.absent (own_name rs name s a is)) }
+flat_part {name = name} xs ys e (Unbound ms ns es fs rs r how t opening way end) =
+    let o = opens opening in
+    record { rest = es ++ fs; entries = e; only = each_append (NamesOnly name) es fs (each_map NamesNone (NamesOnly name) es (only_none name) o.none) (unbound_only end); others = λ s a ne. o.less s a; mark = λ s a is. absurd (o.absent (own_name rs name s a is)) }
+flat_part {name = name} xs ys e (No_place ms ns es rs b shut t opening way) =
+    let o = opens opening in
+    record { rest = _; entries = e; only = each_append (NamesOnly name) es _ (each_map NamesNone (NamesOnly name) es (only_none name) o.none) (refl, tt); others = λ s a ne. o.less s a; mark = λ s a is. absurd (o.absent (own_name rs name s a is)) }
+flat_part {name = name} xs ys e (Judged_so ms ns os es fs rs b x how t opening way given new brought) =
+    let o = opens opening in
+    let t = brought_tells brought in
+    let told = entry.Judged x.number name x.held x.verdict x.cause in
     record {
-      rest = rest;
-      entries = refl;
-      only = (refl, tt);
-      others = λ s a ne. tried_others ss name (settled.Fault call count) s a ne;
-      mark = λ s a e. tried_mark ss name (settled.Fault call count) rest s (fault.Call call count, inl refl) a e;
+      rest = es ++ told ∷ fs;
+      entries = e;
+      only = each_append (NamesOnly name) es (told ∷ fs) (each_map NamesNone (NamesOnly name) es (only_none name) o.none) (tt, t.only);
+      others = λ s a ne. o.less s (kept_others rs x how s a (λ f. ne (f ∙ new.named)));
+      mark = λ s a is. marked_left es (told ∷ fs) s (none_named es s.name o.none) (marked_left (told ∷ []) fs s (none_named (told ∷ []) s.name (tt, tt)) (kept_mark rs x how fs s (subst (λ v. Has (names_of rs) v → ⊥) (sym new.named) o.absent) new.fresh (subst (λ v. Tells how v fs) (sym new.named) t.tells) a (is ∙ sym new.named)));
     }
-
--- a name that has no standing, and gets none
-none_part : (ss : List Standing) (es rest : List Entry) (name : List ℕ) → (Has (names_of ss) name → ⊥) → Each (NamesOnly name) rest → Part name ss es ss (es ++ rest)
-none_part ss es rest name absent only = record {
-  rest = rest;
-  entries = refl;
-  only = only;
-  others = λ s a ne. a;
-  mark = λ s a e. absurd (absent (subst (λ (v : List ℕ). Has (names_of ss) v) e (has_map (λ (v : Standing). v.name) ss s a)));
-}
-
-still_part : (ss : List Standing) (es : List Entry) (name : List ℕ) → (Has (names_of ss) name → ⊥) → Part name ss es ss es
-still_part ss es name absent = subst (λ (v : List Entry). Part name ss es ss v) (append-nil es) (none_part ss es [] name absent tt)
 
 -- of states, which keep whether a listing has succeeded
 abbrev pub PartOf : {J : Type 0} → List ℕ → State J → Settled × State J → Type 0
 PartOf name w p = Part name w.standings w.entries p.1.standings p.1.entries × (p.1.listed ≡ w.listed)
 
-judging_part : {J : Type 0} (later : J) (name : List ℕ) (held : ℕ) (judged : Judged) (on : Bool) (given : Target × Cause) (w : State J) → (Has (names_of w.standings) name → ⊥) → EndsSo (PartOf name w) (judging later w name held judged on given)
-judging_part {J} later name held judged on given w absent =
-    let e = judged_entry w name held given in
-    let es = w.entries ++ e ∷ [] in
-    let x = standing_for w name held judged given in
-    ends_then (Brings name (is_to_go (known_in w held given)) es) (PartOf name w) (bringing name (known_in w held given) on es) (to_keep (record w { next = w.next + 1; judge = later }) x)
-    (bringing_brings name (known_in w held given) on es)
-    (λ q b.
-    let part : Part name w.standings w.entries (kept_standings w.standings x q.0) q.1 = record {
-      rest = e ∷ b.rest;
-      entries = b.entries ∙ append_assoc w.entries (e ∷ []) b.rest;
-      only = (tt, b.only);
-      others = λ s a ne. kept_others w.standings x q.0 s a ne;
-      mark = λ s a is. marked_left (e ∷ []) b.rest s (none_named (e ∷ []) s.name (tt, tt)) (kept_mark w.standings x q.0 b.rest s absent refl b.tells a is);
-    } in
-    (part, refl))
-
-unsettled_part : {J : Type 0} (name : List ℕ) (why : Fault) (how : Settled) (w : State J) → (Has (names_of w.standings) name → ⊥) → EndsSo (PartOf name w) (unsettled w name why how)
-unsettled_part name why how w absent = (none_part w.standings w.entries (entry.Unsettled name why ∷ []) name absent (refl, tt), refl)
-
-no_room_part : {J : Type 0} (name : List ℕ) (held : ℕ) (w : State J) → (Has (names_of w.standings) name → ⊥) → EndsSo (PartOf name w) (no_room w name held)
-no_room_part name held w absent = λ closed. unsettled_part name fault.Memory settled.Memory w absent
-
-if_place_part : {J : Type 0} (answer : Answers J) (later : Laters J) (name : List ℕ) (present : Bool) (w : State J) (b : Bound) (judged : Judged) (room : Bool) → (Has (names_of w.standings) name → ⊥) → EndsSo (PartOf name w) (if_place answer later name present w b judged room)
-if_place_part answer later name present w b judged true absent = judging_part (later w.judge judged (is_none (parent_of name)) present b.on w.standings) name b.held.0 judged b.on (answer w.judge judged (is_none (parent_of name)) present b.on w.standings) w absent
-if_place_part answer later name present w b judged false absent = no_room_part name b.held.0 w absent
-
-if_record_part : {J : Type 0} (answer : Answers J) (later : Laters J) (name : List ℕ) (present : Bool) (w : State J) (b : Bound) (room : Bool) → (Has (names_of w.standings) name → ⊥) → EndsSo (PartOf name w) (if_record answer later name present w b room)
-if_record_part answer later name present w b true absent = λ room. if_place_part answer later name present w b (judged_of name b.attrs b.parent) room absent
-if_record_part answer later name present w b false absent = no_room_part name b.held.0 w absent
-
-admitting_part : {J : Type 0} (answer : Answers J) (later : Laters J) (name : List ℕ) (present : Bool) (w : State J) (b : Bound) → (Has (names_of w.standings) name → ⊥) → EndsSo (PartOf name w) (admitting answer later name present w b)
-unfolding admitting
-admitting_part answer later name present w b absent = λ room. if_record_part answer later name present w b room absent
-
-after_bind_part : {J : Type 0} (answer : Answers J) (later : Laters J) (name : List ℕ) (present : Bool) (w : State J) (a : Binding) → (Has (names_of w.standings) name → ⊥) → EndsSo (PartOf name w) (after_bind answer later name present w a)
-after_bind_part answer later name present w (bound.Bound b) absent = admitting_part answer later name present w b absent
-after_bind_part answer later name present w bound.Absent absent = (still_part w.standings w.entries name absent, refl)
-after_bind_part answer later name present w bound.Vanished absent = (still_part w.standings w.entries name absent, refl)
-after_bind_part answer later name present w (bound.Failed call count) absent = unsettled_part name (fault.Call call count) (settled.Fault call count) w absent
-after_bind_part answer later name present w bound.Memory absent = unsettled_part name fault.Memory settled.Memory w absent
-
-entering_part : {J : Type 0} (answer : Answers J) (later : Laters J) (name : List ℕ) (present : Bool) (w : State J) → (Has (names_of w.standings) name → ⊥) → EndsSo (PartOf name w) (entering answer later name present w)
-unfolding entering
-entering_part answer later name present w absent =
-    ends_then (λ (a : Binding). Unit {0}) (PartOf name w) (binding name (parent_of name)) (after_bind answer later name present w) (ends_any (binding name (parent_of name)))
-    (λ a u. after_bind_part answer later name present w a absent)
-
-dropped_part : {J : Type 0} (name : List ℕ) (number : ℕ) (w : State J) (p : Settled × State J) → PartOf name (dropped w name number) p → PartOf name w p
-dropped_part name number w p h =
-    let e = entry.Gone number name in
-    let part : Part name w.standings w.entries p.1.standings p.1.entries = record {
-      rest = e ∷ h.0.rest;
-      entries = h.0.entries ∙ append_assoc w.entries (e ∷ []) h.0.rest;
-      only = (tt, h.0.only);
-      others = λ s a ne. (filter_has (λ (v : Standing). not (same_name v.name name)) w.standings s (h.0.others s a ne)).0;
-      mark = λ s a is. marked_left (e ∷ []) h.0.rest s (none_named (e ∷ []) s.name (tt, tt)) (h.0.mark s a is);
-    } in
-    (part, h.1)
-
-after_known_part : {J : Type 0} (answer : Answers J) (later : Laters J) (name : List ℕ) (present : Bool) (w : State J) (known : Known) (a : Probe) (call count : ℕ) → EndsSo (PartOf name w) (after_known answer later name present w known a call count)
-after_known_part answer later name present w known (probe.Alive on) call count =
-    ends_then (Brings name (is_to_go known) w.entries) (PartOf name w) (bringing name known on w.entries) (to_mark w name) (bringing_brings name known on w.entries)
-    (λ q b. (tried_part w.standings w.entries name (is_to_go known) q b, refl))
-after_known_part answer later name present w known probe.Gone call count =
-    ends_map (PartOf name (dropped w name known.number)) (PartOf name w) (entering answer later name present (dropped w name known.number)) (λ p h. dropped_part name known.number w p h)
-    (entering_part answer later name present (dropped w name known.number) (missing_without name w.standings))
-after_known_part answer later name present w known probe.Failed call count = (failed_part w.standings w.entries name call count, refl)
-
-from_standing_part : {J : Type 0} (answer : Answers J) (later : Laters J) (name : List ℕ) (present : Bool) (w : State J) (o : Option Known) → standing_of name w.standings ≡ o → EndsSo (PartOf name w) (from_standing answer later name present w o)
-from_standing_part answer later name present w (Some known) e = λ t. after_known_part answer later name present w known t.answer t.number t.count
-from_standing_part answer later name present w None e = entering_part answer later name present w (missing name w.standings e)
-
 pub settling_part : {J : Type 0} (answer : Answers J) (later : Laters J) (name : List ℕ) (present : Bool) (w : State J) → EndsSo (PartOf name w) (settling answer later name present w)
-unfolding settling
-settling_part answer later name present w = from_standing_part answer later name present w (standing_of name w.standings) refl
+settling_part answer later name present w = ways_more (Settles answer later name present w) (λ ms p. PartOf name w p) (settling answer later name present w) (λ ms p h. (flat_part w.entries p.1.entries h.entries h.flat, h.listed)) (settles answer later name present w)
 
 -- where the listing didn't succeed
 
 abbrev pub KeptPart : List ℕ → Kept → Settled × Kept → Type 0
 KeptPart name w p = Part name w.standings w.entries p.1.standings p.1.entries
 
-gone_part : (ss : List Standing) (es : List Entry) (name : List ℕ) (number : ℕ) → Part name ss es (without name ss) (es ++ entry.Gone number name ∷ [])
-gone_part ss es name number = record {
-  rest = entry.Gone number name ∷ [];
-  entries = refl;
-  only = (tt, tt);
-  others = λ s a ne. tried_others ss name settled.Nobody s a ne;
-  mark = λ s a e. tried_mark ss name settled.Nobody (entry.Gone number name ∷ []) s tt a e;
-}
-
-after_again_part : (name : List ℕ) (w : Kept) (known : Known) (a : Probe) (call count : ℕ) → EndsSo (KeptPart name w) (after_again name w known a call count)
-after_again_part name w known (probe.Alive on) call count =
-    ends_then (Brings name (is_to_go known) w.entries) (KeptPart name w) (bringing name known on w.entries) (to_keep_mark w name) (bringing_brings name known on w.entries)
-    (λ q b. tried_part w.standings w.entries name (is_to_go known) q b)
-after_again_part name w known probe.Gone call count = gone_part w.standings w.entries name known.number
-after_again_part name w known probe.Failed call count = failed_part w.standings w.entries name call count
-
-again_part : (name : List ℕ) (w : Kept) (o : Option Known) → standing_of name w.standings ≡ o → EndsSo (KeptPart name w) (again name w o)
-again_part name w (Some known) e = λ t. after_again_part name w known t.answer t.number t.count
-again_part name w None e = still_part w.standings w.entries name (missing name w.standings e)
-
 pub resettling_part : (name : List ℕ) (w : Kept) → EndsSo (KeptPart name w) (resettling name w)
-unfolding resettling
-resettling_part name w = again_part name w (standing_of name w.standings) refl
+resettling_part name w = ways_more (Resettles name w) (λ ms p. KeptPart name w p) (resettling name w) (λ ms p h. flat_part w.entries p.1.entries h.entries h.flat) (resettles name w)

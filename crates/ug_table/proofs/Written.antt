@@ -1,5 +1,5 @@
 -- The writes to the device of a standing, with their entries, and what becomes of the standing.
-use Rattle.std.proofs.Common.{◌≡◌, ℕ, Bool, true, false, not, ◌&&◌, List, [], ◌∷◌, ◌++◌, ◌⊎◌, Some, slice_get, inl, inr, refl, sym, ◌∙◌, ap, subst, append_assoc}
+use Rattle.std.proofs.Common.{◌≡◌, ℕ, Bool, true, false, not, ◌&&◌, List, [], ◌∷◌, ◌++◌, ◌⊎◌, Some, slice_get, inl, inr, refl, sym, ◌∙◌, ap, subst, append_assoc, append-nil}
 use Rattle.ug_types.specs.Elements.{Has}
 use Rattle.ug_types.specs.declared.verdict.Target.{Target}
 use Rattle.ug_types.specs.declared.verdict.Target.TheVariants as target
@@ -16,8 +16,7 @@ use Rattle.ug_kernel.specs.Kernel.{Kernel, Moves}
 use Rattle.ug_kernel.specs.Called.{IsWritten, IsGoneAt, says_put, Called}
 use Rattle.ug_kernel.specs.Quiet.{Grows}
 use Rattle.ug_kernel.proofs.Grow.{some_same, called_grows}
-use Rattle.ug_itree.specs.Tree.{Runs, calls}
-use Rattle.ug_itree.proofs.Runs.{runs_split}
+use Rattle.ug_itree.specs.Tree.{calls}
 use Rattle.ug_node.specs.Removal.{holding_remove, RemoveSays}
 use Rattle.ug_node.specs.declared.removal.RemoveHold.{RemoveHold}
 use Rattle.ug_node.specs.declared.removal.RemoveHold.TheVariants as hold
@@ -25,10 +24,10 @@ use Rattle.ug_node.proofs.Removing.{holding_law, gone_later}
 use Rattle.ug_audit.specs.declared.entry.Entry.{Entry}
 use Rattle.ug_audit.specs.declared.entry.Entry.TheVariants as entry
 use Rattle.ug_audit.specs.declared.entry.Fault.TheVariants as fault
-use Rattle.ug_table.specs.Bring.{wants, write_of, is_reject, CallsFor, after_write, to_write, to_value, valuing, after_hold, removing, is_to_go, if_to_go, after_value, bringing}
+use Rattle.ug_table.specs.Bring.{write_of, is_reject, CallsFor, is_to_go}
 use Rattle.ug_table.specs.State.{State, Answers, Laters}
 use Rattle.ug_table.specs.Standings.{known_of}
-use Rattle.ug_table.specs.Laws.{IsDevice, MayHave, MayHaveNot, wrote_entries, HasRemoval, IsFirst, Account, Start, Had, Had_not}
+use Rattle.ug_table.specs.Laws.{Tries, IsDevice, MayHave, MayHaveNot, wrote_entries, HasRemoval, IsFirst, Account, Start, Had, Had_not}
 use Rattle.ug_table.specs.declared.standing.Standing.{Standing}
 use Rattle.ug_table.specs.declared.standing.Settled.{Settled}
 use Rattle.ug_table.specs.declared.standing.Settled.TheVariants as settled
@@ -38,6 +37,11 @@ use Rattle.ug_table.proofs.Devices.{device_stays, stand_stays}
 use Rattle.ug_table.proofs.RemoveMarks.{NoRemoval, keeps_itself, removal_marks, removal_removed, marks_keep}
 use Rattle.ug_table.proofs.Says.{plain_wrote}
 use Rattle.ug_table.proofs.Joined.{FairFrom, fair_trans, StepFrom}
+use Rattle.ug_kernel.specs.Calls.{Told, Closing}
+use Rattle.ug_kernel.proofs.Grow.{quiet_grows}
+use Rattle.ug_itree.specs.Along.{Made, answered, Along}
+use Rattle.ug_table.proofs.Ways.{Way, way_runs, along_split}
+use Rattle.ug_table.proofs.Shapes.{told, Written, Done, Went, Broke, Valued, Same, Set, Unheld, Gone_by, Failed_by, Short_by, Removal, Not_held, Put_on, Brought, By_value, And_removal}
 use Rattle.ug_table.proofs.Steps.{After, same_refl, plain_fair, keep_fair, fair_end, then_quiet, then_called, then_note, then_same, then_went}
 
 -- the log after a write
@@ -70,33 +74,27 @@ with_write w s what outcome = record w { entries = (w.entries ++ entry.Intent s.
 abbrev StandsAs : {J : Type 0} → Kernel → State J → Standing → ℕ → Type 0
 StandsAs m u s i = Has u.standings s × IsDevice m i s.name s.held s.judged
 
-put_account : {J : Type 0} {answer : Answers J} {later : Laters J} {present : Bool} (m l : Kernel) (u : State J) (s : Standing) (i held : ℕ) (control : Control) (what : Write) (outcome : Wrote) (number count : ℕ) → StandsAs m u s i → IsHeldAs m held i control → CallsFor s.verdict what → IsFirst u.standings [] s.number what → Called (Put held what) (record { answer = outcome; number = number; count = count }) m l → Account answer later present m l u.standings m.log u.judge u.next (wrote_entries s.number s.name what outcome) l.log u.judge u.next
-put_account {J} {answer} {later} {present} m l u s i held control what outcome number count at file due first c =
+put_account : {J : Type 0} {answer : Answers J} {later : Laters J} {present : Bool} {tried : Tries} (m l : Kernel) (u : State J) (s : Standing) (i held : ℕ) (control : Control) (what : Write) (outcome : Wrote) (number count : ℕ) → StandsAs m u s i → IsHeldAs m held i control → CallsFor s.verdict what → IsFirst u.standings [] s.number what → Called (Put held what) (record { answer = outcome; number = number; count = count }) m l → Account answer later present tried m l u.standings m.log u.judge u.next (wrote_entries s.number s.name what outcome) l.log u.judge u.next
+put_account {J} {answer} {later} {present} {tried} m l u s i held control what outcome number count at file due first c =
     let g = called_grows (Put held what) (record { answer = outcome; number = number; count = count }) m l c in
     let here = device_stays m l i s.name s.held s.judged g at.1 in
     let es = wrote_entries s.number s.name what outcome in
     elim (put_logs held i control what outcome number count m l file c) [
-      | inl e ↦ subst (λ (v : List Effect). Account answer later present m l u.standings m.log u.judge u.next es v u.judge u.next) (sym e.1) (Had [] m.log u.judge u.next i s.number s.name s.held s.judged s.verdict what outcome here (inl (s, at.0, refl, refl, refl, refl)) due first e.0 Start)
-      | inr e ↦ subst (λ (v : List Effect). Account answer later present m l u.standings m.log u.judge u.next es v u.judge u.next) (sym e.1) (Had_not [] m.log u.judge u.next i s.number s.name s.held s.judged s.verdict what outcome here (inl (s, at.0, refl, refl, refl, refl)) due first e.0 Start)
+      | inl e ↦ subst (λ (v : List Effect). Account answer later present tried m l u.standings m.log u.judge u.next es v u.judge u.next) (sym e.1) (Had [] m.log u.judge u.next i s.number s.name s.held s.judged s.verdict what outcome here (inl (s, at.0, refl, refl, refl, refl)) due first e.0 Start)
+      | inr e ↦ subst (λ (v : List Effect). Account answer later present tried m l u.standings m.log u.judge u.next es v u.judge u.next) (sym e.1) (Had_not [] m.log u.judge u.next i s.number s.name s.held s.judged s.verdict what outcome here (inl (s, at.0, refl, refl, refl, refl)) due first e.0 Start)
     ]
 
 -- a write that leaves the marks
-put_fair : {J : Type 0} {answer : Answers J} {later : Laters J} {present : Bool} {k m : Kernel} {w u : State J} (l : Kernel) (s : Standing) (i held : ℕ) (control : Control) (what : Write) (outcome : Wrote) (number count : ℕ) → StandsAs m u s i → IsHeldAs m held i control → CallsFor s.verdict what → IsFirst u.standings [] s.number what → NoRemoval (wrote_entries s.number s.name what outcome) → Called (Put held what) (record { answer = outcome; number = number; count = count }) m l → FairFrom answer later present k w m u → FairFrom answer later present k w l (with_write u s what outcome)
-put_fair {J} {answer} {later} {present} {k} {m} {w} {u} l s i held control what outcome number count at file due first none c h =
+put_fair : {J : Type 0} {answer : Answers J} {later : Laters J} {present : Bool} {tried : Tries} {k m : Kernel} {w u : State J} (l : Kernel) (s : Standing) (i held : ℕ) (control : Control) (what : Write) (outcome : Wrote) (number count : ℕ) → StandsAs m u s i → IsHeldAs m held i control → CallsFor s.verdict what → IsFirst u.standings [] s.number what → NoRemoval (wrote_entries s.number s.name what outcome) → Called (Put held what) (record { answer = outcome; number = number; count = count }) m l → FairFrom answer later present tried k w m u → FairFrom answer later present tried k w l (with_write u s what outcome)
+put_fair {J} {answer} {later} {present} {tried} {k} {m} {w} {u} l s i held control what outcome number count at file due first none c h =
     let g = called_grows (Put held what) (record { answer = outcome; number = number; count = count }) m l c in
     let es = wrote_entries s.number s.name what outcome in
-    let step = keep_fair answer later present m l u u.standings es c.sound g h.fair.stand (same_refl m u.standings u.next h.fair.stand) (keeps_itself u.standings) none (plain_wrote s.number s.name what outcome) (put_account m l u s i held control what outcome number count at file due first c) in
-    fair_trans h (subst (λ (v : List Entry). StepFrom answer later present m u l (record u { entries = v })) (sym (append_assoc u.entries (entry.Intent s.number s.name what ∷ []) (entry.Wrote s.number s.name what outcome ∷ []))) step)
+    let step = keep_fair answer later present tried m l u u.standings es c.sound g h.fair.stand (same_refl m u.standings u.next h.fair.stand) (keeps_itself u.standings) none (plain_wrote s.number s.name what outcome) (put_account m l u s i held control what outcome number count at file due first c) in
+    fair_trans h (subst (λ (v : List Entry). StepFrom answer later present tried m u l (record u { entries = v })) (sym (append_assoc u.entries (entry.Intent s.number s.name what ∷ []) (entry.Wrote s.number s.name what outcome ∷ []))) step)
 
 -- the standings after it, by how it was settled
 abbrev Afters : List Standing → Standing → (Settled → List Standing) → Type 0
 Afters ss s after = (how : Settled) → After s ss how (after how)
-
-abbrev with_end : {J : Type 0} → State J → (Settled → List Standing) → Settled × List Entry → State J
-with_end w after p = record w { standings = after p.0; entries = p.1 }
-
-ends : {J : Type 0} (w : State J) (after : Settled → List Standing) (p q : Settled × List Entry) → p ≡ q → with_end w after p ≡ with_end w after q
-ends w after p q e = ap (λ (x : Settled × List Entry). with_end w after x) e
 
 -- the value: where it stands the standings aren't marked yet
 
@@ -106,16 +104,8 @@ mid w after settled.Nobody = after settled.Nobody
 mid w after (settled.Fault call count) = after (settled.Fault call count)
 mid w after settled.Memory = after settled.Memory
 
-abbrev with_mid : {J : Type 0} → State J → (Settled → List Standing) → Settled × List Entry → State J
-with_mid w after p = record w { standings = mid w after p.0; entries = p.1 }
-
-mids : {J : Type 0} (w : State J) (after : Settled → List Standing) (p q : Settled × List Entry) → p ≡ q → with_mid w after p ≡ with_mid w after q
-mids w after p q e = ap (λ (x : Settled × List Entry). with_mid w after x) e
-
-after_write_fair : {J : Type 0} {answer : Answers J} {later : Laters J} {present : Bool} {k m : Kernel} {w : State J} (u : State J) (n l : Kernel) (s : Standing) (after : Settled → List Standing) (what : Write) (outcome : Wrote) (number count : ℕ) (p : Settled × List Entry) → Has u.standings s → Afters u.standings s after → says_put s.held.0 outcome n m → FairFrom answer later present k w m (with_write u s what outcome) → Runs calls m (after_write s.name s.number what (u.entries ++ entry.Intent s.number s.name what ∷ []) outcome number count) p l → FairFrom answer later present k w l (with_mid u after p)
-after_write_fair u n l s after what wrote.Done number count p has a says h r = fair_end l (with_mid u after p) (mids u after p _ r.0) r.1 h
-after_write_fair u n l s after what wrote.Gone number count p has a says h r = fair_end l (with_mid u after p) (mids u after p _ r.0) r.1 (then_went s (after settled.Nobody) has (a settled.Nobody) says h)
-after_write_fair u n l s after what wrote.Failed number count p has a says h r = fair_end l (with_mid u after p) (mids u after p _ r.0) r.1 (let after_fault = a (settled.Fault number count) in then_same (after (settled.Fault number count)) after_fault.0 after_fault.1 (then_note (entry.Unsettled s.name (fault.Call number count)) tt h))
+abbrev more : {J : Type 0} → State J → List Standing → List Entry → State J
+more w ss es = record w { standings = ss; entries = w.entries ++ es }
 
 value_called : (verdict : Target) → CallsFor verdict (write_of verdict)
 value_called target.Allow = tt
@@ -134,21 +124,27 @@ value_no_removal s target.Block outcome number name (inr (inl e)) = let none : �
 value_no_removal s target.Reject outcome number name (inr (inl e)) = let none : ⊥ = cc in none
 value_no_removal s verdict outcome number name (inr (inr none)) = none
 
-to_write_fair : {J : Type 0} {answer : Answers J} {later : Laters J} {present : Bool} {k m : Kernel} {w u : State J} (l : Kernel) (s : Standing) (after : Settled → List Standing) (p : Settled × List Entry) → Has u.standings s → Afters u.standings s after → FairFrom answer later present k w m u → Runs calls m (to_write s.name (known_of s) (write_of s.verdict) u.entries) p l → FairFrom answer later present k w l (with_mid u after p)
-to_write_fair {J} {answer} {later} {present} {k} {m} {w} {u} l s after p has a h r =
+-- the entries of a write, and of what it leads to
+two_more : {J : Type 0} {answer : Answers J} {later : Laters J} {present : Bool} {tried : Tries} {k l : Kernel} {w : State J} (u : State J) (ss : List Standing) (a b : Entry) → FairFrom answer later present tried k w l (record u { standings = ss; entries = (u.entries ++ a ∷ []) ++ b ∷ [] }) → FairFrom answer later present tried k w l (more u ss (a ∷ b ∷ []))
+two_more {answer = answer} {later = later} {present = present} {tried = tried} {k = k} {l = l} {w = w} u ss a b h = subst (λ (v : List Entry). FairFrom answer later present tried k w l (record u { standings = ss; entries = v })) (append_assoc u.entries (a ∷ []) (b ∷ [])) h
+
+three_more : {J : Type 0} {answer : Answers J} {later : Laters J} {present : Bool} {tried : Tries} {k l : Kernel} {w : State J} (u : State J) (ss : List Standing) (a b c : Entry) → FairFrom answer later present tried k w l (record u { standings = ss; entries = ((u.entries ++ a ∷ []) ++ b ∷ []) ++ c ∷ [] }) → FairFrom answer later present tried k w l (more u ss (a ∷ b ∷ c ∷ []))
+three_more {answer = answer} {later = later} {present = present} {tried = tried} {k = k} {l = l} {w = w} u ss a b c h = subst (λ (v : List Entry). FairFrom answer later present tried k w l (record u { standings = ss; entries = v })) (append_assoc (u.entries ++ a ∷ []) (b ∷ []) (c ∷ []) ∙ append_assoc u.entries (a ∷ []) (b ∷ c ∷ [])) h
+
+value_fair : {J : Type 0} {answer : Answers J} {later : Laters J} {present : Bool} {tried : Tries} {k m : Kernel} {w : State J} {t : Told Wrote} {es : List Entry} {how : Settled} (u : State J) (n : Kernel) (s : Standing) (after : Settled → List Standing) (what : Write) → Written s.name s.number what t es how → Has u.standings s → Afters u.standings s after → says_put s.held.0 t.answer n m → FairFrom answer later present tried k w m (with_write u s what t.answer) → FairFrom answer later present tried k w m (more u (mid u after how) es)
+value_fair u n s after what (Done call count) has a says h = two_more u u.standings _ _ h
+value_fair u n s after what (Went call count) has a says h = three_more u (after settled.Nobody) _ _ _ (then_went s (after settled.Nobody) has (a settled.Nobody) says h)
+value_fair u n s after what (Broke call count) has a says h = three_more u (after (settled.Fault call count)) _ _ _ (let after_fault = a (settled.Fault call count) in then_same (after (settled.Fault call count)) after_fault.0 after_fault.1 (then_note (entry.Unsettled s.name (fault.Call call count)) tt h))
+
+none_more : {J : Type 0} {answer : Answers J} {later : Laters J} {present : Bool} {tried : Tries} {k l : Kernel} {w : State J} (u : State J) → FairFrom answer later present tried k w l u → FairFrom answer later present tried k w l (more u u.standings [])
+none_more {answer = answer} {later = later} {present = present} {tried = tried} {k = k} {l = l} {w = w} u h = subst (λ (v : List Entry). FairFrom answer later present tried k w l (record u { entries = v })) (sym (append-nil u.entries)) h
+
+valued_fair : {J : Type 0} {answer : Answers J} {later : Laters J} {present : Bool} {tried : Tries} {k m : Kernel} {w u : State J} {on : Bool} {ms : List Made} {es : List Entry} {how : Settled} (l : Kernel) (s : Standing) (after : Settled → List Standing) → Valued s.name (known_of s) on ms es how → Has u.standings s → Afters u.standings s after → FairFrom answer later present tried k w m u → Along calls m ms l → FairFrom answer later present tried k w l (more u (mid u after how) es)
+valued_fair {u = u} l s after (Same e) has a h r = fair_end l (more u u.standings []) refl r (none_more u h)
+valued_fair {m = m} {u = u} l s after (Set t es how e v) has a h r =
     let x = h.fair.stand.devices s has in
-    after_write_fair u m l s after (write_of s.verdict) r.0.answer r.0.number r.0.count p has a r.2.says
-    (put_fair r.1 s x.0 s.held.0 Authorized (write_of s.verdict) r.0.answer r.0.number r.0.count (has, x.1) x.1.file (value_called s.verdict) (value_first u.standings [] s.number s.verdict) (value_no_removal s s.verdict r.0.answer) r.2 h) r.3
-
-to_value_fair : {J : Type 0} {answer : Answers J} {later : Laters J} {present : Bool} {k m : Kernel} {w u : State J} (l : Kernel) (s : Standing) (after : Settled → List Standing) (wanted on : Bool) (p : Settled × List Entry) → Has u.standings s → Afters u.standings s after → FairFrom answer later present k w m u → Runs calls m (to_value s.name (known_of s) u.entries wanted on) p l → FairFrom answer later present k w l (with_mid u after p)
-to_value_fair {u = u} l s after true true p has a h r = fair_end l (with_mid u after p) (mids u after p _ r.0) r.1 h
-to_value_fair {u = u} l s after false false p has a h r = fair_end l (with_mid u after p) (mids u after p _ r.0) r.1 h
-to_value_fair l s after true false p has a h r = to_write_fair l s after p has a h r
-to_value_fair l s after false true p has a h r = to_write_fair l s after p has a h r
-
-valuing_fair : {J : Type 0} {answer : Answers J} {later : Laters J} {present : Bool} {k m : Kernel} {w u : State J} (l : Kernel) (s : Standing) (after : Settled → List Standing) (on : Bool) (p : Settled × List Entry) → Has u.standings s → Afters u.standings s after → FairFrom answer later present k w m u → Runs calls m (valuing s.name (known_of s) on u.entries) p l → FairFrom answer later present k w l (with_mid u after p)
-unfolding valuing
-valuing_fair l s after on p has a h r = to_value_fair l s after (wants s.verdict) on p has a h r
+    let put = put_fair r.0 s x.0 s.held.0 Authorized (write_of s.verdict) t.answer t.number t.count (has, x.1) x.1.file (value_called s.verdict) (value_first u.standings [] s.number s.verdict) (value_no_removal s s.verdict t.answer) r.1 h in
+    fair_end l (more u (mid u after how) es) refl r.2 (value_fair u m s after (write_of s.verdict) v has a r.1.says put)
 
 -- the removal
 
@@ -188,16 +184,16 @@ done_removal m l s i file number count d of c j at =
     subst (λ (v : ℕ). Has l.log (record { device = v; write = write.Remove })) is logged
 
 -- a removal that was done marks the standing
-removed_fair : {J : Type 0} {answer : Answers J} {later : Laters J} {present : Bool} {k m : Kernel} {w u : State J} (l : Kernel) (s : Standing) (i file number count : ℕ) (rs : List Standing) → StandsAs m u s i → IsHeldAs m file i Remove → is_reject s.verdict ≡ true → s.removed ≡ false → After s u.standings settled.Stands rs → Called (Put file write.Remove) (record { answer = wrote.Done; number = number; count = count }) m l → FairFrom answer later present k w m u → FairFrom answer later present k w l (record u { standings = rs; entries = (u.entries ++ entry.Intent s.number s.name write.Remove ∷ []) ++ entry.Wrote s.number s.name write.Remove wrote.Done ∷ [] })
-removed_fair {J} {answer} {later} {present} {k} {m} {w} {u} l s i file number count rs at of reject fresh a c h =
+removed_fair : {J : Type 0} {answer : Answers J} {later : Laters J} {present : Bool} {tried : Tries} {k m : Kernel} {w u : State J} (l : Kernel) (s : Standing) (i file number count : ℕ) (rs : List Standing) → StandsAs m u s i → IsHeldAs m file i Remove → is_reject s.verdict ≡ true → s.removed ≡ false → After s u.standings settled.Stands rs → Called (Put file write.Remove) (record { answer = wrote.Done; number = number; count = count }) m l → FairFrom answer later present tried k w m u → FairFrom answer later present tried k w l (record u { standings = rs; entries = (u.entries ++ entry.Intent s.number s.name write.Remove ∷ []) ++ entry.Wrote s.number s.name write.Remove wrote.Done ∷ [] })
+removed_fair {J} {answer} {later} {present} {tried} {k} {m} {w} {u} l s i file number count rs at of reject fresh a c h =
     let g = called_grows (Put file write.Remove) (record { answer = wrote.Done; number = number; count = count }) m l c in
     let stand = h.fair.stand in
     let es = wrote_entries s.number s.name write.Remove wrote.Done in
     let first = remove_first m u s at.0 fresh (λ t b e. distinct_one (λ (v : Standing). v.number) u.standings t s stand.distinct b at.0 e) in
     let account = put_account m l u s i file Remove write.Remove wrote.Done number count at of (reject_calls s.verdict reject) first c in
     let removed = removal_removed l u.standings rs s (stand_stays m l u.standings u.next g stand).removed (done_removal m l s i file number count at.1 of c) a.1 in
-    let step = plain_fair answer later present m l u rs es c.sound g stand a.0 (removal_marks u.standings rs s stand.distinct reject a.1) removed (plain_wrote s.number s.name write.Remove wrote.Done) account in
-    fair_trans h (subst (λ (v : List Entry). StepFrom answer later present m u l (record u { standings = rs; entries = v })) (sym (append_assoc u.entries (entry.Intent s.number s.name write.Remove ∷ []) (entry.Wrote s.number s.name write.Remove wrote.Done ∷ []))) step)
+    let step = plain_fair answer later present tried m l u rs es c.sound g stand a.0 (removal_marks u.standings rs s stand.distinct reject a.1) removed (plain_wrote s.number s.name write.Remove wrote.Done) account in
+    fair_trans h (subst (λ (v : List Entry). StepFrom answer later present tried m u l (record u { standings = rs; entries = v })) (sym (append_assoc u.entries (entry.Intent s.number s.name write.Remove ∷ []) (entry.Wrote s.number s.name write.Remove wrote.Done ∷ []))) step)
 
 undone_no_removal : (s : Standing) (outcome : Wrote) → (outcome ≡ wrote.Done → ⊥) → NoRemoval (wrote_entries s.number s.name write.Remove outcome)
 undone_no_removal s outcome ne number name (inl e) = let none : ⊥ = cc in none
@@ -209,60 +205,54 @@ gone_through : (k l : Kernel) (s : Standing) (i file : ℕ) (d : IsDevice k i s.
 gone_through k l s i file d of gone g =
     gone_later k l s.name s.held.0 i g (record { d = d.d; file = d.file; device = d.device; named = d.named }) (λ e live. gone i e (record { file = record { device = i; control = Remove }; at = of; is = refl; device = live.at }) live)
 
-to_remove_fair : {J : Type 0} {answer : Answers J} {later : Laters J} {present : Bool} {k m : Kernel} {w u : State J} (x y l : Kernel) (s : Standing) (i file : ℕ) (after : Settled → List Standing) (outcome : Wrote) (number count : ℕ) (closed : _) (p : Settled × List Entry) → StandsAs m u s i → IsHeldAs m file i Remove → is_reject s.verdict ≡ true → s.removed ≡ false → Afters u.standings s after → Called (Put file write.Remove) (record { answer = outcome; number = number; count = count }) m x → Called (Close file) closed x y → FairFrom answer later present k w m u → Runs calls y (after_write s.name s.number write.Remove (u.entries ++ entry.Intent s.number s.name write.Remove ∷ []) outcome number count) p l → FairFrom answer later present k w l (with_end u after p)
-to_remove_fair {u = u} x y l s i file after wrote.Done number count closed p at of reject fresh a c d h r =
-    fair_end l (with_end u after p) (ends u after p _ r.0) r.1 (then_called (Close file) closed y tt d (removed_fair x s i file number count (after settled.Stands) at of reject fresh (a settled.Stands) c h))
-to_remove_fair {m = m} {u = u} x y l s i file after wrote.Gone number count closed p at of reject fresh a c d h r =
+put_on_fair : {J : Type 0} {answer : Answers J} {later : Laters J} {present : Bool} {tried : Tries} {k m : Kernel} {w u : State J} {t : Told Wrote} {es : List Entry} {how : Settled} (x y : Kernel) (s : Standing) (i file : ℕ) (after : Settled → List Standing) (shut : Closing) → Written s.name s.number write.Remove t es how → StandsAs m u s i → IsHeldAs m file i Remove → is_reject s.verdict ≡ true → s.removed ≡ false → Afters u.standings s after → Called (Put file write.Remove) t m x → Called (Close file) shut x y → FairFrom answer later present tried k w m u → FairFrom answer later present tried k w y (more u (after how) es)
+put_on_fair {u = u} x y s i file after shut (Done call count) at of reject fresh a c d h =
+    two_more u (after settled.Stands) _ _ (then_called (Close file) shut y tt d (removed_fair x s i file call count (after settled.Stands) at of reject fresh (a settled.Stands) c h))
+put_on_fair {m = m} {u = u} x y s i file after shut (Went call count) at of reject fresh a c d h =
     let first = remove_first m u s at.0 fresh (λ t b e. distinct_one (λ (v : Standing). v.number) u.standings t s h.fair.stand.distinct b at.0 e) in
-    let put = put_fair x s i file Remove write.Remove wrote.Gone number count at of (reject_calls s.verdict reject) first (undone_no_removal s wrote.Gone (λ e. let none : ⊥ = cc in none)) c h in
-    let g = called_grows (Put file write.Remove) (record { answer = wrote.Gone; number = number; count = count }) m x c in
-    let gone = gone_through x y s i file (device_stays m x i s.name s.held s.judged g at.1) (g.held file (record { device = i; control = Remove }) of) c.says (called_grows (Close file) closed x y d) in
-    fair_end l (with_end u after p) (ends u after p _ r.0) r.1 (then_went s (after settled.Nobody) at.0 (a settled.Nobody) gone (then_called (Close file) closed y tt d put))
-to_remove_fair {m = m} {u = u} x y l s i file after wrote.Failed number count closed p at of reject fresh a c d h r =
+    let put = put_fair x s i file Remove write.Remove wrote.Gone call count at of (reject_calls s.verdict reject) first (undone_no_removal s wrote.Gone (λ e. let none : ⊥ = cc in none)) c h in
+    let g = called_grows (Put file write.Remove) (told wrote.Gone call count) m x c in
+    let gone = gone_through x y s i file (device_stays m x i s.name s.held s.judged g at.1) (g.held file (record { device = i; control = Remove }) of) c.says (called_grows (Close file) shut x y d) in
+    three_more u (after settled.Nobody) _ _ _ (then_went s (after settled.Nobody) at.0 (a settled.Nobody) gone (then_called (Close file) shut y tt d put))
+put_on_fair {m = m} {u = u} x y s i file after shut (Broke call count) at of reject fresh a c d h =
     let first = remove_first m u s at.0 fresh (λ t b e. distinct_one (λ (v : Standing). v.number) u.standings t s h.fair.stand.distinct b at.0 e) in
-    let put = put_fair x s i file Remove write.Remove wrote.Failed number count at of (reject_calls s.verdict reject) first (undone_no_removal s wrote.Failed (λ e. let none : ⊥ = cc in none)) c h in
-    let failed = a (settled.Fault number count) in
-    fair_end l (with_end u after p) (ends u after p _ r.0) r.1 (then_same (after (settled.Fault number count)) failed.0 failed.1 (then_note (entry.Unsettled s.name (fault.Call number count)) tt (then_called (Close file) closed y tt d put)))
-
-after_hold_fair : {J : Type 0} {answer : Answers J} {later : Laters J} {present : Bool} {k m : Kernel} {w u : State J} (l : Kernel) (s : Standing) (i : ℕ) (after : Settled → List Standing) (answered : RemoveHold) (p : Settled × List Entry) → StandsAs m u s i → RemoveSays s.held.0 i m answered → is_reject s.verdict ≡ true → s.removed ≡ false → Afters u.standings s after → FairFrom answer later present k w m u → Runs calls m (after_hold s.name (known_of s) u.entries answered) p l → FairFrom answer later present k w l (with_end u after p)
-after_hold_fair l s i after (hold.Ready file) p at says reject fresh a h r =
-    to_remove_fair r.1 r.3.1 l s i file.0 after r.0.answer r.0.number r.0.count r.3.0 p at says reject fresh a r.2 r.3.2 h r.3.3
-after_hold_fair {u = u} l s i after hold.Gone p at says reject fresh a h r = fair_end l (with_end u after p) (ends u after p _ r.0) r.1 (then_went s (after settled.Nobody) at.0 (a settled.Nobody) says h)
-after_hold_fair {u = u} l s i after (hold.Failed call count) p at says reject fresh a h r =
+    let put = put_fair x s i file Remove write.Remove wrote.Failed call count at of (reject_calls s.verdict reject) first (undone_no_removal s wrote.Failed (λ e. let none : ⊥ = cc in none)) c h in
     let failed = a (settled.Fault call count) in
-    fair_end l (with_end u after p) (ends u after p _ r.0) r.1 (then_same (after (settled.Fault call count)) failed.0 failed.1 (then_note (entry.Unsettled s.name (fault.Call call count)) tt h))
-after_hold_fair {u = u} l s i after hold.Memory p at says reject fresh a h r =
-    let short = a settled.Memory in
-    fair_end l (with_end u after p) (ends u after p _ r.0) r.1 (then_same (after settled.Memory) short.0 short.1 (then_note (entry.Unsettled s.name fault.Memory) tt h))
+    three_more u (after (settled.Fault call count)) _ _ _ (then_same (after (settled.Fault call count)) failed.0 failed.1 (then_note (entry.Unsettled s.name (fault.Call call count)) tt (then_called (Close file) shut y tt d put)))
 
-removing_fair : {J : Type 0} {answer : Answers J} {later : Laters J} {present : Bool} {k m : Kernel} {w u : State J} (l : Kernel) (s : Standing) (after : Settled → List Standing) (p : Settled × List Entry) → Has u.standings s → is_to_go (known_of s) ≡ true → Afters u.standings s after → FairFrom answer later present k w m u → Runs calls m (removing s.name (known_of s) u.entries) p l → FairFrom answer later present k w l (with_end u after p)
-unfolding removing
-removing_fair {J} {answer} {later} {present} {k} {m} {w} {u} l s after p has e a h r =
-    let cut = runs_split calls m (holding_remove s.name s.held.0) (after_hold s.name (known_of s) u.entries) p l r in
+unheld_fair : {J : Type 0} {answer : Answers J} {later : Laters J} {present : Bool} {tried : Tries} {k m : Kernel} {w u : State J} {r : RemoveHold} {es : List Entry} {how : Settled} (s : Standing) (i : ℕ) (after : Settled → List Standing) → Unheld s.name s.number r es how → Has u.standings s → RemoveSays s.held.0 i m r → Afters u.standings s after → FairFrom answer later present tried k w m u → FairFrom answer later present tried k w m (more u (after how) es)
+unheld_fair s i after Gone_by has says a h = then_went s (after settled.Nobody) has (a settled.Nobody) says h
+unheld_fair s i after (Failed_by call count) has says a h = let failed = a (settled.Fault call count) in then_same (after (settled.Fault call count)) failed.0 failed.1 (then_note (entry.Unsettled s.name (fault.Call call count)) tt h)
+unheld_fair s i after Short_by has says a h = let short = a settled.Memory in then_same (after settled.Memory) short.0 short.1 (then_note (entry.Unsettled s.name fault.Memory) tt h)
+
+-- the `remove` file of the standing's device
+held_fair : {J : Type 0} {answer : Answers J} {later : Laters J} {present : Bool} {tried : Tries} {k m : Kernel} {w u : State J} (l : Kernel) (s : Standing) (ms : List Made) (r : RemoveHold) → Has u.standings s → Way (holding_remove s.name s.held.0) ms r → Along calls m ms l → FairFrom answer later present tried k w m u → (i : ℕ) × IsDevice l i s.name s.held s.judged × RemoveSays s.held.0 i l r × FairFrom answer later present tried k w l u
+held_fair {J} {answer} {later} {present} {tried} {k} {m} {w} {u} l s ms r has way a h =
     let x = h.fair.stand.devices s has in
-    let law = holding_law s.name s.held.0 x.0 cut.0 m cut.1 h.fair.sound (record { d = x.1.d; file = x.1.file; device = x.1.device; named = x.1.named }) cut.2 in
-    let later_h = then_quiet cut.1 law.sound law.quiet h in
-    let y = later_h.fair.stand.devices s has in
-    let is : y.0 ≡ x.0 = file_same cut.1 s.held.0 y.0 x.0 y.1.file (law.quiet.held s.held.0 (record { device = x.0; control = Authorized }) x.1.file) in
-    let at : IsDevice cut.1 x.0 s.name s.held s.judged = subst (λ (v : ℕ). IsDevice cut.1 v s.name s.held s.judged) is y.1 in
-    after_hold_fair l s x.0 after cut.0 p (has, at) law.says (and_first (is_reject s.verdict) (not s.removed) e) (and_second (is_reject s.verdict) s.removed e) a later_h cut.3
+    let law = holding_law s.name s.held.0 x.0 r m l h.fair.sound (record { d = x.1.d; file = x.1.file; device = x.1.device; named = x.1.named }) (way_runs calls (holding_remove s.name s.held.0) ms m r l way a) in
+    let later_h : FairFrom answer later present tried k w l u = then_quiet l law.sound law.quiet h in
+    (x.0, device_stays m l x.0 s.name s.held s.judged (quiet_grows m l law.quiet) x.1, law.says, later_h)
+
+removal_fair : {J : Type 0} {answer : Answers J} {later : Laters J} {present : Bool} {tried : Tries} {k m : Kernel} {w u : State J} {ms : List Made} {es : List Entry} {how : Settled} (l : Kernel) (s : Standing) (after : Settled → List Standing) → Removal s.name (known_of s) ms es how → is_to_go (known_of s) ≡ true → Has u.standings s → Afters u.standings s after → FairFrom answer later present tried k w m u → Along calls m ms l → FairFrom answer later present tried k w l (more u (after how) es)
+removal_fair l s after (Not_held ms r es how way v) go has a h along =
+    let x = held_fair l s ms r has way along h in
+    unheld_fair s x.0 after v has x.2 a x.3
+removal_fair {m = m} {u = u} l s after (Put_on ms file t shut es how way v) go has a h along =
+    let cut = along_split calls ms (answered (Put file.0 write.Remove) t ∷ answered (Close file.0) shut ∷ []) m l along in
+    let x = held_fair cut.0 s ms (hold.Ready file) has way cut.1 h in
+    fair_end l (more u (after how) es) refl cut.2.2.2 (put_on_fair cut.2.0 cut.2.2.0 s x.0 file.0 after shut v (has, x.1) x.2 (and_first (is_reject s.verdict) (not s.removed) go) (and_second (is_reject s.verdict) s.removed go) a cut.2.1 cut.2.2.1 x.3)
 
 -- both
 
-if_to_go_fair : {J : Type 0} {answer : Answers J} {later : Laters J} {present : Bool} {k m : Kernel} {w u : State J} (l : Kernel) (s : Standing) (after : Settled → List Standing) (go : Bool) (p : Settled × List Entry) → is_to_go (known_of s) ≡ go → Has u.standings s → Afters u.standings s after → FairFrom answer later present k w m u → Runs calls m (if_to_go s.name (known_of s) u.entries go) p l → FairFrom answer later present k w l (with_end u after p)
-if_to_go_fair l s after true p e has a h r = removing_fair l s after p has e a h r
-if_to_go_fair {u = u} l s after false p e has a h r =
-    let stands = a settled.Stands in
-    fair_end l (with_end u after p) (ends u after p _ r.0) r.1 (then_same (after settled.Stands) stands.0 (marks_keep u.standings (after settled.Stands) s has (removed_if (is_reject s.verdict) s.removed e) stands.1) h)
+only_value : {J : Type 0} {answer : Answers J} {later : Laters J} {present : Bool} {tried : Tries} {k l : Kernel} {w : State J} (u : State J) (s : Standing) (after : Settled → List Standing) (how : Settled) (es : List Entry) → (how ≡ settled.Stands → is_to_go (known_of s) ≡ false) → Has u.standings s → Afters u.standings s after → FairFrom answer later present tried k w l (more u (mid u after how) es) → FairFrom answer later present tried k w l (more u (after how) es)
+only_value u s after settled.Stands es f has a h = let stands = a settled.Stands in then_same (after settled.Stands) stands.0 (marks_keep u.standings (after settled.Stands) s has (removed_if (is_reject s.verdict) s.removed (f refl)) stands.1) h
+only_value u s after settled.Nobody es f has a h = h
+only_value u s after (settled.Fault call count) es f has a h = h
+only_value u s after settled.Memory es f has a h = h
 
-after_value_fair : {J : Type 0} {answer : Answers J} {later : Laters J} {present : Bool} {k m : Kernel} {w : State J} (u : State J) (l : Kernel) (s : Standing) (after : Settled → List Standing) (how : Settled) (es : List Entry) (p : Settled × List Entry) → Has u.standings s → Afters u.standings s after → FairFrom answer later present k w m (with_mid u after (how, es)) → Runs calls m (after_value s.name (known_of s) es how) p l → FairFrom answer later present k w l (with_end u after p)
-after_value_fair u l s after settled.Stands es p has a h r = if_to_go_fair l s after (is_to_go (known_of s)) p refl has a h r
-after_value_fair u l s after settled.Nobody es p has a h r = fair_end l (with_end u after p) (ends u after p _ r.0) r.1 h
-after_value_fair u l s after (settled.Fault call count) es p has a h r = fair_end l (with_end u after p) (ends u after p _ r.0) r.1 h
-after_value_fair u l s after settled.Memory es p has a h r = fair_end l (with_end u after p) (ends u after p _ r.0) r.1 h
-
-pub bringing_fair : {J : Type 0} {answer : Answers J} {later : Laters J} {present : Bool} {k m : Kernel} {w u : State J} (l : Kernel) (s : Standing) (after : Settled → List Standing) (on : Bool) (p : Settled × List Entry) → Has u.standings s → ((how : Settled) → After s u.standings how (after how)) → FairFrom answer later present k w m u → Runs calls m (bringing s.name (known_of s) on u.entries) p l → FairFrom answer later present k w l (record u { standings = after p.0; entries = p.1 })
-unfolding bringing
-bringing_fair {J} {answer} {later} {present} {k} {m} {w} {u} l s after on p has a h r =
-    let cut = runs_split calls m (valuing s.name (known_of s) on u.entries) (λ (q : Settled × List Entry). after_value s.name (known_of s) q.1 q.0) p l r in
-    after_value_fair u l s after cut.0.0 cut.0.1 p has a (valuing_fair cut.1 s after on cut.0 has a h cut.2) cut.3
+pub brought_fair : {J : Type 0} {answer : Answers J} {later : Laters J} {present : Bool} {tried : Tries} {k m : Kernel} {w u : State J} {on : Bool} {ms : List Made} {es : List Entry} {how : Settled} (l : Kernel) (s : Standing) (after : Settled → List Standing) → Brought s.name (known_of s) on ms es how → Has u.standings s → ((how : Settled) → After s u.standings how (after how)) → FairFrom answer later present tried k w m u → Along calls m ms l → FairFrom answer later present tried k w l (record u { standings = after how; entries = u.entries ++ es })
+brought_fair {u = u} l s after (By_value ms es how v f) has a h along = only_value u s after how es f has a (valued_fair l s after v has a h along)
+brought_fair {J} {answer} {later} {present} {tried} {k} {m} {w} {u} l s after (And_removal ms ns es fs how go v r) has a h along =
+    let cut = along_split calls ms ns m l along in
+    subst (λ (x : List Entry). FairFrom answer later present tried k w l (record u { standings = after how; entries = x })) (append_assoc u.entries es fs)
+    (removal_fair l s after r go has a (valued_fair cut.0 s after v has a h cut.1) cut.2)

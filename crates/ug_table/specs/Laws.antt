@@ -1,7 +1,8 @@
 -- What a sweep does, in the words of devices and journal.
 use Rattle.std.specs.Prelude.{◌≡◌, ℕ, ◌+◌, ◌<◌, Bool, true, false, not, is_none, map, List, [], ◌∷◌, ◌++◌, Option, Some, ◌⊎◌, slice_get}
 use Rattle.ug_types.specs.Elements.{Has, AllDistinct}
-use Rattle.ug_types.specs.Names.{parent_of}
+use Rattle.std.specs.Ordering.{is_lt}
+use Rattle.ug_types.specs.Names.{parent_of, sweep_cmp}
 use Rattle.ug_types.specs.declared.record.Attrs.{Attrs}
 use Rattle.ug_types.specs.declared.record.Judged.{Judged}
 use Rattle.ug_types.specs.declared.verdict.Held.{Held}
@@ -62,11 +63,29 @@ numbers_of ss = map (λ s. s.number) ss
 abbrev pub HasRemoval : Kernel → Held → Type 0
 HasRemoval k held = (i : ℕ) → slice_get k.held held.0 ≡ Some (record { device = i; control = Authorized }) → Has k.log (record { device = i; write = write.Remove })
 
--- each standing is of a device, its number was given out, and no name and no number has two; and one that is marked as removed was so
+-- whether the part of the first name has come to its end where that of the second begins
+abbrev pub Tries : Type 0
+Tries = List ℕ → List ℕ → Bool
+
+-- in a sweep, where the first comes before the second
+abbrev pub swept_before : Tries
+swept_before a b = is_lt (sweep_cmp a b)
+
+-- where one name alone is settled
+abbrev pub none_before : Tries
+none_before a b = false
+
+-- each name comes before those behind it
+abbrev pub AreInOrder : List (List ℕ) → Type 0
+AreInOrder [] = Unit {0}
+AreInOrder (name ∷ names) = ((other : List ℕ) → Has names other → swept_before name other ≡ true) × AreInOrder names
+
+-- each standing is of a device, its number was given out, no name and no number has two, and they are in sweep order; and one that is marked as removed was so
 pub record Stand (k : Kernel) (ss : List Standing) (next : ℕ) : Type 0 where
   pub devices : (s : Standing) → Has ss s → (i : ℕ) × IsDevice k i s.name s.held s.judged
   pub numbers : (s : Standing) → Has ss s → s.number < next
   pub names : AllDistinct (names_of ss)
+  pub order : AreInOrder (names_of ss)
   pub distinct : AllDistinct (numbers_of ss)
   pub removed : (s : Standing) → Has ss s → s.removed ≡ true → HasRemoval k s.held
 
@@ -141,30 +160,30 @@ pub record AreLeft (before : List Standing) (entries : List Entry) (ss : List St
 abbrev pub IsNamed : List Entry → List ℕ → Type 0
 IsNamed entries name = (why : Fault) × Has entries (entry.Unsettled name why)
 
--- the number was marked as unsettled before
-abbrev pub WasUnsettled : List Standing → ℕ → Type 0
-WasUnsettled before number = (b : Standing) × Has before b × (b.number ≡ number) × (b.settled ≡ false)
+-- the standing is marked as settled just where its name isn't told
+abbrev pub IsMarked : List Entry → Standing → Type 0
+IsMarked entries s = ((s.settled ≡ true) × (IsNamed entries s.name → ⊥)) ⊎ ((s.settled ≡ false) × IsNamed entries s.name)
 
--- a standing that is marked as settled isn't told as unsettled, and one that isn't is told so, or was so before
-abbrev pub IsMarkedSoFar : List Standing → List Entry → Standing → Type 0
-IsMarkedSoFar before entries s = ((s.settled ≡ true) × (IsNamed entries s.name → ⊥)) ⊎ ((s.settled ≡ false) × (IsNamed entries s.name ⊎ WasUnsettled before s.number))
+-- in the part of that name a standing is marked as is told, where its own part has come to its end, and else is as it was
+abbrev pub IsMarkedIn : Tries → List ℕ → List Standing → List Entry → Standing → Type 0
+IsMarkedIn tried name before entries s = ((tried s.name name ≡ true) × IsMarked entries s) ⊎ ((tried s.name name ≡ false) × Has before s)
 
-abbrev pub AreMarkedSoFar : List Standing → List Entry → List Standing → Type 0
-AreMarkedSoFar before entries ss = (s : Standing) → Has ss s → IsMarkedSoFar before entries s
+abbrev pub AreMarkedIn : Tries → List ℕ → List Standing → List Entry → List Standing → Type 0
+AreMarkedIn tried name before entries ss = (s : Standing) → Has ss s → IsMarkedIn tried name before entries s
 
 -- The entries since a sweep began, in order, with what they say of the log, of the judge and of the next number.
 -- Each verdict is the judge's on the record of the very device of the held file, under the next number, beside the standings that are
--- left at that moment, marked as they are so far; and that device, in this sweep, lived from the opening of the file to the probe that
+-- left at that moment, each of its very device, and marked as is told where its own part has come to its end, else as it was; and that device, in this sweep, lived from the opening of the file to the probe that
 -- gave its value. Whether it was present at the start is one answer for the sweep. Each entry that was added to the log is that of a
 -- write that is told, with its intent directly before it, to the very device of its number, and is what the verdict of that number
 -- calls for, a removal only where none was done before. A number that is told gone had a verdict, and its device is gone.
-pub data Account {J : Type 0} (answer : Answers J) (later : Laters J) (present : Bool) (start k : Kernel) (before : List Standing) (log0 : List Effect) (judge0 : J) (next0 : ℕ) : List Entry → List Effect → J → ℕ → Type 0 where
-  Start : Account answer later present start k before log0 judge0 next0 [] log0 judge0 next0
-  Note : (es : List Entry) (log : List Effect) (judge : J) (next : ℕ) (e : Entry) → TellsNeither e → Account answer later present start k before log0 judge0 next0 es log judge next → Account answer later present start k before log0 judge0 next0 (es ++ e ∷ []) log judge next
-  Judge : (es : List Entry) (log : List Effect) (judge : J) (next i : ℕ) (name : List ℕ) (held : Held) (judged : Judged) (on : Bool) (ss : List Standing) → IsDevice k i name held judged → IsProbed start k name held.0 i on → AreLeft before es ss → AreMarkedSoFar before es ss → Account answer later present start k before log0 judge0 next0 es log judge next → Account answer later present start k before log0 judge0 next0 (es ++ entry.Judged next name held (answer judge judged (is_none (parent_of name)) present on ss).0 (answer judge judged (is_none (parent_of name)) present on ss).1 ∷ []) log (later judge judged (is_none (parent_of name)) present on ss) (next + 1)
-  Had : (es : List Entry) (log : List Effect) (judge : J) (next i number : ℕ) (name : List ℕ) (held : Held) (judged : Judged) (verdict : Target) (what : Write) (outcome : Wrote) → IsDevice k i name held judged → HasVerdict before es number name held verdict → CallsFor verdict what → IsFirst before es number what → MayHave outcome → Account answer later present start k before log0 judge0 next0 es log judge next → Account answer later present start k before log0 judge0 next0 (es ++ wrote_entries number name what outcome) (log ++ record { device = i; write = what } ∷ []) judge next
-  Had_not : (es : List Entry) (log : List Effect) (judge : J) (next i number : ℕ) (name : List ℕ) (held : Held) (judged : Judged) (verdict : Target) (what : Write) (outcome : Wrote) → IsDevice k i name held judged → HasVerdict before es number name held verdict → CallsFor verdict what → IsFirst before es number what → MayHaveNot outcome → Account answer later present start k before log0 judge0 next0 es log judge next → Account answer later present start k before log0 judge0 next0 (es ++ wrote_entries number name what outcome) log judge next
-  Went : (es : List Entry) (log : List Effect) (judge : J) (next i number : ℕ) (name : List ℕ) (held : Held) (judged : Judged) (verdict : Target) → IsDevice k i name held judged → IsGone k i → HasVerdict before es number name held verdict → Account answer later present start k before log0 judge0 next0 es log judge next → Account answer later present start k before log0 judge0 next0 (es ++ entry.Gone number name ∷ []) log judge next
+pub data Account {J : Type 0} (answer : Answers J) (later : Laters J) (present : Bool) (tried : Tries) (start k : Kernel) (before : List Standing) (log0 : List Effect) (judge0 : J) (next0 : ℕ) : List Entry → List Effect → J → ℕ → Type 0 where
+  Start : Account answer later present tried start k before log0 judge0 next0 [] log0 judge0 next0
+  Note : (es : List Entry) (log : List Effect) (judge : J) (next : ℕ) (e : Entry) → TellsNeither e → Account answer later present tried start k before log0 judge0 next0 es log judge next → Account answer later present tried start k before log0 judge0 next0 (es ++ e ∷ []) log judge next
+  Judge : (es : List Entry) (log : List Effect) (judge : J) (next i : ℕ) (name : List ℕ) (held : Held) (judged : Judged) (on : Bool) (ss : List Standing) → IsDevice k i name held judged → IsProbed start k name held.0 i on → Stand k ss next → AreLeft before es ss → AreMarkedIn tried name before es ss → Account answer later present tried start k before log0 judge0 next0 es log judge next → Account answer later present tried start k before log0 judge0 next0 (es ++ entry.Judged next name held (answer judge judged (is_none (parent_of name)) present on ss).0 (answer judge judged (is_none (parent_of name)) present on ss).1 ∷ []) log (later judge judged (is_none (parent_of name)) present on ss) (next + 1)
+  Had : (es : List Entry) (log : List Effect) (judge : J) (next i number : ℕ) (name : List ℕ) (held : Held) (judged : Judged) (verdict : Target) (what : Write) (outcome : Wrote) → IsDevice k i name held judged → HasVerdict before es number name held verdict → CallsFor verdict what → IsFirst before es number what → MayHave outcome → Account answer later present tried start k before log0 judge0 next0 es log judge next → Account answer later present tried start k before log0 judge0 next0 (es ++ wrote_entries number name what outcome) (log ++ record { device = i; write = what } ∷ []) judge next
+  Had_not : (es : List Entry) (log : List Effect) (judge : J) (next i number : ℕ) (name : List ℕ) (held : Held) (judged : Judged) (verdict : Target) (what : Write) (outcome : Wrote) → IsDevice k i name held judged → HasVerdict before es number name held verdict → CallsFor verdict what → IsFirst before es number what → MayHaveNot outcome → Account answer later present tried start k before log0 judge0 next0 es log judge next → Account answer later present tried start k before log0 judge0 next0 (es ++ wrote_entries number name what outcome) log judge next
+  Went : (es : List Entry) (log : List Effect) (judge : J) (next i number : ℕ) (name : List ℕ) (held : Held) (judged : Judged) (verdict : Target) → IsDevice k i name held judged → IsGone k i → HasVerdict before es number name held verdict → Account answer later present tried start k before log0 judge0 next0 es log judge next → Account answer later present tried start k before log0 judge0 next0 (es ++ entry.Gone number name ∷ []) log judge next
 
 -- the device has a standing
 pub record HasStanding (k : Kernel) (ss : List Standing) (i : ℕ) : Type 0 where
@@ -189,13 +208,13 @@ gone_of (e ∷ entries) = gone_of entries
 
 -- From the state w over the kernel k to the state v over the kernel l. The standings at the end are those that are left. No number is
 -- told gone twice. No device is judged twice, and none that had a standing before.
-pub record IsFair {J : Type 0} (answer : Answers J) (later : Laters J) (present : Bool) (k : Kernel) (w : State J) (l : Kernel) (v : State J) : Type 0 where
+pub record IsFair {J : Type 0} (answer : Answers J) (later : Laters J) (present : Bool) (tried : Tries) (k : Kernel) (w : State J) (l : Kernel) (v : State J) : Type 0 where
   pub sound : IsKernel l
   pub grows : Grows k l
   pub rest : List Entry
   pub entries : v.entries ≡ w.entries ++ rest
   pub stand : Stand l v.standings v.next
-  pub account : Account answer later present k l w.standings k.log w.judge w.next rest l.log v.judge v.next
+  pub account : Account answer later present tried k l w.standings k.log w.judge w.next rest l.log v.judge v.next
   pub left : AreLeft w.standings rest v.standings
   pub gone : AllDistinct (gone_of rest)
   pub once : (i a b : ℕ) → IsJudged l rest a i → IsJudged l rest b i → a ≡ b
@@ -222,10 +241,6 @@ IsSettled k l ss entries = (i : ℕ) (d : Device) → Lived k.devices l.devices 
 abbrev pub IsListed : List Entry → Bool → Bool → Type 0
 IsListed entries before after = ((IsUnlisted entries → ⊥) × (after ≡ true)) ⊎ (IsUnlisted entries × (after ≡ before))
 
--- the standing is marked as settled just where its name isn't told
-abbrev pub IsMarked : List Entry → Standing → Type 0
-IsMarked entries s = ((s.settled ≡ true) × (IsNamed entries s.name → ⊥)) ⊎ ((s.settled ≡ false) × IsNamed entries s.name)
-
 -- a device that had a standing before and lived through is named for want of memory only where it was still to be removed
 abbrev pub IsSpared : Kernel → Kernel → List Standing → List Entry → Type 0
 IsSpared k l before entries = (i : ℕ) (d : Device) → Lived k.devices l.devices i d → (h : HasStanding k before i) → Has entries (entry.Unsettled d.name fault.Memory) → is_to_go (known_of h.s) ≡ true
@@ -233,7 +248,7 @@ IsSpared k l before entries = (i : ℕ) (d : Device) → Lived k.devices l.devic
 -- the sweep is fair, where devices were present at the start just if no listing had succeeded before it; each device is settled
 -- or named; and so say the marks
 pub record Swept {J : Type 0} (answer : Answers J) (later : Laters J) (k : Kernel) (w : State J) (l : Kernel) (v : State J) : Type 0 where
-  pub fair : IsFair answer later (not w.listed) k w l v
+  pub fair : IsFair answer later (not w.listed) swept_before k w l v
   pub settled : IsSettled k l v.standings fair.rest
   pub listed : IsListed fair.rest w.listed v.listed
   pub marks : (s : Standing) → Has v.standings s → IsMarked fair.rest s

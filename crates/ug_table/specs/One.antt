@@ -17,7 +17,7 @@ use Rattle.ug_table.specs.Settle.{resettling}
 use Rattle.ug_table.specs.Sweep.{names_of}
 use Rattle.ug_table.specs.Bring.{is_to_go}
 use Rattle.ug_table.specs.Standings.{standing_of, numbered}
-use Rattle.ug_table.specs.Laws.{Stand, IsFair, IsGone, IsNamed, IsAsJudged}
+use Rattle.ug_table.specs.Laws.{Stand, Tries, none_before, IsFair, IsGone, IsNamed, IsAsJudged}
 use Rattle.ug_table.specs.Parts.{Part}
 use Rattle.ug_table.specs.declared.standing.Standing.{Standing}
 use Rattle.ug_table.specs.declared.standing.Known.{Known}
@@ -79,7 +79,7 @@ LivedAs k l name i = (d : Device) × Lived k.devices l.devices i d × (d.name �
 -- The settling of a name is fair; a device of the name that lived through is as judged or the name is told; and where the answer says
 -- that there is nobody, no device of the name lived through.
 pub record SettledOne {J : Type 0} (answer : Answers J) (later : Laters J) (present : Bool) (name : List ℕ) (k : Kernel) (w : State J) (l : Kernel) (v : State J) (how : Settled) : Type 0 where
-  pub fair : IsFair answer later present k w l v
+  pub fair : IsFair answer later present none_before k w l v
   pub ended : (i : ℕ) → LivedAs k l name i → IsAsJudged l v.standings i ⊎ IsNamed fair.rest name
   pub nobody : how ≡ settled.Nobody → (i : ℕ) → LivedAs k l name i → ⊥
 
@@ -95,7 +95,7 @@ IsOf k s i = slice_get k.held s.held.0 ≡ Some (record { device = i; control = 
 -- A standing settled again is so fairly, whatever judge there is, as none is asked; its device, where it lived through, is as judged
 -- or its name is told; and where the answer says that there is nobody, it is gone.
 pub record ResettledOne (s : Standing) (k : Kernel) (w : State (Unit {0})) (l : Kernel) (v : State (Unit {0})) (how : Settled) : Type 0 where
-  pub fair : (answer : Answers (Unit {0})) (later : Laters (Unit {0})) (present : Bool) → IsFair answer later present k w l v
+  pub fair : (answer : Answers (Unit {0})) (later : Laters (Unit {0})) (present : Bool) (tried : Tries) → IsFair answer later present tried k w l v
   pub ended : (i : ℕ) (d : Device) → IsOf k s i → Lived k.devices l.devices i d → IsAsJudged l v.standings i ⊎ ((rest : List Entry) × (v.entries ≡ w.entries ++ rest) × IsNamed rest s.name)
   pub nobody : how ≡ settled.Nobody → (i : ℕ) → IsOf k s i → IsGone l i
 

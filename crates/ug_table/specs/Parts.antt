@@ -207,6 +207,21 @@ abbrev pub EndsUnsettled : List ℕ → List Entry → Type 0
 EndsUnsettled name [] = Unit {0}
 EndsUnsettled name (e ∷ es) = IsLast name e es × EndsUnsettled name es
 
+-- an entry of that name
+abbrev pub Bears : List ℕ → Entry → Type 0
+Bears name (entry.Judged number other held verdict cause) = other ≡ name
+Bears name (entry.Intent number other what) = other ≡ name
+Bears name (entry.Wrote number other what outcome) = other ≡ name
+Bears name (entry.Gone number other) = other ≡ name
+Bears name (entry.Unsettled other why) = other ≡ name
+Bears name (entry.UnsettledAll why) = ⊥
+Bears name (entry.Event number moment) = ⊥
+Bears name (entry.End number) = ⊥
+
+abbrev pub AllBear : List ℕ → List Entry → Type 0
+AllBear name [] = Unit {0}
+AllBear name (e ∷ es) = Bears name e × AllBear name es
+
 -- a call that found the device of a standing gone
 abbrev pub FoundGone : Option Known → Made → Type 0
 FoundGone stands m = (known : Known) × (t : Told Probe) × (stands ≡ Some known) × (m ≡ answered (Ask_alive known.held.0) t) × (t.answer ≡ probe.Gone)
@@ -225,7 +240,7 @@ LacksRoom stands calls = ((known : Known) × (stands ≡ Some known) × (is_to_g
 
 -- One name's part of a sweep, from the standings before it to those after it: its calls are about the name, and are over with
 -- one that fails; its entries tell that failure, and no other; what is told of want of memory is of a new device, or of one that is
--- still to be removed; each write is due and told, and there is one of each kind at most; there are few calls; and the standings of other names stay.
+-- still to be removed; each write is due and told, and there is one of each kind at most; there are few calls; each entry bears the name; and the standings of other names stay.
 pub record Part (name : List ℕ) (before after : List Standing) (calls : List Made) (entries : List Entry) : Type 0 where
   pub about : AreAbout name (known_files (standing_of name before)) calls
   pub ends : EndsAtFailure [] calls
@@ -236,6 +251,7 @@ pub record Part (name : List ℕ) (before after : List Standing) (calls : List M
   pub single : AtMostOneEach (puts_of calls)
   pub writes : TellsWrites name (puts_of calls) (writes_in entries)
   pub few : count_calls calls ≤ 14
+  pub bears : AllBear name entries
   pub others : (other : List ℕ) → (other ≡ name → ⊥) → standing_of other after ≡ standing_of other before
 
 -- a part for each name, in this order
