@@ -191,7 +191,7 @@ event_later : (policy : Judging) (moment : Moment) (k l : Kernel) (d e : DaemonS
 event_later policy moment k l d e later law =
     let v : State Judging = law.swept in
     let start : IsLater policy (event.begun d moment).judge = record { classes = later.classes; rules = later.rules; next = later.next; clock = later.clock; words = later.words; stream = later.stream; numbered = later.numbered; judgements = later.judgements; histories = later.histories } in
-    subst (λ (z : State Judging). IsLater policy z.judge) (sym law.entries) (judge_later policy (not d.sweep.listed) k l d.sweep.standings k.log (event.begun d moment).judge d.sweep.next law.law.fair.rest l.log v.judge v.next law.law.fair.account start)
+    subst (λ (z : State Judging). IsLater policy z.judge) (sym law.entries) (judge_later policy (not d.sweep.listed) swept_before k l d.sweep.standings k.log (event.begun d moment).judge d.sweep.next law.law.fair.rest l.log v.judge v.next law.law.fair.account start)
 
 -- an event leaves the policy as the setup lines gave it
 policy_stays : (s t : Script) → t.seed ≡ s.seed → IsLater (policy_of s) t.daemon.sweep.judge → policy_of t ≡ policy_of s

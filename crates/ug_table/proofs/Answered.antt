@@ -20,7 +20,7 @@ use Rattle.ug_table.specs.declared.standing.Settled.TheVariants as settled
 use Rattle.ug_types.proofs.Elements.{has_map, has_new}
 use Rattle.ug_table.proofs.Standings.{found, missing_without, names_marked}
 use Rattle.ug_table.proofs.Ways.{ways_more}
-use Rattle.ug_table.proofs.Shapes.{Written, Done, Went, Broke, Valued, Same, Set, Gone_by, Failed_by, Short_by, Removal, Not_held, Put_on, Brought, By_value, And_removal, Opening, Fresh, Lost, Unbound_end, Absent_so, Vanished_so, Failed_so, Short_so, Flat, Unprobed, Tried, Stopped, Unbound, No_place, Judged_so, Settles, settles, Resettles, resettles}
+use Rattle.ug_table.proofs.Shapes.{Written, Done, Went, Broke, Valued, Same, Set, Gone_by, Failed_by, Short_by, Removal, Not_held, Put_on, Carried, By_value, And_removal, Brought, Left_open, Let_go, Opening, Fresh, Lost, Unbound_end, Absent_so, Vanished_so, Failed_so, Short_so, Flat, Unprobed, Tried, Stopped, Unbound, No_place, Judged_so, Settles, settles, Resettles, resettles}
 use Rattle.ug_kernel.specs.Calls.{Told}
 use Rattle.ug_itree.specs.Along.{Made}
 use Rattle.ug_table.proofs.Told.{EndsSo, opens}
@@ -48,9 +48,13 @@ removal_whys (Not_held ms answer es how way (Failed_by call count)) = refl
 removal_whys (Not_held ms answer es how way Short_by) = refl
 removal_whys (Put_on ms file t shut es how way w) = (written_whys w).0
 
+carried_whys : {name : List ℕ} {known : Known} {on : Bool} {ms : List Made} {es : List Entry} {how : Settled} → Carried name known on ms es how → (whys es ≡ why_of how) × (how ≡ settled.Memory → is_to_go known ≡ true)
+carried_whys (By_value ms es how v k) = let a = valued_whys v in (a.0, λ e. absurd (a.1 e))
+carried_whys (And_removal ms ns es fs how go v r) = (whys_more es fs ∙ ap (λ (w : List Fault). w ++ whys fs) (valued_whys v).0 ∙ removal_whys r, λ e. go)
+
 brought_whys : {name : List ℕ} {known : Known} {on : Bool} {ms : List Made} {es : List Entry} {how : Settled} → Brought name known on ms es how → (whys es ≡ why_of how) × (how ≡ settled.Memory → is_to_go known ≡ true)
-brought_whys (By_value ms es how v k) = let a = valued_whys v in (a.0, λ e. absurd (a.1 e))
-brought_whys (And_removal ms ns es fs how go v r) = (whys_more es fs ∙ ap (λ (w : List Fault). w ++ whys fs) (valued_whys v).0 ∙ removal_whys r, λ e. go)
+brought_whys (Left_open ms es how c n) = carried_whys c
+brought_whys (Let_go ms es shut c) = carried_whys c
 
 -- a name
 
@@ -90,7 +94,7 @@ tried_nobody ss name settled.Memory e = let none : ⊥ = cc in absurd none
 
 opening_whys : {name : List ℕ} {ss : List Standing} {ms : List Made} {es : List Entry} {rs : List Standing} → Opening name ss ms es rs → whys es ≡ []
 opening_whys (Fresh e) = refl
-opening_whys (Lost known call count e) = refl
+opening_whys (Lost known call count shut e) = refl
 
 unbound_whys : {name : List ℕ} {r : Binding} {es : List Entry} {how : Settled} → Unbound_end name r es how → (whys es ≡ why_of how) × (how ≡ settled.Stands → ⊥)
 unbound_whys Absent_so = (refl, λ e. let none : ⊥ = cc in none)

@@ -12,7 +12,7 @@ use Rattle.ug_kernel.proofs.Grow.{quiet_grows, called_grows}
 use Rattle.ug_kernel.proofs.Quiet.{called_quiet, quiet_refl, quiet_trans}
 use Rattle.ug_itree.specs.Along.{Made, answered, Along}
 use Rattle.ug_table.proofs.Ways.{Way, way_runs, ways_run, along_split, along_sound, along_grows}
-use Rattle.ug_table.proofs.Shapes.{told, Valued, Same, Set, Removal, Not_held, Put_on, Brought, By_value, And_removal, Opening, Fresh, Lost, Flat, Unprobed, Tried, Stopped, Unbound, No_place, Judged_so, Settles, settles, Resettles, resettles}
+use Rattle.ug_table.proofs.Shapes.{told, Valued, Same, Set, Removal, Not_held, Put_on, Carried, By_value, And_removal, Brought, Left_open, Let_go, Opening, Fresh, Lost, Flat, Unprobed, Tried, Stopped, Unbound, No_place, Judged_so, Settles, settles, Resettles, resettles}
 use Rattle.ug_itree.specs.Tree.{Runs, calls}
 use Rattle.ug_node.specs.Removal.{holding_remove, RemoveSays}
 use Rattle.ug_node.specs.declared.removal.RemoveHold.{RemoveHold}
@@ -77,13 +77,21 @@ removal_apart {name} {known} k l (Put_on ms file t shut es how way w) sound o a 
     let rest = others_trans name m n l (called_grows (Put file.0 write.Remove) t m n put) (others_put name known.held.0 file.0 Remove write.Remove t m n x.1.0 x.1.1 put) (subst (λ v. Others name n v) (sym cut.2.2.2) (others_quiet name n cut.2.2.0 (called_quiet (Close file.0) shut n cut.2.2.0 tt cut.2.2.1))) in
     others_trans name k m l (quiet_grows k m x.0) (others_quiet name k m x.0) rest
 
-brought_apart : {name : List ℕ} {known : Known} {on : Bool} {ms : List Made} {es : List Entry} {how : Settled} (k l : Kernel) → Brought name known on ms es how → IsKernel k → IsOpen k name known.held.0 → Along calls k ms l → Others name k l
-brought_apart k l (By_value ms es how v f) sound o a = valued_apart k l v o a
-brought_apart {name} {known} k l (And_removal ms ns es fs how go v r) sound o a =
+carried_apart : {name : List ℕ} {known : Known} {on : Bool} {ms : List Made} {es : List Entry} {how : Settled} (k l : Kernel) → Carried name known on ms es how → IsKernel k → IsOpen k name known.held.0 → Along calls k ms l → Others name k l
+carried_apart k l (By_value ms es how v f) sound o a = valued_apart k l v o a
+carried_apart {name} {known} k l (And_removal ms ns es fs how go v r) sound o a =
     let cut = along_split calls ms ns k l a in
     let m = cut.0 in
     let g = along_grows ms k m cut.1 in
     others_trans name k m l g (valued_apart k m v o cut.1) (removal_apart m l r (along_sound ms k m sound cut.1) (open_later k m name known.held.0 g o) cut.2)
+
+brought_apart : {name : List ℕ} {known : Known} {on : Bool} {ms : List Made} {es : List Entry} {how : Settled} (k l : Kernel) → Brought name known on ms es how → IsKernel k → IsOpen k name known.held.0 → Along calls k ms l → Others name k l
+brought_apart k l (Left_open ms es how c n) sound o a = carried_apart k l c sound o a
+brought_apart {name} {known} k l (Let_go ms es shut c) sound o a =
+    let cut = along_split calls ms (answered (Close known.held.0) shut ∷ []) k l a in
+    let m = cut.0 in
+    let q = subst (λ v. Quiet m v) (sym cut.2.2) (called_quiet (Close known.held.0) shut m cut.2.0 tt cut.2.1) in
+    others_trans name k m l (along_grows ms k m cut.1) (carried_apart k m c sound o cut.1) (others_quiet name m l q)
 
 -- a name
 
@@ -108,9 +116,11 @@ pub record Opened_quiet (k l : Kernel) (name : List ℕ) (ss rs : List Standing)
 
 pub opening_quiet : {name : List ℕ} {ss : List Standing} {ms : List Made} {es : List Entry} {rs : List Standing} (k l : Kernel) → Opening name ss ms es rs → IsKernel k → Files k ss → Along calls k ms l → Opened_quiet k l name ss rs
 opening_quiet {name} {ss} k l (Fresh e) sound f a = subst (λ v. Opened_quiet k v name ss ss) (sym a) (record { quiet = quiet_refl k; sound = sound; rest = λ s h ne. h; files = f })
-opening_quiet {name} {ss} k l (Lost known call count e) sound f a =
-    let q = called_quiet (Ask_alive known.held.0) (told probe.Gone call count) k a.0 tt a.1 in
-    subst (λ v. Opened_quiet k v name ss (without name ss)) (sym a.2) (record { quiet = q; sound = a.1.sound; rest = λ s h ne. tried_has ss name settled.Nobody s h ne; files = tried_files a.0 ss name settled.Nobody (files_later k a.0 ss (quiet_grows k a.0 q) f) })
+opening_quiet {name} {ss} k l (Lost known call count shut e) sound f a =
+    let m = a.0 in
+    let n = a.2.0 in
+    let q = quiet_trans k m n (called_quiet (Ask_alive known.held.0) (told probe.Gone call count) k m tt a.1) (called_quiet (Close known.held.0) shut m n tt a.2.1) in
+    subst (λ v. Opened_quiet k v name ss (without name ss)) (sym a.2.2) (record { quiet = q; sound = a.2.1.sound; rest = λ s h ne. tried_has ss name settled.Nobody s h ne; files = tried_files n ss name settled.Nobody (files_later k n ss (quiet_grows k n q) f) })
 
 -- and with it
 pub opening_bind : {name : List ℕ} {ss : List Standing} {ms : List Made} {es : List Entry} {rs : List Standing} (k l : Kernel) (ns : List Made) (r : Binding) → Opening name ss ms es rs → Way (binding name (parent_of name)) ns r → IsKernel k → Files k ss → Along calls k (ms ++ ns) l → Opened_quiet k l name ss rs × ((m : Kernel) × Along calls k ms m × (Quiet m l × BindSays name m l r))

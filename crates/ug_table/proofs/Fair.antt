@@ -283,8 +283,8 @@ record OpensFair {J : Type 0} (answer : Answers J) (later : Laters J) (present :
 opening_fair : {J : Type 0} {answer : Answers J} {later : Laters J} {present : Bool} {tried : Tries} {binds : Bool} {k m : Kernel} {w u : State J} {name : List ℕ} {ms : List Made} {es : List Entry} {rs : List Standing} (l : Kernel) → Opening name u.standings ms es rs → (binds ≡ true → AreIn tried name w u) → FairFrom answer later present tried k w m u → Along calls m ms l → OpensFair answer later present tried k w l (record u { standings = rs; entries = u.entries ++ es }) name binds
 opening_fair {J} {answer} {later} {present} {tried} {binds} {k} {m} {w} {u} {name} l (Fresh e) so h a =
     subst (λ (v : List Entry). OpensFair answer later present tried k w l (record u { entries = v }) name binds) (sym (append-nil u.entries)) (record { fair = fair_end l u refl a h; absent = missing name u.standings e; so = so })
-opening_fair {tried = tried} {w = w} {u = u} {name = name} l (Lost known call count e) so h a = record {
-  fair = fair_end l _ refl a.2 (then_dropped name known e a.1.says (then_called (Ask_alive known.held.0) (told probe.Gone call count) a.0 tt a.1 h));
+opening_fair {tried = tried} {w = w} {u = u} {name = name} l (Lost known call count shut e) so h a = record {
+  fair = fair_end l _ refl a.2.2 (then_called (Close known.held.0) shut a.2.0 tt a.2.1 (then_dropped name known e a.1.says (then_called (Ask_alive known.held.0) (told probe.Gone call count) a.0 tt a.1 h)));
   absent = missing_without name u.standings;
   so = λ b. dropped_in tried w u name known.number h.fair.rest h.fair.entries (so b);
 }

@@ -27,7 +27,7 @@ use Rattle.ug_kernel.specs.declared.calls.Wrote.TheVariants as wrote
 use Rattle.ug_table.specs.State.{State, Kept, kept_of, with_kept, Answers, Laters}
 use Rattle.ug_table.specs.Standings.{lists, farewells}
 use Rattle.ug_table.specs.Settle.{settling, resettling}
-use Rattle.ug_table.specs.Sweep.{settling_all, resettling_all, parted, names_of, resumed, unlisted, marked_listed, if_room, after_list, sweeping}
+use Rattle.ug_table.specs.Sweep.{settling_all, resettling_all, parted, closing_unlisted, names_of, resumed, unlisted, marked_listed, if_room, after_list, sweeping}
 use Rattle.ug_table.specs.Laws.{Tries, AreInOrder, swept_before, IsDevice, IsGone, Stand, Account, Start, Went, IsOne, numbers_of, gone_of, IsFair, IsNamed}
 use Rattle.ug_table.specs.declared.standing.Standing.{Standing}
 use Rattle.ug_table.specs.declared.standing.Settled.{Settled}
@@ -36,7 +36,8 @@ use Rattle.ug_table.proofs.Values.{file_same, file_later}
 use Rattle.ug_table.proofs.Standings.{listed_is}
 use Rattle.ug_table.proofs.Says.{gone_has}
 use Rattle.ug_table.proofs.Joined.{FairFrom, fair_trans, StepFrom}
-use Rattle.ug_table.proofs.Steps.{one_itself, stand_of, fair_refl, fair_end, then_called, then_note, gone_device}
+use Rattle.ug_table.proofs.Steps.{one_itself, stand_of, fair_refl, fair_end, then_quiet, then_called, then_note, gone_device}
+use Rattle.ug_table.proofs.Closings.{closing_quiet}
 use Rattle.ug_table.proofs.Fair.{then_settling, then_resettling}
 use Rattle.ug_table.proofs.RemoveMarks.{keeps_itself, keep_marks}
 use Rattle.ug_table.proofs.SoFar.{AreSplit, AreFresh, split_in, parted_split, parted_fresh, part_split, part_fresh}
@@ -181,7 +182,10 @@ then_listed {J} {answer} {later} {present} {tried} {k} {m} {w} {u} h =
     record { stood = h.stood; fair = fair }
 
 if_room_fair : {J : Type 0} {answer : Answers J} {later : Laters J} {k m : Kernel} {w : State J} (l : Kernel) (names : List (List ℕ)) (room : Bool) (v : State J) → AllDistinct names → AreInOrder names → AreGone m names w.standings → FairFrom answer later (not w.listed) swept_before k w m w → Runs calls m (if_room answer later names w room) v l → FairFrom answer later (not w.listed) swept_before k w l v
-if_room_fair {m = m} {w = w} l names true v distinct order gone h r = then_settling_all names m l (marked_listed (parted names w)) v distinct order (parted_split names w) (parted_fresh names w) (then_listed (then_parted names gone h)) r
+if_room_fair {answer = answer} {later = later} {m = m} {w = w} l names true v distinct order gone h r =
+    let cut = runs_split calls m (closing_unlisted names w.standings) (λ (x : Unit {0}). settling_all answer later names (not w.listed) (marked_listed (parted names w))) v l r in
+    let q = closing_quiet names w.standings m cut.0 cut.1 h.fair.sound cut.2 in
+    then_settling_all names cut.1 l (marked_listed (parted names w)) v distinct order (parted_split names w) (parted_fresh names w) (then_quiet cut.1 q.0 q.1 (then_listed (then_parted names gone h))) cut.3
 if_room_fair l names false v distinct order gone h r = then_unlisted l fault.Memory v h r
 
 after_list_fair : {J : Type 0} (answer : Answers J) (later : Laters J) (w : State J) (k m l : Kernel) (a : Listing) (number count : ℕ) (v : State J) → Grows k m → says_listing a k m → FairFrom answer later (not w.listed) swept_before k w m w → Runs calls m (after_list answer later w a number count) v l → FairFrom answer later (not w.listed) swept_before k w l v

@@ -11,8 +11,9 @@ use Rattle.ug_audit.specs.declared.entry.Entry.TheVariants as entry
 use Rattle.ug_table.specs.State.{State, Answers, Laters}
 use Rattle.ug_table.specs.Standings.{lists, farewells}
 use Rattle.ug_table.specs.Sweep.{sweeping}
-use Rattle.ug_table.specs.Parts.{failure_in, failures_told, InParts, AfterListing, TellsFaults}
+use Rattle.ug_table.specs.Parts.{failure_in, failures_told, InParts, unlisted_files, AfterListing, TellsFaults}
 use Rattle.ug_table.specs.declared.standing.Standing.{Standing}
+use Rattle.ug_table.proofs.Closings.{closings_calm}
 use Rattle.ug_table.proofs.Parted.{sweeping_goes}
 
 failures_more : (ms ns : List Made) → failures (ms ++ ns) ≡ failures ms ++ failures ns
@@ -44,11 +45,18 @@ farewells_tell_none : (names : List (List ℕ)) (ss : List Standing) → failure
 farewells_tell_none names [] = refl
 farewells_tell_none names (s ∷ ss) = farewell_by (lists names s.name) (entry.Gone s.number s.name) (farewells names ss) refl (farewells_tell_none names ss)
 
-begins_tell : (r : Listing) (call count : ℕ) (ss : List Standing) (head : List Entry) (left : List Standing) (names : List (List ℕ)) → AfterListing r call count ss head left names → failures_told head ≡ failure Names (record { answer = r; number = call; count = count })
-begins_tell (listing.Names found) call count ss head left names (inl b) = ap failures_told b.1 ∙ farewells_tell_none names ss
-begins_tell (listing.Names found) call count ss head left names (inr b) = ap failures_told b.1
-begins_tell listing.Failed call count ss head left names b = ap failures_told b.1
-begins_tell listing.Memory call count ss head left names b = ap failures_told b.1
+begins_tell : (r : Listing) (call count : ℕ) (ss : List Standing) (head : List Entry) (left : List Standing) (names : List (List ℕ)) (shut : List Made) → AfterListing r call count ss head left names shut → failures_told head ≡ failure Names (record { answer = r; number = call; count = count })
+begins_tell (listing.Names found) call count ss head left names shut (inl b) = ap failures_told b.1 ∙ farewells_tell_none names ss
+begins_tell (listing.Names found) call count ss head left names shut (inr b) = ap failures_told b.1
+begins_tell listing.Failed call count ss head left names shut b = ap failures_told b.1
+begins_tell listing.Memory call count ss head left names shut b = ap failures_told b.1
+
+-- and what is closed behind the listing fails nowhere
+begins_calm : (r : Listing) (call count : ℕ) (ss : List Standing) (head : List Entry) (left : List Standing) (names : List (List ℕ)) (shut : List Made) → AfterListing r call count ss head left names shut → failures shut ≡ []
+begins_calm (listing.Names found) call count ss head left names shut (inl b) = closings_calm (unlisted_files names ss) shut b.3
+begins_calm (listing.Names found) call count ss head left names shut (inr b) = ap failures b.3
+begins_calm listing.Failed call count ss head left names shut b = ap failures b.3
+begins_calm listing.Memory call count ss head left names shut b = ap failures b.3
 
 -- a sweep tells each call that failed, and no other
 pub sweeping_tells : {S J : Type 0} (gives : S → (call : Call) → Answer call → S → Type 0) (calls faults : S → ℕ) (counted : Counting gives calls faults) (answer : Answers J) (later : Laters J) (s : S) (w : State J) (t : S) (v : State J) → Runs gives s (sweeping answer later w) v t → TellsFaults gives calls faults s w t v
@@ -56,10 +64,12 @@ sweeping_tells {S} {J} gives calls faults counted answer later s w t v h =
     let g = sweeping_goes gives answer later s w t v h in
     let a : Told Listing = g.listed in
     let ms : List Made = answered Names a ∷ g.later in
+    let closed : failures g.later ≡ failures g.made =
+    ap failures g.cut ∙ failures_more g.shut g.made ∙ ap (λ (x : List Failure). x ++ failures g.made) (begins_calm a.answer a.number a.count w.standings g.head g.left g.names g.shut g.begins) in
     let exact : failures_told (g.head ++ g.rest) ≡ failures ms =
     told_more g.head g.rest
-    ∙ ap (λ (x : List Failure). x ++ failures_told g.rest) (begins_tell a.answer a.number a.count w.standings g.head g.left g.names g.begins)
-    ∙ ap (λ (x : List Failure). failure Names a ++ x) (exact_parts g.names g.left v.standings g.later g.rest g.parts) in
+    ∙ ap (λ (x : List Failure). x ++ failures_told g.rest) (begins_tell a.answer a.number a.count w.standings g.head g.left g.names g.shut g.begins)
+    ∙ ap (λ (x : List Failure). failure Names a ++ x) (exact_parts g.names g.left v.standings g.made g.rest g.parts ∙ sym closed) in
     record {
       goes = g;
       exact = exact;

@@ -26,6 +26,9 @@ pub mod Marks
 pub mod Spared
 pub mod Swept
 pub mod OtherNames
+pub mod OwnStanding
+pub mod OpenFiles
+pub mod Closings
 pub mod Within
 pub mod OnePart
 pub mod Parted

@@ -10,7 +10,7 @@ use Rattle.ug_kernel.specs.Calls.{Names}
 use Rattle.ug_kernel.specs.Kernel.{Kernel, IsKernel}
 use Rattle.ug_kernel.specs.Called.{Lived, Called}
 use Rattle.ug_kernel.specs.Quiet.{Grows}
-use Rattle.ug_kernel.proofs.Grow.{some_same, called_grows}
+use Rattle.ug_kernel.proofs.Grow.{quiet_grows, some_same, called_grows}
 use Rattle.ug_itree.specs.Tree.{Runs, calls}
 use Rattle.ug_itree.proofs.Runs.{runs_split}
 use Rattle.ug_itree.proofs.Kernels.{runs_sound, runs_grow}
@@ -22,7 +22,7 @@ use Rattle.ug_table.specs.State.{State, Kept, kept_of, Answers, Laters}
 use Rattle.ug_table.specs.Bring.{wants, is_reject}
 use Rattle.ug_table.specs.Standings.{same_name, standing_of, lists, farewells}
 use Rattle.ug_table.specs.Settle.{settling, resettling}
-use Rattle.ug_table.specs.Sweep.{settling_all, resettling_all, parted, names_of, resumed, unlisted, marked_listed, if_room, after_list, sweeping}
+use Rattle.ug_table.specs.Sweep.{settling_all, resettling_all, parted, closing_unlisted, names_of, resumed, unlisted, marked_listed, if_room, after_list, sweeping}
 use Rattle.ug_table.specs.Laws.{Stand, IsNamed, HasStanding, IsAsJudged, IsSettled}
 use Rattle.ug_table.specs.declared.standing.Standing.{Standing}
 use Rattle.ug_table.specs.declared.standing.Known.{Known}
@@ -30,6 +30,7 @@ use Rattle.ug_table.specs.declared.standing.Settled.{Settled}
 use Rattle.ug_types.proofs.Elements.{cancel, has_left, filter_has, has_map}
 use Rattle.ug_table.proofs.Values.{file_later, LiveAs, lives_between, lived, open_named}
 use Rattle.ug_table.proofs.Standings.{same_is, is_same, found, missing}
+use Rattle.ug_table.proofs.Closings.{closing_quiet}
 use Rattle.ug_table.proofs.Places.{Files, files_later}
 use Rattle.ug_table.proofs.Apart.{Appends, appends_refl, appends_trans, Apart, settling_apart, resettling_apart}
 use Rattle.ug_table.proofs.Own.{StandsSo, Good, good_before, as_judged, settling_own}
@@ -140,8 +141,14 @@ parted_files k names w f s a = f s (filter_has (λ (v : Standing). lists names v
 
 if_room_ended : {J : Type 0} (answer : Answers J) (later : Laters J) (names : List (List ℕ)) (w : State J) (room : Bool) (k l : Kernel) (v : State J) (rest : List Entry) (i : ℕ) (name : List ℕ) → Has names name → IsKernel k → Files k w.standings → v.entries ≡ w.entries ++ rest → LiveAs k i name → LiveAs l i name → Runs calls k (if_room answer later names w room) v l → Ended l v.standings rest i name
 if_room_ended answer later names w true k l v rest i name has sound f e first live r =
+    let x = marked_listed (parted names w) in
+    let cut = runs_split calls k (closing_unlisted names w.standings) (λ (y : Unit {0}). settling_all answer later names (not w.listed) x) v l r in
+    let u = cut.1 in
+    let q = closing_quiet names w.standings k cut.0 u sound cut.2 in
+    let g = quiet_grows k u q.1 in
+    let mid = lives_between k u l i name g (runs_grow (settling_all answer later names (not w.listed) x) u v l cut.3) first live in
     good_ended w.entries l v.standings v.entries rest i name e
-    (settling_all_good answer later names (not w.listed) name i w.entries (marked_listed (parted names w)) k l v sound (parted_files k names w f) first live (farewells names w.standings, refl) (inl has) r)
+    (settling_all_good answer later names (not w.listed) name i w.entries x u l v q.0 (parted_files u names w (files_later k u w.standings g f)) mid live (farewells names w.standings, refl) (inl has) cut.3)
 if_room_ended answer later names w false k l v rest i name has sound f e first live r = unlisted_ended fault.Memory w k l v rest i name sound f e first live r
 
 after_list_ended : {J : Type 0} (answer : Answers J) (later : Laters J) (w : State J) (list : Listing) (call count : ℕ) (k m l : Kernel) (v : State J) (rest : List Entry) (i : ℕ) (name : List ℕ) → Files m w.standings → v.entries ≡ w.entries ++ rest → LiveAs k i name → LiveAs m i name → LiveAs l i name → Called Names (record { answer = list; number = call; count = count }) k m → Runs calls m (after_list answer later w list call count) v l → Ended l v.standings rest i name

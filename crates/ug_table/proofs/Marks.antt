@@ -18,7 +18,7 @@ use Rattle.ug_audit.specs.declared.entry.Fault.TheVariants as fault
 use Rattle.ug_table.specs.State.{State, Kept, kept_of, Answers, Laters}
 use Rattle.ug_table.specs.Standings.{lists, farewells}
 use Rattle.ug_table.specs.Settle.{settling, resettling}
-use Rattle.ug_table.specs.Sweep.{settling_all, resettling_all, parted, names_of, resumed, unlisted, marked_listed, if_room, after_list, sweeping}
+use Rattle.ug_table.specs.Sweep.{settling_all, resettling_all, parted, closing_unlisted, names_of, resumed, unlisted, marked_listed, if_room, after_list, sweeping}
 use Rattle.ug_table.specs.Laws.{IsNamed, IsUnlisted, IsListed, IsMarked}
 use Rattle.ug_table.specs.declared.standing.Standing.{Standing}
 use Rattle.ug_table.specs.declared.standing.Settled.{Settled}
@@ -194,7 +194,9 @@ unlisted_ends {J} why w k l v rest distinct r e =
     subst (λ (y : List Entry). Ends w v y) same (inr ((why, inl refl), ap (λ (y : State J). y.listed) cut.3.0), marks)
 
 if_room_ends : {J : Type 0} (answer : Answers J) (later : Laters J) (names : List (List ℕ)) (w : State J) (room : Bool) (k l : Kernel) (v : State J) (rest : List Entry) → AllDistinct names → AllDistinct (names_of w.standings) → Runs calls k (if_room answer later names w room) v l → v.entries ≡ w.entries ++ rest → Ends w v rest
-if_room_ends answer later names w true k l v rest distinct known r e = listed_ends answer later names w k l v rest distinct r e
+if_room_ends answer later names w true k l v rest distinct known r e =
+    let cut = runs_split calls k (closing_unlisted names w.standings) (λ (x : Unit {0}). settling_all answer later names (not w.listed) (marked_listed (parted names w))) v l r in
+    listed_ends answer later names w cut.1 l v rest distinct cut.3 e
 if_room_ends answer later names w false k l v rest distinct known r e = unlisted_ends fault.Memory w k l v rest known r e
 
 after_list_ends : {J : Type 0} (answer : Answers J) (later : Laters J) (w : State J) (a : Listing) (call count : ℕ) (k m l : Kernel) (v : State J) (rest : List Entry) → says_listing a k m → AllDistinct (names_of w.standings) → Runs calls m (after_list answer later w a call count) v l → v.entries ≡ w.entries ++ rest → Ends w v rest

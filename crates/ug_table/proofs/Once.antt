@@ -91,27 +91,27 @@ distinct_ordered [] d = tt
 distinct_ordered (y ∷ ys) d = distinct_placed y (in_sweep_order ys) (λ a. d.0 (ordered y ys a)) (distinct_ordered ys d.1)
 
 -- no two parts are of one name
-begins_distinct : (k l : Kernel) (r : Listing) (call count : ℕ) (ss : List Standing) (head : List Entry) (left : List Standing) (names : List (List ℕ)) → says_listing r k l → AllDistinct (names_of ss) → AfterListing r call count ss head left names → AllDistinct names
-begins_distinct k l (listing.Names found) call count ss head left names says d (inl b) = subst (λ (v : List (List ℕ)). AllDistinct v) (sym b.0) (distinct_ordered found says.1)
-begins_distinct k l (listing.Names found) call count ss head left names says d (inr b) = subst (λ (v : List (List ℕ)). AllDistinct v) (sym b.0) d
-begins_distinct k l listing.Failed call count ss head left names says d b = subst (λ (v : List (List ℕ)). AllDistinct v) (sym b.0) d
-begins_distinct k l listing.Memory call count ss head left names says d b = subst (λ (v : List (List ℕ)). AllDistinct v) (sym b.0) d
+begins_distinct : (k l : Kernel) (r : Listing) (call count : ℕ) (ss : List Standing) (head : List Entry) (left : List Standing) (names : List (List ℕ)) (shut : List Made) → says_listing r k l → AllDistinct (names_of ss) → AfterListing r call count ss head left names shut → AllDistinct names
+begins_distinct k l (listing.Names found) call count ss head left names shut says d (inl b) = subst (λ (v : List (List ℕ)). AllDistinct v) (sym b.0) (distinct_ordered found says.1)
+begins_distinct k l (listing.Names found) call count ss head left names shut says d (inr b) = subst (λ (v : List (List ℕ)). AllDistinct v) (sym b.0) d
+begins_distinct k l listing.Failed call count ss head left names shut says d b = subst (λ (v : List (List ℕ)). AllDistinct v) (sym b.0) d
+begins_distinct k l listing.Memory call count ss head left names shut says d b = subst (λ (v : List (List ℕ)). AllDistinct v) (sym b.0) d
 
-begins_unnamed : (r : Listing) (call count : ℕ) (ss : List Standing) (head : List Entry) (left : List Standing) (names : List (List ℕ)) → AfterListing r call count ss head left names → unsettled_names head ≡ []
-begins_unnamed (listing.Names found) call count ss head left names (inl b) = ap unsettled_names b.1 ∙ farewells_name_none names ss
-begins_unnamed (listing.Names found) call count ss head left names (inr b) = ap unsettled_names b.1
-begins_unnamed listing.Failed call count ss head left names b = ap unsettled_names b.1
-begins_unnamed listing.Memory call count ss head left names b = ap unsettled_names b.1
+begins_unnamed : (r : Listing) (call count : ℕ) (ss : List Standing) (head : List Entry) (left : List Standing) (names : List (List ℕ)) (shut : List Made) → AfterListing r call count ss head left names shut → unsettled_names head ≡ []
+begins_unnamed (listing.Names found) call count ss head left names shut (inl b) = ap unsettled_names b.1 ∙ farewells_name_none names ss
+begins_unnamed (listing.Names found) call count ss head left names shut (inr b) = ap unsettled_names b.1
+begins_unnamed listing.Failed call count ss head left names shut b = ap unsettled_names b.1
+begins_unnamed listing.Memory call count ss head left names shut b = ap unsettled_names b.1
 
 sweeping_once : {J : Type 0} (answer : Answers J) (later : Laters J) (k : Kernel) (w : State J) (l : Kernel) (v : State J) → AllDistinct (names_of w.standings) → Runs calls k (sweeping answer later w) v l → (rest : List Entry) × (v.entries ≡ w.entries ++ rest) × AllDistinct (unsettled_names rest)
 sweeping_once {J} answer later k w l v d h =
     let g = sweeping_goes calls answer later k w l v h in
     let a = g.listed in
-    let apart = begins_distinct k g.along.0 a.answer a.number a.count w.standings g.head g.left g.names g.along.1.says d g.begins in
-    let none = begins_unnamed a.answer a.number a.count w.standings g.head g.left g.names g.begins in (
+    let apart = begins_distinct k g.along.0 a.answer a.number a.count w.standings g.head g.left g.names g.shut g.along.1.says d g.begins in
+    let none = begins_unnamed a.answer a.number a.count w.standings g.head g.left g.names g.shut g.begins in (
       g.head ++ g.rest,
       g.entries,
-      subst (λ (v : List (List ℕ)). AllDistinct v) (sym (names_more g.head g.rest ∙ ap (λ (x : List (List ℕ)). x ++ unsettled_names g.rest) none)) (once_parts g.names g.left v.standings g.later g.rest g.parts apart),
+      subst (λ (v : List (List ℕ)). AllDistinct v) (sym (names_more g.head g.rest ∙ ap (λ (x : List (List ℕ)). x ++ unsettled_names g.rest) none)) (once_parts g.names g.left v.standings g.made g.rest g.parts apart),
     )
 
 pub told_once : {S J : Type 0} (gives : S → (call : Call) → Answer call → S → Type 0) (told : S → Option Kernel) (did : (s : S) (call : Call) (answer : Answer call) (t : S) (l : Kernel) → gives s call answer t → told t ≡ Some l → Follows call answer (told s) l) (answer : Answers J) (later : Laters J) (s : S) (w : State J) (t : S) (v : State J) → Runs gives s (sweeping answer later w) v t → NamesOnce told s w t v

@@ -34,18 +34,19 @@ use Rattle.ug_audit.specs.declared.entry.Fault.TheVariants as fault
 use Rattle.ug_table.specs.Standings.{standing_of}
 use Rattle.ug_table.specs.Bring.{wants, write_of, is_to_go}
 use Rattle.ug_table.specs.Laws.{wrote_entries}
-use Rattle.ug_table.specs.Parts.{OpenFile, open_file, opened_files, AreAbout, EndsAtFailure, Behind, behind_more, FoundAlive, OpenedRemove, IsWriteDue, AreDue, PutMade, put_of, puts_of, AtMostOneEach, failure_in, failures_told, write_in, writes_in, TellsWrites, EndsUnsettled, IsBoundAnew, LacksRoom, control_of, known_files, AllBear, Part}
+use Rattle.ug_table.specs.Parts.{OpenFile, open_file, files_left, files_after, AreAbout, EndsAtFailure, Behind, behind_more, FoundAlive, OpenedRemove, IsWriteDue, AreDue, PutMade, put_of, puts_of, AtMostOneEach, failure_in, failures_told, write_in, writes_in, TellsWrites, EndsUnsettled, IsBoundAnew, LacksRoom, control_of, known_files, AllBear, Part}
 use Rattle.ug_table.specs.declared.standing.Standing.{Standing}
 use Rattle.ug_table.specs.declared.standing.Known.{Known}
 use Rattle.ug_table.specs.declared.standing.Settled.{Settled}
 use Rattle.ug_table.specs.declared.standing.Settled.TheVariants as settled
-use Rattle.ug_types.proofs.Elements.{has_cases, has_right}
+use Rattle.ug_types.proofs.Elements.{has_cases, has_left, has_right}
 use Rattle.ug_table.proofs.Ways.{Way, ways_of}
 use Rattle.ug_table.proofs.BindShapes.{told, Came, Reads, No_more, Then_read, Stops, No_descriptors, Read_failed, Read_short, Binds_by, No_such, Open_failed, Open_short, Cut, Probed_gone, Probe_failed, Bound_by, binds_by, Holds_by, Not_there, Not_opened, No_memory, Held_on, Died, Unasked, holds_by}
-use Rattle.ug_table.proofs.Shapes.{Written, Done, Went, Broke, Valued, Same, Set, Unheld, Gone_by, Failed_by, Short_by, Removal, Not_held, Put_on, Brought, By_value, And_removal, Opening, Fresh, Lost, Unbound_end, Absent_so, Vanished_so, Failed_so, Short_so, Flat, Unprobed, Tried, Stopped, Unbound, No_place, Judged_so}
+use Rattle.ug_table.proofs.Shapes.{Written, Done, Went, Broke, Valued, Same, Set, Unheld, Gone_by, Failed_by, Short_by, Removal, Not_held, Put_on, Carried, By_value, And_removal, Brought, Left_open, Let_go, Opening, Fresh, Lost, Unbound_end, Absent_so, Vanished_so, Failed_so, Short_so, Flat, Unprobed, Tried, Stopped, Unbound, No_place, Judged_so}
 use Rattle.ug_table.proofs.Told.{Each, NamesNone}
 use Rattle.ug_table.proofs.OtherNames.{OthersStand, others_stand, without_stand, kept_stand, tried_stand}
 use Rattle.ug_table.proofs.Within.{flat_few}
+use Rattle.ug_table.proofs.OpenFiles.{files_join, reads_left, valued_left, carried_left, flat_leaves, flat_numbers}
 
 -- of lists joined
 
@@ -65,21 +66,9 @@ writes_more : (es fs : List Entry) → writes_in (es ++ fs) ≡ writes_in es ++ 
 writes_more [] fs = refl
 writes_more (e ∷ es) fs = ap (λ (v : List Entry). write_in e ++ v) (writes_more es fs) ∙ sym (append_assoc (write_in e) (writes_in es) (writes_in fs))
 
-abbrev files_after : List OpenFile → List Made → List OpenFile
-files_after files [] = files
-files_after files (m ∷ ms) = files_after (opened_files m.call m.answer ++ files) ms
-
 abbrev behind_after : Behind → List Made → Behind
 behind_after b [] = b
 behind_after b (m ∷ ms) = behind_after (behind_more b m) ms
-
-files_stay : (files : List OpenFile) (ms : List Made) (x : OpenFile) → Has files x → Has (files_after files ms) x
-files_stay files [] x h = h
-files_stay files (m ∷ ms) x h = files_stay (opened_files m.call m.answer ++ files) ms x (has_right (opened_files m.call m.answer) files x h)
-
-files_join : (files : List OpenFile) (ms ns : List Made) → files_after files (ms ++ ns) ≡ files_after (files_after files ms) ns
-files_join files [] ns = refl
-files_join files (m ∷ ms) ns = files_join (opened_files m.call m.answer ++ files) ms ns
 
 behind_join : (b : Behind) (ms ns : List Made) → behind_after b (ms ++ ns) ≡ behind_after (behind_after b ms) ns
 behind_join b [] ns = refl
@@ -93,7 +82,7 @@ record Keeps (name : List ℕ) (files : List OpenFile) (b : Behind) (ms : List M
 
 about_more : (name : List ℕ) (files : List OpenFile) (ms ns : List Made) → AreAbout name files ms → AreAbout name (files_after files ms) ns → AreAbout name files (ms ++ ns)
 about_more name files [] ns a b = b
-about_more name files (m ∷ ms) ns a b = (a.0, about_more name (opened_files m.call m.answer ++ files) ms ns a.1 b)
+about_more name files (m ∷ ms) ns a b = (a.0, about_more name (files_left m.call m.answer files) ms ns a.1 b)
 
 ends_more : (before : List Failure) (ms ns : List Made) → EndsAtFailure before ms → EndsAtFailure (before ++ failures ms) ns → EndsAtFailure before (ms ++ ns)
 ends_more before [] ns a b = subst (λ v. EndsAtFailure v ns) (append-nil before) b
@@ -139,12 +128,12 @@ stop_failures of file shut (Read_failed at call count) = refl
 stop_failures of file shut (Read_short at call count) = refl
 
 -- an opening, readings, and an end
-open_keeps : {name : List ℕ} {ms : List Made} (files : List OpenFile) (b : Behind) (file : Held) (call count : ℕ) (ns : List Made) → Reads name ms → ((fs : List OpenFile) (c : Behind) → Has fs (open_file file.0 Authorized) → Keeps name fs c ns) → let all = answered (Open name Authorized) (told (opened.Token file) call count) ∷ (ms ++ ns) in Keeps name files b all × ((failures all ≡ failures ns) × (puts_of all ≡ puts_of ns))
+open_keeps : {name : List ℕ} {ms : List Made} (files : List OpenFile) (b : Behind) (file : Held) (call count : ℕ) (ns : List Made) → Reads name ms → ((c : Behind) → Keeps name (open_file file.0 Authorized ∷ files) c ns) → let all = answered (Open name Authorized) (told (opened.Token file) call count) ∷ (ms ++ ns) in Keeps name files b all × ((failures all ≡ failures ns) × (puts_of all ≡ puts_of ns))
 open_keeps {name} {ms} files b file call count ns r k =
     let start : Made = answered (Open name Authorized) (told (opened.Token file) call count) in
     let own : List OpenFile = open_file file.0 Authorized ∷ files in
     let h = reads_keep own (behind_more b start) r in
-    let rest = keeps_more name own (behind_more b start) ms ns h.0 h.1.0 (k (files_after own ms) (behind_after (behind_more b start) ms) (files_stay own ms (open_file file.0 Authorized) (inl refl))) in
+    let rest = keeps_more name own (behind_more b start) ms ns h.0 h.1.0 (subst (λ v. Keeps name v (behind_after (behind_more b start) ms) ns) (sym (reads_left own r)) (k (behind_after (behind_more b start) ms))) in
     (record { about = (refl, rest.about); ends = (inl refl, rest.ends); due = (tt, rest.due) }, (failures_more ms ns ∙ ap (λ v. v ++ failures ns) h.1.0, puts_more ms ns ∙ ap (λ v. v ++ puts_of ns) h.1.1))
 
 binds_keep : {name : List ℕ} {ms : List Made} {r : Binding} (files : List OpenFile) (b : Behind) → Binds_by name ms r → Keeps name files b ms × ((failures ms ≡ binding_failures r) × (puts_of ms ≡ []))
@@ -152,11 +141,11 @@ binds_keep files b (No_such call count) = (record { about = (refl, tt); ends = (
 binds_keep files b (Open_failed call count) = (record { about = (refl, tt); ends = (inl refl, tt); due = (tt, tt) }, (refl, refl))
 binds_keep files b (Open_short call count) = (record { about = (refl, tt); ends = (inl refl, tt); due = (tt, tt) }, (refl, refl))
 binds_keep files b (Cut file call count ms of at t shut why r a few may stops e) =
-    let h = open_keeps files b file call count (answered (Read of at) t ∷ answered (Close file.0) shut ∷ []) a (λ fs c has. record { about = (may, ((Authorized, has), tt)); ends = (inl refl, (inr tt, tt)); due = (tt, (tt, tt)) }) in
+    let h = open_keeps files b file call count (answered (Read of at) t ∷ answered (Close file.0) shut ∷ []) a (λ c. record { about = (may, ((Authorized, inl refl), tt)); ends = (inl refl, (inr tt, tt)); due = (tt, (tt, tt)) }) in
     (h.0, (h.1.0 ∙ stop_failures of file.0 shut stops ∙ ap binding_failures (sym e), h.1.1))
-binds_keep files b (Probed_gone file call count number total ms shut a few) = open_keeps files b file call count (answered (Ask_alive file.0) (told probe.Gone number total) ∷ answered (Close file.0) shut ∷ []) a (λ fs c has. record { about = (has, ((Authorized, has), tt)); ends = (inl refl, (inr tt, tt)); due = (tt, (tt, tt)) })
-binds_keep files b (Probe_failed file call count number total ms shut a few) = open_keeps files b file call count (answered (Ask_alive file.0) (told probe.Failed number total) ∷ answered (Close file.0) shut ∷ []) a (λ fs c has. record { about = (has, ((Authorized, has), tt)); ends = (inl refl, (inr tt, tt)); due = (tt, (tt, tt)) })
-binds_keep files b (Bound_by call count number total ms x a few) = open_keeps files b x.held call count (answered (Ask_alive x.held.0) (told (probe.Alive x.on) number total) ∷ []) a (λ fs c has. record { about = (has, tt); ends = (inl refl, tt); due = (tt, tt) })
+binds_keep files b (Probed_gone file call count number total ms shut a few) = open_keeps files b file call count (answered (Ask_alive file.0) (told probe.Gone number total) ∷ answered (Close file.0) shut ∷ []) a (λ c. record { about = (inl refl, ((Authorized, inl refl), tt)); ends = (inl refl, (inr tt, tt)); due = (tt, (tt, tt)) })
+binds_keep files b (Probe_failed file call count number total ms shut a few) = open_keeps files b file call count (answered (Ask_alive file.0) (told probe.Failed number total) ∷ answered (Close file.0) shut ∷ []) a (λ c. record { about = (inl refl, ((Authorized, inl refl), tt)); ends = (inl refl, (inr tt, tt)); due = (tt, (tt, tt)) })
+binds_keep files b (Bound_by call count number total ms x a few) = open_keeps files b x.held call count (answered (Ask_alive x.held.0) (told (probe.Alive x.on) number total) ∷ []) a (λ c. record { about = (inl refl, tt); ends = (inl refl, tt); due = (tt, tt) })
 
 -- the device was found alive last, and its file is open
 record IsFound (files : List OpenFile) (b : Behind) (held : ℕ) (on : Bool) : Type 0 where
@@ -178,7 +167,7 @@ bound_found {name} files b (Bound_by call count number total ms x a few) =
     let end : Made = answered (Ask_alive x.held.0) (told (probe.Alive x.on) number total) in
     record {
       t = told (probe.Alive x.on) number total;
-      has = subst (λ v. Has v (open_file x.held.0 Authorized)) (sym (files_join own ms (end ∷ []))) (files_stay own ms (open_file x.held.0 Authorized) (inl refl));
+      has = subst (λ v. Has v (open_file x.held.0 Authorized)) (sym (files_join own ms (end ∷ []) ∙ reads_left own a)) (inl refl);
       last = ap (λ (v : Behind). v.last) (behind_join (behind_more b start) ms (end ∷ []));
       alive = refl;
     }
@@ -376,19 +365,19 @@ removal_goes {name} {known} files b has (Put_on ms file t shut es how way w) =
 
 -- both
 
-record BroughtGoes (name : List ℕ) (known : Known) (files : List OpenFile) (b : Behind) (ms : List Made) (es : List Entry) : Type 0 where
+record CarriedGoes (name : List ℕ) (known : Known) (files : List OpenFile) (b : Behind) (ms : List Made) (es : List Entry) : Type 0 where
   keeps : Keeps name files b ms
   tells : Tells name ms es
   single : AtMostOneEach (puts_of ms)
   short : Has es (entry.Unsettled name fault.Memory) → (is_to_go known ≡ true) × IsShort ms
 
-brought_goes : {name : List ℕ} {known : Known} {on : Bool} {ms : List Made} {es : List Entry} {how : Settled} (files : List OpenFile) (b : Behind) → IsFound files b known.held.0 on → Brought name known on ms es how → BroughtGoes name known files b ms es
-brought_goes files b f (By_value ms es how v k) =
+carried_goes : {name : List ℕ} {known : Known} {on : Bool} {ms : List Made} {es : List Entry} {how : Settled} (files : List OpenFile) (b : Behind) → IsFound files b known.held.0 on → Carried name known on ms es how → CarriedGoes name known files b ms es
+carried_goes files b f (By_value ms es how v k) =
     let h = value_goes files b f v in
     record { keeps = h.keeps; tells = h.tells; single = single_value (puts_of ms) h.single; short = λ a. absurd (h.calm a) }
-brought_goes {name} {known} files b f (And_removal ms ns es fs how go v r) =
+carried_goes {name} {known} files b f (And_removal ms ns es fs how go v r) =
     let h = value_goes files b f v in
-    let k = removal_goes (files_after files ms) (behind_after b ms) (files_stay files ms (open_file known.held.0 Authorized) f.has) r in
+    let k = removal_goes (files_after files ms) (behind_after b ms) (subst (λ w. Has w (open_file known.held.0 Authorized)) (sym (valued_left files v)) f.has) r in
     let s = h.stands refl in
     record {
       keeps = keeps_more name files b ms ns h.keeps s.0 k.keeps;
@@ -399,6 +388,23 @@ brought_goes {name} {known} files b f (And_removal ms ns es fs how go v r) =
         | inr x ↦ let y = k.short x in (go, (y.0, y.1, has_right ms ns (answered (Open y.0 Remove) y.1) y.2, y.3))
       ];
     }
+
+-- and the closing of a held file
+closed_goes : (name : List ℕ) (known : Known) (files : List OpenFile) (b : Behind) (ms : List Made) (es : List Entry) (shut : Closing) → Has (files_after files ms) (open_file known.held.0 Authorized) → CarriedGoes name known files b ms es → CarriedGoes name known files b (ms ++ answered (Close known.held.0) shut ∷ []) es
+closed_goes name known files b ms es shut has h =
+    let last : List Made = answered (Close known.held.0) shut ∷ [] in
+    let fails : failures (ms ++ last) ≡ failures ms = failures_more ms last ∙ append-nil (failures ms) in
+    let puts : puts_of (ms ++ last) ≡ puts_of ms = puts_more ms last ∙ append-nil (puts_of ms) in
+    record {
+      keeps = record { about = about_more name files ms last h.keeps.about ((Authorized, has), tt); ends = ends_more [] ms last h.keeps.ends (inr tt, tt); due = due_more b ms last h.keeps.due (tt, tt) };
+      tells = record { told = h.tells.told ∙ sym fails; writes = subst (λ v. TellsWrites name v (writes_in es)) (sym puts) h.tells.writes; last = h.tells.last; bears = h.tells.bears };
+      single = subst (λ v. AtMostOneEach v) (sym puts) h.single;
+      short = λ a. let x = h.short a in (x.0, (x.1.0, x.1.1, has_left ms last (answered (Open x.1.0 Remove) x.1.1) x.1.2, x.1.3));
+    }
+
+brought_goes : {name : List ℕ} {known : Known} {on : Bool} {ms : List Made} {es : List Entry} {how : Settled} (files : List OpenFile) (b : Behind) → IsFound files b known.held.0 on → Brought name known on ms es how → CarriedGoes name known files b ms es
+brought_goes files b f (Left_open ms es how c n) = carried_goes files b f c
+brought_goes {name} {known} files b f (Let_go ms es shut c) = closed_goes name known files b ms es shut (subst (λ w. Has w (open_file known.held.0 Authorized)) (sym (carried_left files c)) f.has) (carried_goes files b f c)
 
 -- a name
 
@@ -412,11 +418,12 @@ record OpeningGoes (name : List ℕ) (o : Option Known) (b : Behind) (ms : List 
 
 opening_goes : {name : List ℕ} {ss : List Standing} {ms : List Made} {es : List Entry} {rs : List Standing} (b : Behind) → Opening name ss ms es rs → OpeningGoes name (standing_of name ss) b ms es
 opening_goes {name} {ss} b (Fresh e) = record { keeps = record { about = tt; ends = tt; due = tt }; calm = (refl, refl); tells = record { told = refl; writes = refl; last = tt; bears = tt }; none = tt; anew = λ ns. inl e }
-opening_goes {name} {ss} b (Lost known call count e) =
+opening_goes {name} {ss} b (Lost known call count shut e) =
     let m : Made = answered (Ask_alive known.held.0) (told probe.Gone call count) in
+    let n : Made = answered (Close known.held.0) shut in
     let g : Entry = entry.Gone known.number name in
-    subst (λ o. OpeningGoes name o b (m ∷ []) (g ∷ [])) (sym e)
-    (record { keeps = record { about = (inl refl, tt); ends = (inl refl, tt); due = (tt, tt) }; calm = (refl, refl); tells = record { told = refl; writes = refl; last = (tt, tt); bears = (refl, tt) }; none = (tt, tt); anew = λ ns. inr (m, ns, refl, (known, told probe.Gone call count, refl, refl, refl)) })
+    subst (λ o. OpeningGoes name o b (m ∷ n ∷ []) (g ∷ [])) (sym e)
+    (record { keeps = record { about = (inl refl, ((Authorized, inl refl), tt)); ends = (inl refl, (inl refl, tt)); due = (tt, (tt, tt)) }; calm = (refl, refl); tells = record { told = refl; writes = refl; last = (tt, tt); bears = (refl, tt) }; none = (tt, tt); anew = λ ns. inr (m, n ∷ ns, refl, (known, told probe.Gone call count, refl, refl, refl)) })
 
 unbound_tells : {name : List ℕ} {r : Binding} {es : List Entry} {how : Settled} (ms : List Made) → failures ms ≡ binding_failures r → puts_of ms ≡ [] → Unbound_end name r es how → Tells name ms es
 unbound_tells {name} ms f p Absent_so = record { told = sym f; writes = subst (λ v. TellsWrites name v []) (sym p) refl; last = tt; bears = tt }
@@ -504,7 +511,7 @@ flat_goes {name = name} {ss = ss} (Judged_so ms ns os es fs rs v x how t opening
 
 opening_others : {name : List ℕ} {ss : List Standing} {ms : List Made} {es : List Entry} {rs : List Standing} → Opening name ss ms es rs → OthersStand name ss rs
 opening_others {name} {ss} (Fresh e) = others_stand name ss
-opening_others {name} {ss} (Lost known call count e) = λ other n. without_stand name other ss n
+opening_others {name} {ss} (Lost known call count shut e) = λ other n. without_stand name other ss n
 
 flat_others : {binds : Bool} {given : List Standing → Bound → Standing → Type 0} {name : List ℕ} {ss : List Standing} {ms : List Made} {rest : List Entry} {how : Settled} {rs : List Standing} {o : Option (List Standing × Bound)} → Flat binds given name ss ms rest how rs o → OthersStand name ss rs
 flat_others {name = name} {ss = ss} (Unprobed known call count at) = tried_stand name ss (settled.Fault call count)
@@ -517,4 +524,4 @@ flat_others {name = name} (Judged_so ms ns os es fs rs b x how t opening way giv
 pub flat_is_part : {binds : Bool} {given : List Standing → Bound → Standing → Type 0} {name : List ℕ} {ss : List Standing} {ms : List Made} {rest : List Entry} {how : Settled} {rs : List Standing} {o : Option (List Standing × Bound)} → Flat binds given name ss ms rest how rs o → Part name ss rs ms rest
 flat_is_part f =
     let h = flat_goes f in
-    record { about = h.keeps.about; ends = h.keeps.ends; told = h.tells.told; last = h.tells.last; memory = h.memory; due = h.keeps.due; single = h.single; writes = h.tells.writes; few = flat_few f; bears = h.tells.bears; others = flat_others f }
+    record { about = h.keeps.about; leaves = flat_leaves f; ends = h.keeps.ends; told = h.tells.told; last = h.tells.last; memory = h.memory; due = h.keeps.due; single = h.single; writes = h.tells.writes; few = flat_few f; bears = h.tells.bears; numbers = flat_numbers f; others = flat_others f }

@@ -48,7 +48,7 @@ use Rattle.ug_itree.specs.Along.{Made, answered, Along}
 use Rattle.ug_table.proofs.Ways.{Way, way_runs, ways_run, along_split, along_sound, along_grows}
 use Rattle.ug_table.specs.State.{Kept}
 use Rattle.ug_table.specs.Settle.{resettling}
-use Rattle.ug_table.proofs.Shapes.{told, Written, Done, Went, Broke, Valued, Same, Set, Unheld, Gone_by, Failed_by, Short_by, Removal, Not_held, Put_on, Brought, By_value, And_removal, Unbound_end, Absent_so, Vanished_so, Failed_so, Short_so, Flat, Unprobed, Tried, Stopped, Unbound, No_place, Judged_so, Settles, settles, Resettles, resettles}
+use Rattle.ug_table.proofs.Shapes.{told, Written, Done, Went, Broke, Valued, Same, Set, Unheld, Gone_by, Failed_by, Short_by, Removal, Not_held, Put_on, Carried, By_value, And_removal, Brought, Left_open, Let_go, Unbound_end, Absent_so, Vanished_so, Failed_so, Short_so, Flat, Unprobed, Tried, Stopped, Unbound, No_place, Judged_so, Settles, settles, Resettles, resettles}
 
 -- the name is told among what was added
 abbrev pub NamedSince : List Entry → List Entry → List ℕ → Type 0
@@ -149,19 +149,36 @@ removal_own {name} {known} i on k l (Put_on ms file t shut es how way w) sound l
     let x = hold_own name known.held.0 i on (hold.Ready file) ms k m l way sound live own v cut.1 (along_grows (answered (Put file.0 write.Remove) t ∷ answered (Close file.0) shut ∷ []) m l cut.2) in
     put_own i file.0 on shut m cut.2.0 l w live x.1.1 x.1.0 cut.2.1 (subst (λ y. Called (Close file.0) shut cut.2.0 y) (sym cut.2.2.2) cut.2.2.1)
 
-brought_own : {name : List ℕ} {known : Known} {on : Bool} {ms : List Made} {es : List Entry} {how : Settled} (i : ℕ) (k l : Kernel) → Brought name known on ms es how → IsKernel k → LiveAs l i name → IsFileOf k known.held.0 i → Value k i on → Along calls k ms l → Ends es l how i name (wants known.verdict)
-brought_own i k l (By_value ms es how v f) sound live file at a = valued_own i k l v live file at a
-brought_own {name} {known} {on} i k l (And_removal ms ns es fs how go v r) sound live file at a =
+-- a device that is live at the end was so before
+live_mid : (k m l : Kernel) (i held : ℕ) (on : Bool) (name : List ℕ) → Grows k m → Grows m l → LiveAs l i name → IsFileOf k held i → Value k i on → LiveAs m i name
+live_mid k m l i held on name g j live file at =
+    let o = open_of k l i held on name (grows_trans k m l g j) live file at in
+    let x = g.devices i at.0 at.1 in
+    record { d = x.0; live = (live_before m l i x.0 live.d j x.1 live.live).0; named = x.2.name ∙ open_name k name held i at.0 o at.1 file }
+
+carried_own : {name : List ℕ} {known : Known} {on : Bool} {ms : List Made} {es : List Entry} {how : Settled} (i : ℕ) (k l : Kernel) → Carried name known on ms es how → IsKernel k → LiveAs l i name → IsFileOf k known.held.0 i → Value k i on → Along calls k ms l → Ends es l how i name (wants known.verdict)
+carried_own i k l (By_value ms es how v f) sound live file at a = valued_own i k l v live file at a
+carried_own {name} {known} {on} i k l (And_removal ms ns es fs how go v r) sound live file at a =
     let cut = along_split calls ms ns k l a in
     let m = cut.0 in
     let g = along_grows ms k m cut.1 in
     let j = along_grows ns m l cut.2 in
-    let o = open_of k l i known.held.0 on name (grows_trans k m l g j) live file at in
-    let x = g.devices i at.0 at.1 in
-    let mid : LiveAs m i name = record { d = x.0; live = (live_before m l i x.0 live.d j x.1 live.live).0; named = x.2.name ∙ open_name k name known.held.0 i at.0 o at.1 file } in
+    let mid = live_mid k m l i known.held.0 on name g j live file at in
     elim (valued_own i k m v mid file at cut.1) [
       | inl h ↦ elim (removal_own i (wants known.verdict) m l r (along_sound ms k m sound cut.1) live (file_later k m known.held.0 i g file) h.1 cut.2) [ inl b ↦ inl b | inr n ↦ inr (n.0, has_right es fs (entry.Unsettled name n.0) n.1) ]
       | inr n ↦ inr (n.0, has_left es fs (entry.Unsettled name n.0) n.1)
+    ]
+
+brought_own : {name : List ℕ} {known : Known} {on : Bool} {ms : List Made} {es : List Entry} {how : Settled} (i : ℕ) (k l : Kernel) → Brought name known on ms es how → IsKernel k → LiveAs l i name → IsFileOf k known.held.0 i → Value k i on → Along calls k ms l → Ends es l how i name (wants known.verdict)
+brought_own i k l (Left_open ms es how c n) sound live file at a = carried_own i k l c sound live file at a
+brought_own {name} {known} {on} i k l (Let_go ms es shut c) sound live file at a =
+    let last : List Made = answered (Close known.held.0) shut ∷ [] in
+    let cut = along_split calls ms last k l a in
+    let m = cut.0 in
+    let mid = live_mid k m l i known.held.0 on name (along_grows ms k m cut.1) (along_grows last m l cut.2) live file at in
+    elim (carried_own i k m c sound mid file at cut.1) [
+      | inl h ↦ let e = h.0 in absurd (let none : ⊥ = cc in none)
+      | inr n ↦ inr n
     ]
 
 -- a name

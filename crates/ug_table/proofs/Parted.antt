@@ -16,11 +16,12 @@ use Rattle.ug_audit.specs.declared.entry.Fault.TheVariants as fault
 use Rattle.ug_table.specs.State.{State, Kept, kept_of, Answers, Laters}
 use Rattle.ug_table.specs.Standings.{lists, farewells}
 use Rattle.ug_table.specs.Settle.{settling, resettling}
-use Rattle.ug_table.specs.Sweep.{settling_all, resettling_all, parted, names_of, resumed, unlisted, marked_listed, if_room, after_list, sweeping}
+use Rattle.ug_table.specs.Sweep.{settling_all, resettling_all, parted, closing_unlisted, names_of, resumed, unlisted, marked_listed, if_room, after_list, sweeping}
 use Rattle.ug_table.specs.Parts.{Part, InParts, AfterListing, GoesInParts}
 use Rattle.ug_table.specs.declared.standing.Standing.{Standing}
 use Rattle.ug_table.specs.declared.standing.Settled.{Settled}
 use Rattle.ug_table.proofs.OnePart.{flat_is_part}
+use Rattle.ug_table.proofs.Closings.{closing_goes}
 use Rattle.ug_table.proofs.Ways.{ways_run}
 use Rattle.ug_table.proofs.Shapes.{Settles, settles, Resettles, resettles}
 
@@ -88,11 +89,14 @@ resettling_all_went {S} gives (name ∷ names) w s v t h =
     (resettling_all_went gives names k.0.1 k.1 v t k.3)
 
 -- a listing, and the parts that it leads to
-from_parts : {S J : Type 0} (gives : S → (call : Call) → Answer call → S → Type 0) (s : S) (w : State J) (a : Told Listing) (u t : S) (v : State J) (head : List Entry) (left : List Standing) (names : List (List ℕ)) → gives s Names a u → AfterListing a.answer a.number a.count w.standings head left names → WentParts gives names u left (w.entries ++ head) t v.standings v.entries → GoesInParts gives s w t v
-from_parts {S} {J} gives s w a u t v head left names g b p = record {
+from_parts : {S J : Type 0} (gives : S → (call : Call) → Answer call → S → Type 0) (s : S) (w : State J) (a : Told Listing) (u x t : S) (v : State J) (head : List Entry) (left : List Standing) (names : List (List ℕ)) (shut : List Made) → gives s Names a u → Along gives u shut x → AfterListing a.answer a.number a.count w.standings head left names shut → WentParts gives names x left (w.entries ++ head) t v.standings v.entries → GoesInParts gives s w t v
+from_parts {S} {J} gives s w a u x t v head left names shut g c b p = record {
   listed = a;
-  later = p.calls;
-  along = (u, g, p.along);
+  later = shut ++ p.calls;
+  along = (u, g, along_more gives shut p.calls u x t c p.along);
+  shut = shut;
+  made = p.calls;
+  cut = refl;
   head = head;
   rest = p.rest;
   entries = p.entries ∙ append_assoc w.entries head p.rest;
@@ -113,20 +117,22 @@ if_room_goes : {S J : Type 0} (gives : S → (call : Call) → Answer call → S
 if_room_goes {S} {J} gives answer later s w names call count true u v t g h =
     let a : Told Listing = record { answer = listing.Names names; number = call; count = count } in
     let ns : List (List ℕ) = in_sweep_order names in
-    from_parts gives s w a u t v (farewells ns w.standings) (filter (λ (x : Standing). lists ns x.name) w.standings) ns g (inl (refl, refl, refl))
-    (settling_all_went gives answer later ns (not w.listed) (marked_listed (parted ns w)) u v t h)
+    let cut = runs_split gives u (closing_unlisted ns w.standings) (λ (x : Unit {0}). settling_all answer later ns (not w.listed) (marked_listed (parted ns w))) v t h in
+    let c = closing_goes gives ns w.standings u cut.0 cut.1 cut.2 in
+    from_parts gives s w a u cut.1 t v (farewells ns w.standings) (filter (λ (x : Standing). lists ns x.name) w.standings) ns c.shut g c.along (inl (refl, refl, refl, c.closings))
+    (settling_all_went gives answer later ns (not w.listed) (marked_listed (parted ns w)) cut.1 v t cut.3)
 if_room_goes {S} {J} gives answer later s w names call count false u v t g h =
     let a : Told Listing = record { answer = listing.Names names; number = call; count = count } in
-    from_parts gives s w a u t v (entry.UnsettledAll fault.Memory ∷ []) w.standings (names_of w.standings) g (inr (refl, refl, refl)) (unlisted_went gives fault.Memory w u v t h)
+    from_parts gives s w a u u t v (entry.UnsettledAll fault.Memory ∷ []) w.standings (names_of w.standings) [] g refl (inr (refl, refl, refl, refl)) (unlisted_went gives fault.Memory w u v t h)
 
 after_list_goes : {S J : Type 0} (gives : S → (call : Call) → Answer call → S → Type 0) (answer : Answers J) (later : Laters J) (s : S) (w : State J) (r : Listing) (call count : ℕ) (u : S) (v : State J) (t : S) → gives s Names (record { answer = r; number = call; count = count }) u → Runs gives u (after_list answer later w r call count) v t → GoesInParts gives s w t v
 after_list_goes gives answer later s w (listing.Names names) call count u v t g h = if_room_goes gives answer later s w names call count h.0 u v t g h.1
 after_list_goes gives answer later s w listing.Failed call count u v t g h =
     let a : Told Listing = record { answer = listing.Failed; number = call; count = count } in
-    from_parts gives s w a u t v (entry.UnsettledAll (fault.Call call count) ∷ []) w.standings (names_of w.standings) g (refl, refl, refl) (unlisted_went gives (fault.Call call count) w u v t h)
+    from_parts gives s w a u u t v (entry.UnsettledAll (fault.Call call count) ∷ []) w.standings (names_of w.standings) [] g refl (refl, refl, refl, refl) (unlisted_went gives (fault.Call call count) w u v t h)
 after_list_goes gives answer later s w listing.Memory call count u v t g h =
     let a : Told Listing = record { answer = listing.Memory; number = call; count = count } in
-    from_parts gives s w a u t v (entry.UnsettledAll fault.Memory ∷ []) w.standings (names_of w.standings) g (refl, refl, refl) (unlisted_went gives fault.Memory w u v t h)
+    from_parts gives s w a u u t v (entry.UnsettledAll fault.Memory ∷ []) w.standings (names_of w.standings) [] g refl (refl, refl, refl, refl) (unlisted_went gives fault.Memory w u v t h)
 
 -- a run of a sweep goes in parts
 pub sweeping_goes : {S J : Type 0} (gives : S → (call : Call) → Answer call → S → Type 0) (answer : Answers J) (later : Laters J) (s : S) (w : State J) (t : S) (v : State J) → Runs gives s (sweeping answer later w) v t → GoesInParts gives s w t v

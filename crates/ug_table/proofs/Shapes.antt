@@ -25,7 +25,7 @@ use Rattle.ug_audit.specs.declared.entry.Entry.{Entry}
 use Rattle.ug_audit.specs.declared.entry.Entry.TheVariants as entry
 use Rattle.ug_audit.specs.declared.entry.Fault.TheVariants as fault
 use Rattle.ug_table.specs.State.{State, Kept, Answers, Laters}
-use Rattle.ug_table.specs.Bring.{wants, write_of, after_write, to_value, valuing, after_hold, removing, is_to_go, if_to_go, after_value, bringing}
+use Rattle.ug_table.specs.Bring.{wants, write_of, after_write, to_value, valuing, after_hold, removing, is_to_go, if_to_go, after_value, writing, close_gone, bringing}
 use Rattle.ug_table.specs.Standings.{known_of, standing_of, without}
 use Rattle.ug_table.specs.Settle.{kept_standings, to_keep, no_room, standing_for, known_in, judged_entry, if_place, if_record, admitting, after_bind, entering, tried_standings, to_mark, after_known, from_standing, settling, to_keep_mark, after_again, again, resettling}
 use Rattle.ug_table.specs.declared.standing.Standing.{Standing}
@@ -61,14 +61,19 @@ pub data Removal (name : List ℕ) (known : Known) : List Made → List Entry �
   Put_on : (ms : List Made) (file : Held) (t : Told Wrote) (shut : Closing) (es : List Entry) (how : Settled) → Way (holding_remove name known.held.0) ms (hold.Ready file) → Written name known.number write.Remove t es how → Removal name known (ms ++ answered (Put file.0 write.Remove) t ∷ answered (Close file.0) shut ∷ []) es how
 
 -- the value, and then the removal
+pub data Carried (name : List ℕ) (known : Known) (on : Bool) : List Made → List Entry → Settled → Type 0 where
+  By_value : (ms : List Made) (es : List Entry) (how : Settled) → Valued name known on ms es how → (how ≡ settled.Stands → is_to_go known ≡ false) → Carried name known on ms es how
+  And_removal : (ms ns : List Made) (es fs : List Entry) (how : Settled) → is_to_go known ≡ true → Valued name known on ms es settled.Stands → Removal name known ns fs how → Carried name known on (ms ++ ns) (es ++ fs) how
+
+-- and the held file is closed where the device is gone
 pub data Brought (name : List ℕ) (known : Known) (on : Bool) : List Made → List Entry → Settled → Type 0 where
-  By_value : (ms : List Made) (es : List Entry) (how : Settled) → Valued name known on ms es how → (how ≡ settled.Stands → is_to_go known ≡ false) → Brought name known on ms es how
-  And_removal : (ms ns : List Made) (es fs : List Entry) (how : Settled) → is_to_go known ≡ true → Valued name known on ms es settled.Stands → Removal name known ns fs how → Brought name known on (ms ++ ns) (es ++ fs) how
+  Left_open : (ms : List Made) (es : List Entry) (how : Settled) → Carried name known on ms es how → (how ≡ settled.Nobody → ⊥) → Brought name known on ms es how
+  Let_go : (ms : List Made) (es : List Entry) (shut : Closing) → Carried name known on ms es settled.Nobody → Brought name known on (ms ++ answered (Close known.held.0) shut ∷ []) es settled.Nobody
 
 -- the name has no standing, or its device is found gone
 pub data Opening (name : List ℕ) (ss : List Standing) : List Made → List Entry → List Standing → Type 0 where
   Fresh : standing_of name ss ≡ None → Opening name ss [] [] ss
-  Lost : (known : Known) (call count : ℕ) → standing_of name ss ≡ Some known → Opening name ss (answered (Ask_alive known.held.0) (told probe.Gone call count) ∷ []) (entry.Gone known.number name ∷ []) (without name ss)
+  Lost : (known : Known) (call count : ℕ) (shut : Closing) → standing_of name ss ≡ Some known → Opening name ss (answered (Ask_alive known.held.0) (told probe.Gone call count) ∷ answered (Close known.held.0) shut ∷ []) (entry.Gone known.number name ∷ []) (without name ss)
 
 -- no device was bound
 pub data Unbound_end (name : List ℕ) : Binding → List Entry → Settled → Type 0 where
@@ -134,25 +139,38 @@ removed name known entries = ways_next (Way (holding_remove name known.held.0)) 
     by ms (hold.Failed call count) way = at_end ms _ (_, refl, Not_held ms (hold.Failed call count) _ _ way (Failed_by call count))
     by ms hold.Memory way = at_end ms _ (_, refl, Not_held ms hold.Memory _ _ way Short_by)
 
-pub brought : (name : List ℕ) (known : Known) (on : Bool) (entries : List Entry) → Ways (bringing name known on entries) (Adds entries (Brought name known on))
-unfolding bringing
-brought name known on entries = ways_next (Adds entries (Valued name known on)) Q (valuing name known on entries) (λ (q : Settled × List Entry). after_value name known q.1 q.0) (valued name known on entries) (λ ms q h. by ms q.0 q.1 h.0 h.1 h.2)
+carried : (name : List ℕ) (known : Known) (on : Bool) (entries : List Entry) → Ways (writing name known on entries) (Adds entries (Carried name known on))
+unfolding writing
+carried name known on entries = ways_next (Adds entries (Valued name known on)) Q (valuing name known on entries) (λ (q : Settled × List Entry). after_value name known q.1 q.0) (valued name known on entries) (λ ms q h. by ms q.0 q.1 h.0 h.1 h.2)
   where
     Q : List Made → Settled × List Entry → Type 0
-    Q = Adds entries (Brought name known on)
+    Q = Adds entries (Carried name known on)
 
-    stops : (ms : List Made) (how : Settled) (es fs : List Entry) → fs ≡ entries ++ es → Valued name known on ms es how → (how ≡ settled.Stands → is_to_go known ≡ false) → Adds entries (Brought name known on) (ms ++ []) (how, fs)
-    stops ms how es fs e v k = subst (λ w. Adds entries (Brought name known on) w (how, fs)) (sym (append-nil ms)) (es, e, By_value ms es how v k)
+    stops : (ms : List Made) (how : Settled) (es fs : List Entry) → fs ≡ entries ++ es → Valued name known on ms es how → (how ≡ settled.Stands → is_to_go known ≡ false) → Adds entries (Carried name known on) (ms ++ []) (how, fs)
+    stops ms how es fs e v k = subst (λ w. Adds entries (Carried name known on) w (how, fs)) (sym (append-nil ms)) (es, e, By_value ms es how v k)
 
-    goes : (ms : List Made) (es fs : List Entry) (b : Bool) → is_to_go known ≡ b → fs ≡ entries ++ es → Valued name known on ms es settled.Stands → Ways (if_to_go name known fs b) (λ ns p. Adds entries (Brought name known on) (ms ++ ns) p)
-    goes ms es fs true t e v = ways_more (Adds fs (Removal name known)) (λ ns p. Adds entries (Brought name known on) (ms ++ ns) p) (removing name known fs) (λ ns p h. (es ++ h.0, h.1 ∙ ap (λ w. w ++ h.0) e ∙ append_assoc entries es h.0, And_removal ms ns es h.0 p.0 t v h.2)) (removed name known fs)
+    goes : (ms : List Made) (es fs : List Entry) (b : Bool) → is_to_go known ≡ b → fs ≡ entries ++ es → Valued name known on ms es settled.Stands → Ways (if_to_go name known fs b) (λ ns p. Adds entries (Carried name known on) (ms ++ ns) p)
+    goes ms es fs true t e v = ways_more (Adds fs (Removal name known)) (λ ns p. Adds entries (Carried name known on) (ms ++ ns) p) (removing name known fs) (λ ns p h. (es ++ h.0, h.1 ∙ ap (λ w. w ++ h.0) e ∙ append_assoc entries es h.0, And_removal ms ns es h.0 p.0 t v h.2)) (removed name known fs)
     goes ms es fs false t e v = stops ms settled.Stands es fs e v (λ s. t)
 
-    by : (ms : List Made) (how : Settled) (fs es : List Entry) → fs ≡ entries ++ es → Valued name known on ms es how → Ways (after_value name known fs how) (λ ns p. Adds entries (Brought name known on) (ms ++ ns) p)
+    by : (ms : List Made) (how : Settled) (fs es : List Entry) → fs ≡ entries ++ es → Valued name known on ms es how → Ways (after_value name known fs how) (λ ns p. Adds entries (Carried name known on) (ms ++ ns) p)
     by ms settled.Stands fs es e v = goes ms es fs (is_to_go known) refl e v
     by ms settled.Nobody fs es e v = stops ms settled.Nobody es fs e v (λ s. let none : ⊥ = cc in absurd none)
     by ms (settled.Fault call count) fs es e v = stops ms (settled.Fault call count) es fs e v (λ s. let none : ⊥ = cc in absurd none)
     by ms settled.Memory fs es e v = stops ms settled.Memory es fs e v (λ s. let none : ⊥ = cc in absurd none)
+
+pub brought : (name : List ℕ) (known : Known) (on : Bool) (entries : List Entry) → Ways (bringing name known on entries) (Adds entries (Brought name known on))
+unfolding bringing
+brought name known on entries = ways_next (Adds entries (Carried name known on)) (Adds entries (Brought name known on)) (writing name known on entries) (λ (q : Settled × List Entry). close_gone known.held.0 q.1 q.0) (carried name known on entries) (λ ms q h. by ms q.0 q.1 h.0 h.1 h.2)
+  where
+    stays : (ms : List Made) (how : Settled) (fs es : List Entry) → fs ≡ entries ++ es → Carried name known on ms es how → (how ≡ settled.Nobody → ⊥) → Adds entries (Brought name known on) (ms ++ []) (how, fs)
+    stays ms how fs es e c n = subst (λ w. Adds entries (Brought name known on) w (how, fs)) (sym (append-nil ms)) (es, e, Left_open ms es how c n)
+
+    by : (ms : List Made) (how : Settled) (fs es : List Entry) → fs ≡ entries ++ es → Carried name known on ms es how → Ways (close_gone known.held.0 fs how) (λ ns p. Adds entries (Brought name known on) (ms ++ ns) p)
+    by ms settled.Nobody fs es e c = λ shut. (es, e, Let_go ms es shut c)
+    by ms settled.Stands fs es e c = stays ms settled.Stands fs es e c (λ s. let none : ⊥ = cc in none)
+    by ms (settled.Fault call count) fs es e c = stays ms (settled.Fault call count) fs es e c (λ s. let none : ⊥ = cc in none)
+    by ms settled.Memory fs es e c = stays ms settled.Memory fs es e c (λ s. let none : ⊥ = cc in none)
 
 -- a settling
 
@@ -236,7 +254,7 @@ settles {J} answer later name present w = from (standing_of name w.standings) re
     known_by known e (probe.Alive on) call count =
         ways_last (Adds w.entries (Brought name known on)) (λ ms p. Settles answer later name present w (answered (Ask_alive known.held.0) (told (probe.Alive on) call count) ∷ ms) p) (bringing name known on w.entries) (to_mark w name) (λ (q : Settled × List Entry). (q.0, record w { standings = tried_standings w.standings name q.0; entries = q.1 })) (λ q. refl) (brought name known on w.entries)
         (λ ms q h. record { rest = h.0; judged = None; flat = Tried known on call count ms h.0 q.0 e h.2; entries = h.1; listed = refl; next = refl; judge = refl })
-    known_by known e probe.Gone call count = entered answer later name present w (answered (Ask_alive known.held.0) (told probe.Gone call count) ∷ []) (entry.Gone known.number name ∷ []) (w.entries ++ entry.Gone known.number name ∷ []) (without name w.standings) refl (Lost known call count e)
+    known_by known e probe.Gone call count = λ shut. entered answer later name present w (answered (Ask_alive known.held.0) (told probe.Gone call count) ∷ answered (Close known.held.0) shut ∷ []) (entry.Gone known.number name ∷ []) (w.entries ++ entry.Gone known.number name ∷ []) (without name w.standings) refl (Lost known call count shut e)
     known_by known e probe.Failed call count = record { rest = _; judged = None; flat = Unprobed known call count e; entries = refl; listed = refl; next = refl; judge = refl }
 
     from : (o : Option Known) → standing_of name w.standings ≡ o → Ways (from_standing answer later name present w o) (Settles answer later name present w)
@@ -261,7 +279,7 @@ resettles name k = from (standing_of name k.standings) refl
     known_by known e (probe.Alive on) call count =
         ways_last (Adds k.entries (Brought name known on)) (λ ms p. Resettles name k (answered (Ask_alive known.held.0) (told (probe.Alive on) call count) ∷ ms) p) (bringing name known on k.entries) (to_keep_mark k name) (λ (q : Settled × List Entry). (q.0, record { standings = tried_standings k.standings name q.0; entries = q.1 })) (λ q. refl) (brought name known on k.entries)
         (λ ms q h. record { rest = h.0; flat = Tried known on call count ms h.0 q.0 e h.2; entries = h.1 })
-    known_by known e probe.Gone call count = record { rest = _; flat = Stopped _ _ _ refl (Lost known call count e); entries = refl }
+    known_by known e probe.Gone call count = λ shut. record { rest = _; flat = Stopped _ _ _ refl (Lost known call count shut e); entries = refl }
     known_by known e probe.Failed call count = record { rest = _; flat = Unprobed known call count e; entries = refl }
 
     from : (o : Option Known) → standing_of name k.standings ≡ o → Ways (again name k o) (Resettles name k)

@@ -12,7 +12,7 @@ use Rattle.ug_kernel.specs.Calls.{Names, Ask_alive}
 use Rattle.ug_kernel.specs.Kernel.{Kernel, IsKernel}
 use Rattle.ug_kernel.specs.declared.device.Device.{Device}
 use Rattle.ug_kernel.specs.Called.{Lived, Called}
-use Rattle.ug_kernel.proofs.Grow.{called_grows}
+use Rattle.ug_kernel.proofs.Grow.{quiet_grows, called_grows}
 use Rattle.ug_itree.specs.Tree.{Runs, calls}
 use Rattle.ug_itree.proofs.Runs.{runs_split}
 use Rattle.ug_itree.proofs.Kernels.{runs_sound, runs_grow}
@@ -24,7 +24,7 @@ use Rattle.ug_table.specs.State.{State, Kept, kept_of, Answers, Laters}
 use Rattle.ug_table.specs.Bring.{is_reject, is_to_go, bringing}
 use Rattle.ug_table.specs.Standings.{same_name, known_of, standing_of, marked, lists, farewells}
 use Rattle.ug_table.specs.Settle.{to_mark, after_known, from_standing, settling, to_keep_mark, after_again, again, resettling, tried_standings}
-use Rattle.ug_table.specs.Sweep.{settling_all, resettling_all, parted, names_of, resumed, unlisted, marked_listed, if_room, after_list, sweeping}
+use Rattle.ug_table.specs.Sweep.{settling_all, resettling_all, parted, closing_unlisted, names_of, resumed, unlisted, marked_listed, if_room, after_list, sweeping}
 use Rattle.ug_table.specs.Laws.{Stand, HasStanding, IsSpared}
 use Rattle.ug_table.specs.declared.standing.Settled.TheVariants as settled
 use Rattle.ug_table.specs.declared.standing.Standing.{Standing}
@@ -33,6 +33,7 @@ use Rattle.ug_table.specs.declared.standing.Settled.{Settled}
 use Rattle.ug_types.proofs.Elements.{cancel, has_cases, has_map, filter_has, has_filter, distinct_one, map_has}
 use Rattle.ug_table.proofs.Values.{IsFileOf, file_later, LiveAs, lives_between, lived, gone_no, open_named}
 use Rattle.ug_table.proofs.Standings.{found, missing, listed_is}
+use Rattle.ug_table.proofs.Closings.{closing_quiet}
 use Rattle.ug_table.proofs.Places.{Files, files_later}
 use Rattle.ug_table.proofs.Apart.{Apart, settling_apart}
 use Rattle.ug_table.proofs.Lived.{parted_files, lives_first, lives_last, stand_files}
@@ -147,7 +148,7 @@ after_again_calm : (n name : List ℕ) (w : Kept) (known : Known) (a : Probe) (c
 after_again_calm n name w known (probe.Alive on) call count go h =
     ends_then (Brings n (is_to_go known) w.entries) (λ (p : Settled × Kept). StaysCalm name w p.1) (bringing n known on w.entries) (to_keep_mark w n) (bringing_brings n known on w.entries)
     (λ q b. ((b.rest, b.entries, λ a. each_has NotMemory b.rest (entry.Unsettled name fault.Memory) (b.spared (go (sym (named_only n name b.rest b.only (fault.Memory, a))))) a), tried_stays w.standings n name q.0 h))
-after_again_calm n name w known probe.Gone call count go h = ((entry.Gone known.number n ∷ [], refl, λ a. elim a [ inl e ↦ let none : ⊥ = cc in none | inr none ↦ none ]), tried_stays w.standings n name settled.Nobody h)
+after_again_calm n name w known probe.Gone call count go h = λ shut. ((entry.Gone known.number n ∷ [], refl, λ a. elim a [ inl e ↦ let none : ⊥ = cc in none | inr none ↦ none ]), tried_stays w.standings n name settled.Nobody h)
 after_again_calm n name w known probe.Failed call count go h = ((entry.Unsettled n (fault.Call call count) ∷ [], refl, λ a. elim a [ inl e ↦ let none : ⊥ = cc in none | inr none ↦ none ]), tried_stays w.standings n name (settled.Fault call count) h)
 
 again_calm : (n name : List ℕ) (w : Kept) (o : Option Known) → standing_of n w.standings ≡ o → Stays w.standings name → EndsSo (λ (p : Settled × Kept). StaysCalm name w p.1) (again n w o)
@@ -206,7 +207,14 @@ listed_calm answer later names name i held w k l v rest distinct has sound f one
     ]
 
 if_room_calm : {J : Type 0} (answer : Answers J) (later : Laters J) (names : List (List ℕ)) (name : List ℕ) (i : ℕ) (held : Held) (w : State J) (room : Bool) (k l : Kernel) (v : State J) (rest : List Entry) → AllDistinct names → Has names name → IsKernel k → Files k w.standings → OneHeld w.standings name held → IsFileOf k held.0 i → LiveAs k i name → LiveAs l i name → Runs calls k (if_room answer later names w room) v l → v.entries ≡ w.entries ++ rest → Has rest (entry.Unsettled name fault.Memory) → ⊥
-if_room_calm answer later names name i held w true k l v rest distinct has sound f one file first live r e h = listed_calm answer later names name i held w k l v rest distinct has sound f one file first live r e h
+if_room_calm answer later names name i held w true k l v rest distinct has sound f one file first live r e h =
+    let x = marked_listed (parted names w) in
+    let cut = runs_split calls k (closing_unlisted names w.standings) (λ (y : Unit {0}). settling_all answer later names (not w.listed) x) v l r in
+    let u = cut.1 in
+    let q = closing_quiet names w.standings k cut.0 u sound cut.2 in
+    let g = quiet_grows k u q.1 in
+    let mid = lives_between k u l i name g (runs_grow (settling_all answer later names (not w.listed) x) u v l cut.3) first live in
+    listed_calm answer later names name i held w u l v rest distinct has q.0 (files_later k u w.standings g f) one (file_later k u held.0 i g file) mid live cut.3 e h
 if_room_calm answer later names name i held w false k l v rest distinct has sound f one file first live r e h = unlisted_calm fault.Memory w k l v rest name one.stays r e h
 
 after_list_calm : {J : Type 0} (answer : Answers J) (later : Laters J) (name : List ℕ) (i : ℕ) (held : Held) (w : State J) (list : Listing) (call count : ℕ) (k m l : Kernel) (v : State J) (rest : List Entry) → Files m w.standings → OneHeld w.standings name held → IsFileOf m held.0 i → LiveAs k i name → LiveAs m i name → LiveAs l i name → Called Names (record { answer = list; number = call; count = count }) k m → Runs calls m (after_list answer later w list call count) v l → v.entries ≡ w.entries ++ rest → Has rest (entry.Unsettled name fault.Memory) → ⊥

@@ -24,7 +24,7 @@ use Rattle.ug_table.specs.declared.standing.Settled.{Settled}
 use Rattle.ug_table.specs.declared.standing.Settled.TheVariants as settled
 use Rattle.ug_types.proofs.Elements.{has_left, has_right, has_cases, filter_has, map_has, has_map, insert_has}
 use Rattle.ug_table.proofs.Ways.{Ways, ways_run, ways_next, ways_more}
-use Rattle.ug_table.proofs.Shapes.{Written, Done, Went, Broke, Valued, Same, Set, Unheld, Gone_by, Failed_by, Short_by, Removal, Not_held, Put_on, Brought, By_value, And_removal, Opening, Fresh, Lost, Unbound_end, Absent_so, Vanished_so, Failed_so, Short_so, Flat, Unprobed, Tried, Stopped, Unbound, No_place, Judged_so, Adds, brought, Settles, settles, Resettles, resettles}
+use Rattle.ug_table.proofs.Shapes.{Written, Done, Went, Broke, Valued, Same, Set, Unheld, Gone_by, Failed_by, Short_by, Removal, Not_held, Put_on, Carried, By_value, And_removal, Brought, Left_open, Let_go, Opening, Fresh, Lost, Unbound_end, Absent_so, Vanished_so, Failed_so, Short_so, Flat, Unprobed, Tried, Stopped, Unbound, No_place, Judged_so, Adds, brought, Settles, settles, Resettles, resettles}
 use Rattle.ug_kernel.specs.Calls.{Told}
 use Rattle.ug_itree.specs.Along.{Made}
 use Rattle.ug_table.proofs.Standings.{is_same, missing, missing_without}
@@ -120,9 +120,9 @@ tells_more (settled.Fault call count) name es fs none t = (t.0, has_right es fs 
 tells_more settled.Nobody name es fs none t = tt
 tells_more settled.Memory name es fs none t = (t.0, has_right es fs (entry.Unsettled name t.0) t.1)
 
-brought_tells : {name : List ℕ} {known : Known} {on : Bool} {ms : List Made} {es : List Entry} {how : Settled} → Brought name known on ms es how → TellsSo name (is_to_go known) es how
-brought_tells {known = known} (By_value ms es how v k) = valued_tells (is_to_go known) v
-brought_tells {name} (And_removal ms ns es fs how go v r) =
+carried_tells : {name : List ℕ} {known : Known} {on : Bool} {ms : List Made} {es : List Entry} {how : Settled} → Carried name known on ms es how → TellsSo name (is_to_go known) es how
+carried_tells {known = known} (By_value ms es how v k) = valued_tells (is_to_go known) v
+carried_tells {name} (And_removal ms ns es fs how go v r) =
     let a = valued_tells true v in
     let b = removal_tells r in
     record {
@@ -130,6 +130,10 @@ brought_tells {name} (And_removal ms ns es fs how go v r) =
       spared = λ e. absurd (let is = go in let none : ⊥ = cc in none);
       tells = tells_more how name es fs a.tells b.tells;
     }
+
+brought_tells : {name : List ℕ} {known : Known} {on : Bool} {ms : List Made} {es : List Entry} {how : Settled} → Brought name known on ms es how → TellsSo name (is_to_go known) es how
+brought_tells (Left_open ms es how c n) = carried_tells c
+brought_tells (Let_go ms es shut c) = carried_tells c
 
 pub record Brings (name : List ℕ) (go : Bool) (es : List Entry) (p : Settled × List Entry) : Type 0 where
   pub rest : List Entry
@@ -221,7 +225,7 @@ pub record Opens (name : List ℕ) (ss : List Standing) (es : List Entry) (rs : 
 
 pub opens : {name : List ℕ} {ss : List Standing} {ms : List Made} {es : List Entry} {rs : List Standing} → Opening name ss ms es rs → Opens name ss es rs
 opens {name} {ss} (Fresh e) = record { none = tt; less = λ s a. a; absent = missing name ss e }
-opens {name} {ss} (Lost known call count e) = record { none = (tt, tt); less = λ s a. tried_others_less s a; absent = missing_without name ss }
+opens {name} {ss} (Lost known call count shut e) = record { none = (tt, tt); less = λ s a. tried_others_less s a; absent = missing_without name ss }
   where
     tried_others_less : (s : Standing) → Has (without name ss) s → Has ss s
     tried_others_less s a = (filter_has (λ (v : Standing). not (same_name v.name name)) ss s a).0

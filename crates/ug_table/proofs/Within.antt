@@ -19,7 +19,7 @@ use Rattle.ug_table.specs.declared.standing.Known.{Known}
 use Rattle.ug_table.specs.declared.standing.Settled.{Settled}
 use Rattle.ug_table.proofs.Ways.{Way, ways_of}
 use Rattle.ug_table.proofs.BindShapes.{told, Binds_by, No_such, Open_failed, Open_short, Cut, Probed_gone, Probe_failed, Bound_by, binds_by, Holds_by, Not_there, Not_opened, No_memory, Held_on, Died, Unasked, holds_by, count_more}
-use Rattle.ug_table.proofs.Shapes.{Valued, Same, Set, Removal, Not_held, Put_on, Brought, By_value, And_removal, Opening, Fresh, Lost, Flat, Unprobed, Tried, Stopped, Unbound, No_place, Judged_so}
+use Rattle.ug_table.proofs.Shapes.{Valued, Same, Set, Removal, Not_held, Put_on, Carried, By_value, And_removal, Brought, Left_open, Let_go, Opening, Fresh, Lost, Flat, Unprobed, Tried, Stopped, Unbound, No_place, Judged_so}
 
 binds_few : {name : List ℕ} {ms : List Made} {r : Binding} → Binds_by name ms r → count_calls ms ≤ 9
 binds_few (No_such call count) = omega arith
@@ -52,17 +52,24 @@ removal_few {name} {known} (Put_on ms file t shut es how way w) =
     let sum = count_more ms (answered (Put file.0 write.Remove) t ∷ answered (Close file.0) shut ∷ []) in
     omega (arith, few, sum)
 
-brought_few : {name : List ℕ} {known : Known} {on : Bool} {ms : List Made} {es : List Entry} {how : Settled} → Brought name known on ms es how → count_calls ms ≤ 4
-brought_few (By_value ms es how v k) = let few = valued_few v in omega (arith, few)
-brought_few (And_removal ms ns es fs how go v r) =
+carried_few : {name : List ℕ} {known : Known} {on : Bool} {ms : List Made} {es : List Entry} {how : Settled} → Carried name known on ms es how → count_calls ms ≤ 4
+carried_few (By_value ms es how v k) = let few = valued_few v in omega (arith, few)
+carried_few (And_removal ms ns es fs how go v r) =
     let few = valued_few v in
     let more = removal_few r in
     let sum = count_more ms ns in
     omega (arith, few, more, sum)
 
+brought_few : {name : List ℕ} {known : Known} {on : Bool} {ms : List Made} {es : List Entry} {how : Settled} → Brought name known on ms es how → count_calls ms ≤ 4
+brought_few (Left_open ms es how c n) = carried_few c
+brought_few {known = known} (Let_go ms es shut c) =
+    let few = carried_few c in
+    let sum = count_more ms (answered (Close known.held.0) shut ∷ []) in
+    omega (arith, few, sum)
+
 opening_few : {name : List ℕ} {ss : List Standing} {ms : List Made} {es : List Entry} {rs : List Standing} → Opening name ss ms es rs → count_calls ms ≤ 1
 opening_few (Fresh e) = omega arith
-opening_few (Lost known call count e) = omega arith
+opening_few (Lost known call count shut e) = omega arith
 
 way_few : (name : List ℕ) (ms : List Made) (r : Binding) → Way (binding name (parent_of name)) ms r → count_calls ms ≤ 9
 way_few name ms r way = binds_few (ways_of (Binds_by name) (binding name (parent_of name)) ms r (binds_by name) way)

@@ -41,7 +41,7 @@ use Rattle.ug_kernel.specs.Calls.{Told, Closing}
 use Rattle.ug_kernel.proofs.Grow.{quiet_grows}
 use Rattle.ug_itree.specs.Along.{Made, answered, Along}
 use Rattle.ug_table.proofs.Ways.{Way, way_runs, along_split}
-use Rattle.ug_table.proofs.Shapes.{told, Written, Done, Went, Broke, Valued, Same, Set, Unheld, Gone_by, Failed_by, Short_by, Removal, Not_held, Put_on, Brought, By_value, And_removal}
+use Rattle.ug_table.proofs.Shapes.{told, Written, Done, Went, Broke, Valued, Same, Set, Unheld, Gone_by, Failed_by, Short_by, Removal, Not_held, Put_on, Carried, By_value, And_removal, Brought, Left_open, Let_go}
 use Rattle.ug_table.proofs.Steps.{After, same_refl, plain_fair, keep_fair, fair_end, then_quiet, then_called, then_note, then_same, then_went}
 
 -- the log after a write
@@ -250,9 +250,15 @@ only_value u s after settled.Nobody es f has a h = h
 only_value u s after (settled.Fault call count) es f has a h = h
 only_value u s after settled.Memory es f has a h = h
 
-pub brought_fair : {J : Type 0} {answer : Answers J} {later : Laters J} {present : Bool} {tried : Tries} {k m : Kernel} {w u : State J} {on : Bool} {ms : List Made} {es : List Entry} {how : Settled} (l : Kernel) (s : Standing) (after : Settled → List Standing) → Brought s.name (known_of s) on ms es how → Has u.standings s → ((how : Settled) → After s u.standings how (after how)) → FairFrom answer later present tried k w m u → Along calls m ms l → FairFrom answer later present tried k w l (record u { standings = after how; entries = u.entries ++ es })
-brought_fair {u = u} l s after (By_value ms es how v f) has a h along = only_value u s after how es f has a (valued_fair l s after v has a h along)
-brought_fair {J} {answer} {later} {present} {tried} {k} {m} {w} {u} l s after (And_removal ms ns es fs how go v r) has a h along =
+carried_fair : {J : Type 0} {answer : Answers J} {later : Laters J} {present : Bool} {tried : Tries} {k m : Kernel} {w u : State J} {on : Bool} {ms : List Made} {es : List Entry} {how : Settled} (l : Kernel) (s : Standing) (after : Settled → List Standing) → Carried s.name (known_of s) on ms es how → Has u.standings s → ((how : Settled) → After s u.standings how (after how)) → FairFrom answer later present tried k w m u → Along calls m ms l → FairFrom answer later present tried k w l (record u { standings = after how; entries = u.entries ++ es })
+carried_fair {u = u} l s after (By_value ms es how v f) has a h along = only_value u s after how es f has a (valued_fair l s after v has a h along)
+carried_fair {J} {answer} {later} {present} {tried} {k} {m} {w} {u} l s after (And_removal ms ns es fs how go v r) has a h along =
     let cut = along_split calls ms ns m l along in
     subst (λ (x : List Entry). FairFrom answer later present tried k w l (record u { standings = after how; entries = x })) (append_assoc u.entries es fs)
     (removal_fair l s after r go has a (valued_fair cut.0 s after v has a h cut.1) cut.2)
+
+pub brought_fair : {J : Type 0} {answer : Answers J} {later : Laters J} {present : Bool} {tried : Tries} {k m : Kernel} {w u : State J} {on : Bool} {ms : List Made} {es : List Entry} {how : Settled} (l : Kernel) (s : Standing) (after : Settled → List Standing) → Brought s.name (known_of s) on ms es how → Has u.standings s → ((how : Settled) → After s u.standings how (after how)) → FairFrom answer later present tried k w m u → Along calls m ms l → FairFrom answer later present tried k w l (record u { standings = after how; entries = u.entries ++ es })
+brought_fair l s after (Left_open ms es how c n) has a h along = carried_fair l s after c has a h along
+brought_fair {m = m} l s after (Let_go ms es shut c) has a h along =
+    let cut = along_split calls ms (answered (Close s.held.0) shut ∷ []) m l along in
+    fair_end l _ refl cut.2.2 (then_called (Close s.held.0) shut cut.2.0 tt cut.2.1 (carried_fair cut.0 s after c has a h cut.1))

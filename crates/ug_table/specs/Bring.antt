@@ -94,5 +94,16 @@ after_value name known entries (settled.Fault call count) = Return (settled.Faul
 after_value name known entries settled.Memory = Return (settled.Memory, entries)
 
 -- the value, and then the removal
+unfoldable pub writing : List ℕ → Known → Bool → List Entry → Prog (Settled × List Entry)
+writing name known on entries = then (valuing name known on entries) (λ p. after_value name known p.1 p.0)
+
+-- the held file of a device that is gone is closed
+abbrev pub close_gone : ℕ → List Entry → Settled → Prog (Settled × List Entry)
+close_gone held entries settled.Nobody = Ask (Close held) (λ closed. Return (settled.Nobody, entries))
+close_gone held entries settled.Stands = Return (settled.Stands, entries)
+close_gone held entries (settled.Fault call count) = Return (settled.Fault call count, entries)
+close_gone held entries settled.Memory = Return (settled.Memory, entries)
+
+-- the writes; and where they find the device gone, its held file is closed
 unfoldable pub bringing : List ℕ → Known → Bool → List Entry → Prog (Settled × List Entry)
-bringing name known on entries = then (valuing name known on entries) (λ p. after_value name known p.1 p.0)
+bringing name known on entries = then (writing name known on entries) (λ p. close_gone known.held.0 p.1 p.0)

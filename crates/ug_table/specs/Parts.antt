@@ -1,5 +1,5 @@
 -- A sweep's calls, in parts: the listing, and a part for each name; and which failed calls its `unsettled` entries tell.
-use Rattle.std.specs.Prelude.{◌≡◌, ℕ, ◌+◌, ◌^◌, ◌<◌, ◌≤◌, Bool, true, false, map, List, [], ◌∷◌, ◌++◌, Option, Some, None, ◌⊎◌}
+use Rattle.std.specs.Prelude.{◌≡◌, ℕ, ◌+◌, ◌^◌, ◌<◌, ◌≤◌, Bool, true, false, not, map, List, [], ◌∷◌, ◌++◌, Option, Some, None, ◌⊎◌, if◌then◌else◌, nat_eq}
 use Rattle.std.specs.List.{filter}
 use Rattle.ug_types.specs.Elements.{Has, AllDistinct}
 use Rattle.ug_types.specs.Names.{parent_of}
@@ -15,7 +15,7 @@ use Rattle.ug_kernel.specs.declared.calls.Opened.TheVariants as opened
 use Rattle.ug_kernel.specs.declared.calls.Probe.{Probe}
 use Rattle.ug_kernel.specs.declared.calls.Probe.TheVariants as probe
 use Rattle.ug_kernel.specs.declared.calls.Wrote.{Wrote}
-use Rattle.ug_kernel.specs.Calls.{Call, Names, Open, Read, Ask_alive, Put, Close, Told, Answer}
+use Rattle.ug_kernel.specs.Calls.{Call, Names, Open, Read, Ask_alive, Put, Close, Closing, Told, Answer}
 use Rattle.ug_kernel.specs.Kernel.{Kernel, IsKernel}
 use Rattle.ug_itree.specs.Along.{Made, answered, Along, Failure, failure, failures, AreNumbered, Rises}
 use Rattle.ug_audit.specs.declared.entry.Entry.{Entry}
@@ -69,13 +69,24 @@ opened_by control opened.Absent = []
 opened_by control opened.Failed = []
 opened_by control opened.Memory = []
 
-abbrev pub opened_files : (call : Call) → Answer call → List OpenFile
-opened_files (Open name control) answer = opened_by control answer.answer
-opened_files Names answer = []
-opened_files (Read name attr) answer = []
-opened_files (Ask_alive held) answer = []
-opened_files (Put held what) answer = []
-opened_files (Close held) answer = []
+-- the first of these files that has that number is closed
+abbrev pub close_file : ℕ → List OpenFile → List OpenFile
+close_file held [] = []
+close_file held (f ∷ files) = if nat_eq f.held held then files else f ∷ close_file held files
+
+-- the files that are open after a call
+abbrev pub files_left : (call : Call) → Answer call → List OpenFile → List OpenFile
+files_left (Open name control) answer files = opened_by control answer.answer ++ files
+files_left (Close held) answer files = close_file held files
+files_left Names answer files = files
+files_left (Read name attr) answer files = files
+files_left (Ask_alive held) answer files = files
+files_left (Put held what) answer files = files
+
+-- and after these calls
+abbrev pub files_after : List OpenFile → List Made → List OpenFile
+files_after files [] = files
+files_after files (m ∷ ms) = files_after (files_left m.call m.answer files) ms
 
 -- the file that a write goes to
 abbrev pub control_of : Write → Control
@@ -93,10 +104,10 @@ IsAbout name files (Ask_alive held) = Has files (open_file held Authorized)
 IsAbout name files (Put held what) = Has files (open_file held (control_of what))
 IsAbout name files (Close held) = (control : Control) × Has files (open_file held control)
 
--- each of the calls is; a file that one of them opened is the name's from then on
+-- each of the calls is; a file that one of them opened is the name's until it is closed
 abbrev pub AreAbout : List ℕ → List OpenFile → List Made → Type 0
 AreAbout name files [] = Unit {0}
-AreAbout name files (m ∷ ms) = IsAbout name files m.call × AreAbout name (opened_files m.call m.answer ++ files) ms
+AreAbout name files (m ∷ ms) = IsAbout name files m.call × AreAbout name (files_left m.call m.answer files) ms
 
 abbrev pub IsClosing : Call → Type 0
 IsClosing (Close held) = Unit {0}
@@ -222,6 +233,21 @@ abbrev pub AllBear : List ℕ → List Entry → Type 0
 AllBear name [] = Unit {0}
 AllBear name (e ∷ es) = Bears name e × AllBear name es
 
+-- the number of a standing
+abbrev pub number_of : Option Known → Option ℕ
+number_of None = None
+number_of (Some known) = Some known.number
+
+-- The entries bear the numbers of the standings of a name, which begin with the first and end with the last of these: a verdict gives
+-- a number to a name that has none, a write is that of the number, and `gone` ends it.
+abbrev pub AreOfNumber : Option ℕ → List Entry → Option ℕ → Type 0
+AreOfNumber now [] end = end ≡ now
+AreOfNumber now (entry.Judged number name held verdict cause ∷ es) end = (now ≡ None) × AreOfNumber (Some number) es end
+AreOfNumber now (entry.Intent number name what ∷ es) end = (now ≡ Some number) × AreOfNumber now es end
+AreOfNumber now (entry.Wrote number name what outcome ∷ es) end = (now ≡ Some number) × AreOfNumber now es end
+AreOfNumber now (entry.Gone number name ∷ es) end = (now ≡ Some number) × AreOfNumber None es end
+AreOfNumber now (e ∷ es) end = AreOfNumber now es end
+
 -- a call that found the device of a standing gone
 abbrev pub FoundGone : Option Known → Made → Type 0
 FoundGone stands m = (known : Known) × (t : Told Probe) × (stands ≡ Some known) × (m ≡ answered (Ask_alive known.held.0) t) × (t.answer ≡ probe.Gone)
@@ -239,10 +265,13 @@ abbrev pub LacksRoom : Option Known → List Made → Type 0
 LacksRoom stands calls = ((known : Known) × (stands ≡ Some known) × (is_to_go known ≡ true)) × ((name : List ℕ) × (t : Told Opened) × Has calls (answered (Open name Remove) t) × (t.answer ≡ opened.Memory))
 
 -- One name's part of a sweep, from the standings before it to those after it: its calls are about the name, and are over with
--- one that fails; its entries tell that failure, and no other; what is told of want of memory is of a new device, or of one that is
--- still to be removed; each write is due and told, and there is one of each kind at most; there are few calls; each entry bears the name; and the standings of other names stay.
+-- one that fails; the files that are open after them are those that the name's standing holds; its entries tell that failure, and no
+-- other; what is told of want of memory is of a new device, or of one that is still to be removed; each write is due and told, and
+-- there is one of each kind at most; there are few calls; each entry bears the name, and the number of its standing; and the standings
+-- of other names stay.
 pub record Part (name : List ℕ) (before after : List Standing) (calls : List Made) (entries : List Entry) : Type 0 where
   pub about : AreAbout name (known_files (standing_of name before)) calls
+  pub leaves : files_after (known_files (standing_of name before)) calls ≡ known_files (standing_of name after)
   pub ends : EndsAtFailure [] calls
   pub told : failures_told entries ≡ failures calls
   pub last : EndsUnsettled name entries
@@ -252,6 +281,7 @@ pub record Part (name : List ℕ) (before after : List Standing) (calls : List M
   pub writes : TellsWrites name (puts_of calls) (writes_in entries)
   pub few : count_calls calls ≤ 14
   pub bears : AllBear name entries
+  pub numbers : AreOfNumber (number_of (standing_of name before)) entries (number_of (standing_of name after))
   pub others : (other : List ℕ) → (other ≡ name → ⊥) → standing_of other after ≡ standing_of other before
 
 -- a part for each name, in this order
@@ -261,21 +291,31 @@ InParts (name ∷ names) before after calls entries =
     (mid : List Standing) × (now later : List Made) × (first rest : List Entry)
     × (calls ≡ now ++ later) × (entries ≡ first ++ rest) × Part name before mid now first × InParts names mid after later rest
 
--- the names that were listed have parts, and `gone` stands for each standing of another
-abbrev pub BeginsListed : List (List ℕ) → List Standing → List Entry → List Standing → List (List ℕ) → Type 0
-BeginsListed listed ss entries left names = (names ≡ in_sweep_order listed) × (entries ≡ farewells names ss) × (left ≡ filter (λ s. lists names s.name) ss)
+-- these calls close those files, in order
+abbrev pub AreClosings : List Held → List Made → Type 0
+AreClosings [] calls = calls ≡ []
+AreClosings (file ∷ files) calls = (shut : Closing) × (rest : List Made) × (calls ≡ answered (Close file.0) shut ∷ rest) × AreClosings files rest
+
+-- the files that the standings of other names than these hold
+abbrev pub unlisted_files : List (List ℕ) → List Standing → List Held
+unlisted_files names ss = map (λ s. s.held) (filter (λ s. not (lists names s.name)) ss)
+
+-- the names that were listed have parts, and `gone` stands for each standing of another, whose file is closed
+abbrev pub BeginsListed : List (List ℕ) → List Standing → List Entry → List Standing → List (List ℕ) → List Made → Type 0
+BeginsListed listed ss entries left names shut =
+    (names ≡ in_sweep_order listed) × (entries ≡ farewells names ss) × (left ≡ filter (λ s. lists names s.name) ss) × AreClosings (unlisted_files names ss) shut
 
 -- the names that stand have parts, and `unsettled *` tells why
-abbrev pub BeginsUnlisted : Fault → List Standing → List Entry → List Standing → List (List ℕ) → Type 0
-BeginsUnlisted why ss entries left names = (names ≡ names_of ss) × (entries ≡ entry.UnsettledAll why ∷ []) × (left ≡ ss)
+abbrev pub BeginsUnlisted : Fault → List Standing → List Entry → List Standing → List (List ℕ) → List Made → Type 0
+BeginsUnlisted why ss entries left names shut = (names ≡ names_of ss) × (entries ≡ entry.UnsettledAll why ∷ []) × (left ≡ ss) × (shut ≡ [])
 
 -- what the answer to the listing leads to; where it has names, memory can be short for what is noted of them
-abbrev pub AfterListing : Listing → ℕ → ℕ → List Standing → List Entry → List Standing → List (List ℕ) → Type 0
-AfterListing (listing.Names listed) call count ss entries left names = BeginsListed listed ss entries left names ⊎ BeginsUnlisted fault.Memory ss entries left names
-AfterListing listing.Failed call count ss entries left names = BeginsUnlisted (fault.Call call count) ss entries left names
-AfterListing listing.Memory call count ss entries left names = BeginsUnlisted fault.Memory ss entries left names
+abbrev pub AfterListing : Listing → ℕ → ℕ → List Standing → List Entry → List Standing → List (List ℕ) → List Made → Type 0
+AfterListing (listing.Names listed) call count ss entries left names shut = BeginsListed listed ss entries left names shut ⊎ BeginsUnlisted fault.Memory ss entries left names shut
+AfterListing listing.Failed call count ss entries left names shut = BeginsUnlisted (fault.Call call count) ss entries left names shut
+AfterListing listing.Memory call count ss entries left names shut = BeginsUnlisted fault.Memory ss entries left names shut
 
--- A sweep's calls are the listing and then the names' parts, and so are its entries.
+-- A sweep's calls are the listing, the closing of what isn't listed, and then the names' parts; and so are its entries.
 pub record GoesInParts {S J : Type 0} (gives : S → (call : Call) → Answer call → S → Type 0) (s : S) (w : State J) (t : S) (v : State J) : Type 0 where
   pub listed : Told Listing
   pub later : List Made
@@ -285,8 +325,11 @@ pub record GoesInParts {S J : Type 0} (gives : S → (call : Call) → Answer ca
   pub entries : v.entries ≡ w.entries ++ (head ++ rest)
   pub left : List Standing
   pub names : List (List ℕ)
-  pub begins : AfterListing listed.answer listed.number listed.count w.standings head left names
-  pub parts : InParts names left v.standings later rest
+  pub shut : List Made
+  pub made : List Made
+  pub cut : later ≡ shut ++ made
+  pub begins : AfterListing listed.answer listed.number listed.count w.standings head left names shut
+  pub parts : InParts names left v.standings made rest
 
 -- In a sweep in parts each call that failed is told with its number and the count of faults after it, and no other is; and calls
 -- are numbered on, so that both numbers rise.

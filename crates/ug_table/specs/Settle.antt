@@ -109,7 +109,7 @@ tried_standings ss name settled.Memory = map (marked name false) ss
 abbrev pub to_mark : {J : Type 0} → State J → List ℕ → Settled × List Entry → Prog (Settled × State J)
 to_mark w name p = Return (p.0, record w { standings = tried_standings w.standings name p.0; entries = p.1 })
 
--- a device that is gone loses its standing
+-- a device that is gone loses its standing, and its held file is closed
 abbrev pub dropped : {J : Type 0} → State J → List ℕ → ℕ → State J
 dropped w name number = record w { standings = without name w.standings; entries = w.entries ++ entry.Gone number name ∷ [] }
 
@@ -118,7 +118,7 @@ failed_probe w name call count = Return (settled.Fault call count, record w { st
 
 abbrev pub after_known : {J : Type 0} → Answers J → Laters J → List ℕ → Bool → State J → Known → Probe → ℕ → ℕ → Prog (Settled × State J)
 after_known answer later name present w known (probe.Alive on) call count = then (bringing name known on w.entries) (to_mark w name)
-after_known answer later name present w known probe.Gone call count = entering answer later name present (dropped w name known.number)
+after_known answer later name present w known probe.Gone call count = Ask (Close known.held.0) (λ closed. entering answer later name present (dropped w name known.number))
 after_known answer later name present w known probe.Failed call count = failed_probe w name call count
 
 abbrev pub from_standing : {J : Type 0} → Answers J → Laters J → List ℕ → Bool → State J → Option Known → Prog (Settled × State J)
@@ -134,7 +134,7 @@ to_keep_mark k name p = Return (p.0, record { standings = tried_standings k.stan
 
 abbrev pub after_again : List ℕ → Kept → Known → Probe → ℕ → ℕ → Prog (Settled × Kept)
 after_again name k known (probe.Alive on) call count = then (bringing name known on k.entries) (to_keep_mark k name)
-after_again name k known probe.Gone call count = Return (settled.Nobody, record { standings = without name k.standings; entries = k.entries ++ entry.Gone known.number name ∷ [] })
+after_again name k known probe.Gone call count = Ask (Close known.held.0) (λ closed. Return (settled.Nobody, record { standings = without name k.standings; entries = k.entries ++ entry.Gone known.number name ∷ [] }))
 after_again name k known probe.Failed call count = Return (settled.Fault call count, record { standings = tried_standings k.standings name (settled.Fault call count); entries = k.entries ++ entry.Unsettled name (fault.Call call count) ∷ [] })
 
 abbrev pub again : List ℕ → Kept → Option Known → Prog (Settled × Kept)

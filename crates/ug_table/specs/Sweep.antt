@@ -1,10 +1,10 @@
 -- The sweep: all names are listed, standings whose names went are dropped, and each name is settled in order.
-use Rattle.std.specs.Prelude.{ℕ, Bool, true, false, not, List, [], ◌∷◌, ◌++◌, map}
+use Rattle.std.specs.Prelude.{ℕ, Bool, true, false, not, List, [], ◌∷◌, ◌++◌, map, cond}
 use Rattle.std.specs.List.{filter}
 use Rattle.ug_types.specs.Sweep.{in_sweep_order}
 use Rattle.ug_kernel.specs.declared.calls.Listing.{Listing}
 use Rattle.ug_kernel.specs.declared.calls.Listing.TheVariants as listing
-use Rattle.ug_kernel.specs.Calls.{Names}
+use Rattle.ug_kernel.specs.Calls.{Names, Close}
 use Rattle.ug_itree.specs.Tree.{Prog, Return, Ask, Room, then}
 use Rattle.ug_audit.specs.declared.entry.Entry.TheVariants as entry
 use Rattle.ug_audit.specs.declared.entry.Fault.{Fault}
@@ -28,6 +28,11 @@ resettling_all (name ∷ names) k = then (resettling name k) (λ p. resettling_a
 abbrev pub parted : {J : Type 0} → List (List ℕ) → State J → State J
 parted names w = record w { standings = filter (λ s. lists names s.name) w.standings; entries = w.entries ++ farewells names w.standings }
 
+-- and their held files are closed
+abbrev pub closing_unlisted : List (List ℕ) → List Standing → Prog (Unit {0})
+closing_unlisted names [] = Return tt
+closing_unlisted names (s ∷ ss) = cond (lists names s.name) (closing_unlisted names ss) (Ask (Close s.held.0) (λ closed. closing_unlisted names ss))
+
 abbrev pub names_of : List Standing → List (List ℕ)
 names_of ss = map (λ s. s.name) ss
 
@@ -42,7 +47,7 @@ abbrev pub marked_listed : {J : Type 0} → State J → State J
 marked_listed w = record w { listed = true }
 
 abbrev pub if_room : {J : Type 0} → Answers J → Laters J → List (List ℕ) → State J → Bool → Prog (State J)
-if_room answer later names w true = settling_all answer later names (not w.listed) (marked_listed (parted names w))
+if_room answer later names w true = then (closing_unlisted names w.standings) (λ closed. settling_all answer later names (not w.listed) (marked_listed (parted names w)))
 if_room answer later names w false = unlisted fault.Memory w
 
 abbrev pub after_list : {J : Type 0} → Answers J → Laters J → State J → Listing → ℕ → ℕ → Prog (State J)

@@ -1,7 +1,7 @@
 // Brings a device to its verdict.
 ghost use Rattle.std.specs.Prelude.{◌≡◌, ◌≤◌, ◌+◌};
 ghost use Rattle.ug_itree.specs.Tree.{Runs};
-ghost use Rattle.ug_table.specs.Bring.{wants, write_of, is_reject, is_to_go, valuing, to_remove, removing, bringing};
+ghost use Rattle.ug_table.specs.Bring.{wants, write_of, is_reject, is_to_go, valuing, to_remove, removing, writing, bringing};
 
 use crate::standing::{Known, Settled};
 use std::alloc::Global;
@@ -193,7 +193,7 @@ fn remove<Y: Sysfs>(
 }
 
 /// Writes where the value differs from the one that the verdict wants, and then removes a device that is rejected and
-/// wasn't removed yet.
+/// wasn't removed yet. The held file of a device that is found gone is closed.
 #[tactic(auto, unfolding(crate::specs::Bring::bringing), using(ug_itree::proofs::Runs::runs_then))]
 pub fn bring<Y: Sysfs>(
     alloc: Global,
@@ -205,6 +205,33 @@ pub fn bring<Y: Sysfs>(
 ) -> Settled
     requires { 6 ≤ out.old.entries.now.spare }
     ensures runs { Runs Y.gives sysfs.old (bringing name.now known on out.old.entries.now.entries) (result, out.new.entries.now.entries) sysfs.new }
+    ensures spare { out.old.entries.now.spare ≤ out.new.entries.now.spare + 6 }
+    ensures room { out.new.entries.now.room ≡ out.old.entries.now.room }
+    ensures same { out.new.entries.ghost_name ≡ out.old.entries.ghost_name }
+{
+    let settled = make_writes(alloc, sysfs, name, known, on, out);
+    match settled {
+        Settled::Nobody => {
+            sysfs.close(known.held);
+            Settled::Nobody
+        }
+        Settled::Stands => Settled::Stands,
+        Settled::Fault { call, count } => Settled::Fault { call, count },
+        Settled::Memory => Settled::Memory,
+    }
+}
+
+#[tactic(auto, unfolding(crate::specs::Bring::writing), using(ug_itree::proofs::Runs::runs_then))]
+fn make_writes<Y: Sysfs>(
+    alloc: Global,
+    sysfs: &mut Y,
+    name: &NodeName,
+    known: Known,
+    on: bool,
+    out: &mut Journal,
+) -> Settled
+    requires { 6 ≤ out.old.entries.now.spare }
+    ensures runs { Runs Y.gives sysfs.old (writing name.now known on out.old.entries.now.entries) (result, out.new.entries.now.entries) sysfs.new }
     ensures spare { out.old.entries.now.spare ≤ out.new.entries.now.spare + 6 }
     ensures room { out.new.entries.now.room ≡ out.old.entries.now.room }
     ensures same { out.new.entries.ghost_name ≡ out.old.entries.ghost_name }

@@ -337,6 +337,7 @@ impl Table {
                     number: known.number,
                     name: *name,
                 });
+                sysfs.close(known.held);
                 forget(&mut self.standings, name);
                 self.enter(alloc, sysfs, name, present, judge, out)
             }
@@ -385,6 +386,7 @@ pub fn settle_known<Y: Sysfs>(
                 number: known.number,
                 name: *name,
             });
+            sysfs.close(known.held);
             forget(standings, name);
             Settled::Nobody
         }

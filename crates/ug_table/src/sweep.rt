@@ -5,7 +5,7 @@ ghost use Rattle.ug_types.specs.Sweep.{in_sweep_order};
 ghost use Rattle.ug_itree.specs.Tree.{Runs};
 ghost use Rattle.ug_table.specs.State.{state_of, kept_of};
 ghost use Rattle.ug_table.specs.Standings.{lists, farewells};
-ghost use Rattle.ug_table.specs.Sweep.{settling_all, resettling_all, parted, unlisted, sweeping, names_of};
+ghost use Rattle.ug_table.specs.Sweep.{settling_all, resettling_all, closing_unlisted, parted, unlisted, sweeping, names_of};
 ghost use Rattle.ug_table.specs.Laws.{Sweeps};
 ghost use Rattle.ug_table.specs.Parts.{TellsFaults, NamesOnce};
 
@@ -38,6 +38,17 @@ fn bid(standings: &[Standing], names: &[NodeName], out: &mut Journal)
                 number: s.number,
                 name: s.name,
             });
+        }
+    }
+}
+
+/// Closes the held file of each standing whose name isn't listed.
+fn close_unlisted<Y: Sysfs>(standings: &[Standing], sysfs: &mut Y, names: &[NodeName])
+    ensures { Runs Y.gives sysfs.old (closing_unlisted names.now standings.now) tt sysfs.new }
+{
+    for s in standings {
+        if !has(names, &s.name) {
+            sysfs.close(s.held);
         }
     }
 }
@@ -205,6 +216,7 @@ impl Table {
             return;
         }
         let present = !self.listed;
+        close_unlisted(&self.standings, sysfs, &names);
         self.part(&names, judge, out);
         self.listed = true;
         self.settle_all(alloc, sysfs, &names, present, judge, out);
