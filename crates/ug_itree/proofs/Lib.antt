@@ -2,5 +2,5 @@ pub mod Runs
 pub mod Told
 pub mod Kernels
 pub mod Counted
-pub mod Walks
+pub mod Ways
 pub mod Rises

@@ -1,5 +1,5 @@
 -- A run as the list of its calls, each with its answer.
-use Rattle.std.specs.Prelude.{◌≡◌, ℕ, ◌-◌, ◌^◌, ◌<◌, ◌≤◌, Bool, if◌then◌else◌, List, [], ◌∷◌, ◌++◌}
+use Rattle.std.specs.Prelude.{◌≡◌, ℕ, ◌+◌, ◌-◌, ◌^◌, ◌<◌, ◌≤◌, Bool, if◌then◌else◌, List, [], ◌∷◌, ◌++◌}
 use Rattle.ug_kernel.specs.Calls.{Call, Names, Open, Read, Ask_alive, Put, Close, Told, Answer, failed_listing, failed_open, failed_read, failed_probe, failed_put, raised}
 
 -- a call that was made, and what it was answered
@@ -14,6 +14,19 @@ answered call answer = record { call = call; answer = answer }
 abbrev pub Along : {S : Type 0} → (S → (call : Call) → Answer call → S → Type 0) → S → List Made → S → Type 0
 Along gives s [] t = t ≡ s
 Along {S} gives s (m ∷ ms) t = (u : S) × gives s m.call m.answer u × Along gives u ms t
+
+-- how many calls there are; closings aren't counted
+abbrev pub counts_as : Call → ℕ
+counts_as (Close held) = 0
+counts_as Names = 1
+counts_as (Open name control) = 1
+counts_as (Read name attr) = 1
+counts_as (Ask_alive held) = 1
+counts_as (Put held what) = 1
+
+abbrev pub count_calls : List Made → ℕ
+count_calls [] = 0
+count_calls (m ∷ ms) = counts_as m.call + count_calls ms
 
 -- the number of a call that failed, and the count of faults after it
 pub record Failure : Type 0 where

@@ -3,3 +3,4 @@ mod ReadAs
 mod Rises
 mod Unwritten
 pub mod Removing
+pub mod BindShapes

@@ -20,7 +20,7 @@ use Rattle.ug_table.proofs.Own.{Good, good_before, resettling_ended}
 use Rattle.ug_table.proofs.Told.{opens}
 use Rattle.ug_itree.specs.Along.{Made}
 use Rattle.ug_node.specs.declared.identity.Bound.{Bound}
-use Rattle.ug_table.proofs.Ways.{ways_run}
+use Rattle.ug_itree.proofs.Ways.{ways_run}
 use Rattle.ug_table.proofs.Shapes.{Flat, Unprobed, Tried, Stopped, Unbound, No_place, Judged_so, Resettles, resettles}
 
 -- what is wanted of a device at the end
@@ -52,7 +52,7 @@ resettling_own name i w k l p sound f first live r = elim (resettling_ended name
 
 -- each standing was there before
 
-flat_was : {binds : Bool} {given : List Standing → Bound → Standing → Type 0} {name : List ℕ} {ss : List Standing} {ms : List Made} {rest : List Entry} {how : Settled} {rs : List Standing} {o : Option (List Standing × Bound)} → binds ≡ false → Flat binds given name ss ms rest how rs o → (s : Standing) → Has rs s → Was ss s
+flat_was : {binds : Bool} {given : List Standing → Bound → Standing → Type 0} {name : List ℕ} {ss : List Standing} {ok : Bool} {ms : List Made} {rest : List Entry} {how : Settled} {rs : List Standing} {o : Option (List Standing × Bound)} → binds ≡ false → Flat binds given name ss ok ms rest how rs o → (s : Standing) → Has rs s → Was ss s
 flat_was {name = name} {ss = ss} f (Unprobed known call count at) s a = tried_was ss name (settled.Fault call count) s a
 flat_was {name = name} {ss = ss} f (Tried known on call count ms es how at b) s a = tried_was ss name how s a
 flat_was f (Stopped ms es rs g opening) s a = (s, (opens opening).less s a, refl, refl)

@@ -19,7 +19,7 @@ use Rattle.ug_table.specs.declared.standing.Settled.{Settled}
 use Rattle.ug_table.specs.declared.standing.Settled.TheVariants as settled
 use Rattle.ug_types.proofs.Elements.{has_map, has_new}
 use Rattle.ug_table.proofs.Standings.{found, missing_without, names_marked}
-use Rattle.ug_table.proofs.Ways.{ways_more}
+use Rattle.ug_itree.proofs.Ways.{ways_more}
 use Rattle.ug_table.proofs.Shapes.{Written, Done, Went, Broke, Valued, Same, Set, Gone_by, Failed_by, Short_by, Removal, Not_held, Put_on, Carried, By_value, And_removal, Brought, Left_open, Let_go, Opening, Fresh, Lost, Unbound_end, Absent_so, Vanished_so, Failed_so, Short_so, Flat, Unprobed, Tried, Stopped, Unbound, No_place, Judged_so, Settles, settles, Resettles, resettles}
 use Rattle.ug_kernel.specs.Calls.{Told}
 use Rattle.ug_itree.specs.Along.{Made}
@@ -111,7 +111,7 @@ known_has name ss known e =
     let s = found name ss known e in
     subst (λ (v : List ℕ). Has (names_of ss) v) s.named (has_map (λ (v : Standing). v.name) ss s.s s.has)
 
-flat_answered : {binds : Bool} {given : List Standing → Bound → Standing → Type 0} {name : List ℕ} {ss : List Standing} {ms : List Made} {rest : List Entry} {how : Settled} {rs : List Standing} {o : Option (List Standing × Bound)} (es fs : List Entry) → fs ≡ es ++ rest → Flat binds given name ss ms rest how rs o → Answered name es how rs fs
+flat_answered : {binds : Bool} {given : List Standing → Bound → Standing → Type 0} {name : List ℕ} {ss : List Standing} {ok : Bool} {ms : List Made} {rest : List Entry} {how : Settled} {rs : List Standing} {o : Option (List Standing × Bound)} (es fs : List Entry) → fs ≡ es ++ rest → Flat binds given name ss ok ms rest how rs o → Answered name es how rs fs
 flat_answered {name = name} {ss = ss} xs ys e (Unprobed known call count at) = record { rest = _; entries = e; why = refl; stands = λ f. let none : ⊥ = cc in absurd none; nobody = tried_nobody ss name (settled.Fault call count) }
 flat_answered {name = name} {ss = ss} xs ys e (Tried known on call count ms es how at b) = record { rest = es; entries = e; why = (brought_whys b).0; stands = tried_stands ss name how (known_has name ss known at); nobody = tried_nobody ss name how }
 flat_answered xs ys e (Stopped ms es rs f opening) = record { rest = es; entries = e; why = opening_whys opening; stands = λ g. let none : ⊥ = cc in absurd none; nobody = λ g. (opens opening).absent }
@@ -126,7 +126,7 @@ flat_answered {name = name} xs ys e (Judged_so ms ns os es fs rs b x how t openi
 }
 
 pub settling_answered : {J : Type 0} (answer : Answers J) (later : Laters J) (name : List ℕ) (present : Bool) (w : State J) → EndsSo (λ (p : Settled × State J). Answered name w.entries p.0 p.1.standings p.1.entries) (settling answer later name present w)
-settling_answered answer later name present w = ways_more (Settles answer later name present w) (λ ms p. Answered name w.entries p.0 p.1.standings p.1.entries) (settling answer later name present w) (λ ms p h. flat_answered w.entries p.1.entries h.entries h.flat) (settles answer later name present w)
+settling_answered answer later name present w = ways_more (Settles answer later name present w) (λ ok ms p. Answered name w.entries p.0 p.1.standings p.1.entries) (settling answer later name present w) (λ ok ms p h. flat_answered w.entries p.1.entries h.entries h.flat) (settles answer later name present w)
 
 -- where the listing didn't succeed
 
@@ -135,7 +135,7 @@ pub record AnsweredAgain (name : List ℕ) (w : Kept) (p : Settled × Kept) : Ty
   pub answered : Answered name w.entries p.0 p.1.standings p.1.entries
   pub room : p.0 ≡ settled.Memory → (known : Known) × (standing_of name w.standings ≡ Some known) × (is_to_go known ≡ true)
 
-flat_room : {given : List Standing → Bound → Standing → Type 0} {binds : Bool} {name : List ℕ} {ss : List Standing} {ms : List Made} {rest : List Entry} {how : Settled} {rs : List Standing} {o : Option (List Standing × Bound)} → Flat binds given name ss ms rest how rs o → binds ≡ false → how ≡ settled.Memory → (known : Known) × (standing_of name ss ≡ Some known) × (is_to_go known ≡ true)
+flat_room : {given : List Standing → Bound → Standing → Type 0} {binds : Bool} {name : List ℕ} {ss : List Standing} {ok : Bool} {ms : List Made} {rest : List Entry} {how : Settled} {rs : List Standing} {o : Option (List Standing × Bound)} → Flat binds given name ss ok ms rest how rs o → binds ≡ false → how ≡ settled.Memory → (known : Known) × (standing_of name ss ≡ Some known) × (is_to_go known ≡ true)
 flat_room (Unprobed known call count at) f e = let none : ⊥ = cc in absurd none
 flat_room (Tried known on call count ms es how at b) f e = (known, at, (brought_whys b).1 e)
 flat_room (Stopped ms es rs f opening) g e = let none : ⊥ = cc in absurd none
@@ -144,4 +144,4 @@ flat_room (No_place ms ns es rs b shut t opening way) f e = let none : ⊥ = cc 
 flat_room (Judged_so ms ns os es fs rs b x how t opening way given new brought) f e = let none : ⊥ = cc in absurd none
 
 pub resettling_answered : (name : List ℕ) (w : Kept) → EndsSo (AnsweredAgain name w) (resettling name w)
-resettling_answered name w = ways_more (Resettles name w) (λ ms p. AnsweredAgain name w p) (resettling name w) (λ ms p h. record { answered = flat_answered w.entries p.1.entries h.entries h.flat; room = flat_room h.flat refl }) (resettles name w)
+resettling_answered name w = ways_more (Resettles name w) (λ ok ms p. AnsweredAgain name w p) (resettling name w) (λ ok ms p h. record { answered = flat_answered w.entries p.1.entries h.entries h.flat; room = flat_room h.flat refl }) (resettles name w)

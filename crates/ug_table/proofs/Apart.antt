@@ -11,8 +11,9 @@ use Rattle.ug_kernel.specs.Quiet.{Quiet}
 use Rattle.ug_kernel.proofs.Grow.{quiet_grows, called_grows}
 use Rattle.ug_kernel.proofs.Quiet.{called_quiet, quiet_refl, quiet_trans}
 use Rattle.ug_itree.specs.Along.{Made, answered, Along}
-use Rattle.ug_table.proofs.Ways.{Way, way_runs, ways_run, along_split, along_sound, along_grows}
-use Rattle.ug_table.proofs.Shapes.{told, Valued, Same, Set, Removal, Not_held, Put_on, Carried, By_value, And_removal, Brought, Left_open, Let_go, Opening, Fresh, Lost, Flat, Unprobed, Tried, Stopped, Unbound, No_place, Judged_so, Settles, settles, Resettles, resettles}
+use Rattle.ug_itree.proofs.Ways.{Way, way_runs, ways_run, along_split, along_sound, along_grows}
+use Rattle.ug_node.proofs.BindShapes.{told}
+use Rattle.ug_table.proofs.Shapes.{Valued, Same, Set, Removal, Not_held, Put_on, Carried, By_value, And_removal, Brought, Left_open, Let_go, Opening, Fresh, Lost, Flat, Unprobed, Tried, Stopped, Unbound, No_place, Judged_so, Settles, settles, Resettles, resettles}
 use Rattle.ug_itree.specs.Tree.{Runs, calls}
 use Rattle.ug_node.specs.Removal.{holding_remove, RemoveSays}
 use Rattle.ug_node.specs.declared.removal.RemoveHold.{RemoveHold}
@@ -130,7 +131,7 @@ opening_bind {name} {ms = ms} {rs = rs} k l ns r opening way sound f a =
     let law = binding_law name (parent_of name) r cut.0 l refl o.sound (way_runs calls (binding name (parent_of name)) ns cut.0 r l way cut.2) in
     (record { quiet = quiet_trans k cut.0 l o.quiet law.quiet; sound = law.sound; rest = o.rest; files = files_later cut.0 l rs (quiet_grows cut.0 l law.quiet) o.files }, (cut.0, cut.1, (law.quiet, law.says)))
 
-flat_apart : {binds : Bool} {given : List Standing → Bound → Standing → Type 0} {name : List ℕ} {ss : List Standing} {ms : List Made} {rest : List Entry} {how : Settled} {rs : List Standing} {o : Option (List Standing × Bound)} (k l : Kernel) (es fs : List Entry) → fs ≡ es ++ rest → IsKernel k → Files k ss → Flat binds given name ss ms rest how rs o → Along calls k ms l → Apart name k ss es l rs fs
+flat_apart : {binds : Bool} {given : List Standing → Bound → Standing → Type 0} {name : List ℕ} {ss : List Standing} {ok : Bool} {ms : List Made} {rest : List Entry} {how : Settled} {rs : List Standing} {o : Option (List Standing × Bound)} (k l : Kernel) (es fs : List Entry) → fs ≡ es ++ rest → IsKernel k → Files k ss → Flat binds given name ss ok ms rest how rs o → Along calls k ms l → Apart name k ss es l rs fs
 flat_apart {name = name} {ss = ss} k l xs ys e sound f (Unprobed known call count at) a =
     let how = settled.Fault call count in
     let q = subst (λ v. Quiet k v) (sym a.2) (called_quiet (Ask_alive known.held.0) (told probe.Failed call count) k a.0 tt a.1) in

@@ -47,8 +47,9 @@ use Rattle.ug_table.proofs.Steps.{Same, After, one_itself, fair_end, then_quiet,
 use Rattle.ug_table.proofs.Written.{brought_fair}
 use Rattle.ug_table.proofs.Orders.{order_with}
 use Rattle.ug_itree.specs.Along.{Made, answered, Along}
-use Rattle.ug_table.proofs.Ways.{Way, way_runs, ways_run, along_split}
-use Rattle.ug_table.proofs.Shapes.{told, Brought, Opening, Fresh, Lost, Unbound_end, Absent_so, Vanished_so, Failed_so, Short_so, Flat, Unprobed, Tried, Stopped, Unbound, No_place, Judged_so, IsGiven, next_after, judge_after, Settles, settles, Resettles, resettles}
+use Rattle.ug_itree.proofs.Ways.{Way, way_runs, ways_run, along_split}
+use Rattle.ug_node.proofs.BindShapes.{told}
+use Rattle.ug_table.proofs.Shapes.{Brought, Opening, Fresh, Lost, Unbound_end, Absent_so, Vanished_so, Failed_so, Short_so, Flat, Unprobed, Tried, Stopped, Unbound, No_place, Judged_so, IsGiven, next_after, judge_after, Settles, settles, Resettles, resettles}
 use Rattle.ug_table.proofs.RemoveMarks.{Keeps, keeps_itself, keep_one, Marks}
 use Rattle.ug_table.proofs.SoFar.{AreIn, dropped_in}
 use Rattle.ug_table.proofs.Account.{account_stays}
@@ -314,7 +315,7 @@ binds_fair {n = n} m name ns r way h a =
     let law = binding_law name (parent_of name) r n m refl h.fair.sound (way_runs calls (binding name (parent_of name)) ns n r m way a) in
     (law.sound, law.quiet, law.says, then_quiet m law.sound law.quiet h)
 
-pub flat_fair : {J : Type 0} {answer : Answers J} {later : Laters J} {present : Bool} {tried : Tries} {binds : Bool} {given : List Standing → Bound → Standing → Type 0} {k m : Kernel} {w u : State J} {name : List ℕ} {ms : List Made} {rest : List Entry} {how : Settled} {rs : List Standing} {o : Option (List Standing × Bound)} (l : Kernel) → Flat binds given name u.standings ms rest how rs o → ((ss : List Standing) (b : Bound) (x : Standing) → given ss b x → IsGiven answer present name u ss b x) → (binds ≡ true → AreIn tried name w u) → FairFrom answer later present tried k w m u → Along calls m ms l → FairFrom answer later present tried k w l (ended_as later present name u o rs rest)
+pub flat_fair : {J : Type 0} {answer : Answers J} {later : Laters J} {present : Bool} {tried : Tries} {binds : Bool} {given : List Standing → Bound → Standing → Type 0} {k m : Kernel} {w u : State J} {name : List ℕ} {ok : Bool} {ms : List Made} {rest : List Entry} {how : Settled} {rs : List Standing} {o : Option (List Standing × Bound)} (l : Kernel) → Flat binds given name u.standings ok ms rest how rs o → ((ss : List Standing) (b : Bound) (x : Standing) → given ss b x → IsGiven answer present name u ss b x) → (binds ≡ true → AreIn tried name w u) → FairFrom answer later present tried k w m u → Along calls m ms l → FairFrom answer later present tried k w l (ended_as later present name u o rs rest)
 flat_fair {name = name} l (Unprobed known call count at) is so h a = fair_end l _ refl a.2 (then_failed name known call count at (then_called (Ask_alive known.held.0) (told probe.Failed call count) a.0 tt a.1 h))
 flat_fair {name = name} l (Tried known on call count ms es how at b) is so h a = known_brought l name known on at (then_called (Ask_alive known.held.0) (told (probe.Alive on) call count) a.0 tt a.1 h) b a.2
 flat_fair l (Stopped ms es rs f opening) is so h a = (opening_fair l opening so h a).fair

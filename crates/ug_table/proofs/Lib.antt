@@ -18,8 +18,6 @@ pub mod Apart
 pub mod Own
 pub mod Again
 pub mod Lived
-pub mod Ways
-pub mod BindShapes
 pub mod Shapes
 pub mod Told
 pub mod Marks

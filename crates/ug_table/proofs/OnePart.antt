@@ -19,8 +19,7 @@ use Rattle.ug_kernel.specs.declared.calls.Write.TheVariants as write
 use Rattle.ug_kernel.specs.declared.calls.Wrote.{Wrote}
 use Rattle.ug_kernel.specs.Calls.{Open, Read, Ask_alive, Put, Close, Closing, Told, failed_read}
 use Rattle.ug_itree.specs.Along.{Made, answered, Failure, failure_if, failure, failures}
-use Rattle.ug_node.specs.Bind.{binding, binding_of}
-use Rattle.ug_node.specs.Removal.{holding_remove}
+use Rattle.ug_node.specs.Bind.{binding_of}
 use Rattle.ug_node.specs.declared.files.Stop.{Stop}
 use Rattle.ug_node.specs.declared.files.Stop.TheVariants as stop
 use Rattle.ug_node.specs.declared.identity.Bound.{Bound}
@@ -40,8 +39,7 @@ use Rattle.ug_table.specs.declared.standing.Known.{Known}
 use Rattle.ug_table.specs.declared.standing.Settled.{Settled}
 use Rattle.ug_table.specs.declared.standing.Settled.TheVariants as settled
 use Rattle.ug_types.proofs.Elements.{has_cases, has_left, has_right}
-use Rattle.ug_table.proofs.Ways.{Way, ways_of}
-use Rattle.ug_table.proofs.BindShapes.{told, Came, Reads, No_more, Then_read, Stops, No_descriptors, Read_failed, Read_short, Binds_by, No_such, Open_failed, Open_short, Cut, Probed_gone, Probe_failed, Bound_by, binds_by, Holds_by, Not_there, Not_opened, No_memory, Held_on, Died, Unasked, holds_by}
+use Rattle.ug_node.proofs.BindShapes.{told, Came, Reads, No_more, Then_read, Stops, No_descriptors, Read_failed, Read_short, Binds_by, No_such, Open_failed, Open_short, Cut, Probed_gone, Probe_failed, Bound_by, way_binds, Holds_by, Not_there, Not_opened, No_memory, Held_on, Died, Unasked, way_holds}
 use Rattle.ug_table.proofs.Shapes.{Written, Done, Went, Broke, Valued, Same, Set, Unheld, Gone_by, Failed_by, Short_by, Removal, Not_held, Put_on, Carried, By_value, And_removal, Brought, Left_open, Let_go, Opening, Fresh, Lost, Unbound_end, Absent_so, Vanished_so, Failed_so, Short_so, Flat, Unprobed, Tried, Stopped, Unbound, No_place, Judged_so}
 use Rattle.ug_table.proofs.Told.{Each, NamesNone}
 use Rattle.ug_table.proofs.OtherNames.{OthersStand, others_stand, without_stand, kept_stand, tried_stand}
@@ -346,11 +344,11 @@ record RemovalGoes (name : List ℕ) (files : List OpenFile) (b : Behind) (ms : 
 
 removal_goes : {name : List ℕ} {known : Known} {ms : List Made} {es : List Entry} {how : Settled} (files : List OpenFile) (b : Behind) → Has files (open_file known.held.0 Authorized) → Removal name known ms es how → RemovalGoes name files b ms es
 removal_goes {name} {known} files b has (Not_held ms r es how way u) =
-    let by = ways_of (Holds_by name known.held.0) (holding_remove name known.held.0) ms r (holds_by name known.held.0) way in
+    let by = way_holds name known.held.0 ms r way in
     let h = holds_keep files b has by in
     record { keeps = h.0; tells = unheld_tells ms h.1.0 h.1.1 u; single = inl h.1.1; short = unheld_short by u }
 removal_goes {name} {known} files b has (Put_on ms file t shut es how way w) =
-    let by = ways_of (Holds_by name known.held.0) (holding_remove name known.held.0) ms (hold.Ready file) (holds_by name known.held.0) way in
+    let by = way_holds name known.held.0 ms (hold.Ready file) way in
     let h = holds_keep files b has by in
     let x = ready_found files b by in
     let ns : List Made = answered (Put file.0 write.Remove) t ∷ answered (Close file.0) shut ∷ [] in
@@ -441,10 +439,7 @@ record FlatGoes (name : List ℕ) (o : Option Known) (ms : List Made) (es : List
 no_puts : (ps : List PutMade) → ps ≡ [] → AtMostOneEach ps
 no_puts ps e = subst (λ v. AtMostOneEach v) (sym e) tt
 
-way_binds : (name : List ℕ) (ms : List Made) (r : Binding) → Way (binding name (parent_of name)) ms r → Binds_by name ms r
-way_binds name ms r way = ways_of (Binds_by name) (binding name (parent_of name)) ms r (binds_by name) way
-
-flat_goes : {binds : Bool} {given : List Standing → Bound → Standing → Type 0} {name : List ℕ} {ss : List Standing} {ms : List Made} {rest : List Entry} {how : Settled} {rs : List Standing} {o : Option (List Standing × Bound)} → Flat binds given name ss ms rest how rs o → FlatGoes name (standing_of name ss) ms rest
+flat_goes : {binds : Bool} {given : List Standing → Bound → Standing → Type 0} {name : List ℕ} {ss : List Standing} {ok : Bool} {ms : List Made} {rest : List Entry} {how : Settled} {rs : List Standing} {o : Option (List Standing × Bound)} → Flat binds given name ss ok ms rest how rs o → FlatGoes name (standing_of name ss) ms rest
 flat_goes {name = name} (Unprobed known call count at) =
     subst (λ o. FlatGoes name o (answered (Ask_alive known.held.0) (told probe.Failed call count) ∷ []) (entry.Unsettled name (fault.Call call count) ∷ [])) (sym at)
     (record { keeps = record { about = (inl refl, tt); ends = (inl refl, tt); due = (tt, tt) }; tells = record { told = refl; writes = refl; last = ((refl, refl), tt); bears = (refl, tt) }; single = tt; memory = λ a. elim a [ inl e ↦ let none : ⊥ = cc in absurd none | inr n ↦ absurd n ] })
@@ -513,7 +508,7 @@ opening_others : {name : List ℕ} {ss : List Standing} {ms : List Made} {es : L
 opening_others {name} {ss} (Fresh e) = others_stand name ss
 opening_others {name} {ss} (Lost known call count shut e) = λ other n. without_stand name other ss n
 
-flat_others : {binds : Bool} {given : List Standing → Bound → Standing → Type 0} {name : List ℕ} {ss : List Standing} {ms : List Made} {rest : List Entry} {how : Settled} {rs : List Standing} {o : Option (List Standing × Bound)} → Flat binds given name ss ms rest how rs o → OthersStand name ss rs
+flat_others : {binds : Bool} {given : List Standing → Bound → Standing → Type 0} {name : List ℕ} {ss : List Standing} {ok : Bool} {ms : List Made} {rest : List Entry} {how : Settled} {rs : List Standing} {o : Option (List Standing × Bound)} → Flat binds given name ss ok ms rest how rs o → OthersStand name ss rs
 flat_others {name = name} {ss = ss} (Unprobed known call count at) = tried_stand name ss (settled.Fault call count)
 flat_others {name = name} {ss = ss} (Tried known on call count ms es how at b) = tried_stand name ss how
 flat_others (Stopped ms es rs f opening) = opening_others opening
@@ -521,7 +516,7 @@ flat_others (Unbound ms ns es fs rs r how t opening way end) = opening_others op
 flat_others (No_place ms ns es rs b shut t opening way) = opening_others opening
 flat_others {name = name} (Judged_so ms ns os es fs rs b x how t opening way given new brought) = λ other n. kept_stand name rs x how new.named other n ∙ opening_others opening other n
 
-pub flat_is_part : {binds : Bool} {given : List Standing → Bound → Standing → Type 0} {name : List ℕ} {ss : List Standing} {ms : List Made} {rest : List Entry} {how : Settled} {rs : List Standing} {o : Option (List Standing × Bound)} → Flat binds given name ss ms rest how rs o → Part name ss rs ms rest
+pub flat_is_part : {binds : Bool} {given : List Standing → Bound → Standing → Type 0} {name : List ℕ} {ss : List Standing} {ok : Bool} {ms : List Made} {rest : List Entry} {how : Settled} {rs : List Standing} {o : Option (List Standing × Bound)} → Flat binds given name ss ok ms rest how rs o → Part name ss rs ms rest
 flat_is_part f =
     let h = flat_goes f in
     record { about = h.keeps.about; leaves = flat_leaves f; ends = h.keeps.ends; told = h.tells.told; last = h.tells.last; memory = h.memory; due = h.keeps.due; single = h.single; writes = h.tells.writes; few = flat_few f; bears = h.tells.bears; numbers = flat_numbers f; others = flat_others f }

@@ -1,6 +1,5 @@
 -- The files that a part leaves open, and the numbers that its entries bear.
 use Rattle.std.proofs.Common.{◌≡◌, ℕ, nat_eq, Bool, true, false, cond, List, [], ◌∷◌, ◌++◌, Option, Some, None, refl, sym, ◌∙◌, ap, subst, arith}
-use Rattle.ug_types.specs.Names.{parent_of}
 use Rattle.ug_types.specs.declared.verdict.Held.{Held}
 use Rattle.ug_kernel.specs.declared.calls.Control.{Control}
 use Rattle.ug_kernel.specs.declared.calls.Control.TheVariants.{Authorized, Remove}
@@ -10,7 +9,7 @@ use Rattle.ug_kernel.specs.declared.calls.Write.TheVariants as write
 use Rattle.ug_kernel.specs.declared.calls.Wrote.{Wrote}
 use Rattle.ug_kernel.specs.Calls.{Open, Read, Ask_alive, Put, Close, Told}
 use Rattle.ug_itree.specs.Along.{Made, answered}
-use Rattle.ug_node.specs.Bind.{binding, binding_of}
+use Rattle.ug_node.specs.Bind.{binding_of}
 use Rattle.ug_node.specs.Removal.{holding_remove}
 use Rattle.ug_node.specs.declared.files.Stop.{Stop}
 use Rattle.ug_node.specs.declared.files.Stop.TheVariants as stop
@@ -29,8 +28,8 @@ use Rattle.ug_table.specs.declared.standing.Standing.{Standing}
 use Rattle.ug_table.specs.declared.standing.Known.{Known}
 use Rattle.ug_table.specs.declared.standing.Settled.{Settled}
 use Rattle.ug_table.specs.declared.standing.Settled.TheVariants as settled
-use Rattle.ug_table.proofs.Ways.{Way, ways_of}
-use Rattle.ug_table.proofs.BindShapes.{told, Reads, No_more, Then_read, Binds_by, No_such, Open_failed, Open_short, Cut, Probed_gone, Probe_failed, Bound_by, binds_by, Holds_by, Not_there, Not_opened, No_memory, Held_on, Died, Unasked, holds_by}
+use Rattle.ug_itree.proofs.Ways.{Way}
+use Rattle.ug_node.proofs.BindShapes.{told, Reads, No_more, Then_read, Binds_by, No_such, Open_failed, Open_short, Cut, Probed_gone, Probe_failed, Bound_by, way_binds, Holds_by, Not_there, Not_opened, No_memory, Held_on, Died, Unasked, way_holds}
 use Rattle.ug_table.proofs.Shapes.{Written, Done, Went, Broke, Valued, Same, Set, Unheld, Gone_by, Failed_by, Short_by, Removal, Not_held, Put_on, Carried, By_value, And_removal, Brought, Left_open, Let_go, Opening, Fresh, Lost, Unbound_end, Absent_so, Vanished_so, Failed_so, Short_so, Flat, Unprobed, Tried, Stopped, Unbound, No_place, Judged_so}
 use Rattle.ug_table.proofs.OwnStanding.{stands_file, stands_number, without_own, tried_own, kept_own}
 
@@ -93,7 +92,7 @@ holds_left files (Died file call count number total shut) = closed_first file.0 
 holds_left files (Unasked file call count number total shut) = closed_first file.0 Remove files
 
 way_left : (name : List ℕ) (held : ℕ) (ms : List Made) (r : RemoveHold) (files : List OpenFile) → Way (holding_remove name held) ms r → files_after files ms ≡ hold_files r files
-way_left name held ms r files way = holds_left files (ways_of (Holds_by name held) (holding_remove name held) ms r (holds_by name held) way)
+way_left name held ms r files way = holds_left files (way_holds name held ms r way)
 
 pub valued_left : {name : List ℕ} {known : Known} {on : Bool} {ms : List Made} {es : List Entry} {how : Settled} (files : List OpenFile) → Valued name known on ms es how → files_after files ms ≡ files
 valued_left files (Same e) = refl
@@ -155,9 +154,6 @@ kept_files name ss x settled.Stands e n = sym (stands_file _ x.number x.held (ke
 kept_files name ss x (settled.Fault call count) e n = sym (stands_file _ x.number x.held (kept_own name ss x (settled.Fault call count) e n (λ s. let none : ⊥ = cc in none)))
 kept_files name ss x settled.Memory e n = sym (stands_file _ x.number x.held (kept_own name ss x settled.Memory e n (λ s. let none : ⊥ = cc in none)))
 
-way_binds : (name : List ℕ) (ms : List Made) (r : Binding) → Way (binding name (parent_of name)) ms r → Binds_by name ms r
-way_binds name ms r way = ways_of (Binds_by name) (binding name (parent_of name)) ms r (binds_by name) way
-
 unbound_files : {name : List ℕ} {r : Binding} {es : List Entry} {how : Settled} → Unbound_end name r es how → binding_files r [] ≡ []
 unbound_files Absent_so = refl
 unbound_files Vanished_so = refl
@@ -168,7 +164,7 @@ unbound_files Short_so = refl
 after_opening : {name : List ℕ} {ss : List Standing} {ms : List Made} {rs : List Standing} (ns : List Made) → NoneOpen name ss ms rs → files_after (known_files (standing_of name ss)) (ms ++ ns) ≡ files_after [] ns
 after_opening {name} {ss} {ms} ns h = files_join (known_files (standing_of name ss)) ms ns ∙ ap (λ (v : List OpenFile). files_after v ns) h.files
 
-pub flat_leaves : {binds : Bool} {given : List Standing → Bound → Standing → Type 0} {name : List ℕ} {ss : List Standing} {ms : List Made} {rest : List Entry} {how : Settled} {rs : List Standing} {o : Option (List Standing × Bound)} → Flat binds given name ss ms rest how rs o → files_after (known_files (standing_of name ss)) ms ≡ known_files (standing_of name rs)
+pub flat_leaves : {binds : Bool} {given : List Standing → Bound → Standing → Type 0} {name : List ℕ} {ss : List Standing} {ok : Bool} {ms : List Made} {rest : List Entry} {how : Settled} {rs : List Standing} {o : Option (List Standing × Bound)} → Flat binds given name ss ok ms rest how rs o → files_after (known_files (standing_of name ss)) ms ≡ known_files (standing_of name rs)
 flat_leaves {name = name} {ss = ss} (Unprobed known call count at) = ap known_files at ∙ tried_files name ss (settled.Fault call count) known at
 flat_leaves {name = name} {ss = ss} (Tried known on call count ms es how at b) = ap (λ (o : Option Known). files_after (known_files o) ms) at ∙ brought_left b ∙ tried_files name ss how known at
 flat_leaves (Stopped ms es rs f opening) = let h = opening_left opening in h.files ∙ sym (ap known_files h.none)
@@ -252,7 +248,7 @@ unbound_numbers Vanished_so = refl
 unbound_numbers (Failed_so call count) = refl
 unbound_numbers Short_so = refl
 
-pub flat_numbers : {binds : Bool} {given : List Standing → Bound → Standing → Type 0} {name : List ℕ} {ss : List Standing} {ms : List Made} {rest : List Entry} {how : Settled} {rs : List Standing} {o : Option (List Standing × Bound)} → Flat binds given name ss ms rest how rs o → AreOfNumber (number_of (standing_of name ss)) rest (number_of (standing_of name rs))
+pub flat_numbers : {binds : Bool} {given : List Standing → Bound → Standing → Type 0} {name : List ℕ} {ss : List Standing} {ok : Bool} {ms : List Made} {rest : List Entry} {how : Settled} {rs : List Standing} {o : Option (List Standing × Bound)} → Flat binds given name ss ok ms rest how rs o → AreOfNumber (number_of (standing_of name ss)) rest (number_of (standing_of name rs))
 flat_numbers {name = name} {ss = ss} (Unprobed known call count at) = sym (tried_number name ss (settled.Fault call count) known at) ∙ sym (ap number_of at)
 flat_numbers {name = name} {ss = ss} (Tried known on call count ms es how at b) =
     subst (λ (v : Option ℕ). AreOfNumber v es (number_of (standing_of name (tried_standings ss name how)))) (sym (ap number_of at))

@@ -45,10 +45,11 @@ use Rattle.ug_table.proofs.Told.{opens}
 use Rattle.ug_table.specs.Sweep.{names_of}
 use Rattle.ug_kernel.specs.Calls.{Told}
 use Rattle.ug_itree.specs.Along.{Made, answered, Along}
-use Rattle.ug_table.proofs.Ways.{Way, way_runs, ways_run, along_split, along_sound, along_grows}
+use Rattle.ug_itree.proofs.Ways.{Way, way_runs, ways_run, along_split, along_sound, along_grows}
 use Rattle.ug_table.specs.State.{Kept}
 use Rattle.ug_table.specs.Settle.{resettling}
-use Rattle.ug_table.proofs.Shapes.{told, Written, Done, Went, Broke, Valued, Same, Set, Unheld, Gone_by, Failed_by, Short_by, Removal, Not_held, Put_on, Carried, By_value, And_removal, Brought, Left_open, Let_go, Unbound_end, Absent_so, Vanished_so, Failed_so, Short_so, Flat, Unprobed, Tried, Stopped, Unbound, No_place, Judged_so, Settles, settles, Resettles, resettles}
+use Rattle.ug_node.proofs.BindShapes.{told}
+use Rattle.ug_table.proofs.Shapes.{Written, Done, Went, Broke, Valued, Same, Set, Unheld, Gone_by, Failed_by, Short_by, Removal, Not_held, Put_on, Carried, By_value, And_removal, Brought, Left_open, Let_go, Unbound_end, Absent_so, Vanished_so, Failed_so, Short_so, Flat, Unprobed, Tried, Stopped, Unbound, No_place, Judged_so, Settles, settles, Resettles, resettles}
 
 -- the name is told among what was added
 abbrev pub NamedSince : List Entry → List Entry → List ℕ → Type 0
@@ -205,7 +206,7 @@ unbound_own k m i Short_so says first mid = (fault.Memory, inl refl)
 named_later : (es fs : List Entry) (name : List ℕ) → IsNamed fs name → IsNamed (es ++ fs) name
 named_later es fs name n = (n.0, has_right es fs (entry.Unsettled name n.0) n.1)
 
-flat_own : {binds : Bool} {given : List Standing → Bound → Standing → Type 0} {name : List ℕ} {ss : List Standing} {ms : List Made} {rest : List Entry} {how : Settled} {rs : List Standing} {o : Option (List Standing × Bound)} (i : ℕ) (k l : Kernel) → IsKernel k → Files k ss → LiveAs k i name → LiveAs l i name → Flat binds given name ss ms rest how rs o → Along calls k ms l → Ended binds l rs rest i name
+flat_own : {binds : Bool} {given : List Standing → Bound → Standing → Type 0} {name : List ℕ} {ss : List Standing} {ok : Bool} {ms : List Made} {rest : List Entry} {how : Settled} {rs : List Standing} {o : Option (List Standing × Bound)} (i : ℕ) (k l : Kernel) → IsKernel k → Files k ss → LiveAs k i name → LiveAs l i name → Flat binds given name ss ok ms rest how rs o → Along calls k ms l → Ended binds l rs rest i name
 flat_own i k l sound f first live (Unprobed known call count at) a = inl (inr (fault.Call call count, inl refl))
 flat_own {name = name} {ss = ss} i k l sound f first live (Tried known on call count ms es how at b) a =
     let s = found name ss known at in

@@ -1,5 +1,5 @@
 -- One name's part, flat: each way through the trees of a settling and a resettling has one of these shapes.
-use Rattle.std.proofs.Common.{◌≡◌, ℕ, ◌+◌, Bool, true, false, is_none, List, [], ◌∷◌, ◌++◌, Option, Some, None, refl, sym, ◌∙◌, ap, subst, append_assoc, append-nil}
+use Rattle.std.proofs.Common.{◌≡◌, ℕ, ◌+◌, Bool, true, false, ◌&&◌, is_none, List, [], ◌∷◌, ◌++◌, Option, Some, None, refl, sym, ◌∙◌, ap, subst, append_assoc, append-nil}
 use Rattle.ug_types.specs.Names.{parent_of}
 use Rattle.ug_types.specs.declared.record.Judged.{Judged}
 use Rattle.ug_types.specs.declared.verdict.Held.{Held}
@@ -32,10 +32,8 @@ use Rattle.ug_table.specs.declared.standing.Standing.{Standing}
 use Rattle.ug_table.specs.declared.standing.Known.{Known}
 use Rattle.ug_table.specs.declared.standing.Settled.{Settled}
 use Rattle.ug_table.specs.declared.standing.Settled.TheVariants as settled
-use Rattle.ug_table.proofs.Ways.{Ways, Way, ways_more, ways_next, ways_last, ways_all}
-
-abbrev pub told : {X : Type 0} → X → ℕ → ℕ → Told X
-told answer number count = record { answer = answer; number = number; count = count }
+use Rattle.ug_itree.proofs.Ways.{Ways, Sure, Way, ways_more, behind_sure, sure_last}
+use Rattle.ug_node.proofs.BindShapes.{told, sure_binding, sure_hold}
 
 -- the shapes
 
@@ -89,15 +87,15 @@ pub record IsNew (name : List ℕ) (b : Bound) (s : Standing) : Type 0 where
   pub fresh : s.settled ≡ false
   pub stays : s.removed ≡ false
 
--- A name's part: the calls, the entries, how it ended, the standings then, and the device that was judged beside which standings, if
--- one was. Only a settling binds; `given` is what is known of a new standing.
-pub data Flat (binds : Bool) (given : List Standing → Bound → Standing → Type 0) (name : List ℕ) (ss : List Standing) : List Made → List Entry → Settled → List Standing → Option (List Standing × Bound) → Type 0 where
-  Unprobed : (known : Known) (call count : ℕ) → standing_of name ss ≡ Some known → Flat binds given name ss (answered (Ask_alive known.held.0) (told probe.Failed call count) ∷ []) (entry.Unsettled name (fault.Call call count) ∷ []) (settled.Fault call count) (tried_standings ss name (settled.Fault call count)) None
-  Tried : (known : Known) (on : Bool) (call count : ℕ) (ms : List Made) (es : List Entry) (how : Settled) → standing_of name ss ≡ Some known → Brought name known on ms es how → Flat binds given name ss (answered (Ask_alive known.held.0) (told (probe.Alive on) call count) ∷ ms) es how (tried_standings ss name how) None
-  Stopped : (ms : List Made) (es : List Entry) (rs : List Standing) → binds ≡ false → Opening name ss ms es rs → Flat binds given name ss ms es settled.Nobody rs None
-  Unbound : (ms ns : List Made) (es fs : List Entry) (rs : List Standing) (r : Binding) (how : Settled) → binds ≡ true → Opening name ss ms es rs → Way (binding name (parent_of name)) ns r → Unbound_end name r fs how → Flat binds given name ss (ms ++ ns) (es ++ fs) how rs None
-  No_place : (ms ns : List Made) (es : List Entry) (rs : List Standing) (b : Bound) (shut : Closing) → binds ≡ true → Opening name ss ms es rs → Way (binding name (parent_of name)) ns (bound.Bound b) → Flat binds given name ss (ms ++ (ns ++ answered (Close b.held.0) shut ∷ [])) (es ++ entry.Unsettled name fault.Memory ∷ []) settled.Memory rs None
-  Judged_so : (ms ns os : List Made) (es fs : List Entry) (rs : List Standing) (b : Bound) (x : Standing) (how : Settled) → binds ≡ true → Opening name ss ms es rs → Way (binding name (parent_of name)) ns (bound.Bound b) → given rs b x → IsNew name b x → Brought name (known_of x) b.on os fs how → Flat binds given name ss (ms ++ (ns ++ os)) (es ++ entry.Judged x.number name x.held x.verdict x.cause ∷ fs) how (kept_standings rs x how) (Some (rs, b))
+-- A name's part: whether room was granted, the calls, the entries, how it ended, the standings then, and the device that was judged
+-- beside which standings, if one was. Only a settling binds; `given` is what is known of a new standing.
+pub data Flat (binds : Bool) (given : List Standing → Bound → Standing → Type 0) (name : List ℕ) (ss : List Standing) : Bool → List Made → List Entry → Settled → List Standing → Option (List Standing × Bound) → Type 0 where
+  Unprobed : (known : Known) (call count : ℕ) → standing_of name ss ≡ Some known → Flat binds given name ss true (answered (Ask_alive known.held.0) (told probe.Failed call count) ∷ []) (entry.Unsettled name (fault.Call call count) ∷ []) (settled.Fault call count) (tried_standings ss name (settled.Fault call count)) None
+  Tried : (known : Known) (on : Bool) (call count : ℕ) (ms : List Made) (es : List Entry) (how : Settled) → standing_of name ss ≡ Some known → Brought name known on ms es how → Flat binds given name ss true (answered (Ask_alive known.held.0) (told (probe.Alive on) call count) ∷ ms) es how (tried_standings ss name how) None
+  Stopped : (ms : List Made) (es : List Entry) (rs : List Standing) → binds ≡ false → Opening name ss ms es rs → Flat binds given name ss true ms es settled.Nobody rs None
+  Unbound : (ms ns : List Made) (es fs : List Entry) (rs : List Standing) (r : Binding) (how : Settled) → binds ≡ true → Opening name ss ms es rs → Way (binding name (parent_of name)) ns r → Unbound_end name r fs how → Flat binds given name ss true (ms ++ ns) (es ++ fs) how rs None
+  No_place : (ms ns : List Made) (es : List Entry) (rs : List Standing) (b : Bound) (shut : Closing) → binds ≡ true → Opening name ss ms es rs → Way (binding name (parent_of name)) ns (bound.Bound b) → Flat binds given name ss false (ms ++ (ns ++ answered (Close b.held.0) shut ∷ [])) (es ++ entry.Unsettled name fault.Memory ∷ []) settled.Memory rs None
+  Judged_so : (ms ns os : List Made) (es fs : List Entry) (rs : List Standing) (b : Bound) (x : Standing) (how : Settled) → binds ≡ true → Opening name ss ms es rs → Way (binding name (parent_of name)) ns (bound.Bound b) → given rs b x → IsNew name b x → Brought name (known_of x) b.on os fs how → Flat binds given name ss true (ms ++ (ns ++ os)) (es ++ entry.Judged x.number name x.held x.verdict x.cause ∷ fs) how (kept_standings rs x how) (Some (rs, b))
 
 -- the walk
 
@@ -108,66 +106,66 @@ Adds entries Q ms p = (es : List Entry) × (p.1 ≡ entries ++ es) × Q ms es p.
 behind : (a : List Entry) (e : Entry) (b : List Entry) → (a ++ e ∷ []) ++ b ≡ a ++ e ∷ b
 behind a e b = append_assoc a (e ∷ []) b
 
-written : (name : List ℕ) (number : ℕ) (what : Write) (entries : List Entry) (outcome : Wrote) (call count : ℕ) (P : List Made → Settled × List Entry → Type 0) → ((es fs : List Entry) (how : Settled) → fs ≡ entries ++ es → Written name number what (told outcome call count) es how → P [] (how, fs)) → Ways (after_write name number what (entries ++ entry.Intent number name what ∷ []) outcome call count) P
+written : (name : List ℕ) (number : ℕ) (what : Write) (entries : List Entry) (outcome : Wrote) (call count : ℕ) (P : Bool → List Made → Settled × List Entry → Type 0) → ((es fs : List Entry) (how : Settled) → fs ≡ entries ++ es → Written name number what (told outcome call count) es how → P true [] (how, fs)) → Ways (after_write name number what (entries ++ entry.Intent number name what ∷ []) outcome call count) P
 written name number what entries wrote.Done call count P k = k _ _ _ (behind entries (entry.Intent number name what) (entry.Wrote number name what wrote.Done ∷ [])) (Done call count)
 written name number what entries wrote.Gone call count P k = k _ _ _ (behind (entries ++ entry.Intent number name what ∷ []) (entry.Wrote number name what wrote.Gone) (entry.Gone number name ∷ []) ∙ behind entries (entry.Intent number name what) _) (Went call count)
 written name number what entries wrote.Failed call count P k = k _ _ _ (behind (entries ++ entry.Intent number name what ∷ []) (entry.Wrote number name what wrote.Failed) (entry.Unsettled name (fault.Call call count) ∷ []) ∙ behind entries (entry.Intent number name what) _) (Broke call count)
 
-valued : (name : List ℕ) (known : Known) (on : Bool) (entries : List Entry) → Ways (valuing name known on entries) (Adds entries (Valued name known on))
+valued : (name : List ℕ) (known : Known) (on : Bool) (entries : List Entry) → Ways (valuing name known on entries) (Sure (Adds entries (Valued name known on)))
 unfolding valuing
 valued name known on entries = by (wants known.verdict) on refl refl
   where
-    set : (b : Bool) → (wants known.verdict ≡ b → ⊥) → b ≡ on → (t : Told Wrote) → Ways (after_write name known.number (write_of known.verdict) (entries ++ entry.Intent known.number name (write_of known.verdict) ∷ []) t.answer t.number t.count) (λ ms p. Adds entries (Valued name known on) (answered (Put known.held.0 (write_of known.verdict)) t ∷ ms) p)
-    set b ne e t = written name known.number (write_of known.verdict) entries t.answer t.number t.count (λ ms p. Adds entries (Valued name known on) (answered (Put known.held.0 (write_of known.verdict)) t ∷ ms) p) (λ es fs how is w. (es, is, Set t es how (λ s. ne (s ∙ sym e)) w))
+    set : (b : Bool) → (wants known.verdict ≡ b → ⊥) → b ≡ on → (t : Told Wrote) → Ways (after_write name known.number (write_of known.verdict) (entries ++ entry.Intent known.number name (write_of known.verdict) ∷ []) t.answer t.number t.count) (Sure (λ ms p. Adds entries (Valued name known on) (answered (Put known.held.0 (write_of known.verdict)) t ∷ ms) p))
+    set b ne e t = written name known.number (write_of known.verdict) entries t.answer t.number t.count (Sure (λ ms p. Adds entries (Valued name known on) (answered (Put known.held.0 (write_of known.verdict)) t ∷ ms) p)) (λ es fs how is w. (refl, (es, is, Set t es how (λ s. ne (s ∙ sym e)) w)))
 
-    by : (a b : Bool) → wants known.verdict ≡ a → b ≡ on → Ways (to_value name known entries a b) (Adds entries (Valued name known on))
-    by true true e f = ([], sym (append-nil entries), Same (e ∙ f))
-    by false false e f = ([], sym (append-nil entries), Same (e ∙ f))
+    by : (a b : Bool) → wants known.verdict ≡ a → b ≡ on → Ways (to_value name known entries a b) (Sure (Adds entries (Valued name known on)))
+    by true true e f = (refl, ([], sym (append-nil entries), Same (e ∙ f)))
+    by false false e f = (refl, ([], sym (append-nil entries), Same (e ∙ f)))
     by true false e f = set false (λ s. let none : ⊥ = cc in none) f
     by false true e f = set true (λ s. let none : ⊥ = cc in none) f
 
-removed : (name : List ℕ) (known : Known) (entries : List Entry) → Ways (removing name known entries) (Adds entries (Removal name known))
+removed : (name : List ℕ) (known : Known) (entries : List Entry) → Ways (removing name known entries) (Sure (Adds entries (Removal name known)))
 unfolding removing
-removed name known entries = ways_next (Way (holding_remove name known.held.0)) (Adds entries (Removal name known)) (holding_remove name known.held.0) (after_hold name known entries) (ways_all (holding_remove name known.held.0)) (λ ms a way. by ms a way)
+removed name known entries = behind_sure (Way (holding_remove name known.held.0)) (Sure (Adds entries (Removal name known))) (holding_remove name known.held.0) (after_hold name known entries) (sure_hold name known.held.0) (λ ms a way. by ms a way)
   where
-    at_end : (ms : List Made) (p : Settled × List Entry) → Adds entries (Removal name known) ms p → Adds entries (Removal name known) (ms ++ []) p
-    at_end ms p h = subst (λ v. Adds entries (Removal name known) v p) (sym (append-nil ms)) h
+    at_end : (ms : List Made) (p : Settled × List Entry) → Adds entries (Removal name known) ms p → Sure (λ ns q. Adds entries (Removal name known) (ms ++ ns) q) true [] p
+    at_end ms p h = (refl, subst (λ v. Adds entries (Removal name known) v p) (sym (append-nil ms)) h)
 
-    by : (ms : List Made) (a : RemoveHold) → Way (holding_remove name known.held.0) ms a → Ways (after_hold name known entries a) (λ ns p. Adds entries (Removal name known) (ms ++ ns) p)
-    by ms (hold.Ready file) way = λ t shut. written name known.number write.Remove entries t.answer t.number t.count (λ ns p. Adds entries (Removal name known) (ms ++ answered (Put file.0 write.Remove) t ∷ answered (Close file.0) shut ∷ ns) p) (λ es fs how is w. (es, is, Put_on ms file t shut es how way w))
+    by : (ms : List Made) (a : RemoveHold) → Way (holding_remove name known.held.0) ms a → Ways (after_hold name known entries a) (Sure (λ ns p. Adds entries (Removal name known) (ms ++ ns) p))
+    by ms (hold.Ready file) way = λ t shut. written name known.number write.Remove entries t.answer t.number t.count (Sure (λ ns p. Adds entries (Removal name known) (ms ++ answered (Put file.0 write.Remove) t ∷ answered (Close file.0) shut ∷ ns) p)) (λ es fs how is w. (refl, (es, is, Put_on ms file t shut es how way w)))
     by ms hold.Gone way = at_end ms _ (_, refl, Not_held ms hold.Gone _ _ way Gone_by)
     by ms (hold.Failed call count) way = at_end ms _ (_, refl, Not_held ms (hold.Failed call count) _ _ way (Failed_by call count))
     by ms hold.Memory way = at_end ms _ (_, refl, Not_held ms hold.Memory _ _ way Short_by)
 
-carried : (name : List ℕ) (known : Known) (on : Bool) (entries : List Entry) → Ways (writing name known on entries) (Adds entries (Carried name known on))
+carried : (name : List ℕ) (known : Known) (on : Bool) (entries : List Entry) → Ways (writing name known on entries) (Sure (Adds entries (Carried name known on)))
 unfolding writing
-carried name known on entries = ways_next (Adds entries (Valued name known on)) Q (valuing name known on entries) (λ (q : Settled × List Entry). after_value name known q.1 q.0) (valued name known on entries) (λ ms q h. by ms q.0 q.1 h.0 h.1 h.2)
+carried name known on entries = behind_sure (Adds entries (Valued name known on)) (Sure Q) (valuing name known on entries) (λ (q : Settled × List Entry). after_value name known q.1 q.0) (valued name known on entries) (λ ms q h. by ms q.0 q.1 h.0 h.1 h.2)
   where
     Q : List Made → Settled × List Entry → Type 0
     Q = Adds entries (Carried name known on)
 
-    stops : (ms : List Made) (how : Settled) (es fs : List Entry) → fs ≡ entries ++ es → Valued name known on ms es how → (how ≡ settled.Stands → is_to_go known ≡ false) → Adds entries (Carried name known on) (ms ++ []) (how, fs)
-    stops ms how es fs e v k = subst (λ w. Adds entries (Carried name known on) w (how, fs)) (sym (append-nil ms)) (es, e, By_value ms es how v k)
+    stops : (ms : List Made) (how : Settled) (es fs : List Entry) → fs ≡ entries ++ es → Valued name known on ms es how → (how ≡ settled.Stands → is_to_go known ≡ false) → Sure (λ ns p. Adds entries (Carried name known on) (ms ++ ns) p) true [] (how, fs)
+    stops ms how es fs e v k = (refl, subst (λ w. Adds entries (Carried name known on) w (how, fs)) (sym (append-nil ms)) (es, e, By_value ms es how v k))
 
-    goes : (ms : List Made) (es fs : List Entry) (b : Bool) → is_to_go known ≡ b → fs ≡ entries ++ es → Valued name known on ms es settled.Stands → Ways (if_to_go name known fs b) (λ ns p. Adds entries (Carried name known on) (ms ++ ns) p)
-    goes ms es fs true t e v = ways_more (Adds fs (Removal name known)) (λ ns p. Adds entries (Carried name known on) (ms ++ ns) p) (removing name known fs) (λ ns p h. (es ++ h.0, h.1 ∙ ap (λ w. w ++ h.0) e ∙ append_assoc entries es h.0, And_removal ms ns es h.0 p.0 t v h.2)) (removed name known fs)
+    goes : (ms : List Made) (es fs : List Entry) (b : Bool) → is_to_go known ≡ b → fs ≡ entries ++ es → Valued name known on ms es settled.Stands → Ways (if_to_go name known fs b) (Sure (λ ns p. Adds entries (Carried name known on) (ms ++ ns) p))
+    goes ms es fs true t e v = ways_more (Sure (Adds fs (Removal name known))) (Sure (λ ns p. Adds entries (Carried name known on) (ms ++ ns) p)) (removing name known fs) (λ ok ns p k. let h = k.1 in (k.0, (es ++ h.0, h.1 ∙ ap (λ w. w ++ h.0) e ∙ append_assoc entries es h.0, And_removal ms ns es h.0 p.0 t v h.2))) (removed name known fs)
     goes ms es fs false t e v = stops ms settled.Stands es fs e v (λ s. t)
 
-    by : (ms : List Made) (how : Settled) (fs es : List Entry) → fs ≡ entries ++ es → Valued name known on ms es how → Ways (after_value name known fs how) (λ ns p. Adds entries (Carried name known on) (ms ++ ns) p)
+    by : (ms : List Made) (how : Settled) (fs es : List Entry) → fs ≡ entries ++ es → Valued name known on ms es how → Ways (after_value name known fs how) (Sure (λ ns p. Adds entries (Carried name known on) (ms ++ ns) p))
     by ms settled.Stands fs es e v = goes ms es fs (is_to_go known) refl e v
     by ms settled.Nobody fs es e v = stops ms settled.Nobody es fs e v (λ s. let none : ⊥ = cc in absurd none)
     by ms (settled.Fault call count) fs es e v = stops ms (settled.Fault call count) es fs e v (λ s. let none : ⊥ = cc in absurd none)
     by ms settled.Memory fs es e v = stops ms settled.Memory es fs e v (λ s. let none : ⊥ = cc in absurd none)
 
-pub brought : (name : List ℕ) (known : Known) (on : Bool) (entries : List Entry) → Ways (bringing name known on entries) (Adds entries (Brought name known on))
+pub brought : (name : List ℕ) (known : Known) (on : Bool) (entries : List Entry) → Ways (bringing name known on entries) (Sure (Adds entries (Brought name known on)))
 unfolding bringing
-brought name known on entries = ways_next (Adds entries (Carried name known on)) (Adds entries (Brought name known on)) (writing name known on entries) (λ (q : Settled × List Entry). close_gone known.held.0 q.1 q.0) (carried name known on entries) (λ ms q h. by ms q.0 q.1 h.0 h.1 h.2)
+brought name known on entries = behind_sure (Adds entries (Carried name known on)) (Sure (Adds entries (Brought name known on))) (writing name known on entries) (λ (q : Settled × List Entry). close_gone known.held.0 q.1 q.0) (carried name known on entries) (λ ms q h. by ms q.0 q.1 h.0 h.1 h.2)
   where
-    stays : (ms : List Made) (how : Settled) (fs es : List Entry) → fs ≡ entries ++ es → Carried name known on ms es how → (how ≡ settled.Nobody → ⊥) → Adds entries (Brought name known on) (ms ++ []) (how, fs)
-    stays ms how fs es e c n = subst (λ w. Adds entries (Brought name known on) w (how, fs)) (sym (append-nil ms)) (es, e, Left_open ms es how c n)
+    stays : (ms : List Made) (how : Settled) (fs es : List Entry) → fs ≡ entries ++ es → Carried name known on ms es how → (how ≡ settled.Nobody → ⊥) → Sure (λ ns p. Adds entries (Brought name known on) (ms ++ ns) p) true [] (how, fs)
+    stays ms how fs es e c n = (refl, subst (λ w. Adds entries (Brought name known on) w (how, fs)) (sym (append-nil ms)) (es, e, Left_open ms es how c n))
 
-    by : (ms : List Made) (how : Settled) (fs es : List Entry) → fs ≡ entries ++ es → Carried name known on ms es how → Ways (close_gone known.held.0 fs how) (λ ns p. Adds entries (Brought name known on) (ms ++ ns) p)
-    by ms settled.Nobody fs es e c = λ shut. (es, e, Let_go ms es shut c)
+    by : (ms : List Made) (how : Settled) (fs es : List Entry) → fs ≡ entries ++ es → Carried name known on ms es how → Ways (close_gone known.held.0 fs how) (Sure (λ ns p. Adds entries (Brought name known on) (ms ++ ns) p))
+    by ms settled.Nobody fs es e c = λ shut. (refl, (es, e, Let_go ms es shut c))
     by ms settled.Stands fs es e c = stays ms settled.Stands fs es e c (λ s. let none : ⊥ = cc in none)
     by ms (settled.Fault call count) fs es e c = stays ms (settled.Fault call count) fs es e c (λ s. let none : ⊥ = cc in none)
     by ms settled.Memory fs es e c = stays ms settled.Memory fs es e c (λ s. let none : ⊥ = cc in none)
@@ -188,18 +186,18 @@ abbrev pub judge_after : {J : Type 0} → Laters J → Bool → List ℕ → Sta
 judge_after later present name w None = w.judge
 judge_after later present name w (Some x) = later w.judge (judged_of name x.1.attrs x.1.parent) (is_none (parent_of name)) present x.1.on x.0
 
-pub record Settles {J : Type 0} (answer : Answers J) (later : Laters J) (name : List ℕ) (present : Bool) (w : State J) (calls : List Made) (p : Settled × State J) : Type 0 where
+pub record Settles {J : Type 0} (answer : Answers J) (later : Laters J) (name : List ℕ) (present : Bool) (w : State J) (granted : Bool) (calls : List Made) (p : Settled × State J) : Type 0 where
   pub rest : List Entry
   pub judged : Option (List Standing × Bound)
-  pub flat : Flat true (IsGiven answer present name w) name w.standings calls rest p.0 p.1.standings judged
+  pub flat : Flat true (IsGiven answer present name w) name w.standings granted calls rest p.0 p.1.standings judged
   pub entries : p.1.entries ≡ w.entries ++ rest
   pub listed : p.1.listed ≡ w.listed
   pub next : p.1.next ≡ next_after w judged
   pub judge : p.1.judge ≡ judge_after later present name w judged
 
-entered : {J : Type 0} (answer : Answers J) (later : Laters J) (name : List ℕ) (present : Bool) (w : State J) (ms : List Made) (es fs : List Entry) (rs : List Standing) → fs ≡ w.entries ++ es → Opening name w.standings ms es rs → Ways (entering answer later name present (record w { standings = rs; entries = fs })) (λ ns p. Settles answer later name present w (ms ++ ns) p)
+entered : {J : Type 0} (answer : Answers J) (later : Laters J) (name : List ℕ) (present : Bool) (w : State J) (ms : List Made) (es fs : List Entry) (rs : List Standing) → fs ≡ w.entries ++ es → Opening name w.standings ms es rs → Ways (entering answer later name present (record w { standings = rs; entries = fs })) (λ ok ns p. Settles answer later name present w ok (ms ++ ns) p)
 unfolding entering admitting
-entered {J} answer later name present w ms es fs rs same opening = ways_next (Way (binding name (parent_of name))) (λ ns p. Settles answer later name present w (ms ++ ns) p) (binding name (parent_of name)) (after_bind answer later name present u) (ways_all (binding name (parent_of name))) (λ ns r way. by ns r way)
+entered {J} answer later name present w ms es fs rs same opening = behind_sure (Way (binding name (parent_of name))) (λ ok ns p. Settles answer later name present w ok (ms ++ ns) p) (binding name (parent_of name)) (after_bind answer later name present u) (sure_binding name) (λ ns r way. by ns r way)
   where
     u : State J
     u = record w { standings = rs; entries = fs }
@@ -207,20 +205,20 @@ entered {J} answer later name present w ms es fs rs same opening = ways_next (Wa
     more : (gs xs : List Entry) → gs ≡ fs ++ xs → gs ≡ w.entries ++ (es ++ xs)
     more gs xs e = e ∙ ap (λ v. v ++ xs) same ∙ append_assoc w.entries es xs
 
-    unbound : (ns : List Made) (r : Binding) (xs gs : List Entry) (how : Settled) → gs ≡ fs ++ xs → Way (binding name (parent_of name)) ns r → Unbound_end name r xs how → Settles answer later name present w (ms ++ (ns ++ [])) (how, record u { entries = gs })
-    unbound ns r xs gs how e way end = subst (λ v. Settles answer later name present w (ms ++ v) (how, record u { entries = gs })) (sym (append-nil ns)) (record { rest = es ++ xs; judged = None; flat = Unbound ms ns es xs rs r how refl opening way end; entries = more gs xs e; listed = refl; next = refl; judge = refl })
+    unbound : (ns : List Made) (r : Binding) (xs gs : List Entry) (how : Settled) → gs ≡ fs ++ xs → Way (binding name (parent_of name)) ns r → Unbound_end name r xs how → Settles answer later name present w true (ms ++ (ns ++ [])) (how, record u { entries = gs })
+    unbound ns r xs gs how e way end = subst (λ v. Settles answer later name present w true (ms ++ v) (how, record u { entries = gs })) (sym (append-nil ns)) (record { rest = es ++ xs; judged = None; flat = Unbound ms ns es xs rs r how refl opening way end; entries = more gs xs e; listed = refl; next = refl; judge = refl })
 
-    no_place : (ns : List Made) (b : Bound) → Way (binding name (parent_of name)) ns (bound.Bound b) → Ways (no_room u name b.held.0) (λ os p. Settles answer later name present w (ms ++ (ns ++ os)) p)
+    no_place : (ns : List Made) (b : Bound) → Way (binding name (parent_of name)) ns (bound.Bound b) → Ways (no_room u name b.held.0) (λ ok os p. Settles answer later name present w false (ms ++ (ns ++ os)) p)
     no_place ns b way = λ shut. record { rest = es ++ entry.Unsettled name fault.Memory ∷ []; judged = None; flat = No_place ms ns es rs b shut refl opening way; entries = more _ _ refl; listed = refl; next = refl; judge = refl }
 
-    judged : (ns : List Made) (b : Bound) → Way (binding name (parent_of name)) ns (bound.Bound b) → Ways (if_place answer later name present u b (judged_of name b.attrs b.parent) true) (λ os p. Settles answer later name present w (ms ++ (ns ++ os)) p)
+    judged : (ns : List Made) (b : Bound) → Way (binding name (parent_of name)) ns (bound.Bound b) → Ways (if_place answer later name present u b (judged_of name b.attrs b.parent) true) (λ ok os p. Settles answer later name present w ok (ms ++ (ns ++ os)) p)
     judged ns b way =
         let dev : Judged = judged_of name b.attrs b.parent in
         let given : Target × Cause = answer w.judge dev (is_none (parent_of name)) present b.on rs in
         let x : Standing = standing_for w name b.held.0 dev given in
         let e : Entry = judged_entry w name b.held.0 given in
         let after : J = later w.judge dev (is_none (parent_of name)) present b.on rs in
-        ways_last (Adds (fs ++ e ∷ []) (Brought name (known_of x) b.on)) (λ os p. Settles answer later name present w (ms ++ (ns ++ os)) p) (bringing name (known_in u b.held.0 given) b.on (fs ++ e ∷ [])) (to_keep (record u { next = w.next + 1; judge = after }) x) (λ (q : Settled × List Entry). (q.0, record u { standings = kept_standings rs x q.0; next = w.next + 1; judge = after; entries = q.1 })) (λ q. refl) (brought name (known_of x) b.on (fs ++ e ∷ []))
+        sure_last (Adds (fs ++ e ∷ []) (Brought name (known_of x) b.on)) (λ ok os p. Settles answer later name present w ok (ms ++ (ns ++ os)) p) (bringing name (known_in u b.held.0 given) b.on (fs ++ e ∷ [])) (to_keep (record u { next = w.next + 1; judge = after }) x) (λ (q : Settled × List Entry). (q.0, record u { standings = kept_standings rs x q.0; next = w.next + 1; judge = after; entries = q.1 })) (λ q. refl) (brought name (known_of x) b.on (fs ++ e ∷ []))
         (λ os q h. record {
           rest = es ++ e ∷ h.0;
           judged = Some (rs, b);
@@ -231,16 +229,16 @@ entered {J} answer later name present w ms es fs rs same opening = ways_next (Wa
           judge = refl;
         })
 
-    place : (ns : List Made) (b : Bound) → Way (binding name (parent_of name)) ns (bound.Bound b) → (room : Bool) → Ways (if_place answer later name present u b (judged_of name b.attrs b.parent) room) (λ os p. Settles answer later name present w (ms ++ (ns ++ os)) p)
+    place : (ns : List Made) (b : Bound) → Way (binding name (parent_of name)) ns (bound.Bound b) → (room : Bool) → Ways (if_place answer later name present u b (judged_of name b.attrs b.parent) room) (λ ok os p. Settles answer later name present w (room && ok) (ms ++ (ns ++ os)) p)
     place ns b way true = judged ns b way
     place ns b way false = no_place ns b way
 
-    room : (ns : List Made) (b : Bound) → Way (binding name (parent_of name)) ns (bound.Bound b) → (room : Bool) → Ways (if_record answer later name present u b room) (λ os p. Settles answer later name present w (ms ++ (ns ++ os)) p)
-    room ns b way true = place ns b way
+    room : (ns : List Made) (b : Bound) → Way (binding name (parent_of name)) ns (bound.Bound b) → (room : Bool) → Ways (if_record answer later name present u b room) (λ ok os p. Settles answer later name present w (room && ok) (ms ++ (ns ++ os)) p)
+    room ns b way true = λ c. place ns b way c
     room ns b way false = no_place ns b way
 
-    by : (ns : List Made) (r : Binding) → Way (binding name (parent_of name)) ns r → Ways (after_bind answer later name present u r) (λ os p. Settles answer later name present w (ms ++ (ns ++ os)) p)
-    by ns (bound.Bound b) way = room ns b way
+    by : (ns : List Made) (r : Binding) → Way (binding name (parent_of name)) ns r → Ways (after_bind answer later name present u r) (λ ok os p. Settles answer later name present w ok (ms ++ (ns ++ os)) p)
+    by ns (bound.Bound b) way = λ c. room ns b way c
     by ns bound.Absent way = unbound ns bound.Absent [] fs settled.Nobody (sym (append-nil fs)) way Absent_so
     by ns bound.Vanished way = unbound ns bound.Vanished [] fs settled.Nobody (sym (append-nil fs)) way Vanished_so
     by ns (bound.Failed call count) way = unbound ns (bound.Failed call count) _ _ (settled.Fault call count) refl way (Failed_so call count)
@@ -250,9 +248,9 @@ pub settles : {J : Type 0} (answer : Answers J) (later : Laters J) (name : List 
 unfolding settling
 settles {J} answer later name present w = from (standing_of name w.standings) refl
   where
-    known_by : (known : Known) → standing_of name w.standings ≡ Some known → (r : Probe) (call count : ℕ) → Ways (after_known answer later name present w known r call count) (λ ms p. Settles answer later name present w (answered (Ask_alive known.held.0) (told r call count) ∷ ms) p)
+    known_by : (known : Known) → standing_of name w.standings ≡ Some known → (r : Probe) (call count : ℕ) → Ways (after_known answer later name present w known r call count) (λ ok ms p. Settles answer later name present w ok (answered (Ask_alive known.held.0) (told r call count) ∷ ms) p)
     known_by known e (probe.Alive on) call count =
-        ways_last (Adds w.entries (Brought name known on)) (λ ms p. Settles answer later name present w (answered (Ask_alive known.held.0) (told (probe.Alive on) call count) ∷ ms) p) (bringing name known on w.entries) (to_mark w name) (λ (q : Settled × List Entry). (q.0, record w { standings = tried_standings w.standings name q.0; entries = q.1 })) (λ q. refl) (brought name known on w.entries)
+        sure_last (Adds w.entries (Brought name known on)) (λ ok ms p. Settles answer later name present w ok (answered (Ask_alive known.held.0) (told (probe.Alive on) call count) ∷ ms) p) (bringing name known on w.entries) (to_mark w name) (λ (q : Settled × List Entry). (q.0, record w { standings = tried_standings w.standings name q.0; entries = q.1 })) (λ q. refl) (brought name known on w.entries)
         (λ ms q h. record { rest = h.0; judged = None; flat = Tried known on call count ms h.0 q.0 e h.2; entries = h.1; listed = refl; next = refl; judge = refl })
     known_by known e probe.Gone call count = λ shut. entered answer later name present w (answered (Ask_alive known.held.0) (told probe.Gone call count) ∷ answered (Close known.held.0) shut ∷ []) (entry.Gone known.number name ∷ []) (w.entries ++ entry.Gone known.number name ∷ []) (without name w.standings) refl (Lost known call count shut e)
     known_by known e probe.Failed call count = record { rest = _; judged = None; flat = Unprobed known call count e; entries = refl; listed = refl; next = refl; judge = refl }
@@ -266,18 +264,18 @@ settles {J} answer later name present w = from (standing_of name w.standings) re
 abbrev pub Nothing_given : List Standing → Bound → Standing → Type 0
 Nothing_given rs b x = ⊥
 
-pub record Resettles (name : List ℕ) (k : Kept) (calls : List Made) (p : Settled × Kept) : Type 0 where
+pub record Resettles (name : List ℕ) (k : Kept) (granted : Bool) (calls : List Made) (p : Settled × Kept) : Type 0 where
   pub rest : List Entry
-  pub flat : Flat false Nothing_given name k.standings calls rest p.0 p.1.standings None
+  pub flat : Flat false Nothing_given name k.standings granted calls rest p.0 p.1.standings None
   pub entries : p.1.entries ≡ k.entries ++ rest
 
 pub resettles : (name : List ℕ) (k : Kept) → Ways (resettling name k) (Resettles name k)
 unfolding resettling
 resettles name k = from (standing_of name k.standings) refl
   where
-    known_by : (known : Known) → standing_of name k.standings ≡ Some known → (r : Probe) (call count : ℕ) → Ways (after_again name k known r call count) (λ ms p. Resettles name k (answered (Ask_alive known.held.0) (told r call count) ∷ ms) p)
+    known_by : (known : Known) → standing_of name k.standings ≡ Some known → (r : Probe) (call count : ℕ) → Ways (after_again name k known r call count) (λ ok ms p. Resettles name k ok (answered (Ask_alive known.held.0) (told r call count) ∷ ms) p)
     known_by known e (probe.Alive on) call count =
-        ways_last (Adds k.entries (Brought name known on)) (λ ms p. Resettles name k (answered (Ask_alive known.held.0) (told (probe.Alive on) call count) ∷ ms) p) (bringing name known on k.entries) (to_keep_mark k name) (λ (q : Settled × List Entry). (q.0, record { standings = tried_standings k.standings name q.0; entries = q.1 })) (λ q. refl) (brought name known on k.entries)
+        sure_last (Adds k.entries (Brought name known on)) (λ ok ms p. Resettles name k ok (answered (Ask_alive known.held.0) (told (probe.Alive on) call count) ∷ ms) p) (bringing name known on k.entries) (to_keep_mark k name) (λ (q : Settled × List Entry). (q.0, record { standings = tried_standings k.standings name q.0; entries = q.1 })) (λ q. refl) (brought name known on k.entries)
         (λ ms q h. record { rest = h.0; flat = Tried known on call count ms h.0 q.0 e h.2; entries = h.1 })
     known_by known e probe.Gone call count = λ shut. record { rest = _; flat = Stopped _ _ _ refl (Lost known call count shut e); entries = refl }
     known_by known e probe.Failed call count = record { rest = _; flat = Unprobed known call count e; entries = refl }

@@ -23,7 +23,7 @@ use Rattle.ug_table.specs.declared.standing.Known.{Known}
 use Rattle.ug_table.specs.declared.standing.Settled.{Settled}
 use Rattle.ug_table.specs.declared.standing.Settled.TheVariants as settled
 use Rattle.ug_types.proofs.Elements.{has_left, has_right, has_cases, filter_has, map_has, has_map, insert_has}
-use Rattle.ug_table.proofs.Ways.{Ways, ways_run, ways_next, ways_more}
+use Rattle.ug_itree.proofs.Ways.{Ways, Sure, ways_run, ways_next, ways_more}
 use Rattle.ug_table.proofs.Shapes.{Written, Done, Went, Broke, Valued, Same, Set, Unheld, Gone_by, Failed_by, Short_by, Removal, Not_held, Put_on, Carried, By_value, And_removal, Brought, Left_open, Let_go, Opening, Fresh, Lost, Unbound_end, Absent_so, Vanished_so, Failed_so, Short_so, Flat, Unprobed, Tried, Stopped, Unbound, No_place, Judged_so, Adds, brought, Settles, settles, Resettles, resettles}
 use Rattle.ug_kernel.specs.Calls.{Told}
 use Rattle.ug_itree.specs.Along.{Made}
@@ -32,16 +32,16 @@ use Rattle.ug_table.proofs.Places.{marked_other}
 
 -- each end of the tree is so
 abbrev pub EndsSo : {R : Type 0} → (R → Type 0) → Prog R → Type 0
-EndsSo p t = Ways t (λ ms r. p r)
+EndsSo p t = Ways t (λ ok ms r. p r)
 
 pub ends_run : {S R : Type 0} (gives : S → (call : Call) → Answer call → S → Type 0) (p : R → Type 0) (t : Prog R) (s : S) (r : R) (u : S) → EndsSo p t → Runs gives s t r u → p r
-ends_run gives p t s r u e h = (ways_run gives (λ ms x. p x) t s r u e h).so
+ends_run gives p t s r u e h = (ways_run gives (λ ok ms x. p x) t s r u e h).so
 
 pub ends_then : {A B : Type 0} (p : A → Type 0) (q : B → Type 0) (t : Prog A) (f : A → Prog B) → EndsSo p t → ((a : A) → p a → EndsSo q (f a)) → EndsSo q (then t f)
-ends_then p q t f e g = ways_next (λ ms a. p a) (λ ms b. q b) t f e (λ ms a h. g a h)
+ends_then p q t f e g = ways_next (λ ok ms a. p a) (λ ok ms b. q b) t f e (λ ok ms a h. g a h)
 
 pub ends_map : {R : Type 0} (p q : R → Type 0) (t : Prog R) → ((r : R) → p r → q r) → EndsSo p t → EndsSo q t
-ends_map p q t f e = ways_more (λ ms r. p r) (λ ms r. q r) t (λ ms r h. f r h) e
+ends_map p q t f e = ways_more (λ ok ms r. p r) (λ ok ms r. q r) t (λ ok ms r h. f r h) e
 
 -- each entry is so
 abbrev pub Each : (Entry → Type 0) → List Entry → Type 0
@@ -143,8 +143,8 @@ pub record Brings (name : List ℕ) (go : Bool) (es : List Entry) (p : Settled �
 
 pub bringing_brings : (name : List ℕ) (known : Known) (on : Bool) (es : List Entry) → EndsSo (Brings name (is_to_go known) es) (bringing name known on es)
 bringing_brings name known on es =
-    ways_more (Adds es (Brought name known on)) (λ ms p. Brings name (is_to_go known) es p) (bringing name known on es)
-    (λ ms p h. let t = brought_tells h.2 in record { rest = h.0; entries = h.1; only = t.only; spared = t.spared })
+    ways_more (Sure (Adds es (Brought name known on))) (λ ok ms p. Brings name (is_to_go known) es p) (bringing name known on es)
+    (λ ok ms p k. let h = k.1 in let t = brought_tells h.2 in record { rest = h.0; entries = h.1; only = t.only; spared = t.spared })
     (brought name known on es)
 
 -- a name
@@ -251,7 +251,7 @@ only_none name (entry.Wrote number n what outcome) h = h
 only_none name (entry.Gone number n) h = h
 only_none name (entry.End number) h = h
 
-pub flat_part : {binds : Bool} {given : List Standing → Bound → Standing → Type 0} {name : List ℕ} {ss : List Standing} {ms : List Made} {rest : List Entry} {how : Settled} {rs : List Standing} {o : Option (List Standing × Bound)} (es fs : List Entry) → fs ≡ es ++ rest → Flat binds given name ss ms rest how rs o → Part name ss es rs fs
+pub flat_part : {binds : Bool} {given : List Standing → Bound → Standing → Type 0} {name : List ℕ} {ss : List Standing} {ok : Bool} {ms : List Made} {rest : List Entry} {how : Settled} {rs : List Standing} {o : Option (List Standing × Bound)} (es fs : List Entry) → fs ≡ es ++ rest → Flat binds given name ss ok ms rest how rs o → Part name ss es rs fs
 flat_part {name = name} {ss = ss} xs ys e (Unprobed known call count at) = record { rest = _; entries = e; only = (refl, tt); others = λ s a ne. tried_others ss name (settled.Fault call count) s a ne; mark = λ s a is. tried_mark ss name (settled.Fault call count) (entry.Unsettled name (fault.Call call count) ∷ []) s (fault.Call call count, inl refl) a is }
 flat_part {name = name} {ss = ss} xs ys e (Tried known on call count ms es how at b) =
     let t = brought_tells b in
@@ -282,7 +282,7 @@ abbrev pub PartOf : {J : Type 0} → List ℕ → State J → Settled × State J
 PartOf name w p = Part name w.standings w.entries p.1.standings p.1.entries × (p.1.listed ≡ w.listed)
 
 pub settling_part : {J : Type 0} (answer : Answers J) (later : Laters J) (name : List ℕ) (present : Bool) (w : State J) → EndsSo (PartOf name w) (settling answer later name present w)
-settling_part answer later name present w = ways_more (Settles answer later name present w) (λ ms p. PartOf name w p) (settling answer later name present w) (λ ms p h. (flat_part w.entries p.1.entries h.entries h.flat, h.listed)) (settles answer later name present w)
+settling_part answer later name present w = ways_more (Settles answer later name present w) (λ ok ms p. PartOf name w p) (settling answer later name present w) (λ ok ms p h. (flat_part w.entries p.1.entries h.entries h.flat, h.listed)) (settles answer later name present w)
 
 -- where the listing didn't succeed
 
@@ -290,4 +290,4 @@ abbrev pub KeptPart : List ℕ → Kept → Settled × Kept → Type 0
 KeptPart name w p = Part name w.standings w.entries p.1.standings p.1.entries
 
 pub resettling_part : (name : List ℕ) (w : Kept) → EndsSo (KeptPart name w) (resettling name w)
-resettling_part name w = ways_more (Resettles name w) (λ ms p. KeptPart name w p) (resettling name w) (λ ms p h. flat_part w.entries p.1.entries h.entries h.flat) (resettles name w)
+resettling_part name w = ways_more (Resettles name w) (λ ok ms p. KeptPart name w p) (resettling name w) (λ ok ms p h. flat_part w.entries p.1.entries h.entries h.flat) (resettles name w)

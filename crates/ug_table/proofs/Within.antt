@@ -3,7 +3,7 @@ use Rattle.std.proofs.Common.{ℕ, ◌≤◌, Bool, List, [], ◌∷◌, ◌++�
 use Rattle.ug_kernel.specs.declared.calls.Probe.TheVariants as probe
 use Rattle.ug_kernel.specs.declared.calls.Write.TheVariants as write
 use Rattle.ug_kernel.specs.Calls.{Read, Ask_alive, Put, Close}
-use Rattle.ug_itree.specs.Along.{Made, answered}
+use Rattle.ug_itree.specs.Along.{Made, answered, count_calls}
 use Rattle.ug_node.specs.declared.identity.Binding.TheVariants as bound
 use Rattle.ug_node.specs.declared.removal.RemoveHold.TheVariants as hold
 use Rattle.ug_node.specs.declared.identity.Binding.{Binding}
@@ -13,12 +13,11 @@ use Rattle.ug_node.specs.Bind.{binding}
 use Rattle.ug_node.specs.Removal.{holding_remove}
 use Rattle.ug_types.specs.Names.{parent_of}
 use Rattle.ug_audit.specs.declared.entry.Entry.{Entry}
-use Rattle.ug_table.specs.Parts.{count_calls}
 use Rattle.ug_table.specs.declared.standing.Standing.{Standing}
 use Rattle.ug_table.specs.declared.standing.Known.{Known}
 use Rattle.ug_table.specs.declared.standing.Settled.{Settled}
-use Rattle.ug_table.proofs.Ways.{Way, ways_of}
-use Rattle.ug_table.proofs.BindShapes.{told, Binds_by, No_such, Open_failed, Open_short, Cut, Probed_gone, Probe_failed, Bound_by, binds_by, Holds_by, Not_there, Not_opened, No_memory, Held_on, Died, Unasked, holds_by, count_more}
+use Rattle.ug_itree.proofs.Ways.{Way}
+use Rattle.ug_node.proofs.BindShapes.{told, Binds_by, No_such, Open_failed, Open_short, Cut, Probed_gone, Probe_failed, Bound_by, way_binds, Holds_by, Not_there, Not_opened, No_memory, Held_on, Died, Unasked, way_holds, count_more}
 use Rattle.ug_table.proofs.Shapes.{Valued, Same, Set, Removal, Not_held, Put_on, Carried, By_value, And_removal, Brought, Left_open, Let_go, Opening, Fresh, Lost, Flat, Unprobed, Tried, Stopped, Unbound, No_place, Judged_so}
 
 binds_few : {name : List ℕ} {ms : List Made} {r : Binding} → Binds_by name ms r → count_calls ms ≤ 9
@@ -43,7 +42,7 @@ valued_few (Same e) = omega arith
 valued_few (Set t es how e w) = omega arith
 
 way_held : (name : List ℕ) (known : Known) (ms : List Made) (r : RemoveHold) → Way (holding_remove name known.held.0) ms r → count_calls ms ≤ 2
-way_held name known ms r way = holds_few (ways_of (Holds_by name known.held.0) (holding_remove name known.held.0) ms r (holds_by name known.held.0) way)
+way_held name known ms r way = holds_few (way_holds name known.held.0 ms r way)
 
 removal_few : {name : List ℕ} {known : Known} {ms : List Made} {es : List Entry} {how : Settled} → Removal name known ms es how → count_calls ms ≤ 3
 removal_few {name} {known} (Not_held ms r es how way u) = let few = way_held name known ms r way in omega (arith, few)
@@ -72,9 +71,9 @@ opening_few (Fresh e) = omega arith
 opening_few (Lost known call count shut e) = omega arith
 
 way_few : (name : List ℕ) (ms : List Made) (r : Binding) → Way (binding name (parent_of name)) ms r → count_calls ms ≤ 9
-way_few name ms r way = binds_few (ways_of (Binds_by name) (binding name (parent_of name)) ms r (binds_by name) way)
+way_few name ms r way = binds_few (way_binds name ms r way)
 
-pub flat_few : {binds : Bool} {given : List Standing → Bound → Standing → Type 0} {name : List ℕ} {ss : List Standing} {ms : List Made} {rest : List Entry} {how : Settled} {rs : List Standing} {o : Option (List Standing × Bound)} → Flat binds given name ss ms rest how rs o → count_calls ms ≤ 14
+pub flat_few : {binds : Bool} {given : List Standing → Bound → Standing → Type 0} {name : List ℕ} {ss : List Standing} {ok : Bool} {ms : List Made} {rest : List Entry} {how : Settled} {rs : List Standing} {o : Option (List Standing × Bound)} → Flat binds given name ss ok ms rest how rs o → count_calls ms ≤ 14
 flat_few (Unprobed known call count at) = omega arith
 flat_few (Tried known on call count ms es how at b) = let few = brought_few b in omega (arith, few)
 flat_few (Stopped ms es rs f opening) = let few = opening_few opening in omega (arith, few)

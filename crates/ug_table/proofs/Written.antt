@@ -40,8 +40,9 @@ use Rattle.ug_table.proofs.Joined.{FairFrom, fair_trans, StepFrom}
 use Rattle.ug_kernel.specs.Calls.{Told, Closing}
 use Rattle.ug_kernel.proofs.Grow.{quiet_grows}
 use Rattle.ug_itree.specs.Along.{Made, answered, Along}
-use Rattle.ug_table.proofs.Ways.{Way, way_runs, along_split}
-use Rattle.ug_table.proofs.Shapes.{told, Written, Done, Went, Broke, Valued, Same, Set, Unheld, Gone_by, Failed_by, Short_by, Removal, Not_held, Put_on, Carried, By_value, And_removal, Brought, Left_open, Let_go}
+use Rattle.ug_itree.proofs.Ways.{Way, way_runs, along_split}
+use Rattle.ug_node.proofs.BindShapes.{told}
+use Rattle.ug_table.proofs.Shapes.{Written, Done, Went, Broke, Valued, Same, Set, Unheld, Gone_by, Failed_by, Short_by, Removal, Not_held, Put_on, Carried, By_value, And_removal, Brought, Left_open, Let_go}
 use Rattle.ug_table.proofs.Steps.{After, same_refl, plain_fair, keep_fair, fair_end, then_quiet, then_called, then_note, then_same, then_went}
 
 -- the log after a write

@@ -17,7 +17,7 @@ use Rattle.ug_kernel.specs.declared.calls.Probe.TheVariants as probe
 use Rattle.ug_kernel.specs.declared.calls.Wrote.{Wrote}
 use Rattle.ug_kernel.specs.Calls.{Call, Names, Open, Read, Ask_alive, Put, Close, Closing, Told, Answer}
 use Rattle.ug_kernel.specs.Kernel.{Kernel, IsKernel}
-use Rattle.ug_itree.specs.Along.{Made, answered, Along, Failure, failure, failures, AreNumbered, Rises}
+use Rattle.ug_itree.specs.Along.{Made, answered, count_calls, Along, Failure, failure, failures, AreNumbered, Rises}
 use Rattle.ug_audit.specs.declared.entry.Entry.{Entry}
 use Rattle.ug_audit.specs.declared.entry.Entry.TheVariants as entry
 use Rattle.ug_audit.specs.declared.entry.Fault.{Fault}
@@ -116,19 +116,6 @@ IsClosing (Open name control) = ⊥
 IsClosing (Read name attr) = ⊥
 IsClosing (Ask_alive held) = ⊥
 IsClosing (Put held what) = ⊥
-
--- how many calls there are; closings aren't counted
-abbrev pub counts_as : Call → ℕ
-counts_as (Close held) = 0
-counts_as Names = 1
-counts_as (Open name control) = 1
-counts_as (Read name attr) = 1
-counts_as (Ask_alive held) = 1
-counts_as (Put held what) = 1
-
-abbrev pub count_calls : List Made → ℕ
-count_calls [] = 0
-count_calls (m ∷ ms) = counts_as m.call + count_calls ms
 
 -- behind a call that failed there are closings alone
 abbrev pub EndsAtFailure : List Failure → List Made → Type 0
