@@ -8,7 +8,7 @@ use Rattle.ug_audit.specs.declared.entry.Entry.{Entry}
 use Rattle.ug_audit.specs.declared.entry.Entry.TheVariants as entry
 use Rattle.ug_table.specs.State.{State}
 use Rattle.ug_table.specs.Parts.{failures_told, unsettled_names, TellsFaults}
-use Rattle.ug_table.proofs.Faults.{told_more}
+use Rattle.ug_table.proofs.OnePart.{told_more}
 use Rattle.ug_table.proofs.Once.{names_more}
 use Rattle.ug_core.specs.Event.{DaemonState, begun}
 use Rattle.ug_core.specs.Policy.{Judging, context_at}

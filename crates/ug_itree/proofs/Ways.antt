@@ -1,11 +1,11 @@
 -- The ways through a tree: whether room was granted wherever it was asked for, the calls with their answers, and what each ends with.
-use Rattle.std.proofs.Common.{◌≡◌, Bool, true, false, ◌&&◌, List, [], ◌∷◌, ◌++◌, refl, sym, subst, append-nil}
+use Rattle.std.proofs.Common.{◌≡◌, Bool, true, false, ◌&&◌, List, [], ◌∷◌, ◌++◌, refl, sym, ◌∙◌, ap, subst, append_assoc, append-nil}
 use Rattle.ug_kernel.specs.Calls.{Call, Answer}
 use Rattle.ug_kernel.specs.Kernel.{Kernel, IsKernel}
 use Rattle.ug_kernel.specs.Quiet.{Grows}
 use Rattle.ug_kernel.proofs.Grow.{grows_refl, grows_trans, called_grows}
 use Rattle.ug_itree.specs.Tree.{Prog, Return, Ask, Room, Runs, then, calls}
-use Rattle.ug_itree.specs.Along.{Made, answered, Along}
+use Rattle.ug_itree.specs.Along.{Made, answered, Along, Failure, failure, failures}
 
 -- each way has P of its room, its calls and its end
 abbrev pub Ways : {R : Type 0} → Prog R → (Bool → List Made → R → Type 0) → Type 0
@@ -42,6 +42,14 @@ ways_then P (Room next) f w = λ b. ways_then (λ ok ms r. P (b && ok) ms r) (ne
 
 pub ways_next : {A B : Type 0} (P : Bool → List Made → A → Type 0) (Q : Bool → List Made → B → Type 0) (p : Prog A) (f : A → Prog B) → Ways p P → ((ok : Bool) (ms : List Made) (a : A) → P ok ms a → Ways (f a) (λ more ns r. Q (ok && more) (ms ++ ns) r)) → Ways (then p f) Q
 ways_next P Q p f w k = ways_then Q p f (ways_more P (λ ok ms a. Ways (f a) (λ more ns r. Q (ok && more) (ms ++ ns) r)) p k w)
+
+and_true : (b : Bool) → (b && true) ≡ b
+and_true true = refl
+and_true false = refl
+
+-- one whose end is turned into another
+pub ways_last : {A B : Type 0} (P : Bool → List Made → A → Type 0) (Q : Bool → List Made → B → Type 0) (p : Prog A) (f : A → Prog B) (g : A → B) → ((a : A) → f a ≡ Return (g a)) → Ways p P → ((ok : Bool) (ms : List Made) (a : A) → P ok ms a → Q ok ms (g a)) → Ways (then p f) Q
+ways_last P Q p f g e w k = ways_next P Q p f w (λ ok ms a h. subst (λ v. Ways v (λ more ns r. Q (ok && more) (ms ++ ns) r)) (sym (e a)) (subst (λ b. Q b (ms ++ []) (g a)) (sym (and_true ok)) (subst (λ v. Q ok v (g a)) (sym (append-nil ms)) (k ok ms a h))))
 
 -- behind one that asks for no room
 pub behind_sure : {A B : Type 0} (P : List Made → A → Type 0) (Q : Bool → List Made → B → Type 0) (p : Prog A) (f : A → Prog B) → Ways p (Sure P) → ((ms : List Made) (a : A) → P ms a → Ways (f a) (λ ok ns r. Q ok (ms ++ ns) r)) → Ways (then p f) Q
@@ -96,6 +104,10 @@ way_runs gives (Ask call next) ms s r t h a =
 way_runs gives (Room next) ms s r t h a = (h.0, way_runs gives (next h.0) ms s r t h.1 a)
 
 -- calls in a row
+
+pub failures_more : (ms ns : List Made) → failures (ms ++ ns) ≡ failures ms ++ failures ns
+failures_more [] ns = refl
+failures_more (m ∷ ms) ns = ap (λ (v : List Failure). failure m.call m.answer ++ v) (failures_more ms ns) ∙ sym (append_assoc (failure m.call m.answer) (failures ms) (failures ns))
 
 pub along_more : {S : Type 0} (gives : S → (call : Call) → Answer call → S → Type 0) (ms ns : List Made) (s u t : S) → Along gives s ms u → Along gives u ns t → Along gives s (ms ++ ns) t
 along_more gives [] ns s u t a b = subst (λ v. Along gives v ns t) a b

@@ -1,8 +1,6 @@
 pub mod Plays
-pub mod Trees
+pub mod Answers
+pub mod Wants
 pub mod Played
-pub mod Bindings
-pub mod Journals
 pub mod Sweeps
-pub mod Fine
 pub mod Still

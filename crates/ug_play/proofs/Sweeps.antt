@@ -1,247 +1,197 @@
--- A sweep only adds entries, and where memory was refused one of them tells it.
-use Rattle.std.proofs.Common.{◌≡◌, ℕ, ◌+◌, Bool, true, false, not, is_none, List, [], ◌∷◌, ◌++◌, Option, Some, None, refl, sym, ◌∙◌, ap, subst}
-use Rattle.std.proofs.lemmas.Bool.{or_right}
+-- What a sweep tells of failed calls and of want of memory: it tells each, and no other.
+use Rattle.std.proofs.Common.{◌≡◌, ℕ, Bool, true, false, not, cond, ◌&&◌, ◌||◌, List, [], ◌∷◌, ◌++◌, refl, sym, ◌∙◌, ap, subst, append_assoc, append-nil}
+use Rattle.std.specs.List.{list_any}
 use Rattle.std.proofs.lemmas.List.Folds.{list_any-append}
-use Rattle.ug_types.specs.Names.{parent_of}
 use Rattle.ug_types.specs.Sweep.{in_sweep_order}
-use Rattle.ug_types.specs.declared.record.Judged.{Judged}
-use Rattle.ug_types.specs.declared.verdict.Target.{Target}
-use Rattle.ug_types.specs.declared.verdict.Cause.{Cause}
-use Rattle.ug_kernel.specs.declared.calls.Write.{Write}
-use Rattle.ug_kernel.specs.declared.calls.Write.TheVariants as write
 use Rattle.ug_kernel.specs.declared.calls.Listing.{Listing}
 use Rattle.ug_kernel.specs.declared.calls.Listing.TheVariants as listing
-use Rattle.ug_kernel.specs.declared.calls.Probe.{Probe}
-use Rattle.ug_kernel.specs.declared.calls.Probe.TheVariants as probe
-use Rattle.ug_kernel.specs.declared.calls.Wrote.{Wrote}
-use Rattle.ug_kernel.specs.declared.calls.Wrote.TheVariants as wrote
-use Rattle.ug_kernel.specs.Calls.{Ask_alive, Put, Close, Told}
-use Rattle.ug_itree.specs.Tree.{Prog, Ask, Runs, then}
-use Rattle.ug_record.specs.Records.{judged_of}
-use Rattle.ug_node.specs.Bind.{binding}
-use Rattle.ug_node.specs.declared.identity.Bound.{Bound}
-use Rattle.ug_node.specs.declared.identity.Binding.{Binding}
-use Rattle.ug_node.specs.declared.identity.Binding.TheVariants as bound
+use Rattle.ug_kernel.specs.Calls.{Names, Close}
+use Rattle.ug_itree.specs.Tree.{Prog, Return, Ask, Runs, then}
+use Rattle.ug_itree.specs.Along.{Made, answered, Failure, failure, failures}
+use Rattle.ug_itree.proofs.Ways.{Ways, Sure, ways_more, ways_next, ways_last, behind_sure, failures_more}
+use Rattle.ug_node.proofs.BindShapes.{told}
+use Rattle.ug_sysfs.specs.World.{World, Gives}
 use Rattle.ug_audit.specs.declared.entry.Entry.{Entry}
 use Rattle.ug_audit.specs.declared.entry.Entry.TheVariants as entry
 use Rattle.ug_audit.specs.declared.entry.Fault.{Fault}
 use Rattle.ug_audit.specs.declared.entry.Fault.TheVariants as fault
-use Rattle.ug_sysfs.specs.World.{World, Gives}
-use Rattle.ug_table.specs.declared.standing.Known.{Known}
+use Rattle.ug_table.specs.State.{State, Kept, kept_of, with_kept, Answers, Laters}
+use Rattle.ug_table.specs.Standings.{lists, farewells}
+use Rattle.ug_table.specs.Settle.{settling, resettling}
+use Rattle.ug_table.specs.Sweep.{settling_all, resettling_all, parted, closing_unlisted, names_of, resumed, unlisted, marked_listed, if_room, after_list, sweeping}
+use Rattle.ug_table.specs.Parts.{failures_told}
+use Rattle.ug_table.specs.declared.standing.Standing.{Standing}
 use Rattle.ug_table.specs.declared.standing.Settled.{Settled}
-use Rattle.ug_table.specs.declared.standing.Settled.TheVariants as settled
-use Rattle.ug_node.specs.Removal.{holding_remove}
-use Rattle.ug_node.specs.declared.removal.RemoveHold.{RemoveHold}
-use Rattle.ug_node.specs.declared.removal.RemoveHold.TheVariants as hold
-use Rattle.ug_table.specs.State.{State, Kept, kept_of, Answers, Laters}
-use Rattle.ug_table.specs.Standings.{standing_of, farewells}
-use Rattle.ug_table.specs.Bring.{wants, write_of, after_write, to_write, to_value, valuing, to_remove, after_hold, removing, is_to_go, if_to_go, after_value, bringing}
-use Rattle.ug_table.specs.Settle.{to_keep, no_room, standing_for, known_in, judged_entry, judging, if_place, if_record, admitting, after_bind, entering, to_mark, dropped, after_known, from_standing, settling, to_keep_mark, after_again, again, resettling}
-use Rattle.ug_table.specs.Sweep.{settling_all, resettling_all, parted, names_of, resumed, unlisted, marked_listed, if_room, after_list, sweeping}
-use Rattle.ug_play.specs.Play.{entry_tells_memory, tells_memory, TellsMemory, IsPlayed}
-use Rattle.ug_play.proofs.Trees.{Returns, returns_any, returns_more, returns_then, tells_more, tells_then}
-use Rattle.ug_play.proofs.Played.{played}
-use Rattle.ug_play.proofs.Bindings.{tells_binding, tells_holding}
-use Rattle.ug_play.proofs.Journals.{Appends, appends_none, appends_one, appends_more, memory_one, memory_still, Journals, journals_more, journals_then, journals_call, journals_room}
+use Rattle.ug_table.proofs.OnePart.{told_more, flat_is_part}
+use Rattle.ug_table.proofs.Shapes.{Settles, settles, Resettles, resettles}
+use Rattle.ug_play.specs.Play.{play, entry_tells_memory, tells_memory, TellsMemory, IsPlayed, names_somebody, NameNobody}
+use Rattle.ug_play.proofs.Answers.{has_want, play_way}
+use Rattle.ug_play.proofs.Wants.{refused, want_more, memory_more, flat_want}
+use Rattle.ug_play.proofs.Played.{TellsWant, played}
 
-abbrev written : Settled × List Entry → List Entry
-written v = v.1
+-- entries that are added tell want of memory just where memory was refused, and the failed calls
+pub record Sums (es : List Entry) (ok : Bool) (ms : List Made) (fs : List Entry) : Type 0 where
+  pub rest : List Entry
+  pub entries : fs ≡ es ++ rest
+  pub wants : tells_memory rest ≡ refused ok ms
+  pub faults : failures_told rest ≡ failures ms
 
-abbrev settled_in : {J : Type 0} → Settled × State J → List Entry
-settled_in v = v.1.entries
+refused_more : (a b x y : Bool) → ((not a || x) || (not b || y)) ≡ (not (a && b) || (x || y))
+refused_more true true true y = refl
+refused_more true true false y = refl
+refused_more true false true y = refl
+refused_more true false false y = refl
+refused_more false b x y = refl
 
-abbrev resettled_in : Settled × Kept → List Entry
-resettled_in v = v.1.entries
-
-abbrev swept_in : {J : Type 0} → State J → List Entry
-swept_in v = v.entries
-
-abbrev reswept_in : Kept → List Entry
-reswept_in v = v.entries
-
-after_write_journals : (name : List ℕ) (number : ℕ) (what : Write) (entries : List Entry) (r : Wrote) (call count : ℕ) → Journals written entries (after_write name number what entries r call count)
-after_write_journals name number what entries wrote.Done call count = record { appends = appends_one entries (entry.Wrote number name what wrote.Done); memory = tt }
-after_write_journals name number what entries wrote.Gone call count = record { appends = appends_more entries (entries ++ entry.Wrote number name what wrote.Gone ∷ []) ((entries ++ entry.Wrote number name what wrote.Gone ∷ []) ++ entry.Gone number name ∷ []) (appends_one entries (entry.Wrote number name what wrote.Gone)) (appends_one (entries ++ entry.Wrote number name what wrote.Gone ∷ []) (entry.Gone number name)); memory = tt }
-after_write_journals name number what entries wrote.Failed call count = record { appends = appends_more entries (entries ++ entry.Wrote number name what wrote.Failed ∷ []) ((entries ++ entry.Wrote number name what wrote.Failed ∷ []) ++ entry.Unsettled name (fault.Call call count) ∷ []) (appends_one entries (entry.Wrote number name what wrote.Failed)) (appends_one (entries ++ entry.Wrote number name what wrote.Failed ∷ []) (entry.Unsettled name (fault.Call call count))); memory = tt }
-
-to_write_journals : (name : List ℕ) (known : Known) (what : Write) (entries : List Entry) → Journals written entries (to_write name known what entries)
-to_write_journals name known what entries =
-    let e : Entry = entry.Intent known.number name what in
-    journals_call written entries (Put known.held.0 what) (λ t. after_write name known.number what (entries ++ e ∷ []) t.answer t.number t.count) (λ a m. m)
-    (λ a. journals_more written entries (entries ++ e ∷ []) (after_write name known.number what (entries ++ e ∷ []) a.answer a.number a.count) (appends_one entries e) (after_write_journals name known.number what (entries ++ e ∷ []) a.answer a.number a.count))
-
-to_value_journals : (name : List ℕ) (known : Known) (entries : List Entry) (a b : Bool) → Journals written entries (to_value name known entries a b)
-to_value_journals name known entries true true = record { appends = appends_none entries; memory = tt }
-to_value_journals name known entries false false = record { appends = appends_none entries; memory = tt }
-to_value_journals name known entries true false = to_write_journals name known (write_of known.verdict) entries
-to_value_journals name known entries false true = to_write_journals name known (write_of known.verdict) entries
-
-valuing_journals : (name : List ℕ) (known : Known) (on : Bool) (entries : List Entry) → Journals written entries (valuing name known on entries)
-unfolding valuing
-valuing_journals name known on entries = to_value_journals name known entries (wants known.verdict) on
-
-to_remove_journals : (name : List ℕ) (known : Known) (file : ℕ) (entries : List Entry) → Journals written entries (to_remove name known file entries)
-to_remove_journals name known file entries =
-    let e : Entry = entry.Intent known.number name write.Remove in
-    let f : Told Wrote → Prog (Settled × List Entry) = λ t. after_write name known.number write.Remove (entries ++ e ∷ []) t.answer t.number t.count in
-    journals_call written entries (Put file write.Remove) (λ t. Ask (Close file) (λ closed. f t)) (λ a m. m)
-    (λ a. journals_call written entries (Close file) (λ closed. f a) (λ b m. m)
-    (λ b. journals_more written entries (entries ++ e ∷ []) (f a) (appends_one entries e) (after_write_journals name known.number write.Remove (entries ++ e ∷ []) a.answer a.number a.count)))
-
-after_hold_journals : (name : List ℕ) (known : Known) (entries : List Entry) (r : RemoveHold) → Journals written entries (after_hold name known entries r)
-after_hold_journals name known entries (hold.Ready file) = to_remove_journals name known file.0 entries
-after_hold_journals name known entries hold.Gone = record { appends = appends_one entries (entry.Gone known.number name); memory = tt }
-after_hold_journals name known entries (hold.Failed call count) = record { appends = appends_one entries (entry.Unsettled name (fault.Call call count)); memory = tt }
-after_hold_journals name known entries hold.Memory = record { appends = appends_one entries (entry.Unsettled name fault.Memory); memory = tt }
-
-removing_journals : (name : List ℕ) (known : Known) (entries : List Entry) → Journals written entries (removing name known entries)
-unfolding removing
-removing_journals name known entries =
-    let p : Prog RemoveHold = holding_remove name known.held.0 in
-    let f : RemoveHold → Prog (Settled × List Entry) = after_hold name known entries in
-    let E : RemoveHold → Type 0 = λ (r : RemoveHold). Unit {0} in
-    let P : RemoveHold → Type 0 = λ (r : RemoveHold). r ≡ hold.Memory in
-    let Q : Settled × List Entry → Type 0 = λ (v : Settled × List Entry). Appends entries v.1 in
-    let N : Settled × List Entry → Type 0 = λ (v : Settled × List Entry). TellsMemory entries v.1 in
-    record {
-      appends = returns_then E Q p f (returns_any p) (λ r u. (after_hold_journals name known entries r).appends);
-      memory = tells_then E P N p f (returns_any p) (tells_holding name known.held.0)
-          (λ r u. (after_hold_journals name known entries r).memory)
-          (λ r e. subst (λ (x : RemoveHold). Returns N (after_hold name known entries x)) (sym e) (memory_one entries (entry.Unsettled name fault.Memory) refl));
-    }
-
-if_to_go_journals : (name : List ℕ) (known : Known) (entries : List Entry) (go : Bool) → Journals written entries (if_to_go name known entries go)
-if_to_go_journals name known entries true = removing_journals name known entries
-if_to_go_journals name known entries false = record { appends = appends_none entries; memory = tt }
-
-after_value_journals : (name : List ℕ) (known : Known) (entries : List Entry) (how : Settled) → Journals written entries (after_value name known entries how)
-after_value_journals name known entries settled.Stands = if_to_go_journals name known entries (is_to_go known)
-after_value_journals name known entries settled.Nobody = record { appends = appends_none entries; memory = tt }
-after_value_journals name known entries (settled.Fault call count) = record { appends = appends_none entries; memory = tt }
-after_value_journals name known entries settled.Memory = record { appends = appends_none entries; memory = tt }
-
-bringing_journals : (name : List ℕ) (known : Known) (on : Bool) (entries : List Entry) → Journals written entries (bringing name known on entries)
-unfolding bringing
-bringing_journals name known on entries = journals_then written written entries (valuing name known on entries) (λ (q : Settled × List Entry). after_value name known q.1 q.0) (valuing_journals name known on entries) (λ q. after_value_journals name known q.1 q.0)
-
-no_room_memory : {J : Type 0} (w : State J) (name : List ℕ) (held : ℕ) → Returns (λ (v : Settled × State J). TellsMemory w.entries v.1.entries) (no_room w name held)
-no_room_memory w name held = λ closed. memory_one w.entries (entry.Unsettled name fault.Memory) refl
-
-judging_journals : {J : Type 0} (later : J) (w : State J) (name : List ℕ) (held : ℕ) (judged : Judged) (on : Bool) (given : Target × Cause) → Journals settled_in w.entries (judging later w name held judged on given)
-judging_journals {J} later w name held judged on given =
-    let e : Entry = judged_entry w name held given in
-    let f : Settled × List Entry → Prog (Settled × State J) = to_keep (record w { next = w.next + 1; judge = later }) (standing_for w name held judged given) in
-    let p : Prog (Settled × List Entry) = bringing name (known_in w held given) on (w.entries ++ e ∷ []) in
-    journals_more settled_in w.entries (w.entries ++ e ∷ []) (judging later w name held judged on given) (appends_one w.entries e)
-    (journals_then written settled_in (w.entries ++ e ∷ []) p f (bringing_journals name (known_in w held given) on (w.entries ++ e ∷ [])) (λ q. record { appends = appends_none q.1; memory = tt }))
-
-admitting_journals : {J : Type 0} (answer : Answers J) (later : Laters J) (name : List ℕ) (present : Bool) (w : State J) (b : Bound) → Journals settled_in w.entries (admitting answer later name present w b)
-unfolding admitting
-admitting_journals answer later name present w b =
-    let judged : Judged = judged_of name b.attrs b.parent in
-    journals_room settled_in w.entries (if_record answer later name present w b)
-    (journals_room settled_in w.entries (if_place answer later name present w b judged)
-    (judging_journals (later w.judge judged (is_none (parent_of name)) present b.on w.standings) w name b.held.0 judged b.on (answer w.judge judged (is_none (parent_of name)) present b.on w.standings))
-    (no_room_memory w name b.held.0))
-    (no_room_memory w name b.held.0)
-
-after_bind_journals : {J : Type 0} (answer : Answers J) (later : Laters J) (name : List ℕ) (present : Bool) (w : State J) (r : Binding) → Journals settled_in w.entries (after_bind answer later name present w r)
-after_bind_journals answer later name present w (bound.Bound b) = admitting_journals answer later name present w b
-after_bind_journals answer later name present w bound.Absent = record { appends = appends_none w.entries; memory = tt }
-after_bind_journals answer later name present w bound.Vanished = record { appends = appends_none w.entries; memory = tt }
-after_bind_journals answer later name present w (bound.Failed call count) = record { appends = appends_one w.entries (entry.Unsettled name (fault.Call call count)); memory = tt }
-after_bind_journals answer later name present w bound.Memory = record { appends = appends_one w.entries (entry.Unsettled name fault.Memory); memory = tt }
-
-entering_journals : {J : Type 0} (answer : Answers J) (later : Laters J) (name : List ℕ) (present : Bool) (w : State J) → Journals settled_in w.entries (entering answer later name present w)
-unfolding entering
-entering_journals {J} answer later name present w =
-    let p : Prog Binding = binding name (parent_of name) in
-    let f : Binding → Prog (Settled × State J) = after_bind answer later name present w in
-    let E : Binding → Type 0 = λ (r : Binding). Unit {0} in
-    let P : Binding → Type 0 = λ (r : Binding). r ≡ bound.Memory in
-    let Q : Settled × State J → Type 0 = λ (v : Settled × State J). Appends w.entries v.1.entries in
-    let N : Settled × State J → Type 0 = λ (v : Settled × State J). TellsMemory w.entries v.1.entries in
-    record {
-      appends = returns_then E Q p f (returns_any p) (λ r u. (after_bind_journals answer later name present w r).appends);
-      memory = tells_then E P N p f (returns_any p) (tells_binding name (parent_of name))
-          (λ r u. (after_bind_journals answer later name present w r).memory)
-          (λ r e. subst (λ (x : Binding). Returns N (after_bind answer later name present w x)) (sym e) (memory_one w.entries (entry.Unsettled name fault.Memory) refl));
-    }
-
-after_known_journals : {J : Type 0} (answer : Answers J) (later : Laters J) (name : List ℕ) (present : Bool) (w : State J) (known : Known) (r : Probe) (call count : ℕ) → Journals settled_in w.entries (after_known answer later name present w known r call count)
-after_known_journals answer later name present w known (probe.Alive on) call count = journals_then written settled_in w.entries (bringing name known on w.entries) (to_mark w name) (bringing_journals name known on w.entries) (λ q. record { appends = appends_none q.1; memory = tt })
-after_known_journals answer later name present w known probe.Gone call count = journals_more settled_in w.entries (w.entries ++ entry.Gone known.number name ∷ []) (entering answer later name present (dropped w name known.number)) (appends_one w.entries (entry.Gone known.number name)) (entering_journals answer later name present (dropped w name known.number))
-after_known_journals answer later name present w known probe.Failed call count = record { appends = appends_one w.entries (entry.Unsettled name (fault.Call call count)); memory = tt }
-
-from_standing_journals : {J : Type 0} (answer : Answers J) (later : Laters J) (name : List ℕ) (present : Bool) (w : State J) (o : Option Known) → Journals settled_in w.entries (from_standing answer later name present w o)
-from_standing_journals answer later name present w (Some known) = journals_call settled_in w.entries (Ask_alive known.held.0) (λ t. after_known answer later name present w known t.answer t.number t.count) (λ a m. m) (λ a. after_known_journals answer later name present w known a.answer a.number a.count)
-from_standing_journals answer later name present w None = entering_journals answer later name present w
-
-pub settling_journals : {J : Type 0} (answer : Answers J) (later : Laters J) (name : List ℕ) (present : Bool) (w : State J) → Journals settled_in w.entries (settling answer later name present w)
-unfolding settling
-settling_journals answer later name present w = from_standing_journals answer later name present w (standing_of name w.standings)
-
-pub settling_all_journals : {J : Type 0} (answer : Answers J) (later : Laters J) (names : List (List ℕ)) (present : Bool) (w : State J) → Journals swept_in w.entries (settling_all answer later names present w)
-settling_all_journals answer later [] present w = record { appends = appends_none w.entries; memory = tt }
-settling_all_journals answer later (name ∷ names) present w = journals_then settled_in swept_in w.entries (settling answer later name present w) (λ p. settling_all answer later names present p.1) (settling_journals answer later name present w) (λ p. settling_all_journals answer later names present p.1)
-
-after_again_journals : (name : List ℕ) (k : Kept) (known : Known) (r : Probe) (call count : ℕ) → Journals resettled_in k.entries (after_again name k known r call count)
-after_again_journals name k known (probe.Alive on) call count = journals_then written resettled_in k.entries (bringing name known on k.entries) (to_keep_mark k name) (bringing_journals name known on k.entries) (λ q. record { appends = appends_none q.1; memory = tt })
-after_again_journals name k known probe.Gone call count = record { appends = appends_one k.entries (entry.Gone known.number name); memory = tt }
-after_again_journals name k known probe.Failed call count = record { appends = appends_one k.entries (entry.Unsettled name (fault.Call call count)); memory = tt }
-
-again_journals : (name : List ℕ) (k : Kept) (o : Option Known) → Journals resettled_in k.entries (again name k o)
-again_journals name k (Some known) = journals_call resettled_in k.entries (Ask_alive known.held.0) (λ t. after_again name k known t.answer t.number t.count) (λ a m. m) (λ a. after_again_journals name k known a.answer a.number a.count)
-again_journals name k None = record { appends = appends_none k.entries; memory = tt }
-
-pub resettling_journals : (name : List ℕ) (k : Kept) → Journals resettled_in k.entries (resettling name k)
-unfolding resettling
-resettling_journals name k = again_journals name k (standing_of name k.standings)
-
-resettling_all_journals : (names : List (List ℕ)) (k : Kept) → Journals reswept_in k.entries (resettling_all names k)
-resettling_all_journals [] k = record { appends = appends_none k.entries; memory = tt }
-resettling_all_journals (name ∷ names) k = journals_then resettled_in reswept_in k.entries (resettling name k) (λ p. resettling_all names p.1) (resettling_journals name k) (λ p. resettling_all_journals names p.1)
-
-unlisted_journals : {J : Type 0} (why : Fault) (w : State J) → Journals swept_in (w.entries ++ entry.UnsettledAll why ∷ []) (unlisted why w)
-unlisted_journals {J} why w =
-    let es : List Entry = w.entries ++ entry.UnsettledAll why ∷ [] in
-    let f : Kept → Prog (State J) = resumed w in
-    journals_then reswept_in swept_in es (resettling_all (names_of w.standings) (kept_of w.standings es)) f (resettling_all_journals (names_of w.standings) (kept_of w.standings es)) (λ k. record { appends = appends_none k.entries; memory = tt })
-
-unlisted_memory : {J : Type 0} (w : State J) → Returns (λ (v : State J). TellsMemory w.entries v.entries) (unlisted fault.Memory w)
-unlisted_memory {J} w =
-    let e : Entry = entry.UnsettledAll fault.Memory in
-    returns_more (λ (v : State J). Appends (w.entries ++ e ∷ []) v.entries) (λ (v : State J). TellsMemory w.entries v.entries) (unlisted fault.Memory w)
-    (λ v x. memory_still w.entries (w.entries ++ e ∷ []) v.entries (memory_one w.entries e refl) x) (unlisted_journals fault.Memory w).appends
-
-after_list_journals : {J : Type 0} (answer : Answers J) (later : Laters J) (w : State J) (r : Listing) (call count : ℕ) → Journals swept_in w.entries (after_list answer later w r call count)
-after_list_journals answer later w (listing.Names names) call count =
-    let ns : List (List ℕ) = in_sweep_order names in
-    journals_room swept_in w.entries (if_room answer later ns w)
-    (journals_more swept_in w.entries (w.entries ++ farewells ns w.standings) (settling_all answer later ns (not w.listed) (marked_listed (parted ns w))) (farewells ns w.standings, refl) (settling_all_journals answer later ns (not w.listed) (marked_listed (parted ns w))))
-    (unlisted_memory w)
-after_list_journals answer later w listing.Failed call count = journals_more swept_in w.entries (w.entries ++ entry.UnsettledAll (fault.Call call count) ∷ []) (unlisted (fault.Call call count) w) (appends_one w.entries (entry.UnsettledAll (fault.Call call count))) (unlisted_journals (fault.Call call count) w)
-after_list_journals answer later w listing.Memory call count = journals_more swept_in w.entries (w.entries ++ entry.UnsettledAll fault.Memory ∷ []) (unlisted fault.Memory w) (appends_one w.entries (entry.UnsettledAll fault.Memory)) (unlisted_journals fault.Memory w)
-
-pub sweeping_journals : {J : Type 0} (answer : Answers J) (later : Laters J) (w : State J) → Journals swept_in w.entries (sweeping answer later w)
-unfolding sweeping
-sweeping_journals {J} answer later w = record {
-  appends = λ a. (after_list_journals answer later w a.answer a.number a.count).appends;
-  memory = (
-    λ a. (after_list_journals answer later w a.answer a.number a.count).memory,
-    λ a m. subst (λ (r : Listing). Returns (λ (v : State J). TellsMemory w.entries v.entries) (after_list answer later w r a.number a.count)) (sym m) (unlisted_memory w),
-  );
+sums_more : {es fs gs : List Entry} {ok more : Bool} {ms ns : List Made} → Sums es ok ms fs → Sums fs more ns gs → Sums es (ok && more) (ms ++ ns) gs
+sums_more {es} {fs} {gs} {ok} {more} {ms} {ns} a b = record {
+  rest = a.rest ++ b.rest;
+  entries = b.entries ∙ ap (λ (v : List Entry). v ++ b.rest) a.entries ∙ append_assoc es a.rest b.rest;
+  wants = memory_more a.rest b.rest ∙ ap (λ (v : Bool). v || tells_memory b.rest) a.wants ∙ ap (λ (v : Bool). refused ok ms || v) b.wants ∙ refused_more ok more (has_want ms) (has_want ns) ∙ sym (ap (λ (v : Bool). not (ok && more) || v) (want_more ms ns));
+  faults = told_more a.rest b.rest ∙ ap (λ (v : List Failure). v ++ failures_told b.rest) a.faults ∙ ap (λ (v : List Failure). failures ms ++ v) b.faults ∙ sym (failures_more ms ns);
 }
 
+sums_none : (es : List Entry) → Sums es true [] es
+sums_none es = record { rest = []; entries = sym (append-nil es); wants = refl; faults = refl }
+
+settling_sums : {J : Type 0} (answer : Answers J) (later : Laters J) (name : List ℕ) (present : Bool) (w : State J) → Ways (settling answer later name present w) (λ ok ms p. Sums w.entries ok ms p.1.entries)
+settling_sums answer later name present w = ways_more (Settles answer later name present w) (λ ok ms p. Sums w.entries ok ms p.1.entries) (settling answer later name present w) (λ ok ms p h. record { rest = h.rest; entries = h.entries; wants = flat_want h.flat; faults = (flat_is_part h.flat).told }) (settles answer later name present w)
+
+settling_all_sums : {J : Type 0} (answer : Answers J) (later : Laters J) (names : List (List ℕ)) (present : Bool) (w : State J) → Ways (settling_all answer later names present w) (λ ok ms v. Sums w.entries ok ms v.entries)
+settling_all_sums answer later [] present w = sums_none w.entries
+settling_all_sums {J} answer later (name ∷ names) present w =
+    ways_next (λ ok ms p. Sums w.entries ok ms p.1.entries) (λ ok ms v. Sums w.entries ok ms v.entries) (settling answer later name present w) (λ (p : Settled × State J). settling_all answer later names present p.1) (settling_sums answer later name present w)
+    (λ ok ms p a. ways_more (λ more ns v. Sums p.1.entries more ns v.entries) (λ more ns v. Sums w.entries (ok && more) (ms ++ ns) v.entries) (settling_all answer later names present p.1) (λ more ns v b. sums_more a b) (settling_all_sums answer later names present p.1))
+
+resettling_sums : (name : List ℕ) (k : Kept) → Ways (resettling name k) (λ ok ms p. Sums k.entries ok ms p.1.entries)
+resettling_sums name k = ways_more (Resettles name k) (λ ok ms p. Sums k.entries ok ms p.1.entries) (resettling name k) (λ ok ms p h. record { rest = h.rest; entries = h.entries; wants = flat_want h.flat; faults = (flat_is_part h.flat).told }) (resettles name k)
+
+resettling_all_sums : (names : List (List ℕ)) (k : Kept) → Ways (resettling_all names k) (λ ok ms v. Sums k.entries ok ms v.entries)
+resettling_all_sums [] k = sums_none k.entries
+resettling_all_sums (name ∷ names) k =
+    ways_next (λ ok ms p. Sums k.entries ok ms p.1.entries) (λ ok ms v. Sums k.entries ok ms v.entries) (resettling name k) (λ (p : Settled × Kept). resettling_all names p.1) (resettling_sums name k)
+    (λ ok ms p a. ways_more (λ more ns v. Sums p.1.entries more ns v.entries) (λ more ns v. Sums k.entries (ok && more) (ms ++ ns) v.entries) (resettling_all names p.1) (λ more ns v b. sums_more a b) (resettling_all_sums names p.1))
+
+unlisted_sums : {J : Type 0} (why : Fault) (w : State J) → Ways (unlisted why w) (λ ok ms v. Sums (w.entries ++ entry.UnsettledAll why ∷ []) ok ms v.entries)
+unlisted_sums {J} why w =
+    let es : List Entry = w.entries ++ entry.UnsettledAll why ∷ [] in
+    ways_last (λ ok ms (k : Kept). Sums es ok ms k.entries) (λ ok ms v. Sums es ok ms v.entries) (resettling_all (names_of w.standings) (kept_of w.standings es)) (resumed w) (λ k. with_kept w k) (λ k. refl) (resettling_all_sums (names_of w.standings) (kept_of w.standings es)) (λ ok ms k h. h)
+
+-- closings tell nothing
+
+abbrev Closed : List Made → Type 0
+Closed ms = (has_want ms ≡ false) × (failures ms ≡ [])
+
+closing_sums : (names : List (List ℕ)) (ss : List Standing) → Ways (closing_unlisted names ss) (Sure (λ ms (r : Unit {0}). Closed ms))
+closing_sums names [] = (refl, (refl, refl))
+closing_sums names (s ∷ ss) = by (lists names s.name) (closing_sums names ss)
+  where
+    by : (b : Bool) → Ways (closing_unlisted names ss) (Sure (λ ms (r : Unit {0}). Closed ms)) → Ways (cond b (closing_unlisted names ss) (Ask (Close s.held.0) (λ closed. closing_unlisted names ss))) (Sure (λ ms (r : Unit {0}). Closed ms))
+    by true more = more
+    by false more = λ closed. more
+
+farewell_by : (b : Bool) (e : Entry) (es : List Entry) → entry_tells_memory e ≡ false → tells_memory es ≡ false → tells_memory (cond b es (e ∷ es)) ≡ false
+farewell_by true e es f h = h
+farewell_by false e es f h = ap (λ (v : Bool). v || tells_memory es) f ∙ h
+
+farewells_calm : (names : List (List ℕ)) (ss : List Standing) → tells_memory (farewells names ss) ≡ false
+farewells_calm names [] = refl
+farewells_calm names (s ∷ ss) = farewell_by (lists names s.name) (entry.Gone s.number s.name) (farewells names ss) refl (farewells_calm names ss)
+
+silent_by : (b : Bool) (number : ℕ) (name : List ℕ) (es : List Entry) → failures_told es ≡ [] → failures_told (cond b es (entry.Gone number name ∷ es)) ≡ []
+silent_by true number name es h = h
+silent_by false number name es h = h
+
+farewells_silent : (names : List (List ℕ)) (ss : List Standing) → failures_told (farewells names ss) ≡ []
+farewells_silent names [] = refl
+farewells_silent names (s ∷ ss) = silent_by (lists names s.name) s.number s.name (farewells names ss) (farewells_silent names ss)
+
+-- the whole sweep
+
+or_true : (b : Bool) → (b || true) ≡ true
+or_true true = refl
+or_true false = refl
+
+if_room_sums : {J : Type 0} (answer : Answers J) (later : Laters J) (names : List (List ℕ)) (call count : ℕ) (found : List (List ℕ)) (w : State J) (room : Bool) → Ways (if_room answer later names w room) (λ ok ms v. Sums w.entries (room && ok) (answered Names (told (listing.Names found) call count) ∷ ms) v.entries)
+if_room_sums {J} answer later names call count found w true =
+    let x : State J = marked_listed (parted names w) in
+    let bye : List Entry = farewells names w.standings in
+    let first : Made = answered Names (told (listing.Names found) call count) in
+    behind_sure (λ ms (r : Unit {0}). Closed ms) (λ ok ms v. Sums w.entries ok (first ∷ ms) v.entries) (closing_unlisted names w.standings) (λ (r : Unit {0}). settling_all answer later names (not w.listed) x) (closing_sums names w.standings)
+    (λ ms r c. ways_more (λ ok ns v. Sums x.entries ok ns v.entries) (λ ok ns v. Sums w.entries ok (first ∷ (ms ++ ns)) v.entries) (settling_all answer later names (not w.listed) x)
+    (λ ok ns v b. record {
+      rest = bye ++ b.rest;
+      entries = b.entries ∙ append_assoc w.entries bye b.rest;
+      wants = memory_more bye b.rest ∙ ap (λ (v : Bool). v || tells_memory b.rest) (farewells_calm names w.standings) ∙ b.wants ∙ sym (ap (λ (v : Bool). not ok || v) (want_more ms ns ∙ ap (λ (v : Bool). v || has_want ns) c.0));
+      faults = told_more bye b.rest ∙ ap (λ (v : List Failure). v ++ failures_told b.rest) (farewells_silent names w.standings) ∙ b.faults ∙ sym (failures_more ms ns ∙ ap (λ (v : List Failure). v ++ failures ns) c.1);
+    })
+    (settling_all_sums answer later names (not w.listed) x))
+if_room_sums {J} answer later names call count found w false =
+    ways_more (λ ok ms v. Sums (w.entries ++ entry.UnsettledAll fault.Memory ∷ []) ok ms v.entries) (λ ok ms v. Sums w.entries false (answered Names (told (listing.Names found) call count) ∷ ms) v.entries) (unlisted fault.Memory w)
+    (λ ok ms v b. record { rest = entry.UnsettledAll fault.Memory ∷ b.rest; entries = b.entries ∙ append_assoc w.entries (entry.UnsettledAll fault.Memory ∷ []) b.rest; wants = refl; faults = b.faults })
+    (unlisted_sums fault.Memory w)
+
+after_list_sums : {J : Type 0} (answer : Answers J) (later : Laters J) (w : State J) (r : Listing) (call count : ℕ) → Ways (after_list answer later w r call count) (λ ok ms v. Sums w.entries ok (answered Names (told r call count) ∷ ms) v.entries)
+after_list_sums answer later w (listing.Names names) call count = λ room. if_room_sums answer later (in_sweep_order names) call count names w room
+after_list_sums answer later w listing.Failed call count =
+    let e : Entry = entry.UnsettledAll (fault.Call call count) in
+    let f : Failure = record { call = call; count = count } in
+    ways_more (λ ok ms v. Sums (w.entries ++ e ∷ []) ok ms v.entries) (λ ok ms v. Sums w.entries ok (answered Names (told listing.Failed call count) ∷ ms) v.entries) (unlisted (fault.Call call count) w)
+    (λ ok ms v b. record { rest = e ∷ b.rest; entries = b.entries ∙ append_assoc w.entries (e ∷ []) b.rest; wants = b.wants; faults = ap (λ (v : List Failure). f ∷ v) b.faults })
+    (unlisted_sums (fault.Call call count) w)
+after_list_sums answer later w listing.Memory call count =
+    let e : Entry = entry.UnsettledAll fault.Memory in
+    ways_more (λ ok ms v. Sums (w.entries ++ e ∷ []) ok ms v.entries) (λ ok ms v. Sums w.entries ok (answered Names (told listing.Memory call count) ∷ ms) v.entries) (unlisted fault.Memory w)
+    (λ ok ms v b. record { rest = e ∷ b.rest; entries = b.entries ∙ append_assoc w.entries (e ∷ []) b.rest; wants = sym (or_true (not ok)); faults = b.faults })
+    (unlisted_sums fault.Memory w)
+
+pub sweeping_sums : {J : Type 0} (answer : Answers J) (later : Laters J) (w : State J) → Ways (sweeping answer later w) (λ ok ms v. Sums w.entries ok ms v.entries)
+unfolding sweeping
+sweeping_sums answer later w = λ t. after_list_sums answer later w t.answer t.number t.count
+
+-- what a script fixes of it
+
 pub sweeping_played : {J : Type 0} (answer : Answers J) (later : Laters J) (w : State J) (s : World) (v : State J) (t : World) → Runs Gives s (sweeping answer later w) v t → IsPlayed (λ (x : State J). TellsMemory w.entries x.entries) (sweeping answer later w) s v t
-sweeping_played {J} answer later w s v t h = played (λ (x : State J). TellsMemory w.entries x.entries) (sweeping answer later w) s v t (sweeping_journals answer later w).memory h
+sweeping_played {J} answer later w s v t h =
+    let T : State J → Type 0 = λ x. TellsMemory w.entries x.entries in
+    played T (sweeping answer later w) s v t (ways_more (λ ok ms x. Sums w.entries ok ms x.entries) (TellsWant T) (sweeping answer later w) (λ ok ms x b e. (b.rest, b.entries, b.wants ∙ e)) (sweeping_sums answer later w)) h
 
-all_tell : (a b : List Entry) → TellsMemory a b → tells_memory b ≡ true
-all_tell a b h = ap tells_memory h.1 ∙ list_any-append entry_tells_memory a h.0 ∙ or_right (tells_memory a) (tells_memory h.0) h.2
+or_left : (a b : Bool) → a ≡ true → (a || b) ≡ true
+or_left a b e = ap (λ (v : Bool). v || b) e
 
--- a sweep, and then what only adds entries: one of them all tells want of memory
-pub event_played : {J D : Type 0} (answer : Answers J) (later : Laters J) (w : State J) (f : State J → Prog D) (of : D → List Entry) (s : World) (r : D) (t : World) → ((v : State J) → Journals of v.entries (f v)) → Runs Gives s (then (sweeping answer later w) f) r t → IsPlayed (λ (x : D). tells_memory (of x) ≡ true) (then (sweeping answer later w) f) s r t
-event_played {J} {D} answer later w f of s r t k h =
-    let p : Prog D = then (sweeping answer later w) f in
-    let j : Journals of w.entries p = journals_then swept_in of w.entries (sweeping answer later w) f (sweeping_journals answer later w) k in
-    played (λ (x : D). tells_memory (of x) ≡ true) p s r t (tells_more (λ (x : D). TellsMemory w.entries (of x)) (λ (x : D). tells_memory (of x) ≡ true) p (λ x m. all_tell w.entries (of x) m) j.memory) h
+-- a sweep, and then some entries: one of them all tells want of memory
+pub event_played : {J D : Type 0} (answer : Answers J) (later : Laters J) (w : State J) (f : State J → Prog D) (g : State J → D) (of : D → List Entry) (end : List Entry) (s : World) (r : D) (t : World) → ((v : State J) → f v ≡ Return (g v)) → ((v : State J) → of (g v) ≡ v.entries ++ end) → Runs Gives s (then (sweeping answer later w) f) r t → IsPlayed (λ (x : D). tells_memory (of x) ≡ true) (then (sweeping answer later w) f) s r t
+event_played {J} {D} answer later w f g of end s r t ends adds h =
+    let T : D → Type 0 = λ x. tells_memory (of x) ≡ true in
+    let tells : (ok : Bool) (ms : List Made) (v : State J) → Sums w.entries ok ms v.entries → TellsWant T ok ms (g v) = λ ok ms v b e.
+    ap tells_memory (adds v) ∙ memory_more v.entries end ∙ or_left (tells_memory v.entries) (tells_memory end) (ap tells_memory b.entries ∙ memory_more w.entries b.rest ∙ ap (λ (x : Bool). tells_memory w.entries || x) (b.wants ∙ e) ∙ or_true (tells_memory w.entries)) in
+    played T (then (sweeping answer later w) f) s r t (ways_last (λ ok ms v. Sums w.entries ok ms v.entries) (TellsWant T) (sweeping answer later w) f g ends (sweeping_sums answer later w) tells) h
+
+-- it tells no want of memory
+pub sure_sweep : {J : Type 0} (answer : Answers J) (later : Laters J) (w : State J) (s : World) → tells_memory w.entries ≡ false → tells_memory (play (sweeping answer later w) s).0.entries ≡ false
+sure_sweep {J} answer later w s n =
+    let k = play_way (λ ok ms v. Sums w.entries ok ms v.entries) (sweeping answer later w) s (sweeping_sums answer later w) in
+    ap tells_memory k.so.entries ∙ memory_more w.entries k.so.rest ∙ ap (λ (b : Bool). b || tells_memory k.so.rest) n ∙ k.so.wants ∙ k.sure
+
+-- and where no call is to fail, it names nobody
+
+pub nobody_more : (es fs : List Entry) → NameNobody es → NameNobody fs → NameNobody (es ++ fs)
+nobody_more es fs a b = list_any-append names_somebody es fs ∙ ap (λ (v : Bool). v || list_any names_somebody fs) a ∙ b
+
+nobody_told : (es : List Entry) → tells_memory es ≡ false → failures_told es ≡ [] → NameNobody es
+nobody_told [] m f = refl
+nobody_told (entry.Unsettled name (fault.Call call count) ∷ es) m f = let none : ⊥ = cc in absurd none
+nobody_told (entry.Unsettled name fault.Memory ∷ es) m f = let none : ⊥ = cc in absurd none
+nobody_told (entry.UnsettledAll (fault.Call call count) ∷ es) m f = let none : ⊥ = cc in absurd none
+nobody_told (entry.UnsettledAll fault.Memory ∷ es) m f = let none : ⊥ = cc in absurd none
+nobody_told (entry.Event number moment ∷ es) m f = nobody_told es m f
+nobody_told (entry.Judged number name held verdict cause ∷ es) m f = nobody_told es m f
+nobody_told (entry.Intent number name what ∷ es) m f = nobody_told es m f
+nobody_told (entry.Wrote number name what outcome ∷ es) m f = nobody_told es m f
+nobody_told (entry.Gone number name ∷ es) m f = nobody_told es m f
+nobody_told (entry.End number ∷ es) m f = nobody_told es m f
+
+pub quiet_sweep : {J : Type 0} (answer : Answers J) (later : Laters J) (w : State J) (s : World) → s.ran_out ≡ false → s.fails ≡ [] → NameNobody w.entries → NameNobody (play (sweeping answer later w) s).0.entries
+quiet_sweep {J} answer later w s o e n =
+    let k = play_way (λ ok ms v. Sums w.entries ok ms v.entries) (sweeping answer later w) s (sweeping_sums answer later w) in
+    subst (λ (v : List Entry). NameNobody v) (sym k.so.entries) (nobody_more w.entries k.so.rest n (nobody_told k.so.rest (k.so.wants ∙ k.sure) (k.so.faults ∙ k.calm o e)))

@@ -5,6 +5,7 @@ use Rattle.ug_kernel.specs.declared.calls.Listing.TheVariants as listing
 use Rattle.ug_kernel.specs.Calls.{Call, Names, Told, Answer}
 use Rattle.ug_itree.specs.Tree.{Runs}
 use Rattle.ug_itree.specs.Along.{Made, answered, Failure, failure, failures, Rises}
+use Rattle.ug_itree.proofs.Ways.{failures_more}
 use Rattle.ug_itree.proofs.Rises.{Counting, along_numbered, along_rises}
 use Rattle.ug_audit.specs.declared.entry.Entry.{Entry}
 use Rattle.ug_audit.specs.declared.entry.Entry.TheVariants as entry
@@ -14,15 +15,8 @@ use Rattle.ug_table.specs.Sweep.{sweeping}
 use Rattle.ug_table.specs.Parts.{failure_in, failures_told, InParts, unlisted_files, AfterListing, TellsFaults}
 use Rattle.ug_table.specs.declared.standing.Standing.{Standing}
 use Rattle.ug_table.proofs.Closings.{closings_calm}
+use Rattle.ug_table.proofs.OnePart.{told_more}
 use Rattle.ug_table.proofs.Parted.{sweeping_goes}
-
-failures_more : (ms ns : List Made) → failures (ms ++ ns) ≡ failures ms ++ failures ns
-failures_more [] ns = refl
-failures_more (m ∷ ms) ns = ap (λ (v : List Failure). failure m.call m.answer ++ v) (failures_more ms ns) ∙ sym (append_assoc (failure m.call m.answer) (failures ms) (failures ns))
-
-pub told_more : (es fs : List Entry) → failures_told (es ++ fs) ≡ failures_told es ++ failures_told fs
-told_more [] fs = refl
-told_more (e ∷ es) fs = ap (λ (v : List Failure). failure_in e ++ v) (told_more es fs) ∙ sym (append_assoc (failure_in e) (failures_told es) (failures_told fs))
 
 -- each failed call is told in its part
 exact_parts : (names : List (List ℕ)) (ss rs : List Standing) (ms : List Made) (es : List Entry) → InParts names ss rs ms es → failures_told es ≡ failures ms

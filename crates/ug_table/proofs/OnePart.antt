@@ -39,6 +39,7 @@ use Rattle.ug_table.specs.declared.standing.Known.{Known}
 use Rattle.ug_table.specs.declared.standing.Settled.{Settled}
 use Rattle.ug_table.specs.declared.standing.Settled.TheVariants as settled
 use Rattle.ug_types.proofs.Elements.{has_cases, has_left, has_right}
+use Rattle.ug_itree.proofs.Ways.{failures_more}
 use Rattle.ug_node.proofs.BindShapes.{told, Came, Reads, No_more, Then_read, Stops, No_descriptors, Read_failed, Read_short, Binds_by, No_such, Open_failed, Open_short, Cut, Probed_gone, Probe_failed, Bound_by, way_binds, Holds_by, Not_there, Not_opened, No_memory, Held_on, Died, Unasked, way_holds}
 use Rattle.ug_table.proofs.Shapes.{Written, Done, Went, Broke, Valued, Same, Set, Unheld, Gone_by, Failed_by, Short_by, Removal, Not_held, Put_on, Carried, By_value, And_removal, Brought, Left_open, Let_go, Opening, Fresh, Lost, Unbound_end, Absent_so, Vanished_so, Failed_so, Short_so, Flat, Unprobed, Tried, Stopped, Unbound, No_place, Judged_so}
 use Rattle.ug_table.proofs.Told.{Each, NamesNone}
@@ -48,11 +49,7 @@ use Rattle.ug_table.proofs.OpenFiles.{files_join, reads_left, valued_left, carri
 
 -- of lists joined
 
-failures_more : (ms ns : List Made) → failures (ms ++ ns) ≡ failures ms ++ failures ns
-failures_more [] ns = refl
-failures_more (m ∷ ms) ns = ap (λ (v : List Failure). failure m.call m.answer ++ v) (failures_more ms ns) ∙ sym (append_assoc (failure m.call m.answer) (failures ms) (failures ns))
-
-told_more : (es fs : List Entry) → failures_told (es ++ fs) ≡ failures_told es ++ failures_told fs
+pub told_more : (es fs : List Entry) → failures_told (es ++ fs) ≡ failures_told es ++ failures_told fs
 told_more [] fs = refl
 told_more (e ∷ es) fs = ap (λ (v : List Failure). failure_in e ++ v) (told_more es fs) ∙ sym (append_assoc (failure_in e) (failures_told es) (failures_told fs))
 

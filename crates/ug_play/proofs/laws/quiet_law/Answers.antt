@@ -1,4 +1,4 @@
-use Rattle.ug_play.proofs.Fine.{quiet_sweep}
+use Rattle.ug_play.proofs.Sweeps.{quiet_sweep}
 use Rattle.ug_play.proofs.laws.quiet_law.Goals as goal
 
 pub returns : goal.returns

@@ -1,0 +1,185 @@
+-- What the simulated kernel answers: never want of memory, and no failure where no call is to fail.
+use Rattle.std.proofs.Common.{◌≡◌, ℕ, nat_le, Bool, true, false, cond, ◌||◌, List, [], ◌∷◌, ◌++◌, length, Option, Some, None, refl, ◌∙◌, ap}
+use Rattle.std.specs.List.{slice_get, list_any}
+use Rattle.ug_kernel.specs.declared.device.Device.{Device}
+use Rattle.ug_kernel.specs.declared.calls.Control.{Control}
+use Rattle.ug_kernel.specs.declared.calls.Attr.{Attr}
+use Rattle.ug_kernel.specs.declared.calls.Attr.TheVariants as attr
+use Rattle.ug_kernel.specs.declared.calls.Write.{Write}
+use Rattle.ug_kernel.specs.declared.calls.Listing.{Listing}
+use Rattle.ug_kernel.specs.declared.calls.Listing.TheVariants as listing
+use Rattle.ug_kernel.specs.declared.calls.Opened.{Opened}
+use Rattle.ug_kernel.specs.declared.calls.Opened.TheVariants as opened
+use Rattle.ug_kernel.specs.declared.calls.ReadOut.{ReadOut}
+use Rattle.ug_kernel.specs.declared.calls.ReadOut.TheVariants as out
+use Rattle.ug_kernel.specs.Calls.{Call, Names, Open, Read, Ask_alive, Put, Close, Answer, Told, failed_listing, failed_open, failed_read, failed_probe, failed_put}
+use Rattle.ug_kernel.specs.Kernel.{Kernel}
+use Rattle.ug_kernel.specs.Called.{within, text_within, read_of}
+use Rattle.ug_itree.specs.Tree.{Prog, Return, Ask, Room}
+use Rattle.ug_itree.specs.Along.{Made, answered, Failure, failure_if, failure, failures}
+use Rattle.ug_itree.proofs.Ways.{Ways}
+use Rattle.ug_sysfs.specs.Devices.{find}
+use Rattle.ug_sysfs.specs.declared.script.Failing.{Failing}
+use Rattle.ug_sysfs.specs.World.{World, answer_of, answer_unless, entered, fate, fate_of, effect, opened_at, read_from, read_at, alive_of, probed_at, put_at, live_held}
+use Rattle.ug_play.specs.Play.{play}
+use Rattle.ug_play.proofs.Plays.{told_unless}
+
+-- answers that are want of memory
+
+abbrev pub short_listing : Listing → Bool
+short_listing (listing.Names names) = false
+short_listing listing.Failed = false
+short_listing listing.Memory = true
+
+abbrev pub short_open : Opened → Bool
+short_open (opened.Token held) = false
+short_open opened.Absent = false
+short_open opened.Failed = false
+short_open opened.Memory = true
+
+abbrev pub short_read : ReadOut → Bool
+short_read (out.Bytes bytes) = false
+short_read out.Absent = false
+short_read out.TooLong = false
+short_read out.Failed = false
+short_read out.Memory = true
+
+abbrev pub is_want : (call : Call) → Answer call → Bool
+is_want Names a = short_listing a.answer
+is_want (Open name control) a = short_open a.answer
+is_want (Read name at) a = short_read a.answer
+is_want (Ask_alive held) a = false
+is_want (Put held write) a = false
+is_want (Close held) a = false
+
+-- one of the calls was answered so
+abbrev pub has_want : List Made → Bool
+has_want ms = list_any (λ (m : Made). is_want m.call m.answer) ms
+
+-- neither want nor failure
+
+abbrev FineOpen : Opened → Type 0
+FineOpen r = (short_open r ≡ false) × (failed_open r ≡ false)
+
+abbrev FineRead : ReadOut → Type 0
+FineRead r = (short_read r ≡ false) × (failed_read r ≡ false)
+
+fine_opened : (control : Control) (o : Option ℕ) (k : Kernel) → FineOpen (opened_at control o k).0
+fine_opened control None k = (refl, refl)
+fine_opened control (Some i) k = (refl, refl)
+
+fine_if : (b : Bool) (bytes : List ℕ) → FineRead (cond b (out.Bytes bytes) out.TooLong)
+fine_if true bytes = (refl, refl)
+fine_if false bytes = (refl, refl)
+
+fine_within : (limit : ℕ) (bytes : List ℕ) → FineRead (within limit bytes)
+fine_within limit bytes = fine_if (nat_le (length bytes) limit) bytes
+
+fine_text : (o : Option (List ℕ)) → FineRead (text_within o)
+fine_text None = (refl, refl)
+fine_text (Some bytes) = fine_within 4096 bytes
+
+fine_of : (at : Attr) (d : Device) → FineRead (read_of at d)
+fine_of attr.Descriptors d = fine_within 131072 d.descriptors
+fine_of attr.Product d = fine_text d.product
+fine_of attr.Serial d = fine_text d.serial
+fine_of attr.Connect d = fine_text d.connect
+
+fine_from : (at : Attr) (o : Option Device) → FineRead (read_from at o)
+fine_from at None = (refl, refl)
+fine_from at (Some d) = fine_of at d
+
+fine_at : (at : Attr) (o : Option ℕ) (ds : List Device) → FineRead (read_at at o ds)
+fine_at at None ds = (refl, refl)
+fine_at at (Some i) ds = fine_from at (slice_get ds i)
+
+fine_alive : (o : Option Device) → failed_probe (alive_of o) ≡ false
+fine_alive None = refl
+fine_alive (Some d) = refl
+
+fine_probed : (o : Option ℕ) (ds : List Device) → failed_probe (probed_at o ds) ≡ false
+fine_probed None ds = refl
+fine_probed (Some i) ds = fine_alive (slice_get ds i)
+
+fine_put_at : (write : Write) (o : Option ℕ) (k : Kernel) → failed_put (put_at write o k).0 ≡ false
+fine_put_at write None k = refl
+fine_put_at write (Some i) k = refl
+
+-- the simulated kernel never wants memory by itself
+
+sure_listing : (f : Option Bool) (k : Kernel) → short_listing (effect f Names k).0 ≡ false
+sure_listing None k = refl
+sure_listing (Some b) k = refl
+
+sure_open : (f : Option Bool) (name : List ℕ) (control : Control) (k : Kernel) → short_open (effect f (Open name control) k).0 ≡ false
+sure_open None name control k = (fine_opened control (find name 0 k.devices) k).0
+sure_open (Some b) name control k = refl
+
+sure_read : (f : Option Bool) (name : List ℕ) (at : Attr) (k : Kernel) → short_read (effect f (Read name at) k).0 ≡ false
+sure_read None name at k = (fine_at at (find name 0 k.devices) k.devices).0
+sure_read (Some b) name at k = refl
+
+never_wants : (b : Bool) (s : World) (call : Call) → is_want call (answer_unless b s call).0 ≡ false
+never_wants b s (Close held) = refl
+never_wants b s (Ask_alive held) = refl
+never_wants b s (Put held write) = refl
+never_wants true s Names = refl
+never_wants true s (Open name control) = refl
+never_wants true s (Read name at) = refl
+never_wants false s Names = sure_listing (fate_of (entered s)) (entered s).kernel
+never_wants false s (Open name control) = sure_open (fate_of (entered s)) name control (entered s).kernel
+never_wants false s (Read name at) = sure_read (fate_of (entered s)) name at (entered s).kernel
+
+-- nor fails, where no call is to fail
+
+none_failed : {X : Type 0} (failed : X → Bool) (t : Told X) → failed t.answer ≡ false → failure_if failed t ≡ []
+none_failed failed t e = ap (λ (b : Bool). let f : Failure = record { call = t.number; count = t.count } in cond b (f ∷ []) []) e
+
+unscheduled : (s : World) → s.fails ≡ [] → fate_of (entered s) ≡ None
+unscheduled s e = ap (λ (fs : List Failing). fate (entered s).calls None fs) e
+
+never_fails : (b : Bool) (s : World) (call : Call) → b ≡ false → s.fails ≡ [] → failure call (answer_unless b s call).0 ≡ []
+never_fails b s (Close held) o e = refl
+never_fails true s Names o e = let none : ⊥ = cc in absurd none
+never_fails true s (Open name control) o e = let none : ⊥ = cc in absurd none
+never_fails true s (Read name at) o e = let none : ⊥ = cc in absurd none
+never_fails true s (Ask_alive held) o e = let none : ⊥ = cc in absurd none
+never_fails true s (Put held write) o e = let none : ⊥ = cc in absurd none
+never_fails false s Names o e = none_failed failed_listing _ (ap (λ (f : Option Bool). failed_listing (effect f Names (entered s).kernel).0) (unscheduled s e))
+never_fails false s (Open name control) o e = none_failed failed_open _ (ap (λ (f : Option Bool). failed_open (effect f (Open name control) (entered s).kernel).0) (unscheduled s e) ∙ (fine_opened control (find name 0 (entered s).kernel.devices) (entered s).kernel).1)
+never_fails false s (Read name at) o e = none_failed failed_read _ (ap (λ (f : Option Bool). failed_read (effect f (Read name at) (entered s).kernel).0) (unscheduled s e) ∙ (fine_at at (find name 0 (entered s).kernel.devices) (entered s).kernel.devices).1)
+never_fails false s (Ask_alive held) o e = none_failed failed_probe _ (ap (λ (f : Option Bool). failed_probe (effect f (Ask_alive held) (entered s).kernel).0) (unscheduled s e) ∙ fine_probed (live_held held (entered s).kernel.held (entered s).kernel.devices) (entered s).kernel.devices)
+never_fails false s (Put held write) o e = none_failed failed_put _ (ap (λ (f : Option Bool). failed_put (effect f (Put held write) (entered s).kernel).0) (unscheduled s e) ∙ fine_put_at write (live_held held (entered s).kernel.held (entered s).kernel.devices) (entered s).kernel)
+
+fails_stay : (b : Bool) (s : World) (call : Call) → s.fails ≡ [] → (answer_unless b s call).1.fails ≡ []
+fails_stay b s (Close held) e = e
+fails_stay false s Names e = e
+fails_stay false s (Open name control) e = e
+fails_stay false s (Read name at) e = e
+fails_stay false s (Ask_alive held) e = e
+fails_stay false s (Put held write) e = e
+fails_stay true s Names e = e
+fails_stay true s (Open name control) e = e
+fails_stay true s (Read name at) e = e
+fails_stay true s (Ask_alive held) e = e
+fails_stay true s (Put held write) e = e
+
+-- the way that the script fixes: room is always there, no answer is want, and where no call is to fail, none does
+pub record Fixed {R : Type 0} (P : Bool → List Made → R → Type 0) (s : World) (r : R) : Type 0 where
+  pub made : List Made
+  pub sure : has_want made ≡ false
+  pub calm : s.ran_out ≡ false → s.fails ≡ [] → failures made ≡ []
+  pub so : P true made r
+
+pub play_way : {R : Type 0} (P : Bool → List Made → R → Type 0) (p : Prog R) (s : World) → Ways p P → Fixed P s (play p s).0
+play_way P (Return value) s w = record { made = []; sure = refl; calm = λ o e. refl; so = w }
+play_way P (Ask call next) s w =
+    let a : Answer call = (answer_of s call).0 in
+    let k = play_way (λ ok ms r. P ok (answered call a ∷ ms) r) (next a) (answer_of s call).1 (w a) in
+    record {
+      made = answered call a ∷ k.made;
+      sure = ap (λ (b : Bool). b || has_want k.made) (never_wants s.ran_out s call) ∙ k.sure;
+      calm = λ o e. ap (λ (v : List Failure). v ++ failures k.made) (never_fails s.ran_out s call o e) ∙ k.calm (told_unless s.ran_out s call o o) (fails_stay s.ran_out s call e);
+      so = k.so;
+    }
+play_way P (Room next) s w = let k = play_way P (next true) s (w true) in record { made = k.made; sure = k.sure; calm = k.calm; so = k.so }
