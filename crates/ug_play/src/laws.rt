@@ -23,6 +23,11 @@ pub fn sweep_law<A: Judge>()
         ⊎ (((rest : List Entry) × (v.entries ≡ w.entries ++ rest) × (tells_memory rest ≡ true)) ⊎ (t.ran_out ≡ true)) }
 {}
 
+/// A sweep that a script fixes tells no want of memory, whatever moves and whichever calls fail.
+pub fn room_law<A: Judge>()
+    ensures { (w : State A.Meaning) (s : World) → tells_memory w.entries ≡ false → tells_memory (play (sweeping A.answer A.later w) s).0.entries ≡ false }
+{}
+
 /// Where no call is to fail, a sweep that the script fixes names nobody as unsettled.
 pub fn quiet_law<A: Judge>()
     ensures { (w : State A.Meaning) (s : World) → s.ran_out ≡ false → s.fails ≡ [] → NameNobody w.entries → NameNobody (play (sweeping A.answer A.later w) s).0.entries }

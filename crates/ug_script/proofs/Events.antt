@@ -1,15 +1,16 @@
 -- An event as the world fixes it.
-use Rattle.std.proofs.Common.{◌≡◌, ℕ, true, false, List, [], Option, Some, ◌∙◌, ap, subst, inl, inr}
+use Rattle.std.proofs.Common.{◌≡◌, ℕ, ◌+◌, ◌++◌, true, false, List, [], ◌∷◌, Option, Some, ◌∙◌, ap, subst, refl, inl, inr}
 use Rattle.std.proofs.lemmas.Bool.{both_ways}
 use Rattle.ug_types.specs.declared.verdict.Moment.{Moment}
 use Rattle.ug_sysfs.specs.World.{World, Gives, begun, over}
 use Rattle.ug_itree.specs.Tree.{Runs}
+use Rattle.ug_audit.specs.declared.entry.Entry.{Entry}
 use Rattle.ug_audit.specs.declared.entry.Entry.TheVariants as entry
+use Rattle.ug_table.specs.State.{State}
 use Rattle.ug_play.specs.Play.{tells_memory, IsPlayed}
-use Rattle.ug_play.proofs.Journals.{appends_one}
 use Rattle.ug_play.proofs.Sweeps.{event_played}
 use Rattle.ug_core.specs.Event as event
-use Rattle.ug_core.specs.Policy.{policy_answer, policy_later}
+use Rattle.ug_core.specs.Policy.{Judging, policy_answer, policy_later}
 use Rattle.ug_core.specs.Event.{DaemonState, handling, has_numbers, RunsEvent}
 use Rattle.std.specs.Io.KnownBytes.{Appends}
 use Rattle.ug_types.specs.Ends.{Puts}
@@ -27,7 +28,10 @@ unfolding handling
 handling_played moment d w e t h = from_begun h.0 h.1 h.2
   where
     from_begun : (u : World) → u ≡ begun w → Runs Gives u (handling moment d) e t → IsPlayed tells (handling moment d) (begun w) e t
-    from_begun u q r = event_played policy_answer policy_later (event.begun d moment) (event.ended d) (λ (x : DaemonState). x.sweep.entries) (begun w) e t (λ v. record { appends = appends_one v.entries (entry.End d.event); memory = tt }) (subst (λ (x : World). Runs Gives x (handling moment d) e t) q r)
+    from_begun u q r =
+        let end : List Entry = entry.End d.event ∷ [] in
+        let made : State Judging → DaemonState = λ v. record { sweep = record v { entries = v.entries ++ end }; event = d.event + 1 } in
+        event_played policy_answer policy_later (event.begun d moment) (event.ended d) made (λ (x : DaemonState). x.sweep.entries) end (begun w) e t (λ v. refl) (λ v. refl) (subst (λ (x : World). Runs Gives x (handling moment d) e t) q r)
 
 abbrev place : Script → DaemonState → World → Option Script × World
 place s d w = (Some (record s { setup = false; moves = []; daemon = d }), over w)

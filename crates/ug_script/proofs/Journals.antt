@@ -21,7 +21,7 @@ use Rattle.ug_table.specs.Sweep.{sweeping}
 use Rattle.ug_table.specs.Laws.{Stand, swept_before, IsAsJudged}
 use Rattle.ug_table.specs.declared.standing.Standing.{Standing}
 use Rattle.ug_play.specs.Play.{play, names_somebody, NameNobody}
-use Rattle.ug_play.proofs.Fine.{quiet_sweep, nobody_more}
+use Rattle.ug_play.proofs.Sweeps.{quiet_sweep, nobody_more}
 use Rattle.ug_play.proofs.Still.{lived_in_play}
 use Rattle.ug_core.specs.Event as event
 use Rattle.ug_core.specs.Policy.{Judging, seeded, policy_answer, policy_later}

@@ -1,5 +1,5 @@
 -- Each line keeps the kernel sound and each standing of a device.
-use Rattle.std.proofs.Common.{◌≡◌, ℕ, ◌+◌, ◌++◌, Bool, true, false, not, is_none, ◌&&◌, if◌then◌else◌, nat_eq, List, [], ◌∷◌, Option, Some, None, Result, Ok, Err, refl, sym, ◌∙◌, subst}
+use Rattle.std.proofs.Common.{◌≡◌, ℕ, ◌+◌, ◌++◌, Bool, true, false, not, is_none, ◌&&◌, if◌then◌else◌, nat_eq, List, [], ◌∷◌, Option, Some, None, Result, Ok, Err, refl, sym, ◌∙◌, ap, ◌||◌, subst}
 use Rattle.std.specs.Cmp.Lexicographic.{pointwise}
 use Rattle.std.proofs.lemmas.Option.{same_Some}
 use Rattle.ug_types.specs.declared.verdict.Moment.{Moment}
@@ -23,7 +23,9 @@ use Rattle.ug_table.specs.Parts.{unsettled_names}
 use Rattle.ug_table.proofs.Swept.{told_swept}
 use Rattle.ug_table.proofs.Faults.{sweeping_tells}
 use Rattle.ug_table.proofs.Once.{told_once}
-use Rattle.ug_play.specs.Play.{play}
+use Rattle.ug_play.specs.Play.{play, tells_memory}
+use Rattle.ug_play.proofs.Wants.{memory_more}
+use Rattle.ug_play.proofs.Sweeps.{sure_sweep}
 use Rattle.ug_play.proofs.Plays.{play_runs, play_told, play_then}
 use Rattle.ug_core.specs.Event as event
 use Rattle.ug_core.specs.Policy.{Judging, policy_answer, policy_later}
@@ -176,11 +178,18 @@ names_once moment d w h =
     let r = once.2 (rw same h.sound) (rw same h.stand) in
     rw (plays_sweep moment d w) (event_names moment d.event v.entries r.0 (v.entries ++ entry.End d.event ∷ []) r.1 refl r.2)
 
+-- a script refuses no memory
+event_sure : (moment : Moment) (d : DaemonState) (w : World) → tells_memory (play (handling moment d) (begun w)).0.sweep.entries ≡ false
+event_sure moment d w =
+    let v : State Judging = (play (sweeping policy_answer policy_later (event.begun d moment)) (begun w)).0 in
+    rw (plays_sweep moment d w) (memory_more v.entries (entry.End d.event ∷ []) ∙ ap (λ (b : Bool). b || false) (sure_sweep policy_answer policy_later (event.begun d moment) (begun w) refl))
+
 pub lawful_event : (moment : Moment) (s : Script) (w : World) → Holds s.daemon.sweep.standings s.daemon.sweep.next w → IsLawfulEvent moment s w
 lawful_event moment s w h = record {
   handled = handled moment s.daemon (arranged s.moves w) (arranged_holds s.daemon.sweep.standings s.daemon.sweep.next s.moves w h);
   faults = tells_event moment s.daemon (arranged s.moves w);
   once = names_once moment s.daemon (arranged s.moves w) (arranged_holds s.daemon.sweep.standings s.daemon.sweep.next s.moves w h);
+  room = event_sure moment s.daemon (arranged s.moves w);
 }
 
 pub stays_lawful : (w : World) → w.ran_out ≡ false → IsKernel w.kernel → StaysLawful w

@@ -1,12 +1,12 @@
 -- What holds wherever a script has come to.
-use Rattle.std.specs.Prelude.{◌≡◌, ℕ, List, [], Some, None}
+use Rattle.std.specs.Prelude.{◌≡◌, ℕ, false, List, [], Some, None}
 use Rattle.ug_types.specs.Elements.{AllDistinct}
 use Rattle.ug_types.specs.declared.verdict.Moment.{Moment}
 use Rattle.ug_kernel.specs.Kernel.{IsKernel}
 use Rattle.ug_sysfs.specs.World.{World, Gives, begun}
 use Rattle.ug_table.specs.Laws.{Stand}
 use Rattle.ug_table.specs.Parts.{unsettled_names}
-use Rattle.ug_play.specs.Play.{play}
+use Rattle.ug_play.specs.Play.{play, tells_memory}
 use Rattle.ug_core.specs.Event.{DaemonState, handling}
 use Rattle.ug_core.specs.Laws.{Handled, TellsEvent}
 use Rattle.ug_lines.specs.Fold.{Going, plays}
@@ -24,11 +24,13 @@ abbrev pub faults_of : World → ℕ
 faults_of w = w.faults
 
 -- An event, if one comes next, is fair and leaves each device settled or named. Its calls are the listing and one part for each
--- name; each that failed is told with its number and its count, and no other is; and no name is told twice as unsettled.
+-- name; each that failed is told with its number and its count, and no other is; no name is told twice as unsettled; and none of its
+-- entries tells want of memory, as a script refuses none.
 pub record IsLawfulEvent (moment : Moment) (s : Script) (w : World) : Type 0 where
   pub handled : Handled moment w.kernel s.daemon (event_of moment s w).1.kernel (event_of moment s w).0
   pub faults : TellsEvent Begins Gives faults_of moment (arranged s.moves w) s.daemon (event_of moment s w).1 (event_of moment s w).0
   pub once : AllDistinct (unsettled_names (event_of moment s w).0.sweep.entries)
+  pub room : tells_memory (event_of moment s w).0.sweep.entries ≡ false
 
 -- the kernel is sound and each standing is of one of its devices; and so is an event, if one comes next
 pub record IsLawful (s : Script) (w : World) : Type 0 where
