@@ -18,7 +18,7 @@ pub record DaemonState : Type 0 where
 
 abbrev pub daemon_of : Daemon → DaemonState
 daemon_of d = record {
-  sweep = record { standings = d.table.standings.items; next = d.table.next; listed = d.table.listed; judge = judging_of d.policy; entries = d.report.entries.entries };
+  sweep = record { standings = d.table.standings; next = d.table.next; listed = d.table.listed; judge = judging_of d.policy; entries = d.report.entries.entries };
   event = d.next_event;
 }
 

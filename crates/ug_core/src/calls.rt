@@ -1,5 +1,5 @@
 // The daemon's calls.
-ghost use Rattle.std.specs.Prelude.{◌≡◌, ◌≤◌, ◌<◌, ◌+◌, ◌-◌, ◌*◌, ◌^◌, [], IsTrue, length, IfOk, vec_len};
+ghost use Rattle.std.specs.Prelude.{◌≡◌, ◌≤◌, ◌<◌, ◌+◌, ◌-◌, ◌*◌, ◌^◌, [], IsTrue, length, IfOk};
 ghost use Rattle.ug_itree.specs.Tree.{Runs};
 ghost use Rattle.ug_core.specs.Event.{daemon_of, IsStarted, moment_of, RunsEvent, handling, has_numbers, is_low};
 ghost use Rattle.ug_core.specs.Policy.{judging_of};
@@ -42,7 +42,7 @@ impl Daemon {
     pub fn has_numbers(&self, sysfs_faults: u64, disk_faults: u64) -> bool
         ensures { result ≡ has_numbers (daemon_of self.now) sysfs_faults disk_faults }
     {
-        low(self.table.next) && low(self.next_event) && low(sysfs_faults) && low(disk_faults)
+        low(self.table.next_number()) && low(self.next_event) && low(sysfs_faults) && low(disk_faults)
     }
 
     /// What was noted of the last event.

@@ -1,5 +1,5 @@
 // The daemon's state.
-ghost use Rattle.std.specs.Prelude.{◌≤◌, ◌+◌, ◌*◌, vec_len};
+ghost use Rattle.std.specs.Prelude.{◌≤◌, ◌+◌, ◌*◌, length};
 
 use crate::policy::Policy;
 use crate::report::Report;
@@ -20,5 +20,5 @@ pub struct Daemon {
     pub table: Table,
     pub next_event: u64,
     pub report: Report,
-    ghost room: { 8 * vec_len table.standings + 64 ≤ report.entries.room },
+    ghost room: { 8 * length table.standings + 64 ≤ report.entries.room },
 }

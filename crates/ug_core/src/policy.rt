@@ -32,7 +32,7 @@ struct AllowedIn<'a> {
 }
 
 impl<'a> Allowed for AllowedIn<'a> {
-    ghost records = { λ a. allowed_records a.table.now.standings.items };
+    ghost records = { λ a. allowed_records a.table.now.standings };
 
     fn any_allowed(&self, query: &Query) -> bool {
         self.table.any_allowed(query)
@@ -49,10 +49,10 @@ fn judge(
     class: Class,
     table: &Table,
 ) -> (Target, Cause)
-    ensures answer { result ≡ by_class classes (find_decider device.now ctx.now (allowed_records table.now.standings.items) rules.old.entries (stream_from rng.old)) class.controller class.present class.on }
-    ensures rules { rules.new.entries ≡ rules_if (asks classes class.controller class.present) rules.old.entries (find_decider device.now ctx.now (allowed_records table.now.standings.items) rules.old.entries (stream_from rng.old)) device.now ctx.now.moment }
+    ensures answer { result ≡ by_class classes (find_decider device.now ctx.now (allowed_records table.now.standings) rules.old.entries (stream_from rng.old)) class.controller class.present class.on }
+    ensures rules { rules.new.entries ≡ rules_if (asks classes class.controller class.present) rules.old.entries (find_decider device.now ctx.now (allowed_records table.now.standings) rules.old.entries (stream_from rng.old)) device.now ctx.now.moment }
     ensures next { rules.new.next ≡ rules.old.next }
-    ensures words { stream_from rng.new ≡ stream_if (asks classes class.controller class.present) (stream_from rng.old) (find_decider device.now ctx.now (allowed_records table.now.standings.items) rules.old.entries (stream_from rng.old)) device.now }
+    ensures words { stream_from rng.new ≡ stream_if (asks classes class.controller class.present) (stream_from rng.old) (find_decider device.now ctx.now (allowed_records table.now.standings) rules.old.entries (stream_from rng.old)) device.now }
 {
     match classes.choice_for(class) {
         Present::Allow => (Target::Allow, cause_for(class.present)),

@@ -7,6 +7,7 @@ pub mod Account
 pub mod Says
 pub mod Joined
 pub mod Orders
+pub mod KeptOrder
 pub mod Steps
 pub mod Written
 pub mod SoFar

@@ -1,9 +1,11 @@
 pub mod Standings
 pub mod Bring
+pub mod Table
 pub mod State
 pub mod Settle
 pub mod Sweep
 pub mod Allowed
 pub mod Laws
+pub mod Order
 pub mod Parts
 pub mod One

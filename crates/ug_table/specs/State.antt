@@ -5,7 +5,7 @@ use Rattle.ug_types.specs.declared.verdict.Target.{Target}
 use Rattle.ug_types.specs.declared.verdict.Cause.{Cause}
 use Rattle.ug_audit.specs.declared.entry.Entry.{Entry}
 use Rattle.ug_table.specs.declared.standing.Standing.{Standing}
-use Rattle.ug_table.specs.declared.table.Table.{Table}
+use Rattle.ug_table.specs.Table.{TableState}
 
 -- a judge's verdicts on a device, which is or isn't a root hub, was or wasn't present at the start, and is on or off, beside
 -- these standings; and what the judge is after them
@@ -24,8 +24,8 @@ pub record State (J : Type 0) : Type 0 where
   pub entries : List Entry
 
 -- the same of the program's values
-abbrev pub state_of : {J : Type 0} → Table → J → List Entry → State J
-state_of table judge entries = record { standings = table.standings.items; next = table.next; listed = table.listed; judge = judge; entries = entries }
+abbrev pub state_of : {J : Type 0} → TableState → J → List Entry → State J
+state_of table judge entries = record { standings = table.standings; next = table.next; listed = table.listed; judge = judge; entries = entries }
 
 abbrev pub noted : {J : Type 0} → State J → Entry → State J
 noted w e = record w { entries = w.entries ++ e ∷ [] }

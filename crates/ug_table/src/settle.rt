@@ -1,9 +1,10 @@
 // The settling of one name.
-ghost use Rattle.std.specs.Prelude.{◌≡◌, ◌≤◌, ◌<◌, ◌+◌, ◌-◌, ◌^◌, vec_len, vec_capacity, is_none, IsSome, OnOk, Some};
+ghost use Rattle.std.specs.Prelude.{◌≡◌, ◌≤◌, ◌<◌, ◌+◌, ◌-◌, ◌^◌, length, vec_capacity, is_none, IsSome, OnOk, Some, None};
 ghost use Rattle.ug_types.specs.Names.{parent_of};
 ghost use Rattle.ug_itree.specs.Tree.{Runs};
 ghost use Rattle.ug_table.specs.State.{state_of, kept_of};
-ghost use Rattle.ug_table.specs.Standings.{numbered};
+ghost use Rattle.ug_table.specs.Order.{KeepsOrder};
+ghost use Rattle.ug_table.specs.Standings.{numbered, standing_of};
 ghost use Rattle.ug_table.specs.One.{resettling_numbered, GoesAsPart, SettlesOne, ResettlesOne, NeedsRoom};
 ghost use Rattle.ug_table.specs.declared.standing.Standing.{Standing};
 ghost use Rattle.ug_table.specs.declared.standing.Settled.TheVariants.{Memory};
@@ -38,9 +39,9 @@ fn is_stands(settled: Settled) -> bool
 
 /// Keeps a new standing, unless its device is gone.
 fn keep(standings: &mut Vec<Standing>, standing: Standing, settled: Settled)
-    requires { vec_len standings.old < vec_capacity standings.old }
+    requires { length standings.old.items < vec_capacity standings.old }
     ensures standings { standings.new.items ≡ kept_standings standings.old.items standing settled }
-    ensures len { vec_len standings.new ≤ vec_len standings.old + 1 }
+    ensures len { length standings.new.items ≤ length standings.old.items + 1 }
 {
     let mut standing = standing;
     match settled {
@@ -57,7 +58,7 @@ fn keep(standings: &mut Vec<Standing>, standing: Standing, settled: Settled)
 /// Notes how a standing was settled.
 fn remember(standings: &mut Vec<Standing>, name: &NodeName, settled: Settled)
     ensures standings { standings.new.items ≡ tried_standings standings.old.items name.now settled }
-    ensures len { vec_len standings.new ≤ vec_len standings.old }
+    ensures len { length standings.new.items ≤ length standings.old.items }
 {
     match settled {
         Settled::Nobody => forget(standings, name),
@@ -68,11 +69,10 @@ fn remember(standings: &mut Vec<Standing>, name: &NodeName, settled: Settled)
 impl Table {
     // Room for one standing more, and for its name.
     fn make_room(&mut self) -> Result<(), NoMemory>
-        ensures standings { self.new.standings.items ≡ self.old.standings.items }
+        ensures standings { self.new.standings ≡ self.old.standings }
         ensures next { self.new.next ≡ self.old.next }
         ensures listed { self.new.listed ≡ self.old.listed }
-        ensures room { OnOk result (vec_len self.new.standings < vec_capacity self.new.standings) }
-        ensures names { OnOk result (vec_len self.new.standings < vec_capacity self.new.names) }
+        ensures room { OnOk result (length self.new.standings < self.new.room) }
     {
         match self.names.reserve(self.standings.len() + 1) {
             Ok(()) => {}
@@ -122,13 +122,13 @@ impl Table {
     ) -> Settled
         requires room { 7 ≤ out.old.entries.now.spare }
         requires next { self.old.next < 2 ^ 64 - 1 }
-        requires place { vec_len self.old.standings < vec_capacity self.old.standings }
-        requires names { vec_len self.old.standings < vec_capacity self.old.names }
+        requires place { length self.old.standings < self.old.room }
+        requires absent { standing_of name.now self.old.standings ≡ None }
         ensures runs { Runs Y.gives sysfs.old (to_judge A.answer A.later name.now present (state_of self.old (A.meaning judge.old) out.old.entries.now.entries) bound.now judged) (result, state_of self.new (A.meaning judge.new) out.new.entries.now.entries) sysfs.new }
         ensures spare { out.old.entries.now.spare ≤ out.new.entries.now.spare + 7 }
         ensures room { out.new.entries.now.room ≡ out.old.entries.now.room }
         ensures same { out.new.entries.ghost_name ≡ out.old.entries.ghost_name }
-        ensures len { vec_len self.new.standings ≤ vec_len self.old.standings + 1 }
+        ensures len { length self.new.standings ≤ length self.old.standings + 1 }
         ensures next { self.new.next ≤ self.old.next + 1 }
     {
         let number = self.next;
@@ -171,11 +171,12 @@ impl Table {
     ) -> Settled
         requires room { 7 ≤ out.old.entries.now.spare }
         requires next { self.old.next < 2 ^ 64 - 1 }
+        requires absent { standing_of name.now self.old.standings ≡ None }
         ensures runs { Runs Y.gives sysfs.old (admitting A.answer A.later name.now present (state_of self.old (A.meaning judge.old) out.old.entries.now.entries) bound) (result, state_of self.new (A.meaning judge.new) out.new.entries.now.entries) sysfs.new }
         ensures spare { out.old.entries.now.spare ≤ out.new.entries.now.spare + 7 }
         ensures room { out.new.entries.now.room ≡ out.old.entries.now.room }
         ensures same { out.new.entries.ghost_name ≡ out.old.entries.ghost_name }
-        ensures len { vec_len self.new.standings ≤ vec_len self.old.standings + 1 }
+        ensures len { length self.new.standings ≤ length self.old.standings + 1 }
         ensures next { self.new.next ≤ self.old.next + 1 }
     {
         let judged = match record_of(alloc, name, &bound.attrs, bound.parent.as_ref()) {
@@ -201,11 +202,12 @@ impl Table {
     ) -> Settled
         requires room { 7 ≤ out.old.entries.now.spare }
         requires next { self.old.next < 2 ^ 64 - 1 }
+        requires absent { standing_of name.now self.old.standings ≡ None }
         ensures runs { Runs Y.gives sysfs.old (entering A.answer A.later name.now present (state_of self.old (A.meaning judge.old) out.old.entries.now.entries)) (result, state_of self.new (A.meaning judge.new) out.new.entries.now.entries) sysfs.new }
         ensures spare { out.old.entries.now.spare ≤ out.new.entries.now.spare + 7 }
         ensures room { out.new.entries.now.room ≡ out.old.entries.now.room }
         ensures same { out.new.entries.ghost_name ≡ out.old.entries.ghost_name }
-        ensures len { vec_len self.new.standings ≤ vec_len self.old.standings + 1 }
+        ensures len { length self.new.standings ≤ length self.old.standings + 1 }
         ensures next { self.new.next ≤ self.old.next + 1 }
     {
         match bind(alloc, sysfs, name) {
@@ -243,12 +245,12 @@ impl Table {
         requires room { 8 ≤ out.old.entries.now.spare }
         requires next { self.old.next < 2 ^ 64 - 1 }
         ensures runs { Runs Y.gives sysfs.old (settling A.answer A.later name.now present (state_of self.old (A.meaning judge.old) out.old.entries.now.entries)) (result, state_of self.new (A.meaning judge.new) out.new.entries.now.entries) sysfs.new }
-        ensures part { GoesAsPart Y.gives Y.calls Y.faults name.now sysfs.old self.old.standings.items out.old.entries.now.entries sysfs.new self.new.standings.items out.new.entries.now.entries result }
+        ensures part { GoesAsPart Y.gives Y.calls Y.faults name.now sysfs.old self.old.standings out.old.entries.now.entries sysfs.new self.new.standings out.new.entries.now.entries result }
         ensures law { SettlesOne Y.told A.answer A.later present name.now sysfs.old (state_of self.old (A.meaning judge.old) out.old.entries.now.entries) sysfs.new (state_of self.new (A.meaning judge.new) out.new.entries.now.entries) result }
         ensures spare { out.old.entries.now.spare ≤ out.new.entries.now.spare + 8 }
         ensures room { out.new.entries.now.room ≡ out.old.entries.now.room }
         ensures same { out.new.entries.ghost_name ≡ out.old.entries.ghost_name }
-        ensures len { vec_len self.new.standings ≤ vec_len self.old.standings + 1 }
+        ensures len { length self.new.standings ≤ length self.old.standings + 1 }
         ensures next { self.new.next ≤ self.old.next + 1 }
     {
         self.settle_name(alloc, sysfs, name, present, judge, out)
@@ -263,16 +265,16 @@ impl Table {
         number: u64,
         out: &mut Journal,
     ) -> Settled
-        requires stands { IsSome (numbered number self.old.standings.items) }
+        requires stands { IsSome (numbered number self.old.standings) }
         requires room { 6 ≤ out.old.entries.now.spare }
-        ensures runs { Runs Y.gives sysfs.old (resettling_numbered number (kept_of self.old.standings.items out.old.entries.now.entries)) (result, kept_of self.new.standings.items out.new.entries.now.entries) sysfs.new }
-        ensures part { (s : Standing) → numbered number self.old.standings.items ≡ Some s → GoesAsPart Y.gives Y.calls Y.faults s.name sysfs.old self.old.standings.items out.old.entries.now.entries sysfs.new self.new.standings.items out.new.entries.now.entries result }
+        ensures runs { Runs Y.gives sysfs.old (resettling_numbered number (kept_of self.old.standings out.old.entries.now.entries)) (result, kept_of self.new.standings out.new.entries.now.entries) sysfs.new }
+        ensures part { (s : Standing) → numbered number self.old.standings ≡ Some s → GoesAsPart Y.gives Y.calls Y.faults s.name sysfs.old self.old.standings out.old.entries.now.entries sysfs.new self.new.standings out.new.entries.now.entries result }
         ensures law { ResettlesOne Y.told number sysfs.old (state_of self.old tt out.old.entries.now.entries) sysfs.new (state_of self.new tt out.new.entries.now.entries) result }
-        ensures memory { (s : Standing) → numbered number self.old.standings.items ≡ Some s → result ≡ Memory → NeedsRoom s.name self.old.standings.items }
+        ensures memory { (s : Standing) → numbered number self.old.standings ≡ Some s → result ≡ Memory → NeedsRoom s.name self.old.standings }
         ensures spare { out.old.entries.now.spare ≤ out.new.entries.now.spare + 6 }
         ensures room { out.new.entries.now.room ≡ out.old.entries.now.room }
         ensures same { out.new.entries.ghost_name ≡ out.old.entries.ghost_name }
-        ensures len { vec_len self.new.standings ≤ vec_len self.old.standings }
+        ensures len { length self.new.standings ≤ length self.old.standings }
         ensures next { self.new.next ≡ self.old.next }
         ensures listed { self.new.listed ≡ self.old.listed }
     {
@@ -288,11 +290,11 @@ impl Table {
         out: &mut Journal,
     ) -> Settled
         requires { 6 ≤ out.old.entries.now.spare }
-        ensures runs { Runs Y.gives sysfs.old (resettling_numbered number (kept_of self.old.standings.items out.old.entries.now.entries)) (result, kept_of self.new.standings.items out.new.entries.now.entries) sysfs.new }
+        ensures runs { Runs Y.gives sysfs.old (resettling_numbered number (kept_of self.old.standings out.old.entries.now.entries)) (result, kept_of self.new.standings out.new.entries.now.entries) sysfs.new }
         ensures spare { out.old.entries.now.spare ≤ out.new.entries.now.spare + 6 }
         ensures room { out.new.entries.now.room ≡ out.old.entries.now.room }
         ensures same { out.new.entries.ghost_name ≡ out.old.entries.ghost_name }
-        ensures len { vec_len self.new.standings ≤ vec_len self.old.standings }
+        ensures len { length self.new.standings ≤ length self.old.standings }
         ensures next { self.new.next ≡ self.old.next }
         ensures listed { self.new.listed ≡ self.old.listed }
     {
@@ -319,7 +321,7 @@ impl Table {
         ensures spare { out.old.entries.now.spare ≤ out.new.entries.now.spare + 8 }
         ensures room { out.new.entries.now.room ≡ out.old.entries.now.room }
         ensures same { out.new.entries.ghost_name ≡ out.old.entries.ghost_name }
-        ensures len { vec_len self.new.standings ≤ vec_len self.old.standings + 1 }
+        ensures len { length self.new.standings ≤ length self.old.standings + 1 }
         ensures next { self.new.next ≤ self.old.next + 1 }
     {
         let known = match find(&self.standings, name) {
@@ -369,7 +371,8 @@ pub fn settle_known<Y: Sysfs>(
     ensures spare { out.old.entries.now.spare ≤ out.new.entries.now.spare + 6 }
     ensures room { out.new.entries.now.room ≡ out.old.entries.now.room }
     ensures same { out.new.entries.ghost_name ≡ out.old.entries.ghost_name }
-    ensures len { vec_len standings.new ≤ vec_len standings.old }
+    ensures keeps { KeepsOrder standings.old.items standings.new.items }
+    ensures len { length standings.new.items ≤ length standings.old.items }
 {
     let known = match find(standings, name) {
         Some(known) => known,

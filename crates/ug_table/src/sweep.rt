@@ -1,9 +1,10 @@
 // The sweep over all devices.
-ghost use Rattle.std.specs.Prelude.{◌≡◌, ◌≤◌, ◌<◌, ◌+◌, ◌-◌, ◌*◌, ◌^◌, ◌++◌, [], min, length, vec_len, vec_capacity};
+ghost use Rattle.std.specs.Prelude.{◌≡◌, ◌≤◌, ◌<◌, ◌+◌, ◌-◌, ◌*◌, ◌^◌, ◌++◌, [], min, length, vec_capacity};
 ghost use Rattle.std.specs.List.{filter};
 ghost use Rattle.ug_types.specs.Sweep.{in_sweep_order};
 ghost use Rattle.ug_itree.specs.Tree.{Runs};
 ghost use Rattle.ug_table.specs.State.{state_of, kept_of};
+ghost use Rattle.ug_table.specs.Order.{KeepsOrder};
 ghost use Rattle.ug_table.specs.Standings.{lists, farewells};
 ghost use Rattle.ug_table.specs.Sweep.{settling_all, resettling_all, closing_unlisted, parted, unlisted, sweeping, names_of};
 ghost use Rattle.ug_table.specs.Laws.{Sweeps};
@@ -55,7 +56,7 @@ fn close_unlisted<Y: Sysfs>(standings: &[Standing], sysfs: &mut Y, names: &[Node
 
 fn retain_listed(standings: &mut Vec<Standing>, names: &[NodeName])
     ensures standings { standings.new.items ≡ filter (λ s. lists names.now s.name) standings.old.items }
-    ensures len { vec_len standings.new ≤ vec_len standings.old }
+    ensures len { length standings.new.items ≤ length standings.old.items }
 {
     standings.retain(|s| has(names, &s.name));
 }
@@ -86,7 +87,8 @@ fn resettle_all<Y: Sysfs>(
     ensures spare { out.old.entries.now.spare ≤ out.new.entries.now.spare + 6 * length names.now }
     ensures room { out.new.entries.now.room ≡ out.old.entries.now.room }
     ensures same { out.new.entries.ghost_name ≡ out.old.entries.ghost_name }
-    ensures len { vec_len standings.new ≤ vec_len standings.old }
+    ensures keeps { KeepsOrder standings.old.items standings.new.items }
+    ensures len { length standings.new.items ≤ length standings.old.items }
 {
     for name in names {
         let _settled = settle_known(alloc, standings, sysfs, name, out);
@@ -96,13 +98,13 @@ fn resettle_all<Y: Sysfs>(
 impl Table {
     /// Drops the standings of other names than these.
     fn part<A: Judge>(&mut self, names: &[NodeName], judge: &A, out: &mut Journal)
-        requires { vec_len self.old.standings ≤ out.old.entries.now.spare }
+        requires { length self.old.standings ≤ out.old.entries.now.spare }
         ensures state { state_of self.new (A.meaning judge.now) out.new.entries.now.entries ≡ parted names.now (state_of self.old (A.meaning judge.now) out.old.entries.now.entries) }
-        ensures spare { out.old.entries.now.spare ≤ out.new.entries.now.spare + vec_len self.old.standings }
+        ensures spare { out.old.entries.now.spare ≤ out.new.entries.now.spare + length self.old.standings }
         ensures room { out.new.entries.now.room ≡ out.old.entries.now.room }
         ensures same { out.new.entries.ghost_name ≡ out.old.entries.ghost_name }
         ensures next { self.new.next ≡ self.old.next }
-        ensures len { vec_len self.new.standings ≤ vec_len self.old.standings }
+        ensures len { length self.new.standings ≤ length self.old.standings }
     {
         bid(&self.standings, names, out);
         retain_listed(&mut self.standings, names);
@@ -126,7 +128,7 @@ impl Table {
         ensures spare { out.old.entries.now.spare ≤ out.new.entries.now.spare + 8 * length names.now }
         ensures room { out.new.entries.now.room ≡ out.old.entries.now.room }
         ensures same { out.new.entries.ghost_name ≡ out.old.entries.ghost_name }
-        ensures len { vec_len self.new.standings ≤ vec_len self.old.standings + length names.now }
+        ensures len { length self.new.standings ≤ length self.old.standings + length names.now }
     {
         for name in names {
             let _settled = self.settle(alloc, sysfs, name, present, judge, out);
@@ -143,13 +145,13 @@ impl Table {
         judge: &A,
         out: &mut Journal,
     )
-        requires { 6 * vec_len self.old.standings + 2 ≤ out.old.entries.now.spare }
+        requires { 6 * length self.old.standings + 2 ≤ out.old.entries.now.spare }
         ensures runs { Runs Y.gives sysfs.old (unlisted fault (state_of self.old (A.meaning judge.now) out.old.entries.now.entries)) (state_of self.new (A.meaning judge.now) out.new.entries.now.entries) sysfs.new }
         ensures next { self.new.next ≡ self.old.next }
         ensures spare { 0 < out.new.entries.now.spare }
         ensures room { out.new.entries.now.room ≡ out.old.entries.now.room }
         ensures same { out.new.entries.ghost_name ≡ out.old.entries.ghost_name }
-        ensures len { vec_len self.new.standings ≤ vec_len self.old.standings }
+        ensures len { length self.new.standings ≤ length self.old.standings }
     {
         out.push(Entry::UnsettledAll { fault });
         self.names.clear();
@@ -166,12 +168,12 @@ impl Table {
         judge: &mut A,
         out: &mut Journal,
     )
-        requires room { 8 * vec_len self.old.standings + 2 ≤ out.old.entries.now.spare }
+        requires room { 8 * length self.old.standings + 2 ≤ out.old.entries.now.spare }
         requires next { self.old.next + 65536 < 2 ^ 64 }
         ensures runs { Runs Y.gives sysfs.old (sweeping A.answer A.later (state_of self.old (A.meaning judge.old) out.old.entries.now.entries)) (state_of self.new (A.meaning judge.new) out.new.entries.now.entries) sysfs.new }
         ensures next { self.new.next ≤ self.old.next + 65536 }
         ensures spare { 0 < out.new.entries.now.spare }
-        ensures room { 8 * vec_len self.old.standings + 64 ≤ out.old.entries.now.room → 8 * vec_len self.new.standings + 64 ≤ out.new.entries.now.room }
+        ensures room { 8 * length self.old.standings + 64 ≤ out.old.entries.now.room → 8 * length self.new.standings + 64 ≤ out.new.entries.now.room }
         ensures same { out.new.entries.ghost_name ≡ out.old.entries.ghost_name }
         ensures swept { Sweeps Y.told A.answer A.later sysfs.old (state_of self.old (A.meaning judge.old) out.old.entries.now.entries) sysfs.new (state_of self.new (A.meaning judge.new) out.new.entries.now.entries) }
         ensures once { NamesOnce Y.told sysfs.old (state_of self.old (A.meaning judge.old) out.old.entries.now.entries) sysfs.new (state_of self.new (A.meaning judge.new) out.new.entries.now.entries) }
@@ -188,12 +190,12 @@ impl Table {
         judge: &mut A,
         out: &mut Journal,
     )
-        requires room { 8 * vec_len self.old.standings + 2 ≤ out.old.entries.now.spare }
+        requires room { 8 * length self.old.standings + 2 ≤ out.old.entries.now.spare }
         requires next { self.old.next + 65536 < 2 ^ 64 }
         ensures runs { Runs Y.gives sysfs.old (sweeping A.answer A.later (state_of self.old (A.meaning judge.old) out.old.entries.now.entries)) (state_of self.new (A.meaning judge.new) out.new.entries.now.entries) sysfs.new }
         ensures next { self.new.next ≤ self.old.next + 65536 }
         ensures spare { 0 < out.new.entries.now.spare }
-        ensures room { 8 * vec_len self.old.standings + 64 ≤ out.old.entries.now.room → 8 * vec_len self.new.standings + 64 ≤ out.new.entries.now.room }
+        ensures room { 8 * length self.old.standings + 64 ≤ out.old.entries.now.room → 8 * length self.new.standings + 64 ≤ out.new.entries.now.room }
         ensures same { out.new.entries.ghost_name ≡ out.old.entries.ghost_name }
     {
         let names = match sysfs.list(alloc) {

@@ -1,7 +1,8 @@
 // The list of standings, in sweep order of their names.
-ghost use Rattle.std.specs.Prelude.{◌≡◌, ◌↔◌, ◌≤◌, ◌<◌, ◌+◌, ◌++◌, [], map, length, vec_len, vec_capacity, false, option_copied, IsNone};
+ghost use Rattle.std.specs.Prelude.{◌≡◌, ◌↔◌, ◌≤◌, ◌<◌, ◌+◌, ◌++◌, [], map, length, vec_capacity, false, option_copied, IsNone};
 ghost use Rattle.ug_types.specs.Elements.{Has};
 ghost use Rattle.ug_table.specs.declared.standing.Standing.{Standing};
+ghost use Rattle.ug_table.specs.Order.{StandInOrder, IsNextNumbered, is_nearer};
 ghost use Rattle.std.specs.List.{filter, list_any};
 ghost use Rattle.ug_match.specs.Queries.{query_matches};
 ghost use Rattle.ug_table.specs.Allowed.{allowed_of, allowed_records};
@@ -10,24 +11,37 @@ ghost use Rattle.ug_table.specs.Standings.{known_of, standing_of, numbered, with
 use crate::bring::is_reject;
 use crate::standing::{Known, Standing};
 use std::alloc::Global;
+use std::marker::Model;
 use ug_match::matches;
 use ug_types::{Judged, NodeName, Query, Target};
 
-/// The standings, the number of the next, and whether a listing has succeeded.
+/// The standings, seen as their list in sweep order of their names, the number of the next, whether a listing has
+/// succeeded, and for how many standings there is room.
 #[derive(Drop)]
 pub struct Table {
-    pub standings: Vec<Standing>,
-    pub next: u64,
-    pub listed: bool,
-    /// Room for the names of all standings.
-    pub names: Vec<NodeName>,
-    ghost room: { vec_len standings ≤ vec_capacity names },
+    pub(crate) standings: Vec<Standing>,
+    pub(crate) next: u64,
+    pub(crate) listed: bool,
+    // Room for the names of all standings.
+    pub(crate) names: Vec<NodeName>,
+}
+
+impl Model for Table {
+    ghost use Rattle.std.specs.Prelude.{◌≤◌, length, min, vec_capacity};
+    ghost use Rattle.ug_table.specs.Table.{TableState};
+    ghost use Rattle.ug_table.specs.Order.{StandInOrder};
+
+    ghost Value = { TableState };
+
+    ghost view = { λ t. record { standings = t.standings.items; next = t.next; listed = t.listed; room = min (vec_capacity t.standings) (vec_capacity t.names) } };
+
+    ghost invariant = { λ t. StandInOrder t.next t.standings.items × (length t.standings.items ≤ vec_capacity t.names) };
 }
 
 impl Table {
     /// No standing. It takes no memory.
     pub fn new(alloc: Global) -> Table
-        ensures standings { result.standings.items ≡ [] }
+        ensures standings { result.standings ≡ [] }
         ensures next { result.next ≡ 1 }
         ensures listed { result.listed ≡ false }
     {
@@ -39,21 +53,66 @@ impl Table {
         }
     }
 
+    /// Whether a listing has succeeded.
+    pub fn listed(&self) -> bool
+        ensures { result ≡ self.now.listed }
+    {
+        self.listed
+    }
+
+    /// The number of the next standing: numbers begin with 1, and each is given out once.
+    pub fn next_number(&self) -> u64
+        ensures next { result ≡ self.now.next }
+        ensures standings { StandInOrder result self.now.standings }
+    {
+        self.next
+    }
+
     /// The standing of that number. It is none exactly where no standing has it.
     pub fn standing(&self, number: u64) -> Option<&Standing>
-        ensures value { option_copied result ≡ numbered number self.now.standings.items }
-        ensures none { IsNone result ↔ ((s : Standing) → Has self.now.standings.items s → s.number ≡ number → ⊥) }
+        ensures value { option_copied result ≡ numbered number self.now.standings }
+        ensures none { IsNone result ↔ ((s : Standing) → Has self.now.standings s → s.number ≡ number → ⊥) }
     {
         find_numbered(&self.standings, number)
+    }
+
+    /// The standing with the least number above that one. From 0 on, it leads to each standing in the order of their
+    /// numbers.
+    pub fn standing_after(&self, number: u64) -> Option<&Standing>
+        ensures { IsNextNumbered self.now.standings number (option_copied result) }
+    {
+        find_next(&self.standings, number)
     }
 
     /// Whether a query matches a settled device whose verdict is to allow it. A malformed device matches none. It takes
     /// no memory.
     pub fn any_allowed(&self, query: &Query) -> bool
-        ensures { result ≡ list_any (query_matches query.now) (allowed_records self.now.standings.items) }
+        ensures { result ≡ list_any (query_matches query.now) (allowed_records self.now.standings) }
     {
         has_allowed(&self.standings, query)
     }
+}
+
+// Whether the number of a standing is above that one, and below that of the standing that was found.
+fn is_nearer(s: &Standing, number: u64, found: Option<&Standing>) -> bool
+    ensures { result ≡ is_nearer number (option_copied found.entry) s.now }
+{
+    match found {
+        Some(other) => number < s.number && s.number < other.number,
+        None => number < s.number,
+    }
+}
+
+fn find_next(standings: &[Standing], number: u64) -> Option<&Standing>
+    ensures { IsNextNumbered standings.now number (option_copied result) }
+{
+    let mut next: Option<&Standing> = None;
+    for s in standings {
+        if is_nearer(s, number, next) {
+            next = Some(s);
+        }
+    }
+    next
 }
 
 fn find_numbered(standings: &[Standing], number: u64) -> Option<&Standing>
@@ -106,7 +165,7 @@ pub fn find(standings: &[Standing], name: &NodeName) -> Option<Known>
 /// Drops the standing of a name.
 pub fn forget(standings: &mut Vec<Standing>, name: &NodeName)
     ensures standings { standings.new.items ≡ without name.now standings.old.items }
-    ensures len { vec_len standings.new ≤ vec_len standings.old }
+    ensures len { length standings.new.items ≤ length standings.old.items }
 {
     standings.retain(|s| s.name != *name);
 }
@@ -153,9 +212,9 @@ fn place_of(standings: &[Standing], name: &NodeName) -> usize
 
 /// Puts a standing in its place, for which there is room.
 pub fn put_in(standings: &mut Vec<Standing>, standing: Standing)
-    requires { vec_len standings.old < vec_capacity standings.old }
+    requires { length standings.old.items < vec_capacity standings.old }
     ensures standings { standings.new.items ≡ with_standing standing standings.old.items }
-    ensures len { vec_len standings.new ≡ vec_len standings.old + 1 }
+    ensures len { length standings.new.items ≡ length standings.old.items + 1 }
 {
     let at = place_of(standings, &standing.name);
     let _done = standings.insert(at, standing);

@@ -9,5 +9,6 @@ loop-name-preserved g c = record {
   spare = omega (arith, c.settle_known-settled.ensures.spare);
   space = c.settle_known-settled.ensures.room ∙ c.loop-name.invariant.space;
   same = c.settle_known-settled.ensures.same ∙ c.loop-name.invariant.same;
+  keeps = λ next o. c.settle_known-settled.ensures.keeps next (c.loop-name.invariant.keeps next o);
   len = omega (arith, c.settle_known-settled.ensures.len);
 }

@@ -1,7 +1,8 @@
-use Rattle.std.proofs.Common.{◌≡◌, ◌+◌, ◌-◌, ◌*◌, ◌≤◌, length, drop, vec_len}
+use Rattle.std.proofs.Common.{◌≡◌, ◌+◌, ◌-◌, ◌*◌, ◌≤◌, length, drop}
 use Rattle.ug_itree.specs.Tree.{Runs}
 use Rattle.ug_table.specs.State.{Kept, kept_of}
 use Rattle.ug_table.specs.Sweep.{resettling_all}
+use Rattle.ug_table.specs.Order.{KeepsOrder}
 use Rattle.ug_table.proofs.sweep.resettle_all.Given as goal
 
 -- a run of what is left ends a run of the whole
@@ -12,5 +13,6 @@ invariant-loop-name g l = record {
   spare : l.fn.out.entries.now.spare ≤ l.out.entries.now.spare + 6 * l.name-index;
   space : l.out.entries.now.room ≡ l.fn.out.entries.now.room;
   same : l.out.entries.ghost_name ≡ l.fn.out.entries.ghost_name;
-  len : vec_len l.standings ≤ vec_len l.fn.standings;
+  keeps : KeepsOrder l.fn.standings.items l.standings.items;
+  len : length l.standings.items ≤ length l.fn.standings.items;
 }

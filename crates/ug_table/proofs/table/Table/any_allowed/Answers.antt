@@ -1,10 +1,15 @@
 use Rattle.std.proofs.Common.{List, ◌∙◌, ap}
 use Rattle.std.specs.List.{list_any}
 use Rattle.ug_match.specs.Queries.{query_matches}
-use Rattle.ug_table.specs.Allowed.{allowed_of}
+use Rattle.ug_table.specs.Allowed.{allowed_of, allowed_records}
+use Rattle.ug_table.specs.Table.{TableState}
 use Rattle.ug_table.specs.declared.standing.Standing.{Standing}
 use Rattle.ug_table.proofs.Allowed.{records_any}
 use Rattle.ug_table.proofs.table.Table.any_allowed.Goals as goal
 
 pub returns : goal.returns
-returns c = c.has_allowed.ensures ∙ ap (λ (v : List Standing). list_any (λ (s : Standing). list_any (query_matches c.args.query.now) (allowed_of s.settled s.verdict s.judged)) v) c.deref.ensures.value ∙ records_any c.args.query.now c.args.self.now.standings.items
+returns c =
+    c.has_allowed.ensures
+    ∙ ap (λ (v : List Standing). list_any (λ (s : Standing). list_any (query_matches c.args.query.now) (allowed_of s.settled s.verdict s.judged)) v) c.deref.ensures.value
+    ∙ records_any c.args.query.now c.self.inside.standings.items
+    ∙ ap (λ (v : TableState). list_any (query_matches c.args.query.now) (allowed_records v.standings)) c.self.view_is

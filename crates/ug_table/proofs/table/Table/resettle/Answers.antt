@@ -18,7 +18,7 @@ returns-clause-law g c =
     let h = c.settle_numbered in
     let w : State (Unit {0}) = state_of c.args.self.now tt c.args.out.now.entries.now.entries in
     subst (λ (v : State (Unit {0})). ResettlesOne g.Y.Sysfs.told c.args.number c.args.sysfs.now w h.new.sysfs v h.result)
-    (same_rest h.new.self.standings.items _ _ _ _ h.new.out.entries.now.entries h.ensures.next h.ensures.listed)
+    (same_rest h.new.self.standings _ _ _ _ h.new.out.entries.now.entries h.ensures.next h.ensures.listed)
     (told_resettles g.Y.Sysfs.gives g.Y.Sysfs.told g.met.Y.Sysfs.did c.args.number _ w _ _ h.ensures.runs)
 
 pub returns-clause-memory : goal.returns-clause-memory

@@ -1,4 +1,4 @@
-use Rattle.std.proofs.Common.{◌≡◌, ◌+◌, ◌-◌, ◌*◌, ◌<◌, ◌≤◌, ◌^◌, length, drop, vec_len}
+use Rattle.std.proofs.Common.{◌≡◌, ◌+◌, ◌-◌, ◌*◌, ◌<◌, ◌≤◌, ◌^◌, length, drop}
 use Rattle.ug_itree.specs.Tree.{Runs}
 use Rattle.ug_table.specs.State.{State, state_of}
 use Rattle.ug_table.specs.Sweep.{settling_all}
@@ -17,6 +17,6 @@ invariant-loop-name g l =
       spare : l.fn.out.entries.now.spare ≤ l.out.entries.now.spare + 8 * l.name-index;
       space : l.out.entries.now.room ≡ l.fn.out.entries.now.room;
       same : l.out.entries.ghost_name ≡ l.fn.out.entries.ghost_name;
-      len : vec_len l.self.standings ≤ vec_len l.fn.self.standings + l.name-index;
+      len : length l.self.standings ≤ length l.fn.self.standings + l.name-index;
       most : l.self.next ≤ l.fn.self.next + l.name-index;
     }
