@@ -42,7 +42,7 @@ step_stays t ds i d at h =
     let result : set ds i (felled t (take i ds) d) ≡ ds = ap (set ds i) (same ∙ sym element) ∙ set-get_or ds i d in
     put t ds i d at ∙ ap (λ (xs : List Device). fall t (take (i + 1) xs) (drop (i + 1) xs)) result
 
-at_place : (ds : List Device) (i : ℕ) → i < length ds → (d : Device) × (slice_get ds i ≡ Some d)
+pub at_place : (ds : List Device) (i : ℕ) → i < length ds → (d : Device) × (slice_get ds i ≡ Some d)
 at_place [] i lt = absurd (omega arith)
 at_place (d ∷ ds) zero lt = (d, refl)
 at_place (d ∷ ds) (suc i) lt = at_place ds i (omega arith)

@@ -4,7 +4,7 @@ use Rattle.std.proofs.lemmas.Bool.{eq-eqb, ne_eqb}
 use Rattle.ug_sysfs.specs.declared.script.Failing.{Failing}
 use Rattle.ug_sysfs.specs.World.{fate}
 
-fate_push : (n : ℕ) (o : Option Bool) (fs : List Failing) (f : Failing) → fate n o (fs ++ f ∷ []) ≡ cond (eqb f.call n) (Some f.effect) (fate n o fs)
+pub fate_push : (n : ℕ) (o : Option Bool) (fs : List Failing) (f : Failing) → fate n o (fs ++ f ∷ []) ≡ cond (eqb f.call n) (Some f.effect) (fate n o fs)
 fate_push n o [] f = refl
 fate_push n o (g ∷ fs) f = fate_push n (cond (eqb g.call n) (Some g.effect) o) fs f
 

@@ -14,37 +14,31 @@ use Rattle.ug_sysfs.specs.declared.roster.Roster.TheInside.{Inside}
 use Rattle.ug_sysfs.specs.Devices.{find, with_gone, gone_in}
 use Rattle.ug_sysfs.specs.World.{switched_to, switched}
 use Rattle.ug_sysfs.specs.Indexed.{IsDistinct, IsIndexed}
-use Rattle.ug_sysfs.proofs.Finds.{find_born, find_gone, find_switched, distinct_push, distinct_gone, distinct_switched, live_count_born, live_count_gone}
+use Rattle.ug_sysfs.proofs.Finds.{find_born, find_gone, find_switched, distinct_push, distinct_gone, distinct_switched}
 
-pub indexed_born : (r s : Inside) (d : Device) → IsIndexed r → 0 < r.room → d.gone ≡ false → find d.name 0 r.all.items ≡ None → ((q : List ℕ) → get (pointwise nat_eq) s.index q ≡ cond (pointwise nat_eq d.name q) (Some (length r.all.items)) (get (pointwise nat_eq) r.index q)) → s.all.items ≡ r.all.items ++ d ∷ [] → s.live ≡ r.live + 1 → s.room ≡ r.room - 1 → vec_capacity s.all ≡ vec_capacity r.all → spare r.index ≤ spare s.index + 1 → IsIndexed s
-indexed_born r s d h lt g fresh updates items live room capacity left = record {
+pub indexed_born : (r s : Inside) (d : Device) → IsIndexed r → 0 < r.room → d.gone ≡ false → find d.name 0 r.all.items ≡ None → ((q : List ℕ) → get (pointwise nat_eq) s.index q ≡ cond (pointwise nat_eq d.name q) (Some (length r.all.items)) (get (pointwise nat_eq) r.index q)) → s.all.items ≡ r.all.items ++ d ∷ [] → s.room ≡ r.room - 1 → vec_capacity s.all ≡ vec_capacity r.all → spare r.index ≤ spare s.index + 1 → IsIndexed s
+indexed_born r s d h lt g fresh updates items room capacity left = record {
   index = λ q. updates q ∙ ap (λ o. cond (pointwise nat_eq d.name q) (Some (length r.all.items)) o) (h.index q) ∙ sym (find_born q r.all.items d g fresh) ∙ ap (find q 0) (sym items);
   distinct = subst IsDistinct (sym items) (distinct_push r.all.items d h.distinct fresh);
-  live = live ∙ ap (λ (n : ℕ). n + 1) h.live ∙ sym (live_count_born r.all.items d g) ∙ ap live_count (sym items);
   places = omega (arith, h.places, ap length items, length-append r.all.items (d ∷ []));
   entries = omega (arith, h.entries);
 }
 
-pub indexed_gone : (r s : Inside) (i : ℕ) (d : Device) → IsIndexed r → slice_get r.all.items i ≡ Some d → d.gone ≡ false → ((q : List ℕ) → get (pointwise nat_eq) s.index q ≡ cond (pointwise nat_eq d.name q) None (get (pointwise nat_eq) r.index q)) → s.all.items ≡ set r.all.items i (record d { gone = true }) → s.live ≡ r.live - 1 → s.room ≡ r.room → vec_capacity s.all ≡ vec_capacity r.all → spare r.index ≤ spare s.index → IsIndexed s
-indexed_gone r s i d h at g updates items live room capacity left = record {
+pub indexed_gone : (r s : Inside) (i : ℕ) (d : Device) → IsIndexed r → slice_get r.all.items i ≡ Some d → d.gone ≡ false → ((q : List ℕ) → get (pointwise nat_eq) s.index q ≡ cond (pointwise nat_eq d.name q) None (get (pointwise nat_eq) r.index q)) → s.all.items ≡ set r.all.items i (record d { gone = true }) → s.room ≡ r.room → vec_capacity s.all ≡ vec_capacity r.all → spare r.index ≤ spare s.index → IsIndexed s
+indexed_gone r s i d h at g updates items room capacity left = record {
   index = λ q. updates q ∙ ap (λ o. cond (pointwise nat_eq d.name q) None o) (h.index q) ∙ sym (find_gone q r.all.items i d h.distinct at g) ∙ ap (find q 0) (sym items);
   distinct = subst IsDistinct (sym items) (distinct_gone r.all.items i d h.distinct);
-  live = omega (arith, live, h.live, live_count_gone r.all.items i d at g, ap live_count items);
   places = omega (arith, h.places, ap length items, length-set r.all.items i (record d { gone = true }));
   entries = omega (arith, h.entries);
 }
 
-pub indexed_switched : (r s : Inside) (i : ℕ) (d : Device) (on : Bool) → IsIndexed r → slice_get r.all.items i ≡ Some d → s.index ≡ r.index → s.all.items ≡ set r.all.items i (record d { on = on }) → s.live ≡ r.live → s.room ≡ r.room → vec_capacity s.all ≡ vec_capacity r.all → IsIndexed s
-indexed_switched r s i d on h at index items live room capacity = record {
+pub indexed_switched : (r s : Inside) (i : ℕ) (d : Device) (on : Bool) → IsIndexed r → slice_get r.all.items i ≡ Some d → s.index ≡ r.index → s.all.items ≡ set r.all.items i (record d { on = on }) → s.room ≡ r.room → vec_capacity s.all ≡ vec_capacity r.all → IsIndexed s
+indexed_switched r s i d on h at index items room capacity = record {
   index = λ q. ap (λ m. get (pointwise nat_eq) m q) index ∙ h.index q ∙ sym (find_switched q 0 r.all.items i d on at) ∙ ap (find q 0) (sym items);
   distinct = subst IsDistinct (sym items) (distinct_switched r.all.items i d on at h.distinct);
-  live = live ∙ h.live ∙ sym (live_count_set on r.all.items i d at) ∙ ap live_count (sym items);
   places = omega (arith, h.places, ap length items, length-set r.all.items i (record d { on = on }));
   entries = omega (arith, h.entries, ap spare index);
 }
-
-pub one_live : (ds : List Device) (i : ℕ) (d : Device) → slice_get ds i ≡ Some d → d.gone ≡ false → 1 ≤ live_count ds
-one_live ds i d at g = omega (arith, live_count_gone ds i d at g)
 
 pub gone_at : (ds : List Device) (i : ℕ) (d : Device) → slice_get ds i ≡ Some d → set ds i (record d { gone = true }) ≡ with_gone i ds
 gone_at ds i d at = ap (λ o. gone_in i o ds) (sym at)

@@ -4,3 +4,4 @@ pub mod RanOut
 pub mod Finds
 pub mod Kept
 pub mod Fall
+pub mod Lives

@@ -3,7 +3,7 @@ use Rattle.std.specs.Prelude.{◌≡◌, ℕ, ◌+◌, ◌≤◌, List, length, 
 use Rattle.std.specs.Cmp.Lexicographic.{pointwise}
 use Rattle.std.specs.HashMap.{get, spare}
 use Rattle.ug_kernel.specs.declared.device.Device.{Device}
-use Rattle.ug_kernel.specs.Kernel.{Live, live_count}
+use Rattle.ug_kernel.specs.Kernel.{Live}
 use Rattle.ug_sysfs.specs.declared.roster.Roster.TheInside.{Inside}
 use Rattle.ug_sysfs.specs.Devices.{find}
 
@@ -14,6 +14,5 @@ IsDistinct ds = (i j : ℕ) (d e : Device) → Live ds i d → Live ds j e → d
 pub record IsIndexed (r : Inside) : Type 0 where
   pub index : (q : List ℕ) → get (pointwise nat_eq) r.index q ≡ find q 0 r.all.items
   pub distinct : IsDistinct r.all.items
-  pub live : r.live ≡ live_count r.all.items
   pub places : length r.all.items + r.room ≤ vec_capacity r.all
   pub entries : r.room ≤ spare r.index

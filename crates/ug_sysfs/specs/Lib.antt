@@ -11,3 +11,6 @@ pub mod Below
 pub mod Birth
 pub mod Listed
 pub mod Indexed
+pub mod Living
+pub mod Counted
+pub mod LastWords

@@ -1,20 +1,34 @@
 // What devices answer.
 ghost use Rattle.std.specs.Prelude.{◌≡◌, ◌⊎◌, IfOk};
 ghost use Rattle.ug_kernel.specs.Called.{read_of, within, text_within};
-ghost use Rattle.ug_sysfs.specs.World.{live_names, live_held};
+ghost use Rattle.ug_sysfs.specs.Living.{name_at, names_at};
+ghost use Rattle.ug_sysfs.specs.World.{live_held};
 
 use std::alloc::Global;
 use ug_kernel::{Attr, Device, HeldFile, ReadOut};
 use ug_types::{List, NoMemory, NodeName, Text};
 
-/// The names of the live devices.
-pub fn live_names(alloc: Global, devices: &[Device]) -> Result<List<NodeName>, NoMemory>
-    ensures { IfOk result (λ names. names ≡ live_names devices.now) }
+fn name_at(devices: &[Device], place: usize) -> Option<NodeName>
+    ensures { result ≡ name_at devices.now place }
+{
+    match devices.get(place) {
+        Some(device) => Some(device.name),
+        None => None,
+    }
+}
+
+/// The names of the devices at these places.
+pub fn names_at(
+    alloc: Global,
+    devices: &[Device],
+    places: &[usize],
+) -> Result<List<NodeName>, NoMemory>
+    ensures { IfOk result (λ names. names ≡ names_at places.now devices.now) }
 {
     let mut names = List::new(alloc);
-    for device in devices {
-        if !device.gone {
-            names.push(device.name)?;
+    for place in places {
+        if let Some(name) = name_at(devices, *place) {
+            names.push(name)?;
         }
     }
     Ok(names)

@@ -1,7 +1,9 @@
 // The kernel's files in sysfs, as the daemon calls them.
 #![tactic(auto)]
 
+mod census;
 mod devices;
+mod failures;
 mod laws;
 mod made;
 mod parent;

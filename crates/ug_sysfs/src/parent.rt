@@ -4,7 +4,7 @@ ghost use Rattle.ug_types.specs.Names.{parent_of};
 ghost use Rattle.ug_kernel.specs.Kernel.{live_count};
 ghost use Rattle.ug_sysfs.specs.Devices.{plugged, sought};
 
-use crate::roster::Roster;
+use crate::census::Census;
 use ug_kernel::Device;
 use ug_types::NodeName;
 
@@ -21,11 +21,11 @@ pub enum Parent {
 }
 
 /// The live device that bears the name of a name's parent.
-pub fn find_parent(roster: &Roster, name: &NodeName) -> Parent
-    ensures { result ≡ sought (parent_of name.now) roster.now.devices }
+pub fn find_parent(census: &Census, name: &NodeName) -> Parent
+    ensures { result ≡ sought (parent_of name.now) census.now.devices }
 {
     match name.parent() {
-        Some(parent) => match roster.find(&parent) {
+        Some(parent) => match census.find(&parent) {
             Some(i) => Parent::Live(i),
             None => Parent::Missing,
         },
@@ -35,20 +35,20 @@ pub fn find_parent(roster: &Roster, name: &NodeName) -> Parent
 
 /// A device is born, if it can be. There is room for it.
 #[tactic(auto, using(ug_kernel::proofs::Sounds::live_count_push))]
-pub fn plug(roster: &mut Roster, device: Device)
-    requires room { 0 < roster.old.room }
-    requires few { live_count roster.old.devices ≤ 65536 }
-    ensures devices { roster.new.devices ≡ plugged device roster.old.devices }
-    ensures room { roster.old.room ≤ roster.new.room + 1 }
-    ensures few { live_count roster.new.devices ≤ 65536 }
+pub fn plug(census: &mut Census, device: Device)
+    requires room { 0 < census.old.room }
+    requires few { live_count census.old.devices ≤ 65536 }
+    ensures devices { census.new.devices ≡ plugged device census.old.devices }
+    ensures room { census.old.room ≤ census.new.room + 1 }
+    ensures few { live_count census.new.devices ≤ 65536 }
 {
-    if roster.live() >= MOST {
+    if census.live_count() >= MOST {
         return;
     }
-    if roster.find(&device.name).is_some() {
+    if census.find(&device.name).is_some() {
         return;
     }
-    let parent = match find_parent(roster, &device.name) {
+    let parent = match find_parent(census, &device.name) {
         Parent::Nobody => None,
         Parent::Live(i) => Some(i),
         Parent::Missing => return,
@@ -56,5 +56,5 @@ pub fn plug(roster: &mut Roster, device: Device)
     let mut device = device;
     device.parent = parent;
     device.gone = false;
-    roster.push(device);
+    census.push(device);
 }

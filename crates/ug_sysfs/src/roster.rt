@@ -1,8 +1,7 @@
 // The devices that were born, with an index of the live names, and room for some that are still to be born.
-ghost use Rattle.std.specs.Prelude.{◌≡◌, ◌+◌, ◌<◌, ◌≤◌, ◌++◌, ◌∷◌, [], length, true, false, None, OnOk, OnErr, take, drop};
-ghost use Rattle.ug_kernel.specs.Kernel.{live_count};
+ghost use Rattle.std.specs.Prelude.{◌≡◌, ◌+◌, ◌<◌, ◌++◌, ◌∷◌, [], length, true, false, None, OnOk, OnErr};
 ghost use Rattle.ug_kernel.specs.Called.{value_after};
-ghost use Rattle.ug_sysfs.specs.Devices.{find, with_gone, falls, falls_at, fall, stepped};
+ghost use Rattle.ug_sysfs.specs.Devices.{find, with_gone, falls, falls_at, stepped};
 ghost use Rattle.ug_sysfs.specs.World.{switched};
 
 use std::alloc::Global;
@@ -16,7 +15,6 @@ use ug_types::{NoMemory, NodeName};
 pub struct Roster {
     all: Vec<Device>,
     index: HashMap<NodeName, usize>,
-    live: usize,
     room: usize,
 }
 
@@ -39,7 +37,6 @@ impl Roster {
         Roster {
             all: Vec::new(alloc),
             index: HashMap::new(alloc),
-            live: 0,
             room: 0,
         }
     }
@@ -57,13 +54,6 @@ impl Roster {
         self.index.get(name).copied()
     }
 
-    /// How many devices are live.
-    pub fn live(&self) -> usize
-        ensures { result ≡ live_count self.now.devices }
-    {
-        self.live
-    }
-
     /// Makes room for so many devices more.
     pub fn reserve(&mut self, room: usize) -> Result<(), NoMemory>
         ensures ok { OnOk result (self.new ≡ record self.old { room = room }) }
@@ -79,14 +69,12 @@ impl Roster {
         requires room { 0 < self.old.room }
         requires live { device.gone ≡ false }
         requires fresh { find device.name 0 self.old.devices ≡ None }
-        requires few { live_count self.old.devices < 65536 }
         ensures devices { self.new.devices ≡ self.old.devices ++ device ∷ [] }
         ensures room { self.new.room + 1 ≡ self.old.room }
     {
         let place = self.all.len();
         let _ = self.index.insert(device.name, place);
         self.all.push_reserved(device);
-        self.live += 1;
         self.room -= 1;
     }
 
@@ -102,10 +90,10 @@ impl Roster {
         let name = device.name;
         let _ = self.index.remove(&name);
         self.all[i].gone = true;
-        self.live -= 1;
     }
 
-    fn len(&self) -> usize
+    /// How many were born.
+    pub fn len(&self) -> usize
         ensures { result ≡ length self.now.devices }
     {
         self.all.len()
@@ -120,8 +108,8 @@ impl Roster {
         is_gone(&all[..i], all[i].parent)
     }
 
-    // The device at i goes where it is the target or falls with its parent.
-    fn step(&mut self, i: usize, target: usize)
+    /// The device at i goes where it is the target or falls with its parent.
+    pub fn step(&mut self, i: usize, target: usize)
         requires { i < length self.old.devices }
         ensures devices { self.new.devices ≡ stepped target i self.old.devices }
         ensures room { self.new.room ≡ self.old.room }
@@ -131,35 +119,8 @@ impl Roster {
         }
     }
 
-    fn fall_from(&mut self, target: usize)
-        ensures devices { self.new.devices ≡ fall target (take target self.old.devices) (drop target self.old.devices) }
-        ensures room { self.new.room ≡ self.old.room }
-    {
-        for i in target..self.len() {
-            self.step(i, target);
-        }
-    }
-
-    /// The device goes, and what is below it.
-    pub fn unplug(&mut self, target: usize)
-        ensures devices { self.new.devices ≡ fall target (take target self.old.devices) (drop target self.old.devices) }
-        ensures room { self.new.room ≡ self.old.room }
-        ensures few { live_count self.new.devices ≤ live_count self.old.devices }
-    {
-        self.fall_from(target);
-    }
-
     /// A write has its effect on a device's value.
     pub fn switch(&mut self, i: usize, write: Write)
-        ensures devices { self.new.devices ≡ switched write i self.old.devices }
-        ensures room { self.new.room ≡ self.old.room }
-        ensures few { live_count self.new.devices ≡ live_count self.old.devices }
-    {
-        self.set_value(i, write);
-    }
-
-    // The device has that write's value.
-    fn set_value(&mut self, i: usize, write: Write)
         ensures devices { self.new.devices ≡ switched write i self.old.devices }
         ensures room { self.new.room ≡ self.old.room }
     {

@@ -1,25 +1,25 @@
 // What a script has in store.
-ghost use Rattle.std.specs.Prelude.{◌≡◌, ◌+◌, ◌≤◌, None, []};
+ghost use Rattle.std.specs.Prelude.{◌≡◌, ◌+◌, ◌≤◌, []};
 ghost use Rattle.ug_kernel.specs.Kernel.{live_count};
-ghost use Rattle.ug_sysfs.specs.World.{moved, plugs_of, first_is_due, happen, happen_all, plugs, fate, one_more};
+ghost use Rattle.ug_sysfs.specs.World.{moved, plugs_of, first_is_due, happen, happen_all, plugs, one_more};
 
+use crate::census::Census;
 use crate::parent::plug;
-use crate::roster::Roster;
-use crate::script::{Failing, Move, Scheduled};
+use crate::script::{Move, Scheduled};
 use std::collections::VecDeque;
 
-fn carry_out(roster: &mut Roster, action: Move)
-    requires room { plugs_of action ≤ roster.old.room }
-    requires few { live_count roster.old.devices ≤ 65536 }
-    ensures devices { roster.new.devices ≡ moved action roster.old.devices }
-    ensures room { roster.old.room ≤ roster.new.room + plugs_of action }
-    ensures few { live_count roster.new.devices ≤ 65536 }
+fn carry_out(census: &mut Census, action: Move)
+    requires room { plugs_of action ≤ census.old.room }
+    requires few { live_count census.old.devices ≤ 65536 }
+    ensures devices { census.new.devices ≡ moved action census.old.devices }
+    ensures room { census.old.room ≤ census.new.room + plugs_of action }
+    ensures few { live_count census.new.devices ≤ 65536 }
 {
     match action {
-        Move::Plug(device) => plug(roster, device),
+        Move::Plug(device) => plug(census, device),
         Move::Unplug(name) => {
-            if let Some(i) = roster.find(&name) {
-                roster.unplug(i);
+            if let Some(i) = census.find(&name) {
+                census.unplug(i);
             }
         }
     }
@@ -35,46 +35,33 @@ fn is_due(moves: &VecDeque<Scheduled>, call: u64, after: bool) -> bool
 }
 
 /// The moves whose turn has come.
-pub fn happen(roster: &mut Roster, moves: &mut VecDeque<Scheduled>, call: u64, after: bool)
-    requires room { plugs moves.old.items ≤ roster.old.room }
-    requires few { live_count roster.old.devices ≤ 65536 }
-    ensures happened { (moves.new.items, roster.new.devices)
-        ≡ happen call after moves.old.items roster.old.devices }
-    ensures room { plugs moves.new.items ≤ roster.new.room }
-    ensures few { live_count roster.new.devices ≤ 65536 }
+pub fn happen(census: &mut Census, moves: &mut VecDeque<Scheduled>, call: u64, after: bool)
+    requires room { plugs moves.old.items ≤ census.old.room }
+    requires few { live_count census.old.devices ≤ 65536 }
+    ensures happened { (moves.new.items, census.new.devices)
+        ≡ happen call after moves.old.items census.old.devices }
+    ensures room { plugs moves.new.items ≤ census.new.room }
+    ensures few { live_count census.new.devices ≤ 65536 }
 {
     while is_due(moves, call, after) {
         match moves.pop_front() {
-            Some(next) => carry_out(roster, next.action),
+            Some(next) => carry_out(census, next.action),
             None => return,
         }
     }
 }
 
 /// All moves that are still to come.
-pub fn happen_all(roster: &mut Roster, moves: &mut VecDeque<Scheduled>)
-    requires room { plugs moves.old.items ≤ roster.old.room }
-    requires few { live_count roster.old.devices ≤ 65536 }
-    ensures devices { roster.new.devices ≡ happen_all moves.old.items roster.old.devices }
+pub fn happen_all(census: &mut Census, moves: &mut VecDeque<Scheduled>)
+    requires room { plugs moves.old.items ≤ census.old.room }
+    requires few { live_count census.old.devices ≤ 65536 }
+    ensures devices { census.new.devices ≡ happen_all moves.old.items census.old.devices }
     ensures moves { moves.new.items ≡ [] }
-    ensures few { live_count roster.new.devices ≤ 65536 }
+    ensures few { live_count census.new.devices ≤ 65536 }
 {
     while let Some(next) = moves.pop_front() {
-        carry_out(roster, next.action);
+        carry_out(census, next.action);
     }
-}
-
-/// Whether a call fails, and whether it then has its effect.
-pub fn fate(fails: &[Failing], call: u64) -> Option<bool>
-    ensures { result ≡ fate call None fails.now }
-{
-    let mut found = None;
-    for failing in fails {
-        if failing.call == call {
-            found = Some(failing.effect);
-        }
-    }
-    found
 }
 
 /// One fault more, up to the greatest number.

@@ -7,13 +7,14 @@ ghost use Rattle.ug_sysfs.specs.Few.{HasFew};
 ghost use Rattle.ug_sysfs.specs.Law.{does_what_it_may, begins_afresh};
 ghost use Rattle.ug_sysfs.specs.World.{Gives, Effects, RunsOut, Puts, Ends, Enters, begun, over, fate_of, counted, told};
 
-use crate::devices::{live_held, live_names, read_file};
+use crate::census::Census;
+use crate::devices::{live_held, read_file};
+use crate::failures::Failures;
 use crate::made::{
     Asked, Kind, Made, kind_of_listing, kind_of_opened, kind_of_probe, kind_of_read, kind_of_wrote,
 };
 use crate::parent::plug;
-use crate::roster::Roster;
-use crate::schedule::{fate, happen, happen_all, one_more};
+use crate::schedule::{happen, happen_all, one_more};
 use crate::script::{Failing, Move, Scheduled};
 use crate::sysfs::Sysfs;
 use std::alloc::Global;
@@ -28,11 +29,11 @@ use ug_types::{Held, NoMemory, NodeName};
 /// or of the calls finds no memory, it runs out: its calls fail from then on, and it tells no kernel.
 #[derive(Drop)]
 pub struct SimKernel {
-    roster: Roster,
+    census: Census,
     held: Vec<HeldFile>,
     log: Vec<Effect>,
     moves: VecDeque<Scheduled>,
-    fails: Vec<Failing>,
+    fails: Failures,
     calls: u64,
     faults: u64,
     made: Vec<Made>,
@@ -47,9 +48,9 @@ impl Model for SimKernel {
     ghost Value = { World };
 
     ghost view = { λ s. record {
-      kernel = record { devices = s.roster.devices; held = s.held.items; log = s.log.items };
+      kernel = record { devices = s.census.devices; held = s.held.items; log = s.log.items };
       moves = s.moves.items;
-      fails = s.fails.items;
+      fails = s.fails;
       calls = s.calls;
       faults = s.faults;
       made = s.made.items;
@@ -57,7 +58,7 @@ impl Model for SimKernel {
     } };
 
     // each plug that is scheduled has its room
-    ghost invariant = { λ s. (plugs s.moves.items ≤ s.roster.room) × (live_count s.roster.devices ≤ 65536) };
+    ghost invariant = { λ s. (plugs s.moves.items ≤ s.census.room) × (live_count s.census.devices ≤ 65536) };
 }
 
 impl SimKernel {
@@ -74,11 +75,11 @@ impl SimKernel {
         } }
     {
         SimKernel {
-            roster: Roster::new(alloc),
+            census: Census::new(alloc),
             held: Vec::new(alloc),
             log: Vec::new(alloc),
             moves: VecDeque::new(alloc),
-            fails: Vec::new(alloc),
+            fails: Failures::new(alloc),
             calls: 0,
             faults: 0,
             made: Vec::new(alloc),
@@ -93,8 +94,8 @@ impl SimKernel {
         ensures ok { OnOk result (self.new ≡ record self.old { kernel = record self.old.kernel { devices = plugged device self.old.kernel.devices } }) }
         ensures err { OnErr result (self.new ≡ self.old) }
     {
-        self.roster.reserve(self.moves.len().saturating_add(1))?;
-        plug(&mut self.roster, device);
+        self.census.reserve(self.moves.len().saturating_add(1))?;
+        plug(&mut self.census, device);
         Ok(())
     }
 
@@ -102,8 +103,8 @@ impl SimKernel {
     pub fn unplug(&mut self, name: &NodeName)
         ensures { self.new ≡ record self.old { kernel = record self.old.kernel { devices = unplugged name.now self.old.kernel.devices } } }
     {
-        if let Some(i) = self.roster.find(name) {
-            self.roster.unplug(i);
+        if let Some(i) = self.census.find(name) {
+            self.census.unplug(i);
         }
     }
 
@@ -114,7 +115,7 @@ impl SimKernel {
         ensures ok { OnOk result (self.new ≡ record self.old { moves = self.old.moves ++ record { call = call; after = after; action = action } ∷ [] }) }
         ensures err { OnErr result (self.new ≡ self.old) }
     {
-        self.roster.reserve(self.moves.len().saturating_add(1))?;
+        self.census.reserve(self.moves.len().saturating_add(1))?;
         self.moves.push_back(Scheduled {
             call,
             after,
@@ -136,7 +137,7 @@ impl SimKernel {
     pub fn end_event(&mut self)
         ensures { self.new ≡ over self.old }
     {
-        happen_all(&mut self.roster, &mut self.moves);
+        happen_all(&mut self.census, &mut self.moves);
         self.fails.clear();
     }
 
@@ -151,7 +152,7 @@ impl SimKernel {
     pub fn devices(&self) -> &[Device]
         ensures { result.now ≡ self.now.kernel.devices }
     {
-        self.roster.devices()
+        self.census.devices()
     }
 
     /// All files that were opened. A file that was closed stays.
@@ -184,7 +185,7 @@ impl SimKernel {
             self.faults = one_more(self.faults);
             return false;
         }
-        happen(&mut self.roster, &mut self.moves, self.calls, false);
+        happen(&mut self.census, &mut self.moves, self.calls, false);
         true
     }
 
@@ -192,7 +193,7 @@ impl SimKernel {
     fn end(&mut self, asked: Asked, kind: Kind) -> bool
         ensures { Ends self.old (record { asked = asked; kind = kind }) result self.new }
     {
-        happen(&mut self.roster, &mut self.moves, self.calls, true);
+        happen(&mut self.census, &mut self.moves, self.calls, true);
         match self.made.push(Made { asked, kind }) {
             Ok(_) => true,
             Err(_) => {
@@ -210,7 +211,7 @@ impl SimKernel {
         ensures fate { result ≡ fate_of self.old }
         ensures counted { self.new ≡ counted self.old }
     {
-        let fate = fate(&self.fails, self.calls);
+        let fate = self.fails.fate(self.calls);
         if fate.is_some() {
             self.faults = one_more(self.faults);
         }
@@ -224,7 +225,7 @@ impl SimKernel {
     {
         match self.fate() {
             Some(_) => Listing::Failed,
-            None => match live_names(alloc, self.roster.devices()) {
+            None => match self.census.live_names(alloc) {
                 Ok(names) => Listing::Names(names),
                 Err(_) => Listing::Memory,
             },
@@ -236,7 +237,7 @@ impl SimKernel {
     {
         match self.fate() {
             Some(_) => Opened::Failed,
-            None => match self.roster.find(name) {
+            None => match self.census.find(name) {
                 Some(device) => {
                     let number = self.held.len() as u64;
                     match self.held.push(HeldFile { device, control }) {
@@ -254,8 +255,8 @@ impl SimKernel {
     {
         match self.fate() {
             Some(_) => ReadOut::Failed,
-            None => match self.roster.find(name) {
-                Some(i) => match self.roster.devices().get(i) {
+            None => match self.census.find(name) {
+                Some(i) => match self.census.devices().get(i) {
                     Some(device) => read_file(alloc, device, attr),
                     None => ReadOut::Absent,
                 },
@@ -269,8 +270,8 @@ impl SimKernel {
     {
         match self.fate() {
             Some(_) => Probe::Failed,
-            None => match live_held(self.roster.devices(), &self.held, held.0 as usize) {
-                Some(i) => match self.roster.devices().get(i) {
+            None => match live_held(self.census.devices(), &self.held, held.0 as usize) {
+                Some(i) => match self.census.devices().get(i) {
                     Some(device) => Probe::Alive(device.on),
                     None => Probe::Gone,
                 },
@@ -283,10 +284,10 @@ impl SimKernel {
     fn put(&mut self, held: Held, write: Write) -> Option<Wrote>
         ensures { MatchOption result (RunsOut self.old self.new) (λ reply. Puts self.old held.0 write reply self.new) }
     {
-        match live_held(self.roster.devices(), &self.held, held.0 as usize) {
+        match live_held(self.census.devices(), &self.held, held.0 as usize) {
             Some(device) => match self.log.push(Effect { device, write }) {
                 Ok(_) => {
-                    self.roster.switch(device, write);
+                    self.census.switch(device, write);
                     Some(Wrote::Done)
                 }
                 Err(_) => {

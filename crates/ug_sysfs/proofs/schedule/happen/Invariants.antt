@@ -5,9 +5,9 @@ use Rattle.ug_sysfs.proofs.schedule.happen.Given as goal
 
 abbrev pub invariant-loop-moves : goal.invariant-loop-moves
 invariant-loop-moves l = record {
-  same : happen l.call l.after l.moves.items l.roster.devices ≡ happen l.call l.after l.initial.moves.items l.initial.roster.devices;
-  room : plugs l.moves.items ≤ l.roster.room;
-  few : live_count l.roster.devices ≤ 65536;
+  same : happen l.call l.after l.moves.items l.census.devices ≡ happen l.call l.after l.initial.moves.items l.initial.census.devices;
+  room : plugs l.moves.items ≤ l.census.room;
+  few : live_count l.census.devices ≤ 65536;
 }
 
 abbrev pub decreases-loop-moves : goal.decreases-loop-moves

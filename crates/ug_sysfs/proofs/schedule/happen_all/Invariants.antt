@@ -5,9 +5,9 @@ use Rattle.ug_sysfs.proofs.schedule.happen_all.Given as goal
 
 abbrev pub invariant-loop-next : goal.invariant-loop-next
 invariant-loop-next l = record {
-  same : happen_all l.moves.items l.roster.devices ≡ happen_all l.initial.moves.items l.initial.roster.devices;
-  room : plugs l.moves.items ≤ l.roster.room;
-  few : live_count l.roster.devices ≤ 65536;
+  same : happen_all l.moves.items l.census.devices ≡ happen_all l.initial.moves.items l.initial.census.devices;
+  room : plugs l.moves.items ≤ l.census.room;
+  few : live_count l.census.devices ≤ 65536;
 }
 
 abbrev pub decreases-loop-next : goal.decreases-loop-next

@@ -3,7 +3,6 @@ use Rattle.std.proofs.lemmas.Bool.{false≢true}
 use Rattle.std.specs.Result.{IsOk, OnOk}
 use Rattle.std.specs.Cmp.Lexicographic.{pointwise}
 use Rattle.std.specs.HashMap.{get}
-use Rattle.ug_kernel.specs.Kernel.{live_count}
 use Rattle.ug_sysfs.specs.Listed.{Listed}
 use Rattle.ug_sysfs.specs.Devices.{find}
 use Rattle.ug_sysfs.proofs.Kept.{indexed_born}
@@ -21,9 +20,4 @@ invariant_of-self c =
     let place : c.len-place.result ≡ length c.self.inside.all.items = omega (arith, c.len-place.ensures, c.self.inside.all.ok.0) in
     indexed_born c.self.inside _ c.args.device c.self.invariant room c.requires.live fresh
     (λ q. u.0 q ∙ ap (λ (k : ℕ). cond (pointwise nat_eq c.args.device.name q) (Some k) (get (pointwise nat_eq) c.self.inside.index q)) place)
-    c.push_reserved.ensures.items (omega arith) (omega arith) c.push_reserved.ensures.capacity c.insert.ensures.spare
-
-pub overflow_add-self : goal.overflow_add-self
-overflow_add-self c =
-    let few : live_count c.self.inside.all.items < 65536 = subst (λ (x : Listed). live_count x.devices < 65536) (sym c.self.view_is) c.requires.few in
-    omega (arith, few, c.self.invariant.live)
+    c.push_reserved.ensures.items (omega arith) c.push_reserved.ensures.capacity c.insert.ensures.spare
