@@ -1,0 +1,2 @@
+mod Saving
+mod Counting

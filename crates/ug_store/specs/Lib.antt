@@ -1,0 +1,5 @@
+pub mod DiskCalls
+pub mod Disk
+pub mod Store
+pub mod Passed
+pub mod Scripted
