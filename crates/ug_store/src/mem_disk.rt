@@ -1,11 +1,14 @@
 // A disk in memory, which goes by a script.
-ghost use Rattle.std.specs.Prelude.{◌≡◌, []};
-ghost use Rattle.ug_store.specs.Scripted.{world_at_first};
+ghost use Rattle.std.specs.Prelude.{◌≡◌, ◌++◌, ◌∷◌, [], true, false, None, IfOk, OnOk, OnErr, MatchOption, length};
+ghost use Rattle.ug_store.specs.DiskCalls.{FitsFile, NeedsNoMemory};
+ghost use Rattle.ug_store.specs.Scripted.{world_at_first, mishap_at, takes_effect, goes_well, answer_by, faults_by, loaded_of, one_up, begun_on, over_on, disk_told, MemKeeps, Enters};
 
-use crate::mishap::Planned;
+use crate::disk::{DiskAnswer, Loaded, RuleDisk};
+use crate::mishap::{Mishap, Planned};
 use std::alloc::Global;
 use std::marker::Model;
-use ug_types::Text;
+use std::mem;
+use ug_types::{NoMemory, Text};
 
 /// What a call that is past says of what a crash leaves.
 #[derive(Drop)]
