@@ -1,2 +1,3 @@
 mod Saving
 mod Counting
+mod Passing

@@ -3,3 +3,4 @@ pub mod Disk
 pub mod Store
 pub mod Passed
 pub mod Scripted
+pub mod MemLaw

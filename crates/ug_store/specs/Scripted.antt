@@ -74,12 +74,16 @@ written_if b text m = record m { fresh = cond b text m.fresh; synced = cond b fa
 abbrev pub synced_if : Bool → Disk → Disk
 synced_if b m = record m { synced = cond b true m.synced }
 
--- the new file is gone once it has taken the other's place
-abbrev pub swapped_if : Bool → Bool → Disk → Disk
-swapped_if done b m = record m {
+-- the new file takes the other's place, and is gone
+abbrev pub traded_if : Bool → Disk → Disk
+traded_if b m = record m {
   text = cond b m.fresh m.text;
   fresh = cond b [] m.fresh;
   synced = cond b false m.synced;
+}
+
+abbrev pub swapped_if : Bool → Bool → Disk → Disk
+swapped_if done b m = record (traded_if b m) {
   left = cond done (Texts (m.fresh ∷ [])) (while_swapping m.synced m.left m.fresh);
 }
 
