@@ -1,9 +1,8 @@
 -- The count of faults over a save and a reading.
-use Rattle.std.proofs.Common.{◌≡◌, ℕ, ◌+◌, ◌-◌, ◌^◌, ◌<◌, ◌≤◌, Bool, true, false, nat_lt, List, [], Result, Ok, Err, refl, sym, ◌∙◌, ap, subst, arith}
-use Rattle.std.proofs.lemmas.Bool.{both_ways, lt-ltb}
-use Rattle.ug_types.specs.Ends.{IsCounted, Rose}
+use Rattle.std.proofs.Common.{◌≡◌, ℕ, ◌≤◌, List, [], Result, Ok, Err, refl, sym, subst, arith}
+use Rattle.ug_types.specs.Ends.{Rose}
 use Rattle.ug_store.specs.DiskCalls.{DiskCall, Load, Write_new, Sync_new, Swap, DiskTold, CountsOnDisk}
-use Rattle.ug_store.specs.Store.{DiskProg, RunsDisk, after_swap, after_sync, after_write, saving, after_load, recovering, TellsSaveFault, TellsRecoverFault}
+use Rattle.ug_store.specs.Store.{RunsDisk, after_swap, after_sync_new, after_write_new, saving, after_load, recovering, TellsSaveFault, TellsRecoverFault}
 use Rattle.ug_store.specs.declared.disk.DiskAnswer.{DiskAnswer}
 use Rattle.ug_store.specs.declared.disk.DiskAnswer.TheVariants as answer
 use Rattle.ug_store.specs.declared.disk.Loaded.{Loaded}
@@ -44,14 +43,14 @@ swap_counts keeps faults first v n answer.Failed count r x le h run = end_counte
 swap_counts keeps faults first v n answer.Memory count r x le h run = end_counted faults r saved.Memory n x first run (omega (arith, le, h.counted.0), tt)
 
 sync_counts : {S : Type 0} (keeps : S → (call : DiskCall) → DiskTold call → S → Type 0) (faults : S → ℕ) (all : Counting keeps faults) (first : ℕ) (u v : S) (a : DiskAnswer) (count : ℕ) (r : Saved) (x : S)
-    → first ≤ faults u → CountsOnDisk Sync_new (record { answer = a; count = count }) (faults u) (faults v) → RunsDisk keeps v (after_sync a count) r x → Counted r first (faults x)
+    → first ≤ faults u → CountsOnDisk Sync_new (record { answer = a; count = count }) (faults u) (faults v) → RunsDisk keeps v (after_sync_new a count) r x → Counted r first (faults x)
 sync_counts keeps faults all first u v answer.Done count r x le h run =
     swap_counts keeps faults first v run.1 run.0.answer run.0.count r x (omega (arith, le, h.counted.0)) (all.counts v Swap run.0 run.1 run.2) run.3
 sync_counts keeps faults all first u v answer.Failed count r x le h run = end_counted faults r (saved.Failed count) v x first run (failed_at first (faults u) (faults v) count le h.counted.0 h.count (h.cause refl))
 sync_counts keeps faults all first u v answer.Memory count r x le h run = end_counted faults r saved.Memory v x first run (omega (arith, le, h.counted.0), tt)
 
 write_counts : {S : Type 0} (keeps : S → (call : DiskCall) → DiskTold call → S → Type 0) (faults : S → ℕ) (all : Counting keeps faults) (text : List ℕ) (s u : S) (a : DiskAnswer) (count : ℕ) (r : Saved) (x : S)
-    → CountsOnDisk (Write_new text) (record { answer = a; count = count }) (faults s) (faults u) → RunsDisk keeps u (after_write a count) r x → Counted r (faults s) (faults x)
+    → CountsOnDisk (Write_new text) (record { answer = a; count = count }) (faults s) (faults u) → RunsDisk keeps u (after_write_new a count) r x → Counted r (faults s) (faults x)
 write_counts keeps faults all text s u answer.Done count r x h run =
     sync_counts keeps faults all (faults s) u run.1 run.0.answer run.0.count r x h.counted.0 (all.counts u Sync_new run.0 run.1 run.2) run.3
 write_counts keeps faults all text s u answer.Failed count r x h run = end_counted faults r (saved.Failed count) u x (faults s) run (failed_at (faults s) (faults s) (faults u) count (omega arith) h.counted.0 h.count (h.cause refl))

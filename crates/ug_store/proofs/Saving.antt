@@ -1,10 +1,10 @@
 -- What a crash may leave at any moment of a save or of a reading.
-use Rattle.std.proofs.Common.{◌≡◌, ℕ, ◌<◌, ◌≤◌, Bool, true, false, List, [], ◌∷◌, ◌++◌, length, Option, Some, Result, Ok, Err, inl, inr, ◌⊎◌, refl, sym, ◌∙◌, ap, subst, append_assoc, arith}
+use Rattle.std.proofs.Common.{◌≡◌, ℕ, ◌≤◌, true, List, [], ◌∷◌, ◌++◌, length, Option, Some, Result, Ok, Err, inl, inr, ◌⊎◌, refl, sym, ◌∙◌, ap, subst, append_assoc, arith}
 use Rattle.ug_types.specs.Elements.{Has}
 use Rattle.ug_types.proofs.Elements.{has_cases}
 use Rattle.ug_store.specs.DiskCalls.{DiskCall, Load, Write_new, Sync_new, Swap, DiskTold, file_limit}
-use Rattle.ug_store.specs.Disk.{Disk, Images, Texts, Anything, IsImage, or_text, while_swapping, IsAsItWas, IsWrittenNew, WroteNew, SyncedNew, Swapped, DiskCalled, FollowsOnDisk}
-use Rattle.ug_store.specs.Store.{DiskProg, Ended, AskDisk, DiskRoom, RunsDisk, after_swap, after_sync, after_write, saving, after_load, recovering, IsOldOr, SavedAs, HasSaved, RecoversFrom, HasRecovered}
+use Rattle.ug_store.specs.Disk.{Disk, Images, Texts, Anything, or_text, while_swapping, IsAsItWas, WroteNew, SyncedNew, Swapped, DiskCalled, FollowsOnDisk}
+use Rattle.ug_store.specs.Store.{DiskProg, Ended, AskDisk, DiskRoom, RunsDisk, after_swap, after_sync_new, after_write_new, saving, after_load, recovering, IsOldOr, SavedAs, HasSaved, RecoversFrom, HasRecovered}
 use Rattle.ug_store.specs.declared.disk.DiskAnswer.{DiskAnswer}
 use Rattle.ug_store.specs.declared.disk.DiskAnswer.TheVariants as answer
 use Rattle.ug_store.specs.declared.disk.Loaded.{Loaded}
@@ -54,16 +54,16 @@ each_three text left images (inr (inr (inl e))) = subst (λ (v : Images). IsOldO
 each_three text left images (inr (inr (inr none))) = absurd none
 
 -- a call that isn't a swap leaves the rule file, and what a crash leaves of it
-abbrev Keeps : Disk → Disk → Type 0
+abbrev pub Keeps : Disk → Disk → Type 0
 Keeps m n = (n.text ≡ m.text) × (n.left ≡ m.left)
 
-write_keeps : (a : DiskAnswer) (text : List ℕ) (m n : Disk) → WroteNew a text m n → Keeps m n
+pub write_keeps : (a : DiskAnswer) (text : List ℕ) (m n : Disk) → WroteNew a text m n → Keeps m n
 write_keeps answer.Done text m n h = (h.text, h.left)
 write_keeps answer.Failed text m n (inl h) = (h.text, h.left)
 write_keeps answer.Failed text m n (inr h) = (h.1.text, h.1.left)
 write_keeps answer.Memory text m n h = (h.text, h.left)
 
-sync_keeps : (a : DiskAnswer) (m n : Disk) → SyncedNew a m n → Keeps m n
+pub sync_keeps : (a : DiskAnswer) (m n : Disk) → SyncedNew a m n → Keeps m n
 sync_keeps answer.Done m n h = (h.text, h.left)
 sync_keeps answer.Failed m n (inl h) = (h.text, h.left)
 sync_keeps answer.Failed m n (inr h) = (h.text, h.left)
@@ -110,7 +110,7 @@ swap_saved text m v n r a count keeps pv fresh synced called x run =
 
 sync_saved : (text : List ℕ) (m u v : Disk) (r : Saved) (a : DiskAnswer) (count : ℕ)
     → Keeps m u → u.past ≡ m.past ++ m.left ∷ [] → u.fresh ≡ text
-    → DiskCalled Sync_new (record { answer = a; count = count }) u v → (x : Disk) → RunsDisk disk_calls v (after_sync a count) r x → HasSaved text m r x
+    → DiskCalled Sync_new (record { answer = a; count = count }) u v → (x : Disk) → RunsDisk disk_calls v (after_sync_new a count) r x → HasSaved text m r x
 sync_saved text m u v r a count keeps pu fresh called x run = pick a called run
   where
     past_of : v.past ≡ u.past ++ u.left ∷ [] → v.past ≡ m.past ++ (m.left ∷ m.left ∷ [])
@@ -119,7 +119,7 @@ sync_saved text m u v r a count keeps pu fresh called x run = pick a called run
     both : Keeps u v → Keeps m v
     both k = (k.0 ∙ keeps.0, k.1 ∙ keeps.1)
 
-    pick : (b : DiskAnswer) → DiskCalled Sync_new (record { answer = b; count = count }) u v → RunsDisk disk_calls v (after_sync b count) r x → HasSaved text m r x
+    pick : (b : DiskAnswer) → DiskCalled Sync_new (record { answer = b; count = count }) u v → RunsDisk disk_calls v (after_sync_new b count) r x → HasSaved text m r x
     pick answer.Done h k = swap_saved text m v k.1 r k.0.answer k.0.count (both (sync_keeps answer.Done u v h.effect)) (past_of h.past) (h.effect.fresh ∙ fresh) h.effect.synced k.2 x k.3
     pick answer.Failed h k = as_run text m r (saved.Failed count) x v k (record {
       since = m.left ∷ m.left ∷ [];
@@ -129,7 +129,7 @@ sync_saved text m u v r a count keeps pu fresh called x run = pick a called run
     })
     pick answer.Memory h k = absurd h.effect
 
-first_saved : (text : List ℕ) (m u : Disk) (r : Saved) (a : DiskAnswer) (count : ℕ) → DiskCalled (Write_new text) (record { answer = a; count = count }) m u → (x : Disk) → RunsDisk disk_calls u (after_write a count) r x → HasSaved text m r x
+first_saved : (text : List ℕ) (m u : Disk) (r : Saved) (a : DiskAnswer) (count : ℕ) → DiskCalled (Write_new text) (record { answer = a; count = count }) m u → (x : Disk) → RunsDisk disk_calls u (after_write_new a count) r x → HasSaved text m r x
 first_saved text m u r answer.Done count called x run =
     sync_saved text m u run.1 r run.0.answer run.0.count (write_keeps answer.Done text m u called.effect) called.past called.effect.fresh run.2 x run.3
 first_saved text m u r answer.Failed count called x run = as_run text m r (saved.Failed count) x u run (record {

@@ -4,3 +4,4 @@ pub mod Store
 pub mod Passed
 pub mod Scripted
 pub mod MemLaw
+pub mod History

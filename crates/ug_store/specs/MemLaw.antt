@@ -1,19 +1,15 @@
 -- A disk in memory does what a disk may, and counts its faults.
-use Rattle.std.proofs.Common.{◌≡◌, ℕ, ◌+◌, ◌-◌, ◌^◌, ◌<◌, ◌≤◌, Bool, true, false, cond, if◌then◌else◌, nat_lt, nat_le, List, [], ◌∷◌, length, Option, Some, None, inl, inr, ◌⊎◌, refl, sym, ◌∙◌, ap, subst, arith}
-use Rattle.std.proofs.lemmas.Bool.{both_ways, lt-ltb, leb-true, le-leb}
+use Rattle.std.proofs.Common.{◌≡◌, ℕ, ◌+◌, ◌-◌, ◌^◌, ◌≤◌, Bool, true, false, cond, if◌then◌else◌, nat_lt, nat_le, List, [], ◌∷◌, length, Option, Some, None, inl, inr, refl, sym, ◌∙◌, ap, subst, arith}
+use Rattle.std.proofs.lemmas.Bool.{both_ways, lt-ltb, leb-true}
 use Rattle.ug_types.specs.Ends.{IsCounted, Rose}
 use Rattle.ug_store.specs.DiskCalls.{DiskCall, Load, Write_new, Sync_new, Swap, DiskReply, DiskTold, file_limit, failed_on, failed_load, CountsOnDisk}
-use Rattle.ug_store.specs.Disk.{Disk, ReadsFile, IsAsItWas, DiskCalled, FollowsOnDisk}
-use Rattle.ug_store.specs.Scripted.{DiskWorld, one_up, mishap_at, goes_well, answer_by, text_or_absent, loaded_of, failed_reply, past_within, disk_after, numbered, fate_at, reply_by, faults_by, tells, world_after, refused_on, Scripted, WantsMemory, Unserved, RanOut, MemKeeps, disk_told}
+use Rattle.ug_store.specs.Disk.{Disk, ReadsFile, DiskCalled, FollowsOnDisk}
+use Rattle.ug_store.specs.Scripted.{DiskWorld, one_up, text_or_absent, loaded_of, past_within, disk_after, with_number, fate_at, reply_by, faults_by, told_with, WantsMemory, MemKeeps, disk_told}
 use Rattle.ug_store.specs.declared.disk.DiskAnswer.{DiskAnswer}
-use Rattle.ug_store.specs.declared.disk.DiskAnswer.TheVariants as answer
 use Rattle.ug_store.specs.declared.disk.Loaded.{Loaded}
 use Rattle.ug_store.specs.declared.disk.Loaded.TheVariants as loaded
 use Rattle.ug_store.specs.declared.mishap.Mishap.{Mishap}
 use Rattle.ug_store.specs.declared.mishap.Mishap.TheVariants as mishap
-
-stays : (m : Disk) → IsAsItWas m m
-stays m = record { text = refl; fresh = refl; synced = refl; left = refl }
 
 text_read : (text : List ℕ) → length text ≤ file_limit → ReadsFile (text_or_absent text) text
 text_read [] le = refl
@@ -23,12 +19,12 @@ reads_within : (text : List ℕ) (b : Bool) → nat_le (length text) file_limit 
 reads_within text true e = text_read text (leb-true (length text) file_limit e)
 reads_within text false e = grind (arith, e)
 
-reads : (text : List ℕ) → ReadsFile (loaded_of text) text
-reads text = reads_within text (nat_le (length text) file_limit) refl
+reads_whole : (text : List ℕ) → ReadsFile (loaded_of text) text
+reads_whole text = reads_within text (nat_le (length text) file_limit) refl
 
 -- what the script has a call do is what it may do
 does : (call : DiskCall) (fate : Option Mishap) (m : Disk) (count : ℕ) → DiskCalled call (record { answer = reply_by call fate m; count = count }) m (disk_after call fate (past_within call m))
-does Load fate m count = record { effect = (reads m.text, record { text = refl; fresh = refl; synced = refl; left = refl }); past = refl }
+does Load fate m count = record { effect = (reads_whole m.text, record { text = refl; fresh = refl; synced = refl; left = refl }); past = refl }
 does (Write_new text) None m count = record { effect = record { text = refl; fresh = refl; synced = refl; left = refl }; past = refl }
 does (Write_new text) (Some mishap.NoEffect) m count = record { effect = inl (record { text = refl; fresh = refl; synced = refl; left = refl }); past = refl }
 does (Write_new text) (Some mishap.Effect) m count = record { effect = inr (text, record { text = refl; fresh = refl; synced = refl; left = refl }); past = refl }
@@ -46,19 +42,19 @@ does_nothing (Write_new text) a m e = subst (λ (r : DiskAnswer). DiskCalled (Wr
 does_nothing Sync_new a m e = absurd e
 does_nothing Swap a m e = absurd e
 
-same_disk : (call : DiskCall) (s : DiskWorld) → (numbered call s).disk ≡ s.disk
+same_disk : (call : DiskCall) (s : DiskWorld) → (with_number call s).disk ≡ s.disk
 same_disk Load s = refl
 same_disk (Write_new text) s = refl
 same_disk Sync_new s = refl
 same_disk Swap s = refl
 
-same_out : (call : DiskCall) (s : DiskWorld) → (numbered call s).ran_out ≡ s.ran_out
+same_out : (call : DiskCall) (s : DiskWorld) → (with_number call s).ran_out ≡ s.ran_out
 same_out Load s = refl
 same_out (Write_new text) s = refl
 same_out Sync_new s = refl
 same_out Swap s = refl
 
-same_faults : (call : DiskCall) (s : DiskWorld) → (numbered call s).faults ≡ s.faults
+same_faults : (call : DiskCall) (s : DiskWorld) → (with_number call s).faults ≡ s.faults
 same_faults Load s = refl
 same_faults (Write_new text) s = refl
 same_faults Sync_new s = refl
@@ -78,13 +74,13 @@ told_not t n out e = let no : None ≡ Some n = sym (ap (λ (b : Bool). cond b N
 -- where a disk is told after a call, one was told before it, and the call did what it may
 pub mem_did : (s : DiskWorld) (call : DiskCall) (a : DiskTold call) (t : DiskWorld) (n : Disk) → MemKeeps s call a t → disk_told t ≡ Some n → FollowsOnDisk call a (disk_told s) n
 mem_did s call a t n (inl h) e =
-    let fate : Option Mishap = fate_at call (numbered call s) in
+    let fate : Option Mishap = fate_at call (with_number call s) in
     let at : t.disk ≡ disk_after call fate (past_within call s.disk) = ap (λ (w : DiskWorld). w.disk) h.after ∙ ap (λ (m : Disk). disk_after call fate (past_within call m)) (same_disk call s) in
     let is : disk_after call fate (past_within call s.disk) ≡ n = sym at ∙ told_if t.ran_out t.disk n e in
     record {
       disk = s.disk;
       was_told = told_in s h.ran;
-      called = subst (λ (b : DiskTold call). DiskCalled call b s.disk n) (sym h.answer) (subst (λ (m : Disk). DiskCalled call (tells call (reply_by call fate s.disk) t) s.disk m) is (does call fate s.disk t.faults));
+      called = subst (λ (b : DiskTold call). DiskCalled call b s.disk n) (sym h.answer) (subst (λ (m : Disk). DiskCalled call (told_with call (reply_by call fate s.disk) t) s.disk m) is (does call fate s.disk t.faults));
     }
 mem_did s call a t n (inr (inl h)) e =
     let is : past_within call s.disk ≡ n = sym (ap (λ (w : DiskWorld). w.disk) h.after) ∙ told_if t.ran_out t.disk n e in
@@ -138,7 +134,7 @@ wants_true Swap r e = absurd e
 -- each failure is counted
 pub mem_counted : (s : DiskWorld) (call : DiskCall) (a : DiskTold call) (t : DiskWorld) → MemKeeps s call a t → CountsOnDisk call a s.faults t.faults
 mem_counted s call a t (inl h) =
-    let fate : Option Mishap = fate_at call (numbered call s) in
+    let fate : Option Mishap = fate_at call (with_number call s) in
     let same : t.faults ≡ faults_by fate s.faults = ap (λ (w : DiskWorld). w.faults) h.after ∙ ap (λ (n : ℕ). faults_by fate n) (same_faults call s) in
     counts_by call fate s.disk a s.faults t.faults (ap (λ (b : DiskTold call). b.answer) h.answer) (ap (λ (b : DiskTold call). b.count) h.answer) same
 mem_counted s call a t (inr (inl h)) =

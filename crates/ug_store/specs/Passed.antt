@@ -1,5 +1,5 @@
 -- What a crash may leave, by the calls that a disk in memory has seen.
-use Rattle.std.specs.Prelude.{Bool, true, false, cond, List, [], ◌∷◌}
+use Rattle.std.specs.Prelude.{cond, List, [], ◌∷◌}
 use Rattle.ug_store.specs.Disk.{Images, Texts, while_swapping}
 use Rattle.ug_store.specs.declared.mem_disk.Passed.{Passed}
 use Rattle.ug_store.specs.declared.mem_disk.Passed.TheVariants as passed

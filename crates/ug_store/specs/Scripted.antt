@@ -1,7 +1,7 @@
 -- A disk in memory with its script, and what the script fixes.
 use Rattle.std.specs.Prelude.{◌≡◌, ℕ, ◌+◌, ◌-◌, ◌^◌, nat_lt, Bool, true, false, cond, ◌⊎◌, nat_eq, nat_le, if◌then◌else◌, List, [], ◌∷◌, ◌++◌, length, Option, Some, None}
 use Rattle.ug_store.specs.DiskCalls.{DiskCall, Load, Write_new, Sync_new, Swap, DiskReply, DiskTold, file_limit}
-use Rattle.ug_store.specs.Disk.{Disk, Images, Texts, while_swapping, inside}
+use Rattle.ug_store.specs.Disk.{Disk, Texts, while_swapping, inside}
 use Rattle.ug_store.specs.Passed.{left_within, left_after}
 use Rattle.ug_store.specs.declared.disk.DiskAnswer.{DiskAnswer}
 use Rattle.ug_store.specs.declared.disk.DiskAnswer.TheVariants as answer
@@ -46,9 +46,9 @@ takes_effect None = true
 takes_effect (Some mishap.NoEffect) = false
 takes_effect (Some mishap.Effect) = true
 
-abbrev pub answer_by : Option Mishap → DiskAnswer
-answer_by None = answer.Done
-answer_by (Some m) = answer.Failed
+abbrev pub answer_of_fate : Option Mishap → DiskAnswer
+answer_of_fate None = answer.Done
+answer_of_fate (Some m) = answer.Failed
 
 abbrev pub text_or_absent : List ℕ → Loaded
 text_or_absent [] = loaded.Absent
@@ -95,11 +95,11 @@ disk_after Sync_new fate m = synced_if (takes_effect fate) m
 disk_after Swap fate m = swapped_if (goes_well fate) (takes_effect fate) m
 
 -- reading isn't numbered, and never fails by the script
-abbrev pub numbered : DiskCall → DiskWorld → DiskWorld
-numbered Load w = w
-numbered (Write_new text) w = record w { calls = one_up w.calls }
-numbered Sync_new w = record w { calls = one_up w.calls }
-numbered Swap w = record w { calls = one_up w.calls }
+abbrev pub with_number : DiskCall → DiskWorld → DiskWorld
+with_number Load w = w
+with_number (Write_new text) w = record w { calls = one_up w.calls }
+with_number Sync_new w = record w { calls = one_up w.calls }
+with_number Swap w = record w { calls = one_up w.calls }
 
 abbrev pub fate_at : DiskCall → DiskWorld → Option Mishap
 fate_at Load w = None
@@ -109,16 +109,16 @@ fate_at Swap w = mishap_at w.calls None w.planned
 
 abbrev pub reply_by : (call : DiskCall) → Option Mishap → Disk → DiskReply call
 reply_by Load fate m = loaded_of m.text
-reply_by (Write_new text) fate m = answer_by fate
-reply_by Sync_new fate m = answer_by fate
-reply_by Swap fate m = answer_by fate
+reply_by (Write_new text) fate m = answer_of_fate fate
+reply_by Sync_new fate m = answer_of_fate fate
+reply_by Swap fate m = answer_of_fate fate
 
 abbrev pub faults_by : Option Mishap → ℕ → ℕ
 faults_by fate n = cond (goes_well fate) n (one_up n)
 
 -- the answer that a call returns in a world
-abbrev pub tells : (call : DiskCall) → DiskReply call → DiskWorld → DiskTold call
-tells call reply w = record { answer = reply; count = w.faults }
+abbrev pub told_with : (call : DiskCall) → DiskReply call → DiskWorld → DiskTold call
+told_with call reply w = record { answer = reply; count = w.faults }
 
 -- a call in a world that has numbered it
 abbrev pub world_after : DiskCall → DiskWorld → DiskWorld
@@ -129,13 +129,13 @@ world_after call w = record w {
 
 -- a disk that has run out fails
 abbrev pub refused_on : DiskCall → DiskWorld → DiskWorld
-refused_on call w = record (numbered call w) { faults = one_up w.faults; ran_out = true }
+refused_on call w = record (with_number call w) { faults = one_up w.faults; ran_out = true }
 
 -- the script's answer, and what it leaves
 pub record Scripted (s : DiskWorld) (call : DiskCall) (a : DiskTold call) (t : DiskWorld) : Type 0 where
   pub ran : s.ran_out ≡ false
-  pub after : t ≡ world_after call (numbered call s)
-  pub answer : a ≡ tells call (reply_by call (fate_at call (numbered call s)) s.disk) t
+  pub after : t ≡ world_after call (with_number call s)
+  pub answer : a ≡ told_with call (reply_by call (fate_at call (with_number call s)) s.disk) t
 
 abbrev pub WantsMemory : (call : DiskCall) → DiskReply call → Type 0
 WantsMemory Load a = a ≡ loaded.Memory
@@ -146,14 +146,14 @@ WantsMemory Swap a = ⊥
 -- memory for a text was refused: the call does nothing, but it is numbered
 pub record Unserved (s : DiskWorld) (call : DiskCall) (a : DiskTold call) (t : DiskWorld) : Type 0 where
   pub ran : s.ran_out ≡ false
-  pub after : t ≡ record (numbered call s) { disk = past_within call s.disk }
+  pub after : t ≡ record (with_number call s) { disk = past_within call s.disk }
   pub memory : WantsMemory call a.answer
   pub count : a.count ≡ t.faults
 
 -- it has run out, or memory for an entry was refused: the call fails, and no disk is told from then on
 pub record RanOut (s : DiskWorld) (call : DiskCall) (a : DiskTold call) (t : DiskWorld) : Type 0 where
   pub after : t ≡ refused_on call s
-  pub answer : a ≡ tells call (failed_reply call) t
+  pub answer : a ≡ told_with call (failed_reply call) t
 
 -- the script's answer; or want of memory
 abbrev pub MemKeeps : DiskWorld → (call : DiskCall) → DiskTold call → DiskWorld → Type 0
@@ -171,7 +171,7 @@ abbrev pub disk_told : DiskWorld → Option Disk
 disk_told w = cond w.ran_out None (Some w.disk)
 
 -- the entry of a call that has begun, unless it has run out or now does
-abbrev pub Enters : DiskWorld → Passed → Bool → DiskWorld → Type 0
-Enters w p true u =
+abbrev pub IsNoted : DiskWorld → Passed → Bool → DiskWorld → Type 0
+IsNoted w p true u =
     (w.ran_out ≡ false) × (u ≡ record w { disk = record w.disk { left = left_after p w.disk.left; past = w.disk.past ++ left_within p w.disk.left ∷ [] } })
-Enters w p false u = u ≡ record w { faults = one_up w.faults; ran_out = true }
+IsNoted w p false u = u ≡ record w { faults = one_up w.faults; ran_out = true }

@@ -36,19 +36,19 @@ after_swap answer.Done count = Ended saved.Done
 after_swap answer.Failed count = Ended (saved.Failed count)
 after_swap answer.Memory count = Ended saved.Memory
 
-abbrev pub after_sync : DiskAnswer → ℕ → DiskProg Saved
-after_sync answer.Done count = AskDisk Swap (λ t. after_swap t.answer t.count)
-after_sync answer.Failed count = Ended (saved.Failed count)
-after_sync answer.Memory count = Ended saved.Memory
+abbrev pub after_sync_new : DiskAnswer → ℕ → DiskProg Saved
+after_sync_new answer.Done count = AskDisk Swap (λ t. after_swap t.answer t.count)
+after_sync_new answer.Failed count = Ended (saved.Failed count)
+after_sync_new answer.Memory count = Ended saved.Memory
 
-abbrev pub after_write : DiskAnswer → ℕ → DiskProg Saved
-after_write answer.Done count = AskDisk Sync_new (λ t. after_sync t.answer t.count)
-after_write answer.Failed count = Ended (saved.Failed count)
-after_write answer.Memory count = Ended saved.Memory
+abbrev pub after_write_new : DiskAnswer → ℕ → DiskProg Saved
+after_write_new answer.Done count = AskDisk Sync_new (λ t. after_sync_new t.answer t.count)
+after_write_new answer.Failed count = Ended (saved.Failed count)
+after_write_new answer.Memory count = Ended saved.Memory
 
 -- write, sync, swap; the first that isn't done ends it
 unfoldable pub saving : List ℕ → DiskProg Saved
-saving text = AskDisk (Write_new text) (λ t. after_write t.answer t.count)
+saving text = AskDisk (Write_new text) (λ t. after_write_new t.answer t.count)
 
 abbrev pub after_load : Loaded → ℕ → DiskProg (Result (List ℕ) RecoverFault)
 after_load (loaded.Bytes text) count = Ended (Ok text)

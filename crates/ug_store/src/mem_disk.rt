@@ -1,7 +1,7 @@
 // A disk in memory, which goes by a script.
-ghost use Rattle.std.specs.Prelude.{◌≡◌, ◌⊎◌, ◌++◌, ◌∷◌, [], true, false, None, IfOk, OnOk, OnErr};
+ghost use Rattle.std.specs.Prelude.{◌≡◌, ◌⊎◌, ◌++◌, ◌∷◌, [], true, false, None, IsOk, IfOk, OnOk, OnErr};
 ghost use Rattle.ug_store.specs.MemLaw.{mem_did, mem_counted};
-ghost use Rattle.ug_store.specs.Scripted.{world_at_first, mishap_at, takes_effect, goes_well, answer_by, faults_by, written_if, traded_if, loaded_of, one_up, begun_on, over_on, disk_told, MemKeeps, Enters};
+ghost use Rattle.ug_store.specs.Scripted.{world_at_first, mishap_at, takes_effect, goes_well, answer_of_fate, faults_by, written_if, traded_if, loaded_of, one_up, begun_on, over_on, disk_told, MemKeeps, IsNoted};
 
 use crate::disk::{DiskAnswer, Loaded, RuleDisk};
 use crate::mishap::{Mishap, Planned};
@@ -143,7 +143,7 @@ impl MemDisk {
     // Notes a call, unless there is no memory for its entry, or was none before.
     #[tactic(auto, using(crate::proofs::Passing::left_now_more, crate::proofs::Passing::left_so_far_more))]
     fn enter(&mut self, passed: Passed) -> bool
-        ensures { Enters self.old passed result self.new }
+        ensures { IsNoted self.old passed result self.new }
     {
         if self.ran_out {
             self.faults = one_up(self.faults);
@@ -173,7 +173,7 @@ impl MemDisk {
     }
 
     fn answer(&mut self, fate: Option<Mishap>) -> DiskAnswer
-        ensures answer { result ≡ answer_by fate }
+        ensures answer { result ≡ answer_of_fate fate }
         ensures counted { self.new ≡ record self.old { faults = faults_by fate self.old.faults } }
     {
         match fate {
@@ -264,7 +264,13 @@ impl RuleDisk for MemDisk {
 
     ghost counted = { mem_counted };
 
-    fn aim(&mut self, _alloc: Global, _path: &[u8]) -> Result<(), NoMemory> {
+    /// It changes nothing.
+    fn aim(&mut self, _alloc: Global, _path: &[u8]) -> Result<(), NoMemory>
+        ensures done { IsOk result }
+        ensures same { self.new ≡ self.old }
+        ensures told { disk_told self.new ≡ disk_told self.old }
+        ensures faults { self.new.faults ≡ self.old.faults }
+    {
         Ok(())
     }
 
@@ -294,9 +300,7 @@ impl RuleDisk for MemDisk {
             return DiskAnswer::Failed;
         }
         let fate = self.fate();
-        if takes_effect(fate) {
-            self.synced = true;
-        }
+        self.synced = self.synced || takes_effect(fate);
         self.answer(fate)
     }
 
