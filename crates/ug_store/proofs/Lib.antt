@@ -1,0 +1,4 @@
+mod Saving
+mod Counting
+mod Passing
+mod Standing

@@ -1,0 +1,17 @@
+// The rule file: saved by a new file, a sync and a swap, and read at every start.
+#![tactic(auto)]
+
+mod disk;
+mod laws;
+mod mem_disk;
+mod mishap;
+mod store;
+
+pub use disk::{DiskAnswer, Loaded, RuleDisk};
+pub use laws::{history_law, moment_law};
+pub use mem_disk::MemDisk;
+pub use mishap::Mishap;
+pub use store::{RecoverFault, Saved, Store};
+
+#[cfg(test)]
+mod tests;

@@ -1,0 +1,17 @@
+// Which calls of a disk in memory fail.
+
+/// How a call fails.
+#[derive(Clone, Copy, Debug, PartialEq, Eq)]
+pub enum Mishap {
+    /// It fails and does nothing.
+    NoEffect,
+    /// It does what it should, and answers that it failed.
+    Effect,
+}
+
+/// A call that is to fail.
+#[derive(Clone, Copy)]
+pub struct Planned {
+    pub call: u64,
+    pub mishap: Mishap,
+}
