@@ -145,7 +145,7 @@ parent_read name parent held is =
     (λ p. then_read name held 1 0 (reading parent attr.Serial held) (after_parent_serial d p) (read_one name parent attr.Serial held (inr is)) (λ s. (refl, All [] (parent_of_files d p s) No_more (omega arith))) (λ why. refl))
     (λ why. refl)) (λ why. refl)
 
-binds_by : (name : List ℕ) → Ways (binding name (parent_of name)) (Sure (Binds_by name))
+pub binds_by : (name : List ℕ) → Ways (binding name (parent_of name)) (Sure (Binds_by name))
 unfolding binding
 binds_by name = λ t. opened_by t.answer t.number t.count
   where
@@ -188,7 +188,7 @@ binds_by name = λ t. opened_by t.answer t.number t.count
     opened_by opened.Failed call count = (refl, Open_failed call count)
     opened_by opened.Memory call count = (refl, Open_short call count)
 
-holds_by : (name : List ℕ) (held : ℕ) → Ways (holding_remove name held) (Sure (Holds_by name held))
+pub holds_by : (name : List ℕ) (held : ℕ) → Ways (holding_remove name held) (Sure (Holds_by name held))
 unfolding holding_remove
 holds_by name held = λ t. by t.answer t.number t.count
   where

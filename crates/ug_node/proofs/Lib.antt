@@ -1,6 +1,6 @@
-pub mod Laws
-mod ReadAs
-mod Rises
-mod Unwritten
-pub mod Removing
 pub mod BindShapes
+mod ReadAs
+mod Unwritten
+pub mod Laws
+pub mod Removing
+mod Rises

@@ -22,7 +22,6 @@ use Rattle.ug_itree.proofs.Kernels.{NoWrites, runs_sound, runs_quiet}
 use Rattle.ug_node.specs.declared.removal.RemoveHold.{RemoveHold}
 use Rattle.ug_node.specs.declared.removal.RemoveHold.TheVariants as hold
 use Rattle.ug_node.specs.Removal.{after_remove_probe, after_remove_open, holding_remove, IsAuthorizedFile, RemoveSays, IsRemoveHold, HoldsRemove, TellsRemoveFault}
-use Rattle.ug_node.proofs.Rises.{fault_earlier, counted_fault}
 
 -- nothing is written
 
@@ -120,33 +119,3 @@ pub told_holds : {S : Type 0} (gives : S → (call : Call) → Answer call → S
 told_holds gives told did name held s r t runs = λ l e.
     let m = told_run gives told did (holding_remove name held) s r t l runs e in
     (m.kernel, m.was, λ k i f. holding_law name held i r m.kernel l k f (m.run k).0)
-
--- the numbers of a failed answer
-
-tells_end : (v u w : Tally) (x r : RemoveHold) → TellsRemoveFault v.faults u.calls u.faults x → r ≡ x → w ≡ u → TellsRemoveFault v.faults w.calls w.faults r
-tells_end v u w x r h e f = subst (λ y. TellsRemoveFault v.faults y.calls y.faults r) (sym f) (subst (λ y. TellsRemoveFault v.faults u.calls u.faults y) (sym e) h)
-
-after_probe_tells : (file : Held) (answer : Probe) (number count : ℕ) (v u w : Tally) (r : RemoveHold) → Counted failed_probe (record { answer = answer; number = number; count = count }) v.calls v.faults u.calls u.faults → Runs counts u (after_remove_probe file answer number count) r w → TellsRemoveFault v.faults w.calls w.faults r
-after_probe_tells file (probe.Alive on) number count v u w r c runs = tells_end v u w (hold.Ready file) r tt runs.0 runs.1
-after_probe_tells file probe.Gone number count v u w r c runs = tells_end v runs.1 w hold.Gone r tt runs.3.0 runs.3.1
-after_probe_tells file probe.Failed number count v u w r c runs = tells_end v runs.1 w (hold.Failed number count) r (counted_fault failed_probe probe.Failed number count v u runs.1 refl c runs.2.0 runs.2.1) runs.3.0 runs.3.1
-
-tells_earlier : (v u w : Tally) (r : RemoveHold) → v.faults ≤ u.faults → u.faults ≤ w.faults → TellsRemoveFault u.faults w.calls w.faults r → TellsRemoveFault v.faults w.calls w.faults r
-tells_earlier v u w (hold.Ready file) g h t = tt
-tells_earlier v u w hold.Gone g h t = tt
-tells_earlier v u w (hold.Failed number count) g h t = fault_earlier v.faults u.faults w.calls w.faults number count g h t
-tells_earlier v u w hold.Memory g h t = tt
-
-after_open_tells : (held : ℕ) (answer : Opened) (number count : ℕ) (v u w : Tally) (r : RemoveHold) → Counted failed_open (record { answer = answer; number = number; count = count }) v.calls v.faults u.calls u.faults → Runs counts u (after_remove_open held answer number count) r w → TellsRemoveFault v.faults w.calls w.faults r
-after_open_tells held (opened.Token file) number count v u w r c runs =
-    tells_earlier v u w r c.never_falls (run_never_falls (after_remove_open held (opened.Token file) number count) u r w runs) (after_probe_tells file runs.0.answer runs.0.number runs.0.count u runs.1 w r runs.2 runs.3)
-after_open_tells held opened.Absent number count v u w r c runs = tells_end v u w hold.Gone r tt runs.0 runs.1
-after_open_tells held opened.Failed number count v u w r c runs = tells_end v u w (hold.Failed number count) r (counted_fault failed_open opened.Failed number count v u u refl c refl refl) runs.0 runs.1
-after_open_tells held opened.Memory number count v u w r c runs = tells_end v u w hold.Memory r tt runs.0 runs.1
-
-holding_tells : (name : List ℕ) (held : ℕ) (v w : Tally) (r : RemoveHold) → Runs counts v (holding_remove name held) r w → TellsRemoveFault v.faults w.calls w.faults r
-unfolding holding_remove
-holding_tells name held v w r runs = after_open_tells held runs.0.answer runs.0.number runs.0.count v runs.1 w r runs.2 runs.3
-
-pub remove_fault : {S : Type 0} (gives : S → (call : Call) → Answer call → S → Type 0) (calls faults : S → ℕ) (counted : (s : S) (call : Call) (answer : Answer call) (t : S) → gives s call answer t → Counts call answer (calls s) (faults s) (calls t) (faults t)) (name : List ℕ) (held : ℕ) (s : S) (r : RemoveHold) (t : S) → Runs gives s (holding_remove name held) r t → TellsRemoveFault (faults s) (calls t) (faults t) r
-remove_fault gives calls faults counted name held s r t runs = holding_tells name held (record { calls = calls s; faults = faults s }) (record { calls = calls t; faults = faults t }) r (counted_run gives calls faults counted (holding_remove name held) s r t runs)

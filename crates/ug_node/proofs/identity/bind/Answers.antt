@@ -6,4 +6,4 @@ pub returns-clause-law : goal.returns-clause-law
 returns-clause-law g c = told_binds g.Y.Sysfs.gives g.Y.Sysfs.told g.met.Y.Sysfs.did _ _ _ _ _ c.parent.ensures c.bind_below.ensures
 
 pub returns-clause-fault : goal.returns-clause-fault
-returns-clause-fault g c = told_fault g.Y.Sysfs.gives g.Y.Sysfs.calls g.Y.Sysfs.faults g.met.Y.Sysfs.counted _ _ _ _ _ c.bind_below.ensures
+returns-clause-fault g c = told_fault g.Y.Sysfs.gives g.Y.Sysfs.calls g.Y.Sysfs.faults g.met.Y.Sysfs.counted _ _ _ _ _ c.parent.ensures c.bind_below.ensures
