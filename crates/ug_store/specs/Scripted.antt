@@ -171,6 +171,10 @@ begun_on w = record w { calls = 0 }
 abbrev pub over_on : DiskWorld → DiskWorld
 over_on w = record w { planned = [] }
 
+-- what a crash might have left within the calls so far is forgotten
+abbrev pub forgetting : DiskWorld → DiskWorld
+forgetting w = record w { disk = record w.disk { past = [] } }
+
 abbrev pub disk_told : DiskWorld → Option Disk
 disk_told w = cond w.ran_out None (Some w.disk)
 

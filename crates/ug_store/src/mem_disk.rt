@@ -1,7 +1,8 @@
 // A disk in memory, which goes by a script.
 ghost use Rattle.std.specs.Prelude.{◌≡◌, ◌⊎◌, ◌++◌, ◌∷◌, [], true, false, None, IsOk, IfOk, OnOk, OnErr};
 ghost use Rattle.ug_store.specs.MemLaw.{mem_did, mem_counted};
-ghost use Rattle.ug_store.specs.Scripted.{world_at_first, mishap_at, takes_effect, goes_well, answer_of_fate, faults_by, written_if, traded_if, loaded_of, one_up, begun_on, over_on, disk_told, MemKeeps, IsNoted};
+ghost use Rattle.ug_store.specs.Passed.{any_settles};
+ghost use Rattle.ug_store.specs.Scripted.{forgetting, world_at_first, mishap_at, takes_effect, goes_well, answer_of_fate, faults_by, written_if, traded_if, loaded_of, one_up, begun_on, over_on, disk_told, MemKeeps, IsNoted};
 
 use crate::disk::{DiskAnswer, Loaded, RuleDisk};
 use crate::mishap::{Mishap, Planned};
@@ -28,6 +29,8 @@ pub enum Passed {
 pub struct MemDisk {
     alloc: Global,
     first: Text,
+    // the calls before the last `forget`, as far as they still count, and those since
+    earlier: Vec<Passed>,
     passed: Vec<Passed>,
     text: Text,
     fresh: Text,
@@ -42,7 +45,8 @@ impl Model for MemDisk {
     ghost use Rattle.std.specs.Prelude.{[], ◌∷◌};
     ghost use Rattle.ug_store.specs.Disk.{Texts};
     ghost use Rattle.ug_store.specs.Passed.{left_now, left_so_far};
-    ghost use Rattle.ug_store.specs.Scripted.{DiskWorld};
+    ghost use Rattle.ug_store.specs.Passed.{any_settles};
+    ghost use Rattle.ug_store.specs.Scripted.{forgetting, DiskWorld};
 
     ghost Value = { DiskWorld };
 
@@ -51,8 +55,8 @@ impl Model for MemDisk {
         text = s.text;
         fresh = s.fresh;
         synced = s.synced;
-        left = left_now (Texts (s.first ∷ [])) s.passed.items;
-        past = left_so_far (Texts (s.first ∷ [])) s.passed.items;
+        left = left_now (left_now (Texts (s.first ∷ [])) s.earlier.items) s.passed.items;
+        past = left_so_far (left_now (Texts (s.first ∷ [])) s.earlier.items) s.passed.items;
       };
       planned = s.planned.items;
       calls = s.calls;
@@ -85,6 +89,7 @@ impl MemDisk {
         MemDisk {
             alloc,
             first,
+            earlier: Vec::new(alloc),
             passed: Vec::new(alloc),
             text,
             fresh: Text::new(alloc),
@@ -117,6 +122,22 @@ impl MemDisk {
         ensures { self.new ≡ over_on self.old }
     {
         self.planned.clear();
+    }
+
+    /// Forgets what a crash might have left within the calls so far. Each call adds to that, and each swap its text: who
+    /// forgets after each event keeps no more than since the last event with a save that was done.
+    #[tactic(auto, using(crate::proofs::Passing::left_now_joined, crate::proofs::Passing::left_now_settled))]
+    pub fn forget(&mut self) -> Result<(), NoMemory>
+        ensures ok { OnOk result (self.new ≡ forgetting self.old) }
+        ensures err { OnErr result (self.new ≡ self.old) }
+    {
+        if any_settles(&self.passed) {
+            self.earlier = mem::replace(&mut self.passed, Vec::new(self.alloc));
+            Ok(())
+        } else {
+            self.earlier.append(&mut self.passed)?;
+            Ok(())
+        }
     }
 
     /// The rule file's text.
@@ -204,6 +225,18 @@ impl MemDisk {
             self.synced = false;
         }
     }
+}
+
+// Whether a swap was done.
+fn any_settles(passed: &[Passed]) -> bool
+    ensures { result ≡ any_settles passed.now }
+{
+    for call in passed {
+        if matches!(call, Passed::Swap(_, _, true)) {
+            return true;
+        }
+    }
+    false
 }
 
 // How a call is to fail, if it is.
