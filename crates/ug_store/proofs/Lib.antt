@@ -4,3 +4,4 @@ mod Passing
 pub mod Saving
 pub mod Standing
 mod Mishaps
+pub mod Playing

@@ -1,7 +1,7 @@
 -- One call more, and what a crash may leave.
-use Rattle.std.proofs.Common.{◌≡◌, Bool, true, false, cond, ◌||◌, List, [], ◌∷◌, ◌++◌, refl, ap}
-use Rattle.ug_store.specs.Disk.{Images, Texts}
-use Rattle.ug_store.specs.Passed.{left_within, left_after, left_now, left_so_far, settles, any_settles}
+use Rattle.std.proofs.Common.{◌≡◌, true, false, List, [], ◌∷◌, ◌++◌, refl, ap}
+use Rattle.ug_store.specs.Disk.{Images}
+use Rattle.ug_store.specs.Passed.{left_within, left_after, left_now, left_so_far, any_settles}
 use Rattle.ug_store.specs.declared.mem_disk.Passed.{Passed}
 use Rattle.ug_store.specs.declared.mem_disk.Passed.TheVariants as passed
 

@@ -4,7 +4,7 @@ use Rattle.std.proofs.lemmas.Bool.{both_ways, lt-ltb, leb-true}
 use Rattle.ug_types.specs.Ends.{IsCounted, Rose}
 use Rattle.ug_store.specs.DiskCalls.{DiskCall, Load, Write_new, Sync_new, Swap, DiskReply, DiskTold, file_limit, failed_on, failed_load, CountsOnDisk}
 use Rattle.ug_store.specs.Disk.{Disk, ReadsFile, DiskCalled, FollowsOnDisk}
-use Rattle.ug_store.specs.Scripted.{DiskWorld, one_up, text_or_absent, loaded_of, failed_reply, past_within, disk_after, with_number, fate_at, reply_by, faults_by, told_with, world_after, refused_on, answering_on, disk_answer, WantsMemory, Unserved, RunsOutAt, MemKeeps, disk_told}
+use Rattle.ug_store.specs.Scripted.{DiskWorld, one_up, text_or_absent, loaded_of, failed_reply, past_within, disk_after, with_number, fate_at, reply_by, faults_by, told_with, world_after, refused_on, answering_on, WantsMemory, MemKeeps, disk_told}
 use Rattle.ug_store.specs.declared.disk.DiskAnswer.{DiskAnswer}
 use Rattle.ug_store.specs.declared.disk.Loaded.{Loaded}
 use Rattle.ug_store.specs.declared.disk.Loaded.TheVariants as loaded

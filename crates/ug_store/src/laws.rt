@@ -3,6 +3,7 @@ ghost use Rattle.std.specs.Prelude.{◌≡◌, ℕ, ◌++◌, ◌∷◌, [], tru
 ghost use Rattle.ug_store.specs.declared.mishap.Planned.{Planned};
 ghost use Rattle.ug_store.specs.DiskCalls.{DiskCall, DiskTold};
 ghost use Rattle.ug_store.specs.Scripted.{DiskWorld, MemKeeps, mishap_at};
+ghost use Rattle.ug_store.specs.PlayDisk.{SavesAsPlayed, ReadsAsPlayed};
 ghost use Rattle.ug_store.specs.History.{StandsAfter, StandsWithin, ReadsStanding, CoversEnds, StaysPossible};
 
 /// From a rule file that a crash leaves as it is: whatever was saved and read since, and whatever the disk answered,
@@ -27,6 +28,13 @@ pub fn mishap_law()
     ensures last { (n : ℕ) (ps : List Planned) (p : Planned) → p.call ≡ n → mishap_at n None (ps ++ p ∷ []) ≡ Some p.mishap }
     ensures other { (n : ℕ) (ps : List Planned) (p : Planned) → ¬ (p.call ≡ n)
         → mishap_at n None (ps ++ p ∷ []) ≡ mishap_at n None ps }
+{}
+
+/// Over a disk in memory, a save and a reading are those that its script fixes, unless they tell want of memory or the
+/// disk has run out.
+pub fn play_disk_law()
+    ensures saves { SavesAsPlayed }
+    ensures reads { ReadsAsPlayed }
 {}
 
 /// A disk in memory that has run out stays so.
