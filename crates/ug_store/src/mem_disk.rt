@@ -19,8 +19,12 @@ const LIMIT: usize = 67_108_864;
 pub enum Passed {
     /// It left that as it was.
     Quiet,
-    /// The new text, whether it was synced, and whether the swap was done.
-    Swap(Text, bool, bool),
+    /// The new text was to take the old one's place.
+    Swap {
+        fresh: Text,
+        synced: bool,
+        done: bool,
+    },
 }
 
 /// A rule file in memory. Its script fixes each answer, except where memory is refused. Where an entry of its calls
@@ -45,8 +49,7 @@ impl Model for MemDisk {
     ghost use Rattle.std.specs.Prelude.{[], ◌∷◌};
     ghost use Rattle.ug_store.specs.Disk.{Texts};
     ghost use Rattle.ug_store.specs.Passed.{left_now, left_so_far};
-    ghost use Rattle.ug_store.specs.Passed.{any_settles};
-    ghost use Rattle.ug_store.specs.Scripted.{forgetting, DiskWorld};
+    ghost use Rattle.ug_store.specs.Scripted.{DiskWorld};
 
     ghost Value = { DiskWorld };
 
@@ -110,7 +113,9 @@ impl MemDisk {
 
     /// A call of the event that is to fail. The last word on a call counts.
     pub fn fail(&mut self, call: u64, mishap: Mishap) -> Result<(), NoMemory>
-        ensures ok { OnOk result (self.new ≡ record self.old { planned = self.old.planned ++ record { call = call; mishap = mishap } ∷ [] }) }
+        ensures ok { OnOk result (self.new ≡ record self.old {
+          planned = self.old.planned ++ record { call = call; mishap = mishap } ∷ [];
+        }) }
         ensures err { OnErr result (self.new ≡ self.old) }
     {
         self.planned.push(Planned { call, mishap })?;
@@ -232,7 +237,7 @@ fn any_settles(passed: &[Passed]) -> bool
     ensures { result ≡ any_settles passed.now }
 {
     for call in passed {
-        if matches!(call, Passed::Swap(_, _, true)) {
+        if matches!(call, Passed::Swap { done: true, .. }) {
             return true;
         }
     }
@@ -342,7 +347,12 @@ impl RuleDisk for MemDisk {
         let fate = self.fate();
         match Text::of(self.alloc, self.fresh.bytes()) {
             Ok(copy) => {
-                if !self.enter(Passed::Swap(copy, self.synced, goes_well(fate))) {
+                let passed = Passed::Swap {
+                    fresh: copy,
+                    synced: self.synced,
+                    done: goes_well(fate),
+                };
+                if !self.enter(passed) {
                     return DiskAnswer::Failed;
                 }
             }
