@@ -1,6 +1,6 @@
 -- The count of faults over a save and a reading.
 use Rattle.std.proofs.Common.{◌≡◌, ℕ, ◌≤◌, List, [], Result, Ok, Err, refl, sym, subst, arith}
-use Rattle.ug_types.specs.Ends.{Rose}
+use Rattle.ug_types.specs.Ends.{IsCounted, Rose}
 use Rattle.ug_store.specs.DiskCalls.{DiskCall, Load, Write_new, Sync_new, Swap, DiskTold, CountsOnDisk}
 use Rattle.ug_store.specs.Store.{RunsDisk, after_swap, after_sync_new, after_write_new, saving, after_load, recovering, TellsSaveFault, TellsRecoverFault}
 use Rattle.ug_store.specs.declared.disk.DiskAnswer.{DiskAnswer}
@@ -79,3 +79,17 @@ pub recover_counts : {S : Type 0} (keeps : S → (call : DiskCall) → DiskTold 
     → RunsDisk keeps s recovering r x → TellsRecoverFault r (faults s) (faults x)
 unfolding recovering
 recover_counts keeps faults counted s r x run = load_counts keeps faults s run.1 run.0.answer run.0.count r x (counted s Load run.0 run.1 run.2) run.3
+
+load_once : {S : Type 0} (keeps : S → (call : DiskCall) → DiskTold call → S → Type 0) (faults : S → ℕ) (s : ℕ) (u : S) (a : Loaded) (count : ℕ) (r : Result (List ℕ) RecoverFault) (x : S)
+    → IsCounted s (faults u) → RunsDisk keeps u (after_load a count) r x → IsCounted s (faults x)
+load_once keeps faults s u (loaded.Bytes text) count r x h run = subst (λ y. IsCounted s (faults y)) (sym run.1) h
+load_once keeps faults s u loaded.Absent count r x h run = subst (λ y. IsCounted s (faults y)) (sym run.1) h
+load_once keeps faults s u loaded.TooLong count r x h run = subst (λ y. IsCounted s (faults y)) (sym run.1) h
+load_once keeps faults s u loaded.Failed count r x h run = subst (λ y. IsCounted s (faults y)) (sym run.1) h
+load_once keeps faults s u loaded.Memory count r x h run = subst (λ y. IsCounted s (faults y)) (sym run.1) h
+
+-- a reading is one call
+pub recover_once : {S : Type 0} (keeps : S → (call : DiskCall) → DiskTold call → S → Type 0) (faults : S → ℕ) (counted : (s : S) (call : DiskCall) (a : DiskTold call) (t : S) → keeps s call a t → CountsOnDisk call a (faults s) (faults t)) (s : S) (r : Result (List ℕ) RecoverFault) (x : S)
+    → RunsDisk keeps s recovering r x → IsCounted (faults s) (faults x)
+unfolding recovering
+recover_once keeps faults counted s r x run = load_once keeps faults (faults s) run.1 run.0.answer run.0.count r x (counted s Load run.0 run.1 run.2).counted run.3

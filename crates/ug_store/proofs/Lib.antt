@@ -1,4 +1,7 @@
-mod Saving
 mod Counting
+pub mod DiskRuns
 mod Passing
-mod Standing
+pub mod Saving
+pub mod Standing
+mod Mishaps
+pub mod Playing

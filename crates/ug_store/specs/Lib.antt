@@ -5,3 +5,4 @@ pub mod Passed
 pub mod Scripted
 pub mod MemLaw
 pub mod History
+pub mod PlayDisk

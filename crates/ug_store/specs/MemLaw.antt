@@ -4,7 +4,7 @@ use Rattle.std.proofs.lemmas.Bool.{both_ways, lt-ltb, leb-true}
 use Rattle.ug_types.specs.Ends.{IsCounted, Rose}
 use Rattle.ug_store.specs.DiskCalls.{DiskCall, Load, Write_new, Sync_new, Swap, DiskReply, DiskTold, file_limit, failed_on, failed_load, CountsOnDisk}
 use Rattle.ug_store.specs.Disk.{Disk, ReadsFile, DiskCalled, FollowsOnDisk}
-use Rattle.ug_store.specs.Scripted.{DiskWorld, one_up, text_or_absent, loaded_of, past_within, disk_after, with_number, fate_at, reply_by, faults_by, told_with, WantsMemory, MemKeeps, disk_told}
+use Rattle.ug_store.specs.Scripted.{DiskWorld, one_up, text_or_absent, loaded_of, failed_reply, past_within, disk_after, with_number, fate_at, reply_by, faults_by, told_with, world_after, refused_on, answering_on, WantsMemory, MemKeeps, disk_told}
 use Rattle.ug_store.specs.declared.disk.DiskAnswer.{DiskAnswer}
 use Rattle.ug_store.specs.declared.disk.Loaded.{Loaded}
 use Rattle.ug_store.specs.declared.disk.Loaded.TheVariants as loaded
@@ -73,15 +73,30 @@ told_not t n out e = let no : None ≡ Some n = sym (ap (λ (b : Bool). cond b N
 
 -- where a disk is told after a call, one was told before it, and the call did what it may
 pub mem_did : (s : DiskWorld) (call : DiskCall) (a : DiskTold call) (t : DiskWorld) (n : Disk) → MemKeeps s call a t → disk_told t ≡ Some n → FollowsOnDisk call a (disk_told s) n
-mem_did s call a t n (inl h) e =
-    let fate : Option Mishap = fate_at call (with_number call s) in
-    let at : t.disk ≡ disk_after call fate (past_within call s.disk) = ap (λ (w : DiskWorld). w.disk) h.after ∙ ap (λ (m : Disk). disk_after call fate (past_within call m)) (same_disk call s) in
-    let is : disk_after call fate (past_within call s.disk) ≡ n = sym at ∙ told_if t.ran_out t.disk n e in
-    record {
-      disk = s.disk;
-      was_told = told_in s h.ran;
-      called = subst (λ (b : DiskTold call). DiskCalled call b s.disk n) (sym h.answer) (subst (λ (m : Disk). DiskCalled call (told_with call (reply_by call fate s.disk) t) s.disk m) is (does call fate s.disk t.faults));
-    }
+mem_did s call a t n (inl h) e = pick s.ran_out refl h
+  where
+    fate : Option Mishap
+    fate = fate_at call (with_number call s)
+
+    runs : DiskWorld
+    runs = world_after call (with_number call s)
+
+    fails : DiskTold call × DiskWorld
+    fails = answering_on call (failed_reply call) (refused_on call s)
+
+    goes : DiskTold call × DiskWorld
+    goes = answering_on call (reply_by call fate s.disk) runs
+
+    pick : (b : Bool) → s.ran_out ≡ b → (a ≡ (cond b fails goes).0) × (t ≡ (cond b fails goes).1) → FollowsOnDisk call a (disk_told s) n
+    pick true out k = absurd (told_not t n (ap (λ (w : DiskWorld). w.ran_out) k.1) e)
+    pick false ran k =
+        let at : t.disk ≡ disk_after call fate (past_within call s.disk) = ap (λ (w : DiskWorld). w.disk) k.1 ∙ ap (λ (m : Disk). disk_after call fate (past_within call m)) (same_disk call s) in
+        let is : disk_after call fate (past_within call s.disk) ≡ n = sym at ∙ told_if t.ran_out t.disk n e in
+        record {
+          disk = s.disk;
+          was_told = told_in s ran;
+          called = subst (λ (b : DiskTold call). DiskCalled call b s.disk n) (sym k.0) (subst (λ (m : Disk). DiskCalled call (told_with call (reply_by call fate s.disk) runs) s.disk m) is (does call fate s.disk runs.faults));
+        }
 mem_did s call a t n (inr (inl h)) e =
     let is : past_within call s.disk ≡ n = sym (ap (λ (w : DiskWorld). w.disk) h.after) ∙ told_if t.ran_out t.disk n e in
     record {
@@ -133,11 +148,44 @@ wants_true Swap r e = absurd e
 
 -- each failure is counted
 pub mem_counted : (s : DiskWorld) (call : DiskCall) (a : DiskTold call) (t : DiskWorld) → MemKeeps s call a t → CountsOnDisk call a s.faults t.faults
-mem_counted s call a t (inl h) =
-    let fate : Option Mishap = fate_at call (with_number call s) in
-    let same : t.faults ≡ faults_by fate s.faults = ap (λ (w : DiskWorld). w.faults) h.after ∙ ap (λ (n : ℕ). faults_by fate n) (same_faults call s) in
-    counts_by call fate s.disk a s.faults t.faults (ap (λ (b : DiskTold call). b.answer) h.answer) (ap (λ (b : DiskTold call). b.count) h.answer) same
+mem_counted s call a t (inl h) = pick s.ran_out h
+  where
+    fate : Option Mishap
+    fate = fate_at call (with_number call s)
+
+    runs : DiskWorld
+    runs = world_after call (with_number call s)
+
+    fails : DiskTold call × DiskWorld
+    fails = answering_on call (failed_reply call) (refused_on call s)
+
+    goes : DiskTold call × DiskWorld
+    goes = answering_on call (reply_by call fate s.disk) runs
+
+    pick : (b : Bool) → (a ≡ (cond b fails goes).0) × (t ≡ (cond b fails goes).1) → CountsOnDisk call a s.faults t.faults
+    pick true k =
+        let up : t.faults ≡ one_up s.faults = ap (λ (w : DiskWorld). w.faults) k.1 in
+        counts_more call a s.faults t.faults (ap (λ (b : DiskTold call). b.count) k.0 ∙ sym up) up
+    pick false k =
+        let same : t.faults ≡ faults_by fate s.faults = ap (λ (w : DiskWorld). w.faults) k.1 ∙ ap (λ (n : ℕ). faults_by fate n) (same_faults call s) in
+        counts_by call fate s.disk a s.faults t.faults (ap (λ (b : DiskTold call). b.answer) k.0) (ap (λ (b : DiskTold call). b.count) k.0 ∙ sym (ap (λ (w : DiskWorld). w.faults) k.1)) same
 mem_counted s call a t (inr (inl h)) =
     counts_same call a s.faults t.faults h.count (ap (λ (w : DiskWorld). w.faults) h.after ∙ same_faults call s) (wants_true call a.answer h.memory)
 mem_counted s call a t (inr (inr h)) =
     counts_more call a s.faults t.faults (ap (λ (b : DiskTold call). b.count) h.answer) (ap (λ (w : DiskWorld). w.faults) h.after)
+
+-- a disk that has run out stays so
+pub mem_stays_out : (s : DiskWorld) (call : DiskCall) (a : DiskTold call) (t : DiskWorld) → MemKeeps s call a t → s.ran_out ≡ true → t.ran_out ≡ true
+mem_stays_out s call a t (inl h) out = pick s.ran_out out h
+  where
+    fails : DiskTold call × DiskWorld
+    fails = answering_on call (failed_reply call) (refused_on call s)
+
+    goes : DiskTold call × DiskWorld
+    goes = answering_on call (reply_by call (fate_at call (with_number call s)) s.disk) (world_after call (with_number call s))
+
+    pick : (b : Bool) → b ≡ true → (a ≡ (cond b fails goes).0) × (t ≡ (cond b fails goes).1) → t.ran_out ≡ true
+    pick true is k = ap (λ (w : DiskWorld). w.ran_out) k.1
+    pick false is k = absurd (both_ways false refl is)
+mem_stays_out s call a t (inr (inl h)) out = absurd (both_ways s.ran_out h.ran out)
+mem_stays_out s call a t (inr (inr h)) out = ap (λ (w : DiskWorld). w.ran_out) h.after

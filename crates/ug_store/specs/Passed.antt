@@ -1,5 +1,5 @@
 -- What a crash may leave, by the calls that a disk in memory has seen.
-use Rattle.std.specs.Prelude.{cond, List, [], ◌∷◌}
+use Rattle.std.specs.Prelude.{Bool, false, cond, ◌||◌, List, [], ◌∷◌}
 use Rattle.ug_store.specs.Disk.{Images, Texts, while_swapping}
 use Rattle.ug_store.specs.declared.mem_disk.Passed.{Passed}
 use Rattle.ug_store.specs.declared.mem_disk.Passed.TheVariants as passed
@@ -13,6 +13,15 @@ left_within (passed.Swap fresh synced done) left = while_swapping synced left fr
 abbrev pub left_after : Passed → Images → Images
 left_after passed.Quiet left = left
 left_after (passed.Swap fresh synced done) left = cond done (Texts (fresh ∷ [])) (while_swapping synced left fresh)
+
+-- a swap that was done: what a crash leaves after it doesn't depend on what it left before
+abbrev pub settles : Passed → Bool
+settles passed.Quiet = false
+settles (passed.Swap fresh synced done) = done
+
+abbrev pub any_settles : List Passed → Bool
+any_settles [] = false
+any_settles (p ∷ ps) = settles p || any_settles ps
 
 -- after all of them
 abbrev pub left_now : Images → List Passed → Images

@@ -131,11 +131,14 @@ world_after call w = record w {
 abbrev pub refused_on : DiskCall → DiskWorld → DiskWorld
 refused_on call w = record (with_number call w) { faults = one_up w.faults; ran_out = true }
 
--- the script's answer, and what it leaves
-pub record Scripted (s : DiskWorld) (call : DiskCall) (a : DiskTold call) (t : DiskWorld) : Type 0 where
-  pub ran : s.ran_out ≡ false
-  pub after : t ≡ world_after call (with_number call s)
-  pub answer : a ≡ told_with call (reply_by call (fate_at call (with_number call s)) s.disk) t
+abbrev pub answering_on : (call : DiskCall) → DiskReply call → DiskWorld → DiskTold call × DiskWorld
+answering_on call reply w = (told_with call reply w, w)
+
+-- what the script fixes: the answer, and what it leaves
+abbrev pub disk_answer : DiskWorld → (call : DiskCall) → DiskTold call × DiskWorld
+disk_answer w call = cond w.ran_out
+    (answering_on call (failed_reply call) (refused_on call w))
+    (answering_on call (reply_by call (fate_at call (with_number call w)) w.disk) (world_after call (with_number call w)))
 
 abbrev pub WantsMemory : (call : DiskCall) → DiskReply call → Type 0
 WantsMemory Load a = a ≡ loaded.Memory
@@ -150,14 +153,15 @@ pub record Unserved (s : DiskWorld) (call : DiskCall) (a : DiskTold call) (t : D
   pub memory : WantsMemory call a.answer
   pub count : a.count ≡ t.faults
 
--- it has run out, or memory for an entry was refused: the call fails, and no disk is told from then on
-pub record RanOut (s : DiskWorld) (call : DiskCall) (a : DiskTold call) (t : DiskWorld) : Type 0 where
+-- memory for an entry was refused: the call fails, and no disk is told from then on
+pub record RunsOutAt (s : DiskWorld) (call : DiskCall) (a : DiskTold call) (t : DiskWorld) : Type 0 where
   pub after : t ≡ refused_on call s
   pub answer : a ≡ told_with call (failed_reply call) t
 
 -- the script's answer; or want of memory
 abbrev pub MemKeeps : DiskWorld → (call : DiskCall) → DiskTold call → DiskWorld → Type 0
-MemKeeps s call a t = Scripted s call a t ⊎ (Unserved s call a t ⊎ RanOut s call a t)
+MemKeeps s call a t =
+    ((a ≡ (disk_answer s call).0) × (t ≡ (disk_answer s call).1)) ⊎ (Unserved s call a t ⊎ RunsOutAt s call a t)
 
 -- an event begins: its calls are numbered from 1
 abbrev pub begun_on : DiskWorld → DiskWorld
@@ -166,6 +170,10 @@ begun_on w = record w { calls = 0 }
 -- an event is over: no call is to fail any more
 abbrev pub over_on : DiskWorld → DiskWorld
 over_on w = record w { planned = [] }
+
+-- what a crash might have left within the calls so far is forgotten
+abbrev pub forgetting : DiskWorld → DiskWorld
+forgetting w = record w { disk = record w.disk { past = [] } }
 
 abbrev pub disk_told : DiskWorld → Option Disk
 disk_told w = cond w.ran_out None (Some w.disk)

@@ -8,7 +8,7 @@ mod mishap;
 mod store;
 
 pub use disk::{DiskAnswer, Loaded, RuleDisk};
-pub use laws::{history_law, moment_law};
+pub use laws::{history_law, mishap_law, moment_law, play_disk_law, run_out_law};
 pub use mem_disk::MemDisk;
 pub use mishap::Mishap;
 pub use store::{RecoverFault, Saved, Store};

@@ -1,7 +1,8 @@
 // A disk in memory, which goes by a script.
 ghost use Rattle.std.specs.Prelude.{◌≡◌, ◌⊎◌, ◌++◌, ◌∷◌, [], true, false, None, IsOk, IfOk, OnOk, OnErr};
 ghost use Rattle.ug_store.specs.MemLaw.{mem_did, mem_counted};
-ghost use Rattle.ug_store.specs.Scripted.{world_at_first, mishap_at, takes_effect, goes_well, answer_of_fate, faults_by, written_if, traded_if, loaded_of, one_up, begun_on, over_on, disk_told, MemKeeps, IsNoted};
+ghost use Rattle.ug_store.specs.Passed.{any_settles};
+ghost use Rattle.ug_store.specs.Scripted.{forgetting, world_at_first, mishap_at, takes_effect, goes_well, answer_of_fate, faults_by, written_if, traded_if, loaded_of, one_up, begun_on, over_on, disk_told, MemKeeps, IsNoted};
 
 use crate::disk::{DiskAnswer, Loaded, RuleDisk};
 use crate::mishap::{Mishap, Planned};
@@ -18,8 +19,12 @@ const LIMIT: usize = 67_108_864;
 pub enum Passed {
     /// It left that as it was.
     Quiet,
-    /// The new text, whether it was synced, and whether the swap was done.
-    Swap(Text, bool, bool),
+    /// The new text was to take the old one's place.
+    Swap {
+        fresh: Text,
+        synced: bool,
+        done: bool,
+    },
 }
 
 /// A rule file in memory. Its script fixes each answer, except where memory is refused. Where an entry of its calls
@@ -28,6 +33,8 @@ pub enum Passed {
 pub struct MemDisk {
     alloc: Global,
     first: Text,
+    // the calls before the last `forget`, as far as they still count, and those since
+    earlier: Vec<Passed>,
     passed: Vec<Passed>,
     text: Text,
     fresh: Text,
@@ -51,8 +58,8 @@ impl Model for MemDisk {
         text = s.text;
         fresh = s.fresh;
         synced = s.synced;
-        left = left_now (Texts (s.first ∷ [])) s.passed.items;
-        past = left_so_far (Texts (s.first ∷ [])) s.passed.items;
+        left = left_now (left_now (Texts (s.first ∷ [])) s.earlier.items) s.passed.items;
+        past = left_so_far (left_now (Texts (s.first ∷ [])) s.earlier.items) s.passed.items;
       };
       planned = s.planned.items;
       calls = s.calls;
@@ -85,6 +92,7 @@ impl MemDisk {
         MemDisk {
             alloc,
             first,
+            earlier: Vec::new(alloc),
             passed: Vec::new(alloc),
             text,
             fresh: Text::new(alloc),
@@ -105,7 +113,9 @@ impl MemDisk {
 
     /// A call of the event that is to fail. The last word on a call counts.
     pub fn fail(&mut self, call: u64, mishap: Mishap) -> Result<(), NoMemory>
-        ensures ok { OnOk result (self.new ≡ record self.old { planned = self.old.planned ++ record { call = call; mishap = mishap } ∷ [] }) }
+        ensures ok { OnOk result (self.new ≡ record self.old {
+          planned = self.old.planned ++ record { call = call; mishap = mishap } ∷ [];
+        }) }
         ensures err { OnErr result (self.new ≡ self.old) }
     {
         self.planned.push(Planned { call, mishap })?;
@@ -117,6 +127,22 @@ impl MemDisk {
         ensures { self.new ≡ over_on self.old }
     {
         self.planned.clear();
+    }
+
+    /// Forgets what a crash might have left within the calls so far. Each call adds to that, and each swap its text: who
+    /// forgets after each event keeps no more than since the last event with a save that was done.
+    #[tactic(auto, using(crate::proofs::Passing::left_now_joined, crate::proofs::Passing::left_now_settled))]
+    pub fn forget(&mut self) -> Result<(), NoMemory>
+        ensures ok { OnOk result (self.new ≡ forgetting self.old) }
+        ensures err { OnErr result (self.new ≡ self.old) }
+    {
+        if any_settles(&self.passed) {
+            self.earlier = mem::replace(&mut self.passed, Vec::new(self.alloc));
+            Ok(())
+        } else {
+            self.earlier.append(&mut self.passed)?;
+            Ok(())
+        }
     }
 
     /// The rule file's text.
@@ -204,6 +230,18 @@ impl MemDisk {
             self.synced = false;
         }
     }
+}
+
+// Whether a swap was done.
+fn any_settles(passed: &[Passed]) -> bool
+    ensures { result ≡ any_settles passed.now }
+{
+    for call in passed {
+        if matches!(call, Passed::Swap { done: true, .. }) {
+            return true;
+        }
+    }
+    false
 }
 
 // How a call is to fail, if it is.
@@ -309,7 +347,12 @@ impl RuleDisk for MemDisk {
         let fate = self.fate();
         match Text::of(self.alloc, self.fresh.bytes()) {
             Ok(copy) => {
-                if !self.enter(Passed::Swap(copy, self.synced, goes_well(fate))) {
+                let passed = Passed::Swap {
+                    fresh: copy,
+                    synced: self.synced,
+                    done: goes_well(fate),
+                };
+                if !self.enter(passed) {
                     return DiskAnswer::Failed;
                 }
             }

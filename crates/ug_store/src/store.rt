@@ -1,5 +1,6 @@
 // The saving of the rule file, and its reading at a start.
 ghost use Rattle.std.specs.Prelude.{◌≡◌, ◌≤◌, false, IfOk, length};
+ghost use Rattle.ug_types.specs.Ends.{IsCounted};
 ghost use Rattle.ug_store.specs.DiskCalls.{file_limit};
 ghost use Rattle.ug_store.specs.Store.{RunsDisk, saving, Saves, TellsSaveFault, pending_after, recovering, Recovers, TellsRecoverFault, seen_by};
 
@@ -110,6 +111,7 @@ fn read_soundly<D: RuleDisk>(alloc: Global, disk: &mut D) -> Result<Text, Recove
     ensures runs { RunsDisk D.keeps disk.old recovering result disk.new }
     ensures law { Recovers D.told disk.old result disk.new }
     ensures fits { IfOk result (λ text. length text ≤ file_limit) }
+    ensures counted { IsCounted (D.faults disk.old) (D.faults disk.new) }
     ensures fault { TellsRecoverFault result (D.faults disk.old) (D.faults disk.new) }
 {
     read(alloc, disk)

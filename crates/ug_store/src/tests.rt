@@ -25,6 +25,7 @@ fn a_save_stands(rt: HostRuntime) {
         panic!(rt; "nothing was recovered");
     };
     assert!(rt; text.as_slice() == b"allow\nblock\n".as_slice());
+    assert!(rt; disk.forget().is_ok());
     assert!(rt; !disk.ran_out());
     history_law();
     moment_law();
