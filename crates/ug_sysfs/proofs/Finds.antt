@@ -7,9 +7,8 @@ use Rattle.std.specs.Cmp.Lexicographic.{pointwise}
 use Rattle.ug_kernel.specs.declared.device.Device.{Device}
 use Rattle.ug_kernel.specs.Kernel.{Live, live_count}
 use Rattle.ug_kernel.proofs.Places.{at_push}
-use Rattle.ug_sysfs.specs.Devices.{is_named, find}
+use Rattle.ug_sysfs.specs.Devices.{IsDistinct, is_named, find}
 use Rattle.ug_sysfs.specs.Find.{live_named, find_none}
-use Rattle.ug_sysfs.specs.Indexed.{IsDistinct}
 
 nobody : (q : List ℕ) (n : ℕ) (ds : List Device) → ((i : ℕ) (d : Device) → slice_get ds i ≡ Some d → is_named q d ≡ false) → find q n ds ≡ None
 nobody q n [] h = refl

@@ -11,9 +11,9 @@ use Rattle.ug_kernel.specs.Kernel.{live_count}
 use Rattle.ug_kernel.specs.Called.{value_after}
 use Rattle.ug_kernel.proofs.Sounds.{live_count_set}
 use Rattle.ug_sysfs.specs.declared.roster.Roster.TheInside.{Inside}
-use Rattle.ug_sysfs.specs.Devices.{find, with_gone, gone_in}
+use Rattle.ug_sysfs.specs.Devices.{IsDistinct, find, with_gone, gone_in}
 use Rattle.ug_sysfs.specs.World.{switched_to, switched}
-use Rattle.ug_sysfs.specs.Indexed.{IsDistinct, IsIndexed}
+use Rattle.ug_sysfs.specs.Indexed.{IsIndexed}
 use Rattle.ug_sysfs.proofs.Finds.{find_born, find_gone, find_switched, distinct_push, distinct_gone, distinct_switched}
 
 pub indexed_born : (r s : Inside) (d : Device) → IsIndexed r → 0 < r.room → d.gone ≡ false → find d.name 0 r.all.items ≡ None → ((q : List ℕ) → get (pointwise nat_eq) s.index q ≡ cond (pointwise nat_eq d.name q) (Some (length r.all.items)) (get (pointwise nat_eq) r.index q)) → s.all.items ≡ r.all.items ++ d ∷ [] → s.room ≡ r.room - 1 → vec_capacity s.all ≡ vec_capacity r.all → spare r.index ≤ spare s.index + 1 → IsIndexed s

@@ -1,12 +1,12 @@
 -- Devices by their names, and how they come and go.
-use Rattle.std.specs.Prelude.{ℕ, ◌+◌, Bool, true, false, cond, not, ◌&&◌, ◌||◌, eqb, nat_lt, List, [], ◌∷◌, ◌++◌, length, take, drop, set, Option, Some, None, nat_eq}
+use Rattle.std.specs.Prelude.{◌≡◌, ℕ, ◌+◌, Bool, true, false, cond, not, ◌&&◌, ◌||◌, eqb, nat_lt, List, [], ◌∷◌, ◌++◌, length, take, drop, set, Option, Some, None, nat_eq}
 use Rattle.std.specs.List.{slice_get}
 use Rattle.std.specs.Cmp.Lexicographic.{pointwise}
 use Rattle.ug_types.specs.Names.{parent_of}
 use Rattle.ug_kernel.specs.declared.device.Device.{Device}
-use Rattle.ug_kernel.specs.Kernel.{live_count}
+use Rattle.ug_kernel.specs.Kernel.{Live, live_count}
 use Rattle.ug_sysfs.specs.declared.parent.Parent.{Parent}
-use Rattle.ug_sysfs.specs.declared.parent.Parent.TheVariants.{Nobody, Live, Missing}
+use Rattle.ug_sysfs.specs.declared.parent.Parent.TheVariants as parent
 
 abbrev pub is_named : List ℕ → Device → Bool
 is_named name d = not d.gone && pointwise nat_eq d.name name
@@ -17,12 +17,12 @@ find name i [] = None
 find name i (d ∷ ds) = cond (is_named name d) (Some i) (find name (i + 1) ds)
 
 abbrev pub sought_at : Option ℕ → Parent
-sought_at None = Missing
-sought_at (Some i) = Live i
+sought_at None = parent.Missing
+sought_at (Some i) = parent.Live i
 
 -- a parent by its name
 abbrev pub sought : Option (List ℕ) → List Device → Parent
-sought None ds = Nobody
+sought None ds = parent.Nobody
 sought (Some name) ds = sought_at (find name 0 ds)
 
 abbrev pub gone_of : Option Device → Bool
@@ -87,3 +87,7 @@ plug_at (Some i) d ds = ds
 -- a device is born, unless its name is live, or its parent isn't, or 65,536 devices are
 abbrev pub plugged : Device → List Device → List Device
 plugged d ds = cond (nat_lt (live_count ds) 65536) (plug_at (find d.name 0 ds) d ds) ds
+
+-- no two live devices have one name
+abbrev pub IsDistinct : List Device → Type 0
+IsDistinct ds = (i j : ℕ) (d e : Device) → Live ds i d → Live ds j e → d.name ≡ e.name → i ≡ j

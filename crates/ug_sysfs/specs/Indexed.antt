@@ -2,13 +2,8 @@
 use Rattle.std.specs.Prelude.{◌≡◌, ℕ, ◌+◌, ◌≤◌, List, length, vec_capacity, nat_eq}
 use Rattle.std.specs.Cmp.Lexicographic.{pointwise}
 use Rattle.std.specs.HashMap.{get, spare}
-use Rattle.ug_kernel.specs.declared.device.Device.{Device}
-use Rattle.ug_kernel.specs.Kernel.{Live}
 use Rattle.ug_sysfs.specs.declared.roster.Roster.TheInside.{Inside}
-use Rattle.ug_sysfs.specs.Devices.{find}
-
-abbrev pub IsDistinct : List Device → Type 0
-IsDistinct ds = (i j : ℕ) (d e : Device) → Live ds i d → Live ds j e → d.name ≡ e.name → i ≡ j
+use Rattle.ug_sysfs.specs.Devices.{find, IsDistinct}
 
 -- the index answers as a search does, and there is room for what was promised it
 pub record IsIndexed (r : Inside) : Type 0 where

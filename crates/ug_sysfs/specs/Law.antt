@@ -219,7 +219,7 @@ called_by c a r s w ok k =
       sound = shifts_sound w.calls true w (ok.sound at);
     }
 
-tells : (t : World) (l : Kernel) → told t ≡ Some l → (t.ran_out ≡ false) × (t.kernel ≡ l)
+pub tells : (t : World) (l : Kernel) → told t ≡ Some l → (t.ran_out ≡ false) × (t.kernel ≡ l)
 tells t l h = pick t.ran_out refl h
   where
     pick : (b : Bool) → t.ran_out ≡ b → cond b None (Some t.kernel) ≡ Some l → (t.ran_out ≡ false) × (t.kernel ≡ l)

@@ -14,3 +14,5 @@ pub mod Indexed
 pub mod Living
 pub mod Counted
 pub mod LastWords
+pub mod Entries
+pub mod Noted

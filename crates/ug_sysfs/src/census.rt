@@ -1,5 +1,6 @@
 // The devices that were born, with the places of those that are live.
 ghost use Rattle.std.specs.Prelude.{◌≡◌, ◌+◌, ◌<◌, ◌≤◌, ◌++◌, ◌∷◌, [], length, true, false, None, IfOk, OnOk, OnErr, take, drop, filter, vec_capacity};
+ghost use Rattle.ug_types.specs.Elements.{AllDistinct};
 ghost use Rattle.ug_kernel.specs.Kernel.{live_count};
 ghost use Rattle.ug_sysfs.specs.Devices.{find, fall};
 ghost use Rattle.ug_sysfs.specs.Living.{is_live_at, stepped_from, fall_each};
@@ -49,7 +50,8 @@ impl Census {
 
     /// The names of the live devices.
     pub fn live_names(&self, alloc: Global) -> Result<List<NodeName>, NoMemory>
-        ensures { IfOk result (λ names. names ≡ live_names self.now.devices) }
+        ensures names { IfOk result (λ names. names ≡ live_names self.now.devices) }
+        ensures distinct { IfOk result (λ names. AllDistinct names) }
     {
         names_at(alloc, self.roster.devices(), &self.live)
     }

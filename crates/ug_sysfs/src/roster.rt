@@ -1,7 +1,7 @@
 // The devices that were born, with an index of the live names, and room for some that are still to be born.
 ghost use Rattle.std.specs.Prelude.{◌≡◌, ◌+◌, ◌<◌, ◌++◌, ◌∷◌, [], length, true, false, None, OnOk, OnErr};
 ghost use Rattle.ug_kernel.specs.Called.{value_after};
-ghost use Rattle.ug_sysfs.specs.Devices.{find, with_gone, falls, falls_at, stepped};
+ghost use Rattle.ug_sysfs.specs.Devices.{IsDistinct, find, with_gone, falls, falls_at, stepped};
 ghost use Rattle.ug_sysfs.specs.World.{switched};
 
 use std::alloc::Global;
@@ -42,7 +42,8 @@ impl Roster {
     }
 
     pub fn devices(&self) -> &[Device]
-        ensures { result.now ≡ self.now.devices }
+        ensures devices { result.now ≡ self.now.devices }
+        ensures distinct { IsDistinct self.now.devices }
     {
         self.all.as_slice()
     }

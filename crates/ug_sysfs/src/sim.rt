@@ -3,8 +3,9 @@ ghost use Rattle.std.specs.Prelude.{◌≡◌, ◌++◌, ◌∷◌, [], true, fa
 ghost use Rattle.ug_kernel.specs.Calls.{Names, Open, Read, Ask_alive, Put};
 ghost use Rattle.ug_sysfs.specs.Devices.{plugged, unplugged};
 ghost use Rattle.ug_sysfs.specs.Count.{counts_each};
-ghost use Rattle.ug_sysfs.specs.Few.{HasFew};
+ghost use Rattle.ug_sysfs.specs.Few.{HasFew, AreDistinct};
 ghost use Rattle.ug_sysfs.specs.Law.{does_what_it_may, begins_afresh};
+ghost use Rattle.ug_sysfs.specs.Noted.{notes_itself, begins_empty};
 ghost use Rattle.ug_sysfs.specs.World.{Gives, Effects, RunsOut, Puts, Ends, Enters, begun, over, fate_of, counted, told};
 
 use crate::census::Census;
@@ -222,6 +223,7 @@ impl SimKernel {
     fn list_now(&mut self, alloc: Global) -> Listing
         ensures effects { Effects self.old Names result self.new }
         ensures few { HasFew result }
+        ensures distinct { AreDistinct result }
     {
         match self.fate() {
             Some(_) => Listing::Failed,
@@ -326,15 +328,21 @@ impl Sysfs for SimKernel {
 
     ghost told = { told };
 
+    ghost made = { λ w. w.made };
+
     ghost calls = { λ w. w.calls };
 
     ghost faults = { λ w. w.faults };
 
     ghost did = { does_what_it_may };
 
+    ghost noted = { notes_itself };
+
     ghost counted = { counts_each };
 
     ghost began = { begins_afresh };
+
+    ghost cleared = { begins_empty };
 
     fn begin(&mut self) {
         self.calls = 0;

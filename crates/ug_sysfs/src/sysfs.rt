@@ -1,9 +1,11 @@
 // The trait of the outside: what the kernel's files answer.
-ghost use Rattle.std.specs.Prelude.{◌≡◌, ℕ, List, Option, Some};
+ghost use Rattle.std.specs.Prelude.{◌≡◌, ℕ, List, [], ◌++◌, Option, Some};
 ghost use Rattle.ug_kernel.specs.Calls.{Call, Answer, Names, Open, Read, Ask_alive, Put, Close, Closed, Counts};
 ghost use Rattle.ug_kernel.specs.Kernel.{Kernel};
 ghost use Rattle.ug_kernel.specs.Called.{Follows};
-ghost use Rattle.ug_sysfs.specs.Few.{HasFew};
+ghost use Rattle.ug_sysfs.specs.declared.made.Made.{Made};
+ghost use Rattle.ug_sysfs.specs.Entries.{entry_of};
+ghost use Rattle.ug_sysfs.specs.Few.{HasFew, AreDistinct};
 
 use std::alloc::Global;
 use ug_kernel::{Attr, Control, Listing, Opened, Probe, ReadOut, Write, Wrote};
@@ -20,6 +22,9 @@ pub trait Sysfs {
 
     /// The kernel, where it is told.
     ghost told: { Self → Option Kernel };
+
+    /// The event's calls so far, where the kernel is told: what each was given, and the kind of its answer. Closing isn't listed.
+    ghost made: { Self → List Made };
 
     /// How many calls there were since the event began, and how many failed since the object was made.
     ghost calls: { Self → ℕ };
@@ -41,7 +46,8 @@ pub trait Sysfs {
     /// The names of all devices: distinct, and at most 65,536.
     fn list(&mut self, alloc: Global) -> Listing
         ensures gives { gives self.old Names (record { answer = result; number = calls self.new; count = faults self.new }) self.new }
-        ensures few { HasFew result };
+        ensures few { HasFew result }
+        ensures distinct { AreDistinct result };
 
     /// Opens a file of the device of that name.
     fn open_control(&mut self, alloc: Global, name: &NodeName, control: Control) -> Opened
@@ -67,10 +73,17 @@ pub trait Sysfs {
     ghost did: { (s : Self) (call : Call) (answer : Answer call) (t : Self) (l : Kernel)
         → gives s call answer t → told t ≡ Some l → Follows call answer (told s) l };
 
+    /// Where a kernel is told after a call, that call was added to the event's calls, as the last.
+    ghost noted: { (s : Self) (call : Call) (answer : Answer call) (t : Self) (l : Kernel)
+        → gives s call answer t → told t ≡ Some l → made t ≡ made s ++ entry_of call answer };
+
     /// Each call is counted, and each failure.
     ghost counted: { (s : Self) (call : Call) (answer : Answer call) (t : Self)
         → gives s call answer t → Counts call answer (calls s) (faults s) (calls t) (faults t) };
 
     /// A new event begins with no call, and changes nothing else that is told.
     ghost began: { (s t : Self) → begins s t → (told t ≡ told s) × (calls t ≡ 0) × (faults t ≡ faults s) };
+
+    /// No call was made yet.
+    ghost cleared: { (s t : Self) → begins s t → made t ≡ [] };
 }

@@ -1,11 +1,19 @@
-use Rattle.std.proofs.Common.{ℕ, List, ◌∙◌, ap}
+use Rattle.std.proofs.Common.{ℕ, List, sym, ◌∙◌, ap, subst}
+use Rattle.ug_types.specs.Elements.{AllDistinct}
 use Rattle.ug_kernel.specs.declared.device.Device.{Device}
+use Rattle.ug_sysfs.specs.Devices.{IsDistinct}
+use Rattle.ug_sysfs.specs.Find.{distinct_names}
 use Rattle.ug_sysfs.specs.Listed.{Listed}
 use Rattle.ug_sysfs.specs.World.{live_names}
 use Rattle.ug_sysfs.specs.Living.{live_places, names_at}
 use Rattle.ug_sysfs.proofs.Lives.{names_live, if_ok}
 use Rattle.ug_sysfs.proofs.census.Census.live_names.Goals as goal
 
-pub returns : goal.returns
-returns c =
-    if_ok c.names_at.result _ _ (λ names e. e ∙ ap (λ (is : List ℕ). names_at is c.devices.result.now) (c.deref.ensures.value ∙ c.self.invariant.places) ∙ ap (λ (ds : List Device). names_at (live_places 0 c.self.inside.roster.devices) ds) c.devices.ensures ∙ names_live c.self.inside.roster.devices ∙ ap (λ (x : Listed). live_names x.devices) c.self.view_is) c.names_at.ensures
+pub returns-clause-names : goal.returns-clause-names
+returns-clause-names c =
+    if_ok c.names_at.result _ _ (λ names e. e ∙ ap (λ (is : List ℕ). names_at is c.devices.result.now) (c.deref.ensures.value ∙ c.self.invariant.places) ∙ ap (λ (ds : List Device). names_at (live_places 0 c.self.inside.roster.devices) ds) c.devices.ensures.devices ∙ names_live c.self.inside.roster.devices ∙ ap (λ (x : Listed). live_names x.devices) c.self.view_is) c.names_at.ensures
+
+pub returns-clause-distinct : goal.returns-clause-distinct
+returns-clause-distinct c =
+    let apart : IsDistinct c.args.self.now.devices = subst (λ (x : Listed). IsDistinct x.devices) c.self.view_is c.devices.ensures.distinct in
+    if_ok c.names_at.result _ _ (λ names e. subst AllDistinct (sym e) (distinct_names c.args.self.now.devices apart)) (returns-clause-names c)

@@ -17,7 +17,7 @@ invariant_of-self c =
     let fell : es ≡ fall_each t (live_places 0 ds) ds = c.fall_each.ensures.devices ∙ ap (λ (is : List ℕ). fall_each t is ds) (c.deref.ensures.value ∙ c.self.invariant.places) in
     let kept : c.keep_live.new.places.items ≡ live_places 0 es =
     c.keep_live.ensures.kept ∙ ap (filter (is_live_at c.devices.result.now)) c.self.invariant.places
-    ∙ ap (λ (xs : List Device). filter (is_live_at xs) (live_places 0 ds)) (c.devices.ensures ∙ fell)
+    ∙ ap (λ (xs : List Device). filter (is_live_at xs) (live_places 0 ds)) (c.devices.ensures.devices ∙ fell)
     ∙ places_fallen t (live_places 0 ds) ds ∙ ap (live_places 0) (sym fell) in
     let few : live_count es ≤ live_count ds = subst (λ (fs : List Device). live_count fs ≤ live_count ds) (sym (fell ∙ falls_each t ds)) (count_felled t ds) in
     record {

@@ -1,4 +1,4 @@
-use Rattle.std.proofs.Common.{ℕ, Bool, cond, eqb, List, [], ◌∷◌, ◌++◌, Option, Some, None, nat_cmp, sym, ◌∙◌, ap}
+use Rattle.std.proofs.Common.{Bool, cond, eqb, List, [], ◌∷◌, ◌++◌, Option, Some, None, nat_cmp, sym, ◌∙◌, ap}
 use Rattle.std.specs.BTreeMap.{get}
 use Rattle.std.specs.Cmp.{unsigned_tied}
 use Rattle.ug_sysfs.specs.declared.script.Failing.{Failing}
