@@ -6,6 +6,7 @@ ghost use Rattle.ug_table.specs.State.{state_of, kept_of};
 ghost use Rattle.ug_table.specs.Order.{KeepsOrder};
 ghost use Rattle.ug_table.specs.Standings.{numbered, standing_of};
 ghost use Rattle.ug_table.specs.One.{resettling_numbered, GoesAsPart, SettlesOne, ResettlesOne, NeedsRoom};
+ghost use Rattle.ug_table.specs.Marks.{LeavesMarks, has_name, has_number};
 ghost use Rattle.ug_table.specs.declared.standing.Standing.{Standing};
 ghost use Rattle.ug_table.specs.declared.standing.Settled.TheVariants.{Memory};
 ghost use Rattle.ug_table.specs.Settle.{stands, kept_standings, tried_standings, no_room, to_judge, admitting, entering, settling, resettling};
@@ -247,12 +248,15 @@ impl Table {
         ensures runs { Runs Y.gives sysfs.old (settling A.answer A.later name.now present (state_of self.old (A.meaning judge.old) out.old.entries.now.entries)) (result, state_of self.new (A.meaning judge.new) out.new.entries.now.entries) sysfs.new }
         ensures part { GoesAsPart Y.gives Y.calls Y.faults name.now sysfs.old self.old.standings out.old.entries.now.entries sysfs.new self.new.standings out.new.entries.now.entries result }
         ensures law { SettlesOne Y.told A.answer A.later present name.now sysfs.old (state_of self.old (A.meaning judge.old) out.old.entries.now.entries) sysfs.new (state_of self.new (A.meaning judge.new) out.new.entries.now.entries) result }
+        ensures marks { LeavesMarks (has_name name.now) self.old.standings self.new.standings result }
         ensures spare { out.old.entries.now.spare ≤ out.new.entries.now.spare + 8 }
         ensures room { out.new.entries.now.room ≡ out.old.entries.now.room }
         ensures same { out.new.entries.ghost_name ≡ out.old.entries.ghost_name }
         ensures len { length self.new.standings ≤ length self.old.standings + 1 }
         ensures next { self.new.next ≤ self.old.next + 1 }
     {
+        // Its standings are in order.
+        let _ = &self.next;
         self.settle_name(alloc, sysfs, name, present, judge, out)
     }
 
@@ -270,7 +274,8 @@ impl Table {
         ensures runs { Runs Y.gives sysfs.old (resettling_numbered number (kept_of self.old.standings out.old.entries.now.entries)) (result, kept_of self.new.standings out.new.entries.now.entries) sysfs.new }
         ensures part { (s : Standing) → numbered number self.old.standings ≡ Some s → GoesAsPart Y.gives Y.calls Y.faults s.name sysfs.old self.old.standings out.old.entries.now.entries sysfs.new self.new.standings out.new.entries.now.entries result }
         ensures law { ResettlesOne Y.told number sysfs.old (state_of self.old tt out.old.entries.now.entries) sysfs.new (state_of self.new tt out.new.entries.now.entries) result }
-        ensures memory { (s : Standing) → numbered number self.old.standings ≡ Some s → result ≡ Memory → NeedsRoom s.name self.old.standings }
+        ensures marks { LeavesMarks (has_number number) self.old.standings self.new.standings result }
+        ensures memory { result ≡ Memory → NeedsRoom number self.old.standings }
         ensures spare { out.old.entries.now.spare ≤ out.new.entries.now.spare + 6 }
         ensures room { out.new.entries.now.room ≡ out.old.entries.now.room }
         ensures same { out.new.entries.ghost_name ≡ out.old.entries.ghost_name }
@@ -278,6 +283,8 @@ impl Table {
         ensures next { self.new.next ≡ self.old.next }
         ensures listed { self.new.listed ≡ self.old.listed }
     {
+        // Its standings are in order.
+        let _ = &self.next;
         self.settle_numbered(alloc, sysfs, number, out)
     }
 

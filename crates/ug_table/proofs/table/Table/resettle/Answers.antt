@@ -1,9 +1,13 @@
-use Rattle.std.proofs.Common.{◌≡◌, ℕ, Bool, List, sym, subst}
+use Rattle.std.proofs.Common.{◌≡◌, ℕ, Bool, List, Option, Some, None, IsSome, refl, sym, subst}
 use Rattle.ug_audit.specs.declared.entry.Entry.{Entry}
 use Rattle.ug_table.specs.declared.standing.Standing.{Standing}
 use Rattle.ug_table.specs.State.{State, state_of}
 use Rattle.ug_table.specs.One.{ResettlesOne}
-use Rattle.ug_table.proofs.One.{numbered_part, numbered_room, told_resettles}
+use Rattle.ug_table.proofs.One.{numbered_part, told_resettles}
+use Rattle.ug_table.proofs.Remarked.{numbered_leaves, needs_room}
+use Rattle.ug_table.specs.Standings.{numbered}
+use Rattle.ug_table.specs.Table.{TableState}
+use Rattle.ug_table.specs.Order.{StandInOrder}
 use Rattle.ug_table.proofs.table.Table.resettle.Goals as goal
 
 pub returns-clause-part : goal.returns-clause-part
@@ -21,5 +25,17 @@ returns-clause-law g c =
     (same_rest h.new.self.standings _ _ _ _ h.new.out.entries.now.entries h.ensures.next h.ensures.listed)
     (told_resettles g.Y.Sysfs.gives g.Y.Sysfs.told g.met.Y.Sysfs.did c.args.number _ w _ _ h.ensures.runs)
 
+-- the standing of the number is there
+stands_at : (number : ℕ) (ss : List Standing) (o : Option Standing) → numbered number ss ≡ o → IsSome o → (x : Standing) × (numbered number ss ≡ Some x)
+stands_at number ss (Some x) e is = (x, e)
+stands_at number ss None e is = let none : ⊥ = cc in absurd none
+
+pub returns-clause-marks : goal.returns-clause-marks
+returns-clause-marks g c =
+    let x = stands_at c.args.number c.args.self.now.standings _ refl c.requires.stands in
+    numbered_leaves g.Y.Sysfs.gives c.args.self.now.next c.args.number _ x.0 _ _ _ (subst (λ (v : TableState). StandInOrder v.next v.standings) c.self.view_is c.self.invariant.0) x.1 c.settle_numbered.ensures.runs
+
 pub returns-clause-memory : goal.returns-clause-memory
-returns-clause-memory g c s e m = numbered_room g.Y.Sysfs.gives _ _ s _ _ _ e c.settle_numbered.ensures.runs m
+returns-clause-memory g c e =
+    let x = stands_at c.args.number c.args.self.now.standings _ refl c.requires.stands in
+    needs_room g.Y.Sysfs.gives c.args.self.now.next c.args.number _ x.0 _ _ _ (subst (λ (v : TableState). StandInOrder v.next v.standings) c.self.view_is c.self.invariant.0) x.1 c.settle_numbered.ensures.runs e
