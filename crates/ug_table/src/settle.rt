@@ -2,6 +2,7 @@
 ghost use Rattle.std.specs.Prelude.{◌≡◌, ◌≤◌, ◌<◌, ◌+◌, ◌-◌, ◌^◌, length, vec_capacity, is_none, IsSome, OnOk, Some, None};
 ghost use Rattle.ug_types.specs.Names.{parent_of};
 ghost use Rattle.ug_itree.specs.Tree.{Runs};
+ghost use Rattle.ug_audit.specs.Journal.{Notes, noted_in};
 ghost use Rattle.ug_table.specs.State.{state_of, kept_of};
 ghost use Rattle.ug_table.specs.Order.{KeepsOrder};
 ghost use Rattle.ug_table.specs.Standings.{numbered, standing_of};
@@ -94,11 +95,9 @@ impl Table {
         judge: &A,
         out: &mut Journal,
     ) -> Settled
-        requires { 1 ≤ out.old.entries.now.spare }
-        ensures runs { Runs Y.gives sysfs.old (no_room (state_of self.now (A.meaning judge.now) out.old.entries.now.entries) name.now held.0) (result, state_of self.now (A.meaning judge.now) out.new.entries.now.entries) sysfs.new }
-        ensures spare { out.old.entries.now.spare ≤ out.new.entries.now.spare + 1 }
-        ensures room { out.new.entries.now.room ≡ out.old.entries.now.room }
-        ensures same { out.new.entries.ghost_name ≡ out.old.entries.ghost_name }
+        requires { 1 ≤ (noted_in out.old).spare }
+        ensures runs { Runs Y.gives sysfs.old (no_room (state_of self.now (A.meaning judge.now) (noted_in out.old).entries) name.now held.0) (result, state_of self.now (A.meaning judge.now) (noted_in out.new).entries) sysfs.new }
+        ensures journal { Notes 1 out.old out.new }
     {
         sysfs.close(held);
         out.push(Entry::Unsettled {
@@ -121,14 +120,12 @@ impl Table {
         judged: Judged,
         out: &mut Journal,
     ) -> Settled
-        requires room { 7 ≤ out.old.entries.now.spare }
+        requires room { 7 ≤ (noted_in out.old).spare }
         requires next { self.old.next < 2 ^ 64 - 1 }
         requires place { length self.old.standings < self.old.room }
         requires absent { standing_of name.now self.old.standings ≡ None }
-        ensures runs { Runs Y.gives sysfs.old (to_judge A.answer A.later name.now present (state_of self.old (A.meaning judge.old) out.old.entries.now.entries) bound.now judged) (result, state_of self.new (A.meaning judge.new) out.new.entries.now.entries) sysfs.new }
-        ensures spare { out.old.entries.now.spare ≤ out.new.entries.now.spare + 7 }
-        ensures room { out.new.entries.now.room ≡ out.old.entries.now.room }
-        ensures same { out.new.entries.ghost_name ≡ out.old.entries.ghost_name }
+        ensures runs { Runs Y.gives sysfs.old (to_judge A.answer A.later name.now present (state_of self.old (A.meaning judge.old) (noted_in out.old).entries) bound.now judged) (result, state_of self.new (A.meaning judge.new) (noted_in out.new).entries) sysfs.new }
+        ensures journal { Notes 7 out.old out.new }
         ensures len { length self.new.standings ≤ length self.old.standings + 1 }
         ensures next { self.new.next ≤ self.old.next + 1 }
     {
@@ -170,13 +167,11 @@ impl Table {
         bound: Bound,
         out: &mut Journal,
     ) -> Settled
-        requires room { 7 ≤ out.old.entries.now.spare }
+        requires room { 7 ≤ (noted_in out.old).spare }
         requires next { self.old.next < 2 ^ 64 - 1 }
         requires absent { standing_of name.now self.old.standings ≡ None }
-        ensures runs { Runs Y.gives sysfs.old (admitting A.answer A.later name.now present (state_of self.old (A.meaning judge.old) out.old.entries.now.entries) bound) (result, state_of self.new (A.meaning judge.new) out.new.entries.now.entries) sysfs.new }
-        ensures spare { out.old.entries.now.spare ≤ out.new.entries.now.spare + 7 }
-        ensures room { out.new.entries.now.room ≡ out.old.entries.now.room }
-        ensures same { out.new.entries.ghost_name ≡ out.old.entries.ghost_name }
+        ensures runs { Runs Y.gives sysfs.old (admitting A.answer A.later name.now present (state_of self.old (A.meaning judge.old) (noted_in out.old).entries) bound) (result, state_of self.new (A.meaning judge.new) (noted_in out.new).entries) sysfs.new }
+        ensures journal { Notes 7 out.old out.new }
         ensures len { length self.new.standings ≤ length self.old.standings + 1 }
         ensures next { self.new.next ≤ self.old.next + 1 }
     {
@@ -201,13 +196,11 @@ impl Table {
         judge: &mut A,
         out: &mut Journal,
     ) -> Settled
-        requires room { 7 ≤ out.old.entries.now.spare }
+        requires room { 7 ≤ (noted_in out.old).spare }
         requires next { self.old.next < 2 ^ 64 - 1 }
         requires absent { standing_of name.now self.old.standings ≡ None }
-        ensures runs { Runs Y.gives sysfs.old (entering A.answer A.later name.now present (state_of self.old (A.meaning judge.old) out.old.entries.now.entries)) (result, state_of self.new (A.meaning judge.new) out.new.entries.now.entries) sysfs.new }
-        ensures spare { out.old.entries.now.spare ≤ out.new.entries.now.spare + 7 }
-        ensures room { out.new.entries.now.room ≡ out.old.entries.now.room }
-        ensures same { out.new.entries.ghost_name ≡ out.old.entries.ghost_name }
+        ensures runs { Runs Y.gives sysfs.old (entering A.answer A.later name.now present (state_of self.old (A.meaning judge.old) (noted_in out.old).entries)) (result, state_of self.new (A.meaning judge.new) (noted_in out.new).entries) sysfs.new }
+        ensures journal { Notes 7 out.old out.new }
         ensures len { length self.new.standings ≤ length self.old.standings + 1 }
         ensures next { self.new.next ≤ self.old.next + 1 }
     {
@@ -243,15 +236,13 @@ impl Table {
         judge: &mut A,
         out: &mut Journal,
     ) -> Settled
-        requires room { 8 ≤ out.old.entries.now.spare }
+        requires room { 8 ≤ (noted_in out.old).spare }
         requires next { self.old.next < 2 ^ 64 - 1 }
-        ensures runs { Runs Y.gives sysfs.old (settling A.answer A.later name.now present (state_of self.old (A.meaning judge.old) out.old.entries.now.entries)) (result, state_of self.new (A.meaning judge.new) out.new.entries.now.entries) sysfs.new }
-        ensures part { GoesAsPart Y.gives Y.calls Y.faults name.now sysfs.old self.old.standings out.old.entries.now.entries sysfs.new self.new.standings out.new.entries.now.entries result }
-        ensures law { SettlesOne Y.told A.answer A.later present name.now sysfs.old (state_of self.old (A.meaning judge.old) out.old.entries.now.entries) sysfs.new (state_of self.new (A.meaning judge.new) out.new.entries.now.entries) result }
+        ensures runs { Runs Y.gives sysfs.old (settling A.answer A.later name.now present (state_of self.old (A.meaning judge.old) (noted_in out.old).entries)) (result, state_of self.new (A.meaning judge.new) (noted_in out.new).entries) sysfs.new }
+        ensures part { GoesAsPart Y.gives Y.calls Y.faults name.now sysfs.old self.old.standings (noted_in out.old).entries sysfs.new self.new.standings (noted_in out.new).entries result }
+        ensures law { SettlesOne Y.told A.answer A.later present name.now sysfs.old (state_of self.old (A.meaning judge.old) (noted_in out.old).entries) sysfs.new (state_of self.new (A.meaning judge.new) (noted_in out.new).entries) result }
         ensures marks { LeavesMarks (has_name name.now) self.old.standings self.new.standings result }
-        ensures spare { out.old.entries.now.spare ≤ out.new.entries.now.spare + 8 }
-        ensures room { out.new.entries.now.room ≡ out.old.entries.now.room }
-        ensures same { out.new.entries.ghost_name ≡ out.old.entries.ghost_name }
+        ensures journal { Notes 8 out.old out.new }
         ensures len { length self.new.standings ≤ length self.old.standings + 1 }
         ensures next { self.new.next ≤ self.old.next + 1 }
     {
@@ -270,15 +261,13 @@ impl Table {
         out: &mut Journal,
     ) -> Settled
         requires stands { IsSome (numbered number self.old.standings) }
-        requires room { 6 ≤ out.old.entries.now.spare }
-        ensures runs { Runs Y.gives sysfs.old (resettling_numbered number (kept_of self.old.standings out.old.entries.now.entries)) (result, kept_of self.new.standings out.new.entries.now.entries) sysfs.new }
-        ensures part { (s : Standing) → numbered number self.old.standings ≡ Some s → GoesAsPart Y.gives Y.calls Y.faults s.name sysfs.old self.old.standings out.old.entries.now.entries sysfs.new self.new.standings out.new.entries.now.entries result }
-        ensures law { ResettlesOne Y.told number sysfs.old (state_of self.old tt out.old.entries.now.entries) sysfs.new (state_of self.new tt out.new.entries.now.entries) result }
+        requires room { 6 ≤ (noted_in out.old).spare }
+        ensures runs { Runs Y.gives sysfs.old (resettling_numbered number (kept_of self.old.standings (noted_in out.old).entries)) (result, kept_of self.new.standings (noted_in out.new).entries) sysfs.new }
+        ensures part { (s : Standing) → numbered number self.old.standings ≡ Some s → GoesAsPart Y.gives Y.calls Y.faults s.name sysfs.old self.old.standings (noted_in out.old).entries sysfs.new self.new.standings (noted_in out.new).entries result }
+        ensures law { ResettlesOne Y.told number sysfs.old (state_of self.old tt (noted_in out.old).entries) sysfs.new (state_of self.new tt (noted_in out.new).entries) result }
         ensures marks { LeavesMarks (has_number number) self.old.standings self.new.standings result }
         ensures memory { result ≡ Memory → NeedsRoom number self.old.standings }
-        ensures spare { out.old.entries.now.spare ≤ out.new.entries.now.spare + 6 }
-        ensures room { out.new.entries.now.room ≡ out.old.entries.now.room }
-        ensures same { out.new.entries.ghost_name ≡ out.old.entries.ghost_name }
+        ensures journal { Notes 6 out.old out.new }
         ensures len { length self.new.standings ≤ length self.old.standings }
         ensures next { self.new.next ≡ self.old.next }
         ensures listed { self.new.listed ≡ self.old.listed }
@@ -296,11 +285,9 @@ impl Table {
         number: u64,
         out: &mut Journal,
     ) -> Settled
-        requires { 6 ≤ out.old.entries.now.spare }
-        ensures runs { Runs Y.gives sysfs.old (resettling_numbered number (kept_of self.old.standings out.old.entries.now.entries)) (result, kept_of self.new.standings out.new.entries.now.entries) sysfs.new }
-        ensures spare { out.old.entries.now.spare ≤ out.new.entries.now.spare + 6 }
-        ensures room { out.new.entries.now.room ≡ out.old.entries.now.room }
-        ensures same { out.new.entries.ghost_name ≡ out.old.entries.ghost_name }
+        requires { 6 ≤ (noted_in out.old).spare }
+        ensures runs { Runs Y.gives sysfs.old (resettling_numbered number (kept_of self.old.standings (noted_in out.old).entries)) (result, kept_of self.new.standings (noted_in out.new).entries) sysfs.new }
+        ensures journal { Notes 6 out.old out.new }
         ensures len { length self.new.standings ≤ length self.old.standings }
         ensures next { self.new.next ≡ self.old.next }
         ensures listed { self.new.listed ≡ self.old.listed }
@@ -322,12 +309,10 @@ impl Table {
         judge: &mut A,
         out: &mut Journal,
     ) -> Settled
-        requires room { 8 ≤ out.old.entries.now.spare }
+        requires room { 8 ≤ (noted_in out.old).spare }
         requires next { self.old.next < 2 ^ 64 - 1 }
-        ensures runs { Runs Y.gives sysfs.old (settling A.answer A.later name.now present (state_of self.old (A.meaning judge.old) out.old.entries.now.entries)) (result, state_of self.new (A.meaning judge.new) out.new.entries.now.entries) sysfs.new }
-        ensures spare { out.old.entries.now.spare ≤ out.new.entries.now.spare + 8 }
-        ensures room { out.new.entries.now.room ≡ out.old.entries.now.room }
-        ensures same { out.new.entries.ghost_name ≡ out.old.entries.ghost_name }
+        ensures runs { Runs Y.gives sysfs.old (settling A.answer A.later name.now present (state_of self.old (A.meaning judge.old) (noted_in out.old).entries)) (result, state_of self.new (A.meaning judge.new) (noted_in out.new).entries) sysfs.new }
+        ensures journal { Notes 8 out.old out.new }
         ensures len { length self.new.standings ≤ length self.old.standings + 1 }
         ensures next { self.new.next ≤ self.old.next + 1 }
     {
@@ -373,11 +358,9 @@ pub fn settle_known<Y: Sysfs>(
     name: &NodeName,
     out: &mut Journal,
 ) -> Settled
-    requires { 6 ≤ out.old.entries.now.spare }
-    ensures runs { Runs Y.gives sysfs.old (resettling name.now (kept_of standings.old.items out.old.entries.now.entries)) (result, kept_of standings.new.items out.new.entries.now.entries) sysfs.new }
-    ensures spare { out.old.entries.now.spare ≤ out.new.entries.now.spare + 6 }
-    ensures room { out.new.entries.now.room ≡ out.old.entries.now.room }
-    ensures same { out.new.entries.ghost_name ≡ out.old.entries.ghost_name }
+    requires { 6 ≤ (noted_in out.old).spare }
+    ensures runs { Runs Y.gives sysfs.old (resettling name.now (kept_of standings.old.items (noted_in out.old).entries)) (result, kept_of standings.new.items (noted_in out.new).entries) sysfs.new }
+    ensures journal { Notes 6 out.old out.new }
     ensures keeps { KeepsOrder standings.old.items standings.new.items }
     ensures len { length standings.new.items ≤ length standings.old.items }
 {

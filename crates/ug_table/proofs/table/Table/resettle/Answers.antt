@@ -1,6 +1,7 @@
 use Rattle.std.proofs.Common.{◌≡◌, ℕ, Bool, List, Option, Some, None, IsSome, refl, sym, subst}
 use Rattle.ug_audit.specs.declared.entry.Entry.{Entry}
 use Rattle.ug_table.specs.declared.standing.Standing.{Standing}
+use Rattle.ug_audit.specs.Journal.{noted_in}
 use Rattle.ug_table.specs.State.{State, state_of}
 use Rattle.ug_table.specs.One.{ResettlesOne}
 use Rattle.ug_table.proofs.One.{numbered_part, told_resettles}
@@ -20,9 +21,9 @@ same_rest ss next after listed seen es a b = λ i. record { standings = ss; next
 pub returns-clause-law : goal.returns-clause-law
 returns-clause-law g c =
     let h = c.settle_numbered in
-    let w : State (Unit {0}) = state_of c.args.self.now tt c.args.out.now.entries.now.entries in
+    let w : State (Unit {0}) = state_of c.args.self.now tt (noted_in c.args.out.now).entries in
     subst (λ (v : State (Unit {0})). ResettlesOne g.Y.Sysfs.told c.args.number c.args.sysfs.now w h.new.sysfs v h.result)
-    (same_rest h.new.self.standings _ _ _ _ h.new.out.entries.now.entries h.ensures.next h.ensures.listed)
+    (same_rest h.new.self.standings _ _ _ _ (noted_in h.new.out).entries h.ensures.next h.ensures.listed)
     (told_resettles g.Y.Sysfs.gives g.Y.Sysfs.told g.met.Y.Sysfs.did c.args.number _ w _ _ h.ensures.runs)
 
 -- the standing of the number is there
