@@ -7,7 +7,7 @@ ghost use Rattle.ug_table.specs.Bring.{wants, write_of, is_reject, is_to_go, val
 use crate::standing::{Known, Settled};
 use std::alloc::Global;
 use ug_audit::{Entry, Fault, Journal};
-use ug_node::{RemoveHold, hold_remove};
+use ug_node::{RemoveHold, hold_remove, put};
 use ug_sysfs::{Sysfs, Write, Wrote};
 use ug_types::{Held, NodeName, Target};
 
@@ -72,7 +72,7 @@ fn set_value<Y: Sysfs>(
         name: *name,
         write,
     });
-    let outcome = sysfs.write(known.held, write);
+    let outcome = put(sysfs, known.held, write);
     out.push(Entry::Wrote {
         number,
         name: *name,
@@ -120,7 +120,7 @@ fn write_remove<Y: Sysfs>(
         write,
     };
     out.push(intent);
-    let wrote = sysfs.write(file, write);
+    let wrote = put(sysfs, file, write);
     let call = sysfs.calls();
     let count = sysfs.faults();
     sysfs.close(file);

@@ -18,7 +18,7 @@ use crate::standing::{Known, Settled, Standing};
 use crate::table::{Table, find, forget, known_of, mark, put_in};
 use std::alloc::Global;
 use ug_audit::{Entry, Fault, Journal};
-use ug_node::{Binding, Bound, bind};
+use ug_node::{Binding, Bound, bind, reprobe};
 use ug_record::record_of;
 use ug_sysfs::{Probe, Sysfs};
 use ug_types::{Held, Judged, NoMemory, NodeName};
@@ -320,7 +320,7 @@ impl Table {
             Some(known) => known,
             None => return self.enter(alloc, sysfs, name, present, judge, out),
         };
-        match sysfs.probe(known.held) {
+        match reprobe(sysfs, known.held) {
             Probe::Alive(on) => {
                 let settled = bring(alloc, sysfs, name, known, on, out);
                 remember(&mut self.standings, name, settled);
@@ -368,7 +368,7 @@ pub fn settle_known<Y: Sysfs>(
         Some(known) => known,
         None => return Settled::Nobody,
     };
-    match sysfs.probe(known.held) {
+    match reprobe(sysfs, known.held) {
         Probe::Alive(on) => {
             let settled = bring(alloc, sysfs, name, known, on, out);
             remember(standings, name, settled);
