@@ -8,7 +8,7 @@ use ug_types::NoMemory;
 /// The entries of the event that goes on, which are noted one by one, each where there is room for it.
 #[derive(Drop)]
 pub struct Journal<'a> {
-    pub entries: &'a mut Entries,
+    entries: &'a mut Entries,
 }
 
 impl<'a> Journal<'a> {

@@ -42,7 +42,17 @@ impl Daemon {
     pub fn has_numbers(&self, sysfs_faults: u64, disk_faults: u64) -> bool
         ensures { result ≡ has_numbers (daemon_of self.now) sysfs_faults disk_faults }
     {
-        low(self.table.next_number()) && low(self.next_event) && low(sysfs_faults) && low(disk_faults)
+        low(self.table.next_number())
+            && low(self.next_event)
+            && low(sysfs_faults)
+            && low(disk_faults)
+    }
+
+    /// The number of the next event.
+    pub fn next_event(&self) -> u64
+        ensures { result ≡ (daemon_of self.now).event }
+    {
+        self.next_event
     }
 
     /// What was noted of the last event.

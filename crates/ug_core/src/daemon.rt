@@ -17,8 +17,8 @@ pub enum Event {
 #[derive(Drop)]
 pub struct Daemon {
     pub policy: Policy,
-    pub table: Table,
-    pub next_event: u64,
-    pub report: Report,
+    pub(crate) table: Table,
+    pub(crate) next_event: u64,
+    pub(crate) report: Report,
     ghost room: { 8 * length table.standings + 64 ≤ report.entries.room },
 }

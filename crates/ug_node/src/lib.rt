@@ -2,9 +2,11 @@
 #![tactic(auto)]
 
 mod files;
+mod held;
 mod identity;
 mod removal;
 
 pub use files::{File, Stop};
+pub use held::{put, reprobe};
 pub use identity::{Binding, Bound, bind};
 pub use removal::{RemoveHold, hold_remove};

@@ -93,7 +93,7 @@ impl Machine<SimKernel> for Runner {
             None => Ran::Bad,
             Some(running) => put(
                 out,
-                done(running.daemon.next_event.saturating_sub(1)).bytes(),
+                done(running.daemon.next_event().saturating_sub(1)).bytes(),
             ),
         }
     }

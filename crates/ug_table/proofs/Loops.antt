@@ -1,9 +1,11 @@
 -- One name more.
-use Rattle.std.proofs.Common.{◌≡◌, ℕ, ◌+◌, ◌<◌, Bool, List, ◌∷◌, length, get_or, drop, sym, ap, ◌∙◌, subst}
+use Rattle.std.proofs.Common.{◌≡◌, ℕ, ◌+◌, ◌*◌, ◌<◌, Bool, List, ◌∷◌, length, get_or, drop, sym, ap, ◌∙◌, subst, arith}
 use Rattle.std.proofs.lemmas.List.{drop_more}
 use Rattle.ug_kernel.specs.Calls.{Call, Answer}
 use Rattle.ug_itree.specs.Tree.{Runs}
 use Rattle.ug_itree.proofs.Runs.{runs_then}
+use Rattle.ug_audit.specs.declared.journal.Journal.{Journal}
+use Rattle.ug_audit.specs.Journal.{Notes}
 use Rattle.ug_table.specs.State.{State, Kept, Answers, Laters}
 use Rattle.ug_table.specs.Settle.{settling, resettling}
 use Rattle.ug_table.specs.Sweep.{settling_all, resettling_all}
@@ -21,3 +23,7 @@ pub resettling_more : {S : Type 0} (gives : S → (call : Call) → Answer call 
 resettling_more {S} gives names i name w s u p lt e h r t k =
     subst (λ (xs : List (List ℕ)). Runs gives s (resettling_all xs w) r t) (sym (next_of names i name lt e))
     (runs_then gives s (resettling name w) (λ (q : Settled × Kept). resettling_all (drop (i + 1) names) q.1) p u r t h k)
+
+-- what each name notes
+pub notes_more : (each i : ℕ) (a b c : Journal) → Notes (each * i) a b → Notes each b c → Notes (each * (i + 1)) a c
+notes_more each i a b c h k = (k.0 ∙ h.0, k.1 ∙ h.1, let first = h.2 in let next = k.2 in grind (arith, first, next))

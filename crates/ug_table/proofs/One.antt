@@ -21,7 +21,7 @@ use Rattle.ug_table.specs.Settle.{settling, resettling}
 use Rattle.ug_table.specs.Sweep.{names_of}
 use Rattle.ug_table.specs.Laws.{Tries, none_before, Stand, IsGone, IsNamed, HasStanding, IsAsJudged}
 use Rattle.ug_table.specs.Parts.{told_by, failure_in, failures_told, IsLast, EndsUnsettled}
-use Rattle.ug_table.specs.One.{failed_of, again_numbered, resettling_numbered, why_in, whys, why_of, GoesAsPart, LivedAs, SettledOne, SettlesOne, IsOf, ResettledOne, ResettlesOne, NeedsRoom}
+use Rattle.ug_table.specs.One.{failed_of, again_numbered, resettling_numbered, why_in, whys, why_of, GoesAsPart, LivedAs, SettledOne, SettlesOne, IsOf, ResettledOne, ResettlesOne}
 use Rattle.ug_table.specs.declared.standing.Standing.{Standing}
 use Rattle.ug_table.specs.declared.standing.Settled.{Settled}
 use Rattle.ug_table.specs.declared.standing.Settled.TheVariants as settled
@@ -158,10 +158,6 @@ numbered_part gives calls faults counted number k x s p t e r =
     as_part gives calls faults counted x.name s k.standings k.entries t p.1.standings p.1.entries p.0
     (resettling_went gives x.name k s p t h)
     (ends_run gives (AnsweredAgain x.name k) (resettling x.name k) s p t (resettling_answered x.name k) h).answered
-
--- want of memory
-pub numbered_room : {S : Type 0} (gives : S → (call : Call) → Answer call → S → Type 0) (number : ℕ) (k : Kept) (x : Standing) (s : S) (p : Settled × Kept) (t : S) → numbered number k.standings ≡ Some x → Runs gives s (resettling_numbered number k) p t → p.0 ≡ settled.Memory → NeedsRoom x.name k.standings
-numbered_room gives number k x s p t e r = (ends_run gives (AnsweredAgain x.name k) (resettling x.name k) s p t (resettling_answered x.name k) (run_numbered gives number k x s p t e r)).room
 
 -- two open files of one device are of one name
 one_name : (k : Kernel) (a b : List ℕ) (held other i : ℕ) → IsOpen k a held → IsOpen k b other → IsFileOf k held i → IsFileOf k other i → a ≡ b

@@ -7,5 +7,6 @@ pub mod Sweep
 pub mod Allowed
 pub mod Laws
 pub mod Order
+pub mod Marks
 pub mod Parts
 pub mod One

@@ -16,11 +16,10 @@ use Rattle.ug_table.specs.State.{State, Kept, Answers, Laters}
 use Rattle.ug_table.specs.Settle.{resettling}
 use Rattle.ug_table.specs.Sweep.{names_of}
 use Rattle.ug_table.specs.Bring.{is_to_go}
-use Rattle.ug_table.specs.Standings.{standing_of, numbered}
+use Rattle.ug_table.specs.Standings.{known_of, numbered}
 use Rattle.ug_table.specs.Laws.{Stand, Tries, none_before, IsFair, IsGone, IsNamed, IsAsJudged}
 use Rattle.ug_table.specs.Parts.{Part}
 use Rattle.ug_table.specs.declared.standing.Standing.{Standing}
-use Rattle.ug_table.specs.declared.standing.Known.{Known}
 use Rattle.ug_table.specs.declared.standing.Settled.{Settled}
 use Rattle.ug_table.specs.declared.standing.Settled.TheVariants as settled
 
@@ -102,6 +101,6 @@ pub record ResettledOne (s : Standing) (k : Kernel) (w : State (Unit {0})) (l : 
 abbrev pub ResettlesOne : {S : Type 0} → (S → Option Kernel) → ℕ → S → State (Unit {0}) → S → State (Unit {0}) → Settled → Type 0
 ResettlesOne told number s w t v how = (l : Kernel) → told t ≡ Some l → (k : Kernel) × (told s ≡ Some k) × (IsKernel k → Stand k w.standings w.next → (x : Standing) → numbered number w.standings ≡ Some x → ResettledOne x k w l v how)
 
--- want of memory is answered only where the device of the name's standing is still to be removed
-abbrev pub NeedsRoom : List ℕ → List Standing → Type 0
-NeedsRoom name ss = (known : Known) × (standing_of name ss ≡ Some known) × (is_to_go known ≡ true)
+-- the device of that number's standing is still to be removed
+abbrev pub NeedsRoom : ℕ → List Standing → Type 0
+NeedsRoom number ss = (s : Standing) × (numbered number ss ≡ Some s) × (is_to_go (known_of s) ≡ true)

@@ -1,12 +1,13 @@
 // Brings a device to its verdict.
 ghost use Rattle.std.specs.Prelude.{◌≡◌, ◌≤◌, ◌+◌};
 ghost use Rattle.ug_itree.specs.Tree.{Runs};
+ghost use Rattle.ug_audit.specs.Journal.{Notes, noted_in};
 ghost use Rattle.ug_table.specs.Bring.{wants, write_of, is_reject, is_to_go, valuing, to_remove, removing, writing, bringing};
 
 use crate::standing::{Known, Settled};
 use std::alloc::Global;
 use ug_audit::{Entry, Fault, Journal};
-use ug_node::{RemoveHold, hold_remove};
+use ug_node::{RemoveHold, hold_remove, put};
 use ug_sysfs::{Sysfs, Write, Wrote};
 use ug_types::{Held, NodeName, Target};
 
@@ -57,11 +58,9 @@ fn set_value<Y: Sysfs>(
     on: bool,
     out: &mut Journal,
 ) -> Settled
-    requires { 3 ≤ out.old.entries.now.spare }
-    ensures runs { Runs Y.gives sysfs.old (valuing name.now known on out.old.entries.now.entries) (result, out.new.entries.now.entries) sysfs.new }
-    ensures spare { out.old.entries.now.spare ≤ out.new.entries.now.spare + 3 }
-    ensures room { out.new.entries.now.room ≡ out.old.entries.now.room }
-    ensures same { out.new.entries.ghost_name ≡ out.old.entries.ghost_name }
+    requires { 3 ≤ (noted_in out.old).spare }
+    ensures runs { Runs Y.gives sysfs.old (valuing name.now known on (noted_in out.old).entries) (result, (noted_in out.new).entries) sysfs.new }
+    ensures journal { Notes 3 out.old out.new }
 {
     if is_wanted(known.verdict) == on {
         return Settled::Stands;
@@ -73,7 +72,7 @@ fn set_value<Y: Sysfs>(
         name: *name,
         write,
     });
-    let outcome = sysfs.write(known.held, write);
+    let outcome = put(sysfs, known.held, write);
     out.push(Entry::Wrote {
         number,
         name: *name,
@@ -109,11 +108,9 @@ fn write_remove<Y: Sysfs>(
     file: Held,
     out: &mut Journal,
 ) -> Settled
-    requires { 3 ≤ out.old.entries.now.spare }
-    ensures runs { Runs Y.gives sysfs.old (to_remove name.now known file.0 out.old.entries.now.entries) (result, out.new.entries.now.entries) sysfs.new }
-    ensures spare { out.old.entries.now.spare ≤ out.new.entries.now.spare + 3 }
-    ensures room { out.new.entries.now.room ≡ out.old.entries.now.room }
-    ensures same { out.new.entries.ghost_name ≡ out.old.entries.ghost_name }
+    requires { 3 ≤ (noted_in out.old).spare }
+    ensures runs { Runs Y.gives sysfs.old (to_remove name.now known file.0 (noted_in out.old).entries) (result, (noted_in out.new).entries) sysfs.new }
+    ensures journal { Notes 3 out.old out.new }
 {
     let number = known.number;
     let write = Write::Remove;
@@ -123,7 +120,7 @@ fn write_remove<Y: Sysfs>(
         write,
     };
     out.push(intent);
-    let wrote = sysfs.write(file, write);
+    let wrote = put(sysfs, file, write);
     let call = sysfs.calls();
     let count = sysfs.faults();
     sysfs.close(file);
@@ -162,11 +159,9 @@ fn remove<Y: Sysfs>(
     known: Known,
     out: &mut Journal,
 ) -> Settled
-    requires { 3 ≤ out.old.entries.now.spare }
-    ensures runs { Runs Y.gives sysfs.old (removing name.now known out.old.entries.now.entries) (result, out.new.entries.now.entries) sysfs.new }
-    ensures spare { out.old.entries.now.spare ≤ out.new.entries.now.spare + 3 }
-    ensures room { out.new.entries.now.room ≡ out.old.entries.now.room }
-    ensures same { out.new.entries.ghost_name ≡ out.old.entries.ghost_name }
+    requires { 3 ≤ (noted_in out.old).spare }
+    ensures runs { Runs Y.gives sysfs.old (removing name.now known (noted_in out.old).entries) (result, (noted_in out.new).entries) sysfs.new }
+    ensures journal { Notes 3 out.old out.new }
 {
     match hold_remove(alloc, sysfs, name, known.held) {
         RemoveHold::Ready(file) => write_remove(sysfs, name, known, file, out),
@@ -203,11 +198,9 @@ pub fn bring<Y: Sysfs>(
     on: bool,
     out: &mut Journal,
 ) -> Settled
-    requires { 6 ≤ out.old.entries.now.spare }
-    ensures runs { Runs Y.gives sysfs.old (bringing name.now known on out.old.entries.now.entries) (result, out.new.entries.now.entries) sysfs.new }
-    ensures spare { out.old.entries.now.spare ≤ out.new.entries.now.spare + 6 }
-    ensures room { out.new.entries.now.room ≡ out.old.entries.now.room }
-    ensures same { out.new.entries.ghost_name ≡ out.old.entries.ghost_name }
+    requires { 6 ≤ (noted_in out.old).spare }
+    ensures runs { Runs Y.gives sysfs.old (bringing name.now known on (noted_in out.old).entries) (result, (noted_in out.new).entries) sysfs.new }
+    ensures journal { Notes 6 out.old out.new }
 {
     let settled = make_writes(alloc, sysfs, name, known, on, out);
     match settled {
@@ -230,11 +223,9 @@ fn make_writes<Y: Sysfs>(
     on: bool,
     out: &mut Journal,
 ) -> Settled
-    requires { 6 ≤ out.old.entries.now.spare }
-    ensures runs { Runs Y.gives sysfs.old (writing name.now known on out.old.entries.now.entries) (result, out.new.entries.now.entries) sysfs.new }
-    ensures spare { out.old.entries.now.spare ≤ out.new.entries.now.spare + 6 }
-    ensures room { out.new.entries.now.room ≡ out.old.entries.now.room }
-    ensures same { out.new.entries.ghost_name ≡ out.old.entries.ghost_name }
+    requires { 6 ≤ (noted_in out.old).spare }
+    ensures runs { Runs Y.gives sysfs.old (writing name.now known on (noted_in out.old).entries) (result, (noted_in out.new).entries) sysfs.new }
+    ensures journal { Notes 6 out.old out.new }
 {
     match set_value(sysfs, name, known, on, out) {
         Settled::Stands => {

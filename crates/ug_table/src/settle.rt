@@ -2,10 +2,12 @@
 ghost use Rattle.std.specs.Prelude.{◌≡◌, ◌≤◌, ◌<◌, ◌+◌, ◌-◌, ◌^◌, length, vec_capacity, is_none, IsSome, OnOk, Some, None};
 ghost use Rattle.ug_types.specs.Names.{parent_of};
 ghost use Rattle.ug_itree.specs.Tree.{Runs};
+ghost use Rattle.ug_audit.specs.Journal.{Notes, noted_in};
 ghost use Rattle.ug_table.specs.State.{state_of, kept_of};
 ghost use Rattle.ug_table.specs.Order.{KeepsOrder};
 ghost use Rattle.ug_table.specs.Standings.{numbered, standing_of};
 ghost use Rattle.ug_table.specs.One.{resettling_numbered, GoesAsPart, SettlesOne, ResettlesOne, NeedsRoom};
+ghost use Rattle.ug_table.specs.Marks.{LeavesMarks, has_name, has_number};
 ghost use Rattle.ug_table.specs.declared.standing.Standing.{Standing};
 ghost use Rattle.ug_table.specs.declared.standing.Settled.TheVariants.{Memory};
 ghost use Rattle.ug_table.specs.Settle.{stands, kept_standings, tried_standings, no_room, to_judge, admitting, entering, settling, resettling};
@@ -16,7 +18,7 @@ use crate::standing::{Known, Settled, Standing};
 use crate::table::{Table, find, forget, known_of, mark, put_in};
 use std::alloc::Global;
 use ug_audit::{Entry, Fault, Journal};
-use ug_node::{Binding, Bound, bind};
+use ug_node::{Binding, Bound, bind, reprobe};
 use ug_record::record_of;
 use ug_sysfs::{Probe, Sysfs};
 use ug_types::{Held, Judged, NoMemory, NodeName};
@@ -93,11 +95,9 @@ impl Table {
         judge: &A,
         out: &mut Journal,
     ) -> Settled
-        requires { 1 ≤ out.old.entries.now.spare }
-        ensures runs { Runs Y.gives sysfs.old (no_room (state_of self.now (A.meaning judge.now) out.old.entries.now.entries) name.now held.0) (result, state_of self.now (A.meaning judge.now) out.new.entries.now.entries) sysfs.new }
-        ensures spare { out.old.entries.now.spare ≤ out.new.entries.now.spare + 1 }
-        ensures room { out.new.entries.now.room ≡ out.old.entries.now.room }
-        ensures same { out.new.entries.ghost_name ≡ out.old.entries.ghost_name }
+        requires { 1 ≤ (noted_in out.old).spare }
+        ensures runs { Runs Y.gives sysfs.old (no_room (state_of self.now (A.meaning judge.now) (noted_in out.old).entries) name.now held.0) (result, state_of self.now (A.meaning judge.now) (noted_in out.new).entries) sysfs.new }
+        ensures journal { Notes 1 out.old out.new }
     {
         sysfs.close(held);
         out.push(Entry::Unsettled {
@@ -120,14 +120,12 @@ impl Table {
         judged: Judged,
         out: &mut Journal,
     ) -> Settled
-        requires room { 7 ≤ out.old.entries.now.spare }
+        requires room { 7 ≤ (noted_in out.old).spare }
         requires next { self.old.next < 2 ^ 64 - 1 }
         requires place { length self.old.standings < self.old.room }
         requires absent { standing_of name.now self.old.standings ≡ None }
-        ensures runs { Runs Y.gives sysfs.old (to_judge A.answer A.later name.now present (state_of self.old (A.meaning judge.old) out.old.entries.now.entries) bound.now judged) (result, state_of self.new (A.meaning judge.new) out.new.entries.now.entries) sysfs.new }
-        ensures spare { out.old.entries.now.spare ≤ out.new.entries.now.spare + 7 }
-        ensures room { out.new.entries.now.room ≡ out.old.entries.now.room }
-        ensures same { out.new.entries.ghost_name ≡ out.old.entries.ghost_name }
+        ensures runs { Runs Y.gives sysfs.old (to_judge A.answer A.later name.now present (state_of self.old (A.meaning judge.old) (noted_in out.old).entries) bound.now judged) (result, state_of self.new (A.meaning judge.new) (noted_in out.new).entries) sysfs.new }
+        ensures journal { Notes 7 out.old out.new }
         ensures len { length self.new.standings ≤ length self.old.standings + 1 }
         ensures next { self.new.next ≤ self.old.next + 1 }
     {
@@ -169,13 +167,11 @@ impl Table {
         bound: Bound,
         out: &mut Journal,
     ) -> Settled
-        requires room { 7 ≤ out.old.entries.now.spare }
+        requires room { 7 ≤ (noted_in out.old).spare }
         requires next { self.old.next < 2 ^ 64 - 1 }
         requires absent { standing_of name.now self.old.standings ≡ None }
-        ensures runs { Runs Y.gives sysfs.old (admitting A.answer A.later name.now present (state_of self.old (A.meaning judge.old) out.old.entries.now.entries) bound) (result, state_of self.new (A.meaning judge.new) out.new.entries.now.entries) sysfs.new }
-        ensures spare { out.old.entries.now.spare ≤ out.new.entries.now.spare + 7 }
-        ensures room { out.new.entries.now.room ≡ out.old.entries.now.room }
-        ensures same { out.new.entries.ghost_name ≡ out.old.entries.ghost_name }
+        ensures runs { Runs Y.gives sysfs.old (admitting A.answer A.later name.now present (state_of self.old (A.meaning judge.old) (noted_in out.old).entries) bound) (result, state_of self.new (A.meaning judge.new) (noted_in out.new).entries) sysfs.new }
+        ensures journal { Notes 7 out.old out.new }
         ensures len { length self.new.standings ≤ length self.old.standings + 1 }
         ensures next { self.new.next ≤ self.old.next + 1 }
     {
@@ -200,13 +196,11 @@ impl Table {
         judge: &mut A,
         out: &mut Journal,
     ) -> Settled
-        requires room { 7 ≤ out.old.entries.now.spare }
+        requires room { 7 ≤ (noted_in out.old).spare }
         requires next { self.old.next < 2 ^ 64 - 1 }
         requires absent { standing_of name.now self.old.standings ≡ None }
-        ensures runs { Runs Y.gives sysfs.old (entering A.answer A.later name.now present (state_of self.old (A.meaning judge.old) out.old.entries.now.entries)) (result, state_of self.new (A.meaning judge.new) out.new.entries.now.entries) sysfs.new }
-        ensures spare { out.old.entries.now.spare ≤ out.new.entries.now.spare + 7 }
-        ensures room { out.new.entries.now.room ≡ out.old.entries.now.room }
-        ensures same { out.new.entries.ghost_name ≡ out.old.entries.ghost_name }
+        ensures runs { Runs Y.gives sysfs.old (entering A.answer A.later name.now present (state_of self.old (A.meaning judge.old) (noted_in out.old).entries)) (result, state_of self.new (A.meaning judge.new) (noted_in out.new).entries) sysfs.new }
+        ensures journal { Notes 7 out.old out.new }
         ensures len { length self.new.standings ≤ length self.old.standings + 1 }
         ensures next { self.new.next ≤ self.old.next + 1 }
     {
@@ -242,17 +236,18 @@ impl Table {
         judge: &mut A,
         out: &mut Journal,
     ) -> Settled
-        requires room { 8 ≤ out.old.entries.now.spare }
+        requires room { 8 ≤ (noted_in out.old).spare }
         requires next { self.old.next < 2 ^ 64 - 1 }
-        ensures runs { Runs Y.gives sysfs.old (settling A.answer A.later name.now present (state_of self.old (A.meaning judge.old) out.old.entries.now.entries)) (result, state_of self.new (A.meaning judge.new) out.new.entries.now.entries) sysfs.new }
-        ensures part { GoesAsPart Y.gives Y.calls Y.faults name.now sysfs.old self.old.standings out.old.entries.now.entries sysfs.new self.new.standings out.new.entries.now.entries result }
-        ensures law { SettlesOne Y.told A.answer A.later present name.now sysfs.old (state_of self.old (A.meaning judge.old) out.old.entries.now.entries) sysfs.new (state_of self.new (A.meaning judge.new) out.new.entries.now.entries) result }
-        ensures spare { out.old.entries.now.spare ≤ out.new.entries.now.spare + 8 }
-        ensures room { out.new.entries.now.room ≡ out.old.entries.now.room }
-        ensures same { out.new.entries.ghost_name ≡ out.old.entries.ghost_name }
+        ensures runs { Runs Y.gives sysfs.old (settling A.answer A.later name.now present (state_of self.old (A.meaning judge.old) (noted_in out.old).entries)) (result, state_of self.new (A.meaning judge.new) (noted_in out.new).entries) sysfs.new }
+        ensures part { GoesAsPart Y.gives Y.calls Y.faults name.now sysfs.old self.old.standings (noted_in out.old).entries sysfs.new self.new.standings (noted_in out.new).entries result }
+        ensures law { SettlesOne Y.told A.answer A.later present name.now sysfs.old (state_of self.old (A.meaning judge.old) (noted_in out.old).entries) sysfs.new (state_of self.new (A.meaning judge.new) (noted_in out.new).entries) result }
+        ensures marks { LeavesMarks (has_name name.now) self.old.standings self.new.standings result }
+        ensures journal { Notes 8 out.old out.new }
         ensures len { length self.new.standings ≤ length self.old.standings + 1 }
         ensures next { self.new.next ≤ self.old.next + 1 }
     {
+        // Its standings are in order.
+        let _ = &self.next;
         self.settle_name(alloc, sysfs, name, present, judge, out)
     }
 
@@ -266,18 +261,19 @@ impl Table {
         out: &mut Journal,
     ) -> Settled
         requires stands { IsSome (numbered number self.old.standings) }
-        requires room { 6 ≤ out.old.entries.now.spare }
-        ensures runs { Runs Y.gives sysfs.old (resettling_numbered number (kept_of self.old.standings out.old.entries.now.entries)) (result, kept_of self.new.standings out.new.entries.now.entries) sysfs.new }
-        ensures part { (s : Standing) → numbered number self.old.standings ≡ Some s → GoesAsPart Y.gives Y.calls Y.faults s.name sysfs.old self.old.standings out.old.entries.now.entries sysfs.new self.new.standings out.new.entries.now.entries result }
-        ensures law { ResettlesOne Y.told number sysfs.old (state_of self.old tt out.old.entries.now.entries) sysfs.new (state_of self.new tt out.new.entries.now.entries) result }
-        ensures memory { (s : Standing) → numbered number self.old.standings ≡ Some s → result ≡ Memory → NeedsRoom s.name self.old.standings }
-        ensures spare { out.old.entries.now.spare ≤ out.new.entries.now.spare + 6 }
-        ensures room { out.new.entries.now.room ≡ out.old.entries.now.room }
-        ensures same { out.new.entries.ghost_name ≡ out.old.entries.ghost_name }
+        requires room { 6 ≤ (noted_in out.old).spare }
+        ensures runs { Runs Y.gives sysfs.old (resettling_numbered number (kept_of self.old.standings (noted_in out.old).entries)) (result, kept_of self.new.standings (noted_in out.new).entries) sysfs.new }
+        ensures part { (s : Standing) → numbered number self.old.standings ≡ Some s → GoesAsPart Y.gives Y.calls Y.faults s.name sysfs.old self.old.standings (noted_in out.old).entries sysfs.new self.new.standings (noted_in out.new).entries result }
+        ensures law { ResettlesOne Y.told number sysfs.old (state_of self.old tt (noted_in out.old).entries) sysfs.new (state_of self.new tt (noted_in out.new).entries) result }
+        ensures marks { LeavesMarks (has_number number) self.old.standings self.new.standings result }
+        ensures memory { result ≡ Memory → NeedsRoom number self.old.standings }
+        ensures journal { Notes 6 out.old out.new }
         ensures len { length self.new.standings ≤ length self.old.standings }
         ensures next { self.new.next ≡ self.old.next }
         ensures listed { self.new.listed ≡ self.old.listed }
     {
+        // Its standings are in order.
+        let _ = &self.next;
         self.settle_numbered(alloc, sysfs, number, out)
     }
 
@@ -289,11 +285,9 @@ impl Table {
         number: u64,
         out: &mut Journal,
     ) -> Settled
-        requires { 6 ≤ out.old.entries.now.spare }
-        ensures runs { Runs Y.gives sysfs.old (resettling_numbered number (kept_of self.old.standings out.old.entries.now.entries)) (result, kept_of self.new.standings out.new.entries.now.entries) sysfs.new }
-        ensures spare { out.old.entries.now.spare ≤ out.new.entries.now.spare + 6 }
-        ensures room { out.new.entries.now.room ≡ out.old.entries.now.room }
-        ensures same { out.new.entries.ghost_name ≡ out.old.entries.ghost_name }
+        requires { 6 ≤ (noted_in out.old).spare }
+        ensures runs { Runs Y.gives sysfs.old (resettling_numbered number (kept_of self.old.standings (noted_in out.old).entries)) (result, kept_of self.new.standings (noted_in out.new).entries) sysfs.new }
+        ensures journal { Notes 6 out.old out.new }
         ensures len { length self.new.standings ≤ length self.old.standings }
         ensures next { self.new.next ≡ self.old.next }
         ensures listed { self.new.listed ≡ self.old.listed }
@@ -315,12 +309,10 @@ impl Table {
         judge: &mut A,
         out: &mut Journal,
     ) -> Settled
-        requires room { 8 ≤ out.old.entries.now.spare }
+        requires room { 8 ≤ (noted_in out.old).spare }
         requires next { self.old.next < 2 ^ 64 - 1 }
-        ensures runs { Runs Y.gives sysfs.old (settling A.answer A.later name.now present (state_of self.old (A.meaning judge.old) out.old.entries.now.entries)) (result, state_of self.new (A.meaning judge.new) out.new.entries.now.entries) sysfs.new }
-        ensures spare { out.old.entries.now.spare ≤ out.new.entries.now.spare + 8 }
-        ensures room { out.new.entries.now.room ≡ out.old.entries.now.room }
-        ensures same { out.new.entries.ghost_name ≡ out.old.entries.ghost_name }
+        ensures runs { Runs Y.gives sysfs.old (settling A.answer A.later name.now present (state_of self.old (A.meaning judge.old) (noted_in out.old).entries)) (result, state_of self.new (A.meaning judge.new) (noted_in out.new).entries) sysfs.new }
+        ensures journal { Notes 8 out.old out.new }
         ensures len { length self.new.standings ≤ length self.old.standings + 1 }
         ensures next { self.new.next ≤ self.old.next + 1 }
     {
@@ -328,7 +320,7 @@ impl Table {
             Some(known) => known,
             None => return self.enter(alloc, sysfs, name, present, judge, out),
         };
-        match sysfs.probe(known.held) {
+        match reprobe(sysfs, known.held) {
             Probe::Alive(on) => {
                 let settled = bring(alloc, sysfs, name, known, on, out);
                 remember(&mut self.standings, name, settled);
@@ -366,11 +358,9 @@ pub fn settle_known<Y: Sysfs>(
     name: &NodeName,
     out: &mut Journal,
 ) -> Settled
-    requires { 6 ≤ out.old.entries.now.spare }
-    ensures runs { Runs Y.gives sysfs.old (resettling name.now (kept_of standings.old.items out.old.entries.now.entries)) (result, kept_of standings.new.items out.new.entries.now.entries) sysfs.new }
-    ensures spare { out.old.entries.now.spare ≤ out.new.entries.now.spare + 6 }
-    ensures room { out.new.entries.now.room ≡ out.old.entries.now.room }
-    ensures same { out.new.entries.ghost_name ≡ out.old.entries.ghost_name }
+    requires { 6 ≤ (noted_in out.old).spare }
+    ensures runs { Runs Y.gives sysfs.old (resettling name.now (kept_of standings.old.items (noted_in out.old).entries)) (result, kept_of standings.new.items (noted_in out.new).entries) sysfs.new }
+    ensures journal { Notes 6 out.old out.new }
     ensures keeps { KeepsOrder standings.old.items standings.new.items }
     ensures len { length standings.new.items ≤ length standings.old.items }
 {
@@ -378,7 +368,7 @@ pub fn settle_known<Y: Sysfs>(
         Some(known) => known,
         None => return Settled::Nobody,
     };
-    match sysfs.probe(known.held) {
+    match reprobe(sysfs, known.held) {
         Probe::Alive(on) => {
             let settled = bring(alloc, sysfs, name, known, on, out);
             remember(standings, name, settled);

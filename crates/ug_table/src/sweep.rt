@@ -3,6 +3,7 @@ ghost use Rattle.std.specs.Prelude.{◌≡◌, ◌≤◌, ◌<◌, ◌+◌, ◌-
 ghost use Rattle.std.specs.List.{filter};
 ghost use Rattle.ug_types.specs.Sweep.{in_sweep_order};
 ghost use Rattle.ug_itree.specs.Tree.{Runs};
+ghost use Rattle.ug_audit.specs.Journal.{Notes, SameEntries, noted_in};
 ghost use Rattle.ug_table.specs.State.{state_of, kept_of};
 ghost use Rattle.ug_table.specs.Order.{KeepsOrder};
 ghost use Rattle.ug_table.specs.Standings.{lists, farewells};
@@ -27,11 +28,9 @@ fn has(names: &[NodeName], name: &NodeName) -> bool
 
 /// An entry for each standing whose name isn't listed.
 fn bid(standings: &[Standing], names: &[NodeName], out: &mut Journal)
-    requires { length standings.now ≤ out.old.entries.now.spare }
-    ensures entries { out.new.entries.now.entries ≡ out.old.entries.now.entries ++ farewells names.now standings.now }
-    ensures spare { out.old.entries.now.spare ≤ out.new.entries.now.spare + length standings.now }
-    ensures room { out.new.entries.now.room ≡ out.old.entries.now.room }
-    ensures same { out.new.entries.ghost_name ≡ out.old.entries.ghost_name }
+    requires { length standings.now ≤ (noted_in out.old).spare }
+    ensures entries { (noted_in out.new).entries ≡ (noted_in out.old).entries ++ farewells names.now standings.now }
+    ensures journal { Notes (length standings.now) out.old out.new }
 {
     for s in standings {
         if !has(names, &s.name) {
@@ -82,11 +81,9 @@ fn resettle_all<Y: Sysfs>(
     names: &[NodeName],
     out: &mut Journal,
 )
-    requires { 6 * length names.now ≤ out.old.entries.now.spare }
-    ensures runs { Runs Y.gives sysfs.old (resettling_all names.now (kept_of standings.old.items out.old.entries.now.entries)) (kept_of standings.new.items out.new.entries.now.entries) sysfs.new }
-    ensures spare { out.old.entries.now.spare ≤ out.new.entries.now.spare + 6 * length names.now }
-    ensures room { out.new.entries.now.room ≡ out.old.entries.now.room }
-    ensures same { out.new.entries.ghost_name ≡ out.old.entries.ghost_name }
+    requires { 6 * length names.now ≤ (noted_in out.old).spare }
+    ensures runs { Runs Y.gives sysfs.old (resettling_all names.now (kept_of standings.old.items (noted_in out.old).entries)) (kept_of standings.new.items (noted_in out.new).entries) sysfs.new }
+    ensures journal { Notes (6 * length names.now) out.old out.new }
     ensures keeps { KeepsOrder standings.old.items standings.new.items }
     ensures len { length standings.new.items ≤ length standings.old.items }
 {
@@ -98,11 +95,9 @@ fn resettle_all<Y: Sysfs>(
 impl Table {
     /// Drops the standings of other names than these.
     fn part<A: Judge>(&mut self, names: &[NodeName], judge: &A, out: &mut Journal)
-        requires { length self.old.standings ≤ out.old.entries.now.spare }
-        ensures state { state_of self.new (A.meaning judge.now) out.new.entries.now.entries ≡ parted names.now (state_of self.old (A.meaning judge.now) out.old.entries.now.entries) }
-        ensures spare { out.old.entries.now.spare ≤ out.new.entries.now.spare + length self.old.standings }
-        ensures room { out.new.entries.now.room ≡ out.old.entries.now.room }
-        ensures same { out.new.entries.ghost_name ≡ out.old.entries.ghost_name }
+        requires { length self.old.standings ≤ (noted_in out.old).spare }
+        ensures state { state_of self.new (A.meaning judge.now) (noted_in out.new).entries ≡ parted names.now (state_of self.old (A.meaning judge.now) (noted_in out.old).entries) }
+        ensures journal { Notes (length self.old.standings) out.old out.new }
         ensures next { self.new.next ≡ self.old.next }
         ensures len { length self.new.standings ≤ length self.old.standings }
     {
@@ -121,13 +116,11 @@ impl Table {
         judge: &mut A,
         out: &mut Journal,
     )
-        requires room { 8 * length names.now ≤ out.old.entries.now.spare }
+        requires room { 8 * length names.now ≤ (noted_in out.old).spare }
         requires next { self.old.next + length names.now < 2 ^ 64 }
-        ensures runs { Runs Y.gives sysfs.old (settling_all A.answer A.later names.now present (state_of self.old (A.meaning judge.old) out.old.entries.now.entries)) (state_of self.new (A.meaning judge.new) out.new.entries.now.entries) sysfs.new }
+        ensures runs { Runs Y.gives sysfs.old (settling_all A.answer A.later names.now present (state_of self.old (A.meaning judge.old) (noted_in out.old).entries)) (state_of self.new (A.meaning judge.new) (noted_in out.new).entries) sysfs.new }
         ensures next { self.new.next ≤ self.old.next + length names.now }
-        ensures spare { out.old.entries.now.spare ≤ out.new.entries.now.spare + 8 * length names.now }
-        ensures room { out.new.entries.now.room ≡ out.old.entries.now.room }
-        ensures same { out.new.entries.ghost_name ≡ out.old.entries.ghost_name }
+        ensures journal { Notes (8 * length names.now) out.old out.new }
         ensures len { length self.new.standings ≤ length self.old.standings + length names.now }
     {
         for name in names {
@@ -145,12 +138,10 @@ impl Table {
         judge: &A,
         out: &mut Journal,
     )
-        requires { 6 * length self.old.standings + 2 ≤ out.old.entries.now.spare }
-        ensures runs { Runs Y.gives sysfs.old (unlisted fault (state_of self.old (A.meaning judge.now) out.old.entries.now.entries)) (state_of self.new (A.meaning judge.now) out.new.entries.now.entries) sysfs.new }
+        requires { 6 * length self.old.standings + 2 ≤ (noted_in out.old).spare }
+        ensures runs { Runs Y.gives sysfs.old (unlisted fault (state_of self.old (A.meaning judge.now) (noted_in out.old).entries)) (state_of self.new (A.meaning judge.now) (noted_in out.new).entries) sysfs.new }
         ensures next { self.new.next ≡ self.old.next }
-        ensures spare { 0 < out.new.entries.now.spare }
-        ensures room { out.new.entries.now.room ≡ out.old.entries.now.room }
-        ensures same { out.new.entries.ghost_name ≡ out.old.entries.ghost_name }
+        ensures journal { Notes (6 * length self.old.standings + 1) out.old out.new }
         ensures len { length self.new.standings ≤ length self.old.standings }
     {
         out.push(Entry::UnsettledAll { fault });
@@ -168,16 +159,16 @@ impl Table {
         judge: &mut A,
         out: &mut Journal,
     )
-        requires room { 8 * length self.old.standings + 2 ≤ out.old.entries.now.spare }
+        requires room { 8 * length self.old.standings + 2 ≤ (noted_in out.old).spare }
         requires next { self.old.next + 65536 < 2 ^ 64 }
-        ensures runs { Runs Y.gives sysfs.old (sweeping A.answer A.later (state_of self.old (A.meaning judge.old) out.old.entries.now.entries)) (state_of self.new (A.meaning judge.new) out.new.entries.now.entries) sysfs.new }
+        ensures runs { Runs Y.gives sysfs.old (sweeping A.answer A.later (state_of self.old (A.meaning judge.old) (noted_in out.old).entries)) (state_of self.new (A.meaning judge.new) (noted_in out.new).entries) sysfs.new }
         ensures next { self.new.next ≤ self.old.next + 65536 }
-        ensures spare { 0 < out.new.entries.now.spare }
-        ensures room { 8 * length self.old.standings + 64 ≤ out.old.entries.now.room → 8 * length self.new.standings + 64 ≤ out.new.entries.now.room }
-        ensures same { out.new.entries.ghost_name ≡ out.old.entries.ghost_name }
-        ensures swept { Sweeps Y.told A.answer A.later sysfs.old (state_of self.old (A.meaning judge.old) out.old.entries.now.entries) sysfs.new (state_of self.new (A.meaning judge.new) out.new.entries.now.entries) }
-        ensures once { NamesOnce Y.told sysfs.old (state_of self.old (A.meaning judge.old) out.old.entries.now.entries) sysfs.new (state_of self.new (A.meaning judge.new) out.new.entries.now.entries) }
-        ensures faults { TellsFaults Y.gives Y.calls Y.faults sysfs.old (state_of self.old (A.meaning judge.old) out.old.entries.now.entries) sysfs.new (state_of self.new (A.meaning judge.new) out.new.entries.now.entries) }
+        ensures spare { 0 < (noted_in out.new).spare }
+        ensures room { 8 * length self.old.standings + 64 ≤ (noted_in out.old).room → 8 * length self.new.standings + 64 ≤ (noted_in out.new).room }
+        ensures same { SameEntries out.old out.new }
+        ensures swept { Sweeps Y.told A.answer A.later sysfs.old (state_of self.old (A.meaning judge.old) (noted_in out.old).entries) sysfs.new (state_of self.new (A.meaning judge.new) (noted_in out.new).entries) }
+        ensures once { NamesOnce Y.told sysfs.old (state_of self.old (A.meaning judge.old) (noted_in out.old).entries) sysfs.new (state_of self.new (A.meaning judge.new) (noted_in out.new).entries) }
+        ensures faults { TellsFaults Y.gives Y.calls Y.faults sysfs.old (state_of self.old (A.meaning judge.old) (noted_in out.old).entries) sysfs.new (state_of self.new (A.meaning judge.new) (noted_in out.new).entries) }
     {
         self.sweep_names(alloc, sysfs, judge, out);
     }
@@ -190,13 +181,13 @@ impl Table {
         judge: &mut A,
         out: &mut Journal,
     )
-        requires room { 8 * length self.old.standings + 2 ≤ out.old.entries.now.spare }
+        requires room { 8 * length self.old.standings + 2 ≤ (noted_in out.old).spare }
         requires next { self.old.next + 65536 < 2 ^ 64 }
-        ensures runs { Runs Y.gives sysfs.old (sweeping A.answer A.later (state_of self.old (A.meaning judge.old) out.old.entries.now.entries)) (state_of self.new (A.meaning judge.new) out.new.entries.now.entries) sysfs.new }
+        ensures runs { Runs Y.gives sysfs.old (sweeping A.answer A.later (state_of self.old (A.meaning judge.old) (noted_in out.old).entries)) (state_of self.new (A.meaning judge.new) (noted_in out.new).entries) sysfs.new }
         ensures next { self.new.next ≤ self.old.next + 65536 }
-        ensures spare { 0 < out.new.entries.now.spare }
-        ensures room { 8 * length self.old.standings + 64 ≤ out.old.entries.now.room → 8 * length self.new.standings + 64 ≤ out.new.entries.now.room }
-        ensures same { out.new.entries.ghost_name ≡ out.old.entries.ghost_name }
+        ensures spare { 0 < (noted_in out.new).spare }
+        ensures room { 8 * length self.old.standings + 64 ≤ (noted_in out.old).room → 8 * length self.new.standings + 64 ≤ (noted_in out.new).room }
+        ensures same { SameEntries out.old out.new }
     {
         let names = match sysfs.list(alloc) {
             Listing::Names(names) => sorted(names),

@@ -184,6 +184,9 @@ fn settles_a_standing_again(rt: HostRuntime) -> Result<(), Fail> {
     ];
     assert!(rt; notes(&entries, &removed));
     assert!(rt; table.standing(2).is_some_and(|s| s.settled && s.removed));
+    assert!(rt; table.listed() && table.next_number() == 3);
+    assert!(rt; table.standing_after(0).is_some_and(|s| s.number == 1));
+    assert!(rt; table.standing_after(2).is_none());
     Ok(())
 }
 

@@ -1,9 +1,14 @@
-use Rattle.std.proofs.Common.{◌≡◌, ℕ, Bool, List, sym, subst}
+use Rattle.std.proofs.Common.{◌≡◌, ℕ, Bool, List, Option, Some, None, IsSome, refl, sym, subst}
 use Rattle.ug_audit.specs.declared.entry.Entry.{Entry}
 use Rattle.ug_table.specs.declared.standing.Standing.{Standing}
+use Rattle.ug_audit.specs.Journal.{noted_in}
 use Rattle.ug_table.specs.State.{State, state_of}
 use Rattle.ug_table.specs.One.{ResettlesOne}
-use Rattle.ug_table.proofs.One.{numbered_part, numbered_room, told_resettles}
+use Rattle.ug_table.proofs.One.{numbered_part, told_resettles}
+use Rattle.ug_table.proofs.Remarked.{numbered_leaves, needs_room}
+use Rattle.ug_table.specs.Standings.{numbered}
+use Rattle.ug_table.specs.Table.{TableState}
+use Rattle.ug_table.specs.Order.{StandInOrder}
 use Rattle.ug_table.proofs.table.Table.resettle.Goals as goal
 
 pub returns-clause-part : goal.returns-clause-part
@@ -16,10 +21,22 @@ same_rest ss next after listed seen es a b = λ i. record { standings = ss; next
 pub returns-clause-law : goal.returns-clause-law
 returns-clause-law g c =
     let h = c.settle_numbered in
-    let w : State (Unit {0}) = state_of c.args.self.now tt c.args.out.now.entries.now.entries in
+    let w : State (Unit {0}) = state_of c.args.self.now tt (noted_in c.args.out.now).entries in
     subst (λ (v : State (Unit {0})). ResettlesOne g.Y.Sysfs.told c.args.number c.args.sysfs.now w h.new.sysfs v h.result)
-    (same_rest h.new.self.standings _ _ _ _ h.new.out.entries.now.entries h.ensures.next h.ensures.listed)
+    (same_rest h.new.self.standings _ _ _ _ (noted_in h.new.out).entries h.ensures.next h.ensures.listed)
     (told_resettles g.Y.Sysfs.gives g.Y.Sysfs.told g.met.Y.Sysfs.did c.args.number _ w _ _ h.ensures.runs)
 
+-- the standing of the number is there
+stands_at : (number : ℕ) (ss : List Standing) (o : Option Standing) → numbered number ss ≡ o → IsSome o → (x : Standing) × (numbered number ss ≡ Some x)
+stands_at number ss (Some x) e is = (x, e)
+stands_at number ss None e is = let none : ⊥ = cc in absurd none
+
+pub returns-clause-marks : goal.returns-clause-marks
+returns-clause-marks g c =
+    let x = stands_at c.args.number c.args.self.now.standings _ refl c.requires.stands in
+    numbered_leaves g.Y.Sysfs.gives c.args.self.now.next c.args.number _ x.0 _ _ _ (subst (λ (v : TableState). StandInOrder v.next v.standings) c.self.view_is c.self.invariant.0) x.1 c.settle_numbered.ensures.runs
+
 pub returns-clause-memory : goal.returns-clause-memory
-returns-clause-memory g c s e m = numbered_room g.Y.Sysfs.gives _ _ s _ _ _ e c.settle_numbered.ensures.runs m
+returns-clause-memory g c e =
+    let x = stands_at c.args.number c.args.self.now.standings _ refl c.requires.stands in
+    needs_room g.Y.Sysfs.gives c.args.self.now.next c.args.number _ x.0 _ _ _ (subst (λ (v : TableState). StandInOrder v.next v.standings) c.self.view_is c.self.invariant.0) x.1 c.settle_numbered.ensures.runs e

@@ -1,3 +1,7 @@
+use Rattle.std.proofs.Common.{subst}
+use Rattle.ug_table.specs.Table.{TableState}
+use Rattle.ug_table.specs.Order.{StandInOrder}
+use Rattle.ug_table.proofs.Remarked.{run_leaves}
 use Rattle.ug_table.proofs.One.{settling_part, told_settles}
 use Rattle.ug_table.proofs.table.Table.settle.Goals as goal
 
@@ -6,3 +10,6 @@ returns-clause-part g c = settling_part g.Y.Sysfs.gives g.Y.Sysfs.calls g.Y.Sysf
 
 pub returns-clause-law : goal.returns-clause-law
 returns-clause-law g c = told_settles g.Y.Sysfs.gives g.Y.Sysfs.told g.met.Y.Sysfs.did g.A.Judge.answer g.A.Judge.later _ _ _ _ _ _ c.settle_name.ensures.runs
+
+pub returns-clause-marks : goal.returns-clause-marks
+returns-clause-marks g c = run_leaves g.Y.Sysfs.gives g.A.Judge.answer g.A.Judge.later _ _ _ _ _ _ (subst (λ (v : TableState). StandInOrder v.next v.standings) c.self.view_is c.self.invariant.0) c.settle_name.ensures.runs
