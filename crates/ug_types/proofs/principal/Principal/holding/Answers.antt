@@ -2,8 +2,8 @@ use Rattle.std.proofs.Common.{◌≡◌, ℕ, ◌-◌, ◌≤◌, List, ◌++◌
 use Rattle.std.specs.Prelude.{IsTrue}
 use Rattle.std.proofs.lemmas.List.{drop_at, drop-replicate}
 use Rattle.std.proofs.Math.Seq.{take-append_seam}
-use Rattle.ug_conf.specs.Principals.{is_name}
-use Rattle.ug_conf.proofs.principal.Principal.holding.Goals as goal
+use Rattle.ug_types.specs.Principals.{is_name}
+use Rattle.ug_types.proofs.principal.Principal.holding.Goals as goal
 
 zeros_behind : (t s : List ℕ) → IsTrue (is_name t) → length t ≤ 32 → s ≡ t → ((length t ≤ 32) × (length (s ++ drop (length t) (replicate 32 0)) ≡ 32) × (drop (length t) (s ++ drop (length t) (replicate 32 0)) ≡ replicate (32 - length t) 0)) × IsTrue (is_name (take (length t) (s ++ drop (length t) (replicate 32 0))))
 zeros_behind t s name le e =

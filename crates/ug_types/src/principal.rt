@@ -1,8 +1,8 @@
 // Users and groups.
 ghost use Rattle.std.specs.Prelude.{◌≡◌, ◌≤◌, IsTrue, length, true};
 ghost use Rattle.std.specs.List.{list_all};
-ghost use Rattle.ug_conf.specs.Principals as principals;
-ghost use Rattle.ug_conf.specs.Principals.{is_name, principal_of, principal_named, same_principal};
+ghost use Rattle.ug_types.specs.Principals as principals;
+ghost use Rattle.ug_types.specs.Principals.{is_name, principal_of, principal_named, same_principal};
 ghost use Rattle.std.proofs.Common.{rules};
 ghost use Rattle.std.specs.Cmp as Cmp;
 ghost use Rattle.std.specs.Cmp.Rules.{comparing};
@@ -18,8 +18,8 @@ pub struct Principal {
 }
 
 impl Model for Principal {
-    ghost use Rattle.ug_conf.specs.Principals.{Named};
-    ghost use Rattle.ug_conf.specs.PrincipalBytes.{named_of, padded, IsNamed, padded_named};
+    ghost use Rattle.ug_types.specs.Principals.{Named};
+    ghost use Rattle.ug_types.specs.PrincipalBytes.{named_of, with_zeros, IsNamed, padded_principal};
 
     ghost Value = { Named };
 
@@ -27,9 +27,9 @@ impl Model for Principal {
 
     ghost invariant = { IsNamed };
 
-    ghost inverse = { padded };
+    ghost inverse = { with_zeros };
 
-    ghost inverse_ok = { λ n h. padded_named n h.0 };
+    ghost inverse_ok = { λ n h. padded_principal n h.0 };
 }
 
 fn is_name_byte(byte: u8) -> bool

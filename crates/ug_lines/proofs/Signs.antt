@@ -6,9 +6,9 @@ use Rattle.std.proofs.lemmas.List.{drop_at}
 use Rattle.std.specs.List.{position, position_or_len}
 use Rattle.ug_types.specs.Elements.{Has}
 use Rattle.ug_types.proofs.Elements.{has_cases, has_left}
-use Rattle.ug_conf.specs.Blanks.{without_front, without_end}
-use Rattle.ug_conf.specs.Grammar.{AreBlanks, IsEquation}
-use Rattle.ug_conf.proofs.Trimming.{Front, front, End, end, front-blanks, front-bare, end-blanks, end-bare}
+use Rattle.ug_lines.specs.Blanks.{without_front, without_end}
+use Rattle.ug_lines.specs.Equations.{AreBlanks, IsEquation}
+use Rattle.ug_lines.proofs.Trimming.{Front, front, End, end, front-blanks, front-bare, end-blanks, end-bare}
 
 -- no equals sign is among blanks
 no_sign_blank : (bytes : List ℕ) → AreBlanks bytes → ¬ Has bytes 61

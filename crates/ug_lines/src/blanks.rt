@@ -1,6 +1,6 @@
 // Blanks: space and tab.
 ghost use Rattle.std.specs.Prelude.{◌≡◌, ◌≤◌, length};
-ghost use Rattle.ug_conf.specs.Blanks as blanks;
+ghost use Rattle.ug_lines.specs.Blanks as blanks;
 
 pub fn is_blank(byte: u8) -> bool
     ensures { result ≡ blanks.is_blank byte }

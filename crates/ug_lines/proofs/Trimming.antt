@@ -3,8 +3,8 @@ use Rattle.std.proofs.Common.{◌≡◌, ℕ, inl, inr, Bool, true, false, nat_e
 use Rattle.std.proofs.lemmas.Bool.{false≢true}
 use Rattle.std.proofs.lemmas.Bool.Decides.{nat_tests}
 use Rattle.std.proofs.lemmas.List.{append-nil}
-use Rattle.ug_conf.specs.Blanks.{is_blank, without_front, before_end, without_end}
-use Rattle.ug_conf.specs.Grammar.{IsBlank, AreBlanks, BeginsBare, EndsBare, IsTextOf}
+use Rattle.ug_lines.specs.Blanks.{is_blank, without_front, before_end, without_end}
+use Rattle.ug_lines.specs.Equations.{IsBlank, AreBlanks, BeginsBare, EndsBare, IsTextOf}
 
 -- the test of blanks
 pub blank : (b : ℕ) → IsBlank b → is_blank b ≡ true

@@ -1,7 +1,7 @@
 -- Texts without their blanks, byte by byte.
 use Rattle.std.proofs.Common.{◌≡◌, ℕ, suc, ◌+◌, ◌-◌, ◌<◌, ◌≤◌, Bool, true, false, cond, List, [], ◌∷◌, ◌++◌, length, take, drop, get_or, refl, sym, ap, ◌∙◌, arith, drop-cons}
 use Rattle.std.proofs.lemmas.List.{take_more}
-use Rattle.ug_conf.specs.Blanks.{is_blank, before_end, without_end}
+use Rattle.ug_lines.specs.Blanks.{is_blank, before_end, without_end}
 
 pub next : (i : ℕ) (text : List ℕ) → i < length text → drop i text ≡ get_or text i 0 ∷ drop (i + 1) text
 next i text h = let one : suc i ≡ i + 1 = omega arith in drop-cons text i 0 h ∙ ap (λ (k : ℕ). get_or text i 0 ∷ drop k text) one

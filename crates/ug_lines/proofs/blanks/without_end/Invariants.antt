@@ -1,6 +1,6 @@
 use Rattle.std.proofs.Common.{◌≡◌, ◌≤◌, length, take}
-use Rattle.ug_conf.specs.Blanks as blanks
-use Rattle.ug_conf.proofs.blanks.without_end.Given as goal
+use Rattle.ug_lines.specs.Blanks as blanks
+use Rattle.ug_lines.proofs.blanks.without_end.Given as goal
 
 abbrev pub invariant-loop-end : goal.invariant-loop-end
 invariant-loop-end l = record {
