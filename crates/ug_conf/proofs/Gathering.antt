@@ -12,7 +12,7 @@ use Rattle.ug_conf.specs.declared.values.Setting.TheVariants as setting
 use Rattle.ug_conf.specs.Draft.{with_setting}
 use Rattle.ug_conf.specs.Grammar.{IsValue}
 use Rattle.ug_conf.specs.Meaning.{Entry, keys_of, is_noted, Sets, IsGiven, Gives}
-use Rattle.ug_conf.specs.Principals.{Named}
+use Rattle.ug_types.specs.Principals.{Named}
 use Rattle.ug_conf.specs.Settings.{defaults}
 
 -- the settings after entries

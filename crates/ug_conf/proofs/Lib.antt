@@ -1,13 +1,10 @@
 pub mod Assigning
-pub mod BlankSteps
 pub mod Entries
 pub mod Gathering
 pub mod LineCases
 pub mod LineSteps
 pub mod Saying
 pub mod SeenKeys
-pub mod Signs
 pub mod Spacing
 pub mod Tables
-pub mod Trimming
 pub mod Words

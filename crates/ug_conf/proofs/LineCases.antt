@@ -9,17 +9,18 @@ use Rattle.ug_conf.specs.declared.fault.FaultKind.{FaultKind}
 use Rattle.ug_conf.specs.declared.fault.FaultKind.TheVariants.{NoEquals, UnknownKey, BadValue, Repeated}
 use Rattle.ug_conf.specs.declared.keys.Key.{Key}
 use Rattle.ug_conf.specs.declared.values.Setting.{Setting}
-use Rattle.ug_conf.specs.Blanks.{without_front, without_end}
+use Rattle.ug_lines.specs.Blanks.{without_front, without_end}
 use Rattle.ug_conf.specs.Draft.{Draft, draft_of, with_setting, has_key, unless_seen, or_bad, key_read, value_read, parted, parted_at, equation_read, text_read, line_read}
 use Rattle.ug_conf.specs.Faults.{fault_at, on_ok}
 use Rattle.ug_conf.specs.Keys.{key_of}
 use Rattle.ug_conf.specs.Values.{setting_of}
-use Rattle.ug_conf.specs.Grammar.{IsTextOf, IsSkipped, IsEquation, word_of, IsValue, IsSkippedLine, IsSetting, IsBadLine, IsLine, Skipped, SetsKey, Bad}
+use Rattle.ug_conf.specs.Grammar.{word_of, IsValue, IsSkippedLine, IsSetting, IsBadLine, IsLine, Skipped, SetsKey, Bad}
+use Rattle.ug_lines.specs.Equations.{IsTextOf, IsSkipped, IsEquation}
 use Rattle.ug_conf.proofs.Assigning as values
 use Rattle.ug_conf.proofs.SeenKeys.{key_seen, seen_key}
-use Rattle.ug_conf.proofs.Signs.{sign, sign_missing, Parts, parts, equation, value_place}
+use Rattle.ug_lines.proofs.Signs.{sign, sign_missing, Parts, parts, equation, value_place}
 use Rattle.ug_conf.proofs.Tables.{key_written, key_read as word_read}
-use Rattle.ug_conf.proofs.Trimming as trimming
+use Rattle.ug_lines.proofs.Trimming as trimming
 
 abbrev Outcome : Type 0
 Outcome = Result Draft Fault

@@ -2,11 +2,12 @@
 use Rattle.std.proofs.Common.{◌≡◌, ◌≢◌, ℕ, Bool, true, false, List, [], ◌∷◌, ◌++◌, map, Option, Some, None, refl, sym, ap, subst, ◌∙◌, if◌then◌else◌}
 use Rattle.std.specs.Option.{option_map}
 use Rattle.std.proofs.lemmas.Option.{none-some, same_Some}
-use Rattle.ug_conf.specs.Blanks.{is_blank}
+use Rattle.ug_lines.specs.Blanks.{is_blank}
 use Rattle.ug_conf.specs.Names.{words, cut, words_of, all_named}
-use Rattle.ug_conf.specs.Principals.{Named, is_name}
-use Rattle.ug_conf.specs.Grammar.{IsBlank, AreBlanks, NoBlanks, IsWord, BeginsBlank, AreSpaced, AreAll, AreNames}
-use Rattle.ug_conf.proofs.Trimming.{blank, is_blank_so, not_blank, bare}
+use Rattle.ug_types.specs.Principals.{Named, is_name}
+use Rattle.ug_conf.specs.Grammar.{NoBlanks, IsWord, BeginsBlank, AreSpaced, AreAll, AreNames}
+use Rattle.ug_lines.specs.Equations.{IsBlank, AreBlanks}
+use Rattle.ug_lines.proofs.Trimming.{blank, is_blank_so, not_blank, bare}
 
 -- blanks before the first word
 words-blanks : (before rest : List ℕ) → AreBlanks before → words_of (before ++ rest) ≡ words_of rest

@@ -4,9 +4,9 @@ use Rattle.std.proofs.lemmas.List.{append-nil}
 use Rattle.std.proofs.lemmas.Option.{cond_some, none-some}
 use Rattle.std.specs.Option.{option_map}
 use Rattle.ug_types.proofs.Known.{to_end}
-use Rattle.ug_conf.specs.Blanks.{is_blank, without_front}
+use Rattle.ug_lines.specs.Blanks.{is_blank, without_front}
 use Rattle.ug_conf.specs.Names.{first_blank, cut, words_of, all_named}
-use Rattle.ug_conf.specs.Principals.{Named, is_name, principal_named}
+use Rattle.ug_types.specs.Principals.{Named, is_name, principal_named}
 
 -- it doesn't begin with a blank
 abbrev pub IsBare : List ℕ → Type 0

@@ -9,7 +9,7 @@ use Rattle.ug_conf.specs.declared.keys.Key.{Key}
 use Rattle.ug_conf.specs.declared.settings.Settings.{Settings}
 use Rattle.ug_conf.specs.declared.values.Setting.{Setting}
 use Rattle.ug_conf.specs.declared.values.Setting.TheVariants as setting
-use Rattle.ug_conf.specs.Blanks.{without_front, without_end}
+use Rattle.ug_lines.specs.Blanks.{without_front, without_end}
 use Rattle.ug_conf.specs.Faults.{fault_at, on_ok}
 use Rattle.ug_conf.specs.Keys.{key_of, same_key}
 use Rattle.ug_conf.specs.Values.{setting_of}

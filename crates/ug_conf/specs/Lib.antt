@@ -1,12 +1,9 @@
-pub mod Blanks
 pub mod Draft
 pub mod Faults
 pub mod Grammar
 pub mod Keys
 pub mod Meaning
 pub mod Names
-pub mod PrincipalBytes
-pub mod Principals
 pub mod Reader
 pub mod Settings
 pub mod Texts

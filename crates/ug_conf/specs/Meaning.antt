@@ -11,7 +11,7 @@ use Rattle.ug_conf.specs.declared.values.Setting.{Setting}
 use Rattle.ug_conf.specs.declared.values.Setting.TheVariants as setting
 use Rattle.ug_conf.specs.Faults.{kind_number}
 use Rattle.ug_conf.specs.Grammar.{IsSkippedLine, IsSetting, IsBadLine}
-use Rattle.ug_conf.specs.Principals.{Named}
+use Rattle.ug_types.specs.Principals.{Named}
 use Rattle.ug_conf.specs.Settings.{defaults}
 
 -- what a line sets, and the line's number

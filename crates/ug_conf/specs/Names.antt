@@ -1,8 +1,8 @@
 -- Names with blanks between.
 use Rattle.std.specs.Prelude.{ℕ, suc, Bool, if◌then◌else◌, List, [], ◌∷◌, Option, Some, None}
 use Rattle.std.specs.Option.{option_map}
-use Rattle.ug_conf.specs.Blanks.{is_blank}
-use Rattle.ug_conf.specs.Principals.{Named, is_name}
+use Rattle.ug_lines.specs.Blanks.{is_blank}
+use Rattle.ug_types.specs.Principals.{Named, is_name}
 
 -- how many bytes stand before the first blank
 abbrev pub first_blank : List ℕ → ℕ

@@ -5,14 +5,13 @@ ghost use Rattle.ug_conf.specs.Faults.{Answers};
 ghost use Rattle.ug_conf.specs.Draft as drafts;
 ghost use Rattle.ug_conf.specs.Draft.{draft_of, with_setting, key_read, value_read, assigned, line_read, Takes};
 
-use crate::blanks::{without_end, without_front};
 use crate::fault::{FaultKind, LineFault};
 use crate::keys::{Key, known_key};
-use crate::principal::Principal;
 use crate::settings::Settings;
 use crate::values::{Setting, make_setting};
 use std::alloc::Global;
-use ug_types::{List, NoMemory};
+use ug_lines::{without_end, without_front};
+use ug_types::{List, NoMemory, Principal};
 
 // Both, one behind the other.
 fn joined(

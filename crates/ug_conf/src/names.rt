@@ -2,10 +2,9 @@
 ghost use Rattle.std.specs.Prelude.{◌≡◌, ◌≤◌, IfOk, length};
 ghost use Rattle.ug_conf.specs.Names.{words_of, all_named, first_blank};
 
-use crate::blanks::{is_blank, without_front};
-use crate::principal::Principal;
 use std::alloc::Global;
-use ug_types::{List, NoMemory};
+use ug_lines::{is_blank, without_front};
+use ug_types::{List, NoMemory, Principal};
 
 // How many bytes stand before the first blank.
 fn word_length(text: &[u8]) -> usize

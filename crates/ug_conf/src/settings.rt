@@ -1,6 +1,5 @@
 // What the daemon's settings are: usbguard-daemon.conf(5).
-use crate::principal::Principal;
-use ug_types::{List, Target, Text};
+use ug_types::{List, Principal, Target, Text};
 
 /// PresentDevicePolicy and PresentControllerPolicy: what is done with a device that was there at the start.
 #[derive(Clone, Copy, Debug, PartialEq, Eq)]

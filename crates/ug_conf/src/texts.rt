@@ -1,27 +1,13 @@
 // Texts of settings, a line each.
-ghost use Rattle.std.specs.Prelude.{◌≡◌, ◌∷◌, ◌<◌, IfOk, IfErr, length};
-ghost use Rattle.ug_lines.specs.Lines.{lines_of};
+ghost use Rattle.std.specs.Prelude.{◌≡◌, IfOk, IfErr};
 ghost use Rattle.ug_conf.specs.Texts.{conf_read, IsFault};
 
 use crate::defaults::default_settings;
 use crate::draft::add_line;
 use crate::settings::Settings;
 use std::alloc::Global;
+use ug_lines::next_line;
 use ug_types::FileFault;
-
-// The first line of a text that isn't empty, and what stands behind its newline.
-fn next_line(text: &[u8]) -> (&[u8], &[u8])
-    requires { 0 < length text.now }
-    ensures lines { lines_of text.now ≡ result.0.now ∷ lines_of result.1.now }
-    ensures shorter { length result.1.now < length text.now }
-{
-    for (i, byte) in text.iter().enumerate() {
-        if *byte == b'\n' {
-            return (&text[..i], &text[i + 1..]);
-        }
-    }
-    (text, &text[text.len()..])
-}
 
 /// The settings of a text, or its first bad line: usbguard-daemon.conf(5). A line is empty, a comment that begins with `#`,
 /// or `Key=Value`. Blanks, space and tab, may stand at its ends and about the first `=`. Each key stands once at most; those

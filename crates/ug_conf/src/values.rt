@@ -4,10 +4,9 @@ ghost use Rattle.ug_conf.specs.Values.{target_of, present_of, inserted_of, defau
 
 use crate::keys::Key;
 use crate::names::named;
-use crate::principal::Principal;
 use crate::settings::{AuthDefault, Inserted, Present};
 use std::alloc::Global;
-use ug_types::{List, NoMemory, Target, Text};
+use ug_types::{List, NoMemory, Principal, Target, Text};
 
 /// A key with its value.
 #[derive(Drop)]

@@ -5,3 +5,7 @@ pub mod Feeding
 pub mod Faults
 pub mod Ending
 pub mod Outputs
+pub mod BlankSteps
+pub mod FirstLine
+pub mod Signs
+pub mod Trimming

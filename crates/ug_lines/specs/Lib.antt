@@ -1,3 +1,5 @@
+pub mod Blanks
+pub mod Equations
 pub mod Lines
 pub mod Fold
 pub mod Runs

@@ -1,7 +1,11 @@
+pub mod Access
 pub mod Elements
 pub mod Ends
 pub mod Names
 pub mod NodeNames
 pub mod Padded
+pub mod PrincipalBytes
+pub mod Principals
 pub mod Reading
+pub mod Refusals
 pub mod Sweep

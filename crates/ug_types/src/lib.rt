@@ -1,6 +1,7 @@
 // Names, texts and lists, and the source and sink of bytes.
 #![tactic(auto)]
 
+mod access;
 mod host;
 mod laws;
 mod line;
@@ -13,8 +14,10 @@ mod name;
 #[cfg(test)]
 mod name_tests;
 mod no_memory;
+mod principal;
 mod reading;
 mod record;
+mod refusal;
 mod rule;
 mod sink;
 mod source;
@@ -22,6 +25,7 @@ mod text;
 mod text_fault;
 mod verdict;
 
+pub use access::{Privilege, Section};
 pub use host::{ReaderSource, WriterSink};
 pub use laws::parents_law;
 pub use line::Line;
@@ -31,7 +35,9 @@ pub use mem_link::MemLink;
 pub use memory::{MemSink, MemSource};
 pub use name::{NameFault, NodeName, sort_names, sweep_order};
 pub use no_memory::NoMemory;
+pub use principal::Principal;
 pub use record::{Attrs, DeviceRecord, Judged, Triple};
+pub use refusal::Refusal;
 pub use rule::{After, Cond, CondKind, Conds, Id, Iface, Op, Query, Rule, Values};
 pub use sink::{Put, Sink};
 pub use source::{Source, Taken};

@@ -1,0 +1,11 @@
+pub mod Entries
+pub mod LineCases
+pub mod LineSteps
+pub mod Members
+pub mod PartSteps
+pub mod Parts
+pub mod PartsRead
+pub mod PrintLine
+pub mod Printing
+pub mod Saying
+pub mod SeenSections

@@ -1,0 +1,194 @@
+-- A line is skipped, grants something, or is bad, and is read so.
+use Rattle.std.proofs.Common.{◌≡◌, ℕ, ◌+◌, ◌-◌, ◌≤◌, ◌⊎◌, inl, inr, Bool, true, false, cond, nat_eq, List, [], ◌∷◌, ◌++◌, length, drop, Option, Some, None, Result, Ok, Err, refl, sym, ap, subst, ◌∙◌, arith}
+use Rattle.std.proofs.lemmas.Bool.{false≢true}
+use Rattle.std.proofs.lemmas.Bool.Decides.{nat_tests}
+use Rattle.std.proofs.lemmas.Option.{none-some}
+use Rattle.ug_types.specs.Access.{section_word, section_of}
+use Rattle.ug_types.specs.Elements.{Has}
+use Rattle.ug_types.proofs.AccessWords.{section_written, section_read as word_read}
+use Rattle.ug_types.specs.declared.access.Section.{Section}
+use Rattle.ug_lines.specs.Blanks.{without_front, without_end}
+use Rattle.ug_lines.specs.Equations.{IsTextOf, IsSkipped, IsEquation}
+use Rattle.ug_lines.proofs.Signs.{sign, sign_missing, Parts, parts, equation, value_place}
+use Rattle.ug_lines.proofs.Trimming as trimming
+use Rattle.ug_acl.specs.declared.draft.Given.{Given}
+use Rattle.ug_acl.specs.declared.fault.Fault.{Fault}
+use Rattle.ug_acl.specs.declared.fault.FaultKind.{FaultKind}
+use Rattle.ug_acl.specs.declared.fault.FaultKind.TheVariants.{NoEquals, UnknownSection, BadPrivilege, Repeated, BadName}
+use Rattle.ug_acl.specs.declared.privileges.Privileges.{Privileges}
+use Rattle.ug_acl.specs.Faults.{wrong_at, then_read}
+use Rattle.ug_acl.specs.Grammar.{IsSkippedGrant, IsGrant, AreParts, ArePrivileges, width_of, IsBadList, IsBadGrantLine, IsAccessLine, Skipped, Grants, Wrong}
+use Rattle.ug_acl.specs.Lines.{parts_of, parts_read, trimmed, sections_of, has_section, unless_given, section_read, given_to, sides_read, sides_read_at, equation_given, text_given, line_given}
+use Rattle.ug_acl.specs.Words.{given_by_words}
+use Rattle.ug_acl.proofs.Parts.{parts_found, are_parts}
+use Rattle.ug_acl.proofs.PartsRead.{good_parts, bad_parts, FirstBadPart, part_case}
+use Rattle.ug_acl.proofs.SeenSections.{section_seen, seen_section, is_seen}
+
+abbrev Outcome : Type 0
+Outcome = Result (List Given) Fault
+
+-- the text of a line decides
+on_text : (given : List Given) (line text : List ℕ) → IsTextOf line text → line_given given line ≡ text_given given text
+on_text given line text t = ap (text_given given) (trimming.text_read line text t)
+
+pub skipped_read : (given : List Given) (line : List ℕ) → IsSkippedGrant line → line_given given line ≡ Ok given
+skipped_read given line h = on_text given line h.0 h.1 ∙ by h.0 h.2
+  where
+    by : (text : List ℕ) → IsSkipped text → text_given given text ≡ Ok given
+    by [] k = refl
+    by (b ∷ bytes) k = ap (λ (c : ℕ). if_comment c) k
+      where
+        if_comment : ℕ → Outcome
+        if_comment c = cond (nat_eq c 35) (Ok given) (equation_given given (b ∷ bytes))
+
+shown_read : (given : List Given) (text : List ℕ) → ¬ IsSkipped text → text_given given text ≡ equation_given given text
+shown_read given [] h = absurd (h tt)
+shown_read given (b ∷ bytes) h =
+    let t : nat_eq b 35 ≡ false = grind (arith, nat_tests) in
+    rw t refl
+
+-- an equation is read by its word and its value
+sides_found : (given : List Given) (text word value : List ℕ) → IsEquation text word value → equation_given given text ≡ sides_read given text word value
+sides_found given text word value e =
+    let p : Parts text word value = parts text word value e in
+    ap (sides_read_at given text) p.found
+    ∙ ap (λ (w : List ℕ). sides_read given text w (without_front (drop (p.at + 1) text))) p.word_is
+    ∙ ap (sides_read given text word) p.value_is
+
+line_sides : (given : List Given) (line text word value : List ℕ) → IsTextOf line text → ¬ IsSkipped text → IsEquation text word value → line_given given line ≡ sides_read given text word value
+line_sides given line text word value t s e = on_text given line text t ∙ shown_read given text s ∙ sides_found given text word value e
+
+abbrev after_section : List Given → List ℕ → ℕ → Result Section Fault → Outcome
+after_section given value place read = then_read read (λ section. then_read (parts_read section place (parts_of value)) (λ privileges. Ok (given ++ given_to section privileges ∷ [])))
+
+abbrev after_parts : List Given → Section → Result Privileges Fault → Outcome
+after_parts given section read = then_read read (λ privileges. Ok (given ++ given_to section privileges ∷ []))
+
+new_section : (given : List Given) (section : Section) → ¬ Has (sections_of given) section → section_read given (section_word section) ≡ Ok section
+new_section given section h = ap (unless_given given) (word_read section) ∙ by (has_section given section) refl
+  where
+    by : (v : Bool) → has_section given section ≡ v → cond v (Err (wrong_at Repeated 0)) (Ok section) ≡ Ok section
+    by true e = absurd (h (section_seen given section e))
+    by false e = refl
+
+old_section : (given : List Given) (section : Section) → Has (sections_of given) section → section_read given (section_word section) ≡ Err (wrong_at Repeated 0)
+old_section given section h = ap (unless_given given) (word_read section) ∙ ap (λ (v : Bool). cond v (Err (wrong_at Repeated 0)) (Ok section)) (seen_section given section h)
+
+pub grant_read : (given : List Given) (line : List ℕ) (section : Section) (privileges : Privileges) → IsGrant line section privileges → ¬ Has (sections_of given) section
+    → line_given given line ≡ Ok (given ++ given_to section privileges ∷ [])
+grant_read given line section privileges s n =
+    let place : ℕ = length s.text - length s.value in
+    line_sides given line s.text (section_word section) s.value s.text_of s.shown s.equation
+    ∙ ap (after_section given s.value place) (new_section given section n)
+    ∙ ap (λ (ps : List (List ℕ)). after_parts given section (parts_read section place ps)) (parts_found s.value s.parts s.are_parts)
+    ∙ ap (after_parts given section) (good_parts section place s.parts s.words s.are_privileges)
+    ∙ ap (λ (p : Privileges). Ok (given ++ given_to section p ∷ [])) (sym s.gives)
+
+unknown : (word : List ℕ) → ((section : Section) → ¬ (word ≡ section_word section)) → section_of word ≡ None
+unknown word h = by (section_of word) refl
+  where
+    by : (o : Option Section) → section_of word ≡ o → section_of word ≡ None
+    by None e = e
+    by (Some section) e = absurd (h section (section_written word section e))
+
+pub bad_read : (given : List Given) (line : List ℕ) (kind : FaultKind) (place : ℕ) → IsBadGrantLine (sections_of given) line kind place → line_given given line ≡ Err (wrong_at kind place)
+bad_read given line NoEquals place h =
+    on_text given line h.0 h.1 ∙ shown_read given h.0 h.2
+    ∙ ap (sides_read_at given h.0) (sign_missing h.0 h.3.1) ∙ ap (λ (p : ℕ). Err (wrong_at NoEquals p)) (sym h.3.0)
+bad_read given line UnknownSection place h =
+    let b = h.3 in
+    line_sides given line h.0 b.1 b.2 h.1 h.2 b.3
+    ∙ ap (λ (o : Option Section). after_section given b.2 (length h.0 - length b.2) (unless_given given o)) (unknown b.1 b.4)
+    ∙ ap (λ (p : ℕ). Err (wrong_at UnknownSection p)) (sym b.0)
+bad_read given line Repeated place h =
+    let b = h.3 in
+    line_sides given line h.0 (section_word b.1) b.2 h.1 h.2 b.3
+    ∙ ap (after_section given b.2 (length h.0 - length b.2)) (old_section given b.1 b.4)
+    ∙ ap (λ (p : ℕ). Err (wrong_at Repeated p)) (sym b.0)
+bad_read given line BadPrivilege place h =
+    let b = h.3 in
+    let l : IsBadList b.0 b.1 b.2 = b.5 in
+    let whole : length b.1 ≤ length h.0 = value_place h.0 (section_word b.0) b.1 b.3 in
+    let from : ℕ = length h.0 - length b.1 in
+    let where_ : from + (width_of l.good + length l.blanks) ≡ place = omega (arith, b.6, l.place_is, whole) in
+    line_sides given line h.0 (section_word b.0) b.1 h.1 h.2 b.3
+    ∙ ap (after_section given b.1 from) (new_section given b.0 b.4)
+    ∙ ap (λ (ps : List (List ℕ)). after_parts given b.0 (parts_read b.0 from ps)) (parts_found b.1 (l.good ++ l.bad ∷ l.behind) l.are_parts)
+    ∙ ap (after_parts given b.0) (bad_parts b.0 from l.good l.words l.bad l.behind l.word l.blanks l.rest l.are_privileges l.text_of l.no_privilege l.front l.front_blank l.begins)
+    ∙ ap (λ (p : ℕ). Err (wrong_at BadPrivilege p)) where_
+bad_read given line BadName place h = absurd h.3
+
+skip : (text : List ℕ) → IsSkipped text ⊎ (¬ IsSkipped text)
+skip [] = inl tt
+skip (b ∷ bytes) = by (nat_eq b 35) refl
+  where
+    by : (v : Bool) → nat_eq b 35 ≡ v → (b ≡ 35) ⊎ (¬ (b ≡ 35))
+    by true e = inl (grind (arith, nat_tests))
+    by false e = inr (λ k. (let none : ⊥ = grind (arith, nat_tests) in none))
+
+bad_list : (section : Section) (value : List ℕ) → FirstBadPart section (parts_of value) → (at : ℕ) × IsBadList section value at
+bad_list section value b =
+    let f : trimming.Front b.bad = trimming.front b.bad in (
+      width_of b.good + length f.before,
+      record {
+        good = b.good;
+        words = b.words;
+        bad = b.bad;
+        behind = b.behind;
+        word = trimmed b.bad;
+        blanks = f.before;
+        rest = without_front b.bad;
+        are_parts = subst (λ (ps : List (List ℕ)). AreParts value ps) b.is (are_parts value);
+        are_privileges = b.are_privileges;
+        text_of = trimming.text_of b.bad;
+        no_privilege = b.no_privilege;
+        front = f.is;
+        front_blank = f.blanks;
+        begins = f.begins;
+        place_is = refl;
+      },
+    )
+
+of_value : (seen : List Section) (line text value : List ℕ) (section : Section) → IsTextOf line text → ¬ IsSkipped text → IsEquation text (section_word section) value → ¬ Has seen section → IsAccessLine seen line
+of_value seen line text value section t s e n = by (part_case section (parts_of value))
+  where
+    by : ((words : List (List ℕ)) × ArePrivileges section (parts_of value) words) ⊎ FirstBadPart section (parts_of value) → IsAccessLine seen line
+    by (inl g) = Grants section (given_by_words section g.0) (record {
+      text = text;
+      value = value;
+      parts = parts_of value;
+      words = g.0;
+      text_of = t;
+      shown = s;
+      equation = e;
+      are_parts = are_parts value;
+      are_privileges = g.1;
+      gives = refl;
+    }) n
+    by (inr b) =
+        let whole : length value ≤ length text = value_place text (section_word section) value e in
+        let l = bad_list section value b in
+        Wrong BadPrivilege (length text - length value + l.0) (text, t, s, (section, value, l.0, e, n, l.1, omega (arith, whole)))
+
+of_section : (seen : List Section) (line text value : List ℕ) (section : Section) → (Has seen section ⊎ (¬ Has seen section)) → IsTextOf line text → ¬ IsSkipped text → IsEquation text (section_word section) value → IsAccessLine seen line
+of_section seen line text value section (inl h) t s e = Wrong Repeated 0 (text, t, s, (refl, section, value, e, h))
+of_section seen line text value section (inr n) t s e = of_value seen line text value section t s e n
+
+of_word : (seen : List Section) (line text word value : List ℕ) → IsTextOf line text → ¬ IsSkipped text → IsEquation text word value → IsAccessLine seen line
+of_word seen line text word value t s e = by (section_of word) refl
+  where
+    by : (o : Option Section) → section_of word ≡ o → IsAccessLine seen line
+    by (Some section) f = of_section seen line text value section (is_seen seen section) t s (subst (λ (w : List ℕ). IsEquation text w value) (section_written word section f) e)
+    by None f = Wrong UnknownSection 0 (text, t, s, (refl, word, value, e, λ section k. none-some section (sym f ∙ ap section_of k ∙ word_read section)))
+
+pub line_case : (seen : List Section) (line : List ℕ) → IsAccessLine seen line
+line_case seen line =
+    let text : List ℕ = without_end (without_front line) in
+    let t : IsTextOf line text = trimming.text_of line in
+    elim (skip text) [
+      | inl s ↦ Skipped (text, t, s)
+      | inr s ↦ elim (sign text) [
+        | inl g ↦ of_word seen line text (without_end g.word) (without_front g.rest) t s (equation text g)
+        | inr n ↦ Wrong NoEquals 0 (text, t, s, (refl, n))
+      ]
+    ]

@@ -1,0 +1,9 @@
+pub mod Acls
+pub mod Faults
+pub mod Grammar
+pub mod Kept
+pub mod Lines
+pub mod Pairs
+pub mod Printed
+pub mod Texts
+pub mod Words

@@ -1,6 +1,0 @@
-use Rattle.std.proofs.Common.{◌≡◌, drop}
-use Rattle.ug_conf.specs.Blanks as blanks
-use Rattle.ug_conf.proofs.blanks.without_front.Given as goal
-
-abbrev pub invariant-loop-i : goal.invariant-loop-i
-invariant-loop-i l = blanks.without_front (drop l.i l.text) ≡ blanks.without_front l.text

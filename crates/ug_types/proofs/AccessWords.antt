@@ -1,0 +1,39 @@
+-- Words are sections and privileges exactly as these are written.
+use Rattle.std.proofs.Common.{◌≡◌, ℕ, Bool, true, false, cond, nat_eq, List, Option, Some, refl, sym, ap, ◌∙◌}
+use Rattle.std.specs.Prelude.{codes}
+use Rattle.std.specs.Cmp.Lexicographic.{pointwise, same_text}
+use Rattle.std.proofs.lemmas.Option.{none-some, same_Some}
+use Rattle.ug_types.specs.declared.access.Section.{Section}
+use Rattle.ug_types.specs.declared.access.Section.TheVariants.{Devices, Policy, Exceptions, Parameters}
+use Rattle.ug_types.specs.declared.access.Privilege.{Privilege}
+use Rattle.ug_types.specs.declared.access.Privilege.TheVariants as privilege
+use Rattle.ug_types.specs.Access.{section_word, privilege_word, section_of, privilege_of}
+
+-- one row of a table
+row : {X : Type 0} (spell : X → List ℕ) (word text : List ℕ) (here it : X) (rest : Option X) → text ≡ spell here → (rest ≡ Some it → word ≡ spell it) → cond (pointwise nat_eq word text) (Some here) rest ≡ Some it → word ≡ spell it
+row {X} spell word text here it rest t f h = by (pointwise nat_eq word text) refl h
+  where
+    by : (v : Bool) → pointwise nat_eq word text ≡ v → cond v (Some here) rest ≡ Some it → word ≡ spell it
+    by true e k = same_text word text (sym e) ∙ t ∙ ap spell (same_Some here it k)
+    by false e k = f k
+
+pub section_written : (word : List ℕ) (it : Section) → section_of word ≡ Some it → word ≡ section_word it
+unfolding section_of section_word
+section_written word it h = row section_word word (codes "Devices") Devices it _ refl (λ h. row section_word word (codes "Policy") Policy it _ refl (λ h. row section_word word (codes "Exceptions") Exceptions it _ refl (λ h. row section_word word (codes "Parameters") Parameters it _ refl (λ h. absurd (none-some it h)) h) h) h) h
+
+pub section_read : (it : Section) → section_of (section_word it) ≡ Some it
+unfolding section_of section_word
+section_read Devices = refl
+section_read Policy = refl
+section_read Exceptions = refl
+section_read Parameters = refl
+
+pub privilege_written : (word : List ℕ) (it : Privilege) → privilege_of word ≡ Some it → word ≡ privilege_word it
+unfolding privilege_of privilege_word
+privilege_written word it h = row privilege_word word (codes "modify") privilege.Modify it _ refl (λ h. row privilege_word word (codes "list") privilege.List it _ refl (λ h. row privilege_word word (codes "listen") privilege.Listen it _ refl (λ h. absurd (none-some it h)) h) h) h
+
+pub privilege_read : (it : Privilege) → privilege_of (privilege_word it) ≡ Some it
+unfolding privilege_of privilege_word
+privilege_read privilege.Modify = refl
+privilege_read privilege.List = refl
+privilege_read privilege.Listen = refl
