@@ -1,8 +1,8 @@
 #!/bin/sh
-# Times replay on two scripts of generated events, one ten times as long as the other, and prints the ratio of the times.
-# Between the events devices come and go at eight ports, and calls are told to fail. It wants the built program
-# (bin/usbguard builds it), awk, and GNU time as /usr/bin/time. Words: how many events the shorter script has (50000),
-# and the number below 2^32 that the events come from (7).
+# Times replay on two scripts of generated events, one ten times as long as the other, and prints the ratio of the
+# processor's times. Between the events devices come and go at eight ports, and calls are told to fail. It wants the
+# built program (bin/usbguard builds it), awk, and GNU time as /usr/bin/time. Words: how many events the shorter script
+# has (50000), and the number below 2^32 that the events come from (7).
 set -eu
 . "$(dirname "$0")/program.sh"
 
@@ -34,16 +34,20 @@ many_events() {
 
 run() {
     many_events "$1" "$2" >"$folder/script"
-    /usr/bin/time -f '%e %M' -o "$folder/time" "$program" replay <"$folder/script" >"$folder/out"
+    /usr/bin/time -f '%e %U %S %M' -o "$folder/time" "$program" replay <"$folder/script" >"$folder/out"
     awk -v events="$1" -v last="$(tail -n 1 "$folder/out")" '{
-        printf "%8d events %8.2f s %10.0f events/s %8d KiB peak  %s\n", events, $1, events / ($1 + 0.005), $2, last
+        printf "%8d events %8.2f s, of the processor %8.2f s %8d KiB peak  %s\n", events, $1, $2 + $3, $4, last
     }' "$folder/time"
+}
+
+processor_time() {
+    awk '{ print $2 + $3 }' "$folder/time"
 }
 
 events=${1:-50000}
 start=${2:-7}
 run "$events" "$start"
-few=$(cut -d ' ' -f 1 "$folder/time")
+few=$(processor_time)
 run $((events * 10)) "$start"
-many=$(cut -d ' ' -f 1 "$folder/time")
+many=$(processor_time)
 awk -v few="$few" -v many="$many" 'BEGIN { printf "ten times the events take %.1f times as long\n", many / (few + 0.005) }'
