@@ -11,8 +11,6 @@ mod names;
 mod principal;
 mod reader;
 mod settings;
-#[cfg(test)]
-mod tests;
 mod texts;
 mod values;
 

@@ -9,6 +9,3 @@ mod machine;
 pub use call::{Ended, replay, run, status};
 pub use laws::split_in_one_way;
 pub use machine::{Machine, Ran};
-
-#[cfg(test)]
-mod tests;

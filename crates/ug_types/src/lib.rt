@@ -10,8 +10,6 @@ mod marks;
 mod mem_link;
 mod memory;
 mod name;
-#[cfg(test)]
-mod name_tests;
 mod no_memory;
 mod reading;
 mod record;
