@@ -5,8 +5,6 @@ mod entries;
 mod entry;
 mod journal;
 mod lines;
-#[cfg(test)]
-mod lines_tests;
 
 pub use entries::Entries;
 pub use entry::{Entry, Fault};

@@ -7,8 +7,6 @@ mod context;
 mod history;
 mod laws;
 mod local;
-#[cfg(test)]
-mod tests;
 
 pub use allowed::Allowed;
 pub use conditions::holds;

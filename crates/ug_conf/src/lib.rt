@@ -9,8 +9,6 @@ mod laws;
 mod names;
 mod reader;
 mod settings;
-#[cfg(test)]
-mod tests;
 mod texts;
 mod values;
 

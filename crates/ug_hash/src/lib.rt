@@ -5,6 +5,3 @@ mod device;
 mod hex;
 
 pub use device::device_hash;
-
-#[cfg(test)]
-mod tests;

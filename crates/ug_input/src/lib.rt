@@ -6,6 +6,3 @@ mod read;
 
 pub use fault_lines::{refuse, say};
 pub use read::{InputFault, read_input};
-
-#[cfg(test)]
-mod tests;

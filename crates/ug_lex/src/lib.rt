@@ -14,6 +14,3 @@ pub use fault::LexFault;
 pub use laws::{one_meaning, reading_is_grammar, spans_in_order};
 pub use reading::tokens;
 pub use token::{Token, TokenKind};
-
-#[cfg(test)]
-mod tests;

@@ -13,6 +13,3 @@ pub use call::{Ended, replay, run, status};
 pub use first_line::next_line;
 pub use laws::split_in_one_way;
 pub use machine::{Machine, Ran};
-
-#[cfg(test)]
-mod tests;

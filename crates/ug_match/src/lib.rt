@@ -5,8 +5,6 @@ mod covers;
 mod laws;
 mod operators;
 mod query;
-#[cfg(test)]
-mod tests;
 
 pub use laws::{operators_law, queries_law, values_law};
 pub use query::matches;

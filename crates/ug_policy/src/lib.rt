@@ -6,8 +6,6 @@ mod entry;
 mod judging;
 mod laws;
 mod list;
-#[cfg(test)]
-mod tests;
 
 pub use entry::{InsertFault, NoRule, RuleEntry};
 pub use laws::{decider_law, deciding_law, edits_law};

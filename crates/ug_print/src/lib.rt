@@ -10,6 +10,3 @@ mod sets;
 
 pub use generating::{device_line, generated_rule};
 pub use printing::print_rule;
-
-#[cfg(test)]
-mod tests;

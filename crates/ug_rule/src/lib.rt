@@ -8,8 +8,6 @@ mod keywords;
 mod laws;
 mod queries;
 mod rules;
-#[cfg(test)]
-mod tests;
 mod tokens_left;
 mod values;
 mod words;

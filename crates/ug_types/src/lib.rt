@@ -11,8 +11,6 @@ mod marks;
 mod mem_link;
 mod memory;
 mod name;
-#[cfg(test)]
-mod name_tests;
 mod no_memory;
 mod principal;
 mod reading;
