@@ -1,0 +1,17 @@
+-- Words with one space between.
+use Rattle.std.specs.Prelude.{◌≡◌, ◌≢◌, ℕ, nat_eq, if◌then◌else◌, List, [], ◌∷◌}
+use Rattle.ug_types.specs.Elements.{Has}
+
+-- the word that a text begins with, which may be empty
+abbrev pub first_word : List ℕ → List ℕ
+first_word [] = []
+first_word (b ∷ bytes) = if nat_eq b 32 then [] else b ∷ first_word bytes
+
+-- what stands behind that word, from its space on
+abbrev pub behind_word : List ℕ → List ℕ
+behind_word [] = []
+behind_word (b ∷ bytes) = if nat_eq b 32 then b ∷ bytes else behind_word bytes
+
+-- at least one byte, and no space
+abbrev pub IsPlainWord : List ℕ → Type 0
+IsPlainWord word = (word ≢ []) × (¬ Has word 32)
