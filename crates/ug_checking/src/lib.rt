@@ -7,6 +7,3 @@ mod lines;
 
 pub use checking::check_rules;
 pub use laws::text_law;
-
-#[cfg(test)]
-mod tests;

@@ -12,6 +12,3 @@ pub use fault::DescrFault;
 pub use interfaces::ifaces;
 pub use laws::{one_meaning, reading_is_grammar};
 pub use reading::decode;
-
-#[cfg(test)]
-mod tests;

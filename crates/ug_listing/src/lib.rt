@@ -6,6 +6,3 @@ mod listing;
 mod writing;
 
 pub use listing::list_descriptors;
-
-#[cfg(test)]
-mod tests;

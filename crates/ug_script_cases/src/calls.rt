@@ -1,0 +1,40 @@
+// The commands over objects in memory.
+use std::alloc::Global;
+use ug_sysfs::SimKernel;
+use ug_tool::{run_replay, run_tool};
+use ug_types::{MemLink, MemSink, MemSource, NoMemory};
+
+/// An input and its words, and the calls of the source and of the sink that fail.
+#[derive(Drop)]
+pub struct Call<'a> {
+    pub words: Vec<&'a str>,
+    pub input: Vec<u8>,
+    pub reads: Vec<u64>,
+    pub writes: Vec<u64>,
+}
+
+#[derive(Drop)]
+pub struct Ran {
+    pub status: u8,
+    pub output: Vec<u8>,
+}
+
+/// A script on a new kernel, which is handed out too.
+pub fn replay(alloc: Global, call: Call) -> Result<(Ran, SimKernel), NoMemory> {
+    let mut input = MemSource::new(call.input, call.reads);
+    let mut out = MemSink::new(alloc, call.writes);
+    let mut kernel = SimKernel::new(alloc);
+    let status = run_replay(alloc, &call.words, &mut input, &mut out, &mut kernel);
+    let output = Vec::from_slice(alloc, out.bytes())?;
+    Ok((Ran { status, output }, kernel))
+}
+
+pub fn tool(alloc: Global, call: Call) -> Result<Ran, NoMemory> {
+    let mut input = MemSource::new(call.input, call.reads);
+    let mut out = MemSink::new(alloc, call.writes);
+    let coming = MemSource::new(Vec::new(alloc), Vec::new(alloc));
+    let mut link = MemLink::new(false, coming, MemSink::new(alloc, Vec::new(alloc)));
+    let status = run_tool(alloc, &call.words, &mut input, &mut out, &mut link);
+    let output = Vec::from_slice(alloc, out.bytes())?;
+    Ok(Ran { status, output })
+}
