@@ -24,7 +24,7 @@ use Rattle.ug_types.proofs.Elements.{filter_has, map_has, has_map, insert_has, d
 use Rattle.ug_table.proofs.Orders.{not_itself}
 use Rattle.ug_table.proofs.Places.{marked_other}
 use Rattle.ug_table.proofs.Standings.{same_is, is_same, found, missing, numbered_has}
-use Rattle.ug_table.proofs.Ways.{ways_more}
+use Rattle.ug_itree.proofs.Ways.{ways_more}
 use Rattle.ug_table.proofs.Shapes.{Opening, Fresh, Lost, Flat, Unprobed, Tried, Stopped, Unbound, No_place, Judged_so, Settles, settles, Resettles, resettles}
 use Rattle.ug_table.proofs.Told.{EndsSo, ends_run, opens}
 use Rattle.ug_table.proofs.Answered.{AnsweredAgain, resettling_answered}
@@ -195,7 +195,7 @@ next_stood next ss o = none_stood next ss (λ a.
     let is = m.2 in
     omega (arith, below, is))
 
-flat_leaves : {binds : Bool} {given : List Standing → Bound → Standing → Type 0} {name : List ℕ} {ss : List Standing} {ms : List Made} {rest : List Entry} {how : Settled} {rs : List Standing} {o : Option (List Standing × Bound)} (next : ℕ) → StandInOrder next ss → ((rs : List Standing) (b : Bound) (x : Standing) → given rs b x → x.number ≡ next) → Flat binds given name ss ms rest how rs o → LeavesMarks (has_name name) ss rs how
+flat_leaves : {binds : Bool} {given : List Standing → Bound → Standing → Type 0} {name : List ℕ} {ss : List Standing} {ok : Bool} {ms : List Made} {rest : List Entry} {how : Settled} {rs : List Standing} {o : Option (List Standing × Bound)} (next : ℕ) → StandInOrder next ss → ((rs : List Standing) (b : Bound) (x : Standing) → given rs b x → x.number ≡ next) → Flat binds given name ss ok ms rest how rs o → LeavesMarks (has_name name) ss rs how
 flat_leaves {name = name} {ss = ss} next order numbered (Unprobed known call count at) = tried_leaves (of_name name) name ss (settled.Fault call count) order.distinct (λ s a. refl)
 flat_leaves {name = name} {ss = ss} next order numbered (Tried known on call count ms es how at b) = tried_leaves (of_name name) name ss how order.distinct (λ s a. refl)
 flat_leaves next order numbered (Stopped ms es rs f opening) = opening_leaves settled.Nobody opening
@@ -205,7 +205,7 @@ flat_leaves {name = name} {ss = ss} next order numbered (Judged_so ms ns os es f
     kept_leaves name ss rs x how new.named new.fresh new.stays (ap (λ (v : ℕ). stood_removed v ss) (numbered rs b x given) ∙ next_stood next ss order) (opening_rest opening) (opens opening).absent
 
 settling_leaves : {J : Type 0} (answer : Answers J) (later : Laters J) (name : List ℕ) (present : Bool) (w : State J) → StandInOrder w.next w.standings → EndsSo (λ (p : Settled × State J). LeavesMarks (has_name name) w.standings p.1.standings p.0) (settling answer later name present w)
-settling_leaves answer later name present w order = ways_more (Settles answer later name present w) (λ ms p. LeavesMarks (has_name name) w.standings p.1.standings p.0) (settling answer later name present w) (λ ms p h. flat_leaves w.next order (λ rs b x e. ap (λ (v : Standing). v.number) e) h.flat) (settles answer later name present w)
+settling_leaves answer later name present w order = ways_more (Settles answer later name present w) (λ ok ms p. LeavesMarks (has_name name) w.standings p.1.standings p.0) (settling answer later name present w) (λ ok ms p h. flat_leaves w.next order (λ rs b x e. ap (λ (v : Standing). v.number) e) h.flat) (settles answer later name present w)
 
 pub run_leaves : {S J : Type 0} (gives : S → (call : Call) → Answer call → S → Type 0) (answer : Answers J) (later : Laters J) (name : List ℕ) (present : Bool) (w : State J) (s : S) (p : Settled × State J) (t : S) → StandInOrder w.next w.standings → Runs gives s (settling answer later name present w) p t → LeavesMarks (has_name name) w.standings p.1.standings p.0
 run_leaves {S} {J} gives answer later name present w s p t order r = ends_run gives (λ (q : Settled × State J). LeavesMarks (has_name name) w.standings q.1.standings q.0) (settling answer later name present w) s p t (settling_leaves answer later name present w order) r
@@ -237,7 +237,7 @@ numbered_named next number ss x order at s a = by (nat_eq s.number number) refl 
         let was : nat_eq s.number number ≡ true = grind (arith, n) in
         sym e ∙ was
 
-flat_tried : {given : List Standing → Bound → Standing → Type 0} {binds : Bool} {name : List ℕ} {ss : List Standing} {ms : List Made} {rest : List Entry} {how : Settled} {rs : List Standing} {o : Option (List Standing × Bound)} → Flat binds given name ss ms rest how rs o → binds ≡ false → Has (names_of ss) name → rs ≡ tried_standings ss name how
+flat_tried : {given : List Standing → Bound → Standing → Type 0} {binds : Bool} {name : List ℕ} {ss : List Standing} {ok : Bool} {ms : List Made} {rest : List Entry} {how : Settled} {rs : List Standing} {o : Option (List Standing × Bound)} → Flat binds given name ss ok ms rest how rs o → binds ≡ false → Has (names_of ss) name → rs ≡ tried_standings ss name how
 flat_tried (Unprobed known call count at) f a = refl
 flat_tried (Tried known on call count ms es how at b) f a = refl
 flat_tried {name = name} {ss = ss} (Stopped ms es rs f (Fresh e)) g a = absurd (missing name ss e a)
@@ -247,7 +247,7 @@ flat_tried (No_place ms ns es rs b shut t opening way) f a = absurd (true≢fals
 flat_tried (Judged_so ms ns os es fs rs b x how t opening way given new brought) f a = absurd (true≢false (sym t ∙ f))
 
 resettling_tried : (name : List ℕ) (k : Kept) → Has (names_of k.standings) name → EndsSo (λ (p : Settled × Kept). p.1.standings ≡ tried_standings k.standings name p.0) (resettling name k)
-resettling_tried name k a = ways_more (Resettles name k) (λ ms p. p.1.standings ≡ tried_standings k.standings name p.0) (resettling name k) (λ ms p h. flat_tried h.flat refl a) (resettles name k)
+resettling_tried name k a = ways_more (Resettles name k) (λ ok ms p. p.1.standings ≡ tried_standings k.standings name p.0) (resettling name k) (λ ok ms p h. flat_tried h.flat refl a) (resettles name k)
 
 run_of : {S : Type 0} (gives : S → (call : Call) → Answer call → S → Type 0) (number : ℕ) (k : Kept) (x : Standing) (s : S) (p : Settled × Kept) (t : S) → numbered number k.standings ≡ Some x → Runs gives s (resettling_numbered number k) p t → Runs gives s (resettling x.name k) p t
 unfolding resettling_numbered
