@@ -3,7 +3,8 @@ use Rattle.std.proofs.Common.{◌≡◌, ℕ, List, [], ◌∷◌, ◌++◌, sym
 use Rattle.ug_types.specs.Elements.{AllDistinct}
 use Rattle.ug_types.specs.declared.verdict.Moment.{Moment}
 use Rattle.ug_kernel.specs.Calls.{Call, Names, Answer}
-use Rattle.ug_itree.specs.Along.{Made, answered, Failure, AreNumbered, Rises}
+use Rattle.ug_kernel.specs.declared.calls.FailedCall.{FailedCall}
+use Rattle.ug_kernel.specs.Along.{Made, answered, AreNumbered, Rises}
 use Rattle.ug_audit.specs.declared.entry.Entry.{Entry}
 use Rattle.ug_audit.specs.declared.entry.Entry.TheVariants as entry
 use Rattle.ug_table.specs.State.{State}
@@ -32,7 +33,7 @@ event_tells {S} begins gives calls faults moment s u d t v es j e b none same fi
       entries = last;
       exact = whole ∙ h.exact;
       numbered = subst (λ (n : ℕ). AreNumbered n ms) none h.numbered;
-      rises = subst (λ (x : List Failure). Rises 0 (faults s) x) (sym whole) (subst (λ (n : ℕ). Rises 0 n (failures_told es)) same (subst (λ (n : ℕ). Rises n (faults u) (failures_told es)) none (h.rises (omega (arith, none)))));
+      rises = subst (λ (x : List FailedCall). Rises 0 (faults s) x) (sym whole) (subst (λ (n : ℕ). Rises 0 n (failures_told es)) same (subst (λ (n : ℕ). Rises n (faults u) (failures_told es)) none (h.rises (omega (arith, none)))));
     }
 
 -- the first entry and the last name nothing

@@ -4,7 +4,7 @@ use Rattle.ug_types.specs.Elements.{AllDistinct}
 use Rattle.ug_types.specs.declared.verdict.Moment.{Moment}
 use Rattle.ug_kernel.specs.Calls.{Call, Names, Answer}
 use Rattle.ug_kernel.specs.Kernel.{Kernel, IsKernel}
-use Rattle.ug_itree.specs.Along.{answered, failures, AreNumbered, Rises}
+use Rattle.ug_kernel.specs.Along.{answered, failures, AreNumbered, Rises}
 use Rattle.ug_audit.specs.declared.entry.Entry.TheVariants as entry
 use Rattle.ug_table.specs.State.{State}
 use Rattle.ug_table.specs.Laws.{Stand, Swept}

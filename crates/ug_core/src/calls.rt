@@ -1,6 +1,6 @@
 // The daemon's calls.
 ghost use Rattle.std.specs.Prelude.{◌≡◌, ◌≤◌, ◌<◌, ◌+◌, ◌-◌, ◌*◌, ◌^◌, [], IsTrue, length, IfOk};
-ghost use Rattle.ug_itree.specs.Tree.{Runs};
+ghost use Rattle.ug_kernel.specs.Tree.{Runs};
 ghost use Rattle.ug_core.specs.Event.{daemon_of, IsStarted, moment_of, RunsEvent, handling, has_numbers, is_low};
 ghost use Rattle.ug_core.specs.Policy.{judging_of};
 ghost use Rattle.ug_core.specs.Laws.{Handles, TellsEvent, NamesOnceIn};
@@ -75,7 +75,7 @@ impl Daemon {
         self.sweep(alloc, *moment, sysfs);
     }
 
-    #[tactic(auto, unfolding(crate::specs::Event::handling), using(ug_itree::proofs::Runs::runs_then))]
+    #[tactic(auto, unfolding(crate::specs::Event::handling), using(ug_kernel::proofs::Runs::runs_then))]
     fn sweep<Y: Sysfs>(&mut self, alloc: Global, moment: Moment, sysfs: &mut Y)
         requires { IsTrue (has_numbers (daemon_of self.old) (Y.faults sysfs.old) 0) }
         ensures runs { RunsEvent Y.begins Y.gives sysfs.old moment (daemon_of self.old) sysfs.new (daemon_of self.new) }

@@ -4,3 +4,9 @@ pub mod Held
 pub mod Places
 pub mod Sounds
 pub mod Stayed
+pub mod Runs
+pub mod Told
+pub mod Kernels
+pub mod Counted
+pub mod Ways
+pub mod Rises

@@ -1,8 +1,8 @@
 -- The calls of the kernel's files, and what each may be answered.
 use Rattle.std.specs.Prelude.{◌≡◌, ℕ, ◌+◌, ◌-◌, ◌^◌, ◌<◌, ◌≤◌, min, Bool, true, false, List}
-use Rattle.ug_kernel.specs.declared.calls.Control.{Control}
-use Rattle.ug_kernel.specs.declared.calls.Attr.{Attr}
-use Rattle.ug_kernel.specs.declared.calls.Write.{Write}
+use Rattle.ug_types.specs.declared.control.Control.{Control}
+use Rattle.ug_types.specs.declared.control.Attr.{Attr}
+use Rattle.ug_types.specs.declared.control.Write.{Write}
 use Rattle.ug_kernel.specs.declared.calls.Listing.{Listing}
 use Rattle.ug_kernel.specs.declared.calls.Listing.TheVariants as listing
 use Rattle.ug_kernel.specs.declared.calls.Opened.{Opened}

@@ -2,3 +2,5 @@ pub mod Calls
 pub mod Kernel
 pub mod Called
 pub mod Quiet
+pub mod Tree
+pub mod Along

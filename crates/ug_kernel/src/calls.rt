@@ -1,30 +1,6 @@
 // The calls of a device's files, and what they answer.
 use ug_types::{Held, List, NodeName, Text};
 
-/// A file that is written: sysfs-bus-usb, `authorized` and `remove`.
-#[derive(Clone, Copy, Debug, PartialEq, Eq)]
-pub enum Control {
-    Authorized,
-    Remove,
-}
-
-/// A file that is read: sysfs-bus-usb, `descriptors`, `product`, `serial` and `port/connect_type`.
-#[derive(Clone, Copy, Debug, PartialEq, Eq)]
-pub enum Attr {
-    Descriptors,
-    Product,
-    Serial,
-    Connect,
-}
-
-/// What is written: 1 or 0 to `authorized`, 1 to `remove`.
-#[derive(Clone, Copy, Debug, PartialEq, Eq)]
-pub enum Write {
-    On,
-    Off,
-    Remove,
-}
-
 /// The answer to a listing.
 #[derive(Drop)]
 pub enum Listing {
@@ -69,4 +45,11 @@ pub enum Wrote {
     Gone,
     /// It may have had its effect.
     Failed,
+}
+
+/// A call that failed: its number in its event, and the count of failed calls after it.
+#[derive(Clone, Copy, Debug, PartialEq, Eq)]
+pub struct FailedCall {
+    pub call: u64,
+    pub count: u64,
 }

@@ -1,6 +1,5 @@
 // What the kernel keeps.
-use crate::calls::{Control, Write};
-use ug_types::{NodeName, Text};
+use ug_types::{Control, NodeName, Text, Write};
 
 /// A device that was born. Its place in the kernel's list is its identity, and is never used again.
 #[derive(Drop)]

@@ -4,5 +4,6 @@
 mod calls;
 mod device;
 
-pub use calls::{Attr, Control, Listing, Opened, Probe, ReadOut, Write, Wrote};
+pub use calls::{FailedCall, Listing, Opened, Probe, ReadOut, Wrote};
 pub use device::{Device, Effect, HeldFile};
+pub use ug_types::{Attr, Control, Write};

@@ -3,9 +3,9 @@ use Rattle.std.proofs.Common.{◌≡◌, ℕ, ◌+◌, ◌≤◌, Bool, true, Li
 use Rattle.ug_types.specs.Names.{parent_of}
 use Rattle.ug_types.specs.declared.record.Attrs.{Attrs}
 use Rattle.ug_types.specs.declared.verdict.Held.{Held}
-use Rattle.ug_kernel.specs.declared.calls.Attr.{Attr}
-use Rattle.ug_kernel.specs.declared.calls.Attr.TheVariants as attr
-use Rattle.ug_kernel.specs.declared.calls.Control.TheVariants.{Authorized, Remove}
+use Rattle.ug_types.specs.declared.control.Attr.{Attr}
+use Rattle.ug_types.specs.declared.control.Attr.TheVariants as attr
+use Rattle.ug_types.specs.declared.control.Control.TheVariants.{Authorized, Remove}
 use Rattle.ug_kernel.specs.declared.calls.ReadOut.{ReadOut}
 use Rattle.ug_kernel.specs.declared.calls.ReadOut.TheVariants as out
 use Rattle.ug_kernel.specs.declared.calls.Opened.{Opened}
@@ -13,8 +13,8 @@ use Rattle.ug_kernel.specs.declared.calls.Opened.TheVariants as opened
 use Rattle.ug_kernel.specs.declared.calls.Probe.{Probe}
 use Rattle.ug_kernel.specs.declared.calls.Probe.TheVariants as probe
 use Rattle.ug_kernel.specs.Calls.{Open, Read, Ask_alive, Close, Closing, Told}
-use Rattle.ug_itree.specs.Tree.{Prog, Return, then}
-use Rattle.ug_itree.specs.Along.{Made, answered, count_calls}
+use Rattle.ug_kernel.specs.Tree.{Prog, Return, then}
+use Rattle.ug_kernel.specs.Along.{Made, answered, count_calls}
 use Rattle.ug_node.specs.Files.{if_absent, after_read, reading, own_of, after_connect, after_serial, after_product, after_descriptors, reading_own, parent_of_files, after_parent_serial, after_parent_product, after_parent_descriptors, reading_parent}
 use Rattle.ug_node.specs.Bind.{binding_of, after_probe, probing, after_parent, to_parent, after_own, after_open, binding}
 use Rattle.ug_node.specs.Removal.{after_remove_probe, after_remove_open, holding_remove}
@@ -26,7 +26,7 @@ use Rattle.ug_node.specs.declared.identity.Binding.{Binding}
 use Rattle.ug_node.specs.declared.identity.Binding.TheVariants as bound
 use Rattle.ug_node.specs.declared.removal.RemoveHold.{RemoveHold}
 use Rattle.ug_node.specs.declared.removal.RemoveHold.TheVariants as hold
-use Rattle.ug_itree.proofs.Ways.{Ways, Sure, Way, ways_more, behind_sure, ways_of, sure_ways}
+use Rattle.ug_kernel.proofs.Ways.{Ways, Sure, Way, ways_more, behind_sure, ways_of, sure_ways}
 
 abbrev pub told : {X : Type 0} → X → ℕ → ℕ → Told X
 told answer number count = record { answer = answer; number = number; count = count }

@@ -5,7 +5,7 @@ use Rattle.ug_types.specs.Names.{parent_of}
 use Rattle.ug_types.specs.declared.record.Attrs.{Attrs}
 use Rattle.ug_kernel.specs.declared.device.Device.{Device}
 use Rattle.ug_kernel.specs.declared.device.HeldFile.{HeldFile}
-use Rattle.ug_kernel.specs.declared.calls.Control.TheVariants.{Authorized}
+use Rattle.ug_types.specs.declared.control.Control.TheVariants.{Authorized}
 use Rattle.ug_kernel.specs.declared.calls.Opened.{Opened}
 use Rattle.ug_kernel.specs.declared.calls.Opened.TheVariants as opened
 use Rattle.ug_kernel.specs.declared.calls.Probe.{Probe}
@@ -17,10 +17,10 @@ use Rattle.ug_kernel.specs.Quiet.{Quiet, Grows}
 use Rattle.ug_kernel.proofs.Quiet.{quiet_trans, moves_quiet, opened_quiet, called_quiet, get_end}
 use Rattle.ug_kernel.proofs.Grow.{some_same, quiet_grows, grows_refl, grows_trans, called_grows}
 use Rattle.ug_kernel.proofs.Held.{live_before, lived_cut}
-use Rattle.ug_itree.specs.Tree.{Runs, calls}
-use Rattle.ug_itree.proofs.Runs.{runs_split}
-use Rattle.ug_itree.proofs.Told.{told_run}
-use Rattle.ug_itree.proofs.Kernels.{runs_sound, runs_quiet}
+use Rattle.ug_kernel.specs.Tree.{Runs, calls}
+use Rattle.ug_kernel.proofs.Runs.{runs_split}
+use Rattle.ug_kernel.proofs.Told.{told_run}
+use Rattle.ug_kernel.proofs.Kernels.{runs_sound, runs_quiet}
 use Rattle.ug_node.specs.declared.files.Stop.{Stop}
 use Rattle.ug_node.specs.declared.files.Stop.TheVariants as stop
 use Rattle.ug_node.specs.declared.identity.Binding.{Binding}

@@ -2,8 +2,8 @@
 use Rattle.std.proofs.Common.{◌≡◌, ℕ, nat_le, Bool, true, false, cond, List, length, Option, Result, Ok, Err, refl, sym, ◌∙◌, ap, subst}
 use Rattle.ug_types.specs.declared.record.Attrs.{Attrs}
 use Rattle.ug_kernel.specs.declared.device.Device.{Device}
-use Rattle.ug_kernel.specs.declared.calls.Attr.{Attr}
-use Rattle.ug_kernel.specs.declared.calls.Attr.TheVariants as attr
+use Rattle.ug_types.specs.declared.control.Attr.{Attr}
+use Rattle.ug_types.specs.declared.control.Attr.TheVariants as attr
 use Rattle.ug_kernel.specs.declared.calls.ReadOut.{ReadOut}
 use Rattle.ug_kernel.specs.declared.calls.ReadOut.TheVariants as out
 use Rattle.ug_kernel.specs.Calls.{Read, Close}
@@ -12,9 +12,9 @@ use Rattle.ug_kernel.specs.Called.{Lived, NoneLived, within, text_within, read_o
 use Rattle.ug_kernel.specs.Quiet.{Grows}
 use Rattle.ug_kernel.proofs.Grow.{grows_refl, grows_trans, called_grows}
 use Rattle.ug_kernel.proofs.Held.{lived_cut}
-use Rattle.ug_itree.specs.Tree.{Prog, Runs, then, calls}
-use Rattle.ug_itree.proofs.Runs.{runs_split}
-use Rattle.ug_itree.proofs.Kernels.{runs_grow}
+use Rattle.ug_kernel.specs.Tree.{Prog, Runs, then, calls}
+use Rattle.ug_kernel.proofs.Runs.{runs_split}
+use Rattle.ug_kernel.proofs.Kernels.{runs_grow}
 use Rattle.ug_node.specs.declared.files.File.{File}
 use Rattle.ug_node.specs.declared.files.Stop.{Stop}
 use Rattle.ug_node.specs.declared.files.Stop.TheVariants as stop

@@ -3,7 +3,7 @@ use Rattle.std.proofs.Common.{◌≡◌, ◌≤◌, ℕ, List, length, Option, S
 use Rattle.ug_types.specs.declared.verdict.Held.{Held}
 use Rattle.ug_kernel.specs.declared.device.Device.{Device}
 use Rattle.ug_kernel.specs.declared.device.HeldFile.{HeldFile}
-use Rattle.ug_kernel.specs.declared.calls.Control.TheVariants.{Authorized, Remove}
+use Rattle.ug_types.specs.declared.control.Control.TheVariants.{Authorized, Remove}
 use Rattle.ug_kernel.specs.declared.calls.Opened.{Opened}
 use Rattle.ug_kernel.specs.declared.calls.Opened.TheVariants as opened
 use Rattle.ug_kernel.specs.declared.calls.Probe.{Probe}
@@ -15,10 +15,10 @@ use Rattle.ug_kernel.specs.Quiet.{Quiet, Grows}
 use Rattle.ug_kernel.proofs.Quiet.{quiet_trans, moves_quiet, opened_quiet, called_quiet, get_end}
 use Rattle.ug_kernel.proofs.Grow.{some_same, quiet_grows, grows_trans}
 use Rattle.ug_kernel.proofs.Held.{live_before}
-use Rattle.ug_itree.specs.Tree.{Runs, calls}
-use Rattle.ug_itree.proofs.Told.{told_run}
-use Rattle.ug_itree.proofs.Counted.{Tally, counts, counted_run, run_never_falls}
-use Rattle.ug_itree.proofs.Kernels.{NoWrites, runs_sound, runs_quiet}
+use Rattle.ug_kernel.specs.Tree.{Runs, calls}
+use Rattle.ug_kernel.proofs.Told.{told_run}
+use Rattle.ug_kernel.proofs.Counted.{Tally, counts, counted_run, run_never_falls}
+use Rattle.ug_kernel.proofs.Kernels.{NoWrites, runs_sound, runs_quiet}
 use Rattle.ug_node.specs.declared.removal.RemoveHold.{RemoveHold}
 use Rattle.ug_node.specs.declared.removal.RemoveHold.TheVariants as hold
 use Rattle.ug_node.specs.Removal.{after_remove_probe, after_remove_open, holding_remove, IsAuthorizedFile, RemoveSays, IsRemoveHold, HoldsRemove, TellsRemoveFault}

@@ -1,17 +1,17 @@
 -- The numbers of a failed answer: those of the last call that is counted, which failed.
 use Rattle.std.proofs.Common.{◌≡◌, ℕ, ◌≤◌, Bool, true, List, [], ◌∷◌, ◌++◌, Option, Some, None, refl, sym, ◌∙◌, ap, subst, arith}
 use Rattle.ug_types.specs.Names.{parent_of}
-use Rattle.ug_kernel.specs.declared.calls.Attr.{Attr}
-use Rattle.ug_kernel.specs.declared.calls.Control.TheVariants.{Authorized, Remove}
+use Rattle.ug_types.specs.declared.control.Attr.{Attr}
+use Rattle.ug_types.specs.declared.control.Control.TheVariants.{Authorized, Remove}
 use Rattle.ug_kernel.specs.declared.calls.ReadOut.{ReadOut}
 use Rattle.ug_kernel.specs.declared.calls.ReadOut.TheVariants as out
 use Rattle.ug_kernel.specs.declared.calls.Opened.TheVariants as opened
 use Rattle.ug_kernel.specs.declared.calls.Probe.TheVariants as probe
 use Rattle.ug_kernel.specs.Calls.{Call, Answer, Open, Read, Ask_alive, Close, Closing, Told, failed_open, failed_read, failed_probe, Counted, Counts}
-use Rattle.ug_itree.specs.Tree.{Runs}
-use Rattle.ug_itree.specs.Along.{Made, answered, Along}
-use Rattle.ug_itree.proofs.Counted.{Tally, counts, counted_run, counts_never_fall}
-use Rattle.ug_itree.proofs.Ways.{Sure, ways_run, along_split}
+use Rattle.ug_kernel.specs.Tree.{Runs}
+use Rattle.ug_kernel.specs.Along.{Made, answered, Along}
+use Rattle.ug_kernel.proofs.Counted.{Tally, counts, counted_run, counts_never_fall}
+use Rattle.ug_kernel.proofs.Ways.{Sure, ways_run, along_split}
 use Rattle.ug_node.specs.declared.files.Stop.{Stop}
 use Rattle.ug_node.specs.declared.identity.Binding.{Binding}
 use Rattle.ug_node.specs.declared.removal.RemoveHold.{RemoveHold}

@@ -1,15 +1,15 @@
 -- A binding writes nothing.
 use Rattle.std.proofs.Common.{ℕ, List, Option, Some, None, Result, Ok, Err}
 use Rattle.ug_types.specs.declared.record.Attrs.{Attrs}
-use Rattle.ug_kernel.specs.declared.calls.Attr.{Attr}
-use Rattle.ug_kernel.specs.declared.calls.Attr.TheVariants as attr
+use Rattle.ug_types.specs.declared.control.Attr.{Attr}
+use Rattle.ug_types.specs.declared.control.Attr.TheVariants as attr
 use Rattle.ug_kernel.specs.declared.calls.ReadOut.{ReadOut}
 use Rattle.ug_kernel.specs.declared.calls.ReadOut.TheVariants as out
 use Rattle.ug_kernel.specs.declared.calls.Opened.{Opened}
 use Rattle.ug_kernel.specs.declared.calls.Opened.TheVariants as opened
 use Rattle.ug_kernel.specs.declared.calls.Probe.{Probe}
 use Rattle.ug_kernel.specs.declared.calls.Probe.TheVariants as probe
-use Rattle.ug_itree.proofs.Kernels.{NoWrites, no_writes_then}
+use Rattle.ug_kernel.proofs.Kernels.{NoWrites, no_writes_then}
 use Rattle.ug_node.specs.declared.files.File.{File}
 use Rattle.ug_node.specs.declared.files.Stop.{Stop}
 use Rattle.ug_node.specs.Files.{if_absent, after_read, reading, after_connect, after_serial, after_product, after_descriptors, reading_own, after_parent_serial, after_parent_product, after_parent_descriptors, reading_parent}

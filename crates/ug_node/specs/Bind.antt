@@ -1,13 +1,13 @@
 -- The calls that bind a name, in order: open, read, read the parent's, probe.
 use Rattle.std.specs.Prelude.{ℕ, List, Option, Some, None, Result, Ok, Err}
 use Rattle.ug_types.specs.declared.record.Attrs.{Attrs}
-use Rattle.ug_kernel.specs.declared.calls.Control.TheVariants.{Authorized}
+use Rattle.ug_types.specs.declared.control.Control.TheVariants.{Authorized}
 use Rattle.ug_kernel.specs.declared.calls.Opened.{Opened}
 use Rattle.ug_kernel.specs.declared.calls.Opened.TheVariants as opened
 use Rattle.ug_kernel.specs.declared.calls.Probe.{Probe}
 use Rattle.ug_kernel.specs.declared.calls.Probe.TheVariants as probe
 use Rattle.ug_kernel.specs.Calls.{Open, Ask_alive, Close}
-use Rattle.ug_itree.specs.Tree.{Prog, Return, Ask, then}
+use Rattle.ug_kernel.specs.Tree.{Prog, Return, Ask, then}
 use Rattle.ug_node.specs.Files.{reading_own, reading_parent}
 use Rattle.ug_node.specs.declared.files.Stop.{Stop}
 use Rattle.ug_node.specs.declared.files.Stop.TheVariants as stop

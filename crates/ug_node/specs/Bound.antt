@@ -2,8 +2,8 @@
 use Rattle.std.specs.Prelude.{◌≡◌, ℕ, ◌-◌, ◌^◌, ◌<◌, Bool, true, false, ◌||◌, List, [], Option, Some, None, slice_get}
 use Rattle.ug_types.specs.declared.record.Attrs.{Attrs}
 use Rattle.ug_kernel.specs.declared.device.Device.{Device}
-use Rattle.ug_kernel.specs.declared.calls.Control.TheVariants.{Authorized}
-use Rattle.ug_kernel.specs.declared.calls.Attr.TheVariants as attr
+use Rattle.ug_types.specs.declared.control.Control.TheVariants.{Authorized}
+use Rattle.ug_types.specs.declared.control.Attr.TheVariants as attr
 use Rattle.ug_kernel.specs.declared.calls.ReadOut.{ReadOut}
 use Rattle.ug_kernel.specs.declared.calls.ReadOut.TheVariants as out
 use Rattle.ug_kernel.specs.Kernel.{Kernel, IsKernel, Moves}

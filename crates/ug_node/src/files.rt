@@ -1,6 +1,6 @@
 // Reads the files of a device by its name.
 ghost use Rattle.std.specs.Prelude.{◌≡◌, []};
-ghost use Rattle.ug_itree.specs.Tree.{Runs};
+ghost use Rattle.ug_kernel.specs.Tree.{Runs};
 ghost use Rattle.ug_node.specs.Files.{reading, reading_own, reading_parent};
 
 use std::alloc::Global;
@@ -73,7 +73,7 @@ pub fn read_file<Y: Sysfs>(
 }
 
 /// Reads the four files of a device.
-#[tactic(auto, unfolding(crate::specs::Files::reading_own), using(ug_itree::proofs::Runs::runs_then))]
+#[tactic(auto, unfolding(crate::specs::Files::reading_own), using(ug_kernel::proofs::Runs::runs_then))]
 pub fn read_own<Y: Sysfs>(
     alloc: Global,
     sysfs: &mut Y,
@@ -110,7 +110,7 @@ pub fn read_own<Y: Sysfs>(
 }
 
 /// Reads the files of a parent that its children's records need.
-#[tactic(auto, unfolding(crate::specs::Files::reading_parent), using(ug_itree::proofs::Runs::runs_then))]
+#[tactic(auto, unfolding(crate::specs::Files::reading_parent), using(ug_kernel::proofs::Runs::runs_then))]
 pub fn read_parent<Y: Sysfs>(
     alloc: Global,
     sysfs: &mut Y,

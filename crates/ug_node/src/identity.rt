@@ -1,7 +1,7 @@
 // Binds a name.
 ghost use Rattle.std.specs.Prelude.{◌≡◌};
 ghost use Rattle.ug_types.specs.Names.{parent_of};
-ghost use Rattle.ug_itree.specs.Tree.{Runs};
+ghost use Rattle.ug_kernel.specs.Tree.{Runs};
 ghost use Rattle.ug_node.specs.Bind.{binding, binding_of};
 ghost use Rattle.ug_node.specs.Bound.{Binds, TellsFault};
 
@@ -52,7 +52,7 @@ pub fn bind<Y: Sysfs>(alloc: Global, sysfs: &mut Y, name: &NodeName) -> Binding
     bind_below(alloc, sysfs, name, name.parent())
 }
 
-#[tactic(auto, unfolding(crate::specs::Bind::binding), using(ug_itree::proofs::Runs::runs_then))]
+#[tactic(auto, unfolding(crate::specs::Bind::binding), using(ug_kernel::proofs::Runs::runs_then))]
 fn bind_below<Y: Sysfs>(
     alloc: Global,
     sysfs: &mut Y,

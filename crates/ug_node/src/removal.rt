@@ -1,6 +1,6 @@
 // Opens the file by which a device is removed.
 ghost use Rattle.std.specs.Prelude.{◌≡◌};
-ghost use Rattle.ug_itree.specs.Tree.{Runs};
+ghost use Rattle.ug_kernel.specs.Tree.{Runs};
 ghost use Rattle.ug_node.specs.Removal.{holding_remove, HoldsRemove, TellsRemoveFault};
 
 use std::alloc::Global;

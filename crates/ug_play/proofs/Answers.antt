@@ -2,10 +2,10 @@
 use Rattle.std.proofs.Common.{◌≡◌, ℕ, nat_le, Bool, true, false, cond, ◌||◌, List, [], ◌∷◌, ◌++◌, length, Option, Some, None, refl, ◌∙◌, ap}
 use Rattle.std.specs.List.{slice_get, list_any}
 use Rattle.ug_kernel.specs.declared.device.Device.{Device}
-use Rattle.ug_kernel.specs.declared.calls.Control.{Control}
-use Rattle.ug_kernel.specs.declared.calls.Attr.{Attr}
-use Rattle.ug_kernel.specs.declared.calls.Attr.TheVariants as attr
-use Rattle.ug_kernel.specs.declared.calls.Write.{Write}
+use Rattle.ug_types.specs.declared.control.Control.{Control}
+use Rattle.ug_types.specs.declared.control.Attr.{Attr}
+use Rattle.ug_types.specs.declared.control.Attr.TheVariants as attr
+use Rattle.ug_types.specs.declared.control.Write.{Write}
 use Rattle.ug_kernel.specs.declared.calls.Listing.{Listing}
 use Rattle.ug_kernel.specs.declared.calls.Listing.TheVariants as listing
 use Rattle.ug_kernel.specs.declared.calls.Opened.{Opened}
@@ -15,9 +15,10 @@ use Rattle.ug_kernel.specs.declared.calls.ReadOut.TheVariants as out
 use Rattle.ug_kernel.specs.Calls.{Call, Names, Open, Read, Ask_alive, Put, Close, Answer, Told, failed_listing, failed_open, failed_read, failed_probe, failed_put}
 use Rattle.ug_kernel.specs.Kernel.{Kernel}
 use Rattle.ug_kernel.specs.Called.{within, text_within, read_of}
-use Rattle.ug_itree.specs.Tree.{Prog, Return, Ask, Room}
-use Rattle.ug_itree.specs.Along.{Made, answered, Failure, failure_if, failure, failures}
-use Rattle.ug_itree.proofs.Ways.{Ways}
+use Rattle.ug_kernel.specs.Tree.{Prog, Return, Ask, Room}
+use Rattle.ug_kernel.specs.declared.calls.FailedCall.{FailedCall}
+use Rattle.ug_kernel.specs.Along.{Made, answered, failure_if, failure, failures}
+use Rattle.ug_kernel.proofs.Ways.{Ways}
 use Rattle.ug_sysfs.specs.Devices.{find}
 use Rattle.ug_sysfs.specs.declared.script.Failing.{Failing}
 use Rattle.ug_sysfs.specs.World.{World, answer_of, answer_unless, entered, fate, fate_of, effect, opened_at, read_from, read_at, alive_of, probed_at, put_at, live_held}
@@ -133,7 +134,7 @@ never_wants false s (Read name at) = sure_read (fate_of (entered s)) name at (en
 -- nor fails, where no call is to fail
 
 none_failed : {X : Type 0} (failed : X → Bool) (t : Told X) → failed t.answer ≡ false → failure_if failed t ≡ []
-none_failed failed t e = ap (λ (b : Bool). let f : Failure = record { call = t.number; count = t.count } in cond b (f ∷ []) []) e
+none_failed failed t e = ap (λ (b : Bool). let f : FailedCall = record { call = t.number; count = t.count } in cond b (f ∷ []) []) e
 
 unscheduled : (s : World) → s.fails ≡ [] → fate_of (entered s) ≡ None
 unscheduled s e = ap (λ (fs : List Failing). fate (entered s).calls None fs) e
@@ -179,7 +180,7 @@ play_way P (Ask call next) s w =
     record {
       made = answered call a ∷ k.made;
       sure = ap (λ (b : Bool). b || has_want k.made) (never_wants s.ran_out s call) ∙ k.sure;
-      calm = λ o e. ap (λ (v : List Failure). v ++ failures k.made) (never_fails s.ran_out s call o e) ∙ k.calm (told_unless s.ran_out s call o o) (fails_stay s.ran_out s call e);
+      calm = λ o e. ap (λ (v : List FailedCall). v ++ failures k.made) (never_fails s.ran_out s call o e) ∙ k.calm (told_unless s.ran_out s call o o) (fails_stay s.ran_out s call e);
       so = k.so;
     }
 play_way P (Room next) s w = let k = play_way P (next true) s (w true) in record { made = k.made; sure = k.sure; calm = k.calm; so = k.so }

@@ -4,9 +4,9 @@ use Rattle.ug_kernel.specs.declared.calls.Listing.{Listing}
 use Rattle.ug_kernel.specs.declared.calls.Opened.{Opened}
 use Rattle.ug_kernel.specs.declared.calls.ReadOut.{ReadOut}
 use Rattle.ug_kernel.specs.Calls.{Call, Names, Open, Read, Ask_alive, Put, Close, Told, Answer}
-use Rattle.ug_itree.specs.Tree.{Prog, Return, Ask, Room, Runs}
-use Rattle.ug_itree.specs.Along.{Made, answered}
-use Rattle.ug_itree.proofs.Ways.{Ways, ways_more, ways_run}
+use Rattle.ug_kernel.specs.Tree.{Prog, Return, Ask, Room, Runs}
+use Rattle.ug_kernel.specs.Along.{Made, answered}
+use Rattle.ug_kernel.proofs.Ways.{Ways, ways_more, ways_run}
 use Rattle.ug_sysfs.specs.World.{World, Wants, Gives, answer_of}
 use Rattle.ug_sysfs.proofs.RanOut.{stays_out}
 use Rattle.ug_play.specs.Play.{play, IsPlayed}

@@ -1,7 +1,7 @@
 -- The run that a script fixes is one of the runs, and a script's program joins as programs do.
 use Rattle.std.proofs.Common.{◌≡◌, Bool, true, false, refl, inl}
 use Rattle.ug_kernel.specs.Calls.{Call, Names, Open, Read, Ask_alive, Put, Close}
-use Rattle.ug_itree.specs.Tree.{Prog, Return, Ask, Room, Runs, then}
+use Rattle.ug_kernel.specs.Tree.{Prog, Return, Ask, Room, Runs, then}
 use Rattle.ug_sysfs.specs.World.{World, Gives, answer_of, answer_unless}
 use Rattle.ug_play.specs.Play.{play}
 

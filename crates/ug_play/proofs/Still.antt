@@ -4,13 +4,13 @@ use Rattle.std.specs.List.{slice_get}
 use Rattle.std.proofs.lemmas.List.{length-set}
 use Rattle.std.proofs.lemmas.Option.{slice_get_within, slice_get_cases, same_Some}
 use Rattle.ug_kernel.specs.declared.device.Device.{Device}
-use Rattle.ug_kernel.specs.declared.calls.Control.{Control}
-use Rattle.ug_kernel.specs.declared.calls.Write.{Write}
+use Rattle.ug_types.specs.declared.control.Control.{Control}
+use Rattle.ug_types.specs.declared.control.Write.{Write}
 use Rattle.ug_kernel.specs.Calls.{Call, Names, Open, Read, Ask_alive, Put, Close}
 use Rattle.ug_kernel.specs.Kernel.{Kernel, Live}
 use Rattle.ug_kernel.specs.Called.{Lived}
 use Rattle.ug_kernel.specs.Quiet.{Grows}
-use Rattle.ug_itree.specs.Tree.{Prog, Return, Ask, Room}
+use Rattle.ug_kernel.specs.Tree.{Prog, Return, Ask, Room}
 use Rattle.ug_sysfs.specs.Devices.{find}
 use Rattle.ug_sysfs.specs.declared.script.Scheduled.{Scheduled}
 use Rattle.ug_sysfs.specs.World.{World, happen, opened_at, switched_to, put_at, live_held, act, hidden, effect, shift, entered, fate_of, with_kernel, counted, answer_of, answer_unless, answer_from}

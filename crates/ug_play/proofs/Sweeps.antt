@@ -6,9 +6,10 @@ use Rattle.ug_types.specs.Sweep.{in_sweep_order}
 use Rattle.ug_kernel.specs.declared.calls.Listing.{Listing}
 use Rattle.ug_kernel.specs.declared.calls.Listing.TheVariants as listing
 use Rattle.ug_kernel.specs.Calls.{Names, Close}
-use Rattle.ug_itree.specs.Tree.{Prog, Return, Ask, Runs, then}
-use Rattle.ug_itree.specs.Along.{Made, answered, Failure, failure, failures}
-use Rattle.ug_itree.proofs.Ways.{Ways, Sure, ways_more, ways_next, ways_last, behind_sure, failures_more}
+use Rattle.ug_kernel.specs.Tree.{Prog, Return, Ask, Runs, then}
+use Rattle.ug_kernel.specs.declared.calls.FailedCall.{FailedCall}
+use Rattle.ug_kernel.specs.Along.{Made, answered, failure, failures}
+use Rattle.ug_kernel.proofs.Ways.{Ways, Sure, ways_more, ways_next, ways_last, behind_sure, failures_more}
 use Rattle.ug_node.proofs.BindShapes.{told}
 use Rattle.ug_sysfs.specs.World.{World, Gives}
 use Rattle.ug_audit.specs.declared.entry.Entry.{Entry}
@@ -48,7 +49,7 @@ sums_more {es} {fs} {gs} {ok} {more} {ms} {ns} a b = record {
   rest = a.rest ++ b.rest;
   entries = b.entries ∙ ap (λ (v : List Entry). v ++ b.rest) a.entries ∙ append_assoc es a.rest b.rest;
   wants = memory_more a.rest b.rest ∙ ap (λ (v : Bool). v || tells_memory b.rest) a.wants ∙ ap (λ (v : Bool). refused ok ms || v) b.wants ∙ refused_more ok more (has_want ms) (has_want ns) ∙ sym (ap (λ (v : Bool). not (ok && more) || v) (want_more ms ns));
-  faults = told_more a.rest b.rest ∙ ap (λ (v : List Failure). v ++ failures_told b.rest) a.faults ∙ ap (λ (v : List Failure). failures ms ++ v) b.faults ∙ sym (failures_more ms ns);
+  faults = told_more a.rest b.rest ∙ ap (λ (v : List FailedCall). v ++ failures_told b.rest) a.faults ∙ ap (λ (v : List FailedCall). failures ms ++ v) b.faults ∙ sym (failures_more ms ns);
 }
 
 sums_none : (es : List Entry) → Sums es true [] es
@@ -123,7 +124,7 @@ if_room_sums {J} answer later names call count found w true =
       rest = bye ++ b.rest;
       entries = b.entries ∙ append_assoc w.entries bye b.rest;
       wants = memory_more bye b.rest ∙ ap (λ (v : Bool). v || tells_memory b.rest) (farewells_calm names w.standings) ∙ b.wants ∙ sym (ap (λ (v : Bool). not ok || v) (want_more ms ns ∙ ap (λ (v : Bool). v || has_want ns) c.0));
-      faults = told_more bye b.rest ∙ ap (λ (v : List Failure). v ++ failures_told b.rest) (farewells_silent names w.standings) ∙ b.faults ∙ sym (failures_more ms ns ∙ ap (λ (v : List Failure). v ++ failures ns) c.1);
+      faults = told_more bye b.rest ∙ ap (λ (v : List FailedCall). v ++ failures_told b.rest) (farewells_silent names w.standings) ∙ b.faults ∙ sym (failures_more ms ns ∙ ap (λ (v : List FailedCall). v ++ failures ns) c.1);
     })
     (settling_all_sums answer later names (not w.listed) x))
 if_room_sums {J} answer later names call count found w false =
@@ -135,9 +136,9 @@ after_list_sums : {J : Type 0} (answer : Answers J) (later : Laters J) (w : Stat
 after_list_sums answer later w (listing.Names names) call count = λ room. if_room_sums answer later (in_sweep_order names) call count names w room
 after_list_sums answer later w listing.Failed call count =
     let e : Entry = entry.UnsettledAll (fault.Call call count) in
-    let f : Failure = record { call = call; count = count } in
+    let f : FailedCall = record { call = call; count = count } in
     ways_more (λ ok ms v. Sums (w.entries ++ e ∷ []) ok ms v.entries) (λ ok ms v. Sums w.entries ok (answered Names (told listing.Failed call count) ∷ ms) v.entries) (unlisted (fault.Call call count) w)
-    (λ ok ms v b. record { rest = e ∷ b.rest; entries = b.entries ∙ append_assoc w.entries (e ∷ []) b.rest; wants = b.wants; faults = ap (λ (v : List Failure). f ∷ v) b.faults })
+    (λ ok ms v b. record { rest = e ∷ b.rest; entries = b.entries ∙ append_assoc w.entries (e ∷ []) b.rest; wants = b.wants; faults = ap (λ (v : List FailedCall). f ∷ v) b.faults })
     (unlisted_sums (fault.Call call count) w)
 after_list_sums answer later w listing.Memory call count =
     let e : Entry = entry.UnsettledAll fault.Memory in

@@ -1,7 +1,7 @@
 -- What a script fixes.
 use Rattle.std.specs.Prelude.{◌≡◌, Bool, true, false, ◌⊎◌, List, ◌++◌}
 use Rattle.std.specs.List.{list_any}
-use Rattle.ug_itree.specs.Tree.{Prog, Return, Ask, Room}
+use Rattle.ug_kernel.specs.Tree.{Prog, Return, Ask, Room}
 use Rattle.ug_sysfs.specs.World.{World, answer_of}
 use Rattle.ug_audit.specs.declared.entry.Entry.{Entry}
 use Rattle.ug_audit.specs.declared.entry.Entry.TheVariants as entry

@@ -1,6 +1,6 @@
 // What a script fixes.
 ghost use Rattle.std.specs.Prelude.{◌≡◌, true, false, ◌⊎◌, List, [], ◌++◌};
-ghost use Rattle.ug_itree.specs.Tree.{Prog, Runs};
+ghost use Rattle.ug_kernel.specs.Tree.{Prog, Runs};
 ghost use Rattle.ug_sysfs.specs.World.{World, Gives};
 ghost use Rattle.ug_audit.specs.declared.entry.Entry.{Entry};
 ghost use Rattle.ug_table.specs.State.{State};

@@ -3,7 +3,7 @@ use Rattle.std.proofs.Common.{◌≡◌, ℕ, ◌+◌, ◌++◌, true, false, Li
 use Rattle.std.proofs.lemmas.Bool.{both_ways}
 use Rattle.ug_types.specs.declared.verdict.Moment.{Moment}
 use Rattle.ug_sysfs.specs.World.{World, Gives, begun, over}
-use Rattle.ug_itree.specs.Tree.{Runs}
+use Rattle.ug_kernel.specs.Tree.{Runs}
 use Rattle.ug_audit.specs.declared.entry.Entry.{Entry}
 use Rattle.ug_audit.specs.declared.entry.Entry.TheVariants as entry
 use Rattle.ug_table.specs.State.{State}

@@ -3,7 +3,7 @@ ghost use Rattle.std.specs.Prelude.{◌≡◌, ◌≤◌, ◌↔◌, ℕ, false,
 ghost use Rattle.ug_types.specs.NodeNames.{IsNodeName};
 ghost use Rattle.ug_types.specs.declared.verdict.Target.TheVariants as target;
 ghost use Rattle.ug_types.specs.declared.verdict.Cause.TheVariants as cause;
-ghost use Rattle.ug_kernel.specs.declared.calls.Write.TheVariants as write;
+ghost use Rattle.ug_types.specs.declared.control.Write.TheVariants as write;
 ghost use Rattle.ug_kernel.specs.declared.calls.Wrote.TheVariants as wrote;
 ghost use Rattle.ug_kernel.specs.Kernel.{IsKernel};
 ghost use Rattle.ug_sysfs.specs.World.{World};

@@ -7,7 +7,7 @@ use Rattle.std.proofs.lemmas.Bool.{both_ways, ltb-true, ltb-false, le-leb, lt-le
 use Rattle.std.proofs.lemmas.List.{drop_more, take_all, drop-set-lt}
 use Rattle.std.proofs.lemmas.Option.{none-some, same_Some, slice_get_within, slice_get-get_or}
 use Rattle.ug_kernel.specs.declared.device.Device.{Device}
-use Rattle.ug_kernel.specs.declared.calls.Write.{Write}
+use Rattle.ug_types.specs.declared.control.Write.{Write}
 use Rattle.ug_kernel.specs.Kernel.{live_count}
 use Rattle.ug_kernel.specs.Called.{value_after}
 use Rattle.ug_sysfs.specs.Devices.{fall, gone_in, with_gone, falls_at, stepped}

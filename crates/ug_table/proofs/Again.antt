@@ -3,7 +3,7 @@ use Rattle.std.proofs.Common.{◌≡◌, Bool, false, ℕ, List, Option, ◌⊎�
 use Rattle.ug_types.specs.Elements.{Has}
 use Rattle.ug_kernel.specs.Kernel.{Kernel, IsKernel}
 use Rattle.ug_kernel.specs.Quiet.{Grows}
-use Rattle.ug_itree.specs.Tree.{Runs, calls}
+use Rattle.ug_kernel.specs.Tree.{Runs, calls}
 use Rattle.ug_audit.specs.declared.entry.Entry.{Entry}
 use Rattle.ug_table.specs.State.{Kept}
 use Rattle.ug_table.specs.Settle.{resettling}
@@ -18,9 +18,9 @@ use Rattle.ug_table.proofs.Places.{Files, Was, tried_was}
 use Rattle.ug_table.proofs.Apart.{Appends, resettling_apart}
 use Rattle.ug_table.proofs.Own.{Good, good_before, resettling_ended}
 use Rattle.ug_table.proofs.Told.{opens}
-use Rattle.ug_itree.specs.Along.{Made}
+use Rattle.ug_kernel.specs.Along.{Made}
 use Rattle.ug_node.specs.declared.identity.Bound.{Bound}
-use Rattle.ug_itree.proofs.Ways.{ways_run}
+use Rattle.ug_kernel.proofs.Ways.{ways_run}
 use Rattle.ug_table.proofs.Shapes.{Flat, Unprobed, Tried, Stopped, Unbound, No_place, Judged_so, Resettles, resettles}
 
 -- what is wanted of a device at the end

@@ -1,7 +1,7 @@
 -- How the answer to the settling of a name is told, whatever the kernel answers.
 use Rattle.std.proofs.Common.{◌≡◌, ℕ, Bool, true, false, List, [], ◌∷◌, ◌++◌, Option, Some, refl, sym, ◌∙◌, ap, subst, append_assoc}
 use Rattle.ug_types.specs.Elements.{Has}
-use Rattle.ug_kernel.specs.declared.calls.Write.{Write}
+use Rattle.ug_types.specs.declared.control.Write.{Write}
 use Rattle.ug_kernel.specs.declared.calls.Wrote.{Wrote}
 use Rattle.ug_node.specs.declared.identity.Bound.{Bound}
 use Rattle.ug_node.specs.declared.identity.Binding.{Binding}
@@ -19,10 +19,10 @@ use Rattle.ug_table.specs.declared.standing.Settled.{Settled}
 use Rattle.ug_table.specs.declared.standing.Settled.TheVariants as settled
 use Rattle.ug_types.proofs.Elements.{has_map, has_new}
 use Rattle.ug_table.proofs.Standings.{found, missing_without, names_marked}
-use Rattle.ug_itree.proofs.Ways.{ways_more}
+use Rattle.ug_kernel.proofs.Ways.{ways_more}
 use Rattle.ug_table.proofs.Shapes.{Written, Done, Went, Broke, Valued, Same, Set, Gone_by, Failed_by, Short_by, Removal, Not_held, Put_on, Carried, By_value, And_removal, Brought, Left_open, Let_go, Opening, Fresh, Lost, Unbound_end, Absent_so, Vanished_so, Failed_so, Short_so, Flat, Unprobed, Tried, Stopped, Unbound, No_place, Judged_so, Settles, settles, Resettles, resettles}
 use Rattle.ug_kernel.specs.Calls.{Told}
-use Rattle.ug_itree.specs.Along.{Made}
+use Rattle.ug_kernel.specs.Along.{Made}
 use Rattle.ug_table.proofs.Told.{EndsSo, opens}
 
 whys_more : (es fs : List Entry) → whys (es ++ fs) ≡ whys es ++ whys fs

@@ -4,17 +4,17 @@ use Rattle.ug_types.specs.Elements.{Has}
 use Rattle.ug_types.specs.Names.{parent_of}
 use Rattle.ug_kernel.specs.declared.calls.Probe.TheVariants as probe
 use Rattle.ug_kernel.specs.Calls.{Ask_alive, Put, Close}
-use Rattle.ug_kernel.specs.declared.calls.Control.TheVariants.{Authorized, Remove}
-use Rattle.ug_kernel.specs.declared.calls.Write.TheVariants as write
+use Rattle.ug_types.specs.declared.control.Control.TheVariants.{Authorized, Remove}
+use Rattle.ug_types.specs.declared.control.Write.TheVariants as write
 use Rattle.ug_kernel.specs.Kernel.{Kernel, IsKernel}
 use Rattle.ug_kernel.specs.Quiet.{Quiet}
 use Rattle.ug_kernel.proofs.Grow.{quiet_grows, called_grows}
 use Rattle.ug_kernel.proofs.Quiet.{called_quiet, quiet_refl, quiet_trans}
-use Rattle.ug_itree.specs.Along.{Made, answered, Along}
-use Rattle.ug_itree.proofs.Ways.{Way, way_runs, ways_run, along_split, along_sound, along_grows}
+use Rattle.ug_kernel.specs.Along.{Made, answered, Along}
+use Rattle.ug_kernel.proofs.Ways.{Way, way_runs, ways_run, along_split, along_sound, along_grows}
 use Rattle.ug_node.proofs.BindShapes.{told}
 use Rattle.ug_table.proofs.Shapes.{Valued, Same, Set, Removal, Not_held, Put_on, Carried, By_value, And_removal, Brought, Left_open, Let_go, Opening, Fresh, Lost, Flat, Unprobed, Tried, Stopped, Unbound, No_place, Judged_so, Settles, settles, Resettles, resettles}
-use Rattle.ug_itree.specs.Tree.{Runs, calls}
+use Rattle.ug_kernel.specs.Tree.{Runs, calls}
 use Rattle.ug_node.specs.Removal.{holding_remove, RemoveSays}
 use Rattle.ug_node.specs.declared.removal.RemoveHold.{RemoveHold}
 use Rattle.ug_node.specs.declared.removal.RemoveHold.TheVariants as hold

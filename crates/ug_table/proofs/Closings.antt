@@ -5,9 +5,9 @@ use Rattle.ug_types.specs.declared.verdict.Held.{Held}
 use Rattle.ug_kernel.specs.Calls.{Call, Close, Answer}
 use Rattle.ug_kernel.specs.Kernel.{Kernel, IsKernel}
 use Rattle.ug_kernel.specs.Quiet.{Quiet}
-use Rattle.ug_itree.specs.Tree.{Ask, Runs, calls}
-use Rattle.ug_itree.specs.Along.{Made, answered, Along, failures}
-use Rattle.ug_itree.proofs.Kernels.{NoWrites, runs_sound, runs_quiet}
+use Rattle.ug_kernel.specs.Tree.{Ask, Runs, calls}
+use Rattle.ug_kernel.specs.Along.{Made, answered, Along, failures}
+use Rattle.ug_kernel.proofs.Kernels.{NoWrites, runs_sound, runs_quiet}
 use Rattle.ug_table.specs.Standings.{lists}
 use Rattle.ug_table.specs.Sweep.{closing_unlisted}
 use Rattle.ug_table.specs.Parts.{AreClosings, unlisted_files}

@@ -4,7 +4,7 @@ use Rattle.ug_types.specs.declared.record.Attrs.{Attrs}
 use Rattle.ug_types.specs.declared.record.Judged.{Judged}
 use Rattle.ug_types.specs.declared.verdict.Held.{Held}
 use Rattle.ug_kernel.specs.declared.device.Device.{Device}
-use Rattle.ug_kernel.specs.declared.calls.Control.TheVariants.{Authorized}
+use Rattle.ug_types.specs.declared.control.Control.TheVariants.{Authorized}
 use Rattle.ug_kernel.specs.Kernel.{Kernel, Stays}
 use Rattle.ug_kernel.specs.Quiet.{Grows}
 use Rattle.ug_kernel.proofs.Grow.{grows_trans}
@@ -14,7 +14,7 @@ use Rattle.ug_table.specs.Laws.{IsRecordOf, IsDevice, IsGone, IsProbed, Stand}
 use Rattle.ug_table.specs.declared.standing.Standing.{Standing}
 use Rattle.ug_types.specs.Elements.{Has}
 use Rattle.ug_table.proofs.Values.{file_same, file_later}
-use Rattle.ug_kernel.specs.declared.calls.Write.TheVariants as write
+use Rattle.ug_types.specs.declared.control.Write.TheVariants as write
 
 attrs_stay : (d e : Device) → Stays d e → attrs_of d ≡ attrs_of e
 attrs_stay d e s =

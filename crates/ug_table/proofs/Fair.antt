@@ -15,7 +15,7 @@ use Rattle.ug_kernel.specs.Kernel.{Kernel, IsKernel}
 use Rattle.ug_kernel.specs.Called.{IsGoneAt}
 use Rattle.ug_kernel.specs.Quiet.{Quiet}
 use Rattle.ug_kernel.proofs.Grow.{some_same, quiet_grows, grows_refl}
-use Rattle.ug_itree.specs.Tree.{Runs, calls}
+use Rattle.ug_kernel.specs.Tree.{Runs, calls}
 use Rattle.ug_record.specs.Records.{judged_of}
 use Rattle.ug_node.specs.Bind.{binding}
 use Rattle.ug_node.specs.Bound.{attrs_of, IsBound, BindSays}
@@ -26,7 +26,7 @@ use Rattle.ug_node.proofs.Laws.{binding_law}
 use Rattle.ug_audit.specs.declared.entry.Entry.{Entry}
 use Rattle.ug_audit.specs.declared.entry.Entry.TheVariants as entry
 use Rattle.ug_audit.specs.declared.entry.Fault.TheVariants as fault
-use Rattle.ug_kernel.specs.declared.calls.Write.TheVariants as write
+use Rattle.ug_types.specs.declared.control.Write.TheVariants as write
 use Rattle.ug_kernel.specs.declared.calls.Wrote.TheVariants as wrote
 use Rattle.ug_table.specs.State.{State, Kept, with_kept, Answers, Laters}
 use Rattle.ug_table.specs.Standings.{known_of, standing_of, without, with_standing, place_for, settled_standing}
@@ -46,8 +46,8 @@ use Rattle.ug_table.proofs.Joined.{FairFrom, fair_by}
 use Rattle.ug_table.proofs.Steps.{Same, After, one_itself, fair_end, then_quiet, then_called, then_note, then_same, then_went, without_less, tried_after, left_all}
 use Rattle.ug_table.proofs.Written.{brought_fair}
 use Rattle.ug_table.proofs.Orders.{order_with}
-use Rattle.ug_itree.specs.Along.{Made, answered, Along}
-use Rattle.ug_itree.proofs.Ways.{Way, way_runs, ways_run, along_split}
+use Rattle.ug_kernel.specs.Along.{Made, answered, Along}
+use Rattle.ug_kernel.proofs.Ways.{Way, way_runs, ways_run, along_split}
 use Rattle.ug_node.proofs.BindShapes.{told}
 use Rattle.ug_table.proofs.Shapes.{Brought, Opening, Fresh, Lost, Unbound_end, Absent_so, Vanished_so, Failed_so, Short_so, Flat, Unprobed, Tried, Stopped, Unbound, No_place, Judged_so, IsGiven, next_after, judge_after, Settles, settles, Resettles, resettles}
 use Rattle.ug_table.proofs.RemoveMarks.{Keeps, keeps_itself, keep_one, Marks}

@@ -3,10 +3,11 @@ use Rattle.std.proofs.Common.{◌≡◌, ℕ, Bool, true, false, cond, List, [],
 use Rattle.ug_kernel.specs.declared.calls.Listing.{Listing}
 use Rattle.ug_kernel.specs.declared.calls.Listing.TheVariants as listing
 use Rattle.ug_kernel.specs.Calls.{Call, Names, Told, Answer}
-use Rattle.ug_itree.specs.Tree.{Runs}
-use Rattle.ug_itree.specs.Along.{Made, answered, Failure, failure, failures, Rises}
-use Rattle.ug_itree.proofs.Ways.{failures_more}
-use Rattle.ug_itree.proofs.Rises.{Counting, along_numbered, along_rises}
+use Rattle.ug_kernel.specs.Tree.{Runs}
+use Rattle.ug_kernel.specs.declared.calls.FailedCall.{FailedCall}
+use Rattle.ug_kernel.specs.Along.{Made, answered, failure, failures, Rises}
+use Rattle.ug_kernel.proofs.Ways.{failures_more}
+use Rattle.ug_kernel.proofs.Rises.{Counting, along_numbered, along_rises}
 use Rattle.ug_audit.specs.declared.entry.Entry.{Entry}
 use Rattle.ug_audit.specs.declared.entry.Entry.TheVariants as entry
 use Rattle.ug_table.specs.State.{State, Answers, Laters}
@@ -25,15 +26,15 @@ exact_parts (name ∷ names) ss rs ms es h =
     let rest = exact_parts names h.0 rs h.2 h.4 h.8 in
     ap failures_told h.6
     ∙ told_more h.3 h.4
-    ∙ ap (λ (v : List Failure). v ++ failures_told h.4) h.7.told
-    ∙ ap (λ (v : List Failure). failures h.1 ++ v) rest
+    ∙ ap (λ (v : List FailedCall). v ++ failures_told h.4) h.7.told
+    ∙ ap (λ (v : List FailedCall). failures h.1 ++ v) rest
     ∙ sym (failures_more h.1 h.2)
     ∙ sym (ap failures h.5)
 
 -- `gone` tells no failure
 farewell_by : (b : Bool) (e : Entry) (es : List Entry) → failure_in e ≡ [] → failures_told es ≡ [] → failures_told (cond b es (e ∷ es)) ≡ []
 farewell_by true e es f h = h
-farewell_by false e es f h = ap (λ (v : List Failure). v ++ failures_told es) f ∙ h
+farewell_by false e es f h = ap (λ (v : List FailedCall). v ++ failures_told es) f ∙ h
 
 farewells_tell_none : (names : List (List ℕ)) (ss : List Standing) → failures_told (farewells names ss) ≡ []
 farewells_tell_none names [] = refl
@@ -59,14 +60,14 @@ sweeping_tells {S} {J} gives calls faults counted answer later s w t v h =
     let a : Told Listing = g.listed in
     let ms : List Made = answered Names a ∷ g.later in
     let closed : failures g.later ≡ failures g.made =
-    ap failures g.cut ∙ failures_more g.shut g.made ∙ ap (λ (x : List Failure). x ++ failures g.made) (begins_calm a.answer a.number a.count w.standings g.head g.left g.names g.shut g.begins) in
+    ap failures g.cut ∙ failures_more g.shut g.made ∙ ap (λ (x : List FailedCall). x ++ failures g.made) (begins_calm a.answer a.number a.count w.standings g.head g.left g.names g.shut g.begins) in
     let exact : failures_told (g.head ++ g.rest) ≡ failures ms =
     told_more g.head g.rest
-    ∙ ap (λ (x : List Failure). x ++ failures_told g.rest) (begins_tell a.answer a.number a.count w.standings g.head g.left g.names g.shut g.begins)
-    ∙ ap (λ (x : List Failure). failure Names a ++ x) (exact_parts g.names g.left v.standings g.made g.rest g.parts ∙ sym closed) in
+    ∙ ap (λ (x : List FailedCall). x ++ failures_told g.rest) (begins_tell a.answer a.number a.count w.standings g.head g.left g.names g.shut g.begins)
+    ∙ ap (λ (x : List FailedCall). failure Names a ++ x) (exact_parts g.names g.left v.standings g.made g.rest g.parts ∙ sym closed) in
     record {
       goes = g;
       exact = exact;
       numbered = along_numbered gives calls faults counted ms s t g.along;
-      rises = λ low. subst (λ (x : List Failure). Rises (calls s) (faults s) x) (sym exact) (along_rises gives calls faults counted ms s t low g.along);
+      rises = λ low. subst (λ (x : List FailedCall). Rises (calls s) (faults s) x) (sym exact) (along_rises gives calls faults counted ms s t low g.along);
     }

@@ -20,9 +20,9 @@ use Rattle.ug_table.proofs.Values.{IsFileOf, file_same, file_later}
 use Rattle.ug_table.proofs.Account.{account_stays, verdict_before, told_before}
 use Rattle.ug_table.proofs.Says.{Says, gone_has, gone_append, account_says, one_held, AreLow}
 use Rattle.ug_kernel.specs.declared.device.Effect.{Effect}
-use Rattle.ug_kernel.specs.declared.calls.Write.{Write}
+use Rattle.ug_types.specs.declared.control.Write.{Write}
 use Rattle.ug_kernel.specs.declared.calls.Wrote.{Wrote}
-use Rattle.ug_kernel.specs.declared.calls.Write.TheVariants as write
+use Rattle.ug_types.specs.declared.control.Write.TheVariants as write
 use Rattle.ug_kernel.specs.declared.calls.Wrote.TheVariants as wrote
 
 pub gone_as : (es : List Entry) (number n : ℕ) (name m : List ℕ) → number ≡ n → name ≡ m → Has es (entry.Gone number name) → Has es (entry.Gone n m)

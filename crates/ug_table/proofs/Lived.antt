@@ -11,9 +11,9 @@ use Rattle.ug_kernel.specs.Kernel.{Kernel, IsKernel}
 use Rattle.ug_kernel.specs.Called.{Lived, Called}
 use Rattle.ug_kernel.specs.Quiet.{Grows}
 use Rattle.ug_kernel.proofs.Grow.{quiet_grows, some_same, called_grows}
-use Rattle.ug_itree.specs.Tree.{Runs, calls}
-use Rattle.ug_itree.proofs.Runs.{runs_split}
-use Rattle.ug_itree.proofs.Kernels.{runs_sound, runs_grow}
+use Rattle.ug_kernel.specs.Tree.{Runs, calls}
+use Rattle.ug_kernel.proofs.Runs.{runs_split}
+use Rattle.ug_kernel.proofs.Kernels.{runs_sound, runs_grow}
 use Rattle.ug_audit.specs.declared.entry.Entry.{Entry}
 use Rattle.ug_audit.specs.declared.entry.Entry.TheVariants as entry
 use Rattle.ug_audit.specs.declared.entry.Fault.{Fault}

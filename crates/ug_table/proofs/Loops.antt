@@ -2,8 +2,8 @@
 use Rattle.std.proofs.Common.{◌≡◌, ℕ, ◌+◌, ◌*◌, ◌<◌, Bool, List, ◌∷◌, length, get_or, drop, sym, ap, ◌∙◌, subst, arith}
 use Rattle.std.proofs.lemmas.List.{drop_more}
 use Rattle.ug_kernel.specs.Calls.{Call, Answer}
-use Rattle.ug_itree.specs.Tree.{Runs}
-use Rattle.ug_itree.proofs.Runs.{runs_then}
+use Rattle.ug_kernel.specs.Tree.{Runs}
+use Rattle.ug_kernel.proofs.Runs.{runs_then}
 use Rattle.ug_audit.specs.declared.journal.Journal.{Journal}
 use Rattle.ug_audit.specs.Journal.{Notes}
 use Rattle.ug_table.specs.State.{State, Kept, Answers, Laters}

@@ -9,8 +9,8 @@ use Rattle.ug_kernel.specs.declared.calls.Listing.{Listing}
 use Rattle.ug_kernel.specs.declared.calls.Listing.TheVariants as listing
 use Rattle.ug_kernel.specs.Kernel.{Kernel}
 use Rattle.ug_kernel.specs.Called.{says_listing}
-use Rattle.ug_itree.specs.Tree.{Runs, calls}
-use Rattle.ug_itree.proofs.Runs.{runs_split}
+use Rattle.ug_kernel.specs.Tree.{Runs, calls}
+use Rattle.ug_kernel.proofs.Runs.{runs_split}
 use Rattle.ug_audit.specs.declared.entry.Entry.{Entry}
 use Rattle.ug_audit.specs.declared.entry.Entry.TheVariants as entry
 use Rattle.ug_audit.specs.declared.entry.Fault.{Fault}

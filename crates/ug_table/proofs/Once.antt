@@ -9,9 +9,9 @@ use Rattle.ug_kernel.specs.declared.calls.Listing.TheVariants as listing
 use Rattle.ug_kernel.specs.Calls.{Call, Answer}
 use Rattle.ug_kernel.specs.Kernel.{Kernel}
 use Rattle.ug_kernel.specs.Called.{says_listing, Follows}
-use Rattle.ug_itree.specs.Tree.{Runs, calls}
-use Rattle.ug_itree.specs.Along.{Made}
-use Rattle.ug_itree.proofs.Told.{told_run}
+use Rattle.ug_kernel.specs.Tree.{Runs, calls}
+use Rattle.ug_kernel.specs.Along.{Made}
+use Rattle.ug_kernel.proofs.Told.{told_run}
 use Rattle.ug_audit.specs.declared.entry.Entry.{Entry}
 use Rattle.ug_audit.specs.declared.entry.Entry.TheVariants as entry
 use Rattle.ug_table.specs.State.{State, Answers, Laters}

@@ -8,10 +8,10 @@ use Rattle.ug_kernel.specs.Calls.{Call, Answer}
 use Rattle.ug_kernel.specs.Kernel.{Kernel, IsKernel}
 use Rattle.ug_kernel.specs.Called.{Follows}
 use Rattle.ug_kernel.proofs.Grow.{grows_refl, some_same}
-use Rattle.ug_itree.specs.Tree.{Runs, calls}
-use Rattle.ug_itree.specs.Along.{Failure}
-use Rattle.ug_itree.proofs.Rises.{Counting, along_numbered, along_rises}
-use Rattle.ug_itree.proofs.Told.{told_run}
+use Rattle.ug_kernel.specs.Tree.{Runs, calls}
+use Rattle.ug_kernel.specs.declared.calls.FailedCall.{FailedCall}
+use Rattle.ug_kernel.proofs.Rises.{Counting, along_numbered, along_rises}
+use Rattle.ug_kernel.proofs.Told.{told_run}
 use Rattle.ug_audit.specs.declared.entry.Entry.{Entry}
 use Rattle.ug_audit.specs.declared.entry.Entry.TheVariants as entry
 use Rattle.ug_audit.specs.declared.entry.Fault.{Fault}
@@ -44,13 +44,13 @@ added : (es fs xs ys : List Entry) → fs ≡ es ++ xs → fs ≡ es ++ ys → y
 added es fs xs ys e f = cancel es ys xs (sym f ∙ e)
 
 -- what was told of failed calls, by why
-abbrev told_all : List Fault → List Failure
+abbrev told_all : List Fault → List FailedCall
 told_all [] = []
 told_all (f ∷ fs) = told_by f ++ told_all fs
 
 told_more : (fs gs : List Fault) → told_all (fs ++ gs) ≡ told_all fs ++ told_all gs
 told_more [] gs = refl
-told_more (f ∷ fs) gs = ap (λ (v : List Failure). told_by f ++ v) (told_more fs gs) ∙ sym (append_assoc (told_by f) (told_all fs) (told_all gs))
+told_more (f ∷ fs) gs = ap (λ (v : List FailedCall). told_by f ++ v) (told_more fs gs) ∙ sym (append_assoc (told_by f) (told_all fs) (told_all gs))
 
 tells_one : (name : List ℕ) (e : Entry) (es : List Entry) → IsLast name e es → failure_in e ≡ told_all (why_in e)
 tells_one name (entry.Unsettled other why) es last = sym (append-nil (told_by why))
@@ -65,8 +65,8 @@ tells_one name (entry.End number) es last = refl
 tells_why : (name : List ℕ) (es : List Entry) → EndsUnsettled name es → failures_told es ≡ told_all (whys es)
 tells_why name [] last = refl
 tells_why name (e ∷ es) last =
-    ap (λ (v : List Failure). failure_in e ++ v) (tells_why name es last.1)
-    ∙ ap (λ (v : List Failure). v ++ told_all (whys es)) (tells_one name e es last.0)
+    ap (λ (v : List FailedCall). failure_in e ++ v) (tells_why name es last.1)
+    ∙ ap (λ (v : List FailedCall). v ++ told_all (whys es)) (tells_one name e es last.0)
     ∙ sym (told_more (why_in e) (whys es))
 
 told_of : (how : Settled) → told_all (why_of how) ≡ failed_of how

@@ -6,19 +6,20 @@ use Rattle.ug_types.specs.Names.{parent_of}
 use Rattle.ug_types.specs.declared.verdict.Held.{Held}
 use Rattle.ug_types.specs.declared.verdict.Target.{Target}
 use Rattle.ug_types.specs.declared.verdict.Target.TheVariants as target
-use Rattle.ug_kernel.specs.declared.calls.Control.TheVariants.{Authorized, Remove}
-use Rattle.ug_kernel.specs.declared.calls.Attr.{Attr}
+use Rattle.ug_types.specs.declared.control.Control.TheVariants.{Authorized, Remove}
+use Rattle.ug_types.specs.declared.control.Attr.{Attr}
 use Rattle.ug_kernel.specs.declared.calls.Opened.{Opened}
 use Rattle.ug_kernel.specs.declared.calls.Opened.TheVariants as opened
 use Rattle.ug_kernel.specs.declared.calls.Probe.{Probe}
 use Rattle.ug_kernel.specs.declared.calls.Probe.TheVariants as probe
 use Rattle.ug_kernel.specs.declared.calls.ReadOut.{ReadOut}
 use Rattle.ug_kernel.specs.declared.calls.ReadOut.TheVariants as out
-use Rattle.ug_kernel.specs.declared.calls.Write.{Write}
-use Rattle.ug_kernel.specs.declared.calls.Write.TheVariants as write
+use Rattle.ug_types.specs.declared.control.Write.{Write}
+use Rattle.ug_types.specs.declared.control.Write.TheVariants as write
 use Rattle.ug_kernel.specs.declared.calls.Wrote.{Wrote}
 use Rattle.ug_kernel.specs.Calls.{Open, Read, Ask_alive, Put, Close, Closing, Told, failed_read}
-use Rattle.ug_itree.specs.Along.{Made, answered, Failure, failure_if, failure, failures}
+use Rattle.ug_kernel.specs.declared.calls.FailedCall.{FailedCall}
+use Rattle.ug_kernel.specs.Along.{Made, answered, failure_if, failure, failures}
 use Rattle.ug_node.specs.Bind.{binding_of}
 use Rattle.ug_node.specs.declared.files.Stop.{Stop}
 use Rattle.ug_node.specs.declared.files.Stop.TheVariants as stop
@@ -39,7 +40,7 @@ use Rattle.ug_table.specs.declared.standing.Known.{Known}
 use Rattle.ug_table.specs.declared.standing.Settled.{Settled}
 use Rattle.ug_table.specs.declared.standing.Settled.TheVariants as settled
 use Rattle.ug_types.proofs.Elements.{has_cases, has_left, has_right}
-use Rattle.ug_itree.proofs.Ways.{failures_more}
+use Rattle.ug_kernel.proofs.Ways.{failures_more}
 use Rattle.ug_node.proofs.BindShapes.{told, Came, Reads, No_more, Then_read, Stops, No_descriptors, Read_failed, Read_short, Binds_by, No_such, Open_failed, Open_short, Cut, Probed_gone, Probe_failed, Bound_by, way_binds, Holds_by, Not_there, Not_opened, No_memory, Held_on, Died, Unasked, way_holds}
 use Rattle.ug_table.proofs.Shapes.{Written, Done, Went, Broke, Valued, Same, Set, Unheld, Gone_by, Failed_by, Short_by, Removal, Not_held, Put_on, Carried, By_value, And_removal, Brought, Left_open, Let_go, Opening, Fresh, Lost, Unbound_end, Absent_so, Vanished_so, Failed_so, Short_so, Flat, Unprobed, Tried, Stopped, Unbound, No_place, Judged_so}
 use Rattle.ug_table.proofs.Told.{Each, NamesNone}
@@ -51,7 +52,7 @@ use Rattle.ug_table.proofs.OpenFiles.{files_join, reads_left, valued_left, carri
 
 pub told_more : (es fs : List Entry) → failures_told (es ++ fs) ≡ failures_told es ++ failures_told fs
 told_more [] fs = refl
-told_more (e ∷ es) fs = ap (λ (v : List Failure). failure_in e ++ v) (told_more es fs) ∙ sym (append_assoc (failure_in e) (failures_told es) (failures_told fs))
+told_more (e ∷ es) fs = ap (λ (v : List FailedCall). failure_in e ++ v) (told_more es fs) ∙ sym (append_assoc (failure_in e) (failures_told es) (failures_told fs))
 
 puts_more : (ms ns : List Made) → puts_of (ms ++ ns) ≡ puts_of ms ++ puts_of ns
 puts_more [] ns = refl
@@ -79,7 +80,7 @@ about_more : (name : List ℕ) (files : List OpenFile) (ms ns : List Made) → A
 about_more name files [] ns a b = b
 about_more name files (m ∷ ms) ns a b = (a.0, about_more name (files_left m.call m.answer files) ms ns a.1 b)
 
-ends_more : (before : List Failure) (ms ns : List Made) → EndsAtFailure before ms → EndsAtFailure (before ++ failures ms) ns → EndsAtFailure before (ms ++ ns)
+ends_more : (before : List FailedCall) (ms ns : List Made) → EndsAtFailure before ms → EndsAtFailure (before ++ failures ms) ns → EndsAtFailure before (ms ++ ns)
 ends_more before [] ns a b = subst (λ v. EndsAtFailure v ns) (append-nil before) b
 ends_more before (m ∷ ms) ns a b = (a.0, ends_more (before ++ failure m.call m.answer) ms ns a.1 (subst (λ v. EndsAtFailure v ns) (sym (append_assoc before (failure m.call m.answer) (failures ms))) b))
 
@@ -107,10 +108,10 @@ reads_keep : {name : List ℕ} {ms : List Made} (files : List OpenFile) (b : Beh
 reads_keep files b No_more = (record { about = tt; ends = tt; due = tt }, (refl, refl))
 reads_keep files b (Then_read of at t ms may came r) =
     let h = reads_keep files (behind_more b (answered (Read of at) t)) r in
-    let none : failure_if failed_read t ≡ [] = ap (λ (v : Bool). let f : Failure = record { call = t.number; count = t.count } in if v then f ∷ [] else []) (came_well t.answer came) in
+    let none : failure_if failed_read t ≡ [] = ap (λ (v : Bool). let f : FailedCall = record { call = t.number; count = t.count } in if v then f ∷ [] else []) (came_well t.answer came) in
     (record { about = (may, h.0.about); ends = (inl refl, subst (λ v. EndsAtFailure v ms) (sym none) h.0.ends); due = (tt, h.0.due) }, (ap (λ v. v ++ failures ms) none ∙ h.1.0, h.1.1))
 
-abbrev binding_failures : Binding → List Failure
+abbrev binding_failures : Binding → List FailedCall
 binding_failures (bound.Failed call count) = record { call = call; count = count } ∷ []
 binding_failures (bound.Bound b) = []
 binding_failures bound.Absent = []
@@ -297,7 +298,7 @@ value_goes {known = known} {on = on} files b f (Set t es how ne w) = record {
 
 -- the removal
 
-abbrev hold_failures : RemoveHold → List Failure
+abbrev hold_failures : RemoveHold → List FailedCall
 hold_failures (hold.Ready file) = []
 hold_failures hold.Gone = []
 hold_failures (hold.Failed call count) = record { call = call; count = count } ∷ []

@@ -1,14 +1,14 @@
 -- The files that a part leaves open, and the numbers that its entries bear.
 use Rattle.std.proofs.Common.{◌≡◌, ℕ, nat_eq, Bool, true, false, cond, List, [], ◌∷◌, ◌++◌, Option, Some, None, refl, sym, ◌∙◌, ap, subst, arith}
 use Rattle.ug_types.specs.declared.verdict.Held.{Held}
-use Rattle.ug_kernel.specs.declared.calls.Control.{Control}
-use Rattle.ug_kernel.specs.declared.calls.Control.TheVariants.{Authorized, Remove}
+use Rattle.ug_types.specs.declared.control.Control.{Control}
+use Rattle.ug_types.specs.declared.control.Control.TheVariants.{Authorized, Remove}
 use Rattle.ug_kernel.specs.declared.calls.Probe.TheVariants as probe
-use Rattle.ug_kernel.specs.declared.calls.Write.{Write}
-use Rattle.ug_kernel.specs.declared.calls.Write.TheVariants as write
+use Rattle.ug_types.specs.declared.control.Write.{Write}
+use Rattle.ug_types.specs.declared.control.Write.TheVariants as write
 use Rattle.ug_kernel.specs.declared.calls.Wrote.{Wrote}
 use Rattle.ug_kernel.specs.Calls.{Open, Read, Ask_alive, Put, Close, Told}
-use Rattle.ug_itree.specs.Along.{Made, answered}
+use Rattle.ug_kernel.specs.Along.{Made, answered}
 use Rattle.ug_node.specs.Bind.{binding_of}
 use Rattle.ug_node.specs.Removal.{holding_remove}
 use Rattle.ug_node.specs.declared.files.Stop.{Stop}
@@ -28,7 +28,7 @@ use Rattle.ug_table.specs.declared.standing.Standing.{Standing}
 use Rattle.ug_table.specs.declared.standing.Known.{Known}
 use Rattle.ug_table.specs.declared.standing.Settled.{Settled}
 use Rattle.ug_table.specs.declared.standing.Settled.TheVariants as settled
-use Rattle.ug_itree.proofs.Ways.{Way}
+use Rattle.ug_kernel.proofs.Ways.{Way}
 use Rattle.ug_node.proofs.BindShapes.{told, Reads, No_more, Then_read, Binds_by, No_such, Open_failed, Open_short, Cut, Probed_gone, Probe_failed, Bound_by, way_binds, Holds_by, Not_there, Not_opened, No_memory, Held_on, Died, Unasked, way_holds}
 use Rattle.ug_table.proofs.Shapes.{Written, Done, Went, Broke, Valued, Same, Set, Unheld, Gone_by, Failed_by, Short_by, Removal, Not_held, Put_on, Carried, By_value, And_removal, Brought, Left_open, Let_go, Opening, Fresh, Lost, Unbound_end, Absent_so, Vanished_so, Failed_so, Short_so, Flat, Unprobed, Tried, Stopped, Unbound, No_place, Judged_so}
 use Rattle.ug_table.proofs.OwnStanding.{stands_file, stands_number, without_own, tried_own, kept_own}

@@ -7,9 +7,9 @@ use Rattle.ug_kernel.specs.declared.calls.Wrote.{Wrote}
 use Rattle.ug_kernel.specs.declared.calls.Wrote.TheVariants as wrote
 use Rattle.ug_kernel.specs.declared.calls.Probe.TheVariants as probe
 use Rattle.ug_kernel.specs.declared.device.Device.{Device}
-use Rattle.ug_kernel.specs.declared.calls.Control.{Control}
-use Rattle.ug_kernel.specs.declared.calls.Control.TheVariants.{Authorized, Remove}
-use Rattle.ug_kernel.specs.declared.calls.Write.TheVariants as write
+use Rattle.ug_types.specs.declared.control.Control.{Control}
+use Rattle.ug_types.specs.declared.control.Control.TheVariants.{Authorized, Remove}
+use Rattle.ug_types.specs.declared.control.Write.TheVariants as write
 use Rattle.ug_kernel.specs.Calls.{Put, Ask_alive, Close, Closing}
 use Rattle.ug_kernel.specs.Kernel.{Kernel, IsKernel}
 use Rattle.ug_kernel.specs.Called.{IsGoneAt, Called}
@@ -17,7 +17,7 @@ use Rattle.ug_kernel.specs.Quiet.{Grows}
 use Rattle.ug_kernel.proofs.Held.{live_before}
 use Rattle.ug_kernel.proofs.Grow.{some_same, grows_refl, grows_trans, quiet_grows, called_grows}
 use Rattle.ug_kernel.proofs.Quiet.{called_quiet}
-use Rattle.ug_itree.specs.Tree.{Runs, calls}
+use Rattle.ug_kernel.specs.Tree.{Runs, calls}
 use Rattle.ug_node.specs.Removal.{holding_remove, RemoveSays}
 use Rattle.ug_node.specs.declared.removal.RemoveHold.{RemoveHold}
 use Rattle.ug_node.specs.declared.removal.RemoveHold.TheVariants as hold
@@ -44,8 +44,8 @@ use Rattle.ug_table.proofs.Apart.{Appends, open_found, hold_open, opening_bind}
 use Rattle.ug_table.proofs.Told.{opens}
 use Rattle.ug_table.specs.Sweep.{names_of}
 use Rattle.ug_kernel.specs.Calls.{Told}
-use Rattle.ug_itree.specs.Along.{Made, answered, Along}
-use Rattle.ug_itree.proofs.Ways.{Way, way_runs, ways_run, along_split, along_sound, along_grows}
+use Rattle.ug_kernel.specs.Along.{Made, answered, Along}
+use Rattle.ug_kernel.proofs.Ways.{Way, way_runs, ways_run, along_split, along_sound, along_grows}
 use Rattle.ug_table.specs.State.{Kept}
 use Rattle.ug_table.specs.Settle.{resettling}
 use Rattle.ug_node.proofs.BindShapes.{told}

@@ -5,10 +5,10 @@ use Rattle.ug_types.specs.Sweep.{in_sweep_order}
 use Rattle.ug_kernel.specs.declared.calls.Listing.{Listing}
 use Rattle.ug_kernel.specs.declared.calls.Listing.TheVariants as listing
 use Rattle.ug_kernel.specs.Calls.{Call, Names, Told, Answer}
-use Rattle.ug_itree.specs.Tree.{Runs}
-use Rattle.ug_itree.specs.Along.{Made, Along}
-use Rattle.ug_itree.proofs.Runs.{runs_split}
-use Rattle.ug_itree.proofs.Ways.{along_more}
+use Rattle.ug_kernel.specs.Tree.{Runs}
+use Rattle.ug_kernel.specs.Along.{Made, Along}
+use Rattle.ug_kernel.proofs.Runs.{runs_split}
+use Rattle.ug_kernel.proofs.Ways.{along_more}
 use Rattle.ug_audit.specs.declared.entry.Entry.{Entry}
 use Rattle.ug_audit.specs.declared.entry.Entry.TheVariants as entry
 use Rattle.ug_audit.specs.declared.entry.Fault.{Fault}
@@ -22,7 +22,7 @@ use Rattle.ug_table.specs.declared.standing.Standing.{Standing}
 use Rattle.ug_table.specs.declared.standing.Settled.{Settled}
 use Rattle.ug_table.proofs.OnePart.{flat_is_part}
 use Rattle.ug_table.proofs.Closings.{closing_goes}
-use Rattle.ug_itree.proofs.Ways.{ways_run}
+use Rattle.ug_kernel.proofs.Ways.{ways_run}
 use Rattle.ug_table.proofs.Shapes.{Settles, settles, Resettles, resettles}
 
 -- a run that went along one part

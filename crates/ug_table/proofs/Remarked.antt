@@ -4,8 +4,8 @@ use Rattle.std.specs.List.{filter}
 use Rattle.std.proofs.lemmas.List.{take-append-drop}
 use Rattle.ug_types.specs.Elements.{Has, AllDistinct}
 use Rattle.ug_kernel.specs.Calls.{Call, Answer}
-use Rattle.ug_itree.specs.Tree.{Runs}
-use Rattle.ug_itree.specs.Along.{Made}
+use Rattle.ug_kernel.specs.Tree.{Runs}
+use Rattle.ug_kernel.specs.Along.{Made}
 use Rattle.ug_node.specs.declared.identity.Bound.{Bound}
 use Rattle.ug_audit.specs.declared.entry.Entry.{Entry}
 use Rattle.ug_table.specs.State.{State, Kept, Answers, Laters}
@@ -24,7 +24,7 @@ use Rattle.ug_types.proofs.Elements.{filter_has, map_has, has_map, insert_has, d
 use Rattle.ug_table.proofs.Orders.{not_itself}
 use Rattle.ug_table.proofs.Places.{marked_other}
 use Rattle.ug_table.proofs.Standings.{same_is, is_same, found, missing, numbered_has}
-use Rattle.ug_itree.proofs.Ways.{ways_more}
+use Rattle.ug_kernel.proofs.Ways.{ways_more}
 use Rattle.ug_table.proofs.Shapes.{Opening, Fresh, Lost, Flat, Unprobed, Tried, Stopped, Unbound, No_place, Judged_so, Settles, settles, Resettles, resettles}
 use Rattle.ug_table.proofs.Told.{EndsSo, ends_run, opens}
 use Rattle.ug_table.proofs.Answered.{AnsweredAgain, resettling_answered}

@@ -7,12 +7,12 @@ use Rattle.ug_types.specs.declared.verdict.Target.{Target}
 use Rattle.ug_types.specs.declared.verdict.Cause.{Cause}
 use Rattle.ug_kernel.specs.declared.calls.Probe.{Probe}
 use Rattle.ug_kernel.specs.declared.calls.Probe.TheVariants as probe
-use Rattle.ug_kernel.specs.declared.calls.Write.{Write}
-use Rattle.ug_kernel.specs.declared.calls.Write.TheVariants as write
+use Rattle.ug_types.specs.declared.control.Write.{Write}
+use Rattle.ug_types.specs.declared.control.Write.TheVariants as write
 use Rattle.ug_kernel.specs.declared.calls.Wrote.{Wrote}
 use Rattle.ug_kernel.specs.declared.calls.Wrote.TheVariants as wrote
 use Rattle.ug_kernel.specs.Calls.{Ask_alive, Put, Close, Closing, Told}
-use Rattle.ug_itree.specs.Along.{Made, answered}
+use Rattle.ug_kernel.specs.Along.{Made, answered}
 use Rattle.ug_record.specs.Records.{judged_of}
 use Rattle.ug_node.specs.Bind.{binding}
 use Rattle.ug_node.specs.declared.identity.Bound.{Bound}
@@ -32,7 +32,7 @@ use Rattle.ug_table.specs.declared.standing.Standing.{Standing}
 use Rattle.ug_table.specs.declared.standing.Known.{Known}
 use Rattle.ug_table.specs.declared.standing.Settled.{Settled}
 use Rattle.ug_table.specs.declared.standing.Settled.TheVariants as settled
-use Rattle.ug_itree.proofs.Ways.{Ways, Sure, Way, ways_more, behind_sure, sure_last}
+use Rattle.ug_kernel.proofs.Ways.{Ways, Sure, Way, ways_more, behind_sure, sure_last}
 use Rattle.ug_node.proofs.BindShapes.{told, sure_binding, sure_hold}
 
 -- the shapes

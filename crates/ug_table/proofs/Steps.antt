@@ -4,7 +4,7 @@ use Rattle.ug_types.specs.Elements.{Has, AllDistinct}
 use Rattle.ug_types.specs.declared.record.Judged.{Judged}
 use Rattle.ug_types.specs.declared.verdict.Held.{Held}
 use Rattle.ug_kernel.specs.declared.device.Device.{Device}
-use Rattle.ug_kernel.specs.declared.calls.Control.TheVariants.{Authorized}
+use Rattle.ug_types.specs.declared.control.Control.TheVariants.{Authorized}
 use Rattle.ug_kernel.specs.Calls.{Call, Answer}
 use Rattle.ug_kernel.specs.Kernel.{Kernel, Live, IsKernel}
 use Rattle.ug_kernel.specs.Called.{IsGoneAt, Called}
@@ -13,7 +13,7 @@ use Rattle.ug_kernel.proofs.Quiet.{WritesNothing, quiet_refl, called_quiet}
 use Rattle.ug_kernel.proofs.Grow.{quiet_grows, grows_refl}
 use Rattle.ug_audit.specs.declared.entry.Entry.{Entry}
 use Rattle.ug_audit.specs.declared.entry.Entry.TheVariants as entry
-use Rattle.ug_kernel.specs.declared.calls.Write.TheVariants as write
+use Rattle.ug_types.specs.declared.control.Write.TheVariants as write
 use Rattle.ug_kernel.specs.declared.calls.Wrote.TheVariants as wrote
 use Rattle.ug_table.specs.Bring.{is_reject}
 use Rattle.ug_table.specs.State.{State, noted, Answers, Laters}

@@ -1,11 +1,11 @@
 -- What settling a name tells as unsettled, and how it leaves the marks, whatever the kernel answers.
 use Rattle.std.proofs.Common.{◌≡◌, ℕ, Bool, true, false, not, cond, List, [], ◌∷◌, ◌++◌, map, Option, inl, inr, refl, sym, ◌∙◌, ap, subst}
 use Rattle.ug_types.specs.Elements.{Has}
-use Rattle.ug_kernel.specs.declared.calls.Write.{Write}
+use Rattle.ug_types.specs.declared.control.Write.{Write}
 use Rattle.ug_kernel.specs.declared.calls.Wrote.{Wrote}
 use Rattle.ug_kernel.specs.declared.calls.Wrote.TheVariants as wrote
 use Rattle.ug_kernel.specs.Calls.{Call, Answer}
-use Rattle.ug_itree.specs.Tree.{Prog, Runs, then}
+use Rattle.ug_kernel.specs.Tree.{Prog, Runs, then}
 use Rattle.ug_node.specs.declared.identity.Bound.{Bound}
 use Rattle.ug_node.specs.declared.identity.Binding.{Binding}
 use Rattle.ug_audit.specs.declared.entry.Entry.{Entry}
@@ -23,10 +23,10 @@ use Rattle.ug_table.specs.declared.standing.Known.{Known}
 use Rattle.ug_table.specs.declared.standing.Settled.{Settled}
 use Rattle.ug_table.specs.declared.standing.Settled.TheVariants as settled
 use Rattle.ug_types.proofs.Elements.{has_left, has_right, has_cases, filter_has, map_has, has_map, insert_has}
-use Rattle.ug_itree.proofs.Ways.{Ways, Sure, ways_run, ways_next, ways_more}
+use Rattle.ug_kernel.proofs.Ways.{Ways, Sure, ways_run, ways_next, ways_more}
 use Rattle.ug_table.proofs.Shapes.{Written, Done, Went, Broke, Valued, Same, Set, Unheld, Gone_by, Failed_by, Short_by, Removal, Not_held, Put_on, Carried, By_value, And_removal, Brought, Left_open, Let_go, Opening, Fresh, Lost, Unbound_end, Absent_so, Vanished_so, Failed_so, Short_so, Flat, Unprobed, Tried, Stopped, Unbound, No_place, Judged_so, Adds, brought, Settles, settles, Resettles, resettles}
 use Rattle.ug_kernel.specs.Calls.{Told}
-use Rattle.ug_itree.specs.Along.{Made}
+use Rattle.ug_kernel.specs.Along.{Made}
 use Rattle.ug_table.proofs.Standings.{is_same, missing, missing_without}
 use Rattle.ug_table.proofs.Places.{marked_other}
 

@@ -1,9 +1,9 @@
 -- How many calls a part makes at most.
 use Rattle.std.proofs.Common.{ℕ, ◌≤◌, Bool, List, [], ◌∷◌, ◌++◌, Option, arith}
 use Rattle.ug_kernel.specs.declared.calls.Probe.TheVariants as probe
-use Rattle.ug_kernel.specs.declared.calls.Write.TheVariants as write
+use Rattle.ug_types.specs.declared.control.Write.TheVariants as write
 use Rattle.ug_kernel.specs.Calls.{Read, Ask_alive, Put, Close}
-use Rattle.ug_itree.specs.Along.{Made, answered, count_calls}
+use Rattle.ug_kernel.specs.Along.{Made, answered, count_calls}
 use Rattle.ug_node.specs.declared.identity.Binding.TheVariants as bound
 use Rattle.ug_node.specs.declared.removal.RemoveHold.TheVariants as hold
 use Rattle.ug_node.specs.declared.identity.Binding.{Binding}
@@ -16,7 +16,7 @@ use Rattle.ug_audit.specs.declared.entry.Entry.{Entry}
 use Rattle.ug_table.specs.declared.standing.Standing.{Standing}
 use Rattle.ug_table.specs.declared.standing.Known.{Known}
 use Rattle.ug_table.specs.declared.standing.Settled.{Settled}
-use Rattle.ug_itree.proofs.Ways.{Way}
+use Rattle.ug_kernel.proofs.Ways.{Way}
 use Rattle.ug_node.proofs.BindShapes.{told, Binds_by, No_such, Open_failed, Open_short, Cut, Probed_gone, Probe_failed, Bound_by, way_binds, Holds_by, Not_there, Not_opened, No_memory, Held_on, Died, Unasked, way_holds, count_more}
 use Rattle.ug_table.proofs.Shapes.{Valued, Same, Set, Removal, Not_held, Put_on, Carried, By_value, And_removal, Brought, Left_open, Let_go, Opening, Fresh, Lost, Flat, Unprobed, Tried, Stopped, Unbound, No_place, Judged_so}
 

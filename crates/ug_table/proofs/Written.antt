@@ -5,10 +5,10 @@ use Rattle.ug_types.specs.declared.verdict.Target.{Target}
 use Rattle.ug_types.specs.declared.verdict.Target.TheVariants as target
 use Rattle.ug_kernel.specs.declared.device.HeldFile.{HeldFile}
 use Rattle.ug_kernel.specs.declared.device.Effect.{Effect}
-use Rattle.ug_kernel.specs.declared.calls.Control.{Control}
-use Rattle.ug_kernel.specs.declared.calls.Control.TheVariants.{Authorized, Remove}
-use Rattle.ug_kernel.specs.declared.calls.Write.{Write}
-use Rattle.ug_kernel.specs.declared.calls.Write.TheVariants as write
+use Rattle.ug_types.specs.declared.control.Control.{Control}
+use Rattle.ug_types.specs.declared.control.Control.TheVariants.{Authorized, Remove}
+use Rattle.ug_types.specs.declared.control.Write.{Write}
+use Rattle.ug_types.specs.declared.control.Write.TheVariants as write
 use Rattle.ug_kernel.specs.declared.calls.Wrote.{Wrote}
 use Rattle.ug_kernel.specs.declared.calls.Wrote.TheVariants as wrote
 use Rattle.ug_kernel.specs.Calls.{Put, Close}
@@ -16,7 +16,7 @@ use Rattle.ug_kernel.specs.Kernel.{Kernel, Moves}
 use Rattle.ug_kernel.specs.Called.{IsWritten, IsGoneAt, says_put, Called}
 use Rattle.ug_kernel.specs.Quiet.{Grows}
 use Rattle.ug_kernel.proofs.Grow.{some_same, called_grows}
-use Rattle.ug_itree.specs.Tree.{calls}
+use Rattle.ug_kernel.specs.Tree.{calls}
 use Rattle.ug_node.specs.Removal.{holding_remove, RemoveSays}
 use Rattle.ug_node.specs.declared.removal.RemoveHold.{RemoveHold}
 use Rattle.ug_node.specs.declared.removal.RemoveHold.TheVariants as hold
@@ -39,8 +39,8 @@ use Rattle.ug_table.proofs.Says.{plain_wrote}
 use Rattle.ug_table.proofs.Joined.{FairFrom, fair_trans, StepFrom}
 use Rattle.ug_kernel.specs.Calls.{Told, Closing}
 use Rattle.ug_kernel.proofs.Grow.{quiet_grows}
-use Rattle.ug_itree.specs.Along.{Made, answered, Along}
-use Rattle.ug_itree.proofs.Ways.{Way, way_runs, along_split}
+use Rattle.ug_kernel.specs.Along.{Made, answered, Along}
+use Rattle.ug_kernel.proofs.Ways.{Way, way_runs, along_split}
 use Rattle.ug_node.proofs.BindShapes.{told}
 use Rattle.ug_table.proofs.Shapes.{Written, Done, Went, Broke, Valued, Same, Set, Unheld, Gone_by, Failed_by, Short_by, Removal, Not_held, Put_on, Carried, By_value, And_removal, Brought, Left_open, Let_go}
 use Rattle.ug_table.proofs.Steps.{After, same_refl, plain_fair, keep_fair, fair_end, then_quiet, then_called, then_note, then_same, then_went}

@@ -2,12 +2,13 @@
 use Rattle.std.specs.Prelude.{◌≡◌, ℕ, Bool, ◌^◌, ◌<◌, List, [], ◌∷◌, ◌++◌, Option, Some, None, true, ◌⊎◌, slice_get}
 use Rattle.ug_types.specs.Elements.{Has}
 use Rattle.ug_kernel.specs.declared.device.Device.{Device}
-use Rattle.ug_kernel.specs.declared.calls.Control.TheVariants.{Authorized}
+use Rattle.ug_types.specs.declared.control.Control.TheVariants.{Authorized}
 use Rattle.ug_kernel.specs.Calls.{Call, Answer}
 use Rattle.ug_kernel.specs.Kernel.{Kernel, IsKernel}
 use Rattle.ug_kernel.specs.Called.{Lived}
-use Rattle.ug_itree.specs.Tree.{Prog, Return}
-use Rattle.ug_itree.specs.Along.{Made, Along, Failure, failures, AreNumbered, Rises}
+use Rattle.ug_kernel.specs.Tree.{Prog, Return}
+use Rattle.ug_kernel.specs.declared.calls.FailedCall.{FailedCall}
+use Rattle.ug_kernel.specs.Along.{Made, Along, failures, AreNumbered, Rises}
 use Rattle.ug_audit.specs.declared.entry.Entry.{Entry}
 use Rattle.ug_audit.specs.declared.entry.Entry.TheVariants as entry
 use Rattle.ug_audit.specs.declared.entry.Fault.{Fault}
@@ -48,7 +49,7 @@ why_of (settled.Fault call count) = fault.Call call count ∷ []
 why_of settled.Memory = fault.Memory ∷ []
 
 -- the failed call that an answer tells
-abbrev pub failed_of : Settled → List Failure
+abbrev pub failed_of : Settled → List FailedCall
 failed_of settled.Stands = []
 failed_of settled.Nobody = []
 failed_of (settled.Fault call count) = record { call = call; count = count } ∷ []

@@ -4,10 +4,10 @@ use Rattle.std.specs.List.{filter}
 use Rattle.ug_types.specs.Elements.{Has, AllDistinct}
 use Rattle.ug_types.specs.Names.{parent_of}
 use Rattle.ug_types.specs.Sweep.{in_sweep_order}
-use Rattle.ug_kernel.specs.declared.calls.Control.{Control}
-use Rattle.ug_kernel.specs.declared.calls.Control.TheVariants.{Authorized, Remove}
-use Rattle.ug_kernel.specs.declared.calls.Write.{Write}
-use Rattle.ug_kernel.specs.declared.calls.Write.TheVariants as write
+use Rattle.ug_types.specs.declared.control.Control.{Control}
+use Rattle.ug_types.specs.declared.control.Control.TheVariants.{Authorized, Remove}
+use Rattle.ug_types.specs.declared.control.Write.{Write}
+use Rattle.ug_types.specs.declared.control.Write.TheVariants as write
 use Rattle.ug_kernel.specs.declared.calls.Listing.{Listing}
 use Rattle.ug_kernel.specs.declared.calls.Listing.TheVariants as listing
 use Rattle.ug_kernel.specs.declared.calls.Opened.{Opened}
@@ -17,7 +17,8 @@ use Rattle.ug_kernel.specs.declared.calls.Probe.TheVariants as probe
 use Rattle.ug_kernel.specs.declared.calls.Wrote.{Wrote}
 use Rattle.ug_kernel.specs.Calls.{Call, Names, Open, Read, Ask_alive, Put, Close, Closing, Told, Answer}
 use Rattle.ug_kernel.specs.Kernel.{Kernel, IsKernel}
-use Rattle.ug_itree.specs.Along.{Made, answered, count_calls, Along, Failure, failure, failures, AreNumbered, Rises}
+use Rattle.ug_kernel.specs.declared.calls.FailedCall.{FailedCall}
+use Rattle.ug_kernel.specs.Along.{Made, answered, count_calls, Along, failure, failures, AreNumbered, Rises}
 use Rattle.ug_audit.specs.declared.entry.Entry.{Entry}
 use Rattle.ug_audit.specs.declared.entry.Entry.TheVariants as entry
 use Rattle.ug_audit.specs.declared.entry.Fault.{Fault}
@@ -32,17 +33,17 @@ use Rattle.ug_types.specs.declared.verdict.Held.{Held}
 use Rattle.ug_table.specs.Bring.{is_to_go}
 
 -- the failed call that an `unsettled` entry tells
-abbrev pub told_by : Fault → List Failure
+abbrev pub told_by : Fault → List FailedCall
 told_by (fault.Call call count) = record { call = call; count = count } ∷ []
 told_by fault.Memory = []
 
-abbrev pub failure_in : Entry → List Failure
+abbrev pub failure_in : Entry → List FailedCall
 failure_in (entry.Unsettled name why) = told_by why
 failure_in (entry.UnsettledAll why) = told_by why
 failure_in e = []
 
 -- the failed calls that entries tell, in their order
-abbrev pub failures_told : List Entry → List Failure
+abbrev pub failures_told : List Entry → List FailedCall
 failures_told [] = []
 failures_told (e ∷ es) = failure_in e ++ failures_told es
 
@@ -118,7 +119,7 @@ IsClosing (Ask_alive held) = ⊥
 IsClosing (Put held what) = ⊥
 
 -- behind a call that failed there are closings alone
-abbrev pub EndsAtFailure : List Failure → List Made → Type 0
+abbrev pub EndsAtFailure : List FailedCall → List Made → Type 0
 EndsAtFailure before [] = Unit {0}
 EndsAtFailure before (m ∷ ms) = ((before ≡ []) ⊎ IsClosing m.call) × EndsAtFailure (before ++ failure m.call m.answer) ms
 

@@ -7,7 +7,7 @@ use Rattle.ug_types.specs.declared.verdict.Cause.{Cause}
 use Rattle.ug_kernel.specs.declared.calls.Probe.{Probe}
 use Rattle.ug_kernel.specs.declared.calls.Probe.TheVariants as probe
 use Rattle.ug_kernel.specs.Calls.{Ask_alive, Close}
-use Rattle.ug_itree.specs.Tree.{Prog, Return, Ask, Room, then}
+use Rattle.ug_kernel.specs.Tree.{Prog, Return, Ask, Room, then}
 use Rattle.ug_record.specs.Records.{judged_of}
 use Rattle.ug_node.specs.Bind.{binding}
 use Rattle.ug_node.specs.declared.identity.Bound.{Bound}

@@ -1,6 +1,6 @@
 // Brings a device to its verdict.
 ghost use Rattle.std.specs.Prelude.{◌≡◌, ◌≤◌, ◌+◌};
-ghost use Rattle.ug_itree.specs.Tree.{Runs};
+ghost use Rattle.ug_kernel.specs.Tree.{Runs};
 ghost use Rattle.ug_audit.specs.Journal.{Notes, noted_in};
 ghost use Rattle.ug_table.specs.Bring.{wants, write_of, is_reject, is_to_go, valuing, to_remove, removing, writing, bringing};
 
@@ -151,7 +151,7 @@ fn write_remove<Y: Sysfs>(
 }
 
 // Opens the `remove` file of a device, and writes to it.
-#[tactic(auto, unfolding(crate::specs::Bring::removing), using(ug_itree::proofs::Runs::runs_then))]
+#[tactic(auto, unfolding(crate::specs::Bring::removing), using(ug_kernel::proofs::Runs::runs_then))]
 fn remove<Y: Sysfs>(
     alloc: Global,
     sysfs: &mut Y,
@@ -189,7 +189,7 @@ fn remove<Y: Sysfs>(
 
 /// Writes where the value differs from the one that the verdict wants, and then removes a device that is rejected and
 /// wasn't removed yet. The held file of a device that is found gone is closed.
-#[tactic(auto, unfolding(crate::specs::Bring::bringing), using(ug_itree::proofs::Runs::runs_then))]
+#[tactic(auto, unfolding(crate::specs::Bring::bringing), using(ug_kernel::proofs::Runs::runs_then))]
 pub fn bring<Y: Sysfs>(
     alloc: Global,
     sysfs: &mut Y,
@@ -214,7 +214,7 @@ pub fn bring<Y: Sysfs>(
     }
 }
 
-#[tactic(auto, unfolding(crate::specs::Bring::writing), using(ug_itree::proofs::Runs::runs_then))]
+#[tactic(auto, unfolding(crate::specs::Bring::writing), using(ug_kernel::proofs::Runs::runs_then))]
 fn make_writes<Y: Sysfs>(
     alloc: Global,
     sysfs: &mut Y,

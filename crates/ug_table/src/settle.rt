@@ -1,7 +1,7 @@
 // The settling of one name.
 ghost use Rattle.std.specs.Prelude.{◌≡◌, ◌≤◌, ◌<◌, ◌+◌, ◌-◌, ◌^◌, length, vec_capacity, is_none, IsSome, OnOk, Some, None};
 ghost use Rattle.ug_types.specs.Names.{parent_of};
-ghost use Rattle.ug_itree.specs.Tree.{Runs};
+ghost use Rattle.ug_kernel.specs.Tree.{Runs};
 ghost use Rattle.ug_audit.specs.Journal.{Notes, noted_in};
 ghost use Rattle.ug_table.specs.State.{state_of, kept_of};
 ghost use Rattle.ug_table.specs.Order.{KeepsOrder};
@@ -108,7 +108,7 @@ impl Table {
     }
 
     // A device that has a record and room gets the next number and a verdict, and the writes are made.
-    #[tactic(auto, using(ug_itree::proofs::Runs::runs_then))]
+    #[tactic(auto, using(ug_kernel::proofs::Runs::runs_then))]
     fn judge_bound<Y: Sysfs, A: Judge>(
         &mut self,
         alloc: Global,
@@ -186,7 +186,7 @@ impl Table {
     }
 
     /// Binds a name that has no standing, and judges its device.
-    #[tactic(auto, unfolding(crate::specs::Settle::entering), using(ug_itree::proofs::Runs::runs_then))]
+    #[tactic(auto, unfolding(crate::specs::Settle::entering), using(ug_kernel::proofs::Runs::runs_then))]
     fn enter<Y: Sysfs, A: Judge>(
         &mut self,
         alloc: Global,
@@ -299,7 +299,7 @@ impl Table {
         settle_known(alloc, &mut self.standings, sysfs, &name, out)
     }
 
-    #[tactic(auto, unfolding(crate::specs::Settle::settling), using(ug_itree::proofs::Runs::runs_then))]
+    #[tactic(auto, unfolding(crate::specs::Settle::settling), using(ug_kernel::proofs::Runs::runs_then))]
     fn settle_name<Y: Sysfs, A: Judge>(
         &mut self,
         alloc: Global,
@@ -350,7 +350,7 @@ impl Table {
 }
 
 /// Settles one known name where the listing didn't succeed. It takes memory only to open a `remove` file.
-#[tactic(auto, unfolding(crate::specs::Settle::resettling), using(ug_itree::proofs::Runs::runs_then))]
+#[tactic(auto, unfolding(crate::specs::Settle::resettling), using(ug_kernel::proofs::Runs::runs_then))]
 pub fn settle_known<Y: Sysfs>(
     alloc: Global,
     standings: &mut Vec<Standing>,

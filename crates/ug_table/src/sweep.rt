@@ -2,7 +2,7 @@
 ghost use Rattle.std.specs.Prelude.{◌≡◌, ◌≤◌, ◌<◌, ◌+◌, ◌-◌, ◌*◌, ◌^◌, ◌++◌, [], min, length, vec_capacity};
 ghost use Rattle.std.specs.List.{filter};
 ghost use Rattle.ug_types.specs.Sweep.{in_sweep_order};
-ghost use Rattle.ug_itree.specs.Tree.{Runs};
+ghost use Rattle.ug_kernel.specs.Tree.{Runs};
 ghost use Rattle.ug_audit.specs.Journal.{Notes, SameEntries, noted_in};
 ghost use Rattle.ug_table.specs.State.{state_of, kept_of};
 ghost use Rattle.ug_table.specs.Order.{KeepsOrder};
@@ -73,7 +73,7 @@ fn names_into(standings: &[Standing], names: &mut Vec<NodeName>)
 }
 
 /// Settles each known name in order.
-#[tactic(auto, using(ug_itree::proofs::Runs::runs_then))]
+#[tactic(auto, using(ug_kernel::proofs::Runs::runs_then))]
 fn resettle_all<Y: Sysfs>(
     alloc: Global,
     standings: &mut Vec<Standing>,
@@ -106,7 +106,7 @@ impl Table {
     }
 
     /// Settles each listed name in order.
-    #[tactic(auto, using(ug_itree::proofs::Runs::runs_then))]
+    #[tactic(auto, using(ug_kernel::proofs::Runs::runs_then))]
     fn settle_all<Y: Sysfs, A: Judge>(
         &mut self,
         alloc: Global,
@@ -129,7 +129,7 @@ impl Table {
     }
 
     // The known names are settled all the same.
-    #[tactic(auto, using(ug_itree::proofs::Runs::runs_then))]
+    #[tactic(auto, using(ug_kernel::proofs::Runs::runs_then))]
     fn go_unlisted<Y: Sysfs, A: Judge>(
         &mut self,
         alloc: Global,
@@ -173,7 +173,7 @@ impl Table {
         self.sweep_names(alloc, sysfs, judge, out);
     }
 
-    #[tactic(auto, unfolding(crate::specs::Sweep::sweeping), using(ug_itree::proofs::Runs::runs_then))]
+    #[tactic(auto, unfolding(crate::specs::Sweep::sweeping), using(ug_kernel::proofs::Runs::runs_then))]
     fn sweep_names<Y: Sysfs, A: Judge>(
         &mut self,
         alloc: Global,

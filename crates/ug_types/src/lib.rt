@@ -2,6 +2,7 @@
 #![tactic(auto)]
 
 mod access;
+mod control;
 mod host;
 mod laws;
 mod line;
@@ -24,6 +25,7 @@ mod text_fault;
 mod verdict;
 
 pub use access::{Privilege, Section};
+pub use control::{Attr, Control, Write};
 pub use host::{ReaderSource, WriterSink};
 pub use laws::parents_law;
 pub use line::Line;

@@ -1,5 +1,5 @@
 use Rattle.std.proofs.Common.{drop}
-use Rattle.ug_itree.specs.Tree.{Runs}
+use Rattle.ug_kernel.specs.Tree.{Runs}
 use Rattle.ug_table.specs.Sweep.{closing_unlisted}
 use Rattle.ug_table.proofs.sweep.close_unlisted.Given as goal
 

@@ -1,5 +1,5 @@
 use Rattle.std.proofs.Common.{◌+◌, ◌-◌, ◌*◌, ◌<◌, ◌≤◌, ◌^◌, length, drop}
-use Rattle.ug_itree.specs.Tree.{Runs}
+use Rattle.ug_kernel.specs.Tree.{Runs}
 use Rattle.ug_audit.specs.Journal.{Notes, noted_in}
 use Rattle.ug_table.specs.State.{State, state_of}
 use Rattle.ug_table.specs.Sweep.{settling_all}

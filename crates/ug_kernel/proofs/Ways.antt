@@ -4,8 +4,9 @@ use Rattle.ug_kernel.specs.Calls.{Call, Answer}
 use Rattle.ug_kernel.specs.Kernel.{Kernel, IsKernel}
 use Rattle.ug_kernel.specs.Quiet.{Grows}
 use Rattle.ug_kernel.proofs.Grow.{grows_refl, grows_trans, called_grows}
-use Rattle.ug_itree.specs.Tree.{Prog, Return, Ask, Room, Runs, then, calls}
-use Rattle.ug_itree.specs.Along.{Made, answered, Along, Failure, failure, failures}
+use Rattle.ug_kernel.specs.Tree.{Prog, Return, Ask, Room, Runs, then, calls}
+use Rattle.ug_kernel.specs.declared.calls.FailedCall.{FailedCall}
+use Rattle.ug_kernel.specs.Along.{Made, answered, Along, failure, failures}
 
 -- each way has P of its room, its calls and its end
 abbrev pub Ways : {R : Type 0} → Prog R → (Bool → List Made → R → Type 0) → Type 0
@@ -107,7 +108,7 @@ way_runs gives (Room next) ms s r t h a = (h.0, way_runs gives (next h.0) ms s r
 
 pub failures_more : (ms ns : List Made) → failures (ms ++ ns) ≡ failures ms ++ failures ns
 failures_more [] ns = refl
-failures_more (m ∷ ms) ns = ap (λ (v : List Failure). failure m.call m.answer ++ v) (failures_more ms ns) ∙ sym (append_assoc (failure m.call m.answer) (failures ms) (failures ns))
+failures_more (m ∷ ms) ns = ap (λ (v : List FailedCall). failure m.call m.answer ++ v) (failures_more ms ns) ∙ sym (append_assoc (failure m.call m.answer) (failures ms) (failures ns))
 
 pub along_more : {S : Type 0} (gives : S → (call : Call) → Answer call → S → Type 0) (ms ns : List Made) (s u t : S) → Along gives s ms u → Along gives u ns t → Along gives s (ms ++ ns) t
 along_more gives [] ns s u t a b = subst (λ v. Along gives v ns t) a b

@@ -5,7 +5,7 @@ use Rattle.ug_kernel.specs.Kernel.{Kernel, IsKernel}
 use Rattle.ug_kernel.specs.Quiet.{Quiet, Grows}
 use Rattle.ug_kernel.proofs.Quiet.{WritesNothing, quiet_refl, quiet_trans, called_quiet}
 use Rattle.ug_kernel.proofs.Grow.{grows_refl, grows_trans, called_grows}
-use Rattle.ug_itree.specs.Tree.{Prog, Return, Ask, Room, Runs, then, calls}
+use Rattle.ug_kernel.specs.Tree.{Prog, Return, Ask, Room, Runs, then, calls}
 
 pub runs_sound : {R : Type 0} (p : Prog R) (k : Kernel) (r : R) (l : Kernel) → IsKernel k → Runs calls k p r l → IsKernel l
 runs_sound (Return value) k r l s h = subst (λ v. IsKernel v) (sym h.1) s

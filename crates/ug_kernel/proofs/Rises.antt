@@ -1,7 +1,8 @@
 -- The numbers of calls and of failures rise along a run.
 use Rattle.std.proofs.Common.{◌≡◌, ℕ, ◌-◌, ◌^◌, ◌<◌, ◌≤◌, Bool, true, false, cond, List, [], ◌∷◌, ◌++◌, refl, sym, subst, ◌∙◌, arith}
 use Rattle.ug_kernel.specs.Calls.{Call, Names, Open, Read, Ask_alive, Put, Close, Told, Answer, Counted, Counts, failed_listing, failed_open, failed_read, failed_probe, failed_put}
-use Rattle.ug_itree.specs.Along.{Made, Along, Failure, failure_if, failure, failures, number_after, IsNext, AreNumbered, IsAbove, Rises}
+use Rattle.ug_kernel.specs.declared.calls.FailedCall.{FailedCall}
+use Rattle.ug_kernel.specs.Along.{Made, Along, failure_if, failure, failures, number_after, IsNext, AreNumbered, IsAbove, Rises}
 
 -- the rule of counting, of an outside's states
 abbrev pub Counting : {S : Type 0} → (S → (call : Call) → Answer call → S → Type 0) → (S → ℕ) → (S → ℕ) → Type 0
@@ -28,11 +29,11 @@ above_lower c d x p h =
     (omega (arith, e, p), λ low. grind (arith, r, e, p, low))
 
 -- they rise from lower numbers too
-from_lower : (c d f g : ℕ) (fs : List Failure) → c ≤ d → f ≤ g → Rises d g fs → Rises c f fs
+from_lower : (c d f g : ℕ) (fs : List FailedCall) → c ≤ d → f ≤ g → Rises d g fs → Rises c f fs
 from_lower c d f g [] p q h = tt
 from_lower c d f g (x ∷ fs) p q h = (above_lower c d x.call p h.0, above_lower f g x.count q h.1, h.2)
 
-rises_by : (failed : Bool) (number count c f d g : ℕ) (fs : List Failure) → number ≡ d → count ≡ g → c < 2 ^ 64 → (c ≤ d) × (c < 2 ^ 64 - 1 → c < d) → f ≤ g → (failed ≡ true → f < 2 ^ 64 - 1 → f < g) → Rises d g fs → Rises c f (cond failed (record { call = number; count = count } ∷ []) [] ++ fs)
+rises_by : (failed : Bool) (number count c f d g : ℕ) (fs : List FailedCall) → number ≡ d → count ≡ g → c < 2 ^ 64 → (c ≤ d) × (c < 2 ^ 64 - 1 → c < d) → f ≤ g → (failed ≡ true → f < 2 ^ 64 - 1 → f < g) → Rises d g fs → Rises c f (cond failed (record { call = number; count = count } ∷ []) [] ++ fs)
 rises_by true number count c f d g fs n k low up falls rises h = (
   (omega (arith, n, up.0), λ l. omega (arith, n, up.1 l)),
   (omega (arith, k, falls), λ l. omega (arith, k, rises refl l)),
@@ -40,10 +41,10 @@ rises_by true number count c f d g fs n k low up falls rises h = (
 )
 rises_by false number count c f d g fs n k low up falls rises h = from_lower c d f g fs up.0 falls h
 
-rises_counted : {X : Type 0} (failed : X → Bool) (told : Told X) (c f d g : ℕ) (fs : List Failure) → c < 2 ^ 64 → Counted failed told c f d g → Rises d g fs → Rises c f (failure_if failed told ++ fs)
+rises_counted : {X : Type 0} (failed : X → Bool) (told : Told X) (c f d g : ℕ) (fs : List FailedCall) → c < 2 ^ 64 → Counted failed told c f d g → Rises d g fs → Rises c f (failure_if failed told ++ fs)
 rises_counted failed told c f d g fs low h r = rises_by (failed told.answer) told.number told.count c f d g fs h.number h.count low (omega (arith, h.call), λ l. omega (arith, h.call)) h.never_falls h.rises r
 
-rises_one : (call : Call) (answer : Answer call) (c f d g : ℕ) (fs : List Failure) → c < 2 ^ 64 → Counts call answer c f d g → Rises d g fs → Rises c f (failure call answer ++ fs)
+rises_one : (call : Call) (answer : Answer call) (c f d g : ℕ) (fs : List FailedCall) → c < 2 ^ 64 → Counts call answer c f d g → Rises d g fs → Rises c f (failure call answer ++ fs)
 rises_one Names answer c f d g fs low h r = rises_counted failed_listing answer c f d g fs low h r
 rises_one (Open name control) answer c f d g fs low h r = rises_counted failed_open answer c f d g fs low h r
 rises_one (Read name attr) answer c f d g fs low h r = rises_counted failed_read answer c f d g fs low h r

@@ -1,5 +1,6 @@
 -- A run as the list of its calls, each with its answer.
 use Rattle.std.specs.Prelude.{◌≡◌, ℕ, ◌+◌, ◌-◌, ◌^◌, ◌<◌, ◌≤◌, Bool, if◌then◌else◌, List, [], ◌∷◌, ◌++◌}
+use Rattle.ug_kernel.specs.declared.calls.FailedCall.{FailedCall}
 use Rattle.ug_kernel.specs.Calls.{Call, Names, Open, Read, Ask_alive, Put, Close, Told, Answer, failed_listing, failed_open, failed_read, failed_probe, failed_put, raised}
 
 -- a call that was made, and what it was answered
@@ -28,16 +29,11 @@ abbrev pub count_calls : List Made → ℕ
 count_calls [] = 0
 count_calls (m ∷ ms) = counts_as m.call + count_calls ms
 
--- the number of a call that failed, and the count of faults after it
-pub record Failure : Type 0 where
-  pub call : ℕ
-  pub count : ℕ
-
-abbrev pub failure_if : {X : Type 0} → (X → Bool) → Told X → List Failure
+abbrev pub failure_if : {X : Type 0} → (X → Bool) → Told X → List FailedCall
 failure_if failed told = if failed told.answer then record { call = told.number; count = told.count } ∷ [] else []
 
 -- the failure of a call, if it failed; closing never does
-abbrev pub failure : (call : Call) → Answer call → List Failure
+abbrev pub failure : (call : Call) → Answer call → List FailedCall
 failure Names answer = failure_if failed_listing answer
 failure (Open name control) answer = failure_if failed_open answer
 failure (Read name attr) answer = failure_if failed_read answer
@@ -46,7 +42,7 @@ failure (Put held write) answer = failure_if failed_put answer
 failure (Close held) answer = []
 
 -- the failures of calls, in their order
-abbrev pub failures : List Made → List Failure
+abbrev pub failures : List Made → List FailedCall
 failures [] = []
 failures (m ∷ ms) = failure m.call m.answer ++ failures ms
 
@@ -77,6 +73,6 @@ abbrev pub IsAbove : ℕ → ℕ → Type 0
 IsAbove low high = (low ≤ high) × (low < 2 ^ 64 - 1 → low < high)
 
 -- both numbers of each failure are above those before
-abbrev pub Rises : ℕ → ℕ → List Failure → Type 0
+abbrev pub Rises : ℕ → ℕ → List FailedCall → Type 0
 Rises call count [] = Unit {0}
 Rises call count (f ∷ fs) = IsAbove call f.call × IsAbove count f.count × Rises f.call f.count fs

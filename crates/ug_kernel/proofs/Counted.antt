@@ -1,7 +1,7 @@
 -- The numbers of calls and of faults over a run.
 use Rattle.std.proofs.Common.{ℕ, ◌≤◌, ap, arith}
 use Rattle.ug_kernel.specs.Calls.{Call, Names, Open, Read, Ask_alive, Put, Close, Answer, Counts}
-use Rattle.ug_itree.specs.Tree.{Prog, Return, Ask, Room, Runs}
+use Rattle.ug_kernel.specs.Tree.{Prog, Return, Ask, Room, Runs}
 
 -- how many calls there were, and how many failed
 pub record Tally : Type 0 where

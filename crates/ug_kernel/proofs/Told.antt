@@ -3,7 +3,7 @@ use Rattle.std.proofs.Common.{◌≡◌, Option, Some, refl, subst}
 use Rattle.ug_kernel.specs.Calls.{Call, Answer}
 use Rattle.ug_kernel.specs.Kernel.{Kernel, IsKernel}
 use Rattle.ug_kernel.specs.Called.{Follows}
-use Rattle.ug_itree.specs.Tree.{Prog, Return, Ask, Room, Runs, calls}
+use Rattle.ug_kernel.specs.Tree.{Prog, Return, Ask, Room, Runs, calls}
 
 -- a kernel was told before it, and where that is sound the run is one over kernels
 pub record Told_run {R : Type 0} (told : Option Kernel) (p : Prog R) (r : R) (l : Kernel) : Type 0 where
