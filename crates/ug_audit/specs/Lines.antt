@@ -42,7 +42,7 @@ cause_words cause.Inserted = codes "inserted" ∷ []
 cause_words (cause.Malformed kind place) = codes "malformed" ∷ decimal kind ∷ decimal place ∷ []
 
 unfoldable pub fault_words : Fault → List (List ℕ)
-fault_words (fault.Call call count) = codes "fault" ∷ decimal call ∷ decimal count ∷ []
+fault_words (fault.Call failed) = codes "fault" ∷ decimal failed.call ∷ decimal failed.count ∷ []
 fault_words fault.Memory = codes "memory" ∷ []
 
 -- a star stands for every name

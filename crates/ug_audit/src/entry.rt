@@ -1,12 +1,11 @@
 // What the daemon notes of an event.
-use ug_kernel::{Write, Wrote};
+use ug_kernel::{FailedCall, Write, Wrote};
 use ug_types::{Cause, Held, Moment, NodeName, Target};
 
 /// Why a name is unsettled.
 #[derive(Clone, Copy, Debug, PartialEq, Eq)]
 pub enum Fault {
-    /// The number of the failed call in its event, and the count of failed calls after it.
-    Call { call: u64, count: u64 },
+    Call(FailedCall),
     Memory,
 }
 

@@ -115,10 +115,10 @@ fn push_fault(line: &mut Line, fault: Fault)
     ensures { line.new ≡ and_words line.old (fault_words fault) }
 {
     match fault {
-        Fault::Call { call, count } => {
+        Fault::Call(failed) => {
             push_word(line, b"fault");
-            push_number(line, call);
-            push_number(line, count);
+            push_number(line, failed.call);
+            push_number(line, failed.count);
         }
         Fault::Memory => push_word(line, b"memory"),
     }

@@ -2,7 +2,7 @@
 use std::alloc::Global;
 use ug_audit::{Entry, Fault, line_of};
 use ug_casefile::number_of;
-use ug_kernel::{Write, Wrote};
+use ug_kernel::{FailedCall, Write, Wrote};
 use ug_types::{Cause, Held, Moment, NoMemory, NodeName, Target};
 
 fn number(word: &str) -> Option<u64> {
@@ -57,10 +57,10 @@ fn outcome(word: &str) -> Option<Wrote> {
 
 fn fault(words: &[&str]) -> Option<Fault> {
     match words {
-        ["fault", call, count] => Some(Fault::Call {
+        ["fault", call, count] => Some(Fault::Call(FailedCall {
             call: number(call)?,
             count: number(count)?,
-        }),
+        })),
         ["memory"] => Some(Fault::Memory),
         _ => None,
     }
