@@ -4,3 +4,5 @@ pub mod Called
 pub mod Quiet
 pub mod Tree
 pub mod Along
+pub mod Few
+pub mod Entries

@@ -1,9 +1,13 @@
-// USB devices as the kernel keeps them, and the calls of their files in sysfs.
+// USB devices as the kernel keeps them, the calls of their files in sysfs, and programs as trees of these calls.
 #![tactic(auto)]
 
 mod calls;
 mod device;
+mod record;
+mod sysfs;
 
 pub use calls::{FailedCall, Listing, Opened, Probe, ReadOut, Wrote};
 pub use device::{Device, Effect, HeldFile};
+pub use record::{Asked, CallRecord, Kind};
+pub use sysfs::Sysfs;
 pub use ug_types::{Attr, Control, Write};

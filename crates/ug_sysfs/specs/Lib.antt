@@ -1,4 +1,3 @@
-pub mod Few
 pub mod Reply
 pub mod Devices
 pub mod World
@@ -14,5 +13,4 @@ pub mod Indexed
 pub mod Living
 pub mod Counted
 pub mod LastWords
-pub mod Entries
 pub mod Noted

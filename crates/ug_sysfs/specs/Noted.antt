@@ -4,8 +4,8 @@ use Rattle.std.proofs.lemmas.Bool.{both_ways}
 use Rattle.std.proofs.lemmas.List.{append-nil}
 use Rattle.ug_kernel.specs.Calls.{Call, Names, Open, Read, Ask_alive, Put, Close, Answer}
 use Rattle.ug_kernel.specs.Kernel.{Kernel}
-use Rattle.ug_sysfs.specs.declared.made.Made.{Made}
-use Rattle.ug_sysfs.specs.Entries.{entry_of}
+use Rattle.ug_kernel.specs.declared.record.CallRecord.{CallRecord}
+use Rattle.ug_kernel.specs.Entries.{entry_of}
 use Rattle.ug_sysfs.specs.Reply.{Reply, listed}
 use Rattle.ug_sysfs.specs.World.{World, effect, entered, fate_of, told_as, answer_from, answer_unless, Gives, begun, told}
 use Rattle.ug_sysfs.specs.Law.{tells}
@@ -20,7 +20,7 @@ entry_told (Close held) r w = refl
 
 -- a call that has entered and ends
 noted_by : (s : World) (c : Call) (r : Reply c) (a : Answer c) (t : World) → a ≡ told_as c r t → t.made ≡ s.made ++ listed c r → t.made ≡ s.made ++ entry_of c a
-noted_by s c r a t ea m = m ∙ ap (λ (ms : List Made). s.made ++ ms) (sym (entry_told c r t) ∙ ap (entry_of c) (sym ea))
+noted_by s c r a t ea m = m ∙ ap (λ (ms : List CallRecord). s.made ++ ms) (sym (entry_told c r t) ∙ ap (entry_of c) (sym ea))
 
 from_script : (s : World) (c : Call) (a : Answer c) (t : World) → a ≡ (answer_from (entered s) c).0 → t ≡ (answer_from (entered s) c).1 → t.made ≡ s.made ++ entry_of c a
 from_script s c a t ea et =

@@ -11,10 +11,11 @@ use Rattle.ug_kernel.specs.declared.calls.Probe.TheVariants as probe
 use Rattle.ug_kernel.specs.declared.calls.Wrote.{Wrote}
 use Rattle.ug_kernel.specs.declared.calls.Wrote.TheVariants as wrote
 use Rattle.ug_kernel.specs.Calls.{Call, Names, Open, Read, Ask_alive, Put, Close, Closing, Closed, failed_listing, failed_open, failed_read, failed_probe, failed_put}
-use Rattle.ug_sysfs.specs.declared.made.Asked.TheVariants as asked
-use Rattle.ug_sysfs.specs.declared.made.Kind.{Kind}
-use Rattle.ug_sysfs.specs.declared.made.Kind.TheVariants as kind
-use Rattle.ug_sysfs.specs.declared.made.Made.{Made}
+use Rattle.ug_kernel.specs.declared.record.Asked.TheVariants as asked
+use Rattle.ug_kernel.specs.declared.record.Kind.{Kind}
+use Rattle.ug_kernel.specs.declared.record.Kind.TheVariants as kind
+use Rattle.ug_kernel.specs.declared.record.CallRecord.{CallRecord}
+use Rattle.ug_kernel.specs.Entries.{listing_kind, opened_kind, read_kind, probe_kind, wrote_kind}
 
 -- what a call's method returns
 abbrev pub Reply : Call → Type 0
@@ -51,40 +52,12 @@ IsMemory (Ask_alive held) reply = ⊥
 IsMemory (Put held write) reply = ⊥
 IsMemory (Close held) reply = ⊥
 
-abbrev pub listing_kind : Listing → Kind
-listing_kind (listing.Names names) = kind.Names
-listing_kind listing.Failed = kind.Failed
-listing_kind listing.Memory = kind.Memory
-
-abbrev pub opened_kind : Opened → Kind
-opened_kind (opened.Token held) = kind.Token
-opened_kind opened.Absent = kind.Absent
-opened_kind opened.Failed = kind.Failed
-opened_kind opened.Memory = kind.Memory
-
-abbrev pub read_kind : ReadOut → Kind
-read_kind (out.Bytes bytes) = kind.Bytes
-read_kind out.Absent = kind.Absent
-read_kind out.TooLong = kind.TooLong
-read_kind out.Failed = kind.Failed
-read_kind out.Memory = kind.Memory
-
-abbrev pub probe_kind : Probe → Kind
-probe_kind (probe.Alive on) = kind.Alive
-probe_kind probe.Gone = kind.Gone
-probe_kind probe.Failed = kind.Failed
-
-abbrev pub wrote_kind : Wrote → Kind
-wrote_kind wrote.Done = kind.Done
-wrote_kind wrote.Gone = kind.Gone
-wrote_kind wrote.Failed = kind.Failed
-
 abbrev pub is_failed : Kind → Bool
 is_failed kind.Failed = true
 is_failed other = false
 
 -- a call as it is listed. Closing isn't
-abbrev pub listed : (call : Call) → Reply call → List Made
+abbrev pub listed : (call : Call) → Reply call → List CallRecord
 listed Names reply = record { asked = asked.List; kind = listing_kind reply } ∷ []
 listed (Open name control) reply = record { asked = asked.Open name control; kind = opened_kind reply } ∷ []
 listed (Read name attr) reply = record { asked = asked.Read name attr; kind = read_kind reply } ∷ []

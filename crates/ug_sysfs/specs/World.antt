@@ -22,7 +22,7 @@ use Rattle.ug_sysfs.specs.declared.script.Failing.{Failing}
 use Rattle.ug_sysfs.specs.declared.script.Move.{Move}
 use Rattle.ug_sysfs.specs.declared.script.Move.TheVariants.{Plug, Unplug}
 use Rattle.ug_sysfs.specs.declared.script.Scheduled.{Scheduled}
-use Rattle.ug_sysfs.specs.declared.made.Made.{Made}
+use Rattle.ug_kernel.specs.declared.record.CallRecord.{CallRecord}
 use Rattle.ug_sysfs.specs.Devices.{find, plugged, unplugged}
 use Rattle.ug_sysfs.specs.Reply.{Reply, failure, is_failure, is_failed, IsMemory, listed}
 
@@ -33,7 +33,7 @@ pub record World : Type 0 where
   pub fails : List Failing
   pub calls : ℕ
   pub faults : ℕ
-  pub made : List Made
+  pub made : List CallRecord
   pub ran_out : Bool
 
 -- one fault more, up to the greatest number of 64 bits
@@ -157,7 +157,7 @@ abbrev pub entered : World → World
 entered w = shift (raised w.calls) false w
 
 -- the moves after its effect happen, and the call is listed
-abbrev pub noted : List Made → World → World
+abbrev pub noted : List CallRecord → World → World
 noted made w = record (shift w.calls true w) { made = w.made ++ made }
 
 abbrev pub ended : (call : Call) → Reply call → World → World
@@ -226,7 +226,7 @@ Effects w call reply u =
     × (u.faults ≡ cond (is_failure call reply) (one_more w.faults) w.faults)
 
 -- the call is listed, or there is no memory for that. A call that then fails is counted
-abbrev pub Ends : World → Made → Bool → World → Type 0
+abbrev pub Ends : World → CallRecord → Bool → World → Type 0
 Ends w made true u = u ≡ noted (made ∷ []) w
 Ends w made false u = (u.ran_out ≡ true) × (u.calls ≡ w.calls) × (u.faults ≡ cond (is_failed made.kind) w.faults (one_more w.faults))
 

@@ -4,22 +4,20 @@
 mod census;
 mod devices;
 mod failures;
+mod kinds;
 mod laws;
-mod made;
 mod parent;
 mod roster;
 mod schedule;
 mod script;
 mod sim;
-mod sysfs;
 
 pub use laws::{event_law, fate_law, plug_law, ran_out_law, unplug_law};
-pub use made::{Asked, Kind, Made};
 pub use script::{Failing, Move, Scheduled};
 pub use sim::SimKernel;
-pub use sysfs::Sysfs;
 pub use ug_kernel::{
-    Attr, Control, Device, Effect, HeldFile, Listing, Opened, Probe, ReadOut, Write, Wrote,
+    Asked, Attr, CallRecord, Control, Device, Effect, HeldFile, Kind, Listing, Opened, Probe,
+    ReadOut, Sysfs, Write, Wrote,
 };
 
 #[cfg(test)]

@@ -3,7 +3,7 @@ ghost use Rattle.std.specs.Prelude.{◌≡◌, ◌++◌, ◌∷◌, [], true, fa
 ghost use Rattle.ug_kernel.specs.Calls.{Names, Open, Read, Ask_alive, Put};
 ghost use Rattle.ug_sysfs.specs.Devices.{plugged, unplugged};
 ghost use Rattle.ug_sysfs.specs.Count.{counts_each};
-ghost use Rattle.ug_sysfs.specs.Few.{HasFew, AreDistinct};
+ghost use Rattle.ug_kernel.specs.Few.{HasFew, AreDistinct};
 ghost use Rattle.ug_sysfs.specs.Law.{does_what_it_may, begins_afresh};
 ghost use Rattle.ug_sysfs.specs.Noted.{notes_itself, begins_empty};
 ghost use Rattle.ug_sysfs.specs.World.{Gives, Effects, RunsOut, Puts, Ends, Enters, begun, over, fate_of, counted, told};
@@ -11,18 +11,16 @@ ghost use Rattle.ug_sysfs.specs.World.{Gives, Effects, RunsOut, Puts, Ends, Ente
 use crate::census::Census;
 use crate::devices::{live_held, read_file};
 use crate::failures::Failures;
-use crate::made::{
-    Asked, Kind, Made, kind_of_listing, kind_of_opened, kind_of_probe, kind_of_read, kind_of_wrote,
-};
+use crate::kinds::{kind_of_listing, kind_of_opened, kind_of_probe, kind_of_read, kind_of_wrote};
 use crate::parent::plug;
 use crate::schedule::{happen, happen_all, one_more};
 use crate::script::{Failing, Move, Scheduled};
-use crate::sysfs::Sysfs;
 use std::alloc::Global;
 use std::collections::VecDeque;
 use std::marker::Model;
 use ug_kernel::{
-    Attr, Control, Device, Effect, HeldFile, Listing, Opened, Probe, ReadOut, Write, Wrote,
+    Asked, Attr, CallRecord, Control, Device, Effect, HeldFile, Kind, Listing, Opened, Probe,
+    ReadOut, Sysfs, Write, Wrote,
 };
 use ug_types::{Held, NoMemory, NodeName};
 
@@ -37,7 +35,7 @@ pub struct SimKernel {
     fails: Failures,
     calls: u64,
     faults: u64,
-    made: Vec<Made>,
+    made: Vec<CallRecord>,
     ran_out: bool,
 }
 
@@ -171,7 +169,7 @@ impl SimKernel {
     }
 
     /// The calls of the event, without closings.
-    pub fn made(&self) -> &[Made]
+    pub fn made(&self) -> &[CallRecord]
         ensures { result.now ≡ self.now.made }
     {
         self.made.as_slice()
@@ -195,7 +193,7 @@ impl SimKernel {
         ensures { Ends self.old (record { asked = asked; kind = kind }) result self.new }
     {
         happen(&mut self.census, &mut self.moves, self.calls, true);
-        match self.made.push(Made { asked, kind }) {
+        match self.made.push(CallRecord { asked, kind }) {
             Ok(_) => true,
             Err(_) => {
                 self.ran_out = true;

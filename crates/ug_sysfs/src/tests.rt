@@ -1,10 +1,10 @@
 // A hub and a device come, are opened and written, and go.
-use crate::made::Kind;
 use crate::script::Move;
 use crate::sim::SimKernel;
-use crate::sysfs::Sysfs;
 use std::alloc::Global;
-use ug_kernel::{Attr, Control, Device, Listing, Opened, Probe, ReadOut, Write, Wrote};
+use ug_kernel::{
+    Attr, Control, Device, Kind, Listing, Opened, Probe, ReadOut, Sysfs, Write, Wrote,
+};
 use ug_types::{Held, NoMemory, NodeName, Text};
 
 fn name(text: &[u8]) -> Result<NodeName, NoMemory> {

@@ -1,41 +1,8 @@
-// The calls of an event.
+// The kind of each answer.
 ghost use Rattle.std.specs.Prelude.{◌≡◌};
-ghost use Rattle.ug_sysfs.specs.Reply.{listing_kind, opened_kind, read_kind, probe_kind, wrote_kind};
+ghost use Rattle.ug_kernel.specs.Entries.{listing_kind, opened_kind, read_kind, probe_kind, wrote_kind};
 
-use ug_kernel::{Attr, Control, Listing, Opened, Probe, ReadOut, Write, Wrote};
-use ug_types::{Held, NodeName};
-
-/// A call, with what it was given.
-#[derive(Clone, Copy)]
-pub enum Asked {
-    List,
-    Open(NodeName, Control),
-    Read(NodeName, Attr),
-    Probe(Held),
-    Write(Held, Write),
-}
-
-/// The kind of an answer.
-#[derive(Clone, Copy, Debug, PartialEq, Eq)]
-pub enum Kind {
-    Names,
-    Token,
-    Absent,
-    Bytes,
-    TooLong,
-    Alive,
-    Gone,
-    Done,
-    Failed,
-    Memory,
-}
-
-/// A call that was made, and the kind of its answer.
-#[derive(Clone, Copy)]
-pub struct Made {
-    pub asked: Asked,
-    pub kind: Kind,
-}
+use ug_kernel::{Kind, Listing, Opened, Probe, ReadOut, Wrote};
 
 pub fn kind_of_listing(answer: &Listing) -> Kind
     ensures { result ≡ listing_kind answer.now }

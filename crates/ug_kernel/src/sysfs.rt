@@ -3,13 +3,13 @@ ghost use Rattle.std.specs.Prelude.{◌≡◌, ℕ, List, [], ◌++◌, Option, 
 ghost use Rattle.ug_kernel.specs.Calls.{Call, Answer, Names, Open, Read, Ask_alive, Put, Close, Closed, Counts};
 ghost use Rattle.ug_kernel.specs.Kernel.{Kernel};
 ghost use Rattle.ug_kernel.specs.Called.{Follows};
-ghost use Rattle.ug_sysfs.specs.declared.made.Made.{Made};
-ghost use Rattle.ug_sysfs.specs.Entries.{entry_of};
-ghost use Rattle.ug_sysfs.specs.Few.{HasFew, AreDistinct};
+ghost use Rattle.ug_kernel.specs.declared.record.CallRecord.{CallRecord};
+ghost use Rattle.ug_kernel.specs.Entries.{entry_of};
+ghost use Rattle.ug_kernel.specs.Few.{HasFew, AreDistinct};
 
+use crate::calls::{Listing, Opened, Probe, ReadOut, Wrote};
 use std::alloc::Global;
-use ug_kernel::{Attr, Control, Listing, Opened, Probe, ReadOut, Write, Wrote};
-use ug_types::{Held, NodeName};
+use ug_types::{Attr, Control, Held, NodeName, Write};
 
 /// The files of USB devices in sysfs (sysfs-bus-usb). A device can come or go, or be replaced by another
 /// of the same name, at any moment, and each call can fail.
@@ -24,7 +24,7 @@ pub trait Sysfs {
     ghost told: { Self → Option Kernel };
 
     /// The event's calls so far, where the kernel is told: what each was given, and the kind of its answer. Closing isn't listed.
-    ghost made: { Self → List Made };
+    ghost made: { Self → List CallRecord };
 
     /// How many calls there were since the event began, and how many failed since the object was made.
     ghost calls: { Self → ℕ };

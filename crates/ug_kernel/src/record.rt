@@ -1,0 +1,34 @@
+// The calls of an event, as they are recorded.
+use ug_types::{Attr, Control, Held, NodeName, Write};
+
+/// A call, with what it was given.
+#[derive(Clone, Copy)]
+pub enum Asked {
+    List,
+    Open(NodeName, Control),
+    Read(NodeName, Attr),
+    Probe(Held),
+    Write(Held, Write),
+}
+
+/// The kind of an answer.
+#[derive(Clone, Copy, Debug, PartialEq, Eq)]
+pub enum Kind {
+    Names,
+    Token,
+    Absent,
+    Bytes,
+    TooLong,
+    Alive,
+    Gone,
+    Done,
+    Failed,
+    Memory,
+}
+
+/// A call that was made, and the kind of its answer.
+#[derive(Clone, Copy)]
+pub struct CallRecord {
+    pub asked: Asked,
+    pub kind: Kind,
+}
