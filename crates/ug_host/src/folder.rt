@@ -1,0 +1,185 @@
+// The devices of a folder, and the controls that are held open.
+ghost use Rattle.ug_kernel.specs.Few.{HasFew, AreDistinct};
+
+use crate::file::{
+    Content, FileFault, join, open_to_write, read_file, read_first, read_number, word_of,
+    write_byte,
+};
+use crate::names::list_devices;
+use crate::port::read_connect_type;
+use std::alloc::Global;
+use std::collections::BTreeMap;
+use std::rt::Files;
+use ug_kernel::{Listing, Opened, Probe, ReadOut, Wrote};
+use ug_types::{Attr, Control, Held, NodeName, Write};
+
+/// A control of a device that is held open, and the file that tells the device's number on its bus.
+#[derive(Drop)]
+struct OpenControl<F> {
+    file: F,
+    devnum_path: String,
+    devnum: u32,
+}
+
+/// The folder, and its open controls by their numbers, of which none is given out twice.
+#[derive(Drop)]
+pub struct Folder<R: Files> {
+    rt: R,
+    root: String,
+    open: BTreeMap<u64, OpenControl<R::File>>,
+    next: u64,
+}
+
+impl<R: Files + AllocGlobal + Clone + Drop> Folder<R> {
+    pub fn new(rt: R, alloc: Global, root: String) -> Folder<R> {
+        Folder {
+            rt,
+            root,
+            open: BTreeMap::new(alloc),
+            next: 0,
+        }
+    }
+
+    // The path of a file of the device that bears the name.
+    fn path_of(&self, alloc: Global, name: &NodeName, file: &str) -> Result<String, FileFault> {
+        join(alloc, self.root.as_str(), &[word_of(name)?, file])
+    }
+
+    // Opens a control, and takes the device's number before and behind it. Where they differ, none of the name lived through.
+    fn open_file(
+        &self,
+        alloc: Global,
+        name: &NodeName,
+        control: Control,
+    ) -> Result<OpenControl<R::File>, FileFault> {
+        let devnum_path = self.path_of(alloc, name, "devnum")?;
+        let devnum = read_number(&self.rt, devnum_path.as_str())?;
+        let file = match control {
+            Control::Authorized => {
+                let path = self.path_of(alloc, name, "authorized")?;
+                open_to_write(&self.rt, path.as_str(), true)?
+            }
+            Control::Remove => {
+                let path = self.path_of(alloc, name, "remove")?;
+                open_to_write(&self.rt, path.as_str(), false)?
+            }
+        };
+        if read_number(&self.rt, devnum_path.as_str())? != devnum {
+            return Err(FileFault::Missing);
+        }
+        Ok(OpenControl {
+            file,
+            devnum_path,
+            devnum,
+        })
+    }
+
+    fn hold(&mut self, file: OpenControl<R::File>) -> Opened {
+        let number = self.next;
+        match self.open.insert(number, file) {
+            Ok(_) => {
+                self.next = number.saturating_add(1);
+                Opened::Token(Held(number))
+            }
+            Err(_) => Opened::Memory,
+        }
+    }
+
+    fn read_attr(&self, alloc: Global, name: &NodeName, attr: Attr) -> Result<Content, FileFault> {
+        let (file, limit) = match attr {
+            Attr::Descriptors => ("descriptors", 131072),
+            Attr::Product => ("product", 4096),
+            Attr::Serial => ("serial", 4096),
+            Attr::Connect => {
+                return read_connect_type(&self.rt, alloc, self.root.as_str(), name);
+            }
+        };
+        let path = self.path_of(alloc, name, file)?;
+        read_file(&self.rt, alloc, path.as_str(), limit)
+    }
+
+    pub fn list(&self) -> Listing
+        ensures few { HasFew result }
+        ensures distinct { AreDistinct result }
+    {
+        list_devices(&self.rt, self.root.as_str())
+    }
+
+    pub fn open_control(&mut self, alloc: Global, name: &NodeName, control: Control) -> Opened {
+        match self.open_file(alloc, name, control) {
+            Ok(file) => self.hold(file),
+            Err(FileFault::Missing) => Opened::Absent,
+            Err(FileFault::Failed) => Opened::Failed,
+            Err(FileFault::Memory) => Opened::Memory,
+        }
+    }
+
+    pub fn read(&self, alloc: Global, name: &NodeName, attr: Attr) -> ReadOut {
+        match self.read_attr(alloc, name, attr) {
+            Ok(Content::Whole(text)) => ReadOut::Bytes(text),
+            Ok(Content::TooLong) => ReadOut::TooLong,
+            Err(FileFault::Missing) => ReadOut::Absent,
+            Err(FileFault::Failed) => ReadOut::Failed,
+            Err(FileFault::Memory) => ReadOut::Memory,
+        }
+    }
+
+    pub fn probe(&mut self, held: Held) -> Probe {
+        match self.open.get_mut(&held.0) {
+            Some(control) => probe_control(&self.rt, control),
+            None => Probe::Failed,
+        }
+    }
+
+    pub fn write(&mut self, held: Held, what: Write) -> Wrote {
+        match self.open.get_mut(&held.0) {
+            Some(control) => write_control(&self.rt, control, what),
+            None => Wrote::Failed,
+        }
+    }
+
+    pub fn close(&mut self, held: Held) {
+        let _closed = self.open.remove(&held.0);
+    }
+}
+
+// Whether the device of a control is gone: the name's folder is missing, or its device has another number.
+fn is_gone<R: Files>(rt: &R, control: &OpenControl<R::File>) -> bool {
+    match read_number(rt, control.devnum_path.as_str()) {
+        Ok(devnum) => devnum != control.devnum,
+        Err(FileFault::Missing) => true,
+        Err(_) => false,
+    }
+}
+
+fn probe_control<R: Files>(rt: &R, control: &mut OpenControl<R::File>) -> Probe {
+    match read_first(&mut control.file) {
+        Ok(Some(b'0')) => Probe::Alive(false),
+        Ok(Some(_)) => Probe::Alive(true),
+        _ => {
+            if is_gone(rt, control) {
+                Probe::Gone
+            } else {
+                Probe::Failed
+            }
+        }
+    }
+}
+
+fn write_control<R: Files>(rt: &R, control: &mut OpenControl<R::File>, what: Write) -> Wrote {
+    let byte = match what {
+        Write::On => b'1',
+        Write::Off => b'0',
+        Write::Remove => b'1',
+    };
+    match write_byte(&mut control.file, byte) {
+        Ok(()) => Wrote::Done,
+        Err(_) => {
+            if is_gone(rt, control) {
+                Wrote::Gone
+            } else {
+                Wrote::Failed
+            }
+        }
+    }
+}

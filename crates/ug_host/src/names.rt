@@ -1,0 +1,62 @@
+// The names of devices in a folder.
+ghost use Rattle.std.specs.Prelude.{◌≡◌, true};
+ghost use Rattle.std.specs.List.Sorted.{IsSorted};
+ghost use Rattle.ug_types.specs.Elements.{AllDistinct};
+ghost use Rattle.ug_types.specs.Names.{sweep_cmp};
+ghost use Rattle.ug_kernel.specs.Few.{HasFew, AreDistinct};
+
+use crate::file::FileFault;
+use std::fs;
+use std::rt::Files;
+use ug_kernel::Listing;
+use ug_types::{List, NodeName, sort_names};
+
+/// The most devices that a kernel can have.
+const MOST: usize = 65536;
+
+/// The entries of the folder that are names of devices. Others are passed over, as interfaces, which have a colon.
+fn read_names<R: Files + AllocGlobal + Clone + Drop>(
+    rt: &R,
+    folder: &str,
+) -> Result<Vec<NodeName>, FileFault> {
+    let mut names = Vec::new(rt.alloc());
+    for entry in fs::read_dir(rt, folder)? {
+        let entry = entry?;
+        if let Ok(name) = NodeName::parse(entry.file_name().as_bytes()) {
+            if names.push(name).is_err() {
+                return Err(FileFault::Memory);
+            }
+        }
+    }
+    Ok(names)
+}
+
+/// Whether no two names are the same.
+fn are_apart(names: &[NodeName]) -> bool
+    requires { IsSorted sweep_cmp names.now }
+    ensures { result ≡ true → AllDistinct names.now }
+{
+    for i in 1..names.len() {
+        if names[i - 1] == names[i] {
+            return false;
+        }
+    }
+    true
+}
+
+/// The names of all devices in the folder. More than a kernel can have, or one name twice, is a failure.
+pub fn list_devices<R: Files + AllocGlobal + Clone + Drop>(rt: &R, folder: &str) -> Listing
+    ensures few { HasFew result }
+    ensures distinct { AreDistinct result }
+{
+    let mut names = match read_names(rt, folder) {
+        Ok(names) => names,
+        Err(FileFault::Memory) => return Listing::Memory,
+        Err(_) => return Listing::Failed,
+    };
+    sort_names(&mut names);
+    if names.len() > MOST || !are_apart(names.as_slice()) {
+        return Listing::Failed;
+    }
+    Listing::Names(List::from_vec(names))
+}
