@@ -50,7 +50,7 @@ pub data Reads (name : List ℕ) : List Made → Type 0 where
 -- one that stops
 pub data Stops : Attr → Told ReadOut → Stop → Type 0 where
   No_descriptors : (call count : ℕ) → Stops attr.Descriptors (told out.Absent call count) stop.Vanished
-  Read_failed : (at : Attr) (call count : ℕ) → Stops at (told out.Failed call count) (stop.Fault call count)
+  Read_failed : (at : Attr) (call count : ℕ) → Stops at (told out.Failed call count) (stop.Fault (record { call = call; count = count }))
   Read_short : (at : Attr) (call count : ℕ) → Stops at (told out.Memory call count) stop.Memory
 
 -- at most so many readings, of which the last one may stop
@@ -61,21 +61,21 @@ pub data Read_all {X : Type 0} (name : List ℕ) (held n : ℕ) : List Made → 
 -- the calls of a binding
 pub data Binds_by (name : List ℕ) : List Made → Binding → Type 0 where
   No_such : (call count : ℕ) → Binds_by name (answered (Open name Authorized) (told opened.Absent call count) ∷ []) bound.Absent
-  Open_failed : (call count : ℕ) → Binds_by name (answered (Open name Authorized) (told opened.Failed call count) ∷ []) (bound.Failed call count)
+  Open_failed : (call count : ℕ) → Binds_by name (answered (Open name Authorized) (told opened.Failed call count) ∷ []) (bound.Failed (record { call = call; count = count }))
   Open_short : (call count : ℕ) → Binds_by name (answered (Open name Authorized) (told opened.Memory call count) ∷ []) bound.Memory
   Cut : (file : Held) (call count : ℕ) (ms : List Made) (of : List ℕ) (at : Attr) (t : Told ReadOut) (shut : Closing) (why : Stop) (r : Binding) → Reads name ms → count_calls ms ≤ 7 → IsReadable name of → Stops at t why → r ≡ binding_of why → Binds_by name (answered (Open name Authorized) (told (opened.Token file) call count) ∷ (ms ++ answered (Read of at) t ∷ answered (Close file.0) shut ∷ [])) r
   Probed_gone : (file : Held) (call count number total : ℕ) (ms : List Made) (shut : Closing) → Reads name ms → count_calls ms ≤ 7 → Binds_by name (answered (Open name Authorized) (told (opened.Token file) call count) ∷ (ms ++ answered (Ask_alive file.0) (told probe.Gone number total) ∷ answered (Close file.0) shut ∷ [])) bound.Vanished
-  Probe_failed : (file : Held) (call count number total : ℕ) (ms : List Made) (shut : Closing) → Reads name ms → count_calls ms ≤ 7 → Binds_by name (answered (Open name Authorized) (told (opened.Token file) call count) ∷ (ms ++ answered (Ask_alive file.0) (told probe.Failed number total) ∷ answered (Close file.0) shut ∷ [])) (bound.Failed number total)
+  Probe_failed : (file : Held) (call count number total : ℕ) (ms : List Made) (shut : Closing) → Reads name ms → count_calls ms ≤ 7 → Binds_by name (answered (Open name Authorized) (told (opened.Token file) call count) ∷ (ms ++ answered (Ask_alive file.0) (told probe.Failed number total) ∷ answered (Close file.0) shut ∷ [])) (bound.Failed (record { call = number; count = total }))
   Bound_by : (call count number total : ℕ) (ms : List Made) (b : Bound) → Reads name ms → count_calls ms ≤ 7 → Binds_by name (answered (Open name Authorized) (told (opened.Token b.held) call count) ∷ (ms ++ answered (Ask_alive b.held.0) (told (probe.Alive b.on) number total) ∷ [])) (bound.Bound b)
 
 -- and those that open a `remove` file
 pub data Holds_by (name : List ℕ) (held : ℕ) : List Made → RemoveHold → Type 0 where
   Not_there : (call count : ℕ) → Holds_by name held (answered (Open name Remove) (told opened.Absent call count) ∷ []) hold.Gone
-  Not_opened : (call count : ℕ) → Holds_by name held (answered (Open name Remove) (told opened.Failed call count) ∷ []) (hold.Failed call count)
+  Not_opened : (call count : ℕ) → Holds_by name held (answered (Open name Remove) (told opened.Failed call count) ∷ []) (hold.Failed (record { call = call; count = count }))
   No_memory : (call count : ℕ) → Holds_by name held (answered (Open name Remove) (told opened.Memory call count) ∷ []) hold.Memory
   Held_on : (file : Held) (on : Bool) (call count number total : ℕ) → Holds_by name held (answered (Open name Remove) (told (opened.Token file) call count) ∷ answered (Ask_alive held) (told (probe.Alive on) number total) ∷ []) (hold.Ready file)
   Died : (file : Held) (call count number total : ℕ) (shut : Closing) → Holds_by name held (answered (Open name Remove) (told (opened.Token file) call count) ∷ answered (Ask_alive held) (told probe.Gone number total) ∷ answered (Close file.0) shut ∷ []) hold.Gone
-  Unasked : (file : Held) (call count number total : ℕ) (shut : Closing) → Holds_by name held (answered (Open name Remove) (told (opened.Token file) call count) ∷ answered (Ask_alive held) (told probe.Failed number total) ∷ answered (Close file.0) shut ∷ []) (hold.Failed number total)
+  Unasked : (file : Held) (call count number total : ℕ) (shut : Closing) → Holds_by name held (answered (Open name Remove) (told (opened.Token file) call count) ∷ answered (Ask_alive held) (told probe.Failed number total) ∷ answered (Close file.0) shut ∷ []) (hold.Failed (record { call = number; count = total }))
 
 -- the walk
 
@@ -113,11 +113,11 @@ read_one name of at held may = λ t. by at t.answer t.number t.count
     absent attr.Serial call count = all attr.Serial out.Absent call count _ tt
     absent attr.Connect call count = all attr.Connect out.Absent call count _ tt
 
-    by : (at : Attr) (r : ReadOut) (call count : ℕ) → Ways (after_read at held r call count) (Sure (λ ms x. Read_all name held 1 (answered (Read of at) (told r call count) ∷ ms) x))
+    by : (at : Attr) (r : ReadOut) (call count : ℕ) → Ways (after_read at held r (record { call = call; count = count })) (Sure (λ ms x. Read_all name held 1 (answered (Read of at) (told r call count) ∷ ms) x))
     by at (out.Bytes bytes) call count = all at (out.Bytes bytes) call count _ tt
     by at out.Absent call count = absent at call count
     by at out.TooLong call count = all at out.TooLong call count _ tt
-    by at out.Failed call count = λ shut. stops at out.Failed call count (stop.Fault call count) shut (Read_failed at call count)
+    by at out.Failed call count = λ shut. stops at out.Failed call count (stop.Fault (record { call = call; count = count })) shut (Read_failed at call count)
     by at out.Memory call count = λ shut. stops at out.Memory call count stop.Memory shut (Read_short at call count)
 
 -- readings, and then more
@@ -155,7 +155,7 @@ binds_by name = λ t. opened_by t.answer t.number t.count
     probed : (file : Held) (call count : ℕ) (attrs : Attrs) (parent : Option Attrs) (ms : List Made) → Reads name ms → count_calls ms ≤ 7 → Ways (probing file.0 attrs parent) (Sure (λ ns r. Binds_by name (answered (Open name Authorized) (told (opened.Token file) call count) ∷ (ms ++ ns)) r))
     probed file call count attrs parent ms a few = λ t. by t.answer t.number t.count
       where
-        by : (r : Probe) (number total : ℕ) → Ways (after_probe file.0 attrs parent r number total) (Sure (λ ns x. Binds_by name (answered (Open name Authorized) (told (opened.Token file) call count) ∷ (ms ++ answered (Ask_alive file.0) (told r number total) ∷ ns)) x))
+        by : (r : Probe) (number total : ℕ) → Ways (after_probe file.0 attrs parent r (record { call = number; count = total })) (Sure (λ ns x. Binds_by name (answered (Open name Authorized) (told (opened.Token file) call count) ∷ (ms ++ answered (Ask_alive file.0) (told r number total) ∷ ns)) x))
         by (probe.Alive on) number total = (refl, Bound_by call count number total ms (record { held = record { 0 = file.0 }; attrs = attrs; parent = parent; on = on }) a few)
         by probe.Gone number total = λ shut. (refl, Probed_gone file call count number total ms shut a few)
         by probe.Failed number total = λ shut. (refl, Probe_failed file call count number total ms shut a few)
@@ -182,7 +182,7 @@ binds_by name = λ t. opened_by t.answer t.number t.count
     owns file call count ns (Err why) h = (refl, cut file call count 4 [] ns why No_more (omega arith) h)
     owns file call count _ (Ok _) (All ns x b few) = parents file call count x ns b few (parent_of name) refl
 
-    opened_by : (r : Opened) (call count : ℕ) → Ways (after_open name (parent_of name) r call count) (Sure (λ ms x. Binds_by name (answered (Open name Authorized) (told r call count) ∷ ms) x))
+    opened_by : (r : Opened) (call count : ℕ) → Ways (after_open name (parent_of name) r (record { call = call; count = count })) (Sure (λ ms x. Binds_by name (answered (Open name Authorized) (told r call count) ∷ ms) x))
     opened_by (opened.Token file) call count = behind_sure (Read_all name file.0 4) (Sure (λ ms x. Binds_by name (answered (Open name Authorized) (told (opened.Token file) call count) ∷ ms) x)) (reading_own name file.0) (after_own file.0 (parent_of name)) (own_read name file.0) (owns file call count)
     opened_by opened.Absent call count = (refl, No_such call count)
     opened_by opened.Failed call count = (refl, Open_failed call count)
@@ -192,12 +192,12 @@ pub holds_by : (name : List ℕ) (held : ℕ) → Ways (holding_remove name held
 unfolding holding_remove
 holds_by name held = λ t. by t.answer t.number t.count
   where
-    probed : (file : Held) (call count : ℕ) (r : Probe) (number total : ℕ) → Ways (after_remove_probe file r number total) (Sure (λ ms x. Holds_by name held (answered (Open name Remove) (told (opened.Token file) call count) ∷ answered (Ask_alive held) (told r number total) ∷ ms) x))
+    probed : (file : Held) (call count : ℕ) (r : Probe) (number total : ℕ) → Ways (after_remove_probe file r (record { call = number; count = total })) (Sure (λ ms x. Holds_by name held (answered (Open name Remove) (told (opened.Token file) call count) ∷ answered (Ask_alive held) (told r number total) ∷ ms) x))
     probed file call count (probe.Alive on) number total = (refl, Held_on file on call count number total)
     probed file call count probe.Gone number total = λ shut. (refl, Died file call count number total shut)
     probed file call count probe.Failed number total = λ shut. (refl, Unasked file call count number total shut)
 
-    by : (r : Opened) (call count : ℕ) → Ways (after_remove_open held r call count) (Sure (λ ms x. Holds_by name held (answered (Open name Remove) (told r call count) ∷ ms) x))
+    by : (r : Opened) (call count : ℕ) → Ways (after_remove_open held r (record { call = call; count = count })) (Sure (λ ms x. Holds_by name held (answered (Open name Remove) (told r call count) ∷ ms) x))
     by (opened.Token file) call count = λ t. probed file call count t.answer t.number t.count
     by opened.Absent call count = (refl, Not_there call count)
     by opened.Failed call count = (refl, Not_opened call count)

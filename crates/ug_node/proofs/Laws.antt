@@ -10,6 +10,8 @@ use Rattle.ug_kernel.specs.declared.calls.Opened.{Opened}
 use Rattle.ug_kernel.specs.declared.calls.Opened.TheVariants as opened
 use Rattle.ug_kernel.specs.declared.calls.Probe.{Probe}
 use Rattle.ug_kernel.specs.declared.calls.Probe.TheVariants as probe
+use Rattle.ug_kernel.specs.declared.calls.FailedCall.{FailedCall}
+use Rattle.ug_kernel.specs.Along.{failure_of}
 use Rattle.ug_kernel.specs.Calls.{Call, Answer, Open, Ask_alive, Close}
 use Rattle.ug_kernel.specs.Kernel.{Kernel, Live, IsSound, IsKernel, Moves}
 use Rattle.ug_kernel.specs.Called.{Lived, NoneLived, IsOpened, IsGoneAt, IsAlive, Called, Follows}
@@ -149,21 +151,21 @@ gone_law name k held w l h g gone j d lives named =
     let live = (live_before w l h.opens.i y.0 lives.exit.0 g y.1 exit).0 in
     gone h.opens.i y.0 (record { file = record { device = h.opens.i; control = Authorized }; at = file_now name k held w h; is = refl; device = y.1 }) live
 
-after_probe_law : (name : List ℕ) (k : Kernel) (held : ℕ) (u w l : Kernel) (attrs : Attrs) (parent : Option Attrs) (answer : Probe) (number count : ℕ) (r : Binding) (h : IsOpenSince name k held u) → ((d : Device) → Live u.devices h.opens.i d → attrs ≡ attrs_of d) → ((d : Device) → Live u.devices h.opens.i d → IsParentRead u d.parent parent) → Called (Ask_alive held) (record { answer = answer; number = number; count = count }) u w → Runs calls w (after_probe held attrs parent answer number count) r l → BindSays name k l r
-after_probe_law name k held u w l attrs parent (probe.Alive on) number count r h own parents c runs =
+after_probe_law : (name : List ℕ) (k : Kernel) (held : ℕ) (u w l : Kernel) (attrs : Attrs) (parent : Option Attrs) (answer : Probe) (failed : FailedCall) (r : Binding) (h : IsOpenSince name k held u) → ((d : Device) → Live u.devices h.opens.i d → attrs ≡ attrs_of d) → ((d : Device) → Live u.devices h.opens.i d → IsParentRead u d.parent parent) → Called (Ask_alive held) (record { answer = answer; number = failed.call; count = failed.count }) u w → Runs calls w (after_probe held attrs parent answer failed) r l → BindSays name k l r
+after_probe_law name k held u w l attrs parent (probe.Alive on) failed r h own parents c runs =
     says_ends name k w l (bound.Bound (record { held = record { 0 = held }; attrs = attrs; parent = parent; on = on })) r (bound_law name k held u w attrs parent on h own parents c.says (called_quiet (Ask_alive held) _ u w tt c)) runs.0 runs.1
-after_probe_law name k held u w l attrs parent probe.Gone number count r h own parents c runs =
+after_probe_law name k held u w l attrs parent probe.Gone failed r h own parents c runs =
     says_ends name k runs.1 l bound.Vanished r (gone_law name k held w runs.1 (open_later name k held u w (called_quiet (Ask_alive held) _ u w tt c) h) (called_grows (Close held) runs.0 w runs.1 runs.2) c.says) runs.3.0 runs.3.1
-after_probe_law name k held u w l attrs parent probe.Failed number count r h own parents c runs = says_ends name k runs.1 l (bound.Failed number count) r tt runs.3.0 runs.3.1
+after_probe_law name k held u w l attrs parent probe.Failed failed r h own parents c runs = says_ends name k runs.1 l (bound.Failed failed) r tt runs.3.0 runs.3.1
 
 probing_law : (name : List ℕ) (k : Kernel) (held : ℕ) (u l : Kernel) (attrs : Attrs) (parent : Option Attrs) (r : Binding) (h : IsOpenSince name k held u) → ((d : Device) → Live u.devices h.opens.i d → attrs ≡ attrs_of d) → ((d : Device) → Live u.devices h.opens.i d → IsParentRead u d.parent parent) → Runs calls u (probing held attrs parent) r l → BindSays name k l r
-probing_law name k held u l attrs parent r h own parents runs = after_probe_law name k held u runs.1 l attrs parent runs.0.answer runs.0.number runs.0.count r h own parents runs.2 runs.3
+probing_law name k held u l attrs parent r h own parents runs = after_probe_law name k held u runs.1 l attrs parent runs.0.answer (failure_of runs.0) r h own parents runs.2 runs.3
 
 -- the parent's files
 
 early_law : (name : List ℕ) (k l : Kernel) (why : Stop) → (why ≡ stop.Vanished → NoneLived name k l) → BindSays name k l (binding_of why)
 early_law name k l stop.Vanished h = h refl
-early_law name k l (stop.Fault number count) h = tt
+early_law name k l (stop.Fault failed) h = tt
 early_law name k l stop.Memory h = tt
 
 none_read : {X : Type 0} (name : List ℕ) (of : Device → X) (k l : Kernel) (why : Stop) → ReadsAs name of k l (Err why) → why ≡ stop.Vanished → NoneLived name k l
@@ -200,19 +202,19 @@ after_own_law name parent k held m v l (Ok attrs) r h above s g a own runs = to_
 after_own_law name parent k held m v l (Err why) r h above s g a own runs =
     says_ends name k v l (binding_of why) r (early_law name k v why (λ e. none_wider name k m v v g (quiet_grows m v a) (grows_refl v) (none_read name attrs_of m v why own e))) runs.0 runs.1
 
-after_open_law : (name : List ℕ) (parent : Option (List ℕ)) (k m l : Kernel) (answer : Opened) (number count : ℕ) (r : Binding) → parent_of name ≡ parent → Called (Open name Authorized) (record { answer = answer; number = number; count = count }) k m → Runs calls m (after_open name parent answer number count) r l → BindSays name k l r
-after_open_law name parent k m l (opened.Token held) number count r above c runs =
+after_open_law : (name : List ℕ) (parent : Option (List ℕ)) (k m l : Kernel) (answer : Opened) (failed : FailedCall) (r : Binding) → parent_of name ≡ parent → Called (Open name Authorized) (record { answer = answer; number = failed.call; count = failed.count }) k m → Runs calls m (after_open name parent answer failed) r l → BindSays name k l r
+after_open_law name parent k m l (opened.Token held) failed r above c runs =
     let cut = runs_split calls m (reading_own name held.0) (after_own held.0 parent) r l runs in
     after_own_law name parent k held.0 m cut.1 l cut.0 r
     (record { before = c.before; opening = c.after; start = c.moves_before; opens = c.effect; quiet = moves_quiet c.after m c.moves_after; sound = c.sound_before })
     above (runs_sound (reading_own name held.0) m cut.0 cut.1 c.sound cut.2) (called_grows (Open name Authorized) _ k m c) (runs_quiet (reading_own name held.0) m cut.0 cut.1 (own_quiet name held.0) cut.2) (own_says name held.0 m cut.1 cut.0 cut.2) cut.3
-after_open_law name parent k m l opened.Absent number count r above c runs = says_ends name k m l bound.Absent r c.says runs.0 runs.1
-after_open_law name parent k m l opened.Failed number count r above c runs = says_ends name k m l (bound.Failed number count) r tt runs.0 runs.1
-after_open_law name parent k m l opened.Memory number count r above c runs = says_ends name k m l bound.Memory r tt runs.0 runs.1
+after_open_law name parent k m l opened.Absent failed r above c runs = says_ends name k m l bound.Absent r c.says runs.0 runs.1
+after_open_law name parent k m l opened.Failed failed r above c runs = says_ends name k m l (bound.Failed failed) r tt runs.0 runs.1
+after_open_law name parent k m l opened.Memory failed r above c runs = says_ends name k m l bound.Memory r tt runs.0 runs.1
 
 binding_says : (name : List ℕ) (parent : Option (List ℕ)) (r : Binding) (k l : Kernel) → parent_of name ≡ parent → Runs calls k (binding name parent) r l → BindSays name k l r
 unfolding binding
-binding_says name parent r k l above runs = after_open_law name parent k runs.1 l runs.0.answer runs.0.number runs.0.count r above runs.2 runs.3
+binding_says name parent r k l above runs = after_open_law name parent k runs.1 l runs.0.answer (failure_of runs.0) r above runs.2 runs.3
 
 pub binding_law : (name : List ℕ) (parent : Option (List ℕ)) (r : Binding) (k l : Kernel) → parent ≡ parent_of name → IsKernel k → Runs calls k (binding name parent) r l → IsBinding name k l r
 binding_law name parent r k l above sound runs = record {

@@ -6,6 +6,8 @@ use Rattle.ug_types.specs.declared.control.Attr.{Attr}
 use Rattle.ug_types.specs.declared.control.Attr.TheVariants as attr
 use Rattle.ug_kernel.specs.declared.calls.ReadOut.{ReadOut}
 use Rattle.ug_kernel.specs.declared.calls.ReadOut.TheVariants as out
+use Rattle.ug_kernel.specs.declared.calls.FailedCall.{FailedCall}
+use Rattle.ug_kernel.specs.Along.{failure_of}
 use Rattle.ug_kernel.specs.Calls.{Read, Close}
 use Rattle.ug_kernel.specs.Kernel.{Kernel, Stays}
 use Rattle.ug_kernel.specs.Called.{Lived, NoneLived, within, text_within, read_of, IsFile, says_read}
@@ -31,7 +33,7 @@ file_of a d = file_from (read_of a d)
 abbrev pub ReadsAs : {X : Type 0} → List ℕ → (Device → X) → Kernel → Kernel → Result X Stop → Type 0
 ReadsAs name of k l (Ok x) = (i : ℕ) (d : Device) → Lived k.devices l.devices i d → d.name ≡ name → x ≡ of d
 ReadsAs name of k l (Err stop.Vanished) = NoneLived name k l
-ReadsAs name of k l (Err (stop.Fault number count)) = Unit {0}
+ReadsAs name of k l (Err (stop.Fault failed)) = Unit {0}
 ReadsAs name of k l (Err stop.Memory) = Unit {0}
 
 -- it stays with the device
@@ -48,13 +50,13 @@ reads_wider name of k u w l (Ok y) kept a b c h = λ i d lives named.
     let x = (lived_cut k u l i d a (grows_trans u w l b c) lives).1 in
     h i x.0 (lived_cut u w l i x.0 b c x.1).0 (x.2.name ∙ named) ∙ sym (kept d x.0 x.2)
 reads_wider name of k u w l (Err stop.Vanished) kept a b c h = none_wider name k u w l a b c h
-reads_wider name of k u w l (Err (stop.Fault number count)) kept a b c h = tt
+reads_wider name of k u w l (Err (stop.Fault failed)) kept a b c h = tt
 reads_wider name of k u w l (Err stop.Memory) kept a b c h = tt
 
 -- an early end says the same of the whole
 err_as : {X Y : Type 0} (name : List ℕ) (of : Device → X) (as_well : Device → Y) (k l : Kernel) (why : Stop) → ReadsAs name of k l (Err why) → ReadsAs name as_well k l (Err why)
 err_as name of as_well k l stop.Vanished h = h
-err_as name of as_well k l (stop.Fault number count) h = tt
+err_as name of as_well k l (stop.Fault failed) h = tt
 err_as name of as_well k l stop.Memory h = tt
 
 file_kept : (a : Attr) → Kept (file_of a)
@@ -94,16 +96,16 @@ absent_says name attr.Product held k m l r g h runs = ends name (file_of attr.Pr
 absent_says name attr.Serial held k m l r g h runs = ends name (file_of attr.Serial) k m l (Ok (file_from out.Absent)) r (λ i d lives named. ap file_from (h i d lives named)) runs.0 runs.1
 absent_says name attr.Connect held k m l r g h runs = ends name (file_of attr.Connect) k m l (Ok (file_from out.Absent)) r (λ i d lives named. ap file_from (h i d lives named)) runs.0 runs.1
 
-after_read_says : (name : List ℕ) (a : Attr) (held : ℕ) (answer : ReadOut) (number count : ℕ) (k m l : Kernel) (r : Result File Stop) → Grows k m → says_read name a answer k m → Runs calls m (after_read a held answer number count) r l → ReadsAs name (file_of a) k l r
-after_read_says name a held (out.Bytes bytes) number count k m l r g h runs = ends name (file_of a) k m l (Ok (file_from (out.Bytes bytes))) r (λ i d lives named. ap file_from (h i d lives named)) runs.0 runs.1
-after_read_says name a held out.Absent number count k m l r g h runs = absent_says name a held k m l r g h runs
-after_read_says name a held out.TooLong number count k m l r g h runs = ends name (file_of a) k m l (Ok (file_from out.TooLong)) r (λ i d lives named. ap file_from (h i d lives named)) runs.0 runs.1
-after_read_says name a held out.Failed number count k m l r g h runs = ends name (file_of a) k runs.1 l (Err (stop.Fault number count)) r tt runs.3.0 runs.3.1
-after_read_says name a held out.Memory number count k m l r g h runs = ends name (file_of a) k runs.1 l (Err stop.Memory) r tt runs.3.0 runs.3.1
+after_read_says : (name : List ℕ) (a : Attr) (held : ℕ) (answer : ReadOut) (failed : FailedCall) (k m l : Kernel) (r : Result File Stop) → Grows k m → says_read name a answer k m → Runs calls m (after_read a held answer failed) r l → ReadsAs name (file_of a) k l r
+after_read_says name a held (out.Bytes bytes) failed k m l r g h runs = ends name (file_of a) k m l (Ok (file_from (out.Bytes bytes))) r (λ i d lives named. ap file_from (h i d lives named)) runs.0 runs.1
+after_read_says name a held out.Absent failed k m l r g h runs = absent_says name a held k m l r g h runs
+after_read_says name a held out.TooLong failed k m l r g h runs = ends name (file_of a) k m l (Ok (file_from out.TooLong)) r (λ i d lives named. ap file_from (h i d lives named)) runs.0 runs.1
+after_read_says name a held out.Failed failed k m l r g h runs = ends name (file_of a) k runs.1 l (Err (stop.Fault failed)) r tt runs.3.0 runs.3.1
+after_read_says name a held out.Memory failed k m l r g h runs = ends name (file_of a) k runs.1 l (Err stop.Memory) r tt runs.3.0 runs.3.1
 
 reading_says : (name : List ℕ) (a : Attr) (held : ℕ) (k l : Kernel) (r : Result File Stop) → Runs calls k (reading name a held) r l → ReadsAs name (file_of a) k l r
 unfolding reading
-reading_says name a held k l r runs = after_read_says name a held runs.0.answer runs.0.number runs.0.count k runs.1 l r (called_grows (Read name a) runs.0 k runs.1 runs.2) runs.2.says runs.3
+reading_says name a held k l r runs = after_read_says name a held runs.0.answer (failure_of runs.0) k runs.1 l r (called_grows (Read name a) runs.0 k runs.1 runs.2) runs.2.says runs.3
 
 -- one file more, from the kernel k on
 file_then : {X : Type 0} (name : List ℕ) (of : Device → X) (a : Attr) (held : ℕ) (f : Result File Stop → Prog (Result X Stop)) (k u v l : Kernel) (q : Result File Stop) (r : Result X Stop) → Grows k u → ((why : Stop) (v : Kernel) → Runs calls v (f (Err why)) r l → (r ≡ Err why) × (l ≡ v)) → ((x : File) (v : Kernel) → ReadsAs name (file_of a) k l (Ok x) → Grows k v → Runs calls v (f (Ok x)) r l → ReadsAs name of k l r) → Runs calls u (reading name a held) q v → Runs calls v (f q) r l → ReadsAs name of k l r

@@ -8,6 +8,8 @@ use Rattle.ug_kernel.specs.declared.calls.Opened.{Opened}
 use Rattle.ug_kernel.specs.declared.calls.Opened.TheVariants as opened
 use Rattle.ug_kernel.specs.declared.calls.Probe.{Probe}
 use Rattle.ug_kernel.specs.declared.calls.Probe.TheVariants as probe
+use Rattle.ug_kernel.specs.declared.calls.FailedCall.{FailedCall}
+use Rattle.ug_kernel.specs.Along.{failure_of}
 use Rattle.ug_kernel.specs.Calls.{Call, Answer, Open, Ask_alive, Close, Counted, Counts, failed_open, failed_probe}
 use Rattle.ug_kernel.specs.Kernel.{Kernel, Live, IsKernel}
 use Rattle.ug_kernel.specs.Called.{Holds, IsGoneAt, IsOpened, Called, Follows}
@@ -25,20 +27,20 @@ use Rattle.ug_node.specs.Removal.{after_remove_probe, after_remove_open, holding
 
 -- nothing is written
 
-after_probe_quiet : (file : Held) (answer : Probe) (number count : ℕ) → NoWrites (after_remove_probe file answer number count)
-after_probe_quiet file (probe.Alive on) number count = tt
-after_probe_quiet file probe.Gone number count = (tt, λ c. tt)
-after_probe_quiet file probe.Failed number count = (tt, λ c. tt)
+after_probe_quiet : (file : Held) (answer : Probe) (failed : FailedCall) → NoWrites (after_remove_probe file answer failed)
+after_probe_quiet file (probe.Alive on) failed = tt
+after_probe_quiet file probe.Gone failed = (tt, λ c. tt)
+after_probe_quiet file probe.Failed failed = (tt, λ c. tt)
 
-after_open_quiet : (held : ℕ) (answer : Opened) (number count : ℕ) → NoWrites (after_remove_open held answer number count)
-after_open_quiet held (opened.Token file) number count = (tt, λ t. after_probe_quiet file t.answer t.number t.count)
-after_open_quiet held opened.Absent number count = tt
-after_open_quiet held opened.Failed number count = tt
-after_open_quiet held opened.Memory number count = tt
+after_open_quiet : (held : ℕ) (answer : Opened) (failed : FailedCall) → NoWrites (after_remove_open held answer failed)
+after_open_quiet held (opened.Token file) failed = (tt, λ t. after_probe_quiet file t.answer (failure_of t))
+after_open_quiet held opened.Absent failed = tt
+after_open_quiet held opened.Failed failed = tt
+after_open_quiet held opened.Memory failed = tt
 
 pub holding_quiet : (name : List ℕ) (held : ℕ) → NoWrites (holding_remove name held)
 unfolding holding_remove
-holding_quiet name held = (tt, λ t. after_open_quiet held t.answer t.number t.count)
+holding_quiet name held = (tt, λ t. after_open_quiet held t.answer (failure_of t))
 
 -- the device of the held file
 
@@ -73,8 +75,8 @@ opened_file k m name file o =
 ends : (held i : ℕ) (v l : Kernel) (x r : RemoveHold) → RemoveSays held i v x → r ≡ x → l ≡ v → RemoveSays held i l r
 ends held i v l x r h e f = subst (λ y. RemoveSays held i y r) (sym f) (subst (λ y. RemoveSays held i v y) (sym e) h)
 
-after_probe_says : (name : List ℕ) (held i : ℕ) (file : Held) (k u m w l : Kernel) (answer : Probe) (number count : ℕ) (r : RemoveHold) (o : IsOpened name Remove file.0 k u) → IsKernel k → Grows k u → Quiet u m → IsAuthorizedFile k name held i → Called (Ask_alive held) (record { answer = answer; number = number; count = count }) m w → Runs calls w (after_remove_probe file answer number count) r l → RemoveSays held i l r
-after_probe_says name held i file k u m w l (probe.Alive on) number count r o sound g q f c runs =
+after_probe_says : (name : List ℕ) (held i : ℕ) (file : Held) (k u m w l : Kernel) (answer : Probe) (failed : FailedCall) (r : RemoveHold) (o : IsOpened name Remove file.0 k u) → IsKernel k → Grows k u → Quiet u m → IsAuthorizedFile k name held i → Called (Ask_alive held) (record { answer = answer; number = failed.call; count = failed.count }) m w → Runs calls w (after_remove_probe file answer failed) r l → RemoveSays held i l r
+after_probe_says name held i file k u m w l (probe.Alive on) failed r o sound g q f c runs =
     let now = file_later k m name held i (grows_trans k u m g (quiet_grows u m q)) f in
     let is = holds_is m name held i c.says.i c.says.d now c.says.holds in
     let live : Live m.devices i c.says.d = subst (λ (v : ℕ). Live m.devices v c.says.d) is c.says.live in
@@ -83,29 +85,29 @@ after_probe_says name held i file k u m w l (probe.Alive on) number count r o so
     let opened : slice_get u.held file.0 ≡ Some (record { device = i; control = Remove }) = subst (λ (v : ℕ). slice_get u.held file.0 ≡ Some (record { device = v; control = Remove })) same (opened_file k u name file.0 o) in
     let later = quiet_trans u m w q (called_quiet (Ask_alive held) _ m w tt c) in
     ends held i w l (hold.Ready file) r (later.held file.0 (record { device = i; control = Remove }) opened) runs.0 runs.1
-after_probe_says name held i file k u m w l probe.Gone number count r o sound g q f c runs =
+after_probe_says name held i file k u m w l probe.Gone failed r o sound g q f c runs =
     let a = quiet_grows m w (called_quiet (Ask_alive held) _ m w tt c) in
     let now = file_later k w name held i (grows_trans k u w g (grows_trans u m w (quiet_grows u m q) a)) f in
     let end = quiet_grows w runs.1 (called_quiet (Close file.0) runs.0 w runs.1 tt runs.2) in
     ends held i runs.1 l hold.Gone r (gone_later w runs.1 name held i end now (gone_dead w name held i now c.says)) runs.3.0 runs.3.1
-after_probe_says name held i file k u m w l probe.Failed number count r o sound g q f c runs = ends held i runs.1 l (hold.Failed number count) r tt runs.3.0 runs.3.1
+after_probe_says name held i file k u m w l probe.Failed failed r o sound g q f c runs = ends held i runs.1 l (hold.Failed failed) r tt runs.3.0 runs.3.1
 
-after_open_says : (name : List ℕ) (held i : ℕ) (k m l : Kernel) (answer : Opened) (number count : ℕ) (r : RemoveHold) → IsAuthorizedFile k name held i → Called (Open name Remove) (record { answer = answer; number = number; count = count }) k m → Runs calls m (after_remove_open held answer number count) r l → RemoveSays held i l r
-after_open_says name held i k m l (opened.Token file) number count r f c runs =
+after_open_says : (name : List ℕ) (held i : ℕ) (k m l : Kernel) (answer : Opened) (failed : FailedCall) (r : RemoveHold) → IsAuthorizedFile k name held i → Called (Open name Remove) (record { answer = answer; number = failed.call; count = failed.count }) k m → Runs calls m (after_remove_open held answer failed) r l → RemoveSays held i l r
+after_open_says name held i k m l (opened.Token file) failed r f c runs =
     let g = quiet_grows k c.before (moves_quiet k c.before c.moves_before) in
-    after_probe_says name held i file c.before c.after m runs.1 l runs.0.answer runs.0.number runs.0.count r c.effect c.sound_before (quiet_grows c.before c.after (opened_quiet name Remove file.0 c.before c.after c.effect)) (moves_quiet c.after m c.moves_after) (file_later k c.before name held i g f) runs.2 runs.3
-after_open_says name held i k m l opened.Absent number count r f c runs =
+    after_probe_says name held i file c.before c.after m runs.1 l runs.0.answer (failure_of runs.0) r c.effect c.sound_before (quiet_grows c.before c.after (opened_quiet name Remove file.0 c.before c.after c.effect)) (moves_quiet c.after m c.moves_after) (file_later k c.before name held i g f) runs.2 runs.3
+after_open_says name held i k m l opened.Absent failed r f c runs =
     let g = quiet_grows k m (called_quiet (Open name Remove) _ k m tt c) in
     let now = file_later k m name held i g f in
     let dead : (d : Device) → Live m.devices i d → ⊥ = λ d live. c.says i f.d (record { entry = (live_before k m i f.d d g f.device live).0; exit = (d, live) }) f.named in
     let gone : IsGoneAt held m = λ j e h live. dead e (subst (λ (v : ℕ). Live m.devices v e) (holds_is m name held i j e now h) live) in
     ends held i m l hold.Gone r gone runs.0 runs.1
-after_open_says name held i k m l opened.Failed number count r f c runs = ends held i m l (hold.Failed number count) r tt runs.0 runs.1
-after_open_says name held i k m l opened.Memory number count r f c runs = ends held i m l hold.Memory r tt runs.0 runs.1
+after_open_says name held i k m l opened.Failed failed r f c runs = ends held i m l (hold.Failed failed) r tt runs.0 runs.1
+after_open_says name held i k m l opened.Memory failed r f c runs = ends held i m l hold.Memory r tt runs.0 runs.1
 
 holding_says : (name : List ℕ) (held i : ℕ) (r : RemoveHold) (k l : Kernel) → IsAuthorizedFile k name held i → Runs calls k (holding_remove name held) r l → RemoveSays held i l r
 unfolding holding_remove
-holding_says name held i r k l f runs = after_open_says name held i k runs.1 l runs.0.answer runs.0.number runs.0.count r f runs.2 runs.3
+holding_says name held i r k l f runs = after_open_says name held i k runs.1 l runs.0.answer (failure_of runs.0) r f runs.2 runs.3
 
 pub holding_law : (name : List ℕ) (held i : ℕ) (r : RemoveHold) (k l : Kernel) → IsKernel k → IsAuthorizedFile k name held i → Runs calls k (holding_remove name held) r l → IsRemoveHold held i k l r
 holding_law name held i r k l sound f runs = record {

@@ -9,7 +9,8 @@ use Rattle.ug_kernel.specs.declared.calls.Opened.TheVariants as opened
 use Rattle.ug_kernel.specs.declared.calls.Probe.TheVariants as probe
 use Rattle.ug_kernel.specs.Calls.{Call, Answer, Open, Read, Ask_alive, Close, Closing, Told, failed_open, failed_read, failed_probe, Counted, Counts}
 use Rattle.ug_kernel.specs.Tree.{Runs}
-use Rattle.ug_kernel.specs.Along.{Made, answered, Along}
+use Rattle.ug_kernel.specs.declared.calls.FailedCall.{FailedCall}
+use Rattle.ug_kernel.specs.Along.{Made, answered, Along, failure_of}
 use Rattle.ug_kernel.proofs.Counted.{Tally, counts, counted_run, counts_never_fall}
 use Rattle.ug_kernel.proofs.Ways.{Sure, ways_run, along_split}
 use Rattle.ug_node.specs.declared.files.Stop.{Stop}
@@ -28,12 +29,12 @@ never_falls (m ∷ ms) v w a =
     omega (arith, first, rest)
 
 -- a call that failed
-fault_so : {X : Type 0} (failed : X → Bool) (t : Told X) (v w : Tally) → failed t.answer ≡ true → Counted failed t v.calls v.faults w.calls w.faults → IsFault v.faults w.calls w.faults t.number t.count
+fault_so : {X : Type 0} (failed : X → Bool) (t : Told X) (v w : Tally) → failed t.answer ≡ true → Counted failed t v.calls v.faults w.calls w.faults → IsFault v.faults w.calls w.faults (failure_of t)
 fault_so failed t v w e h = record { number = h.number; total = h.count; rises = λ few. h.rises e few }
 
 -- one behind others, with the closing of a file behind it
-ends_closed : (front : List Made) (m : Made) (held : ℕ) (shut : Closing) (number count : ℕ) (v w : Tally) → ((x y : Tally) → counts x m.call m.answer y → IsFault x.faults y.calls y.faults number count) → Along counts v (front ++ m ∷ answered (Close held) shut ∷ []) w → IsFault v.faults w.calls w.faults number count
-ends_closed front m held shut number count v w fails a =
+ends_closed : (front : List Made) (m : Made) (held : ℕ) (shut : Closing) (failed : FailedCall) (v w : Tally) → ((x y : Tally) → counts x m.call m.answer y → IsFault x.faults y.calls y.faults failed) → Along counts v (front ++ m ∷ answered (Close held) shut ∷ []) w → IsFault v.faults w.calls w.faults failed
+ends_closed front m held shut failed v w fails a =
     let cut = along_split counts front (m ∷ answered (Close held) shut ∷ []) v w a in
     let x = cut.0 in
     let y = cut.2.0 in
@@ -48,25 +49,25 @@ ends_closed front m held shut number count v w fails a =
 
 stop_tells : {at : Attr} {t : Told ReadOut} {why : Stop} (front : List Made) (of : List ℕ) (held : ℕ) (shut : Closing) (v w : Tally) → Stops at t why → Along counts v (front ++ answered (Read of at) t ∷ answered (Close held) shut ∷ []) w → TellsFault v.faults w.calls w.faults (binding_of why)
 stop_tells front of held shut v w (No_descriptors call count) a = tt
-stop_tells front of held shut v w (Read_failed at call count) a = ends_closed front (answered (Read of at) (told out.Failed call count)) held shut call count v w (λ x y c. fault_so failed_read (told out.Failed call count) x y refl c) a
+stop_tells front of held shut v w (Read_failed at call count) a = ends_closed front (answered (Read of at) (told out.Failed call count)) held shut (record { call = call; count = count }) v w (λ x y c. fault_so failed_read (told out.Failed call count) x y refl c) a
 stop_tells front of held shut v w (Read_short at call count) a = tt
 
 binds_tell : {name : List ℕ} {ms : List Made} {r : Binding} (v w : Tally) → Binds_by name ms r → Along counts v ms w → TellsFault v.faults w.calls w.faults r
 binds_tell v w (No_such call count) a = tt
-binds_tell v w (Open_failed call count) a = subst (λ (x : Tally). IsFault v.faults x.calls x.faults call count) (sym a.2) (fault_so failed_open (told opened.Failed call count) v a.0 refl a.1)
+binds_tell v w (Open_failed call count) a = subst (λ (x : Tally). IsFault v.faults x.calls x.faults (record { call = call; count = count })) (sym a.2) (fault_so failed_open (told opened.Failed call count) v a.0 refl a.1)
 binds_tell v w (Open_short call count) a = tt
 binds_tell {name} v w (Cut file call count ms of at t shut why r n few may stops e) a = subst (λ (x : Binding). TellsFault v.faults w.calls w.faults x) (sym e) (stop_tells (answered (Open name Authorized) (told (opened.Token file) call count) ∷ ms) of file.0 shut v w stops a)
 binds_tell v w (Probed_gone file call count number total ms shut n few) a = tt
-binds_tell {name} v w (Probe_failed file call count number total ms shut n few) a = ends_closed (answered (Open name Authorized) (told (opened.Token file) call count) ∷ ms) (answered (Ask_alive file.0) (told probe.Failed number total)) file.0 shut number total v w (λ x y c. fault_so failed_probe (told probe.Failed number total) x y refl c) a
+binds_tell {name} v w (Probe_failed file call count number total ms shut n few) a = ends_closed (answered (Open name Authorized) (told (opened.Token file) call count) ∷ ms) (answered (Ask_alive file.0) (told probe.Failed number total)) file.0 shut (record { call = number; count = total }) v w (λ x y c. fault_so failed_probe (told probe.Failed number total) x y refl c) a
 binds_tell v w (Bound_by call count number total ms b n few) a = tt
 
 holds_tell : {name : List ℕ} {held : ℕ} {ms : List Made} {r : RemoveHold} (v w : Tally) → Holds_by name held ms r → Along counts v ms w → TellsRemoveFault v.faults w.calls w.faults r
 holds_tell v w (Not_there call count) a = tt
-holds_tell v w (Not_opened call count) a = subst (λ (x : Tally). IsFault v.faults x.calls x.faults call count) (sym a.2) (fault_so failed_open (told opened.Failed call count) v a.0 refl a.1)
+holds_tell v w (Not_opened call count) a = subst (λ (x : Tally). IsFault v.faults x.calls x.faults (record { call = call; count = count })) (sym a.2) (fault_so failed_open (told opened.Failed call count) v a.0 refl a.1)
 holds_tell v w (No_memory call count) a = tt
 holds_tell v w (Held_on file on call count number total) a = tt
 holds_tell v w (Died file call count number total shut) a = tt
-holds_tell {name} {held} v w (Unasked file call count number total shut) a = ends_closed (answered (Open name Remove) (told (opened.Token file) call count) ∷ []) (answered (Ask_alive held) (told probe.Failed number total)) file.0 shut number total v w (λ x y c. fault_so failed_probe (told probe.Failed number total) x y refl c) a
+holds_tell {name} {held} v w (Unasked file call count number total shut) a = ends_closed (answered (Open name Remove) (told (opened.Token file) call count) ∷ []) (answered (Ask_alive held) (told probe.Failed number total)) file.0 shut (record { call = number; count = total }) v w (λ x y c. fault_so failed_probe (told probe.Failed number total) x y refl c) a
 
 -- of the states of a run
 

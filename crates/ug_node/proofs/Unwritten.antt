@@ -9,6 +9,8 @@ use Rattle.ug_kernel.specs.declared.calls.Opened.{Opened}
 use Rattle.ug_kernel.specs.declared.calls.Opened.TheVariants as opened
 use Rattle.ug_kernel.specs.declared.calls.Probe.{Probe}
 use Rattle.ug_kernel.specs.declared.calls.Probe.TheVariants as probe
+use Rattle.ug_kernel.specs.declared.calls.FailedCall.{FailedCall}
+use Rattle.ug_kernel.specs.Along.{failure_of}
 use Rattle.ug_kernel.proofs.Kernels.{NoWrites, no_writes_then}
 use Rattle.ug_node.specs.declared.files.File.{File}
 use Rattle.ug_node.specs.declared.files.Stop.{Stop}
@@ -21,16 +23,16 @@ absent_quiet attr.Product held = tt
 absent_quiet attr.Serial held = tt
 absent_quiet attr.Connect held = tt
 
-after_read_quiet : (a : Attr) (held : ℕ) (answer : ReadOut) (number count : ℕ) → NoWrites (after_read a held answer number count)
-after_read_quiet a held (out.Bytes bytes) number count = tt
-after_read_quiet a held out.Absent number count = absent_quiet a held
-after_read_quiet a held out.TooLong number count = tt
-after_read_quiet a held out.Failed number count = (tt, λ c. tt)
-after_read_quiet a held out.Memory number count = (tt, λ c. tt)
+after_read_quiet : (a : Attr) (held : ℕ) (answer : ReadOut) (failed : FailedCall) → NoWrites (after_read a held answer failed)
+after_read_quiet a held (out.Bytes bytes) failed = tt
+after_read_quiet a held out.Absent failed = absent_quiet a held
+after_read_quiet a held out.TooLong failed = tt
+after_read_quiet a held out.Failed failed = (tt, λ c. tt)
+after_read_quiet a held out.Memory failed = (tt, λ c. tt)
 
 pub reading_quiet : (name : List ℕ) (a : Attr) (held : ℕ) → NoWrites (reading name a held)
 unfolding reading
-reading_quiet name a held = (tt, λ t. after_read_quiet a held t.answer t.number t.count)
+reading_quiet name a held = (tt, λ t. after_read_quiet a held t.answer (failure_of t))
 
 after_connect_quiet : (d p s : File) (c : Result File Stop) → NoWrites (after_connect d p s c)
 after_connect_quiet d p s (Ok c) = tt
@@ -68,13 +70,13 @@ pub parent_quiet : (name : List ℕ) (held : ℕ) → NoWrites (reading_parent n
 unfolding reading_parent
 parent_quiet name held = no_writes_then (reading name attr.Descriptors held) (after_parent_descriptors name held) (reading_quiet name attr.Descriptors held) (after_parent_descriptors_quiet name held)
 
-after_probe_quiet : (held : ℕ) (attrs : Attrs) (parent : Option Attrs) (answer : Probe) (number count : ℕ) → NoWrites (after_probe held attrs parent answer number count)
-after_probe_quiet held attrs parent (probe.Alive on) number count = tt
-after_probe_quiet held attrs parent probe.Gone number count = (tt, λ c. tt)
-after_probe_quiet held attrs parent probe.Failed number count = (tt, λ c. tt)
+after_probe_quiet : (held : ℕ) (attrs : Attrs) (parent : Option Attrs) (answer : Probe) (failed : FailedCall) → NoWrites (after_probe held attrs parent answer failed)
+after_probe_quiet held attrs parent (probe.Alive on) failed = tt
+after_probe_quiet held attrs parent probe.Gone failed = (tt, λ c. tt)
+after_probe_quiet held attrs parent probe.Failed failed = (tt, λ c. tt)
 
 pub probing_quiet : (held : ℕ) (attrs : Attrs) (parent : Option Attrs) → NoWrites (probing held attrs parent)
-probing_quiet held attrs parent = (tt, λ t. after_probe_quiet held attrs parent t.answer t.number t.count)
+probing_quiet held attrs parent = (tt, λ t. after_probe_quiet held attrs parent t.answer (failure_of t))
 
 after_parent_quiet : (held : ℕ) (attrs : Attrs) (parent : Result Attrs Stop) → NoWrites (after_parent held attrs parent)
 after_parent_quiet held attrs (Ok parent) = probing_quiet held attrs (Some parent)
@@ -88,12 +90,12 @@ after_own_quiet : (held : ℕ) (parent : Option (List ℕ)) (attrs : Result Attr
 after_own_quiet held parent (Ok attrs) = to_parent_quiet held attrs parent
 after_own_quiet held parent (Err why) = tt
 
-after_open_quiet : (name : List ℕ) (parent : Option (List ℕ)) (answer : Opened) (number count : ℕ) → NoWrites (after_open name parent answer number count)
-after_open_quiet name parent (opened.Token held) number count = no_writes_then (reading_own name held.0) (after_own held.0 parent) (own_quiet name held.0) (after_own_quiet held.0 parent)
-after_open_quiet name parent opened.Absent number count = tt
-after_open_quiet name parent opened.Failed number count = tt
-after_open_quiet name parent opened.Memory number count = tt
+after_open_quiet : (name : List ℕ) (parent : Option (List ℕ)) (answer : Opened) (failed : FailedCall) → NoWrites (after_open name parent answer failed)
+after_open_quiet name parent (opened.Token held) failed = no_writes_then (reading_own name held.0) (after_own held.0 parent) (own_quiet name held.0) (after_own_quiet held.0 parent)
+after_open_quiet name parent opened.Absent failed = tt
+after_open_quiet name parent opened.Failed failed = tt
+after_open_quiet name parent opened.Memory failed = tt
 
 pub binding_quiet : (name : List ℕ) (parent : Option (List ℕ)) → NoWrites (binding name parent)
 unfolding binding
-binding_quiet name parent = (tt, λ t. after_open_quiet name parent t.answer t.number t.count)
+binding_quiet name parent = (tt, λ t. after_open_quiet name parent t.answer (failure_of t))
