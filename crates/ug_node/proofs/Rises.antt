@@ -1,5 +1,5 @@
 -- The numbers of a failed answer: those of the last call that is counted, which failed.
-use Rattle.std.proofs.Common.{◌≡◌, ℕ, ◌≤◌, Bool, true, List, [], ◌∷◌, ◌++◌, Option, Some, None, refl, sym, ◌∙◌, ap, subst, arith}
+use Rattle.std.proofs.Common.{◌≡◌, ℕ, ◌≤◌, Bool, true, List, [], ◌∷◌, ◌++◌, Option, refl, sym, ◌∙◌, ap, subst, arith}
 use Rattle.ug_types.specs.Names.{parent_of}
 use Rattle.ug_types.specs.declared.control.Attr.{Attr}
 use Rattle.ug_types.specs.declared.control.Control.TheVariants.{Authorized, Remove}
@@ -59,7 +59,7 @@ binds_tell v w (Open_short call count) a = tt
 binds_tell {name} v w (Cut file call count ms of at t shut why r n few may stops e) a = subst (λ (x : Binding). TellsFault v.faults w.calls w.faults x) (sym e) (stop_tells (answered (Open name Authorized) (told (opened.Token file) call count) ∷ ms) of file.0 shut v w stops a)
 binds_tell v w (Probed_gone file call count number total ms shut n few) a = tt
 binds_tell {name} v w (Probe_failed file call count number total ms shut n few) a = ends_closed (answered (Open name Authorized) (told (opened.Token file) call count) ∷ ms) (answered (Ask_alive file.0) (told probe.Failed number total)) file.0 shut (record { call = number; count = total }) v w (λ x y c. fault_so failed_probe (told probe.Failed number total) x y refl c) a
-binds_tell v w (Bound_by call count number total ms b n few) a = tt
+binds_tell v w (Bound_by call count number total ms b n few are) a = tt
 
 holds_tell : {name : List ℕ} {held : ℕ} {ms : List Made} {r : RemoveHold} (v w : Tally) → Holds_by name held ms r → Along counts v ms w → TellsRemoveFault v.faults w.calls w.faults r
 holds_tell v w (Not_there call count) a = tt
