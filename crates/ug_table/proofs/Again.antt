@@ -53,8 +53,8 @@ resettling_own name i w k l p sound f first live r = elim (resettling_ended name
 -- each standing was there before
 
 flat_was : {binds : Bool} {given : List Standing → Bound → Standing → Type 0} {name : List ℕ} {ss : List Standing} {ok : Bool} {ms : List Made} {rest : List Entry} {how : Settled} {rs : List Standing} {o : Option (List Standing × Bound)} → binds ≡ false → Flat binds given name ss ok ms rest how rs o → (s : Standing) → Has rs s → Was ss s
-flat_was {name = name} {ss = ss} f (Unprobed known call count at) s a = tried_was ss name (settled.Fault call count) s a
-flat_was {name = name} {ss = ss} f (Tried known on call count ms es how at b) s a = tried_was ss name how s a
+flat_was {name = name} {ss = ss} f (Unprobed known failed at) s a = tried_was ss name (settled.Fault failed) s a
+flat_was {name = name} {ss = ss} f (Tried known on failed ms es how at b) s a = tried_was ss name how s a
 flat_was f (Stopped ms es rs g opening) s a = (s, (opens opening).less s a, refl, refl)
 flat_was f (Unbound ms ns es fs rs r how t opening way end) s a = let none : ⊥ = cc in absurd none
 flat_was f (No_place ms ns es rs b shut t opening way) s a = let none : ⊥ = cc in absurd none

@@ -34,9 +34,9 @@ whys_more (e ∷ es) fs = ap (λ (v : List Fault). why_in e ++ v) (whys_more es 
 -- the entries tell how it ended; want of memory is answered only where the device is to be removed
 
 written_whys : {name : List ℕ} {number : ℕ} {what : Write} {t : Told Wrote} {es : List Entry} {how : Settled} → Written name number what t es how → (whys es ≡ why_of how) × (how ≡ settled.Memory → ⊥)
-written_whys (Done call count) = (refl, λ e. let none : ⊥ = cc in none)
-written_whys (Went call count) = (refl, λ e. let none : ⊥ = cc in none)
-written_whys (Broke call count) = (refl, λ e. let none : ⊥ = cc in none)
+written_whys (Done failed) = (refl, λ e. let none : ⊥ = cc in none)
+written_whys (Went failed) = (refl, λ e. let none : ⊥ = cc in none)
+written_whys (Broke failed) = (refl, λ e. let none : ⊥ = cc in none)
 
 valued_whys : {name : List ℕ} {known : Known} {on : Bool} {ms : List Made} {es : List Entry} {how : Settled} → Valued name known on ms es how → (whys es ≡ why_of how) × (how ≡ settled.Memory → ⊥)
 valued_whys (Same e) = (refl, λ f. let none : ⊥ = cc in none)
@@ -44,7 +44,7 @@ valued_whys (Set t es how e w) = written_whys w
 
 removal_whys : {name : List ℕ} {known : Known} {ms : List Made} {es : List Entry} {how : Settled} → Removal name known ms es how → whys es ≡ why_of how
 removal_whys (Not_held ms answer es how way Gone_by) = refl
-removal_whys (Not_held ms answer es how way (Failed_by call count)) = refl
+removal_whys (Not_held ms answer es how way (Failed_by failed)) = refl
 removal_whys (Not_held ms answer es how way Short_by) = refl
 removal_whys (Put_on ms file t shut es how way w) = (written_whys w).0
 
@@ -70,36 +70,36 @@ pub record Answered (name : List ℕ) (es : List Entry) (how : Settled) (rs : Li
 kept_stands : (ss : List Standing) (x : Standing) (how : Settled) → how ≡ settled.Stands → Has (names_of (kept_standings ss x how)) x.name
 kept_stands ss x settled.Stands e = has_map (λ (v : Standing). v.name) (with_standing (settled_standing x) ss) (settled_standing x) (has_new ss (place_for x.name ss) (settled_standing x))
 kept_stands ss x settled.Nobody e = let none : ⊥ = cc in absurd none
-kept_stands ss x (settled.Fault call count) e = let none : ⊥ = cc in absurd none
+kept_stands ss x (settled.Fault failed) e = let none : ⊥ = cc in absurd none
 kept_stands ss x settled.Memory e = let none : ⊥ = cc in absurd none
 
 kept_nobody : (ss : List Standing) (x : Standing) (how : Settled) (name : List ℕ) → (Has (names_of ss) name → ⊥) → how ≡ settled.Nobody → Has (names_of (kept_standings ss x how)) name → ⊥
 kept_nobody ss x settled.Nobody name absent e = absent
 kept_nobody ss x settled.Stands name absent e = let none : ⊥ = cc in absurd none
-kept_nobody ss x (settled.Fault call count) name absent e = let none : ⊥ = cc in absurd none
+kept_nobody ss x (settled.Fault failed) name absent e = let none : ⊥ = cc in absurd none
 kept_nobody ss x settled.Memory name absent e = let none : ⊥ = cc in absurd none
 
 -- one that is tried again
 tried_stands : (ss : List Standing) (name : List ℕ) (how : Settled) → Has (names_of ss) name → how ≡ settled.Stands → Has (names_of (tried_standings ss name how)) name
 tried_stands ss name settled.Stands a e = subst (λ (v : List (List ℕ)). Has v name) (sym (names_marked name true ss)) a
 tried_stands ss name settled.Nobody a e = let none : ⊥ = cc in absurd none
-tried_stands ss name (settled.Fault call count) a e = let none : ⊥ = cc in absurd none
+tried_stands ss name (settled.Fault failed) a e = let none : ⊥ = cc in absurd none
 tried_stands ss name settled.Memory a e = let none : ⊥ = cc in absurd none
 
 tried_nobody : (ss : List Standing) (name : List ℕ) (how : Settled) → how ≡ settled.Nobody → Has (names_of (tried_standings ss name how)) name → ⊥
 tried_nobody ss name settled.Nobody e = missing_without name ss
 tried_nobody ss name settled.Stands e = let none : ⊥ = cc in absurd none
-tried_nobody ss name (settled.Fault call count) e = let none : ⊥ = cc in absurd none
+tried_nobody ss name (settled.Fault failed) e = let none : ⊥ = cc in absurd none
 tried_nobody ss name settled.Memory e = let none : ⊥ = cc in absurd none
 
 opening_whys : {name : List ℕ} {ss : List Standing} {ms : List Made} {es : List Entry} {rs : List Standing} → Opening name ss ms es rs → whys es ≡ []
 opening_whys (Fresh e) = refl
-opening_whys (Lost known call count shut e) = refl
+opening_whys (Lost known failed shut e) = refl
 
 unbound_whys : {name : List ℕ} {r : Binding} {es : List Entry} {how : Settled} → Unbound_end name r es how → (whys es ≡ why_of how) × (how ≡ settled.Stands → ⊥)
 unbound_whys Absent_so = (refl, λ e. let none : ⊥ = cc in none)
 unbound_whys Vanished_so = (refl, λ e. let none : ⊥ = cc in none)
-unbound_whys (Failed_so call count) = (refl, λ e. let none : ⊥ = cc in none)
+unbound_whys (Failed_so failed) = (refl, λ e. let none : ⊥ = cc in none)
 unbound_whys Short_so = (refl, λ e. let none : ⊥ = cc in none)
 
 -- behind an opening
@@ -112,8 +112,8 @@ known_has name ss known e =
     subst (λ (v : List ℕ). Has (names_of ss) v) s.named (has_map (λ (v : Standing). v.name) ss s.s s.has)
 
 flat_answered : {binds : Bool} {given : List Standing → Bound → Standing → Type 0} {name : List ℕ} {ss : List Standing} {ok : Bool} {ms : List Made} {rest : List Entry} {how : Settled} {rs : List Standing} {o : Option (List Standing × Bound)} (es fs : List Entry) → fs ≡ es ++ rest → Flat binds given name ss ok ms rest how rs o → Answered name es how rs fs
-flat_answered {name = name} {ss = ss} xs ys e (Unprobed known call count at) = record { rest = _; entries = e; why = refl; stands = λ f. let none : ⊥ = cc in absurd none; nobody = tried_nobody ss name (settled.Fault call count) }
-flat_answered {name = name} {ss = ss} xs ys e (Tried known on call count ms es how at b) = record { rest = es; entries = e; why = (brought_whys b).0; stands = tried_stands ss name how (known_has name ss known at); nobody = tried_nobody ss name how }
+flat_answered {name = name} {ss = ss} xs ys e (Unprobed known failed at) = record { rest = _; entries = e; why = refl; stands = λ f. let none : ⊥ = cc in absurd none; nobody = tried_nobody ss name (settled.Fault failed) }
+flat_answered {name = name} {ss = ss} xs ys e (Tried known on failed ms es how at b) = record { rest = es; entries = e; why = (brought_whys b).0; stands = tried_stands ss name how (known_has name ss known at); nobody = tried_nobody ss name how }
 flat_answered xs ys e (Stopped ms es rs f opening) = record { rest = es; entries = e; why = opening_whys opening; stands = λ g. let none : ⊥ = cc in absurd none; nobody = λ g. (opens opening).absent }
 flat_answered xs ys e (Unbound ms ns es fs rs r how t opening way end) = record { rest = es ++ fs; entries = e; why = after_opening fs opening ∙ (unbound_whys end).0; stands = λ g. absurd ((unbound_whys end).1 g); nobody = λ g. (opens opening).absent }
 flat_answered xs ys e (No_place ms ns es rs b shut t opening way) = record { rest = _; entries = e; why = after_opening _ opening; stands = λ g. let none : ⊥ = cc in absurd none; nobody = λ g. (opens opening).absent }
@@ -136,8 +136,8 @@ pub record AnsweredAgain (name : List ℕ) (w : Kept) (p : Settled × Kept) : Ty
   pub room : p.0 ≡ settled.Memory → (known : Known) × (standing_of name w.standings ≡ Some known) × (is_to_go known ≡ true)
 
 flat_room : {given : List Standing → Bound → Standing → Type 0} {binds : Bool} {name : List ℕ} {ss : List Standing} {ok : Bool} {ms : List Made} {rest : List Entry} {how : Settled} {rs : List Standing} {o : Option (List Standing × Bound)} → Flat binds given name ss ok ms rest how rs o → binds ≡ false → how ≡ settled.Memory → (known : Known) × (standing_of name ss ≡ Some known) × (is_to_go known ≡ true)
-flat_room (Unprobed known call count at) f e = let none : ⊥ = cc in absurd none
-flat_room (Tried known on call count ms es how at b) f e = (known, at, (brought_whys b).1 e)
+flat_room (Unprobed known failed at) f e = let none : ⊥ = cc in absurd none
+flat_room (Tried known on failed ms es how at b) f e = (known, at, (brought_whys b).1 e)
 flat_room (Stopped ms es rs f opening) g e = let none : ⊥ = cc in absurd none
 flat_room (Unbound ms ns es fs rs r how t opening way end) f e = let none : ⊥ = cc in absurd none
 flat_room (No_place ms ns es rs b shut t opening way) f e = let none : ⊥ = cc in absurd none

@@ -48,8 +48,8 @@ use Rattle.ug_table.proofs.Written.{brought_fair}
 use Rattle.ug_table.proofs.Orders.{order_with}
 use Rattle.ug_kernel.specs.Along.{Made, answered, Along}
 use Rattle.ug_kernel.proofs.Ways.{Way, way_runs, ways_run, along_split}
-use Rattle.ug_node.proofs.BindShapes.{told}
-use Rattle.ug_table.proofs.Shapes.{Brought, Opening, Fresh, Lost, Unbound_end, Absent_so, Vanished_so, Failed_so, Short_so, Flat, Unprobed, Tried, Stopped, Unbound, No_place, Judged_so, IsGiven, next_after, judge_after, Settles, settles, Resettles, resettles}
+use Rattle.ug_kernel.specs.declared.calls.FailedCall.{FailedCall}
+use Rattle.ug_table.proofs.Shapes.{Brought, Opening, Fresh, Lost, Unbound_end, Absent_so, Vanished_so, Failed_so, Short_so, Flat, Unprobed, Tried, Stopped, Unbound, No_place, Judged_so, IsGiven, next_after, judge_after, Settles, settles, Resettles, resettles, told_at}
 use Rattle.ug_table.proofs.RemoveMarks.{Keeps, keeps_itself, keep_one, Marks}
 use Rattle.ug_table.proofs.SoFar.{AreIn, dropped_in}
 use Rattle.ug_table.proofs.Account.{account_stays}
@@ -229,7 +229,7 @@ kept_after k ss next s settled.Stands number absent stand =
       ];
     } in
     (same, marks)
-kept_after k ss next s (settled.Fault call count) number absent stand = (new_same ss next s number absent stand.names stand.order stand.distinct stand.numbers, keeps_itself (with_standing s ss))
+kept_after k ss next s (settled.Fault failed) number absent stand = (new_same ss next s number absent stand.names stand.order stand.distinct stand.numbers, keeps_itself (with_standing s ss))
 kept_after k ss next s settled.Memory number absent stand = (new_same ss next s number absent stand.names stand.order stand.distinct stand.numbers, keeps_itself (with_standing s ss))
 
 bound_device : (name : List ℕ) (k l : Kernel) (b : Bound) (x : IsBound name k l b) → IsDevice l x.i name b.held (judged_of name b.attrs b.parent)
@@ -269,11 +269,11 @@ then_dropped {J} {answer} {later} {present} {tried} {k} {m} {w} {u} name known a
     subst (λ (v : Entry). FairFrom answer later present tried k w m (record u { standings = without name u.standings; entries = u.entries ++ v ∷ [] })) e went
 
 -- and one whose probe failed is marked
-then_failed : {J : Type 0} {answer : Answers J} {later : Laters J} {present : Bool} {tried : Tries} {k m : Kernel} {w u : State J} (name : List ℕ) (known : Known) (call count : ℕ) → standing_of name u.standings ≡ Some known → FairFrom answer later present tried k w m u → FairFrom answer later present tried k w m (record u { standings = tried_standings u.standings name (settled.Fault call count); entries = u.entries ++ entry.Unsettled name (fault.Call call count) ∷ [] })
-then_failed {m = m} {u = u} name known call count at h =
+then_failed : {J : Type 0} {answer : Answers J} {later : Laters J} {present : Bool} {tried : Tries} {k m : Kernel} {w u : State J} (name : List ℕ) (known : Known) (failed : FailedCall) → standing_of name u.standings ≡ Some known → FairFrom answer later present tried k w m u → FairFrom answer later present tried k w m (record u { standings = tried_standings u.standings name (settled.Fault failed); entries = u.entries ++ entry.Unsettled name (fault.Call failed) ∷ [] })
+then_failed {m = m} {u = u} name known failed at h =
     let f = found name u.standings known at in
-    let after = tried_after m u.standings u.next name f.s (settled.Fault call count) f.has f.named h.fair.stand in
-    then_same (tried_standings u.standings name (settled.Fault call count)) after.0 after.1 (then_note (entry.Unsettled name (fault.Call call count)) tt h)
+    let after = tried_after m u.standings u.next name f.s (settled.Fault failed) f.has f.named h.fair.stand in
+    then_same (tried_standings u.standings name (settled.Fault failed)) after.0 after.1 (then_note (entry.Unsettled name (fault.Call failed)) tt h)
 
 -- before a binding, the name has no standing left
 record OpensFair {J : Type 0} (answer : Answers J) (later : Laters J) (present : Bool) (tried : Tries) (k : Kernel) (w : State J) (l : Kernel) (v : State J) (name : List ℕ) (binds : Bool) : Type 0 where
@@ -284,8 +284,8 @@ record OpensFair {J : Type 0} (answer : Answers J) (later : Laters J) (present :
 opening_fair : {J : Type 0} {answer : Answers J} {later : Laters J} {present : Bool} {tried : Tries} {binds : Bool} {k m : Kernel} {w u : State J} {name : List ℕ} {ms : List Made} {es : List Entry} {rs : List Standing} (l : Kernel) → Opening name u.standings ms es rs → (binds ≡ true → AreIn tried name w u) → FairFrom answer later present tried k w m u → Along calls m ms l → OpensFair answer later present tried k w l (record u { standings = rs; entries = u.entries ++ es }) name binds
 opening_fair {J} {answer} {later} {present} {tried} {binds} {k} {m} {w} {u} {name} l (Fresh e) so h a =
     subst (λ (v : List Entry). OpensFair answer later present tried k w l (record u { entries = v }) name binds) (sym (append-nil u.entries)) (record { fair = fair_end l u refl a h; absent = missing name u.standings e; so = so })
-opening_fair {tried = tried} {w = w} {u = u} {name = name} l (Lost known call count shut e) so h a = record {
-  fair = fair_end l _ refl a.2.2 (then_called (Close known.held.0) shut a.2.0 tt a.2.1 (then_dropped name known e a.1.says (then_called (Ask_alive known.held.0) (told probe.Gone call count) a.0 tt a.1 h)));
+opening_fair {tried = tried} {w = w} {u = u} {name = name} l (Lost known failed shut e) so h a = record {
+  fair = fair_end l _ refl a.2.2 (then_called (Close known.held.0) shut a.2.0 tt a.2.1 (then_dropped name known e a.1.says (then_called (Ask_alive known.held.0) (told_at probe.Gone failed) a.0 tt a.1 h)));
   absent = missing_without name u.standings;
   so = λ b. dropped_in tried w u name known.number h.fair.rest h.fair.entries (so b);
 }
@@ -306,7 +306,7 @@ unbound_fair {J} {answer} {later} {present} {tried} {k} {l} {w} {name} {r} {fs} 
     by : {r : Binding} {fs : List Entry} {how : Settled} → Unbound_end name r fs how → FairFrom answer later present tried k w l v → FairFrom answer later present tried k w l (record v { entries = v.entries ++ fs })
     by Absent_so h = same h
     by Vanished_so h = same h
-    by (Failed_so call count) h = then_note (entry.Unsettled name (fault.Call call count)) tt h
+    by (Failed_so failed) h = then_note (entry.Unsettled name (fault.Call failed)) tt h
     by Short_so h = then_note (entry.Unsettled name fault.Memory) tt h
 
 -- a binding leads to what it says
@@ -316,8 +316,8 @@ binds_fair {n = n} m name ns r way h a =
     (law.sound, law.quiet, law.says, then_quiet m law.sound law.quiet h)
 
 pub flat_fair : {J : Type 0} {answer : Answers J} {later : Laters J} {present : Bool} {tried : Tries} {binds : Bool} {given : List Standing → Bound → Standing → Type 0} {k m : Kernel} {w u : State J} {name : List ℕ} {ok : Bool} {ms : List Made} {rest : List Entry} {how : Settled} {rs : List Standing} {o : Option (List Standing × Bound)} (l : Kernel) → Flat binds given name u.standings ok ms rest how rs o → ((ss : List Standing) (b : Bound) (x : Standing) → given ss b x → IsGiven answer present name u ss b x) → (binds ≡ true → AreIn tried name w u) → FairFrom answer later present tried k w m u → Along calls m ms l → FairFrom answer later present tried k w l (ended_as later present name u o rs rest)
-flat_fair {name = name} l (Unprobed known call count at) is so h a = fair_end l _ refl a.2 (then_failed name known call count at (then_called (Ask_alive known.held.0) (told probe.Failed call count) a.0 tt a.1 h))
-flat_fair {name = name} l (Tried known on call count ms es how at b) is so h a = known_brought l name known on at (then_called (Ask_alive known.held.0) (told (probe.Alive on) call count) a.0 tt a.1 h) b a.2
+flat_fair {name = name} l (Unprobed known failed at) is so h a = fair_end l _ refl a.2 (then_failed name known failed at (then_called (Ask_alive known.held.0) (told_at probe.Failed failed) a.0 tt a.1 h))
+flat_fair {name = name} l (Tried known on failed ms es how at b) is so h a = known_brought l name known on at (then_called (Ask_alive known.held.0) (told_at (probe.Alive on) failed) a.0 tt a.1 h) b a.2
 flat_fair l (Stopped ms es rs f opening) is so h a = (opening_fair l opening so h a).fair
 flat_fair {m = m} {u = u} {name = name} l (Unbound ms ns es fs rs r how t opening way end) is so h a =
     let cut = along_split calls ms ns m l a in

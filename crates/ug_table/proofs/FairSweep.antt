@@ -24,6 +24,8 @@ use Rattle.ug_audit.specs.declared.entry.Fault.{Fault}
 use Rattle.ug_audit.specs.declared.entry.Fault.TheVariants as fault
 use Rattle.ug_types.specs.declared.control.Write.TheVariants as write
 use Rattle.ug_kernel.specs.declared.calls.Wrote.TheVariants as wrote
+use Rattle.ug_kernel.specs.declared.calls.FailedCall.{FailedCall}
+use Rattle.ug_kernel.specs.Along.{failure_of}
 use Rattle.ug_table.specs.State.{State, Kept, kept_of, with_kept, Answers, Laters}
 use Rattle.ug_table.specs.Standings.{lists, farewells}
 use Rattle.ug_table.specs.Settle.{settling, resettling}
@@ -188,13 +190,13 @@ if_room_fair {answer = answer} {later = later} {m = m} {w = w} l names true v di
     then_settling_all names cut.1 l (marked_listed (parted names w)) v distinct order (parted_split names w) (parted_fresh names w) (then_quiet cut.1 q.0 q.1 (then_listed (then_parted names gone h))) cut.3
 if_room_fair l names false v distinct order gone h r = then_unlisted l fault.Memory v h r
 
-after_list_fair : {J : Type 0} (answer : Answers J) (later : Laters J) (w : State J) (k m l : Kernel) (a : Listing) (number count : ℕ) (v : State J) → Grows k m → says_listing a k m → FairFrom answer later (not w.listed) swept_before k w m w → Runs calls m (after_list answer later w a number count) v l → FairFrom answer later (not w.listed) swept_before k w l v
-after_list_fair answer later w k m l (listing.Names names) number count v g says h r = if_room_fair l (in_sweep_order names) r.0 v (order_distinct names says.1) (sweep_in_order names says.1) (listing_gone k m names w.standings w.next g says h.stood) h r.1
-after_list_fair answer later w k m l listing.Failed number count v g says h r = then_unlisted l (fault.Call number count) v h r
-after_list_fair answer later w k m l listing.Memory number count v g says h r = then_unlisted l fault.Memory v h r
+after_list_fair : {J : Type 0} (answer : Answers J) (later : Laters J) (w : State J) (k m l : Kernel) (a : Listing) (failed : FailedCall) (v : State J) → Grows k m → says_listing a k m → FairFrom answer later (not w.listed) swept_before k w m w → Runs calls m (after_list answer later w a failed) v l → FairFrom answer later (not w.listed) swept_before k w l v
+after_list_fair answer later w k m l (listing.Names names) failed v g says h r = if_room_fair l (in_sweep_order names) r.0 v (order_distinct names says.1) (sweep_in_order names says.1) (listing_gone k m names w.standings w.next g says h.stood) h r.1
+after_list_fair answer later w k m l listing.Failed failed v g says h r = then_unlisted l (fault.Call failed) v h r
+after_list_fair answer later w k m l listing.Memory failed v g says h r = then_unlisted l fault.Memory v h r
 
 pub sweeping_fair : {J : Type 0} (answer : Answers J) (later : Laters J) (w : State J) (k l : Kernel) (v : State J) → IsKernel k → Stand k w.standings w.next → Runs calls k (sweeping answer later w) v l → IsFair answer later (not w.listed) swept_before k w l v
 unfolding sweeping
 sweeping_fair answer later w k l v sound stand r =
-    let h = after_list_fair answer later w k r.1 l r.0.answer r.0.number r.0.count v (called_grows Names r.0 k r.1 r.2) r.2.says (then_called Names r.0 r.1 tt r.2 (fair_refl answer later (not w.listed) swept_before k w sound stand)) r.3 in
+    let h = after_list_fair answer later w k r.1 l r.0.answer (failure_of r.0) v (called_grows Names r.0 k r.1 r.2) r.2.says (then_called Names r.0 r.1 tt r.2 (fair_refl answer later (not w.listed) swept_before k w sound stand)) r.3 in
     h.fair

@@ -14,6 +14,8 @@ use Rattle.ug_kernel.proofs.Grow.{quiet_grows, some_same, called_grows}
 use Rattle.ug_kernel.specs.Tree.{Runs, calls}
 use Rattle.ug_kernel.proofs.Runs.{runs_split}
 use Rattle.ug_kernel.proofs.Kernels.{runs_sound, runs_grow}
+use Rattle.ug_kernel.specs.declared.calls.FailedCall.{FailedCall}
+use Rattle.ug_kernel.specs.Along.{failure_of}
 use Rattle.ug_audit.specs.declared.entry.Entry.{Entry}
 use Rattle.ug_audit.specs.declared.entry.Entry.TheVariants as entry
 use Rattle.ug_audit.specs.declared.entry.Fault.{Fault}
@@ -35,6 +37,7 @@ use Rattle.ug_table.proofs.Places.{Files, files_later}
 use Rattle.ug_table.proofs.Apart.{Appends, appends_refl, appends_trans, Apart, settling_apart, resettling_apart}
 use Rattle.ug_table.proofs.Own.{StandsSo, Good, good_before, as_judged, settling_own}
 use Rattle.ug_table.proofs.Again.{Well, well_before, none_stands, stood, resettling_own, resettling_was}
+use Rattle.ug_table.proofs.Shapes.{told_at}
 
 -- another name leaves it so
 
@@ -151,19 +154,19 @@ if_room_ended answer later names w true k l v rest i name has sound f e first li
     (settling_all_good answer later names (not w.listed) name i w.entries x u l v q.0 (parted_files u names w (files_later k u w.standings g f)) mid live (farewells names w.standings, refl) (inl has) cut.3)
 if_room_ended answer later names w false k l v rest i name has sound f e first live r = unlisted_ended fault.Memory w k l v rest i name sound f e first live r
 
-after_list_ended : {J : Type 0} (answer : Answers J) (later : Laters J) (w : State J) (list : Listing) (call count : ℕ) (k m l : Kernel) (v : State J) (rest : List Entry) (i : ℕ) (name : List ℕ) → Files m w.standings → v.entries ≡ w.entries ++ rest → LiveAs k i name → LiveAs m i name → LiveAs l i name → Called Names (record { answer = list; number = call; count = count }) k m → Runs calls m (after_list answer later w list call count) v l → Ended l v.standings rest i name
-after_list_ended answer later w (listing.Names names) call count k m l v rest i name f e first mid live c r =
+after_list_ended : {J : Type 0} (answer : Answers J) (later : Laters J) (w : State J) (list : Listing) (failed : FailedCall) (k m l : Kernel) (v : State J) (rest : List Entry) (i : ℕ) (name : List ℕ) → Files m w.standings → v.entries ≡ w.entries ++ rest → LiveAs k i name → LiveAs m i name → LiveAs l i name → Called Names (told_at list failed) k m → Runs calls m (after_list answer later w list failed) v l → Ended l v.standings rest i name
+after_list_ended answer later w (listing.Names names) failed k m l v rest i name f e first mid live c r =
     let has : Has names name = subst (λ n. Has names n) first.named (c.says.0 i first.d (lived k m i name first mid)) in
     if_room_ended answer later (in_sweep_order names) w r.0 m l v rest i name (to_sweep_order names name has) c.sound f e mid live r.1
-after_list_ended answer later w listing.Failed call count k m l v rest i name f e first mid live c r = unlisted_ended (fault.Call call count) w m l v rest i name c.sound f e mid live r
-after_list_ended answer later w listing.Memory call count k m l v rest i name f e first mid live c r = unlisted_ended fault.Memory w m l v rest i name c.sound f e mid live r
+after_list_ended answer later w listing.Failed failed k m l v rest i name f e first mid live c r = unlisted_ended (fault.Call failed) w m l v rest i name c.sound f e mid live r
+after_list_ended answer later w listing.Memory failed k m l v rest i name f e first mid live c r = unlisted_ended fault.Memory w m l v rest i name c.sound f e mid live r
 
 sweeping_ended : {J : Type 0} (answer : Answers J) (later : Laters J) (w : State J) (k l : Kernel) (v : State J) (rest : List Entry) (i : ℕ) (name : List ℕ) → Files k w.standings → v.entries ≡ w.entries ++ rest → LiveAs k i name → LiveAs l i name → Runs calls k (sweeping answer later w) v l → Ended l v.standings rest i name
 unfolding sweeping
 sweeping_ended answer later w k l v rest i name f e first live r =
     let g = called_grows Names r.0 k r.1 r.2 in
-    let mid = lives_between k r.1 l i name g (runs_grow (after_list answer later w r.0.answer r.0.number r.0.count) r.1 v l r.3) first live in
-    after_list_ended answer later w r.0.answer r.0.number r.0.count k r.1 l v rest i name (files_later k r.1 w.standings g f) e first mid live r.2 r.3
+    let mid = lives_between k r.1 l i name g (runs_grow (after_list answer later w r.0.answer (failure_of r.0)) r.1 v l r.3) first live in
+    after_list_ended answer later w r.0.answer (failure_of r.0) k r.1 l v rest i name (files_later k r.1 w.standings g f) e first mid live r.2 r.3
 
 pub lives_first : (k l : Kernel) (i : ℕ) (d : Device) → Lived k.devices l.devices i d → LiveAs k i d.name
 lives_first k l i d lives = record { d = d; live = lives.entry; named = refl }

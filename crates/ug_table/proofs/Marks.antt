@@ -11,6 +11,8 @@ use Rattle.ug_kernel.specs.Kernel.{Kernel}
 use Rattle.ug_kernel.specs.Called.{says_listing}
 use Rattle.ug_kernel.specs.Tree.{Runs, calls}
 use Rattle.ug_kernel.proofs.Runs.{runs_split}
+use Rattle.ug_kernel.specs.declared.calls.FailedCall.{FailedCall}
+use Rattle.ug_kernel.specs.Along.{failure_of}
 use Rattle.ug_audit.specs.declared.entry.Entry.{Entry}
 use Rattle.ug_audit.specs.declared.entry.Entry.TheVariants as entry
 use Rattle.ug_audit.specs.declared.entry.Fault.{Fault}
@@ -199,12 +201,12 @@ if_room_ends answer later names w true k l v rest distinct known r e =
     listed_ends answer later names w cut.1 l v rest distinct cut.3 e
 if_room_ends answer later names w false k l v rest distinct known r e = unlisted_ends fault.Memory w k l v rest known r e
 
-after_list_ends : {J : Type 0} (answer : Answers J) (later : Laters J) (w : State J) (a : Listing) (call count : ℕ) (k m l : Kernel) (v : State J) (rest : List Entry) → says_listing a k m → AllDistinct (names_of w.standings) → Runs calls m (after_list answer later w a call count) v l → v.entries ≡ w.entries ++ rest → Ends w v rest
-after_list_ends answer later w (listing.Names names) call count k m l v rest says known r e = if_room_ends answer later (in_sweep_order names) w r.0 m l v rest (order_distinct names says.1) known r.1 e
-after_list_ends answer later w listing.Failed call count k m l v rest says known r e = unlisted_ends (fault.Call call count) w m l v rest known r e
-after_list_ends answer later w listing.Memory call count k m l v rest says known r e = unlisted_ends fault.Memory w m l v rest known r e
+after_list_ends : {J : Type 0} (answer : Answers J) (later : Laters J) (w : State J) (a : Listing) (failed : FailedCall) (k m l : Kernel) (v : State J) (rest : List Entry) → says_listing a k m → AllDistinct (names_of w.standings) → Runs calls m (after_list answer later w a failed) v l → v.entries ≡ w.entries ++ rest → Ends w v rest
+after_list_ends answer later w (listing.Names names) failed k m l v rest says known r e = if_room_ends answer later (in_sweep_order names) w r.0 m l v rest (order_distinct names says.1) known r.1 e
+after_list_ends answer later w listing.Failed failed k m l v rest says known r e = unlisted_ends (fault.Call failed) w m l v rest known r e
+after_list_ends answer later w listing.Memory failed k m l v rest says known r e = unlisted_ends fault.Memory w m l v rest known r e
 
 -- whatever the entries that were added
 pub sweeping_marks : {J : Type 0} (answer : Answers J) (later : Laters J) (w : State J) (k l : Kernel) (v : State J) (rest : List Entry) → AllDistinct (names_of w.standings) → Runs calls k (sweeping answer later w) v l → v.entries ≡ w.entries ++ rest → Ends w v rest
 unfolding sweeping
-sweeping_marks answer later w k l v rest known r e = after_list_ends answer later w r.0.answer r.0.number r.0.count k r.1 l v rest r.2.says known r.3 e
+sweeping_marks answer later w k l v rest known r e = after_list_ends answer later w r.0.answer (failure_of r.0) k r.1 l v rest r.2.says known r.3 e

@@ -10,8 +10,9 @@ use Rattle.ug_kernel.specs.Calls.{Call, Answer}
 use Rattle.ug_kernel.specs.Kernel.{Kernel}
 use Rattle.ug_kernel.specs.Called.{says_listing, Follows}
 use Rattle.ug_kernel.specs.Tree.{Runs, calls}
-use Rattle.ug_kernel.specs.Along.{Made}
+use Rattle.ug_kernel.specs.Along.{Made, failure_of}
 use Rattle.ug_kernel.proofs.Told.{told_run}
+use Rattle.ug_kernel.specs.declared.calls.FailedCall.{FailedCall}
 use Rattle.ug_audit.specs.declared.entry.Entry.{Entry}
 use Rattle.ug_audit.specs.declared.entry.Entry.TheVariants as entry
 use Rattle.ug_table.specs.State.{State, Answers, Laters}
@@ -91,24 +92,24 @@ distinct_ordered [] d = tt
 distinct_ordered (y ∷ ys) d = distinct_placed y (in_sweep_order ys) (λ a. d.0 (ordered y ys a)) (distinct_ordered ys d.1)
 
 -- no two parts are of one name
-begins_distinct : (k l : Kernel) (r : Listing) (call count : ℕ) (ss : List Standing) (head : List Entry) (left : List Standing) (names : List (List ℕ)) (shut : List Made) → says_listing r k l → AllDistinct (names_of ss) → AfterListing r call count ss head left names shut → AllDistinct names
-begins_distinct k l (listing.Names found) call count ss head left names shut says d (inl b) = subst (λ (v : List (List ℕ)). AllDistinct v) (sym b.0) (distinct_ordered found says.1)
-begins_distinct k l (listing.Names found) call count ss head left names shut says d (inr b) = subst (λ (v : List (List ℕ)). AllDistinct v) (sym b.0) d
-begins_distinct k l listing.Failed call count ss head left names shut says d b = subst (λ (v : List (List ℕ)). AllDistinct v) (sym b.0) d
-begins_distinct k l listing.Memory call count ss head left names shut says d b = subst (λ (v : List (List ℕ)). AllDistinct v) (sym b.0) d
+begins_distinct : (k l : Kernel) (r : Listing) (failed : FailedCall) (ss : List Standing) (head : List Entry) (left : List Standing) (names : List (List ℕ)) (shut : List Made) → says_listing r k l → AllDistinct (names_of ss) → AfterListing r failed ss head left names shut → AllDistinct names
+begins_distinct k l (listing.Names found) failed ss head left names shut says d (inl b) = subst (λ (v : List (List ℕ)). AllDistinct v) (sym b.0) (distinct_ordered found says.1)
+begins_distinct k l (listing.Names found) failed ss head left names shut says d (inr b) = subst (λ (v : List (List ℕ)). AllDistinct v) (sym b.0) d
+begins_distinct k l listing.Failed failed ss head left names shut says d b = subst (λ (v : List (List ℕ)). AllDistinct v) (sym b.0) d
+begins_distinct k l listing.Memory failed ss head left names shut says d b = subst (λ (v : List (List ℕ)). AllDistinct v) (sym b.0) d
 
-begins_unnamed : (r : Listing) (call count : ℕ) (ss : List Standing) (head : List Entry) (left : List Standing) (names : List (List ℕ)) (shut : List Made) → AfterListing r call count ss head left names shut → unsettled_names head ≡ []
-begins_unnamed (listing.Names found) call count ss head left names shut (inl b) = ap unsettled_names b.1 ∙ farewells_name_none names ss
-begins_unnamed (listing.Names found) call count ss head left names shut (inr b) = ap unsettled_names b.1
-begins_unnamed listing.Failed call count ss head left names shut b = ap unsettled_names b.1
-begins_unnamed listing.Memory call count ss head left names shut b = ap unsettled_names b.1
+begins_unnamed : (r : Listing) (failed : FailedCall) (ss : List Standing) (head : List Entry) (left : List Standing) (names : List (List ℕ)) (shut : List Made) → AfterListing r failed ss head left names shut → unsettled_names head ≡ []
+begins_unnamed (listing.Names found) failed ss head left names shut (inl b) = ap unsettled_names b.1 ∙ farewells_name_none names ss
+begins_unnamed (listing.Names found) failed ss head left names shut (inr b) = ap unsettled_names b.1
+begins_unnamed listing.Failed failed ss head left names shut b = ap unsettled_names b.1
+begins_unnamed listing.Memory failed ss head left names shut b = ap unsettled_names b.1
 
 sweeping_once : {J : Type 0} (answer : Answers J) (later : Laters J) (k : Kernel) (w : State J) (l : Kernel) (v : State J) → AllDistinct (names_of w.standings) → Runs calls k (sweeping answer later w) v l → (rest : List Entry) × (v.entries ≡ w.entries ++ rest) × AllDistinct (unsettled_names rest)
 sweeping_once {J} answer later k w l v d h =
     let g = sweeping_goes calls answer later k w l v h in
     let a = g.listed in
-    let apart = begins_distinct k g.along.0 a.answer a.number a.count w.standings g.head g.left g.names g.shut g.along.1.says d g.begins in
-    let none = begins_unnamed a.answer a.number a.count w.standings g.head g.left g.names g.shut g.begins in (
+    let apart = begins_distinct k g.along.0 a.answer (failure_of a) w.standings g.head g.left g.names g.shut g.along.1.says d g.begins in
+    let none = begins_unnamed a.answer (failure_of a) w.standings g.head g.left g.names g.shut g.begins in (
       g.head ++ g.rest,
       g.entries,
       subst (λ (v : List (List ℕ)). AllDistinct v) (sym (names_more g.head g.rest ∙ ap (λ (x : List (List ℕ)). x ++ unsettled_names g.rest) none)) (once_parts g.names g.left v.standings g.made g.rest g.parts apart),

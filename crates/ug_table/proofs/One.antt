@@ -72,7 +72,7 @@ tells_why name (e ∷ es) last =
 told_of : (how : Settled) → told_all (why_of how) ≡ failed_of how
 told_of settled.Stands = refl
 told_of settled.Nobody = refl
-told_of (settled.Fault call count) = refl
+told_of (settled.Fault failed) = refl
 told_of settled.Memory = refl
 
 as_part : {S : Type 0} (gives : S → (call : Call) → Answer call → S → Type 0) (calls faults : S → ℕ) (counted : Counting gives calls faults) (name : List ℕ) (s : S) (ss : List Standing) (es : List Entry) (t : S) (rs : List Standing) (fs : List Entry) (how : Settled) → WentPart gives name s ss es t rs fs → Answered name es how rs fs → GoesAsPart gives calls faults name s ss es t rs fs how

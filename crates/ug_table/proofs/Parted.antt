@@ -6,7 +6,7 @@ use Rattle.ug_kernel.specs.declared.calls.Listing.{Listing}
 use Rattle.ug_kernel.specs.declared.calls.Listing.TheVariants as listing
 use Rattle.ug_kernel.specs.Calls.{Call, Names, Told, Answer}
 use Rattle.ug_kernel.specs.Tree.{Runs}
-use Rattle.ug_kernel.specs.Along.{Made, Along}
+use Rattle.ug_kernel.specs.Along.{Made, Along, failure_of}
 use Rattle.ug_kernel.proofs.Runs.{runs_split}
 use Rattle.ug_kernel.proofs.Ways.{along_more}
 use Rattle.ug_audit.specs.declared.entry.Entry.{Entry}
@@ -23,7 +23,8 @@ use Rattle.ug_table.specs.declared.standing.Settled.{Settled}
 use Rattle.ug_table.proofs.OnePart.{flat_is_part}
 use Rattle.ug_table.proofs.Closings.{closing_goes}
 use Rattle.ug_kernel.proofs.Ways.{ways_run}
-use Rattle.ug_table.proofs.Shapes.{Settles, settles, Resettles, resettles}
+use Rattle.ug_kernel.specs.declared.calls.FailedCall.{FailedCall}
+use Rattle.ug_table.proofs.Shapes.{Settles, settles, Resettles, resettles, told_at}
 
 -- a run that went along one part
 pub record WentPart {S : Type 0} (gives : S → (call : Call) → Answer call → S → Type 0) (name : List ℕ) (s : S) (ss : List Standing) (es : List Entry) (t : S) (rs : List Standing) (fs : List Entry) : Type 0 where
@@ -89,7 +90,7 @@ resettling_all_went {S} gives (name ∷ names) w s v t h =
     (resettling_all_went gives names k.0.1 k.1 v t k.3)
 
 -- a listing, and the parts that it leads to
-from_parts : {S J : Type 0} (gives : S → (call : Call) → Answer call → S → Type 0) (s : S) (w : State J) (a : Told Listing) (u x t : S) (v : State J) (head : List Entry) (left : List Standing) (names : List (List ℕ)) (shut : List Made) → gives s Names a u → Along gives u shut x → AfterListing a.answer a.number a.count w.standings head left names shut → WentParts gives names x left (w.entries ++ head) t v.standings v.entries → GoesInParts gives s w t v
+from_parts : {S J : Type 0} (gives : S → (call : Call) → Answer call → S → Type 0) (s : S) (w : State J) (a : Told Listing) (u x t : S) (v : State J) (head : List Entry) (left : List Standing) (names : List (List ℕ)) (shut : List Made) → gives s Names a u → Along gives u shut x → AfterListing a.answer (failure_of a) w.standings head left names shut → WentParts gives names x left (w.entries ++ head) t v.standings v.entries → GoesInParts gives s w t v
 from_parts {S} {J} gives s w a u x t v head left names shut g c b p = record {
   listed = a;
   later = shut ++ p.calls;
@@ -113,28 +114,28 @@ unlisted_went {S} {J} gives why w u v t h =
     let P : S → State J → Type 0 = λ (x : S) (y : State J). WentParts gives (names_of w.standings) u w.standings (w.entries ++ entry.UnsettledAll why ∷ []) x y.standings y.entries in
     subst (λ (x : S). P x v) (sym k.3.1) (subst (λ (y : State J). P k.1 y) (sym k.3.0) went)
 
-if_room_goes : {S J : Type 0} (gives : S → (call : Call) → Answer call → S → Type 0) (answer : Answers J) (later : Laters J) (s : S) (w : State J) (names : List (List ℕ)) (call count : ℕ) (room : Bool) (u : S) (v : State J) (t : S) → gives s Names (record { answer = listing.Names names; number = call; count = count }) u → Runs gives u (if_room answer later (in_sweep_order names) w room) v t → GoesInParts gives s w t v
-if_room_goes {S} {J} gives answer later s w names call count true u v t g h =
-    let a : Told Listing = record { answer = listing.Names names; number = call; count = count } in
+if_room_goes : {S J : Type 0} (gives : S → (call : Call) → Answer call → S → Type 0) (answer : Answers J) (later : Laters J) (s : S) (w : State J) (names : List (List ℕ)) (failed : FailedCall) (room : Bool) (u : S) (v : State J) (t : S) → gives s Names (told_at (listing.Names names) failed) u → Runs gives u (if_room answer later (in_sweep_order names) w room) v t → GoesInParts gives s w t v
+if_room_goes {S} {J} gives answer later s w names failed true u v t g h =
+    let a : Told Listing = told_at (listing.Names names) failed in
     let ns : List (List ℕ) = in_sweep_order names in
     let cut = runs_split gives u (closing_unlisted ns w.standings) (λ (x : Unit {0}). settling_all answer later ns (not w.listed) (marked_listed (parted ns w))) v t h in
     let c = closing_goes gives ns w.standings u cut.0 cut.1 cut.2 in
     from_parts gives s w a u cut.1 t v (farewells ns w.standings) (filter (λ (x : Standing). lists ns x.name) w.standings) ns c.shut g c.along (inl (refl, refl, refl, c.closings))
     (settling_all_went gives answer later ns (not w.listed) (marked_listed (parted ns w)) cut.1 v t cut.3)
-if_room_goes {S} {J} gives answer later s w names call count false u v t g h =
-    let a : Told Listing = record { answer = listing.Names names; number = call; count = count } in
+if_room_goes {S} {J} gives answer later s w names failed false u v t g h =
+    let a : Told Listing = told_at (listing.Names names) failed in
     from_parts gives s w a u u t v (entry.UnsettledAll fault.Memory ∷ []) w.standings (names_of w.standings) [] g refl (inr (refl, refl, refl, refl)) (unlisted_went gives fault.Memory w u v t h)
 
-after_list_goes : {S J : Type 0} (gives : S → (call : Call) → Answer call → S → Type 0) (answer : Answers J) (later : Laters J) (s : S) (w : State J) (r : Listing) (call count : ℕ) (u : S) (v : State J) (t : S) → gives s Names (record { answer = r; number = call; count = count }) u → Runs gives u (after_list answer later w r call count) v t → GoesInParts gives s w t v
-after_list_goes gives answer later s w (listing.Names names) call count u v t g h = if_room_goes gives answer later s w names call count h.0 u v t g h.1
-after_list_goes gives answer later s w listing.Failed call count u v t g h =
-    let a : Told Listing = record { answer = listing.Failed; number = call; count = count } in
-    from_parts gives s w a u u t v (entry.UnsettledAll (fault.Call call count) ∷ []) w.standings (names_of w.standings) [] g refl (refl, refl, refl, refl) (unlisted_went gives (fault.Call call count) w u v t h)
-after_list_goes gives answer later s w listing.Memory call count u v t g h =
-    let a : Told Listing = record { answer = listing.Memory; number = call; count = count } in
+after_list_goes : {S J : Type 0} (gives : S → (call : Call) → Answer call → S → Type 0) (answer : Answers J) (later : Laters J) (s : S) (w : State J) (r : Listing) (failed : FailedCall) (u : S) (v : State J) (t : S) → gives s Names (told_at r failed) u → Runs gives u (after_list answer later w r failed) v t → GoesInParts gives s w t v
+after_list_goes gives answer later s w (listing.Names names) failed u v t g h = if_room_goes gives answer later s w names failed h.0 u v t g h.1
+after_list_goes gives answer later s w listing.Failed failed u v t g h =
+    let a : Told Listing = told_at listing.Failed failed in
+    from_parts gives s w a u u t v (entry.UnsettledAll (fault.Call failed) ∷ []) w.standings (names_of w.standings) [] g refl (refl, refl, refl, refl) (unlisted_went gives (fault.Call failed) w u v t h)
+after_list_goes gives answer later s w listing.Memory failed u v t g h =
+    let a : Told Listing = told_at listing.Memory failed in
     from_parts gives s w a u u t v (entry.UnsettledAll fault.Memory ∷ []) w.standings (names_of w.standings) [] g refl (refl, refl, refl, refl) (unlisted_went gives fault.Memory w u v t h)
 
 -- a run of a sweep goes in parts
 pub sweeping_goes : {S J : Type 0} (gives : S → (call : Call) → Answer call → S → Type 0) (answer : Answers J) (later : Laters J) (s : S) (w : State J) (t : S) (v : State J) → Runs gives s (sweeping answer later w) v t → GoesInParts gives s w t v
 unfolding sweeping
-sweeping_goes gives answer later s w t v h = after_list_goes gives answer later s w h.0.answer h.0.number h.0.count h.1 v t h.2 h.3
+sweeping_goes gives answer later s w t v h = after_list_goes gives answer later s w h.0.answer (failure_of h.0) h.1 v t h.2 h.3

@@ -142,7 +142,7 @@ without_leaves test name ss how named = record {
 tried_leaves : (test : Test) (name : List ℕ) (ss : List Standing) (how : Settled) → AllDistinct (numbers_of ss) → AreNamed test name ss → LeavesMarks (own test) ss (tried_standings ss name how) how
 tried_leaves test name ss settled.Nobody distinct named = without_leaves test name ss settled.Nobody named
 tried_leaves test name ss settled.Stands distinct named = marked_leaves test name ss true settled.Stands refl distinct named
-tried_leaves test name ss (settled.Fault call count) distinct named = marked_leaves test name ss false (settled.Fault call count) refl distinct named
+tried_leaves test name ss (settled.Fault failed) distinct named = marked_leaves test name ss false (settled.Fault failed) refl distinct named
 tried_leaves test name ss settled.Memory distinct named = marked_leaves test name ss false settled.Memory refl distinct named
 
 -- a name
@@ -155,7 +155,7 @@ own_missing name ss s n a o = n (subst (λ (v : List ℕ). Has (names_of ss) v) 
 
 opening_rest : {name : List ℕ} {ss : List Standing} {ms : List Made} {es : List Entry} {rs : List Standing} → Opening name ss ms es rs → rest_of (of_name name) rs ≡ rest_of (of_name name) ss
 opening_rest (Fresh e) = refl
-opening_rest {name = name} {ss = ss} (Lost known call count shut e) = without_rest (of_name name) name ss (λ s a. refl)
+opening_rest {name = name} {ss = ss} (Lost known failed shut e) = without_rest (of_name name) name ss (λ s a. refl)
 
 -- none stands for it
 opening_leaves : {name : List ℕ} {ss : List Standing} {ms : List Made} {es : List Entry} {rs : List Standing} (how : Settled) → Opening name ss ms es rs → LeavesMarks (has_name name) ss rs how
@@ -185,7 +185,7 @@ kept_leaves name ss rs x settled.Nobody named fresh stays none rest absent = rec
   removed = λ s a o. absurd (own_missing name rs s absent a o);
 }
 kept_leaves name ss rs x settled.Stands named fresh stays none rest absent = with_leaves name ss rs (settled_standing x) settled.Stands named rest absent refl (ap (λ (v : Bool). v || is_reject x.verdict) (stays ∙ sym none))
-kept_leaves name ss rs x (settled.Fault call count) named fresh stays none rest absent = with_leaves name ss rs x (settled.Fault call count) named rest absent fresh (stays ∙ sym (ap (λ (v : Bool). v || false) none))
+kept_leaves name ss rs x (settled.Fault failed) named fresh stays none rest absent = with_leaves name ss rs x (settled.Fault failed) named rest absent fresh (stays ∙ sym (ap (λ (v : Bool). v || false) none))
 kept_leaves name ss rs x settled.Memory named fresh stays none rest absent = with_leaves name ss rs x settled.Memory named rest absent fresh (stays ∙ sym (ap (λ (v : Bool). v || false) none))
 
 next_stood : (next : ℕ) (ss : List Standing) → StandInOrder next ss → stood_removed next ss ≡ false
@@ -196,8 +196,8 @@ next_stood next ss o = none_stood next ss (λ a.
     omega (arith, below, is))
 
 flat_leaves : {binds : Bool} {given : List Standing → Bound → Standing → Type 0} {name : List ℕ} {ss : List Standing} {ok : Bool} {ms : List Made} {rest : List Entry} {how : Settled} {rs : List Standing} {o : Option (List Standing × Bound)} (next : ℕ) → StandInOrder next ss → ((rs : List Standing) (b : Bound) (x : Standing) → given rs b x → x.number ≡ next) → Flat binds given name ss ok ms rest how rs o → LeavesMarks (has_name name) ss rs how
-flat_leaves {name = name} {ss = ss} next order numbered (Unprobed known call count at) = tried_leaves (of_name name) name ss (settled.Fault call count) order.distinct (λ s a. refl)
-flat_leaves {name = name} {ss = ss} next order numbered (Tried known on call count ms es how at b) = tried_leaves (of_name name) name ss how order.distinct (λ s a. refl)
+flat_leaves {name = name} {ss = ss} next order numbered (Unprobed known failed at) = tried_leaves (of_name name) name ss (settled.Fault failed) order.distinct (λ s a. refl)
+flat_leaves {name = name} {ss = ss} next order numbered (Tried known on failed ms es how at b) = tried_leaves (of_name name) name ss how order.distinct (λ s a. refl)
 flat_leaves next order numbered (Stopped ms es rs f opening) = opening_leaves settled.Nobody opening
 flat_leaves next order numbered (Unbound ms ns es fs rs r how t opening way end) = opening_leaves how opening
 flat_leaves next order numbered (No_place ms ns es rs b shut t opening way) = opening_leaves settled.Memory opening
@@ -238,10 +238,10 @@ numbered_named next number ss x order at s a = by (nat_eq s.number number) refl 
         sym e ∙ was
 
 flat_tried : {given : List Standing → Bound → Standing → Type 0} {binds : Bool} {name : List ℕ} {ss : List Standing} {ok : Bool} {ms : List Made} {rest : List Entry} {how : Settled} {rs : List Standing} {o : Option (List Standing × Bound)} → Flat binds given name ss ok ms rest how rs o → binds ≡ false → Has (names_of ss) name → rs ≡ tried_standings ss name how
-flat_tried (Unprobed known call count at) f a = refl
-flat_tried (Tried known on call count ms es how at b) f a = refl
+flat_tried (Unprobed known failed at) f a = refl
+flat_tried (Tried known on failed ms es how at b) f a = refl
 flat_tried {name = name} {ss = ss} (Stopped ms es rs f (Fresh e)) g a = absurd (missing name ss e a)
-flat_tried (Stopped ms es rs f (Lost known call count shut e)) g a = refl
+flat_tried (Stopped ms es rs f (Lost known failed shut e)) g a = refl
 flat_tried (Unbound ms ns es fs rs r how t opening way end) f a = absurd (true≢false (sym t ∙ f))
 flat_tried (No_place ms ns es rs b shut t opening way) f a = absurd (true≢false (sym t ∙ f))
 flat_tried (Judged_so ms ns os es fs rs b x how t opening way given new brought) f a = absurd (true≢false (sym t ∙ f))

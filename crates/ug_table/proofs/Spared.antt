@@ -16,6 +16,8 @@ use Rattle.ug_kernel.proofs.Grow.{quiet_grows, called_grows}
 use Rattle.ug_kernel.specs.Tree.{Runs, calls}
 use Rattle.ug_kernel.proofs.Runs.{runs_split}
 use Rattle.ug_kernel.proofs.Kernels.{runs_sound, runs_grow}
+use Rattle.ug_kernel.specs.declared.calls.FailedCall.{FailedCall}
+use Rattle.ug_kernel.specs.Along.{failure_of}
 use Rattle.ug_audit.specs.declared.entry.Entry.{Entry}
 use Rattle.ug_audit.specs.declared.entry.Entry.TheVariants as entry
 use Rattle.ug_audit.specs.declared.entry.Fault.{Fault}
@@ -39,6 +41,7 @@ use Rattle.ug_table.proofs.Apart.{Apart, settling_apart}
 use Rattle.ug_table.proofs.Lived.{parted_files, lives_first, lives_last, stand_files}
 use Rattle.ug_table.proofs.Told.{EndsSo, ends_run, ends_then, ends_map, each_has, NotMemory, none_named, Brings, bringing_brings, Part, PartOf, settling_part}
 use Rattle.ug_table.proofs.Marks.{PartsOf, named_in, named_only, settling_all_parts, order_distinct, farewell_none}
+use Rattle.ug_table.proofs.Shapes.{told_at}
 
 -- a known name that stands
 
@@ -58,16 +61,16 @@ record OneHeld (ss : List Standing) (name : List ℕ) (held : Held) : Type 0 whe
   file : (s : Standing) → Has ss s → s.name ≡ name → s.held ≡ held
   stays : Stays ss name
 
-after_known_calm : {J : Type 0} (answer : Answers J) (later : Laters J) (name : List ℕ) (present : Bool) (i : ℕ) (w : State J) (known : Known) (what : Probe) (call count : ℕ) (k m l : Kernel) (p : Settled × State J) → is_to_go known ≡ false → IsFileOf k known.held.0 i → LiveAs m i name → Called (Ask_alive known.held.0) (record { answer = what; number = call; count = count }) k m → Runs calls m (after_known answer later name present w known what call count) p l → Calm w.entries p.1.entries name
-after_known_calm answer later name present i w known (probe.Alive on) call count k m l p stays file live c r =
+after_known_calm : {J : Type 0} (answer : Answers J) (later : Laters J) (name : List ℕ) (present : Bool) (i : ℕ) (w : State J) (known : Known) (what : Probe) (failed : FailedCall) (k m l : Kernel) (p : Settled × State J) → is_to_go known ≡ false → IsFileOf k known.held.0 i → LiveAs m i name → Called (Ask_alive known.held.0) (told_at what failed) k m → Runs calls m (after_known answer later name present w known what failed) p l → Calm w.entries p.1.entries name
+after_known_calm answer later name present i w known (probe.Alive on) failed k m l p stays file live c r =
     let cut = runs_split calls m (bringing name known on w.entries) (to_mark w name) p l r in
     let b = ends_run calls (Brings name (is_to_go known) w.entries) (bringing name known on w.entries) m cut.0 cut.1 (bringing_brings name known on w.entries) cut.2 in
     (b.rest, ap (λ (v : _). v.1.entries) cut.3.0 ∙ b.entries, λ h. each_has NotMemory b.rest (entry.Unsettled name fault.Memory) (b.spared stays) h)
-after_known_calm answer later name present i w known probe.Gone call count k m l p stays file live c r =
-    let g = called_grows (Ask_alive known.held.0) (record { answer = probe.Gone; number = call; count = count }) k m c in
+after_known_calm answer later name present i w known probe.Gone failed k m l p stays file live c r =
+    let g = called_grows (Ask_alive known.held.0) (told_at probe.Gone failed) k m c in
     absurd (gone_no m known.held.0 i name c.says (file_later k m known.held.0 i g file) live)
-after_known_calm answer later name present i w known probe.Failed call count k m l p stays file live c r =
-    (entry.Unsettled name (fault.Call call count) ∷ [], ap (λ (v : _). v.1.entries) r.0, λ h. elim h [ inl e ↦ let none : ⊥ = cc in none | inr none ↦ none ])
+after_known_calm answer later name present i w known probe.Failed failed k m l p stays file live c r =
+    (entry.Unsettled name (fault.Call failed) ∷ [], ap (λ (v : _). v.1.entries) r.0, λ h. elim h [ inl e ↦ let none : ⊥ = cc in none | inr none ↦ none ])
 
 from_standing_calm : {J : Type 0} (answer : Answers J) (later : Laters J) (name : List ℕ) (present : Bool) (i : ℕ) (held : Held) (w : State J) (o : Option Known) (k l : Kernel) (p : Settled × State J) → standing_of name w.standings ≡ o → OneHeld w.standings name held → IsFileOf k held.0 i → LiveAs k i name → LiveAs l i name → Runs calls k (from_standing answer later name present w o) p l → Calm w.entries p.1.entries name
 from_standing_calm answer later name present i held w None k l p e one file first live r =
@@ -76,8 +79,8 @@ from_standing_calm answer later name present i held w (Some known) k l p e one f
     let s = found name w.standings known e in
     let same : held ≡ known.held = sym (one.file s.s s.has s.named) ∙ ap (λ (v : Known). v.held) s.known in
     let g = called_grows (Ask_alive known.held.0) r.0 k r.1 r.2 in
-    let mid = lives_between k r.1 l i name g (runs_grow (after_known answer later name present w known r.0.answer r.0.number r.0.count) r.1 p l r.3) first live in
-    after_known_calm answer later name present i w known r.0.answer r.0.number r.0.count k r.1 l p (subst (λ (v : Known). is_to_go v ≡ false) s.known (one.stays s.s s.has s.named)) (subst (λ (v : Held). IsFileOf k v.0 i) same file) mid r.2 r.3
+    let mid = lives_between k r.1 l i name g (runs_grow (after_known answer later name present w known r.0.answer (failure_of r.0)) r.1 p l r.3) first live in
+    after_known_calm answer later name present i w known r.0.answer (failure_of r.0) k r.1 l p (subst (λ (v : Known). is_to_go v ≡ false) s.known (one.stays s.s s.has s.named)) (subst (λ (v : Held). IsFileOf k v.0 i) same file) mid r.2 r.3
 
 settling_calm : {J : Type 0} (answer : Answers J) (later : Laters J) (name : List ℕ) (present : Bool) (i : ℕ) (held : Held) (w : State J) (k l : Kernel) (p : Settled × State J) → OneHeld w.standings name held → IsFileOf k held.0 i → LiveAs k i name → LiveAs l i name → Runs calls k (settling answer later name present w) p l → Calm w.entries p.1.entries name
 unfolding settling
@@ -137,25 +140,25 @@ marked_stays ss n name mark h s a e =
 tried_stays : (ss : List Standing) (n name : List ℕ) (how : Settled) → Stays ss name → Stays (tried_standings ss n how) name
 tried_stays ss n name settled.Nobody h s a e = h s (filter_has (λ (v : Standing). not (same_name v.name n)) ss s a).0 e
 tried_stays ss n name settled.Stands h s a e = marked_stays ss n name true h s a e
-tried_stays ss n name (settled.Fault call count) h s a e = marked_stays ss n name false h s a e
+tried_stays ss n name (settled.Fault failed) h s a e = marked_stays ss n name false h s a e
 tried_stays ss n name settled.Memory h s a e = marked_stays ss n name false h s a e
 
 -- the name isn't told for memory, and stays so
 abbrev StaysCalm : List ℕ → Kept → Kept → Type 0
 StaysCalm name w v = Calm w.entries v.entries name × Stays v.standings name
 
-after_again_calm : (n name : List ℕ) (w : Kept) (known : Known) (a : Probe) (call count : ℕ) → (n ≡ name → is_to_go known ≡ false) → Stays w.standings name → EndsSo (λ (p : Settled × Kept). StaysCalm name w p.1) (after_again n w known a call count)
-after_again_calm n name w known (probe.Alive on) call count go h =
+after_again_calm : (n name : List ℕ) (w : Kept) (known : Known) (a : Probe) (failed : FailedCall) → (n ≡ name → is_to_go known ≡ false) → Stays w.standings name → EndsSo (λ (p : Settled × Kept). StaysCalm name w p.1) (after_again n w known a failed)
+after_again_calm n name w known (probe.Alive on) failed go h =
     ends_then (Brings n (is_to_go known) w.entries) (λ (p : Settled × Kept). StaysCalm name w p.1) (bringing n known on w.entries) (to_keep_mark w n) (bringing_brings n known on w.entries)
     (λ q b. ((b.rest, b.entries, λ a. each_has NotMemory b.rest (entry.Unsettled name fault.Memory) (b.spared (go (sym (named_only n name b.rest b.only (fault.Memory, a))))) a), tried_stays w.standings n name q.0 h))
-after_again_calm n name w known probe.Gone call count go h = λ shut. ((entry.Gone known.number n ∷ [], refl, λ a. elim a [ inl e ↦ let none : ⊥ = cc in none | inr none ↦ none ]), tried_stays w.standings n name settled.Nobody h)
-after_again_calm n name w known probe.Failed call count go h = ((entry.Unsettled n (fault.Call call count) ∷ [], refl, λ a. elim a [ inl e ↦ let none : ⊥ = cc in none | inr none ↦ none ]), tried_stays w.standings n name (settled.Fault call count) h)
+after_again_calm n name w known probe.Gone failed go h = λ shut. ((entry.Gone known.number n ∷ [], refl, λ a. elim a [ inl e ↦ let none : ⊥ = cc in none | inr none ↦ none ]), tried_stays w.standings n name settled.Nobody h)
+after_again_calm n name w known probe.Failed failed go h = ((entry.Unsettled n (fault.Call failed) ∷ [], refl, λ a. elim a [ inl e ↦ let none : ⊥ = cc in none | inr none ↦ none ]), tried_stays w.standings n name (settled.Fault failed) h)
 
 again_calm : (n name : List ℕ) (w : Kept) (o : Option Known) → standing_of n w.standings ≡ o → Stays w.standings name → EndsSo (λ (p : Settled × Kept). StaysCalm name w p.1) (again n w o)
 again_calm n name w (Some known) e h =
     let s = found n w.standings known e in
     let go : n ≡ name → is_to_go known ≡ false = λ is. subst (λ (v : Known). is_to_go v ≡ false) s.known (h s.s s.has (s.named ∙ is)) in
-    λ t. after_again_calm n name w known t.answer t.number t.count go h
+    λ t. after_again_calm n name w known t.answer (failure_of t) go h
 again_calm n name w None e h = (([], sym (append-nil w.entries), λ a. a), h)
 
 resettling_calm : (n name : List ℕ) (w : Kept) → Stays w.standings name → EndsSo (λ (p : Settled × Kept). StaysCalm name w p.1) (resettling n w)
@@ -217,19 +220,19 @@ if_room_calm answer later names name i held w true k l v rest distinct has sound
     listed_calm answer later names name i held w u l v rest distinct has q.0 (files_later k u w.standings g f) one (file_later k u held.0 i g file) mid live cut.3 e h
 if_room_calm answer later names name i held w false k l v rest distinct has sound f one file first live r e h = unlisted_calm fault.Memory w k l v rest name one.stays r e h
 
-after_list_calm : {J : Type 0} (answer : Answers J) (later : Laters J) (name : List ℕ) (i : ℕ) (held : Held) (w : State J) (list : Listing) (call count : ℕ) (k m l : Kernel) (v : State J) (rest : List Entry) → Files m w.standings → OneHeld w.standings name held → IsFileOf m held.0 i → LiveAs k i name → LiveAs m i name → LiveAs l i name → Called Names (record { answer = list; number = call; count = count }) k m → Runs calls m (after_list answer later w list call count) v l → v.entries ≡ w.entries ++ rest → Has rest (entry.Unsettled name fault.Memory) → ⊥
-after_list_calm answer later name i held w (listing.Names names) call count k m l v rest f one file first mid live c r e h =
+after_list_calm : {J : Type 0} (answer : Answers J) (later : Laters J) (name : List ℕ) (i : ℕ) (held : Held) (w : State J) (list : Listing) (failed : FailedCall) (k m l : Kernel) (v : State J) (rest : List Entry) → Files m w.standings → OneHeld w.standings name held → IsFileOf m held.0 i → LiveAs k i name → LiveAs m i name → LiveAs l i name → Called Names (told_at list failed) k m → Runs calls m (after_list answer later w list failed) v l → v.entries ≡ w.entries ++ rest → Has rest (entry.Unsettled name fault.Memory) → ⊥
+after_list_calm answer later name i held w (listing.Names names) failed k m l v rest f one file first mid live c r e h =
     let has : Has names name = subst (λ n. Has names n) first.named (c.says.0 i first.d (lived k m i name first mid)) in
     if_room_calm answer later (in_sweep_order names) name i held w r.0 m l v rest (order_distinct names c.says.1) (to_sweep_order names name has) c.sound f one file mid live r.1 e h
-after_list_calm answer later name i held w listing.Failed call count k m l v rest f one file first mid live c r e h = unlisted_calm (fault.Call call count) w m l v rest name one.stays r e h
-after_list_calm answer later name i held w listing.Memory call count k m l v rest f one file first mid live c r e h = unlisted_calm fault.Memory w m l v rest name one.stays r e h
+after_list_calm answer later name i held w listing.Failed failed k m l v rest f one file first mid live c r e h = unlisted_calm (fault.Call failed) w m l v rest name one.stays r e h
+after_list_calm answer later name i held w listing.Memory failed k m l v rest f one file first mid live c r e h = unlisted_calm fault.Memory w m l v rest name one.stays r e h
 
 sweeping_calm : {J : Type 0} (answer : Answers J) (later : Laters J) (name : List ℕ) (i : ℕ) (held : Held) (w : State J) (k l : Kernel) (v : State J) (rest : List Entry) → Files k w.standings → OneHeld w.standings name held → IsFileOf k held.0 i → LiveAs k i name → LiveAs l i name → Runs calls k (sweeping answer later w) v l → v.entries ≡ w.entries ++ rest → Has rest (entry.Unsettled name fault.Memory) → ⊥
 unfolding sweeping
 sweeping_calm answer later name i held w k l v rest f one file first live r e h =
     let g = called_grows Names r.0 k r.1 r.2 in
-    let mid = lives_between k r.1 l i name g (runs_grow (after_list answer later w r.0.answer r.0.number r.0.count) r.1 v l r.3) first live in
-    after_list_calm answer later name i held w r.0.answer r.0.number r.0.count k r.1 l v rest (files_later k r.1 w.standings g f) one (file_later k r.1 held.0 i g file) first mid live r.2 r.3 e h
+    let mid = lives_between k r.1 l i name g (runs_grow (after_list answer later w r.0.answer (failure_of r.0)) r.1 v l r.3) first live in
+    after_list_calm answer later name i held w r.0.answer (failure_of r.0) k r.1 l v rest (files_later k r.1 w.standings g f) one (file_later k r.1 held.0 i g file) first mid live r.2 r.3 e h
 
 one_held : (ss : List Standing) (s : Standing) (name : List ℕ) → AllDistinct (names_of ss) → Has ss s → s.name ≡ name → is_to_go (known_of s) ≡ false → OneHeld ss name s.held
 one_held ss s name distinct a e go = record {

@@ -84,7 +84,7 @@ none_named es name h a = each_has NamesNone es (entry.Unsettled name a.0) h a.1
 -- what the entries say of a name, by how it was settled
 abbrev Tells : Settled → List ℕ → List Entry → Type 0
 Tells settled.Stands name rest = IsNamed rest name → ⊥
-Tells (settled.Fault call count) name rest = IsNamed rest name
+Tells (settled.Fault failed) name rest = IsNamed rest name
 Tells settled.Nobody name rest = Unit {0}
 Tells settled.Memory name rest = IsNamed rest name
 
@@ -97,9 +97,9 @@ record TellsSo (name : List ℕ) (go : Bool) (es : List Entry) (how : Settled) :
   tells : Tells how name es
 
 written_tells : {name : List ℕ} {number : ℕ} {what : Write} {t : Told Wrote} {es : List Entry} {how : Settled} (go : Bool) → Written name number what t es how → TellsSo name go es how
-written_tells {name} {number} {what} go (Done call count) = record { only = (tt, (tt, tt)); spared = λ e. (tt, (tt, tt)); tells = none_named (entry.Intent number name what ∷ entry.Wrote number name what wrote.Done ∷ []) name (tt, (tt, tt)) }
-written_tells go (Went call count) = record { only = (tt, (tt, (tt, tt))); spared = λ e. (tt, (tt, (tt, tt))); tells = tt }
-written_tells go (Broke call count) = record { only = (tt, (tt, (refl, tt))); spared = λ e. (tt, (tt, (tt, tt))); tells = (fault.Call call count, inr (inr (inl refl))) }
+written_tells {name} {number} {what} go (Done failed) = record { only = (tt, (tt, tt)); spared = λ e. (tt, (tt, tt)); tells = none_named (entry.Intent number name what ∷ entry.Wrote number name what wrote.Done ∷ []) name (tt, (tt, tt)) }
+written_tells go (Went failed) = record { only = (tt, (tt, (tt, tt))); spared = λ e. (tt, (tt, (tt, tt))); tells = tt }
+written_tells go (Broke failed) = record { only = (tt, (tt, (refl, tt))); spared = λ e. (tt, (tt, (tt, tt))); tells = (fault.Call failed, inr (inr (inl refl))) }
 
 valued_tells : {name : List ℕ} {known : Known} {on : Bool} {ms : List Made} {es : List Entry} {how : Settled} (go : Bool) → Valued name known on ms es how → TellsSo name go es how
 valued_tells {name} go (Same e) = record { only = tt; spared = λ f. tt; tells = none_named [] name tt }
@@ -107,7 +107,7 @@ valued_tells go (Set t es how e w) = written_tells go w
 
 unheld_tells : {name : List ℕ} {number : ℕ} {r : RemoveHold} {es : List Entry} {how : Settled} → Unheld name number r es how → TellsSo name true es how
 unheld_tells Gone_by = record { only = (tt, tt); spared = λ e. (tt, tt); tells = tt }
-unheld_tells (Failed_by call count) = record { only = (refl, tt); spared = λ e. (tt, tt); tells = (fault.Call call count, inl refl) }
+unheld_tells (Failed_by failed) = record { only = (refl, tt); spared = λ e. (tt, tt); tells = (fault.Call failed, inl refl) }
 unheld_tells Short_by = record { only = (refl, tt); spared = λ e. absurd (let none : ⊥ = cc in none); tells = (fault.Memory, inl refl) }
 
 removal_tells : {name : List ℕ} {known : Known} {ms : List Made} {es : List Entry} {how : Settled} → Removal name known ms es how → TellsSo name true es how
@@ -116,7 +116,7 @@ removal_tells (Put_on ms file t shut es how way w) = written_tells true w
 
 tells_more : (how : Settled) (name : List ℕ) (es fs : List Entry) → (IsNamed es name → ⊥) → Tells how name fs → Tells how name (es ++ fs)
 tells_more settled.Stands name es fs none t = λ a. elim (has_cases es fs (entry.Unsettled name a.0) a.1) [ inl b ↦ none (a.0, b) | inr b ↦ t (a.0, b) ]
-tells_more (settled.Fault call count) name es fs none t = (t.0, has_right es fs (entry.Unsettled name t.0) t.1)
+tells_more (settled.Fault failed) name es fs none t = (t.0, has_right es fs (entry.Unsettled name t.0) t.1)
 tells_more settled.Nobody name es fs none t = tt
 tells_more settled.Memory name es fs none t = (t.0, has_right es fs (entry.Unsettled name t.0) t.1)
 
@@ -176,7 +176,7 @@ new_others ss x s a ne = elim (insert_has ss (place_for x.name ss) x s a) [
 kept_others : (ss : List Standing) (x : Standing) (how : Settled) (s : Standing) → Has (kept_standings ss x how) s → (s.name ≡ x.name → ⊥) → Has ss s
 kept_others ss x settled.Nobody s a ne = a
 kept_others ss x settled.Stands s a ne = new_others ss (settled_standing x) s a ne
-kept_others ss x (settled.Fault call count) s a ne = new_others ss x s a ne
+kept_others ss x (settled.Fault failed) s a ne = new_others ss x s a ne
 kept_others ss x settled.Memory s a ne = new_others ss x s a ne
 
 new_mark : (ss : List Standing) (x s : Standing) (rest : List Entry) → (Has (names_of ss) x.name → ⊥) → IsMarked rest x → Has (with_standing x ss) s → s.name ≡ x.name → IsMarked rest s
@@ -188,7 +188,7 @@ new_mark ss x s rest absent m a e = elim (insert_has ss (place_for x.name ss) x 
 kept_mark : (ss : List Standing) (x : Standing) (how : Settled) (rest : List Entry) (s : Standing) → (Has (names_of ss) x.name → ⊥) → x.settled ≡ false → Tells how x.name rest → Has (kept_standings ss x how) s → s.name ≡ x.name → IsMarked rest s
 kept_mark ss x settled.Nobody rest s absent f t a e = absurd (absent (subst (λ (v : List ℕ). Has (names_of ss) v) e (has_map (λ (v : Standing). v.name) ss s a)))
 kept_mark ss x settled.Stands rest s absent f t a e = new_mark ss (settled_standing x) s rest absent (inl (refl, t)) a e
-kept_mark ss x (settled.Fault call count) rest s absent f t a e = new_mark ss x s rest absent (inr (f, t)) a e
+kept_mark ss x (settled.Fault failed) rest s absent f t a e = new_mark ss x s rest absent (inr (f, t)) a e
 kept_mark ss x settled.Memory rest s absent f t a e = new_mark ss x s rest absent (inr (f, t)) a e
 
 -- a standing that is tried again
@@ -202,7 +202,7 @@ marked_others ss name b s a ne =
 tried_others : (ss : List Standing) (name : List ℕ) (how : Settled) (s : Standing) → Has (tried_standings ss name how) s → (s.name ≡ name → ⊥) → Has ss s
 tried_others ss name settled.Nobody s a ne = (filter_has (λ (v : Standing). not (same_name v.name name)) ss s a).0
 tried_others ss name settled.Stands s a ne = marked_others ss name true s a ne
-tried_others ss name (settled.Fault call count) s a ne = marked_others ss name false s a ne
+tried_others ss name (settled.Fault failed) s a ne = marked_others ss name false s a ne
 tried_others ss name settled.Memory s a ne = marked_others ss name false s a ne
 
 marked_mark : (ss : List Standing) (name : List ℕ) (b : Bool) (s : Standing) → Has (map (marked name b) ss) s → s.name ≡ name → s.settled ≡ b
@@ -214,7 +214,7 @@ marked_mark ss name b s a e =
 tried_mark : (ss : List Standing) (name : List ℕ) (how : Settled) (rest : List Entry) (s : Standing) → Tells how name rest → Has (tried_standings ss name how) s → s.name ≡ name → IsMarked rest s
 tried_mark ss name settled.Nobody rest s t a e = absurd (missing_without name ss (subst (λ (v : List ℕ). Has (names_of (without name ss)) v) e (has_map (λ (v : Standing). v.name) (without name ss) s a)))
 tried_mark ss name settled.Stands rest s t a e = inl (marked_mark ss name true s a e, subst (λ (v : List ℕ). IsNamed rest v → ⊥) (sym e) t)
-tried_mark ss name (settled.Fault call count) rest s t a e = inr (marked_mark ss name false s a e, subst (λ (v : List ℕ). IsNamed rest v) (sym e) t)
+tried_mark ss name (settled.Fault failed) rest s t a e = inr (marked_mark ss name false s a e, subst (λ (v : List ℕ). IsNamed rest v) (sym e) t)
 tried_mark ss name settled.Memory rest s t a e = inr (marked_mark ss name false s a e, subst (λ (v : List ℕ). IsNamed rest v) (sym e) t)
 
 -- before a binding, no standing of the name is left
@@ -225,7 +225,7 @@ pub record Opens (name : List ℕ) (ss : List Standing) (es : List Entry) (rs : 
 
 pub opens : {name : List ℕ} {ss : List Standing} {ms : List Made} {es : List Entry} {rs : List Standing} → Opening name ss ms es rs → Opens name ss es rs
 opens {name} {ss} (Fresh e) = record { none = tt; less = λ s a. a; absent = missing name ss e }
-opens {name} {ss} (Lost known call count shut e) = record { none = (tt, tt); less = λ s a. tried_others_less s a; absent = missing_without name ss }
+opens {name} {ss} (Lost known failed shut e) = record { none = (tt, tt); less = λ s a. tried_others_less s a; absent = missing_without name ss }
   where
     tried_others_less : (s : Standing) → Has (without name ss) s → Has ss s
     tried_others_less s a = (filter_has (λ (v : Standing). not (same_name v.name name)) ss s a).0
@@ -237,7 +237,7 @@ own_name ss name s a e = subst (λ (v : List ℕ). Has (names_of ss) v) e (has_m
 unbound_only : {name : List ℕ} {r : Binding} {es : List Entry} {how : Settled} → Unbound_end name r es how → Each (NamesOnly name) es
 unbound_only Absent_so = tt
 unbound_only Vanished_so = tt
-unbound_only (Failed_so call count) = (refl, tt)
+unbound_only (Failed_so failed) = (refl, tt)
 unbound_only Short_so = (refl, tt)
 
 -- it names none, so none but this one
@@ -252,8 +252,8 @@ only_none name (entry.Gone number n) h = h
 only_none name (entry.End number) h = h
 
 pub flat_part : {binds : Bool} {given : List Standing → Bound → Standing → Type 0} {name : List ℕ} {ss : List Standing} {ok : Bool} {ms : List Made} {rest : List Entry} {how : Settled} {rs : List Standing} {o : Option (List Standing × Bound)} (es fs : List Entry) → fs ≡ es ++ rest → Flat binds given name ss ok ms rest how rs o → Part name ss es rs fs
-flat_part {name = name} {ss = ss} xs ys e (Unprobed known call count at) = record { rest = _; entries = e; only = (refl, tt); others = λ s a ne. tried_others ss name (settled.Fault call count) s a ne; mark = λ s a is. tried_mark ss name (settled.Fault call count) (entry.Unsettled name (fault.Call call count) ∷ []) s (fault.Call call count, inl refl) a is }
-flat_part {name = name} {ss = ss} xs ys e (Tried known on call count ms es how at b) =
+flat_part {name = name} {ss = ss} xs ys e (Unprobed known failed at) = record { rest = _; entries = e; only = (refl, tt); others = λ s a ne. tried_others ss name (settled.Fault failed) s a ne; mark = λ s a is. tried_mark ss name (settled.Fault failed) (entry.Unsettled name (fault.Call failed) ∷ []) s (fault.Call failed, inl refl) a is }
+flat_part {name = name} {ss = ss} xs ys e (Tried known on failed ms es how at b) =
     let t = brought_tells b in
     record { rest = es; entries = e; only = t.only; others = λ s a ne. tried_others ss name how s a ne; mark = λ s a is. tried_mark ss name how es s t.tells a is }
 flat_part {name = name} xs ys e (Stopped ms es rs f opening) =
