@@ -141,7 +141,7 @@ binds_keep files b (Cut file call count ms of at t shut why r a few may stops e)
     (h.0, (h.1.0 ∙ stop_failures of file.0 shut stops ∙ ap binding_failures (sym e), h.1.1))
 binds_keep files b (Probed_gone file call count number total ms shut a few) = open_keeps files b file call count (answered (Ask_alive file.0) (told probe.Gone number total) ∷ answered (Close file.0) shut ∷ []) a (λ c. record { about = (inl refl, ((Authorized, inl refl), tt)); ends = (inl refl, (inr tt, tt)); due = (tt, (tt, tt)) })
 binds_keep files b (Probe_failed file call count number total ms shut a few) = open_keeps files b file call count (answered (Ask_alive file.0) (told probe.Failed number total) ∷ answered (Close file.0) shut ∷ []) a (λ c. record { about = (inl refl, ((Authorized, inl refl), tt)); ends = (inl refl, (inr tt, tt)); due = (tt, (tt, tt)) })
-binds_keep files b (Bound_by call count number total ms x a few) = open_keeps files b x.held call count (answered (Ask_alive x.held.0) (told (probe.Alive x.on) number total) ∷ []) a (λ c. record { about = (inl refl, tt); ends = (inl refl, tt); due = (tt, tt) })
+binds_keep files b (Bound_by call count number total ms x a few are) = open_keeps files b x.held call count (answered (Ask_alive x.held.0) (told (probe.Alive x.on) number total) ∷ []) a (λ c. record { about = (inl refl, tt); ends = (inl refl, tt); due = (tt, tt) })
 
 -- the device was found alive last, and its file is open
 record IsFound (files : List OpenFile) (b : Behind) (held : ℕ) (on : Bool) : Type 0 where
@@ -157,7 +157,7 @@ stop_unbound stop.Memory x e = let none : ⊥ = cc in none
 
 bound_found : {name : List ℕ} {ms : List Made} {x : Bound} (files : List OpenFile) (b : Behind) → Binds_by name ms (bound.Bound x) → IsFound (files_after files ms) (behind_after b ms) x.held.0 x.on
 bound_found {x = x} files b (Cut file call count ms of at t shut why r a few may stops e) = absurd (stop_unbound why x e)
-bound_found {name} files b (Bound_by call count number total ms x a few) =
+bound_found {name} files b (Bound_by call count number total ms x a few are) =
     let start : Made = answered (Open name Authorized) (told (opened.Token x.held) call count) in
     let own : List OpenFile = open_file x.held.0 Authorized ∷ files in
     let end : Made = answered (Ask_alive x.held.0) (told (probe.Alive x.on) number total) in

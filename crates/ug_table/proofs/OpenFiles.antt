@@ -74,7 +74,7 @@ binds_left files (Open_short call count) = refl
 binds_left files (Cut file call count ms of at t shut why r a few may stops e) = open_left (open_file file.0 Authorized ∷ files) _ a ∙ closed_first file.0 Authorized files ∙ stop_files why files ∙ ap (λ (v : Binding). binding_files v files) (sym e)
 binds_left files (Probed_gone file call count number total ms shut a few) = open_left (open_file file.0 Authorized ∷ files) _ a ∙ closed_first file.0 Authorized files
 binds_left files (Probe_failed file call count number total ms shut a few) = open_left (open_file file.0 Authorized ∷ files) _ a ∙ closed_first file.0 Authorized files
-binds_left files (Bound_by call count number total ms b a few) = open_left (open_file b.held.0 Authorized ∷ files) _ a
+binds_left files (Bound_by call count number total ms b a few are) = open_left (open_file b.held.0 Authorized ∷ files) _ a
 
 -- the opening of a `remove` file holds it where it is ready
 abbrev hold_files : RemoveHold → List OpenFile → List OpenFile

@@ -27,7 +27,7 @@ binds_few (Open_short call count) = omega arith
 binds_few (Cut file call count ms of at t shut why r a few may stops e) = let sum = count_more ms (answered (Read of at) t ∷ answered (Close file.0) shut ∷ []) in omega (arith, few, sum)
 binds_few (Probed_gone file call count number total ms shut a few) = let sum = count_more ms (answered (Ask_alive file.0) (told probe.Gone number total) ∷ answered (Close file.0) shut ∷ []) in omega (arith, few, sum)
 binds_few (Probe_failed file call count number total ms shut a few) = let sum = count_more ms (answered (Ask_alive file.0) (told probe.Failed number total) ∷ answered (Close file.0) shut ∷ []) in omega (arith, few, sum)
-binds_few (Bound_by call count number total ms b a few) = let sum = count_more ms (answered (Ask_alive b.held.0) (told (probe.Alive b.on) number total) ∷ []) in omega (arith, few, sum)
+binds_few (Bound_by call count number total ms b a few are) = let sum = count_more ms (answered (Ask_alive b.held.0) (told (probe.Alive b.on) number total) ∷ []) in omega (arith, few, sum)
 
 holds_few : {name : List ℕ} {held : ℕ} {ms : List Made} {r : RemoveHold} → Holds_by name held ms r → count_calls ms ≤ 2
 holds_few (Not_there call count) = omega arith
