@@ -24,11 +24,3 @@ counts_never_fall (Read name attr) answer v w h = h.never_falls
 counts_never_fall (Ask_alive held) answer v w h = h.never_falls
 counts_never_fall (Put held write) answer v w h = h.never_falls
 counts_never_fall (Close held) answer v w h = omega (arith, h.1)
-
-pub run_never_falls : {R : Type 0} (p : Prog R) (v : Tally) (r : R) (w : Tally) → Runs counts v p r w → v.faults ≤ w.faults
-run_never_falls (Return value) v r w h = omega (arith, ap (λ (x : Tally). x.faults) h.1)
-run_never_falls (Ask call next) v r w h =
-    let a = counts_never_fall call h.0 v h.1 h.2 in
-    let b = run_never_falls (next h.0) h.1 r w h.3 in
-    omega (arith, a, b)
-run_never_falls (Room next) v r w h = run_never_falls (next h.0) v r w h.1

@@ -85,12 +85,10 @@ reads_tell i d e f k l (Then_read of by t ms may came r) a at live s =
     )
 
 own_same : (d p s c : ReadOut) (e : Device) → d ≡ read_of attr.Descriptors e → p ≡ read_of attr.Product e → s ≡ read_of attr.Serial e → c ≡ read_of attr.Connect e → own_from d p s c ≡ attrs_of e
-own_same d p s c e a b f g =
-    ap (λ x. own_from x p s c) a ∙ ap (λ x. own_from (read_of attr.Descriptors e) x s c) b ∙ ap (λ x. own_from (read_of attr.Descriptors e) (read_of attr.Product e) x c) f
-    ∙ ap (λ x. own_from (read_of attr.Descriptors e) (read_of attr.Product e) (read_of attr.Serial e) x) g
+own_same d p s c e a b f g = cc
 
 parents_same : (d p s : ReadOut) (e : Device) → d ≡ read_of attr.Descriptors e → p ≡ read_of attr.Product e → s ≡ read_of attr.Serial e → parents_from d p s ≡ parent_attrs_of e
-parents_same d p s e a b f = ap (λ x. parents_from x p s) a ∙ ap (λ x. parents_from (read_of attr.Descriptors e) x s) b ∙ ap (λ x. parents_from (read_of attr.Descriptors e) (read_of attr.Product e) x) f
+parents_same d p s e a b f = cc
 
 own_is : {name : List ℕ} {ms : List Made} {attrs : Attrs} {parent : Option Attrs} (f : Device) → name ≡ f.name → Files name ms attrs parent → TellOf f ms → attrs ≡ attrs_of f
 own_is f e (Alone d p s c none) h = own_same d.answer p.answer s.answer c.answer f (h.0 e) (h.1.0 e) (h.1.1.0 e) (h.1.1.1.0 e)

@@ -21,7 +21,7 @@ use Rattle.ug_kernel.specs.Along.{Made, answered, failure_of, failure_if, failur
 use Rattle.ug_kernel.proofs.Ways.{Ways}
 use Rattle.ug_sysfs.specs.Devices.{find}
 use Rattle.ug_sysfs.specs.declared.script.Failing.{Failing}
-use Rattle.ug_sysfs.specs.World.{World, answer_of, answer_from, refusing, entered, fate, fate_of, effect, opened_at, read_from, read_at, alive_of, probed_at, put_at, live_held}
+use Rattle.ug_sysfs.specs.World.{World, answer_of, answer_unless, answer_from, entered, fate, fate_of, effect, opened_at, read_from, read_at, alive_of, probed_at, put_at, live_held}
 use Rattle.ug_play.specs.Play.{play}
 use Rattle.ug_play.proofs.Plays.{unless_cases, told_unless}
 
@@ -120,24 +120,16 @@ sure_read : (f : Option Bool) (name : List ℕ) (at : Attr) (k : Kernel) → sho
 sure_read None name at k = (fine_at at (find name 0 k.devices) k.devices).0
 sure_read (Some b) name at k = refl
 
-never_short : (call : Call) (s : World) → is_want call (answer_from s call).0 ≡ false
-never_short Names s = sure_listing (fate_of s) s.kernel
-never_short (Open name control) s = sure_open (fate_of s) name control s.kernel
-never_short (Read name at) s = sure_read (fate_of s) name at s.kernel
-never_short (Ask_alive held) s = refl
-never_short (Put held write) s = refl
-never_short (Close held) s = refl
-
-never_refused_short : (call : Call) (s : World) → is_want call (refusing s call).0 ≡ false
-never_refused_short Names s = refl
-never_refused_short (Open name control) s = refl
-never_refused_short (Read name at) s = refl
-never_refused_short (Ask_alive held) s = refl
-never_refused_short (Put held write) s = refl
-never_refused_short (Close held) s = refl
-
-never_wants : (s : World) (call : Call) → is_want call (answer_of s call).0 ≡ false
-never_wants s call = unless_cases (λ call (p : Answer call × World). is_want call p.0 ≡ false) s.ran_out s (λ held. refl) (λ call t. never_refused_short call s) (λ call f. never_short call (entered s)) call
+never_wants : (b : Bool) (s : World) (call : Call) → is_want call (answer_unless b s call).0 ≡ false
+never_wants b s (Close held) = refl
+never_wants b s (Ask_alive held) = refl
+never_wants b s (Put held write) = refl
+never_wants true s Names = refl
+never_wants true s (Open name control) = refl
+never_wants true s (Read name at) = refl
+never_wants false s Names = sure_listing (fate_of (entered s)) (entered s).kernel
+never_wants false s (Open name control) = sure_open (fate_of (entered s)) name control (entered s).kernel
+never_wants false s (Read name at) = sure_read (fate_of (entered s)) name at (entered s).kernel
 
 -- nor fails, where no call is to fail
 
@@ -175,7 +167,7 @@ play_way P (Ask call next) s w =
     let k = play_way (λ ok ms r. P ok (answered call a ∷ ms) r) (next a) (answer_of s call).1 (w a) in
     record {
       made = answered call a ∷ k.made;
-      sure = ap (λ (b : Bool). b || has_want k.made) (never_wants s call) ∙ k.sure;
+      sure = ap (λ (b : Bool). b || has_want k.made) (never_wants s.ran_out s call) ∙ k.sure;
       calm = λ o e. ap (λ (v : List FailedCall). v ++ failures k.made) (never_fails s call o e) ∙ k.calm (told_unless s call o) (fails_stay s call e);
       so = k.so;
     }
