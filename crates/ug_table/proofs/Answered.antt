@@ -7,10 +7,10 @@ use Rattle.ug_node.specs.declared.identity.Bound.{Bound}
 use Rattle.ug_node.specs.declared.identity.Binding.{Binding}
 use Rattle.ug_audit.specs.declared.entry.Entry.{Entry}
 use Rattle.ug_audit.specs.declared.entry.Fault.{Fault}
-use Rattle.ug_table.specs.State.{State, Kept, Answers, Laters}
+use Rattle.ug_table.specs.State.{State, Answers, Laters}
 use Rattle.ug_table.specs.Bring.{is_to_go}
 use Rattle.ug_table.specs.Standings.{standing_of, place_for, with_standing, settled_standing}
-use Rattle.ug_table.specs.Settle.{kept_standings, tried_standings, settling, resettling}
+use Rattle.ug_table.specs.Settle.{kept_standings, tried_standings}
 use Rattle.ug_table.specs.Sweep.{names_of}
 use Rattle.ug_table.specs.One.{why_in, whys, why_of}
 use Rattle.ug_table.specs.declared.standing.Standing.{Standing}
@@ -19,11 +19,11 @@ use Rattle.ug_table.specs.declared.standing.Settled.{Settled}
 use Rattle.ug_table.specs.declared.standing.Settled.TheVariants as settled
 use Rattle.ug_types.proofs.Elements.{has_map, has_new}
 use Rattle.ug_table.proofs.Standings.{found, missing_without, names_marked}
-use Rattle.ug_kernel.proofs.Ways.{ways_more}
-use Rattle.ug_table.proofs.Shapes.{Written, Done, Went, Broke, Valued, Same, Set, Gone_by, Failed_by, Short_by, Removal, Not_held, Put_on, Carried, By_value, And_removal, Brought, Left_open, Let_go, Opening, Fresh, Lost, Unbound_end, Absent_so, Vanished_so, Failed_so, Short_so, Flat, Unprobed, Tried, Stopped, Unbound, No_place, Judged_so, Settles, settles, Resettles, resettles}
-use Rattle.ug_kernel.specs.Calls.{Told}
+use Rattle.ug_table.proofs.Shapes.{Written, Done, Went, Broke, Valued, Same, Set, Gone_by, Failed_by, Short_by, Removal, Not_held, Put_on, Carried, By_value, And_removal, Brought, Left_open, Let_go, Opening, Fresh, Lost, Unbound_end, Absent_so, Vanished_so, Failed_so, Short_so, Flat, Unprobed, Tried, Stopped, Unbound, No_place, Judged_so}
+use Rattle.ug_kernel.specs.Calls.{Call, Answer, Told}
 use Rattle.ug_kernel.specs.Along.{Made}
-use Rattle.ug_table.proofs.Told.{EndsSo, opens}
+use Rattle.ug_table.proofs.Told.{opens}
+use Rattle.ug_table.proofs.Chains.{Piece}
 
 whys_more : (es fs : List Entry) → whys (es ++ fs) ≡ whys es ++ whys fs
 whys_more [] fs = refl
@@ -125,23 +125,14 @@ flat_answered {name = name} xs ys e (Judged_so ms ns os es fs rs b x how t openi
   nobody = kept_nobody rs x how name (opens opening).absent;
 }
 
-pub settling_answered : {J : Type 0} (answer : Answers J) (later : Laters J) (name : List ℕ) (present : Bool) (w : State J) → EndsSo (λ (p : Settled × State J). Answered name w.entries p.0 p.1.standings p.1.entries) (settling answer later name present w)
-settling_answered answer later name present w = ways_more (Settles answer later name present w) (λ ok ms p. Answered name w.entries p.0 p.1.standings p.1.entries) (settling answer later name present w) (λ ok ms p h. flat_answered w.entries p.1.entries h.entries h.flat) (settles answer later name present w)
+pub piece_answered : {S J : Type 0} {gives : S → (call : Call) → Answer call → S → Type 0} {answer : Answers J} {later : Laters J} {binds present : Bool} {name : List ℕ} {how : Settled} {s t : S} {w v : State J} → Piece gives answer later binds present name how s w t v → Answered name w.entries how v.standings v.entries
+piece_answered {w = w} {v = v} p = flat_answered w.entries v.entries p.entries p.flat
 
--- where the listing didn't succeed
-
--- want of memory is answered only where the standing's device is to be removed
-pub record AnsweredAgain (name : List ℕ) (w : Kept) (p : Settled × Kept) : Type 0 where
-  pub answered : Answered name w.entries p.0 p.1.standings p.1.entries
-  pub room : p.0 ≡ settled.Memory → (known : Known) × (standing_of name w.standings ≡ Some known) × (is_to_go known ≡ true)
-
-flat_room : {given : List Standing → Bound → Standing → Type 0} {binds : Bool} {name : List ℕ} {ss : List Standing} {ok : Bool} {ms : List Made} {rest : List Entry} {how : Settled} {rs : List Standing} {o : Option (List Standing × Bound)} → Flat binds given name ss ok ms rest how rs o → binds ≡ false → how ≡ settled.Memory → (known : Known) × (standing_of name ss ≡ Some known) × (is_to_go known ≡ true)
+-- where nothing is bound, want of memory is answered only where the standing's device is to be removed
+pub flat_room : {given : List Standing → Bound → Standing → Type 0} {binds : Bool} {name : List ℕ} {ss : List Standing} {ok : Bool} {ms : List Made} {rest : List Entry} {how : Settled} {rs : List Standing} {o : Option (List Standing × Bound)} → Flat binds given name ss ok ms rest how rs o → binds ≡ false → how ≡ settled.Memory → (known : Known) × (standing_of name ss ≡ Some known) × (is_to_go known ≡ true)
 flat_room (Unprobed known failed at) f e = let none : ⊥ = cc in absurd none
 flat_room (Tried known on failed ms es how at b) f e = (known, at, (brought_whys b).1 e)
 flat_room (Stopped ms es rs f opening) g e = let none : ⊥ = cc in absurd none
 flat_room (Unbound ms ns es fs rs r how t opening way end) f e = let none : ⊥ = cc in absurd none
 flat_room (No_place ms ns es rs b shut t opening way) f e = let none : ⊥ = cc in absurd none
 flat_room (Judged_so ms ns os es fs rs b x how t opening way given new brought) f e = let none : ⊥ = cc in absurd none
-
-pub resettling_answered : (name : List ℕ) (w : Kept) → EndsSo (AnsweredAgain name w) (resettling name w)
-resettling_answered name w = ways_more (Resettles name w) (λ ok ms p. AnsweredAgain name w p) (resettling name w) (λ ok ms p h. record { answered = flat_answered w.entries p.1.entries h.entries h.flat; room = flat_room h.flat refl }) (resettles name w)

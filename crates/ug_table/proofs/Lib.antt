@@ -20,6 +20,7 @@ pub mod Own
 pub mod Again
 pub mod Lived
 pub mod Shapes
+pub mod Chains
 pub mod Told
 pub mod Marks
 pub mod Spared

@@ -5,17 +5,15 @@ use Rattle.ug_types.specs.declared.control.Write.{Write}
 use Rattle.ug_kernel.specs.declared.calls.Wrote.{Wrote}
 use Rattle.ug_kernel.specs.declared.calls.Wrote.TheVariants as wrote
 use Rattle.ug_kernel.specs.Calls.{Call, Answer}
-use Rattle.ug_kernel.specs.Tree.{Prog, Runs, then}
 use Rattle.ug_node.specs.declared.identity.Bound.{Bound}
 use Rattle.ug_node.specs.declared.identity.Binding.{Binding}
 use Rattle.ug_audit.specs.declared.entry.Entry.{Entry}
 use Rattle.ug_audit.specs.declared.entry.Entry.TheVariants as entry
 use Rattle.ug_audit.specs.declared.entry.Fault.TheVariants as fault
 use Rattle.ug_node.specs.declared.removal.RemoveHold.{RemoveHold}
-use Rattle.ug_table.specs.State.{State, Kept, Answers, Laters}
-use Rattle.ug_table.specs.Bring.{is_to_go, bringing}
+use Rattle.ug_table.specs.State.{State, Answers, Laters}
 use Rattle.ug_table.specs.Standings.{same_name, without, marked, place_for, with_standing, settled_standing}
-use Rattle.ug_table.specs.Settle.{kept_standings, tried_standings, settling, resettling}
+use Rattle.ug_table.specs.Settle.{kept_standings, tried_standings}
 use Rattle.ug_table.specs.Sweep.{names_of}
 use Rattle.ug_table.specs.Laws.{IsNamed, IsMarked}
 use Rattle.ug_table.specs.declared.standing.Standing.{Standing}
@@ -23,25 +21,12 @@ use Rattle.ug_table.specs.declared.standing.Known.{Known}
 use Rattle.ug_table.specs.declared.standing.Settled.{Settled}
 use Rattle.ug_table.specs.declared.standing.Settled.TheVariants as settled
 use Rattle.ug_types.proofs.Elements.{has_left, has_right, has_cases, filter_has, map_has, has_map, insert_has}
-use Rattle.ug_kernel.proofs.Ways.{Ways, Sure, ways_run, ways_next, ways_more}
-use Rattle.ug_table.proofs.Shapes.{Written, Done, Went, Broke, Valued, Same, Set, Unheld, Gone_by, Failed_by, Short_by, Removal, Not_held, Put_on, Carried, By_value, And_removal, Brought, Left_open, Let_go, Opening, Fresh, Lost, Unbound_end, Absent_so, Vanished_so, Failed_so, Short_so, Flat, Unprobed, Tried, Stopped, Unbound, No_place, Judged_so, Adds, brought, Settles, settles, Resettles, resettles}
+use Rattle.ug_table.proofs.Shapes.{Written, Done, Went, Broke, Valued, Same, Set, Unheld, Gone_by, Failed_by, Short_by, Removal, Not_held, Put_on, Carried, By_value, And_removal, Brought, Left_open, Let_go, Opening, Fresh, Lost, Unbound_end, Absent_so, Vanished_so, Failed_so, Short_so, Flat, Unprobed, Tried, Stopped, Unbound, No_place, Judged_so, brought}
 use Rattle.ug_kernel.specs.Calls.{Told}
 use Rattle.ug_kernel.specs.Along.{Made}
 use Rattle.ug_table.proofs.Standings.{is_same, missing, missing_without}
 use Rattle.ug_table.proofs.Places.{marked_other}
-
--- each end of the tree is so
-abbrev pub EndsSo : {R : Type 0} → (R → Type 0) → Prog R → Type 0
-EndsSo p t = Ways t (λ ok ms r. p r)
-
-pub ends_run : {S R : Type 0} (gives : S → (call : Call) → Answer call → S → Type 0) (p : R → Type 0) (t : Prog R) (s : S) (r : R) (u : S) → EndsSo p t → Runs gives s t r u → p r
-ends_run gives p t s r u e h = (ways_run gives (λ ok ms x. p x) t s r u e h).so
-
-pub ends_then : {A B : Type 0} (p : A → Type 0) (q : B → Type 0) (t : Prog A) (f : A → Prog B) → EndsSo p t → ((a : A) → p a → EndsSo q (f a)) → EndsSo q (then t f)
-ends_then p q t f e g = ways_next (λ ok ms a. p a) (λ ok ms b. q b) t f e (λ ok ms a h. g a h)
-
-pub ends_map : {R : Type 0} (p q : R → Type 0) (t : Prog R) → ((r : R) → p r → q r) → EndsSo p t → EndsSo q t
-ends_map p q t f e = ways_more (λ ok ms r. p r) (λ ok ms r. q r) t (λ ok ms r h. f r h) e
+use Rattle.ug_table.proofs.Chains.{Piece}
 
 -- each entry is so
 abbrev pub Each : (Entry → Type 0) → List Entry → Type 0
@@ -73,11 +58,6 @@ NamesNone (entry.Unsettled n why) = ⊥
 NamesNone (entry.UnsettledAll why) = ⊥
 NamesNone e = Unit {0}
 
--- it names none for memory
-abbrev pub NotMemory : Entry → Type 0
-NotMemory (entry.Unsettled n fault.Memory) = ⊥
-NotMemory e = Unit {0}
-
 pub none_named : (es : List Entry) (name : List ℕ) → Each NamesNone es → IsNamed es name → ⊥
 none_named es name h a = each_has NamesNone es (entry.Unsettled name a.0) h a.1
 
@@ -90,29 +70,28 @@ Tells settled.Memory name rest = IsNamed rest name
 
 -- the writes
 
--- a device that isn't to be removed isn't told for memory
-record TellsSo (name : List ℕ) (go : Bool) (es : List Entry) (how : Settled) : Type 0 where
+-- the entries tell how it ended
+record TellsSo (name : List ℕ) (es : List Entry) (how : Settled) : Type 0 where
   only : Each (NamesOnly name) es
-  spared : go ≡ false → Each NotMemory es
   tells : Tells how name es
 
-written_tells : {name : List ℕ} {number : ℕ} {what : Write} {t : Told Wrote} {es : List Entry} {how : Settled} (go : Bool) → Written name number what t es how → TellsSo name go es how
-written_tells {name} {number} {what} go (Done failed) = record { only = (tt, (tt, tt)); spared = λ e. (tt, (tt, tt)); tells = none_named (entry.Intent number name what ∷ entry.Wrote number name what wrote.Done ∷ []) name (tt, (tt, tt)) }
-written_tells go (Went failed) = record { only = (tt, (tt, (tt, tt))); spared = λ e. (tt, (tt, (tt, tt))); tells = tt }
-written_tells go (Broke failed) = record { only = (tt, (tt, (refl, tt))); spared = λ e. (tt, (tt, (tt, tt))); tells = (fault.Call failed, inr (inr (inl refl))) }
+written_tells : {name : List ℕ} {number : ℕ} {what : Write} {t : Told Wrote} {es : List Entry} {how : Settled} → Written name number what t es how → TellsSo name es how
+written_tells {name} {number} {what} (Done failed) = record { only = (tt, (tt, tt)); tells = none_named (entry.Intent number name what ∷ entry.Wrote number name what wrote.Done ∷ []) name (tt, (tt, tt)) }
+written_tells (Went failed) = record { only = (tt, (tt, (tt, tt))); tells = tt }
+written_tells (Broke failed) = record { only = (tt, (tt, (refl, tt))); tells = (fault.Call failed, inr (inr (inl refl))) }
 
-valued_tells : {name : List ℕ} {known : Known} {on : Bool} {ms : List Made} {es : List Entry} {how : Settled} (go : Bool) → Valued name known on ms es how → TellsSo name go es how
-valued_tells {name} go (Same e) = record { only = tt; spared = λ f. tt; tells = none_named [] name tt }
-valued_tells go (Set t es how e w) = written_tells go w
+valued_tells : {name : List ℕ} {known : Known} {on : Bool} {ms : List Made} {es : List Entry} {how : Settled} → Valued name known on ms es how → TellsSo name es how
+valued_tells {name} (Same e) = record { only = tt; tells = none_named [] name tt }
+valued_tells (Set t es how e w) = written_tells w
 
-unheld_tells : {name : List ℕ} {number : ℕ} {r : RemoveHold} {es : List Entry} {how : Settled} → Unheld name number r es how → TellsSo name true es how
-unheld_tells Gone_by = record { only = (tt, tt); spared = λ e. (tt, tt); tells = tt }
-unheld_tells (Failed_by failed) = record { only = (refl, tt); spared = λ e. (tt, tt); tells = (fault.Call failed, inl refl) }
-unheld_tells Short_by = record { only = (refl, tt); spared = λ e. absurd (let none : ⊥ = cc in none); tells = (fault.Memory, inl refl) }
+unheld_tells : {name : List ℕ} {number : ℕ} {r : RemoveHold} {es : List Entry} {how : Settled} → Unheld name number r es how → TellsSo name es how
+unheld_tells Gone_by = record { only = (tt, tt); tells = tt }
+unheld_tells (Failed_by failed) = record { only = (refl, tt); tells = (fault.Call failed, inl refl) }
+unheld_tells Short_by = record { only = (refl, tt); tells = (fault.Memory, inl refl) }
 
-removal_tells : {name : List ℕ} {known : Known} {ms : List Made} {es : List Entry} {how : Settled} → Removal name known ms es how → TellsSo name true es how
+removal_tells : {name : List ℕ} {known : Known} {ms : List Made} {es : List Entry} {how : Settled} → Removal name known ms es how → TellsSo name es how
 removal_tells (Not_held ms r es how way u) = unheld_tells u
-removal_tells (Put_on ms file t shut es how way w) = written_tells true w
+removal_tells (Put_on ms file t shut es how way w) = written_tells w
 
 tells_more : (how : Settled) (name : List ℕ) (es fs : List Entry) → (IsNamed es name → ⊥) → Tells how name fs → Tells how name (es ++ fs)
 tells_more settled.Stands name es fs none t = λ a. elim (has_cases es fs (entry.Unsettled name a.0) a.1) [ inl b ↦ none (a.0, b) | inr b ↦ t (a.0, b) ]
@@ -120,32 +99,19 @@ tells_more (settled.Fault failed) name es fs none t = (t.0, has_right es fs (ent
 tells_more settled.Nobody name es fs none t = tt
 tells_more settled.Memory name es fs none t = (t.0, has_right es fs (entry.Unsettled name t.0) t.1)
 
-carried_tells : {name : List ℕ} {known : Known} {on : Bool} {ms : List Made} {es : List Entry} {how : Settled} → Carried name known on ms es how → TellsSo name (is_to_go known) es how
-carried_tells {known = known} (By_value ms es how v k) = valued_tells (is_to_go known) v
+carried_tells : {name : List ℕ} {known : Known} {on : Bool} {ms : List Made} {es : List Entry} {how : Settled} → Carried name known on ms es how → TellsSo name es how
+carried_tells (By_value ms es how v k) = valued_tells v
 carried_tells {name} (And_removal ms ns es fs how go v r) =
-    let a = valued_tells true v in
+    let a = valued_tells v in
     let b = removal_tells r in
     record {
       only = each_append (NamesOnly name) es fs a.only b.only;
-      spared = λ e. absurd (let is = go in let none : ⊥ = cc in none);
       tells = tells_more how name es fs a.tells b.tells;
     }
 
-brought_tells : {name : List ℕ} {known : Known} {on : Bool} {ms : List Made} {es : List Entry} {how : Settled} → Brought name known on ms es how → TellsSo name (is_to_go known) es how
+brought_tells : {name : List ℕ} {known : Known} {on : Bool} {ms : List Made} {es : List Entry} {how : Settled} → Brought name known on ms es how → TellsSo name es how
 brought_tells (Left_open ms es how c n) = carried_tells c
 brought_tells (Let_go ms es shut c) = carried_tells c
-
-pub record Brings (name : List ℕ) (go : Bool) (es : List Entry) (p : Settled × List Entry) : Type 0 where
-  pub rest : List Entry
-  pub entries : p.1 ≡ es ++ rest
-  pub only : Each (NamesOnly name) rest
-  pub spared : go ≡ false → Each NotMemory rest
-
-pub bringing_brings : (name : List ℕ) (known : Known) (on : Bool) (es : List Entry) → EndsSo (Brings name (is_to_go known) es) (bringing name known on es)
-bringing_brings name known on es =
-    ways_more (Sure (Adds es (Brought name known on))) (λ ok ms p. Brings name (is_to_go known) es p) (bringing name known on es)
-    (λ ok ms p k. let h = k.1 in let t = brought_tells h.2 in record { rest = h.0; entries = h.1; only = t.only; spared = t.spared })
-    (brought name known on es)
 
 -- a name
 
@@ -278,16 +244,8 @@ flat_part {name = name} xs ys e (Judged_so ms ns os es fs rs b x how t opening w
     }
 
 -- of states, which keep whether a listing has succeeded
-abbrev pub PartOf : {J : Type 0} → List ℕ → State J → Settled × State J → Type 0
-PartOf name w p = Part name w.standings w.entries p.1.standings p.1.entries × (p.1.listed ≡ w.listed)
+abbrev pub PartOf : {J : Type 0} → List ℕ → State J → State J → Type 0
+PartOf name w v = Part name w.standings w.entries v.standings v.entries × (v.listed ≡ w.listed)
 
-pub settling_part : {J : Type 0} (answer : Answers J) (later : Laters J) (name : List ℕ) (present : Bool) (w : State J) → EndsSo (PartOf name w) (settling answer later name present w)
-settling_part answer later name present w = ways_more (Settles answer later name present w) (λ ok ms p. PartOf name w p) (settling answer later name present w) (λ ok ms p h. (flat_part w.entries p.1.entries h.entries h.flat, h.listed)) (settles answer later name present w)
-
--- where the listing didn't succeed
-
-abbrev pub KeptPart : List ℕ → Kept → Settled × Kept → Type 0
-KeptPart name w p = Part name w.standings w.entries p.1.standings p.1.entries
-
-pub resettling_part : (name : List ℕ) (w : Kept) → EndsSo (KeptPart name w) (resettling name w)
-resettling_part name w = ways_more (Resettles name w) (λ ok ms p. KeptPart name w p) (resettling name w) (λ ok ms p h. flat_part w.entries p.1.entries h.entries h.flat) (resettles name w)
+pub piece_part : {S J : Type 0} {gives : S → (call : Call) → Answer call → S → Type 0} {answer : Answers J} {later : Laters J} {binds present : Bool} {name : List ℕ} {how : Settled} {s t : S} {w v : State J} → Piece gives answer later binds present name how s w t v → PartOf name w v
+piece_part {w = w} {v = v} p = (flat_part w.entries v.entries p.entries p.flat, p.listed)
