@@ -34,6 +34,5 @@ pub mod OnePart
 pub mod Parted
 pub mod Faults
 pub mod Once
-pub mod Answered
 pub mod Remarked
 pub mod One

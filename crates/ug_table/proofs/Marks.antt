@@ -18,7 +18,8 @@ use Rattle.ug_table.specs.Laws.{IsNamed, IsUnlisted, IsListed, IsMarked}
 use Rattle.ug_table.specs.declared.standing.Standing.{Standing}
 use Rattle.ug_types.proofs.Elements.{cancel, has_cases, has_map, filter_has}
 use Rattle.ug_table.proofs.Standings.{lists_has, either_listed}
-use Rattle.ug_table.proofs.Told.{Each, each_has, each_append, each_map, NamesOnly, NamesNone, none_named, Part, piece_part, marked_left, marked_right}
+use Rattle.ug_table.proofs.Says.{Each, each_has, each_append, each_map, NamesOnly, NamesNone, none_named}
+use Rattle.ug_table.proofs.Told.{Part, piece_part, marked_left, marked_right}
 use Rattle.ug_table.proofs.Chains.{Chain, Over, First, Goes, Listed, Unlisted, sweeping_by}
 
 -- it names none but these as unsettled, and no listing
@@ -44,22 +45,11 @@ named_only n name es h a = each_has (NamesOnly n) es (entry.Unsettled name a.0) 
 only_first : (n : List ℕ) (names : List (List ℕ)) (e : Entry) → NamesOnly n e → NamesIn (n ∷ names) e
 only_first n names (entry.Unsettled m why) h = inl (sym h)
 only_first n names (entry.UnsettledAll why) h = h
-only_first n names (entry.Event number moment) h = h
-only_first n names (entry.Judged number name held verdict cause) h = h
-only_first n names (entry.Intent number name write) h = h
-only_first n names (entry.Wrote number name write outcome) h = h
-only_first n names (entry.Gone number name) h = h
-only_first n names (entry.End number) h = h
+only_first n names e h = h
 
 only_later : (n : List ℕ) (names : List (List ℕ)) (e : Entry) → NamesIn names e → NamesIn (n ∷ names) e
 only_later n names (entry.Unsettled m why) h = inr h
-only_later n names (entry.UnsettledAll why) h = h
-only_later n names (entry.Event number moment) h = h
-only_later n names (entry.Judged number name held verdict cause) h = h
-only_later n names (entry.Intent number name write) h = h
-only_later n names (entry.Wrote number name write outcome) h = h
-only_later n names (entry.Gone number name) h = h
-only_later n names (entry.End number) h = h
+only_later n names e h = h
 
 none_parts : (ss : List Standing) (es : List Entry) → Parts [] ss es ss es
 none_parts ss es = record { rest = []; entries = sym (append-nil es); only = tt; others = λ s a ne. a; mark = λ s a h. absurd h }

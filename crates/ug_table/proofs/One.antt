@@ -33,7 +33,7 @@ use Rattle.ug_table.proofs.SoFar.{AreIn}
 use Rattle.ug_table.proofs.Lived.{lives_first, lives_last, stand_files, judged_at}
 use Rattle.ug_table.proofs.Standings.{numbered_has}
 use Rattle.ug_table.proofs.Again.{piece_well}
-use Rattle.ug_table.proofs.Answered.{piece_answered}
+use Rattle.ug_table.proofs.Told.{flat_whys, unnamed, flat_stands, flat_nobody}
 use Rattle.ug_table.proofs.Chains.{Piece, resettling_piece, run_numbered, settling_piece}
 use Rattle.ug_table.proofs.Fair.{piece_fair}
 use Rattle.ug_table.proofs.OnePart.{flat_is_part}
@@ -55,12 +55,7 @@ told_more (f ∷ fs) gs = ap (λ (v : List FailedCall). told_by f ++ v) (told_mo
 tells_one : (name : List ℕ) (e : Entry) (es : List Entry) → IsLast name e es → failure_in e ≡ told_all (why_in e)
 tells_one name (entry.Unsettled other why) es last = sym (append-nil (told_by why))
 tells_one name (entry.UnsettledAll why) es last = absurd last
-tells_one name (entry.Event number moment) es last = refl
-tells_one name (entry.Judged number n held verdict cause) es last = refl
-tells_one name (entry.Intent number n what) es last = refl
-tells_one name (entry.Wrote number n what outcome) es last = refl
-tells_one name (entry.Gone number n) es last = refl
-tells_one name (entry.End number) es last = refl
+tells_one name e es last = refl
 
 tells_why : (name : List ℕ) (es : List Entry) → EndsUnsettled name es → failures_told es ≡ told_all (whys es)
 tells_why name [] last = refl
@@ -78,8 +73,7 @@ told_of settled.Memory = refl
 as_part : {S J : Type 0} (gives : S → (call : Call) → Answer call → S → Type 0) (calls faults : S → ℕ) (counted : Counting gives calls faults) {answer : Answers J} {later : Laters J} {binds present : Bool} {name : List ℕ} {how : Settled} {s t : S} {w v : State J} → Piece gives answer later binds present name how s w t v → GoesAsPart gives calls faults name s w.standings w.entries t v.standings v.entries how
 as_part gives calls faults counted {name = name} {how = how} {s = s} {t = t} {w = w} {v = v} p =
     let part = flat_is_part p.flat in
-    let h = piece_answered p in
-    let why : whys p.rest ≡ why_of how = subst (λ (x : List Entry). whys x ≡ why_of how) (added w.entries v.entries p.rest h.rest p.entries h.entries) h.why in
+    let why : whys p.rest ≡ why_of how = flat_whys p.flat in
     record {
       made = p.made;
       along = p.along;
@@ -88,29 +82,14 @@ as_part gives calls faults counted {name = name} {how = how} {s = s} {t = t} {w 
       part = part;
       why = why;
       failed = sym part.told ∙ tells_why name p.rest part.last ∙ ap told_all why ∙ told_of how;
-      stands = h.stands;
-      nobody = h.nobody;
+      stands = flat_stands p.flat;
+      nobody = flat_nobody p.flat;
       numbered = along_numbered gives calls faults counted p.made s t p.along;
       rises = λ low. along_rises gives calls faults counted p.made s t low p.along;
     }
 
 pub settling_part : {S J : Type 0} (gives : S → (call : Call) → Answer call → S → Type 0) (calls faults : S → ℕ) (counted : Counting gives calls faults) (answer : Answers J) (later : Laters J) (name : List ℕ) (present : Bool) (w : State J) (s : S) (p : Settled × State J) (t : S) → Runs gives s (settling answer later name present w) p t → GoesAsPart gives calls faults name s w.standings w.entries t p.1.standings p.1.entries p.0
 settling_part gives calls faults counted answer later name present w s p t h = as_part gives calls faults counted (settling_piece gives answer later name present w s p t h)
-
--- nothing that is told is unsettled
-right_none : (xs ys : List Fault) → xs ++ ys ≡ [] → ys ≡ []
-right_none [] ys e = e
-right_none (x ∷ xs) ys e = let none : ⊥ = cc in absurd none
-
-told_why : (es : List Entry) (name : List ℕ) (why : Fault) → whys es ≡ [] → Has es (entry.Unsettled name why) → ⊥
-told_why [] name why e a = a
-told_why (x ∷ es) name why e (inl is) =
-    let here : why ∷ whys es ≡ [] = subst (λ (v : Entry). why_in v ++ whys es ≡ []) is e in
-    let none : ⊥ = cc in none
-told_why (x ∷ es) name why e (inr a) = told_why es name why (right_none (why_in x) (whys es) e) a
-
-none_named : (es : List Entry) (name : List ℕ) → whys es ≡ [] → IsNamed es name → ⊥
-none_named es name e a = told_why es name a.0 e a.1
 
 first_in : {J : Type 0} (w : State J) (name : List ℕ) → AreIn none_before name w w
 first_in w name rest e s a = inr (refl, a)
@@ -124,7 +103,6 @@ settling_one : {J : Type 0} (answer : Answers J) (later : Laters J) (name : List
 settling_one {J} answer later name present w k l p sound stand r =
     let piece = settling_piece calls answer later name present w k p l r in
     let a = piece_fair (λ e. first_in w name) (fair_refl answer later present none_before k w sound stand) piece in
-    let h = piece_answered piece in
     let last : (i : ℕ) → LivedAs k l name i → LiveAs l i name = λ i x. subst (λ (v : List ℕ). LiveAs l i v) x.2 (lives_last k l i x.0 a.fair.grows x.1) in
     let ended : (i : ℕ) → LivedAs k l name i → IsAsJudged l p.1.standings i ⊎ IsNamed a.fair.rest name = λ i x.
     let first = subst (λ (v : List ℕ). LiveAs k i v) x.2 (lives_first k l i x.0 x.1) in
@@ -137,8 +115,8 @@ settling_one {J} answer later name present w k l p sound stand r =
       fair = a.fair;
       ended = ended;
       nobody = λ e i x. elim (ended i x) [
-        | inl j ↦ h.nobody e (standing_named l p.1.standings p.1.next i name a.fair.stand (last i x) j.standing)
-        | inr n ↦ none_named a.fair.rest name (subst (λ (v : List Entry). whys v ≡ []) (added w.entries p.1.entries a.fair.rest h.rest a.fair.entries h.entries) (h.why ∙ ap why_of e)) n
+        | inl j ↦ flat_nobody piece.flat e (standing_named l p.1.standings p.1.next i name a.fair.stand (last i x) j.standing)
+        | inr n ↦ unnamed a.fair.rest name (subst (λ (v : List Entry). whys v ≡ []) (added w.entries p.1.entries a.fair.rest piece.rest a.fair.entries piece.entries) (flat_whys piece.flat ∙ ap why_of e)) n
       ];
     }
 
@@ -183,7 +161,6 @@ resettling_one w k l p x sound stand has r =
     let a = fair no_verdict no_later false none_before in
     let g = a.fair.grows in
     let files = stand_files k w.standings w.next stand in
-    let h = piece_answered piece in
     let stood : (i : ℕ) → IsOf k x i → HasStanding l p.1.standings i ⊎ IsGone l i = λ i file. had_before a l i x.number x.name x.held x.verdict (grows_refl l) (inl (x, has, refl, refl, refl, refl)) (file_later k l x.held.0 i g file) in
     record {
       fair = λ answer later present tried. (fair answer later present tried).fair;
@@ -202,7 +179,7 @@ resettling_one w k l p x sound stand has r =
       nobody = λ e i file. elim (stood i file) [
         | inl s ↦
             let same : s.s.name ≡ x.name = one_name l s.s.name x.name s.s.held.0 x.held.0 i (stand_files l p.1.standings w.next a.fair.stand s.s s.has) (open_later k l x.name x.held.0 g (files x has)) s.file (file_later k l x.held.0 i g file) in
-            absurd (h.nobody e (subst (λ (v : List ℕ). Has (names_of p.1.standings) v) same (has_map (λ (v : Standing). v.name) p.1.standings s.s s.has)))
+            absurd (flat_nobody piece.flat e (subst (λ (v : List ℕ). Has (names_of p.1.standings) v) same (has_map (λ (v : Standing). v.name) p.1.standings s.s s.has)))
         | inr gone ↦ gone
       ];
     }

@@ -11,7 +11,8 @@ use Rattle.ug_table.specs.Laws.{AreInOrder, IsNamed, IsMarked, Tries, swept_befo
 use Rattle.ug_table.specs.declared.standing.Standing.{Standing}
 use Rattle.ug_types.proofs.Elements.{cancel, has_cases, filter_has}
 use Rattle.ug_table.proofs.Standings.{same_is, is_same, lists_has}
-use Rattle.ug_table.proofs.Told.{none_named, Part, PartOf, marked_left, marked_right}
+use Rattle.ug_table.proofs.Says.{none_named}
+use Rattle.ug_table.proofs.Told.{Part, PartOf, marked_left, marked_right}
 use Rattle.ug_table.proofs.Marks.{named_only, farewell_none}
 use Rattle.ug_table.proofs.Orders.{not_behind, not_itself}
 
