@@ -11,8 +11,8 @@ use Rattle.ug_kernel.specs.Quiet.{Quiet}
 use Rattle.ug_kernel.proofs.Grow.{quiet_grows, called_grows}
 use Rattle.ug_kernel.proofs.Quiet.{called_quiet, quiet_refl, quiet_trans}
 use Rattle.ug_kernel.specs.Along.{Made, answered, Along}
-use Rattle.ug_kernel.proofs.Ways.{Way, way_runs, ways_run, along_split, along_sound, along_grows}
-use Rattle.ug_table.proofs.Shapes.{Valued, Same, Set, Removal, Not_held, Put_on, Carried, By_value, And_removal, Brought, Left_open, Let_go, Opening, Fresh, Lost, Flat, Unprobed, Tried, Stopped, Unbound, No_place, Judged_so, Settles, settles, Resettles, resettles, told_at}
+use Rattle.ug_kernel.proofs.Ways.{Way, way_runs, along_split, along_sound, along_grows}
+use Rattle.ug_table.proofs.Shapes.{Valued, Same, Set, Removal, Not_held, Put_on, Carried, By_value, And_removal, Brought, Left_open, Let_go, Opening, Fresh, Lost, Flat, Unprobed, Tried, Stopped, Unbound, No_place, Judged_so, told_at}
 use Rattle.ug_kernel.specs.Tree.{Runs, calls}
 use Rattle.ug_node.specs.Removal.{holding_remove, RemoveSays}
 use Rattle.ug_node.specs.declared.removal.RemoveHold.{RemoveHold}
@@ -25,10 +25,9 @@ use Rattle.ug_node.specs.declared.identity.Binding.{Binding}
 use Rattle.ug_node.specs.declared.identity.Binding.TheVariants as bound
 use Rattle.ug_node.proofs.Laws.{binding_law}
 use Rattle.ug_audit.specs.declared.entry.Entry.{Entry}
-use Rattle.ug_table.specs.State.{State, Kept, Answers, Laters}
+use Rattle.ug_table.specs.State.{State, Answers, Laters}
 use Rattle.ug_table.specs.Bring.{write_of}
 use Rattle.ug_table.specs.Standings.{standing_of, without}
-use Rattle.ug_table.specs.Settle.{settling, resettling}
 use Rattle.ug_table.specs.declared.standing.Standing.{Standing}
 use Rattle.ug_table.specs.declared.standing.Known.{Known}
 use Rattle.ug_table.specs.declared.standing.Settled.{Settled}
@@ -36,6 +35,7 @@ use Rattle.ug_table.specs.declared.standing.Settled.TheVariants as settled
 use Rattle.ug_table.proofs.Values.{Others, others_refl, others_trans, others_quiet, others_put, IsOpen, open_later}
 use Rattle.ug_table.proofs.Standings.{found}
 use Rattle.ug_table.proofs.Places.{Files, files_later, kept_has, kept_files, tried_has, tried_files}
+use Rattle.ug_table.proofs.Chains.{Piece}
 
 -- entries were added
 abbrev pub Appends : List Entry → List Entry → Type 0
@@ -167,21 +167,5 @@ flat_apart {name = name} k l xs ys e sound f (Judged_so ms ns os es fs rs b x ho
       files = kept_files l rs x how (files_later m l rs g o.files) (subst (λ v. IsOpen l v x.held.0) (sym new.named) (open_later m l name x.held.0 g opened_now));
     }
 
--- of states
-abbrev pub Parts : {J : Type 0} → List ℕ → Kernel → State J → Kernel → State J → Type 0
-Parts name k w l v = Apart name k w.standings w.entries l v.standings v.entries
-
-pub settling_apart : {J : Type 0} (answer : Answers J) (later : Laters J) (name : List ℕ) (present : Bool) (w : State J) (k l : Kernel) (p : Settled × State J) → IsKernel k → Files k w.standings → Runs calls k (settling answer later name present w) p l → Parts name k w l p.1
-settling_apart answer later name present w k l p sound f r =
-    let x = ways_run calls (Settles answer later name present w) (settling answer later name present w) k p l (settles answer later name present w) r in
-    flat_apart k l w.entries p.1.entries x.so.entries sound f x.so.flat x.along
-
--- where the listing didn't succeed
-
-abbrev pub KeptParts : List ℕ → Kernel → Kept → Kernel → Kept → Type 0
-KeptParts name k w l v = Apart name k w.standings w.entries l v.standings v.entries
-
-pub resettling_apart : (name : List ℕ) (w : Kept) (k l : Kernel) (p : Settled × Kept) → IsKernel k → Files k w.standings → Runs calls k (resettling name w) p l → KeptParts name k w l p.1
-resettling_apart name w k l p sound f r =
-    let x = ways_run calls (Resettles name w) (resettling name w) k p l (resettles name w) r in
-    flat_apart k l w.entries p.1.entries x.so.entries sound f x.so.flat x.along
+pub piece_apart : {J : Type 0} {answer : Answers J} {later : Laters J} {binds present : Bool} {name : List ℕ} {how : Settled} {k l : Kernel} {w v : State J} → IsKernel k → Files k w.standings → Piece calls answer later binds present name how k w l v → Apart name k w.standings w.entries l v.standings v.entries
+piece_apart {k = k} {l = l} {w = w} {v = v} sound f p = flat_apart k l w.entries v.entries p.entries sound f p.flat p.along

@@ -15,7 +15,7 @@ use Rattle.ug_kernel.specs.Kernel.{Kernel, IsKernel}
 use Rattle.ug_kernel.specs.Called.{IsGoneAt}
 use Rattle.ug_kernel.specs.Quiet.{Quiet}
 use Rattle.ug_kernel.proofs.Grow.{some_same, quiet_grows, grows_refl}
-use Rattle.ug_kernel.specs.Tree.{Runs, calls}
+use Rattle.ug_kernel.specs.Tree.{calls}
 use Rattle.ug_record.specs.Records.{judged_of}
 use Rattle.ug_node.specs.Bind.{binding}
 use Rattle.ug_node.specs.Bound.{attrs_of, IsBound, BindSays}
@@ -28,10 +28,10 @@ use Rattle.ug_audit.specs.declared.entry.Entry.TheVariants as entry
 use Rattle.ug_audit.specs.declared.entry.Fault.TheVariants as fault
 use Rattle.ug_types.specs.declared.control.Write.TheVariants as write
 use Rattle.ug_kernel.specs.declared.calls.Wrote.TheVariants as wrote
-use Rattle.ug_table.specs.State.{State, Kept, with_kept, Answers, Laters}
+use Rattle.ug_table.specs.State.{State, Answers, Laters}
 use Rattle.ug_table.specs.Standings.{known_of, standing_of, without, with_standing, place_for, settled_standing}
 use Rattle.ug_table.specs.Bring.{is_reject}
-use Rattle.ug_table.specs.Settle.{kept_standings, standing_for, judged_entry, tried_standings, dropped, settling, resettling}
+use Rattle.ug_table.specs.Settle.{kept_standings, standing_for, judged_entry, tried_standings, dropped}
 use Rattle.ug_table.specs.Sweep.{names_of}
 use Rattle.ug_table.specs.Laws.{Tries, AreInOrder, none_before, IsDevice, IsProbed, Stand, numbers_of, Account, Judge, Start, IsOne, IsTold, HasStanding, IsFair, IsRemoveMarked}
 use Rattle.ug_table.specs.declared.standing.Standing.{Standing}
@@ -47,12 +47,13 @@ use Rattle.ug_table.proofs.Steps.{Same, After, one_itself, fair_end, then_quiet,
 use Rattle.ug_table.proofs.Written.{brought_fair}
 use Rattle.ug_table.proofs.Orders.{order_with}
 use Rattle.ug_kernel.specs.Along.{Made, answered, Along}
-use Rattle.ug_kernel.proofs.Ways.{Way, way_runs, ways_run, along_split}
+use Rattle.ug_kernel.proofs.Ways.{Way, way_runs, along_split}
 use Rattle.ug_kernel.specs.declared.calls.FailedCall.{FailedCall}
-use Rattle.ug_table.proofs.Shapes.{Brought, Opening, Fresh, Lost, Unbound_end, Absent_so, Vanished_so, Failed_so, Short_so, Flat, Unprobed, Tried, Stopped, Unbound, No_place, Judged_so, IsGiven, next_after, judge_after, Settles, settles, Resettles, resettles, told_at}
+use Rattle.ug_table.proofs.Shapes.{Brought, Opening, Fresh, Lost, Unbound_end, Absent_so, Vanished_so, Failed_so, Short_so, Flat, Unprobed, Tried, Stopped, Unbound, No_place, Judged_so, IsGiven, next_after, judge_after, told_at}
 use Rattle.ug_table.proofs.RemoveMarks.{Keeps, keeps_itself, keep_one, Marks}
 use Rattle.ug_table.proofs.SoFar.{AreIn, dropped_in}
 use Rattle.ug_table.proofs.Account.{account_stays}
+use Rattle.ug_table.proofs.Chains.{Piece}
 
 second : {A B : Type 0} (p q : A × B) → p ≡ q → p.1 ≡ q.1
 second p q e = ap (λ (x : _). x.1) e
@@ -351,17 +352,7 @@ flat_fair {J} {answer} {later} {present} {tried} {k = k} {m = m} {w = w} {u = u}
 state_is : {J : Type 0} (v : State J) (next : ℕ) (listed : Bool) (judge : J) (es : List Entry) → v.next ≡ next → v.listed ≡ listed → v.judge ≡ judge → v.entries ≡ es → let made : State J = record { standings = v.standings; next = next; listed = listed; judge = judge; entries = es } in v ≡ made
 state_is v next listed judge es a b c d = λ i. record { standings = v.standings; next = a i; listed = b i; judge = c i; entries = d i }
 
-pub then_settling : {J : Type 0} {answer : Answers J} {later : Laters J} {present : Bool} {tried : Tries} {k m : Kernel} {w u : State J} (l : Kernel) (name : List ℕ) (p : Settled × State J) → AreIn tried name w u → FairFrom answer later present tried k w m u → Runs calls m (settling answer later name present u) p l → FairFrom answer later present tried k w l p.1
-then_settling {J} {answer} {later} {present} {tried} {k} {m} {w} {u} l name p so h r =
-    let x = ways_run calls (Settles answer later name present u) (settling answer later name present u) m p l (settles answer later name present u) r in
-    let y = x.so in
-    subst (λ (v : State J). FairFrom answer later present tried k w l v) (sym (state_is p.1 (next_after u y.judged) u.listed (judge_after later present name u y.judged) (u.entries ++ y.rest) y.next y.listed y.judge y.entries))
-    (flat_fair l y.flat (λ ss b z g. g) (λ e. so) h x.along)
-
--- where the listing didn't succeed
-
-pub then_resettling : {J : Type 0} {answer : Answers J} {later : Laters J} {present : Bool} {tried : Tries} {k m : Kernel} {w : State J} (u : State J) (l : Kernel) (name : List ℕ) (x : Kept) (p : Settled × Kept) → FairFrom answer later present tried k w m (with_kept u x) → Runs calls m (resettling name x) p l → FairFrom answer later present tried k w l (with_kept u p.1)
-then_resettling {J} {answer} {later} {present} {tried} {k} {m} {w} u l name x p h r =
-    let y = ways_run calls (Resettles name x) (resettling name x) m p l (resettles name x) r in
-    subst (λ (v : List Entry). FairFrom answer later present tried k w l (record u { standings = p.1.standings; entries = v })) (sym y.so.entries)
-    (flat_fair l y.so.flat (λ ss b z g. absurd g) (λ e. absurd (let none : ⊥ = cc in none)) h y.along)
+pub piece_fair : {J : Type 0} {answer : Answers J} {later : Laters J} {binds present : Bool} {tried : Tries} {name : List ℕ} {how : Settled} {k m l : Kernel} {w u v : State J} → (binds ≡ true → AreIn tried name w u) → FairFrom answer later present tried k w m u → Piece calls answer later binds present name how m u l v → FairFrom answer later present tried k w l v
+piece_fair {J} {answer} {later} {present = present} {tried = tried} {name = name} {k = k} {l = l} {w = w} {u = u} {v = v} so h p =
+    subst (λ (x : State J). FairFrom answer later present tried k w l x) (sym (state_is v (next_after u p.judged) u.listed (judge_after later present name u p.judged) (u.entries ++ p.rest) p.next p.listed p.judge p.entries))
+    (flat_fair l p.flat (λ ss b z g. g) so h p.along)

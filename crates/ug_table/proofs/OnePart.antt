@@ -2,7 +2,6 @@
 use Rattle.std.proofs.Common.{◌≡◌, ℕ, Bool, true, false, List, [], ◌∷◌, ◌++◌, Option, Some, None, ◌⊎◌, inl, inr, refl, sym, ◌∙◌, ap, subst, append_assoc, append-nil}
 use Rattle.std.specs.Prelude.{if◌then◌else◌}
 use Rattle.ug_types.specs.Elements.{Has}
-use Rattle.ug_types.specs.Names.{parent_of}
 use Rattle.ug_types.specs.declared.verdict.Held.{Held}
 use Rattle.ug_types.specs.declared.verdict.Target.{Target}
 use Rattle.ug_types.specs.declared.verdict.Target.TheVariants as target
@@ -43,7 +42,7 @@ use Rattle.ug_types.proofs.Elements.{has_cases, has_left, has_right}
 use Rattle.ug_kernel.proofs.Ways.{failures_more}
 use Rattle.ug_node.proofs.BindShapes.{told, Came, Reads, No_more, Then_read, Stops, No_descriptors, Read_failed, Read_short, Binds_by, No_such, Open_failed, Open_short, Cut, Probed_gone, Probe_failed, Bound_by, way_binds, Holds_by, Not_there, Not_opened, No_memory, Held_on, Died, Unasked, way_holds}
 use Rattle.ug_table.proofs.Shapes.{Written, Done, Went, Broke, Valued, Same, Set, Unheld, Gone_by, Failed_by, Short_by, Removal, Not_held, Put_on, Carried, By_value, And_removal, Brought, Left_open, Let_go, Opening, Fresh, Lost, Unbound_end, Absent_so, Vanished_so, Failed_so, Short_so, Flat, Unprobed, Tried, Stopped, Unbound, No_place, Judged_so, told_at}
-use Rattle.ug_table.proofs.Told.{Each, NamesNone}
+use Rattle.ug_table.proofs.Says.{Each, NamesNone}
 use Rattle.ug_table.proofs.OtherNames.{OthersStand, others_stand, without_stand, kept_stand, tried_stand}
 use Rattle.ug_table.proofs.Within.{flat_few}
 use Rattle.ug_table.proofs.OpenFiles.{files_join, reads_left, valued_left, carried_left, flat_leaves, flat_numbers}
@@ -183,12 +182,7 @@ last_more : (name : List ℕ) (es fs : List Entry) → Each NamesNone es → End
 last_more name [] fs n h = h
 last_more name (entry.Unsettled other why ∷ es) fs n h = absurd n.0
 last_more name (entry.UnsettledAll why ∷ es) fs n h = absurd n.0
-last_more name (entry.Event number moment ∷ es) fs n h = (tt, last_more name es fs n.1 h)
-last_more name (entry.Judged number m held verdict cause ∷ es) fs n h = (tt, last_more name es fs n.1 h)
-last_more name (entry.Intent number m what ∷ es) fs n h = (tt, last_more name es fs n.1 h)
-last_more name (entry.Wrote number m what outcome ∷ es) fs n h = (tt, last_more name es fs n.1 h)
-last_more name (entry.Gone number m ∷ es) fs n h = (tt, last_more name es fs n.1 h)
-last_more name (entry.End number ∷ es) fs n h = (tt, last_more name es fs n.1 h)
+last_more name (e ∷ es) fs n h = (tt, last_more name es fs n.1 h)
 
 tells_writes : (name : List ℕ) (ps qs : List PutMade) (xs ys : List Entry) → TellsWrites name ps xs → TellsWrites name qs ys → TellsWrites name (ps ++ qs) (xs ++ ys)
 tells_writes name [] qs xs ys a b = subst (λ v. TellsWrites name qs (v ++ ys)) (sym a) b

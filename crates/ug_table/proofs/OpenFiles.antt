@@ -1,5 +1,5 @@
 -- The files that a part leaves open, and the numbers that its entries bear.
-use Rattle.std.proofs.Common.{◌≡◌, ℕ, nat_eq, Bool, true, false, cond, List, [], ◌∷◌, ◌++◌, Option, Some, None, refl, sym, ◌∙◌, ap, subst, arith}
+use Rattle.std.proofs.Common.{◌≡◌, ℕ, nat_eq, Bool, true, cond, List, [], ◌∷◌, ◌++◌, Option, Some, None, refl, sym, ◌∙◌, ap, subst, arith}
 use Rattle.ug_types.specs.declared.verdict.Held.{Held}
 use Rattle.ug_types.specs.declared.control.Control.{Control}
 use Rattle.ug_types.specs.declared.control.Control.TheVariants.{Authorized, Remove}
@@ -7,7 +7,7 @@ use Rattle.ug_kernel.specs.declared.calls.Probe.TheVariants as probe
 use Rattle.ug_types.specs.declared.control.Write.{Write}
 use Rattle.ug_types.specs.declared.control.Write.TheVariants as write
 use Rattle.ug_kernel.specs.declared.calls.Wrote.{Wrote}
-use Rattle.ug_kernel.specs.Calls.{Open, Read, Ask_alive, Put, Close, Told}
+use Rattle.ug_kernel.specs.Calls.{Ask_alive, Put, Close, Told}
 use Rattle.ug_kernel.specs.Along.{Made, answered}
 use Rattle.ug_node.specs.Bind.{binding_of}
 use Rattle.ug_node.specs.Removal.{holding_remove}
@@ -21,7 +21,7 @@ use Rattle.ug_node.specs.declared.removal.RemoveHold.TheVariants as hold
 use Rattle.ug_audit.specs.declared.entry.Entry.{Entry}
 use Rattle.ug_audit.specs.declared.entry.Entry.TheVariants as entry
 use Rattle.ug_audit.specs.declared.entry.Fault.TheVariants as fault
-use Rattle.ug_table.specs.Standings.{known_of, standing_of}
+use Rattle.ug_table.specs.Standings.{standing_of}
 use Rattle.ug_table.specs.Settle.{kept_standings, tried_standings}
 use Rattle.ug_table.specs.Parts.{OpenFile, open_file, close_file, files_left, files_after, known_files, number_of, AreOfNumber}
 use Rattle.ug_table.specs.declared.standing.Standing.{Standing}

@@ -1,7 +1,8 @@
 -- What settling a name leaves of the standings of others.
-use Rattle.std.proofs.Common.{◌≡◌, ℕ, Bool, true, false, not, ◌&&◌, ◌||◌, List, [], ◌∷◌, ◌++◌, Option, Some, map, cond, take, drop, refl, sym, ◌∙◌, ap}
+use Rattle.std.proofs.Common.{◌≡◌, ℕ, Bool, true, false, not, ◌&&◌, ◌||◌, List, [], ◌∷◌, ◌++◌, Option, Some, map, cond, take, drop, refl, sym, ◌∙◌, ap, true≢false}
+use Rattle.std.specs.List.{filter}
 use Rattle.std.proofs.lemmas.List.{take-append-drop}
-use Rattle.ug_table.specs.Standings.{same_name, known_of, standing_of, without, marked, place_for, with_standing, removed_of, settled_standing}
+use Rattle.ug_table.specs.Standings.{same_name, known_of, standing_of, without, marked, place_for, with_standing, removed_of, settled_standing, lists}
 use Rattle.ug_table.specs.Settle.{kept_standings, tried_standings}
 use Rattle.ug_table.specs.declared.standing.Standing.{Standing}
 use Rattle.ug_table.specs.declared.standing.Known.{Known}
@@ -45,6 +46,15 @@ marked_stand name other mark (s ∷ ss) n = marked_by name other mark s ss (same
 pub without_stand : (name other : List ℕ) (ss : List Standing) → (other ≡ name → ⊥) → standing_of other (without name ss) ≡ standing_of other ss
 without_stand name other [] n = refl
 without_stand name other (s ∷ ss) n = without_by name other s ss (same_name s.name name) refl n (without_stand name other ss n)
+
+-- the standings of the names that are listed
+listed_by : (names : List (List ℕ)) (name : List ℕ) (s : Standing) (ss rs : List Standing) (b : Bool) → lists names s.name ≡ b → lists names name ≡ true → standing_of name rs ≡ standing_of name ss → standing_of name (cond b (s ∷ rs) rs) ≡ standing_of name (s ∷ ss)
+listed_by names name s ss rs true e has h = ap (λ (v : Option Known). cond (same_name s.name name) (Some (known_of s)) v) h
+listed_by names name s ss rs false e has h = h ∙ sym (passed name s ss (other_test s.name name (λ f. true≢false (sym has ∙ sym (ap (λ (v : List ℕ). lists names v) f) ∙ e))))
+
+pub listed_stand : (names : List (List ℕ)) (name : List ℕ) (ss : List Standing) → lists names name ≡ true → standing_of name (filter (λ s. lists names s.name) ss) ≡ standing_of name ss
+listed_stand names name [] has = refl
+listed_stand names name (s ∷ ss) has = listed_by names name s ss (filter (λ (v : Standing). lists names v.name) ss) (lists names s.name) refl has (listed_stand names name ss has)
 
 between_stand : (other : List ℕ) (x : Standing) (ss rs : List Standing) → same_name x.name other ≡ false → standing_of other (ss ++ x ∷ rs) ≡ standing_of other (ss ++ rs)
 between_stand other x [] rs e = passed other x rs e

@@ -17,7 +17,7 @@ use Rattle.ug_kernel.specs.Quiet.{Grows}
 use Rattle.ug_kernel.proofs.Held.{live_before}
 use Rattle.ug_kernel.proofs.Grow.{some_same, grows_refl, grows_trans, quiet_grows, called_grows}
 use Rattle.ug_kernel.proofs.Quiet.{called_quiet}
-use Rattle.ug_kernel.specs.Tree.{Runs, calls}
+use Rattle.ug_kernel.specs.Tree.{calls}
 use Rattle.ug_node.specs.Removal.{holding_remove, RemoveSays}
 use Rattle.ug_node.specs.declared.removal.RemoveHold.{RemoveHold}
 use Rattle.ug_node.specs.declared.removal.RemoveHold.TheVariants as hold
@@ -30,7 +30,7 @@ use Rattle.ug_audit.specs.declared.entry.Entry.TheVariants as entry
 use Rattle.ug_audit.specs.declared.entry.Fault.TheVariants as fault
 use Rattle.ug_table.specs.State.{State, Answers, Laters}
 use Rattle.ug_table.specs.Bring.{wants, write_of}
-use Rattle.ug_table.specs.Settle.{kept_standings, tried_standings, settling}
+use Rattle.ug_table.specs.Settle.{kept_standings, tried_standings}
 use Rattle.ug_table.specs.Laws.{IsNamed, HasStanding}
 use Rattle.ug_table.specs.declared.standing.Standing.{Standing}
 use Rattle.ug_table.specs.declared.standing.Known.{Known}
@@ -45,11 +45,10 @@ use Rattle.ug_table.proofs.Told.{opens}
 use Rattle.ug_table.specs.Sweep.{names_of}
 use Rattle.ug_kernel.specs.Calls.{Told}
 use Rattle.ug_kernel.specs.Along.{Made, answered, Along}
-use Rattle.ug_kernel.proofs.Ways.{Way, way_runs, ways_run, along_split, along_sound, along_grows}
+use Rattle.ug_kernel.proofs.Ways.{Way, way_runs, along_split, along_sound, along_grows}
 use Rattle.ug_kernel.specs.declared.calls.FailedCall.{FailedCall}
-use Rattle.ug_table.specs.State.{Kept}
-use Rattle.ug_table.specs.Settle.{resettling}
-use Rattle.ug_table.proofs.Shapes.{Written, Done, Went, Broke, Valued, Same, Set, Unheld, Gone_by, Failed_by, Short_by, Removal, Not_held, Put_on, Carried, By_value, And_removal, Brought, Left_open, Let_go, Unbound_end, Absent_so, Vanished_so, Failed_so, Short_so, Flat, Unprobed, Tried, Stopped, Unbound, No_place, Judged_so, Settles, settles, Resettles, resettles, told_at}
+use Rattle.ug_table.proofs.Shapes.{Written, Done, Went, Broke, Valued, Same, Set, Unheld, Gone_by, Failed_by, Short_by, Removal, Not_held, Put_on, Carried, By_value, And_removal, Brought, Left_open, Let_go, Unbound_end, Absent_so, Vanished_so, Failed_so, Short_so, Flat, Unprobed, Tried, Stopped, Unbound, No_place, Judged_so, told_at}
+use Rattle.ug_table.proofs.Chains.{Piece}
 
 -- the name is told among what was added
 abbrev pub NamedSince : List Entry → List Entry → List ℕ → Type 0
@@ -239,19 +238,9 @@ flat_own {name = name} i k l sound f first live (Judged_so ms ns os es fs rs b x
       | inr y ↦ inr (named_later es (entry.Judged x.number name x.held x.verdict x.cause ∷ fs) name (y.0, inr y.1))
     ])
 
-pub settling_own : {J : Type 0} (answer : Answers J) (later : Laters J) (name : List ℕ) (present : Bool) (i : ℕ) (w : State J) (k l : Kernel) (p : Settled × State J) → IsKernel k → Files k w.standings → LiveAs k i name → LiveAs l i name → Runs calls k (settling answer later name present w) p l → Good w.entries l p.1.standings p.1.entries i name
-settling_own answer later name present i w k l p sound f first live r =
-    let x = ways_run calls (Settles answer later name present w) (settling answer later name present w) k p l (settles answer later name present w) r in
-    elim (flat_own i k l sound f first live x.so.flat x.along) [
-      | inl h ↦ elim h [ inl s ↦ inl s | inr n ↦ inr (x.so.rest, x.so.entries, n) ]
-      | inr h ↦ let e = h.0 in absurd (let none : ⊥ = cc in none)
-    ]
-
--- where the listing didn't succeed
-pub resettling_ended : (name : List ℕ) (i : ℕ) (w : Kept) (k l : Kernel) (p : Settled × Kept) → IsKernel k → Files k w.standings → LiveAs k i name → LiveAs l i name → Runs calls k (resettling name w) p l → Good w.entries l p.1.standings p.1.entries i name ⊎ (Has (names_of p.1.standings) name → ⊥)
-resettling_ended name i w k l p sound f first live r =
-    let x = ways_run calls (Resettles name w) (resettling name w) k p l (resettles name w) r in
-    elim (flat_own i k l sound f first live x.so.flat x.along) [
-      | inl h ↦ inl (elim h [ inl s ↦ inl s | inr n ↦ inr (x.so.rest, x.so.entries, n) ])
-      | inr h ↦ inr h.1
-    ]
+-- the device of that name is as judged, or the name is told; or it has no standing where nothing is bound
+pub piece_own : {J : Type 0} {answer : Answers J} {later : Laters J} {binds present : Bool} {name : List ℕ} {how : Settled} {k l : Kernel} {w v : State J} (i : ℕ) → IsKernel k → Files k w.standings → LiveAs k i name → LiveAs l i name → Piece calls answer later binds present name how k w l v → Good w.entries l v.standings v.entries i name ⊎ ((binds ≡ false) × (Has (names_of v.standings) name → ⊥))
+piece_own {k = k} {l = l} i sound f first live p = elim (flat_own i k l sound f first live p.flat p.along) [
+  | inl h ↦ inl (elim h [ inl s ↦ inl s | inr n ↦ inr (p.rest, p.entries, n) ])
+  | inr h ↦ inr h
+]
