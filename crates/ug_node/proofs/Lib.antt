@@ -1,4 +1,3 @@
 pub mod BindShapes
 pub mod Laws
 pub mod Removing
-mod Rises
