@@ -1,7 +1,8 @@
 -- The numbers of calls and of faults over a run.
-use Rattle.std.proofs.Common.{ℕ, ◌≤◌, ap, arith}
+use Rattle.std.proofs.Common.{ℕ, ◌≤◌, List, [], ◌∷◌, ap, arith}
 use Rattle.ug_kernel.specs.Calls.{Call, Names, Open, Read, Ask_alive, Put, Close, Answer, Counts}
-use Rattle.ug_kernel.specs.Tree.{Prog, Return, Ask, Room, Runs}
+use Rattle.ug_kernel.specs.Along.{Made, Along}
+use Rattle.ug_kernel.proofs.Rises.{Counting}
 
 -- how many calls there were, and how many failed
 pub record Tally : Type 0 where
@@ -12,10 +13,12 @@ pub record Tally : Type 0 where
 abbrev pub counts : Tally → (call : Call) → Answer call → Tally → Type 0
 counts v call answer w = Counts call answer v.calls v.faults w.calls w.faults
 
-pub counted_run : {S R : Type 0} (gives : S → (call : Call) → Answer call → S → Type 0) (calls faults : S → ℕ) (counted : (s : S) (call : Call) (answer : Answer call) (t : S) → gives s call answer t → Counts call answer (calls s) (faults s) (calls t) (faults t)) (p : Prog R) (s : S) (r : R) (t : S) → Runs gives s p r t → Runs counts (record { calls = calls s; faults = faults s }) p r (record { calls = calls t; faults = faults t })
-counted_run gives calls faults counted (Return value) s r t h = (h.0, ap (λ (v : _). let w : Tally = record { calls = calls v; faults = faults v } in w) h.1)
-counted_run gives calls faults counted (Ask call next) s r t h = (h.0, record { calls = calls h.1; faults = faults h.1 }, counted s call h.0 h.1 h.2, counted_run gives calls faults counted (next h.0) h.1 r t h.3)
-counted_run gives calls faults counted (Room next) s r t h = (h.0, counted_run gives calls faults counted (next h.0) s r t h.1)
+abbrev pub tally : ℕ → ℕ → Tally
+tally calls faults = record { calls = calls; faults = faults }
+
+pub along_counted : {S : Type 0} (gives : S → (call : Call) → Answer call → S → Type 0) (calls faults : S → ℕ) → Counting gives calls faults → (ms : List Made) (s t : S) → Along gives s ms t → Along counts (tally (calls s) (faults s)) ms (tally (calls t) (faults t))
+along_counted gives calls faults counted [] s t h = ap (λ (v : _). tally (calls v) (faults v)) h
+along_counted gives calls faults counted (m ∷ ms) s t h = (tally (calls h.0) (faults h.0), counted s m.call m.answer h.0 h.1, along_counted gives calls faults counted ms h.0 t h.2)
 
 pub counts_never_fall : (call : Call) (answer : Answer call) (v w : Tally) → counts v call answer w → v.faults ≤ w.faults
 counts_never_fall Names answer v w h = h.never_falls
@@ -25,10 +28,9 @@ counts_never_fall (Ask_alive held) answer v w h = h.never_falls
 counts_never_fall (Put held write) answer v w h = h.never_falls
 counts_never_fall (Close held) answer v w h = omega (arith, h.1)
 
-pub run_never_falls : {R : Type 0} (p : Prog R) (v : Tally) (r : R) (w : Tally) → Runs counts v p r w → v.faults ≤ w.faults
-run_never_falls (Return value) v r w h = omega (arith, ap (λ (x : Tally). x.faults) h.1)
-run_never_falls (Ask call next) v r w h =
-    let a = counts_never_fall call h.0 v h.1 h.2 in
-    let b = run_never_falls (next h.0) h.1 r w h.3 in
-    omega (arith, a, b)
-run_never_falls (Room next) v r w h = run_never_falls (next h.0) v r w h.1
+pub along_never_falls : (ms : List Made) (v w : Tally) → Along counts v ms w → v.faults ≤ w.faults
+along_never_falls [] v w a = omega (arith, ap (λ (x : Tally). x.faults) a)
+along_never_falls (m ∷ ms) v w a =
+    let first = counts_never_fall m.call m.answer v a.0 a.1 in
+    let rest = along_never_falls ms a.0 w a.2 in
+    omega (arith, first, rest)

@@ -5,7 +5,7 @@ use Rattle.ug_kernel.specs.Kernel.{Kernel, IsKernel}
 use Rattle.ug_kernel.specs.Quiet.{Quiet, Grows}
 use Rattle.ug_kernel.proofs.Quiet.{WritesNothing, quiet_refl, quiet_trans, called_quiet}
 use Rattle.ug_kernel.proofs.Grow.{grows_refl, grows_trans, called_grows}
-use Rattle.ug_kernel.specs.Tree.{Prog, Return, Ask, Room, Runs, then, calls}
+use Rattle.ug_kernel.specs.Tree.{Prog, Return, Ask, Room, Runs, calls}
 
 pub runs_sound : {R : Type 0} (p : Prog R) (k : Kernel) (r : R) (l : Kernel) → IsKernel k → Runs calls k p r l → IsKernel l
 runs_sound (Return value) k r l s h = subst (λ v. IsKernel v) (sym h.1) s
@@ -27,8 +27,3 @@ pub runs_quiet : {R : Type 0} (p : Prog R) (k : Kernel) (r : R) (l : Kernel) →
 runs_quiet (Return value) k r l w h = subst (λ v. Quiet k v) (sym h.1) (quiet_refl k)
 runs_quiet (Ask call next) k r l w h = quiet_trans k h.1 l (called_quiet call h.0 k h.1 w.0 h.2) (runs_quiet (next h.0) h.1 r l (w.1 h.0) h.3)
 runs_quiet (Room next) k r l w h = runs_quiet (next h.0) k r l (w h.0) h.1
-
-pub no_writes_then : {A B : Type 0} (p : Prog A) (f : A → Prog B) → NoWrites p → ((a : A) → NoWrites (f a)) → NoWrites (then p f)
-no_writes_then (Return value) f w v = v value
-no_writes_then (Ask call next) f w v = (w.0, λ a. no_writes_then (next a) f (w.1 a) v)
-no_writes_then (Room next) f w v = λ b. no_writes_then (next b) f (w b) v

@@ -2,7 +2,8 @@
 use Rattle.std.proofs.Common.{◌≡◌, Bool, true, false, ◌&&◌, List, [], ◌∷◌, ◌++◌, refl, sym, ◌∙◌, ap, subst, append_assoc, append-nil}
 use Rattle.ug_kernel.specs.Calls.{Call, Answer}
 use Rattle.ug_kernel.specs.Kernel.{Kernel, IsKernel}
-use Rattle.ug_kernel.specs.Quiet.{Grows}
+use Rattle.ug_kernel.specs.Quiet.{Quiet, Grows}
+use Rattle.ug_kernel.proofs.Quiet.{WritesNothing, quiet_refl, quiet_trans, called_quiet}
 use Rattle.ug_kernel.proofs.Grow.{grows_refl, grows_trans, called_grows}
 use Rattle.ug_kernel.specs.Tree.{Prog, Return, Ask, Room, Runs, then, calls}
 use Rattle.ug_kernel.specs.declared.calls.FailedCall.{FailedCall}
@@ -125,3 +126,16 @@ along_sound (m ∷ ms) k l s a = along_sound ms a.0 l a.1.sound a.2
 pub along_grows : (ms : List Made) (k l : Kernel) → Along calls k ms l → Grows k l
 along_grows [] k l a = subst (λ v. Grows k v) (sym a) (grows_refl k)
 along_grows (m ∷ ms) k l a = grows_trans k a.0 l (called_grows m.call m.answer k a.0 a.1) (along_grows ms a.0 l a.2)
+
+-- none of them is a write
+abbrev pub Unwritten : List Made → Type 0
+Unwritten [] = Unit {0}
+Unwritten (m ∷ ms) = WritesNothing m.call × Unwritten ms
+
+pub unwritten_more : (ms ns : List Made) → Unwritten ms → Unwritten ns → Unwritten (ms ++ ns)
+unwritten_more [] ns a b = b
+unwritten_more (m ∷ ms) ns a b = (a.0, unwritten_more ms ns a.1 b)
+
+pub along_quiet : (ms : List Made) (k l : Kernel) → Unwritten ms → Along calls k ms l → Quiet k l
+along_quiet [] k l w a = subst (λ v. Quiet k v) (sym a) (quiet_refl k)
+along_quiet (m ∷ ms) k l w a = quiet_trans k a.0 l (called_quiet m.call m.answer k a.0 w.0 a.1) (along_quiet ms a.0 l w.1 a.2)

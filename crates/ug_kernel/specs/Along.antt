@@ -29,8 +29,12 @@ abbrev pub count_calls : List Made → ℕ
 count_calls [] = 0
 count_calls (m ∷ ms) = counts_as m.call + count_calls ms
 
+-- a call that failed, as its answer tells it
+abbrev pub failure_of : {X : Type 0} → Told X → FailedCall
+failure_of told = record { call = told.number; count = told.count }
+
 abbrev pub failure_if : {X : Type 0} → (X → Bool) → Told X → List FailedCall
-failure_if failed told = if failed told.answer then record { call = told.number; count = told.count } ∷ [] else []
+failure_if failed told = if failed told.answer then failure_of told ∷ [] else []
 
 -- the failure of a call, if it failed; closing never does
 abbrev pub failure : (call : Call) → Answer call → List FailedCall

@@ -1,75 +1,105 @@
--- The law of a binding, over kernels.
-use Rattle.std.proofs.Common.{◌≡◌, ℕ, Bool, ◌≤◌, List, length, Option, Some, None, Result, Ok, Err, slice_get, refl, sym, ◌∙◌, ap, subst, arith}
+-- The law of a binding, over kernels, and the numbers of a failed answer, by cases on the calls.
+use Rattle.std.proofs.Common.{◌≡◌, ℕ, nat_le, Bool, true, false, cond, ◌≤◌, List, [], ◌∷◌, length, Option, Some, None, slice_get, inl, inr, refl, sym, ◌∙◌, ap, subst, arith, ◌++◌}
 use Rattle.std.proofs.lemmas.Option.{slice_get_past}
 use Rattle.ug_types.specs.Names.{parent_of}
 use Rattle.ug_types.specs.declared.record.Attrs.{Attrs}
+use Rattle.ug_types.specs.declared.control.Attr.{Attr}
+use Rattle.ug_types.specs.declared.control.Attr.TheVariants as attr
+use Rattle.ug_types.specs.declared.control.Control.{Control}
+use Rattle.ug_types.specs.declared.control.Control.TheVariants.{Authorized, Remove}
+use Rattle.ug_types.specs.declared.verdict.Held.{Held}
 use Rattle.ug_kernel.specs.declared.device.Device.{Device}
 use Rattle.ug_kernel.specs.declared.device.HeldFile.{HeldFile}
-use Rattle.ug_types.specs.declared.control.Control.TheVariants.{Authorized}
-use Rattle.ug_kernel.specs.declared.calls.Opened.{Opened}
+use Rattle.ug_kernel.specs.declared.calls.ReadOut.{ReadOut}
+use Rattle.ug_kernel.specs.declared.calls.ReadOut.TheVariants as out
 use Rattle.ug_kernel.specs.declared.calls.Opened.TheVariants as opened
-use Rattle.ug_kernel.specs.declared.calls.Probe.{Probe}
 use Rattle.ug_kernel.specs.declared.calls.Probe.TheVariants as probe
-use Rattle.ug_kernel.specs.Calls.{Call, Answer, Open, Ask_alive, Close}
-use Rattle.ug_kernel.specs.Kernel.{Kernel, Live, IsSound, IsKernel, Moves}
-use Rattle.ug_kernel.specs.Called.{Lived, NoneLived, IsOpened, IsGoneAt, IsAlive, Called, Follows}
+use Rattle.ug_kernel.specs.Calls.{Call, Answer, Open, Read, Ask_alive, Close, Told, Closing, failed_open, failed_read, failed_probe, Counted}
+use Rattle.ug_kernel.specs.Along.{Made, answered, Along, failure_of}
+use Rattle.ug_kernel.specs.Kernel.{Kernel, Live, Stays, IsSound, IsKernel, Moves}
+use Rattle.ug_kernel.specs.Called.{Lived, NoneLived, IsOpened, IsGoneAt, IsAlive, IsFile, within, text_within, read_of, says_read, Called, Follows}
 use Rattle.ug_kernel.specs.Quiet.{Quiet, Grows}
-use Rattle.ug_kernel.proofs.Quiet.{quiet_trans, moves_quiet, opened_quiet, called_quiet, get_end}
-use Rattle.ug_kernel.proofs.Grow.{some_same, quiet_grows, grows_refl, grows_trans, called_grows}
-use Rattle.ug_kernel.proofs.Held.{live_before, lived_cut}
 use Rattle.ug_kernel.specs.Tree.{Runs, calls}
-use Rattle.ug_kernel.proofs.Runs.{runs_split}
+use Rattle.ug_kernel.proofs.Quiet.{stays_trans, quiet_refl, quiet_trans, moves_quiet, opened_quiet, called_quiet, get_end}
+use Rattle.ug_kernel.proofs.Grow.{some_same, quiet_grows, grows_trans, called_grows}
+use Rattle.ug_kernel.proofs.Held.{live_before, lived_cut}
 use Rattle.ug_kernel.proofs.Told.{told_run}
-use Rattle.ug_kernel.proofs.Kernels.{runs_sound, runs_quiet}
+use Rattle.ug_kernel.proofs.Ways.{Sure, ways_run, along_split, along_sound, along_grows, Unwritten, unwritten_more, along_quiet}
 use Rattle.ug_node.specs.declared.files.Stop.{Stop}
-use Rattle.ug_node.specs.declared.files.Stop.TheVariants as stop
+use Rattle.ug_node.specs.declared.identity.Bound.{Bound}
 use Rattle.ug_node.specs.declared.identity.Binding.{Binding}
-use Rattle.ug_node.specs.declared.identity.Binding.TheVariants as bound
-use Rattle.ug_node.specs.Files.{reading_own, reading_parent}
-use Rattle.ug_node.specs.Bind.{binding_of, after_probe, probing, after_parent, to_parent, after_own, after_open, binding}
-use Rattle.ug_node.specs.Bound.{attrs_of, parent_attrs_of, IsParentRead, IsBound, BindSays, IsBinding, Binds}
-use Rattle.ug_node.proofs.ReadAs.{ReadsAs, Kept, none_wider, reads_wider, own_kept, parent_kept, own_says, parent_says}
-use Rattle.ug_node.proofs.Unwritten.{own_quiet, parent_quiet, binding_quiet}
+use Rattle.ug_node.specs.Bind.{binding_of, binding}
+use Rattle.ug_node.specs.Bound.{attrs_of, parent_attrs_of, IsParentRead, IsBound, BindSays, IsBinding, Binds, IsFault, TellsFault}
+use Rattle.ug_node.proofs.BindShapes.{told, IsReadable, Came, Reads, No_more, Then_read, Stops, No_descriptors, Read_failed, Read_short, own_from, parents_from, Files, Alone, Below, Binds_by, No_such, Open_failed, Open_short, Cut, Probed_gone, Probe_failed, Bound_by, binds_by, Holds_by, Not_there, Not_opened, No_memory, Held_on, Died, Unasked, holds_by}
+use Rattle.ug_kernel.specs.declared.calls.FailedCall.{FailedCall}
+use Rattle.ug_kernel.proofs.Rises.{Counting}
+use Rattle.ug_kernel.proofs.Counted.{Tally, tally, counts, along_counted, counts_never_fall, along_never_falls}
+use Rattle.ug_node.specs.declared.removal.RemoveHold.{RemoveHold}
+use Rattle.ug_node.specs.Removal.{holding_remove, TellsRemoveFault}
 
--- the held file was opened, and nothing was written since
-record IsOpenSince (name : List ℕ) (k : Kernel) (held : ℕ) (m : Kernel) : Type 0 where
-  pub before : Kernel
-  pub opening : Kernel
-  pub start : Moves k before
-  pub opens : IsOpened name Authorized held before opening
-  pub quiet : Quiet opening m
-  pub sound : IsKernel before
+-- nothing is written
 
-abbrev open_later : (name : List ℕ) (k : Kernel) (held : ℕ) (m l : Kernel) → Quiet m l → IsOpenSince name k held m → IsOpenSince name k held l
-open_later name k held m l q h = record { before = h.before; opening = h.opening; start = h.start; opens = h.opens; quiet = quiet_trans h.opening m l h.quiet q; sound = h.sound }
+reads_unwritten : {name : List ℕ} {ms : List Made} → Reads name ms → Unwritten ms
+reads_unwritten No_more = tt
+reads_unwritten (Then_read of at t ms may came r) = (tt, reads_unwritten r)
 
-says_ends : (name : List ℕ) (k v l : Kernel) (x r : Binding) → BindSays name k v x → r ≡ x → l ≡ v → BindSays name k l r
-says_ends name k v l x r h e f = subst (λ y. BindSays name k y r) (sym f) (subst (λ y. BindSays name k v y) (sym e) h)
+binds_unwritten : {name : List ℕ} {ms : List Made} {r : Binding} → Binds_by name ms r → Unwritten ms
+binds_unwritten (No_such call count) = (tt, tt)
+binds_unwritten (Open_failed call count) = (tt, tt)
+binds_unwritten (Open_short call count) = (tt, tt)
+binds_unwritten (Cut file call count ms of at t shut why r n few may stops e) = (tt, unwritten_more ms _ (reads_unwritten n) (tt, (tt, tt)))
+binds_unwritten (Probed_gone file call count number total ms shut n few) = (tt, unwritten_more ms _ (reads_unwritten n) (tt, (tt, tt)))
+binds_unwritten (Probe_failed file call count number total ms shut n few) = (tt, unwritten_more ms _ (reads_unwritten n) (tt, (tt, tt)))
+binds_unwritten (Bound_by call count number total ms b n few are) = (tt, unwritten_more ms _ (reads_unwritten n) (tt, tt))
 
--- the held file is of the device that was opened
-file_now : (name : List ℕ) (k : Kernel) (held : ℕ) (m : Kernel) (h : IsOpenSince name k held m) → slice_get m.held held ≡ Some (record { device = h.opens.i; control = Authorized })
-file_now name k held m h =
-    let file : HeldFile = record { device = h.opens.i; control = Authorized } in
-    h.quiet.held held file (subst (λ v. slice_get h.opening.held v ≡ Some file) (sym h.opens.next) (subst (λ v. slice_get v (length h.before.held) ≡ Some file) (sym h.opens.more) (get_end h.before.held file)))
+-- what a reading tells
 
--- that device bears the name
-device_now : (name : List ℕ) (k : Kernel) (held : ℕ) (m : Kernel) (h : IsOpenSince name k held m) → (d : Device) × (slice_get m.devices h.opens.i ≡ Some d) × (d.name ≡ name)
-device_now name k held m h =
-    let x = h.quiet.devices h.opens.i h.opens.d (subst (λ v. slice_get v h.opens.i ≡ Some h.opens.d) (sym h.opens.devices) h.opens.live.at) in
-    (x.0, x.1, x.2.stays.name ∙ h.opens.named)
+read_kept : (a : Attr) (d e : Device) → Stays d e → read_of a d ≡ read_of a e
+read_kept attr.Descriptors d e h = ap (λ (x : List ℕ). within 131072 x) (sym h.descriptors)
+read_kept attr.Product d e h = ap (λ (x : Option (List ℕ)). text_within x) (sym h.product)
+read_kept attr.Serial d e h = ap (λ (x : Option (List ℕ)). text_within x) (sym h.serial)
+read_kept attr.Connect d e h = ap (λ (x : Option (List ℕ)). text_within x) (sym h.connect)
 
-named_now : (name : List ℕ) (k : Kernel) (held : ℕ) (m : Kernel) (h : IsOpenSince name k held m) (d : Device) → slice_get m.devices h.opens.i ≡ Some d → d.name ≡ name
-named_now name k held m h d at =
-    let x = device_now name k held m h in
-    let same : x.0 ≡ d = some_same (slice_get m.devices h.opens.i) x.0 d x.1 at in
-    ap (λ (v : Device). v.name) (sym same) ∙ x.2
+came_says : (of : List ℕ) (a : Attr) (r : ReadOut) (k l : Kernel) → Came r → says_read of a r k l → IsFile of a r k l
+came_says of a (out.Bytes bytes) k l c h = h
+came_says of a out.Absent k l c h = h
+came_says of a out.TooLong k l c h = h
+came_says of a out.Failed k l c h = absurd c
+came_says of a out.Memory k l c h = absurd c
 
--- what was read since is that device's
-own_now : {X : Type 0} (name : List ℕ) (of : Device → X) (k : Kernel) (held : ℕ) (m u : Kernel) (x : X) (h : IsOpenSince name k held m) → Kept of → Grows m u → ReadsAs name of m u (Ok x) → (d : Device) → Live u.devices h.opens.i d → x ≡ of d
-own_now name of k held m u x h kept g reads d live =
-    let was = device_now name k held m h in
-    let b = live_before m u h.opens.i was.0 d g was.1 live in
-    reads h.opens.i was.0 (record { entry = b.0; exit = (d, live) }) was.2 ∙ kept was.0 d b.1
+-- each reading of a device's name tells that device's file
+abbrev TellsOf : Device → (call : Call) → Answer call → Type 0
+TellsOf d (Read of a) t = of ≡ d.name → t.answer ≡ read_of a d
+TellsOf d call answer = Unit {0}
+
+abbrev TellOf : Device → List Made → Type 0
+TellOf d [] = Unit {0}
+TellOf d (m ∷ ms) = TellsOf d m.call m.answer × TellOf d ms
+
+-- of one that was there before them, and is live behind them
+reads_tell : {name : List ℕ} {ms : List Made} (i : ℕ) (d e f : Device) (k l : Kernel) → Reads name ms → Along calls k ms l → slice_get k.devices i ≡ Some d → Live l.devices i e → Stays e f → TellOf f ms
+reads_tell i d e f k l No_more a at live s = tt
+reads_tell i d e f k l (Then_read of by t ms may came r) a at live s =
+    let grow = called_grows (Read of by) t k a.0 a.1 in
+    let x = grow.devices i d at in
+    let later = live_before a.0 l i x.0 e (along_grows ms a.0 l a.2) x.1 live in
+    let first = live_before k a.0 i d x.0 grow at later.0 in
+    let kept = stays_trans d x.0 f x.2 (stays_trans x.0 e f later.1 s) in (
+      λ named. came_says of by t.answer k a.0 came a.1.says i d (record { entry = first.0; exit = (x.0, later.0) }) (sym kept.name ∙ sym named) ∙ read_kept by d f kept,
+      reads_tell i x.0 e f a.0 l r a.2 x.1 live s,
+    )
+
+own_same : (d p s c : ReadOut) (e : Device) → d ≡ read_of attr.Descriptors e → p ≡ read_of attr.Product e → s ≡ read_of attr.Serial e → c ≡ read_of attr.Connect e → own_from d p s c ≡ attrs_of e
+own_same d p s c e a b f g = cc
+
+parents_same : (d p s : ReadOut) (e : Device) → d ≡ read_of attr.Descriptors e → p ≡ read_of attr.Product e → s ≡ read_of attr.Serial e → parents_from d p s ≡ parent_attrs_of e
+parents_same d p s e a b f = cc
+
+own_is : {name : List ℕ} {ms : List Made} {attrs : Attrs} {parent : Option Attrs} (f : Device) → name ≡ f.name → Files name ms attrs parent → TellOf f ms → attrs ≡ attrs_of f
+own_is f e (Alone d p s c none) h = own_same d.answer p.answer s.answer c.answer f (h.0 e) (h.1.0 e) (h.1.1.0 e) (h.1.1.1.0 e)
+own_is f e (Below parent d p s c x y z above) h = own_same d.answer p.answer s.answer c.answer f (h.0 e) (h.1.0 e) (h.1.1.0 e) (h.1.1.1.0 e)
+
+-- the parent
 
 -- a device that lived through has a parent that lived through, of its name's parent's name
 parent_lived : (k l : Kernel) (name parent : List ℕ) (i : ℕ) (d : Device) (p : Option ℕ) → IsSound k.devices → IsSound l.devices → Grows k l → Lived k.devices l.devices i d → d.name ≡ name → parent_of name ≡ Some parent → d.parent ≡ p → (j : ℕ) × (e : Device) × (p ≡ Some j) × Lived k.devices l.devices j e × (e.name ≡ parent)
@@ -87,29 +117,54 @@ parent_lived k l name parent i d (Some j) s t g lives named above e =
     (j, x.0, refl, record { entry = x.1; exit = y }, is)
 
 -- without a parent's name there is no parent
-no_parent : (k : Kernel) (name : List ℕ) (i : ℕ) (d : Device) (p : Option ℕ) → IsSound k.devices → Live k.devices i d → d.name ≡ name → parent_of name ≡ None → d.parent ≡ p → IsParentRead k p None
-no_parent k name i d None s live named above e = refl
-no_parent k name i d (Some j) s live named above e =
+no_parent : (k l : Kernel) (name : List ℕ) (i : ℕ) (d : Device) (p : Option ℕ) → IsSound k.devices → Live k.devices i d → d.name ≡ name → parent_of name ≡ None → d.parent ≡ p → IsParentRead l p None
+no_parent k l name i d None s live named above e = refl
+no_parent k l name i d (Some j) s live named above e =
     let x = s.parents i j d live e in
     let theirs = s.named i j d x.0 live.at e x.1.at in
     let same : parent_of d.name ≡ None = subst (λ v. parent_of v ≡ None) (sym named) above in
     let none : ⊥ = cc in absurd none
 
-parent_read_later : (k l : Kernel) (p : Option ℕ) (attrs : Option Attrs) → Grows k l → IsParentRead k p attrs → IsParentRead l p attrs
-parent_read_later k l None attrs g h = h
-parent_read_later k l (Some j) attrs g h =
-    let x = g.devices j h.0 h.1 in
-    (x.0, x.1, h.2 ∙ ap (λ v. Some v) (parent_kept h.0 x.0 x.2))
-
 -- what was read of the parent's name is the parent's
-parent_now : (name parent : List ℕ) (k : Kernel) (held : ℕ) (m u : Kernel) (attrs : Attrs) (h : IsOpenSince name k held m) → parent_of name ≡ Some parent → IsSound m.devices → IsSound u.devices → Grows m u → ReadsAs parent parent_attrs_of m u (Ok attrs) → (d : Device) → Live u.devices h.opens.i d → IsParentRead u d.parent (Some attrs)
-parent_now name parent k held m u attrs h above s t g reads d live =
-    let was = device_now name k held m h in
-    let b = live_before m u h.opens.i was.0 d g was.1 live in
-    let x = parent_lived m u name parent h.opens.i was.0 d.parent s t g (record { entry = b.0; exit = (d, live) }) was.2 above (sym b.1.parent) in
-    let y = g.devices x.0 x.1 x.3.entry.at in
-    let is : attrs ≡ parent_attrs_of y.0 = reads x.0 x.1 x.3 x.4 ∙ parent_kept x.1 y.0 y.2 in
-    subst (λ p. IsParentRead u p (Some attrs)) (sym x.2) (y.0, y.1, ap (λ v. Some v) is)
+parents_are : {name : List ℕ} {ms : List Made} {attrs : Attrs} {parent : Option Attrs} (i : ℕ) (d : Device) (u v l : Kernel) → Files name ms attrs parent → Reads name ms → Along calls u ms v → IsKernel u → Quiet v l → Lived u.devices v.devices i d → d.name ≡ name → IsParentRead l d.parent parent
+parents_are {name} i d u v l (Alone x p s c none) r a sound q lives named = no_parent u l name i d d.parent sound.devices lives.entry named none refl
+parents_are {name} {ms} i d u v l (Below parent x p s c y z w above) r a sound q lives named =
+    let g = along_grows ms u v a in
+    let j = parent_lived u v name parent i d d.parent sound.devices (along_sound ms u v sound a).devices g lives named above refl in
+    let e = j.3.exit.0 in
+    let f = q.devices j.0 e j.3.exit.1.at in
+    let h = reads_tell j.0 j.1 e f.0 u v r a j.3.entry.at j.3.exit.1 f.2.stays in
+    let is : parent ≡ f.0.name = sym j.4 ∙ sym (live_before u v j.0 j.1 e g j.3.entry.at j.3.exit.1).1.name ∙ sym f.2.stays.name in
+    subst (λ o. IsParentRead l o (Some (parents_from y.answer z.answer w.answer))) (sym j.2) (f.0, f.1, ap (λ o. Some o) (parents_same y.answer z.answer w.answer f.0 (h.1.1.1.1.0 is) (h.1.1.1.1.1.0 is) (h.1.1.1.1.1.1.0 is)))
+
+-- the held file
+
+-- the held file was opened, and nothing was written since
+record IsOpenSince (name : List ℕ) (k : Kernel) (held : ℕ) (m : Kernel) : Type 0 where
+  pub before : Kernel
+  pub opening : Kernel
+  pub start : Moves k before
+  pub opens : IsOpened name Authorized held before opening
+  pub quiet : Quiet opening m
+  pub sound : IsKernel before
+
+open_since : (name : List ℕ) (file : Held) (call count : ℕ) (k m l : Kernel) → Called (Open name Authorized) (told (opened.Token file) call count) k m → Quiet m l → IsOpenSince name k file.0 l
+open_since name file call count k m l c q = record { before = c.before; opening = c.after; start = c.moves_before; opens = c.effect; quiet = quiet_trans c.after m l (moves_quiet c.after m c.moves_after) q; sound = c.sound_before }
+
+pub opened_file : (name : List ℕ) (control : Control) (held : ℕ) (k m : Kernel) (o : IsOpened name control held k m) → slice_get m.held held ≡ Some (record { device = o.i; control = control })
+opened_file name control held k m o =
+    let f : HeldFile = record { device = o.i; control = control } in
+    subst (λ v. slice_get m.held v ≡ Some f) (sym o.next) (subst (λ v. slice_get v (length k.held) ≡ Some f) (sym o.more) (get_end k.held f))
+
+-- it is of the device that was opened
+file_now : (name : List ℕ) (k : Kernel) (held : ℕ) (m : Kernel) (h : IsOpenSince name k held m) → slice_get m.held held ≡ Some (record { device = h.opens.i; control = Authorized })
+file_now name k held m h = h.quiet.held held (record { device = h.opens.i; control = Authorized }) (opened_file name Authorized held h.before h.opening h.opens)
+
+-- which bears the name
+device_now : (name : List ℕ) (k : Kernel) (held : ℕ) (m : Kernel) (h : IsOpenSince name k held m) → (d : Device) × (slice_get m.devices h.opens.i ≡ Some d) × (d.name ≡ name)
+device_now name k held m h =
+    let x = h.quiet.devices h.opens.i h.opens.d (subst (λ v. slice_get v h.opens.i ≡ Some h.opens.d) (sym h.opens.devices) h.opens.live.at) in
+    (x.0, x.1, x.2.stays.name ∙ h.opens.named)
 
 -- a device of the name that lived through is the one that was opened
 opened_only : (name : List ℕ) (k : Kernel) (held : ℕ) (w l : Kernel) (h : IsOpenSince name k held w) → Grows w l → (j : ℕ) (d : Device) → Lived k.devices l.devices j d → d.name ≡ name → j ≡ h.opens.i
@@ -117,28 +172,33 @@ opened_only name k held w l h g j d lives named =
     let x = lived_cut k h.before l j d (quiet_grows k h.before (moves_quiet k h.before h.start)) (grows_trans h.before w l (grows_trans h.before h.opening w (quiet_grows h.before h.opening (opened_quiet name Authorized held h.before h.opening h.opens)) (quiet_grows h.opening w h.quiet)) g) lives in
     h.sound.devices.names j h.opens.i x.1.0 h.opens.d x.1.1.entry h.opens.live (x.1.2.name ∙ named ∙ sym h.opens.named)
 
--- the probe
+-- how it ends
 
-bound_law : (name : List ℕ) (k : Kernel) (held : ℕ) (u l : Kernel) (attrs : Attrs) (parent : Option Attrs) (on : Bool) (h : IsOpenSince name k held u) → ((d : Device) → Live u.devices h.opens.i d → attrs ≡ attrs_of d) → ((d : Device) → Live u.devices h.opens.i d → IsParentRead u d.parent parent) → IsAlive held on u → Quiet u l → IsBound name k l (record { held = record { 0 = held }; attrs = attrs; parent = parent; on = on })
-bound_law name k held u l attrs parent on h own parents alive q =
-    let file = file_now name k held u h in
-    let same : alive.holds.file ≡ record { device = h.opens.i; control = Authorized } = some_same (slice_get u.held held) alive.holds.file (record { device = h.opens.i; control = Authorized }) alive.holds.at file in
-    let is : alive.i ≡ h.opens.i = sym alive.holds.is ∙ ap (λ (v : HeldFile). v.device) same in
-    let live : Live u.devices h.opens.i alive.d = subst (λ v. Live u.devices v alive.d) is alive.live in
+bound_law : {name : List ℕ} {ms : List Made} (k u v l : Kernel) (b : Bound) (h : IsOpenSince name k b.held.0 u) → Reads name ms → Files name ms b.attrs b.parent → IsKernel u → Along calls u ms v → IsAlive b.held.0 b.on v → Quiet v l → IsBound name k l b
+bound_law {name} {ms} k u v l b h reads files sound a alive q =
+    let quiet = along_quiet ms u v (reads_unwritten reads) a in
+    let now : IsOpenSince name k b.held.0 v = record { before = h.before; opening = h.opening; start = h.start; opens = h.opens; quiet = quiet_trans h.opening u v h.quiet quiet; sound = h.sound } in
+    let own : HeldFile = record { device = h.opens.i; control = Authorized } in
+    let file = file_now name k b.held.0 v now in
+    let is : alive.i ≡ h.opens.i = sym alive.holds.is ∙ ap (λ (f : HeldFile). f.device) (some_same (slice_get v.held b.held.0) alive.holds.file own alive.holds.at file) in
+    let live : Live v.devices h.opens.i alive.d = subst (λ i. Live v.devices i alive.d) is alive.live in
+    let was = device_now name k b.held.0 u h in
+    let first = live_before u v h.opens.i was.0 alive.d (quiet_grows u v quiet) was.1 live in
     let e = q.devices h.opens.i alive.d live.at in
-    let new : length k.held ≤ held = omega (arith, h.opens.next, ap (λ (v : List HeldFile). length v) h.start.held) in
+    let named = e.2.stays.name ∙ first.1.name ∙ was.2 in
+    let new : length k.held ≤ b.held.0 = omega (arith, h.opens.next, ap (λ (fs : List HeldFile). length fs) h.start.held) in
     record {
       i = h.opens.i;
       d = e.0;
       device = e.1;
-      file = q.held held (record { device = h.opens.i; control = Authorized }) file;
-      fresh = slice_get_past k.held held new;
-      named = e.2.stays.name ∙ named_now name k held u h alive.d live.at;
-      own = own alive.d live ∙ own_kept alive.d e.0 e.2.stays;
-      parents = subst (λ p. IsParentRead l p parent) (sym e.2.stays.parent) (parent_read_later u l alive.d.parent parent (quiet_grows u l q) (parents alive.d live));
+      file = q.held b.held.0 own file;
+      fresh = slice_get_past k.held b.held.0 new;
+      named = named;
+      own = own_is e.0 (sym named) files (reads_tell h.opens.i was.0 alive.d e.0 u v reads a was.1 live e.2.stays);
+      parents = subst (λ p. IsParentRead l p b.parent) (sym (e.2.stays.parent ∙ first.1.parent)) (parents_are h.opens.i was.0 u v l files reads a sound q (record { entry = first.0; exit = (alive.d, live) }) was.2);
       value = e.2.on ∙ alive.value;
-      lived = record { before = h.before; opening = h.opening; probing = u; start = h.start; opened = h.opens; is = refl; reads = h.quiet; alive = alive; end = q };
-      only = opened_only name k held u l h (quiet_grows u l q);
+      lived = record { before = h.before; opening = h.opening; probing = v; start = h.start; opened = h.opens; is = refl; reads = now.quiet; alive = alive; end = q };
+      only = opened_only name k b.held.0 v l now (quiet_grows v l q);
     }
 
 gone_law : (name : List ℕ) (k : Kernel) (held : ℕ) (w l : Kernel) → IsOpenSince name k held w → Grows w l → IsGoneAt held w → NoneLived name k l
@@ -149,80 +209,114 @@ gone_law name k held w l h g gone j d lives named =
     let live = (live_before w l h.opens.i y.0 lives.exit.0 g y.1 exit).0 in
     gone h.opens.i y.0 (record { file = record { device = h.opens.i; control = Authorized }; at = file_now name k held w h; is = refl; device = y.1 }) live
 
-after_probe_law : (name : List ℕ) (k : Kernel) (held : ℕ) (u w l : Kernel) (attrs : Attrs) (parent : Option Attrs) (answer : Probe) (number count : ℕ) (r : Binding) (h : IsOpenSince name k held u) → ((d : Device) → Live u.devices h.opens.i d → attrs ≡ attrs_of d) → ((d : Device) → Live u.devices h.opens.i d → IsParentRead u d.parent parent) → Called (Ask_alive held) (record { answer = answer; number = number; count = count }) u w → Runs calls w (after_probe held attrs parent answer number count) r l → BindSays name k l r
-after_probe_law name k held u w l attrs parent (probe.Alive on) number count r h own parents c runs =
-    says_ends name k w l (bound.Bound (record { held = record { 0 = held }; attrs = attrs; parent = parent; on = on })) r (bound_law name k held u w attrs parent on h own parents c.says (called_quiet (Ask_alive held) _ u w tt c)) runs.0 runs.1
-after_probe_law name k held u w l attrs parent probe.Gone number count r h own parents c runs =
-    says_ends name k runs.1 l bound.Vanished r (gone_law name k held w runs.1 (open_later name k held u w (called_quiet (Ask_alive held) _ u w tt c) h) (called_grows (Close held) runs.0 w runs.1 runs.2) c.says) runs.3.0 runs.3.1
-after_probe_law name k held u w l attrs parent probe.Failed number count r h own parents c runs = says_ends name k runs.1 l (bound.Failed number count) r tt runs.3.0 runs.3.1
+none_wider : (name : List ℕ) (k u w l : Kernel) → Grows k u → Grows u w → Grows w l → NoneLived name u w → NoneLived name k l
+none_wider name k u w l a b c h i d lives named =
+    let x = (lived_cut k u l i d a (grows_trans u w l b c) lives).1 in
+    h i x.0 (lived_cut u w l i x.0 b c x.1).0 (x.2.name ∙ named)
 
-probing_law : (name : List ℕ) (k : Kernel) (held : ℕ) (u l : Kernel) (attrs : Attrs) (parent : Option Attrs) (r : Binding) (h : IsOpenSince name k held u) → ((d : Device) → Live u.devices h.opens.i d → attrs ≡ attrs_of d) → ((d : Device) → Live u.devices h.opens.i d → IsParentRead u d.parent parent) → Runs calls u (probing held attrs parent) r l → BindSays name k l r
-probing_law name k held u l attrs parent r h own parents runs = after_probe_law name k held u runs.1 l attrs parent runs.0.answer runs.0.number runs.0.count r h own parents runs.2 runs.3
+-- no device is without descriptors
+within_no : (fits : Bool) (bytes : List ℕ) → out.Absent ≡ cond fits (out.Bytes bytes) out.TooLong → ⊥
+within_no true bytes e = cc
+within_no false bytes e = cc
 
--- the parent's files
+absent_none : (name of : List ℕ) (k l : Kernel) → IsReadable name of → IsSound k.devices → IsSound l.devices → Grows k l → IsFile of attr.Descriptors out.Absent k l → NoneLived name k l
+absent_none name of k l (inl e) s t g h = λ i d lives named. within_no (nat_le (length d.descriptors) 131072) d.descriptors (h i d lives (named ∙ sym e))
+absent_none name of k l (inr above) s t g h = λ i d lives named.
+    let x = parent_lived k l name of i d d.parent s t g lives named above refl in
+    within_no (nat_le (length x.1.descriptors) 131072) x.1.descriptors (h x.0 x.1 x.3 x.4)
 
-early_law : (name : List ℕ) (k l : Kernel) (why : Stop) → (why ≡ stop.Vanished → NoneLived name k l) → BindSays name k l (binding_of why)
-early_law name k l stop.Vanished h = h refl
-early_law name k l (stop.Fault number count) h = tt
-early_law name k l stop.Memory h = tt
+stop_says : {name of : List ℕ} {at : Attr} {t : Told ReadOut} {why : Stop} (k u w l : Kernel) → IsReadable name of → Stops at t why → IsKernel u → Called (Read of at) t u w → Grows k u → Grows w l → BindSays name k l (binding_of why)
+stop_says {name} {of} k u w l may (No_descriptors call count) s c g j =
+    let b = called_grows (Read of attr.Descriptors) (told out.Absent call count) u w c in
+    none_wider name k u w l g b j (absent_none name of u w may s.devices c.sound.devices b c.says)
+stop_says k u w l may (Read_failed at call count) s c g j = tt
+stop_says k u w l may (Read_short at call count) s c g j = tt
 
-none_read : {X : Type 0} (name : List ℕ) (of : Device → X) (k l : Kernel) (why : Stop) → ReadsAs name of k l (Err why) → why ≡ stop.Vanished → NoneLived name k l
-none_read name of k l why h e = subst (λ v. ReadsAs name of k l (Err v)) e h
-
-after_parent_law : (name parent : List ℕ) (k : Kernel) (held : ℕ) (m v u l : Kernel) (attrs : Attrs) (q : Result Attrs Stop) (r : Binding) → IsOpenSince name k held m → parent_of name ≡ Some parent → IsSound v.devices → IsSound u.devices → Grows k v → Quiet m v → Quiet v u → ReadsAs name attrs_of m v (Ok attrs) → ReadsAs parent parent_attrs_of v u q → Runs calls u (after_parent held attrs q) r l → BindSays name k l r
-after_parent_law name parent k held m v u l attrs (Ok theirs) r h above s t g a b own reads runs =
-    let mid = open_later name k held m v a h in
-    let wider = reads_wider name attrs_of m m v u (Ok attrs) own_kept (grows_refl m) (quiet_grows m v a) (quiet_grows v u b) own in
-    probing_law name k held u l attrs (Some theirs) r (open_later name k held v u b mid)
-    (own_now name attrs_of k held m u attrs h own_kept (grows_trans m v u (quiet_grows m v a) (quiet_grows v u b)) wider)
-    (parent_now name parent k held v u theirs mid above s t (quiet_grows v u b) reads) runs
-after_parent_law name parent k held m v u l attrs (Err why) r h above s t g a b own reads runs =
-    let none : why ≡ stop.Vanished → NoneLived name k u = λ e i d lives named.
-    let x = (lived_cut k v u i d g (quiet_grows v u b) lives).1 in
-    let y = parent_lived v u name parent i x.0 x.0.parent s t (quiet_grows v u b) x.1 (x.2.name ∙ named) above refl in
-    none_read parent parent_attrs_of v u why reads e y.0 y.1 y.3 y.4 in
-    says_ends name k u l (binding_of why) r (early_law name k u why none) runs.0 runs.1
-
-to_parent_law : (name : List ℕ) (parent : Option (List ℕ)) (k : Kernel) (held : ℕ) (m v l : Kernel) (attrs : Attrs) (r : Binding) → IsOpenSince name k held m → parent_of name ≡ parent → IsKernel v → Grows k v → Quiet m v → ReadsAs name attrs_of m v (Ok attrs) → Runs calls v (to_parent held attrs parent) r l → BindSays name k l r
-to_parent_law name None k held m v l attrs r h above s g a own runs =
-    let now = open_later name k held m v a h in
-    probing_law name k held v l attrs None r now
-    (own_now name attrs_of k held m v attrs h own_kept (quiet_grows m v a) own)
-    (λ d live. no_parent v name now.opens.i d d.parent s.devices live (named_now name k held v now d live.at) above refl) runs
-to_parent_law name (Some parent) k held m v l attrs r h above s g a own runs =
-    let cut = runs_split calls v (reading_parent parent held) (after_parent held attrs) r l runs in
-    after_parent_law name parent k held m v cut.1 l attrs cut.0 r h above s.devices (runs_sound (reading_parent parent held) v cut.0 cut.1 s cut.2).devices g a (runs_quiet (reading_parent parent held) v cut.0 cut.1 (parent_quiet parent held) cut.2) own (parent_says parent held v cut.1 cut.0 cut.2) cut.3
-
--- its own files
-
-after_own_law : (name : List ℕ) (parent : Option (List ℕ)) (k : Kernel) (held : ℕ) (m v l : Kernel) (q : Result Attrs Stop) (r : Binding) → IsOpenSince name k held m → parent_of name ≡ parent → IsKernel v → Grows k m → Quiet m v → ReadsAs name attrs_of m v q → Runs calls v (after_own held parent q) r l → BindSays name k l r
-after_own_law name parent k held m v l (Ok attrs) r h above s g a own runs = to_parent_law name parent k held m v l attrs r h above s (grows_trans k m v g (quiet_grows m v a)) a own runs
-after_own_law name parent k held m v l (Err why) r h above s g a own runs =
-    says_ends name k v l (binding_of why) r (early_law name k v why (λ e. none_wider name k m v v g (quiet_grows m v a) (grows_refl v) (none_read name attrs_of m v why own e))) runs.0 runs.1
-
-after_open_law : (name : List ℕ) (parent : Option (List ℕ)) (k m l : Kernel) (answer : Opened) (number count : ℕ) (r : Binding) → parent_of name ≡ parent → Called (Open name Authorized) (record { answer = answer; number = number; count = count }) k m → Runs calls m (after_open name parent answer number count) r l → BindSays name k l r
-after_open_law name parent k m l (opened.Token held) number count r above c runs =
-    let cut = runs_split calls m (reading_own name held.0) (after_own held.0 parent) r l runs in
-    after_own_law name parent k held.0 m cut.1 l cut.0 r
-    (record { before = c.before; opening = c.after; start = c.moves_before; opens = c.effect; quiet = moves_quiet c.after m c.moves_after; sound = c.sound_before })
-    above (runs_sound (reading_own name held.0) m cut.0 cut.1 c.sound cut.2) (called_grows (Open name Authorized) _ k m c) (runs_quiet (reading_own name held.0) m cut.0 cut.1 (own_quiet name held.0) cut.2) (own_says name held.0 m cut.1 cut.0 cut.2) cut.3
-after_open_law name parent k m l opened.Absent number count r above c runs = says_ends name k m l bound.Absent r c.says runs.0 runs.1
-after_open_law name parent k m l opened.Failed number count r above c runs = says_ends name k m l (bound.Failed number count) r tt runs.0 runs.1
-after_open_law name parent k m l opened.Memory number count r above c runs = says_ends name k m l bound.Memory r tt runs.0 runs.1
-
-binding_says : (name : List ℕ) (parent : Option (List ℕ)) (r : Binding) (k l : Kernel) → parent_of name ≡ parent → Runs calls k (binding name parent) r l → BindSays name k l r
-unfolding binding
-binding_says name parent r k l above runs = after_open_law name parent k runs.1 l runs.0.answer runs.0.number runs.0.count r above runs.2 runs.3
+binds_say : {name : List ℕ} {ms : List Made} {r : Binding} (k l : Kernel) → Binds_by name ms r → Along calls k ms l → BindSays name k l r
+binds_say {name} k l (No_such call count) a = subst (λ v. NoneLived name k v) (sym a.2) a.1.says
+binds_say k l (Open_failed call count) a = tt
+binds_say k l (Open_short call count) a = tt
+binds_say {name} k l (Cut file call count ms of at t shut why r n few may stops e) a =
+    let cut = along_split calls ms (answered (Read of at) t ∷ answered (Close file.0) shut ∷ []) a.0 l a.2 in
+    let g = grows_trans k a.0 cut.0 (called_grows (Open name Authorized) (told (opened.Token file) call count) k a.0 a.1) (along_grows ms a.0 cut.0 cut.1) in
+    subst (λ v. BindSays name k l v) (sym e) (stop_says k cut.0 cut.2.0 l may stops (along_sound ms a.0 cut.0 a.1.sound cut.1) cut.2.1 g (along_grows (answered (Close file.0) shut ∷ []) cut.2.0 l cut.2.2))
+binds_say {name} k l (Probed_gone file call count number total ms shut n few) a =
+    let gone = answered (Ask_alive file.0) (told probe.Gone number total) in
+    let cut = along_split calls ms (gone ∷ answered (Close file.0) shut ∷ []) a.0 l a.2 in
+    let q = quiet_trans a.0 cut.0 cut.2.0 (along_quiet ms a.0 cut.0 (reads_unwritten n) cut.1) (called_quiet (Ask_alive file.0) (told probe.Gone number total) cut.0 cut.2.0 tt cut.2.1) in
+    gone_law name k file.0 cut.2.0 l (open_since name file call count k a.0 cut.2.0 a.1 q) (along_grows (answered (Close file.0) shut ∷ []) cut.2.0 l cut.2.2) cut.2.1.says
+binds_say k l (Probe_failed file call count number total ms shut n few) a = tt
+binds_say {name} k l (Bound_by call count number total ms b n few are) a =
+    let last = answered (Ask_alive b.held.0) (told (probe.Alive b.on) number total) ∷ [] in
+    let cut = along_split calls ms last a.0 l a.2 in
+    bound_law k a.0 cut.0 l b (open_since name b.held call count k a.0 a.0 a.1 (quiet_refl a.0)) n are a.1.sound cut.1 cut.2.1.says (along_quiet last cut.0 l (tt, tt) cut.2)
 
 pub binding_law : (name : List ℕ) (parent : Option (List ℕ)) (r : Binding) (k l : Kernel) → parent ≡ parent_of name → IsKernel k → Runs calls k (binding name parent) r l → IsBinding name k l r
-binding_law name parent r k l above sound runs = record {
-  sound = runs_sound (binding name parent) k r l sound runs;
-  quiet = runs_quiet (binding name parent) k r l (binding_quiet name parent) runs;
-  says = binding_says name parent r k l (sym above) runs;
-}
+binding_law name parent r k l above sound runs =
+    let x = ways_run calls (Sure (Binds_by name)) (binding name (parent_of name)) k r l (binds_by name) (subst (λ (p : Option (List ℕ)). Runs calls k (binding name p) r l) above runs) in
+    record {
+      sound = along_sound x.made k l sound x.along;
+      quiet = along_quiet x.made k l (binds_unwritten x.so.1) x.along;
+      says = binds_say k l x.so.1 x.along;
+    }
 
 -- and over the states of a run
 pub told_binds : {S : Type 0} (gives : S → (call : Call) → Answer call → S → Type 0) (told : S → Option Kernel) (did : (s : S) (call : Call) (answer : Answer call) (t : S) (l : Kernel) → gives s call answer t → told t ≡ Some l → Follows call answer (told s) l) (name : List ℕ) (parent : Option (List ℕ)) (s : S) (r : Binding) (t : S) → parent ≡ parent_of name → Runs gives s (binding name parent) r t → Binds told s name r t
 told_binds gives told did name parent s r t above runs = λ l e.
     let m = told_run gives told did (binding name parent) s r t l runs e in
     (m.kernel, m.was, λ k. binding_law name parent r m.kernel l above k (m.run k).0)
+
+-- the numbers of a failed answer: those of the last call that is counted, which failed
+
+-- a call that failed
+fault_so : {X : Type 0} (failed : X → Bool) (t : Told X) (v w : Tally) → failed t.answer ≡ true → Counted failed t v.calls v.faults w.calls w.faults → IsFault v.faults w.calls w.faults (failure_of t)
+fault_so failed t v w e h = record { number = h.number; total = h.count; rises = λ few. h.rises e few }
+
+-- one behind others, with the closing of a file behind it
+ends_closed : (front : List Made) (m : Made) (held : ℕ) (shut : Closing) (failed : FailedCall) (v w : Tally) → ((x y : Tally) → counts x m.call m.answer y → IsFault x.faults y.calls y.faults failed) → Along counts v (front ++ m ∷ answered (Close held) shut ∷ []) w → IsFault v.faults w.calls w.faults failed
+ends_closed front m held shut failed v w fails a =
+    let cut = along_split counts front (m ∷ answered (Close held) shut ∷ []) v w a in
+    let x = cut.0 in
+    let y = cut.2.0 in
+    let h = fails x y cut.2.1 in
+    let low = along_never_falls front v x cut.1 in
+    let closed = cut.2.2.1 in
+    let same = cut.2.2.2 in
+    let calls : w.calls ≡ y.calls = ap (λ (t : Tally). t.calls) same ∙ closed.0 in
+    let faults : w.faults ≡ y.faults = ap (λ (t : Tally). t.faults) same ∙ closed.1 in
+    let first = counts_never_fall m.call m.answer x y cut.2.1 in
+    record { number = h.number ∙ sym calls; total = h.total ∙ sym faults; rises = λ few. grind (arith, h.rises, few, low, first, faults) }
+
+stop_tells : {at : Attr} {t : Told ReadOut} {why : Stop} (front : List Made) (of : List ℕ) (held : ℕ) (shut : Closing) (v w : Tally) → Stops at t why → Along counts v (front ++ answered (Read of at) t ∷ answered (Close held) shut ∷ []) w → TellsFault v.faults w.calls w.faults (binding_of why)
+stop_tells front of held shut v w (No_descriptors call count) a = tt
+stop_tells front of held shut v w (Read_failed at call count) a = ends_closed front (answered (Read of at) (told out.Failed call count)) held shut (record { call = call; count = count }) v w (λ x y c. fault_so failed_read (told out.Failed call count) x y refl c) a
+stop_tells front of held shut v w (Read_short at call count) a = tt
+
+binds_tell : {name : List ℕ} {ms : List Made} {r : Binding} (v w : Tally) → Binds_by name ms r → Along counts v ms w → TellsFault v.faults w.calls w.faults r
+binds_tell v w (No_such call count) a = tt
+binds_tell v w (Open_failed call count) a = subst (λ (x : Tally). IsFault v.faults x.calls x.faults (record { call = call; count = count })) (sym a.2) (fault_so failed_open (told opened.Failed call count) v a.0 refl a.1)
+binds_tell v w (Open_short call count) a = tt
+binds_tell {name} v w (Cut file call count ms of at t shut why r n few may stops e) a = subst (λ (x : Binding). TellsFault v.faults w.calls w.faults x) (sym e) (stop_tells (answered (Open name Authorized) (told (opened.Token file) call count) ∷ ms) of file.0 shut v w stops a)
+binds_tell v w (Probed_gone file call count number total ms shut n few) a = tt
+binds_tell {name} v w (Probe_failed file call count number total ms shut n few) a = ends_closed (answered (Open name Authorized) (told (opened.Token file) call count) ∷ ms) (answered (Ask_alive file.0) (told probe.Failed number total)) file.0 shut (record { call = number; count = total }) v w (λ x y c. fault_so failed_probe (told probe.Failed number total) x y refl c) a
+binds_tell v w (Bound_by call count number total ms b n few are) a = tt
+
+holds_tell : {name : List ℕ} {held : ℕ} {ms : List Made} {r : RemoveHold} (v w : Tally) → Holds_by name held ms r → Along counts v ms w → TellsRemoveFault v.faults w.calls w.faults r
+holds_tell v w (Not_there call count) a = tt
+holds_tell v w (Not_opened call count) a = subst (λ (x : Tally). IsFault v.faults x.calls x.faults (record { call = call; count = count })) (sym a.2) (fault_so failed_open (told opened.Failed call count) v a.0 refl a.1)
+holds_tell v w (No_memory call count) a = tt
+holds_tell v w (Held_on file on call count number total) a = tt
+holds_tell v w (Died file call count number total shut) a = tt
+holds_tell {name} {held} v w (Unasked file call count number total shut) a = ends_closed (answered (Open name Remove) (told (opened.Token file) call count) ∷ []) (answered (Ask_alive held) (told probe.Failed number total)) file.0 shut (record { call = number; count = total }) v w (λ x y c. fault_so failed_probe (told probe.Failed number total) x y refl c) a
+
+-- of the states of a run
+
+pub told_fault : {S : Type 0} (gives : S → (call : Call) → Answer call → S → Type 0) (calls faults : S → ℕ) (counted : Counting gives calls faults) (name : List ℕ) (parent : Option (List ℕ)) (s : S) (r : Binding) (t : S) → parent ≡ parent_of name → Runs gives s (binding name parent) r t → TellsFault (faults s) (calls t) (faults t) r
+told_fault gives calls faults counted name parent s r t e h =
+    let x = ways_run gives (Sure (Binds_by name)) (binding name (parent_of name)) s r t (binds_by name) (subst (λ (p : Option (List ℕ)). Runs gives s (binding name p) r t) e h) in
+    binds_tell (tally (calls s) (faults s)) (tally (calls t) (faults t)) x.so.1 (along_counted gives calls faults counted x.made s t x.along)
+
+pub remove_fault : {S : Type 0} (gives : S → (call : Call) → Answer call → S → Type 0) (calls faults : S → ℕ) (counted : Counting gives calls faults) (name : List ℕ) (held : ℕ) (s : S) (r : RemoveHold) (t : S) → Runs gives s (holding_remove name held) r t → TellsRemoveFault (faults s) (calls t) (faults t) r
+remove_fault gives calls faults counted name held s r t h =
+    let x = ways_run gives (Sure (Holds_by name held)) (holding_remove name held) s r t (holds_by name held) h in
+    holds_tell (tally (calls s) (faults s)) (tally (calls t) (faults t)) x.so.1 (along_counted gives calls faults counted x.made s t x.along)

@@ -1,6 +1,3 @@
 pub mod BindShapes
-mod ReadAs
-mod Unwritten
 pub mod Laws
 pub mod Removing
-mod Rises

@@ -6,7 +6,9 @@ use Rattle.ug_kernel.specs.declared.calls.Opened.{Opened}
 use Rattle.ug_kernel.specs.declared.calls.Opened.TheVariants as opened
 use Rattle.ug_kernel.specs.declared.calls.Probe.{Probe}
 use Rattle.ug_kernel.specs.declared.calls.Probe.TheVariants as probe
+use Rattle.ug_kernel.specs.declared.calls.FailedCall.{FailedCall}
 use Rattle.ug_kernel.specs.Calls.{Open, Ask_alive, Close}
+use Rattle.ug_kernel.specs.Along.{failure_of}
 use Rattle.ug_kernel.specs.Tree.{Prog, Return, Ask, then}
 use Rattle.ug_node.specs.Files.{reading_own, reading_parent}
 use Rattle.ug_node.specs.declared.files.Stop.{Stop}
@@ -16,20 +18,20 @@ use Rattle.ug_node.specs.declared.identity.Binding.TheVariants as bound
 
 abbrev pub binding_of : Stop → Binding
 binding_of stop.Vanished = bound.Vanished
-binding_of (stop.Fault call count) = bound.Failed call count
+binding_of (stop.Fault failed) = bound.Failed failed
 binding_of stop.Memory = bound.Memory
 
 -- the held file is closed, and that is all
 abbrev pub closing : ℕ → Binding → Prog Binding
 closing held answer = Ask (Close held) (λ closed. Return answer)
 
-abbrev pub after_probe : ℕ → Attrs → Option Attrs → Probe → ℕ → ℕ → Prog Binding
-after_probe held attrs parent (probe.Alive on) number count = Return (bound.Bound (record { held = record { 0 = held }; attrs = attrs; parent = parent; on = on }))
-after_probe held attrs parent probe.Gone number count = closing held bound.Vanished
-after_probe held attrs parent probe.Failed number count = closing held (bound.Failed number count)
+abbrev pub after_probe : ℕ → Attrs → Option Attrs → Probe → FailedCall → Prog Binding
+after_probe held attrs parent (probe.Alive on) failed = Return (bound.Bound (record { held = record { 0 = held }; attrs = attrs; parent = parent; on = on }))
+after_probe held attrs parent probe.Gone failed = closing held bound.Vanished
+after_probe held attrs parent probe.Failed failed = closing held (bound.Failed failed)
 
 abbrev pub probing : ℕ → Attrs → Option Attrs → Prog Binding
-probing held attrs parent = Ask (Ask_alive held) (λ t. after_probe held attrs parent t.answer t.number t.count)
+probing held attrs parent = Ask (Ask_alive held) (λ t. after_probe held attrs parent t.answer (failure_of t))
 
 abbrev pub after_parent : ℕ → Attrs → Result Attrs Stop → Prog Binding
 after_parent held attrs (Ok parent) = probing held attrs (Some parent)
@@ -43,12 +45,12 @@ abbrev pub after_own : ℕ → Option (List ℕ) → Result Attrs Stop → Prog 
 after_own held parent (Ok attrs) = to_parent held attrs parent
 after_own held parent (Err why) = Return (binding_of why)
 
-abbrev pub after_open : List ℕ → Option (List ℕ) → Opened → ℕ → ℕ → Prog Binding
-after_open name parent (opened.Token held) number count = then (reading_own name held.0) (after_own held.0 parent)
-after_open name parent opened.Absent number count = Return bound.Absent
-after_open name parent opened.Failed number count = Return (bound.Failed number count)
-after_open name parent opened.Memory number count = Return bound.Memory
+abbrev pub after_open : List ℕ → Option (List ℕ) → Opened → FailedCall → Prog Binding
+after_open name parent (opened.Token held) failed = then (reading_own name held.0) (after_own held.0 parent)
+after_open name parent opened.Absent failed = Return bound.Absent
+after_open name parent opened.Failed failed = Return (bound.Failed failed)
+after_open name parent opened.Memory failed = Return bound.Memory
 
 -- a name, with its parent's
 unfoldable pub binding : List ℕ → Option (List ℕ) → Prog Binding
-binding name parent = Ask (Open name Authorized) (λ t. after_open name parent t.answer t.number t.count)
+binding name parent = Ask (Open name Authorized) (λ t. after_open name parent t.answer (failure_of t))

@@ -4,6 +4,7 @@ use Rattle.ug_types.specs.declared.record.Attrs.{Attrs}
 use Rattle.ug_kernel.specs.declared.device.Device.{Device}
 use Rattle.ug_types.specs.declared.control.Control.TheVariants.{Authorized}
 use Rattle.ug_types.specs.declared.control.Attr.TheVariants as attr
+use Rattle.ug_kernel.specs.declared.calls.FailedCall.{FailedCall}
 use Rattle.ug_kernel.specs.declared.calls.ReadOut.{ReadOut}
 use Rattle.ug_kernel.specs.declared.calls.ReadOut.TheVariants as out
 use Rattle.ug_kernel.specs.Kernel.{Kernel, IsKernel, Moves}
@@ -79,7 +80,7 @@ abbrev pub BindSays : List ℕ → Kernel → Kernel → Binding → Type 0
 BindSays name k l (bound.Bound b) = IsBound name k l b
 BindSays name k l bound.Absent = NoneLived name k l
 BindSays name k l bound.Vanished = NoneLived name k l
-BindSays name k l (bound.Failed call count) = Unit {0}
+BindSays name k l (bound.Failed failed) = Unit {0}
 BindSays name k l bound.Memory = Unit {0}
 
 -- a binding writes nothing, and its answer says that
@@ -93,12 +94,12 @@ abbrev pub Binds : {S : Type 0} → (S → Option Kernel) → S → List ℕ →
 Binds told s name answer t = (l : Kernel) → told t ≡ Some l → (k : Kernel) × (told s ≡ Some k) × (IsKernel k → IsBinding name k l answer)
 
 -- the numbers of a fault: those of the last call and of all faults, and it is a new one
-pub record IsFault (faults calls_after faults_after call count : ℕ) : Type 0 where
-  pub number : call ≡ calls_after
-  pub total : count ≡ faults_after
+pub record IsFault (faults calls_after faults_after : ℕ) (failed : FailedCall) : Type 0 where
+  pub number : failed.call ≡ calls_after
+  pub total : failed.count ≡ faults_after
   pub rises : faults < 2 ^ 64 - 1 → faults < faults_after
 
 -- a failed answer has the numbers of a fault
 abbrev pub TellsFault : ℕ → ℕ → ℕ → Binding → Type 0
-TellsFault faults calls_after faults_after (bound.Failed call count) = IsFault faults calls_after faults_after call count
+TellsFault faults calls_after faults_after (bound.Failed failed) = IsFault faults calls_after faults_after failed
 TellsFault faults calls_after faults_after answer = Unit {0}

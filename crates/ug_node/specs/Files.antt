@@ -5,7 +5,9 @@ use Rattle.ug_types.specs.declared.control.Attr.{Attr}
 use Rattle.ug_types.specs.declared.control.Attr.TheVariants as attr
 use Rattle.ug_kernel.specs.declared.calls.ReadOut.{ReadOut}
 use Rattle.ug_kernel.specs.declared.calls.ReadOut.TheVariants as out
+use Rattle.ug_kernel.specs.declared.calls.FailedCall.{FailedCall}
 use Rattle.ug_kernel.specs.Calls.{Read, Close}
+use Rattle.ug_kernel.specs.Along.{failure_of}
 use Rattle.ug_kernel.specs.Tree.{Prog, Return, Ask, then}
 use Rattle.ug_node.specs.declared.files.File.{File}
 use Rattle.ug_node.specs.declared.files.Stop.{Stop}
@@ -25,16 +27,16 @@ if_absent attr.Product held = file_is [] false
 if_absent attr.Serial held = file_is [] false
 if_absent attr.Connect held = file_is [] false
 
-abbrev pub after_read : Attr → ℕ → ReadOut → ℕ → ℕ → Prog (Result File Stop)
-after_read attr held (out.Bytes bytes) number count = file_is bytes false
-after_read attr held out.Absent number count = if_absent attr held
-after_read attr held out.TooLong number count = file_is [] true
-after_read attr held out.Failed number count = giving_up held (stop.Fault number count)
-after_read attr held out.Memory number count = giving_up held stop.Memory
+abbrev pub after_read : Attr → ℕ → ReadOut → FailedCall → Prog (Result File Stop)
+after_read attr held (out.Bytes bytes) failed = file_is bytes false
+after_read attr held out.Absent failed = if_absent attr held
+after_read attr held out.TooLong failed = file_is [] true
+after_read attr held out.Failed failed = giving_up held (stop.Fault failed)
+after_read attr held out.Memory failed = giving_up held stop.Memory
 
 -- one file
 unfoldable pub reading : List ℕ → Attr → ℕ → Prog (Result File Stop)
-reading name attr held = Ask (Read name attr) (λ t. after_read attr held t.answer t.number t.count)
+reading name attr held = Ask (Read name attr) (λ t. after_read attr held t.answer (failure_of t))
 
 abbrev pub own_of : File → File → File → File → Attrs
 own_of d p s c = record { descriptors = d.bytes; product = p.bytes; serial = s.bytes; connect = c.bytes; too_long = d.too_long || p.too_long || s.too_long || c.too_long }

@@ -7,7 +7,9 @@ use Rattle.ug_kernel.specs.declared.calls.Opened.{Opened}
 use Rattle.ug_kernel.specs.declared.calls.Opened.TheVariants as opened
 use Rattle.ug_kernel.specs.declared.calls.Probe.{Probe}
 use Rattle.ug_kernel.specs.declared.calls.Probe.TheVariants as probe
+use Rattle.ug_kernel.specs.declared.calls.FailedCall.{FailedCall}
 use Rattle.ug_kernel.specs.Calls.{Open, Ask_alive, Close}
+use Rattle.ug_kernel.specs.Along.{failure_of}
 use Rattle.ug_kernel.specs.Kernel.{Kernel, IsKernel}
 use Rattle.ug_kernel.specs.Called.{IsGoneAt}
 use Rattle.ug_kernel.specs.Quiet.{Quiet}
@@ -20,20 +22,20 @@ use Rattle.ug_node.specs.declared.removal.RemoveHold.TheVariants as hold
 abbrev pub closing_remove : Held → RemoveHold → Prog RemoveHold
 closing_remove file answer = Ask (Close file.0) (λ closed. Return answer)
 
-abbrev pub after_remove_probe : Held → Probe → ℕ → ℕ → Prog RemoveHold
-after_remove_probe file (probe.Alive on) number count = Return (hold.Ready file)
-after_remove_probe file probe.Gone number count = closing_remove file hold.Gone
-after_remove_probe file probe.Failed number count = closing_remove file (hold.Failed number count)
+abbrev pub after_remove_probe : Held → Probe → FailedCall → Prog RemoveHold
+after_remove_probe file (probe.Alive on) failed = Return (hold.Ready file)
+after_remove_probe file probe.Gone failed = closing_remove file hold.Gone
+after_remove_probe file probe.Failed failed = closing_remove file (hold.Failed failed)
 
-abbrev pub after_remove_open : ℕ → Opened → ℕ → ℕ → Prog RemoveHold
-after_remove_open held (opened.Token file) number count = Ask (Ask_alive held) (λ t. after_remove_probe file t.answer t.number t.count)
-after_remove_open held opened.Absent number count = Return hold.Gone
-after_remove_open held opened.Failed number count = Return (hold.Failed number count)
-after_remove_open held opened.Memory number count = Return hold.Memory
+abbrev pub after_remove_open : ℕ → Opened → FailedCall → Prog RemoveHold
+after_remove_open held (opened.Token file) failed = Ask (Ask_alive held) (λ t. after_remove_probe file t.answer (failure_of t))
+after_remove_open held opened.Absent failed = Return hold.Gone
+after_remove_open held opened.Failed failed = Return (hold.Failed failed)
+after_remove_open held opened.Memory failed = Return hold.Memory
 
 -- the calls, in order: the `remove` file is opened by name, and the held file is probed
 unfoldable pub holding_remove : List ℕ → ℕ → Prog RemoveHold
-holding_remove name held = Ask (Open name Remove) (λ t. after_remove_open held t.answer t.number t.count)
+holding_remove name held = Ask (Open name Remove) (λ t. after_remove_open held t.answer (failure_of t))
 
 -- the held file is the `authorized` of the device of that identity, which has that name
 pub record IsAuthorizedFile (k : Kernel) (name : List ℕ) (held i : ℕ) : Type 0 where
@@ -46,7 +48,7 @@ pub record IsAuthorizedFile (k : Kernel) (name : List ℕ) (held i : ℕ) : Type
 abbrev pub RemoveSays : ℕ → ℕ → Kernel → RemoveHold → Type 0
 RemoveSays held i l (hold.Ready file) = slice_get l.held file.0 ≡ Some (record { device = i; control = Remove })
 RemoveSays held i l hold.Gone = IsGoneAt held l
-RemoveSays held i l (hold.Failed call count) = Unit {0}
+RemoveSays held i l (hold.Failed failed) = Unit {0}
 RemoveSays held i l hold.Memory = Unit {0}
 
 -- nothing is written, and the answer says that of the device of that identity
@@ -62,5 +64,5 @@ HoldsRemove told s name held answer t = (l : Kernel) → told t ≡ Some l → (
 
 -- a failed answer has the numbers of a fault
 abbrev pub TellsRemoveFault : ℕ → ℕ → ℕ → RemoveHold → Type 0
-TellsRemoveFault faults calls_after faults_after (hold.Failed call count) = IsFault faults calls_after faults_after call count
+TellsRemoveFault faults calls_after faults_after (hold.Failed failed) = IsFault faults calls_after faults_after failed
 TellsRemoveFault faults calls_after faults_after answer = Unit {0}

@@ -3,7 +3,9 @@ ghost use Rattle.std.specs.Prelude.{◌≡◌, []};
 ghost use Rattle.ug_kernel.specs.Tree.{Runs};
 ghost use Rattle.ug_node.specs.Files.{reading, reading_own, reading_parent};
 
+use crate::failed::failed_call;
 use std::alloc::Global;
+use ug_kernel::FailedCall;
 use ug_sysfs::{Attr, ReadOut, Sysfs};
 use ug_types::{Attrs, Held, NodeName, Text};
 
@@ -19,8 +21,7 @@ pub struct File {
 pub enum Stop {
     /// There is no `descriptors` file: no device of the name lived through.
     Vanished,
-    /// A call failed: its number in the event, and the count of failed calls after it.
-    Fault { call: u64, count: u64 },
+    Fault(FailedCall),
     Memory,
 }
 
@@ -58,12 +59,9 @@ pub fn read_file<Y: Sysfs>(
             _ => Ok(no_bytes(alloc, false)),
         },
         ReadOut::Failed => {
-            let fault = Stop::Fault {
-                call: sysfs.calls(),
-                count: sysfs.faults(),
-            };
+            let failed = failed_call(sysfs);
             sysfs.close(held);
-            Err(fault)
+            Err(Stop::Fault(failed))
         }
         ReadOut::Memory => {
             sysfs.close(held);
@@ -82,31 +80,17 @@ pub fn read_own<Y: Sysfs>(
 ) -> Result<Attrs, Stop>
     ensures { Runs Y.gives sysfs.old (reading_own name.now held.0) result sysfs.new }
 {
-    let descriptors = match read_file(alloc, sysfs, name, Attr::Descriptors, held) {
-        Ok(file) => file,
-        Err(stop) => return Err(stop),
-    };
-    let product = match read_file(alloc, sysfs, name, Attr::Product, held) {
-        Ok(file) => file,
-        Err(stop) => return Err(stop),
-    };
-    let serial = match read_file(alloc, sysfs, name, Attr::Serial, held) {
-        Ok(file) => file,
-        Err(stop) => return Err(stop),
-    };
-    match read_file(alloc, sysfs, name, Attr::Connect, held) {
-        Ok(connect) => Ok(Attrs {
-            too_long: descriptors.too_long
-                || product.too_long
-                || serial.too_long
-                || connect.too_long,
-            descriptors: descriptors.bytes,
-            product: product.bytes,
-            serial: serial.bytes,
-            connect: connect.bytes,
-        }),
-        Err(stop) => Err(stop),
-    }
+    let descriptors = read_file(alloc, sysfs, name, Attr::Descriptors, held)?;
+    let product = read_file(alloc, sysfs, name, Attr::Product, held)?;
+    let serial = read_file(alloc, sysfs, name, Attr::Serial, held)?;
+    let connect = read_file(alloc, sysfs, name, Attr::Connect, held)?;
+    Ok(Attrs {
+        too_long: descriptors.too_long || product.too_long || serial.too_long || connect.too_long,
+        descriptors: descriptors.bytes,
+        product: product.bytes,
+        serial: serial.bytes,
+        connect: connect.bytes,
+    })
 }
 
 /// Reads the files of a parent that its children's records need.
@@ -119,22 +103,14 @@ pub fn read_parent<Y: Sysfs>(
 ) -> Result<Attrs, Stop>
     ensures { Runs Y.gives sysfs.old (reading_parent name.now held.0) result sysfs.new }
 {
-    let descriptors = match read_file(alloc, sysfs, name, Attr::Descriptors, held) {
-        Ok(file) => file,
-        Err(stop) => return Err(stop),
-    };
-    let product = match read_file(alloc, sysfs, name, Attr::Product, held) {
-        Ok(file) => file,
-        Err(stop) => return Err(stop),
-    };
-    match read_file(alloc, sysfs, name, Attr::Serial, held) {
-        Ok(serial) => Ok(Attrs {
-            too_long: descriptors.too_long || product.too_long || serial.too_long,
-            descriptors: descriptors.bytes,
-            product: product.bytes,
-            serial: serial.bytes,
-            connect: Text::new(alloc),
-        }),
-        Err(stop) => Err(stop),
-    }
+    let descriptors = read_file(alloc, sysfs, name, Attr::Descriptors, held)?;
+    let product = read_file(alloc, sysfs, name, Attr::Product, held)?;
+    let serial = read_file(alloc, sysfs, name, Attr::Serial, held)?;
+    Ok(Attrs {
+        too_long: descriptors.too_long || product.too_long || serial.too_long,
+        descriptors: descriptors.bytes,
+        product: product.bytes,
+        serial: serial.bytes,
+        connect: Text::new(alloc),
+    })
 }

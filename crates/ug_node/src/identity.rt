@@ -2,11 +2,13 @@
 ghost use Rattle.std.specs.Prelude.{◌≡◌};
 ghost use Rattle.ug_types.specs.Names.{parent_of};
 ghost use Rattle.ug_kernel.specs.Tree.{Runs};
-ghost use Rattle.ug_node.specs.Bind.{binding, binding_of};
+ghost use Rattle.ug_node.specs.Bind.{binding};
 ghost use Rattle.ug_node.specs.Bound.{Binds, TellsFault};
 
+use crate::failed::failed_call;
 use crate::files::{Stop, read_own, read_parent};
 use std::alloc::Global;
+use ug_kernel::FailedCall;
 use ug_sysfs::{Control, Opened, Probe, Sysfs};
 use ug_types::{Attrs, Held, NodeName};
 
@@ -27,18 +29,22 @@ pub enum Binding {
     Absent,
     /// The device went away meanwhile: no device of the name lived through the call.
     Vanished,
-    /// A call failed: its number in the event, and the count of failed calls after it.
-    Failed { call: u64, count: u64 },
+    Failed(FailedCall),
     Memory,
 }
 
-fn stopped(stop: Stop) -> Binding
-    ensures { result ≡ binding_of stop }
-{
-    match stop {
-        Stop::Vanished => Binding::Vanished,
-        Stop::Fault { call, count } => Binding::Failed { call, count },
-        Stop::Memory => Binding::Memory,
+impl From<Stop> for Binding {
+    ghost use Rattle.std.specs.Prelude.{◌≡◌};
+    ghost use Rattle.ug_node.specs.Bind.{binding_of};
+
+    ghost from_gives = { λ stop binding. binding ≡ binding_of stop };
+
+    fn from(stop: Stop) -> Binding {
+        match stop {
+            Stop::Vanished => Binding::Vanished,
+            Stop::Fault(failed) => Binding::Failed(failed),
+            Stop::Memory => Binding::Memory,
+        }
     }
 }
 
@@ -64,23 +70,18 @@ fn bind_below<Y: Sysfs>(
     let held = match sysfs.open_control(alloc, name, Control::Authorized) {
         Opened::Token(held) => held,
         Opened::Absent => return Binding::Absent,
-        Opened::Failed => {
-            return Binding::Failed {
-                call: sysfs.calls(),
-                count: sysfs.faults(),
-            };
-        }
+        Opened::Failed => return Binding::Failed(failed_call(sysfs)),
         Opened::Memory => return Binding::Memory,
     };
     let attrs = match read_own(alloc, sysfs, name, held) {
         Ok(attrs) => attrs,
-        Err(stop) => return stopped(stop),
+        Err(stop) => return stop.into(),
     };
     let parent_attrs = match parent {
         None => None,
         Some(parent) => match read_parent(alloc, sysfs, &parent, held) {
             Ok(attrs) => Some(attrs),
-            Err(stop) => return stopped(stop),
+            Err(stop) => return stop.into(),
         },
     };
     match sysfs.probe(held) {
@@ -95,10 +96,9 @@ fn bind_below<Y: Sysfs>(
             Binding::Vanished
         }
         Probe::Failed => {
-            let call = sysfs.calls();
-            let count = sysfs.faults();
+            let failed = failed_call(sysfs);
             sysfs.close(held);
-            Binding::Failed { call, count }
+            Binding::Failed(failed)
         }
     }
 }

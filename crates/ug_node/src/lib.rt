@@ -1,11 +1,13 @@
 // Binds a name to the very device behind a held file, and opens the file by which that device is removed.
 #![tactic(auto)]
 
+mod failed;
 mod files;
 mod held;
 mod identity;
 mod removal;
 
+pub use failed::failed_call;
 pub use files::{File, Stop};
 pub use held::{put, reprobe};
 pub use identity::{Binding, Bound, bind};

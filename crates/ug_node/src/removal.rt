@@ -3,7 +3,9 @@ ghost use Rattle.std.specs.Prelude.{◌≡◌};
 ghost use Rattle.ug_kernel.specs.Tree.{Runs};
 ghost use Rattle.ug_node.specs.Removal.{holding_remove, HoldsRemove, TellsRemoveFault};
 
+use crate::failed::failed_call;
 use std::alloc::Global;
+use ug_kernel::FailedCall;
 use ug_sysfs::{Control, Opened, Probe, Sysfs};
 use ug_types::{Held, NodeName};
 
@@ -14,8 +16,7 @@ pub enum RemoveHold {
     Ready(Held),
     /// The device is gone.
     Gone,
-    /// A call failed: its number in the event, and the count of failed calls after it.
-    Failed { call: u64, count: u64 },
+    Failed(FailedCall),
     Memory,
 }
 
@@ -41,12 +42,7 @@ fn open_remove<Y: Sysfs>(alloc: Global, sysfs: &mut Y, name: &NodeName, held: He
     let file = match sysfs.open_control(alloc, name, Control::Remove) {
         Opened::Token(file) => file,
         Opened::Absent => return RemoveHold::Gone,
-        Opened::Failed => {
-            return RemoveHold::Failed {
-                call: sysfs.calls(),
-                count: sysfs.faults(),
-            };
-        }
+        Opened::Failed => return RemoveHold::Failed(failed_call(sysfs)),
         Opened::Memory => return RemoveHold::Memory,
     };
     match sysfs.probe(held) {
@@ -56,10 +52,9 @@ fn open_remove<Y: Sysfs>(alloc: Global, sysfs: &mut Y, name: &NodeName, held: He
             RemoveHold::Gone
         }
         Probe::Failed => {
-            let call = sysfs.calls();
-            let count = sysfs.faults();
+            let failed = failed_call(sysfs);
             sysfs.close(file);
-            RemoveHold::Failed { call, count }
+            RemoveHold::Failed(failed)
         }
     }
 }

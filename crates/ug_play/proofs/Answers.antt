@@ -17,13 +17,13 @@ use Rattle.ug_kernel.specs.Kernel.{Kernel}
 use Rattle.ug_kernel.specs.Called.{within, text_within, read_of}
 use Rattle.ug_kernel.specs.Tree.{Prog, Return, Ask, Room}
 use Rattle.ug_kernel.specs.declared.calls.FailedCall.{FailedCall}
-use Rattle.ug_kernel.specs.Along.{Made, answered, failure_if, failure, failures}
+use Rattle.ug_kernel.specs.Along.{Made, answered, failure_of, failure_if, failure, failures}
 use Rattle.ug_kernel.proofs.Ways.{Ways}
 use Rattle.ug_sysfs.specs.Devices.{find}
 use Rattle.ug_sysfs.specs.declared.script.Failing.{Failing}
-use Rattle.ug_sysfs.specs.World.{World, answer_of, answer_unless, entered, fate, fate_of, effect, opened_at, read_from, read_at, alive_of, probed_at, put_at, live_held}
+use Rattle.ug_sysfs.specs.World.{World, answer_of, answer_unless, answer_from, entered, fate, fate_of, effect, opened_at, read_from, read_at, alive_of, probed_at, put_at, live_held}
 use Rattle.ug_play.specs.Play.{play}
-use Rattle.ug_play.proofs.Plays.{told_unless}
+use Rattle.ug_play.proofs.Plays.{unless_cases, told_unless}
 
 -- answers that are want of memory
 
@@ -134,36 +134,24 @@ never_wants false s (Read name at) = sure_read (fate_of (entered s)) name at (en
 -- nor fails, where no call is to fail
 
 none_failed : {X : Type 0} (failed : X → Bool) (t : Told X) → failed t.answer ≡ false → failure_if failed t ≡ []
-none_failed failed t e = ap (λ (b : Bool). let f : FailedCall = record { call = t.number; count = t.count } in cond b (f ∷ []) []) e
+none_failed failed t e = ap (λ (b : Bool). cond b (failure_of t ∷ []) []) e
 
 unscheduled : (s : World) → s.fails ≡ [] → fate_of (entered s) ≡ None
 unscheduled s e = ap (λ (fs : List Failing). fate (entered s).calls None fs) e
 
-never_fails : (b : Bool) (s : World) (call : Call) → b ≡ false → s.fails ≡ [] → failure call (answer_unless b s call).0 ≡ []
-never_fails b s (Close held) o e = refl
-never_fails true s Names o e = let none : ⊥ = cc in absurd none
-never_fails true s (Open name control) o e = let none : ⊥ = cc in absurd none
-never_fails true s (Read name at) o e = let none : ⊥ = cc in absurd none
-never_fails true s (Ask_alive held) o e = let none : ⊥ = cc in absurd none
-never_fails true s (Put held write) o e = let none : ⊥ = cc in absurd none
-never_fails false s Names o e = none_failed failed_listing _ (ap (λ (f : Option Bool). failed_listing (effect f Names (entered s).kernel).0) (unscheduled s e))
-never_fails false s (Open name control) o e = none_failed failed_open _ (ap (λ (f : Option Bool). failed_open (effect f (Open name control) (entered s).kernel).0) (unscheduled s e) ∙ (fine_opened control (find name 0 (entered s).kernel.devices) (entered s).kernel).1)
-never_fails false s (Read name at) o e = none_failed failed_read _ (ap (λ (f : Option Bool). failed_read (effect f (Read name at) (entered s).kernel).0) (unscheduled s e) ∙ (fine_at at (find name 0 (entered s).kernel.devices) (entered s).kernel.devices).1)
-never_fails false s (Ask_alive held) o e = none_failed failed_probe _ (ap (λ (f : Option Bool). failed_probe (effect f (Ask_alive held) (entered s).kernel).0) (unscheduled s e) ∙ fine_probed (live_held held (entered s).kernel.held (entered s).kernel.devices) (entered s).kernel.devices)
-never_fails false s (Put held write) o e = none_failed failed_put _ (ap (λ (f : Option Bool). failed_put (effect f (Put held write) (entered s).kernel).0) (unscheduled s e) ∙ fine_put_at write (live_held held (entered s).kernel.held (entered s).kernel.devices) (entered s).kernel)
+answers_calmly : (call : Call) (s : World) → fate_of s ≡ None → failure call (answer_from s call).0 ≡ []
+answers_calmly Names s e = none_failed failed_listing _ (ap (λ (f : Option Bool). failed_listing (effect f Names s.kernel).0) e)
+answers_calmly (Open name control) s e = none_failed failed_open _ (ap (λ (f : Option Bool). failed_open (effect f (Open name control) s.kernel).0) e ∙ (fine_opened control (find name 0 s.kernel.devices) s.kernel).1)
+answers_calmly (Read name at) s e = none_failed failed_read _ (ap (λ (f : Option Bool). failed_read (effect f (Read name at) s.kernel).0) e ∙ (fine_at at (find name 0 s.kernel.devices) s.kernel.devices).1)
+answers_calmly (Ask_alive held) s e = none_failed failed_probe _ (ap (λ (f : Option Bool). failed_probe (effect f (Ask_alive held) s.kernel).0) e ∙ fine_probed (live_held held s.kernel.held s.kernel.devices) s.kernel.devices)
+answers_calmly (Put held write) s e = none_failed failed_put _ (ap (λ (f : Option Bool). failed_put (effect f (Put held write) s.kernel).0) e ∙ fine_put_at write (live_held held s.kernel.held s.kernel.devices) s.kernel)
+answers_calmly (Close held) s e = refl
 
-fails_stay : (b : Bool) (s : World) (call : Call) → s.fails ≡ [] → (answer_unless b s call).1.fails ≡ []
-fails_stay b s (Close held) e = e
-fails_stay false s Names e = e
-fails_stay false s (Open name control) e = e
-fails_stay false s (Read name at) e = e
-fails_stay false s (Ask_alive held) e = e
-fails_stay false s (Put held write) e = e
-fails_stay true s Names e = e
-fails_stay true s (Open name control) e = e
-fails_stay true s (Read name at) e = e
-fails_stay true s (Ask_alive held) e = e
-fails_stay true s (Put held write) e = e
+never_fails : (s : World) (call : Call) → s.ran_out ≡ false → s.fails ≡ [] → failure call (answer_of s call).0 ≡ []
+never_fails s call o e = unless_cases (λ call (p : Answer call × World). failure call p.0 ≡ []) s.ran_out s (λ held. refl) (λ call t. let none : ⊥ = cc in absurd none) (λ call f. answers_calmly call (entered s) (unscheduled s e)) call
+
+fails_stay : (s : World) (call : Call) → s.fails ≡ [] → (answer_of s call).1.fails ≡ []
+fails_stay s call e = unless_cases (λ call (p : Answer call × World). p.1.fails ≡ []) s.ran_out s (λ held. e) (λ call t. e) (λ call f. e) call
 
 -- the way that the script fixes: room is always there, no answer is want, and where no call is to fail, none does
 pub record Fixed {R : Type 0} (P : Bool → List Made → R → Type 0) (s : World) (r : R) : Type 0 where
@@ -180,7 +168,7 @@ play_way P (Ask call next) s w =
     record {
       made = answered call a ∷ k.made;
       sure = ap (λ (b : Bool). b || has_want k.made) (never_wants s.ran_out s call) ∙ k.sure;
-      calm = λ o e. ap (λ (v : List FailedCall). v ++ failures k.made) (never_fails s.ran_out s call o e) ∙ k.calm (told_unless s.ran_out s call o o) (fails_stay s.ran_out s call e);
+      calm = λ o e. ap (λ (v : List FailedCall). v ++ failures k.made) (never_fails s call o e) ∙ k.calm (told_unless s call o) (fails_stay s call e);
       so = k.so;
     }
 play_way P (Room next) s w = let k = play_way P (next true) s (w true) in record { made = k.made; sure = k.sure; calm = k.calm; so = k.so }

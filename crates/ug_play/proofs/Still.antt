@@ -6,15 +6,16 @@ use Rattle.std.proofs.lemmas.Option.{slice_get_within, slice_get_cases, same_Som
 use Rattle.ug_kernel.specs.declared.device.Device.{Device}
 use Rattle.ug_types.specs.declared.control.Control.{Control}
 use Rattle.ug_types.specs.declared.control.Write.{Write}
-use Rattle.ug_kernel.specs.Calls.{Call, Names, Open, Read, Ask_alive, Put, Close}
+use Rattle.ug_kernel.specs.Calls.{Call, Answer, Names, Open, Read, Ask_alive, Put, Close}
 use Rattle.ug_kernel.specs.Kernel.{Kernel, Live}
 use Rattle.ug_kernel.specs.Called.{Lived}
 use Rattle.ug_kernel.specs.Quiet.{Grows}
 use Rattle.ug_kernel.specs.Tree.{Prog, Return, Ask, Room}
 use Rattle.ug_sysfs.specs.Devices.{find}
 use Rattle.ug_sysfs.specs.declared.script.Scheduled.{Scheduled}
-use Rattle.ug_sysfs.specs.World.{World, happen, opened_at, switched_to, put_at, live_held, act, hidden, effect, shift, entered, fate_of, with_kernel, counted, answer_of, answer_unless, answer_from}
+use Rattle.ug_sysfs.specs.World.{World, happen, opened_at, switched_to, put_at, live_held, act, hidden, effect, shift, entered, fate_of, with_kernel, counted, answer_of, answer_from}
 use Rattle.ug_play.specs.Play.{play}
+use Rattle.ug_play.proofs.Plays.{unless_cases}
 
 record Still (s t : World) : Type 0 where
   pub moves : t.moves ≡ []
@@ -74,23 +75,15 @@ still_answer s call e =
     let y = still_from (entered s) call x.moves in
     record { moves = y.moves; devices = y.devices ∙ x.devices }
 
-still_unless : (b : Bool) (s : World) (call : Call) → s.moves ≡ [] → Still s (answer_unless b s call).1
-still_unless b s (Close held) e = record { moves = e; devices = refl }
-still_unless false s Names e = still_answer s Names e
-still_unless false s (Open name control) e = still_answer s (Open name control) e
-still_unless false s (Read name at) e = still_answer s (Read name at) e
-still_unless false s (Ask_alive held) e = still_answer s (Ask_alive held) e
-still_unless false s (Put held write) e = still_answer s (Put held write) e
-still_unless true s Names e = record { moves = e; devices = refl }
-still_unless true s (Open name control) e = record { moves = e; devices = refl }
-still_unless true s (Read name at) e = record { moves = e; devices = refl }
-still_unless true s (Ask_alive held) e = record { moves = e; devices = refl }
-still_unless true s (Put held write) e = record { moves = e; devices = refl }
+still_unless : (s : World) (call : Call) → s.moves ≡ [] → Still s (answer_of s call).1
+still_unless s call e =
+    let same : Still s s = record { moves = e; devices = refl } in
+    unless_cases (λ call (p : Answer call × World). Still s p.1) s.ran_out s (λ held. same) (λ call t. record { moves = e; devices = refl }) (λ call f. still_answer s call e) call
 
 play_still : {R : Type 0} (p : Prog R) (s : World) → s.moves ≡ [] → Still s (play p s).1
 play_still (Return value) s e = record { moves = e; devices = refl }
 play_still (Ask call next) s e =
-    let x = still_unless s.ran_out s call e in
+    let x = still_unless s call e in
     let y = play_still (next (answer_of s call).0) (answer_of s call).1 x.moves in
     record { moves = y.moves; devices = y.devices ∙ x.devices }
 play_still (Room next) s e = play_still (next true) s e

@@ -8,9 +8,8 @@ use Rattle.ug_kernel.specs.declared.calls.Listing.TheVariants as listing
 use Rattle.ug_kernel.specs.Calls.{Names, Close}
 use Rattle.ug_kernel.specs.Tree.{Prog, Return, Ask, Runs, then}
 use Rattle.ug_kernel.specs.declared.calls.FailedCall.{FailedCall}
-use Rattle.ug_kernel.specs.Along.{Made, answered, failure, failures}
+use Rattle.ug_kernel.specs.Along.{Made, answered, failure_of, failure, failures}
 use Rattle.ug_kernel.proofs.Ways.{Ways, Sure, ways_more, ways_next, ways_last, behind_sure, failures_more}
-use Rattle.ug_node.proofs.BindShapes.{told}
 use Rattle.ug_sysfs.specs.World.{World, Gives}
 use Rattle.ug_audit.specs.declared.entry.Entry.{Entry}
 use Rattle.ug_audit.specs.declared.entry.Entry.TheVariants as entry
@@ -20,12 +19,12 @@ use Rattle.ug_table.specs.State.{State, Kept, kept_of, with_kept, Answers, Later
 use Rattle.ug_table.specs.Standings.{lists, farewells}
 use Rattle.ug_table.specs.Settle.{settling, resettling}
 use Rattle.ug_table.specs.Sweep.{settling_all, resettling_all, parted, closing_unlisted, names_of, resumed, unlisted, marked_listed, if_room, after_list, sweeping}
-use Rattle.ug_table.specs.Parts.{failures_told}
+use Rattle.ug_table.specs.Parts.{told_by, failures_told}
 use Rattle.ug_table.specs.declared.standing.Standing.{Standing}
 use Rattle.ug_table.specs.declared.standing.Settled.{Settled}
 use Rattle.ug_table.proofs.OnePart.{told_more, flat_is_part}
-use Rattle.ug_table.proofs.Shapes.{Settles, settles, Resettles, resettles}
-use Rattle.ug_play.specs.Play.{play, entry_tells_memory, tells_memory, TellsMemory, IsPlayed, names_somebody, NameNobody}
+use Rattle.ug_table.proofs.Shapes.{told_at, Settles, settles, Resettles, resettles}
+use Rattle.ug_play.specs.Play.{play, is_memory, tells_memory, TellsMemory, IsPlayed, names_somebody, NameNobody}
 use Rattle.ug_play.proofs.Answers.{has_want, play_way}
 use Rattle.ug_play.proofs.Wants.{refused, want_more, memory_more, flat_want}
 use Rattle.ug_play.proofs.Played.{TellsWant, played}
@@ -73,10 +72,17 @@ resettling_all_sums (name ∷ names) k =
     ways_next (λ ok ms p. Sums k.entries ok ms p.1.entries) (λ ok ms v. Sums k.entries ok ms v.entries) (resettling name k) (λ (p : Settled × Kept). resettling_all names p.1) (resettling_sums name k)
     (λ ok ms p a. ways_more (λ more ns v. Sums p.1.entries more ns v.entries) (λ more ns v. Sums k.entries (ok && more) (ms ++ ns) v.entries) (resettling_all names p.1) (λ more ns v b. sums_more a b) (resettling_all_sums names p.1))
 
-unlisted_sums : {J : Type 0} (why : Fault) (w : State J) → Ways (unlisted why w) (λ ok ms v. Sums (w.entries ++ entry.UnsettledAll why ∷ []) ok ms v.entries)
-unlisted_sums {J} why w =
+-- all names are settled anew, behind a listing that came to nothing
+unlisted_sums : {J : Type 0} (why : Fault) (first : Made) (room : Bool) (w : State J) → ((ok : Bool) (ms : List Made) → (is_memory why || refused ok ms) ≡ refused (room && ok) (first ∷ ms)) → told_by why ≡ failure first.call first.answer → Ways (unlisted why w) (λ ok ms v. Sums w.entries (room && ok) (first ∷ ms) v.entries)
+unlisted_sums {J} why first room w wants faults =
     let es : List Entry = w.entries ++ entry.UnsettledAll why ∷ [] in
-    ways_last (λ ok ms (k : Kept). Sums es ok ms k.entries) (λ ok ms v. Sums es ok ms v.entries) (resettling_all (names_of w.standings) (kept_of w.standings es)) (resumed w) (λ k. with_kept w k) (λ k. refl) (resettling_all_sums (names_of w.standings) (kept_of w.standings es)) (λ ok ms k h. h)
+    ways_last (λ ok ms (k : Kept). Sums es ok ms k.entries) (λ ok ms v. Sums w.entries (room && ok) (first ∷ ms) v.entries) (resettling_all (names_of w.standings) (kept_of w.standings es)) (resumed w) (λ k. with_kept w k) (λ k. refl) (resettling_all_sums (names_of w.standings) (kept_of w.standings es))
+    (λ ok ms k h. record {
+      rest = entry.UnsettledAll why ∷ h.rest;
+      entries = h.entries ∙ append_assoc w.entries (entry.UnsettledAll why ∷ []) h.rest;
+      wants = ap (λ (v : Bool). is_memory why || v) h.wants ∙ wants ok ms;
+      faults = ap (λ (v : List FailedCall). told_by why ++ v) h.faults ∙ ap (λ (v : List FailedCall). v ++ failures ms) faults;
+    })
 
 -- closings tell nothing
 
@@ -91,21 +97,13 @@ closing_sums names (s ∷ ss) = by (lists names s.name) (closing_sums names ss)
     by true more = more
     by false more = λ closed. more
 
-farewell_by : (b : Bool) (e : Entry) (es : List Entry) → entry_tells_memory e ≡ false → tells_memory es ≡ false → tells_memory (cond b es (e ∷ es)) ≡ false
-farewell_by true e es f h = h
-farewell_by false e es f h = ap (λ (v : Bool). v || tells_memory es) f ∙ h
+farewell_by : (b : Bool) (number : ℕ) (name : List ℕ) (es : List Entry) → (tells_memory es ≡ false) × (failures_told es ≡ []) → (tells_memory (cond b es (entry.Gone number name ∷ es)) ≡ false) × (failures_told (cond b es (entry.Gone number name ∷ es)) ≡ [])
+farewell_by true number name es h = h
+farewell_by false number name es h = h
 
-farewells_calm : (names : List (List ℕ)) (ss : List Standing) → tells_memory (farewells names ss) ≡ false
-farewells_calm names [] = refl
-farewells_calm names (s ∷ ss) = farewell_by (lists names s.name) (entry.Gone s.number s.name) (farewells names ss) refl (farewells_calm names ss)
-
-silent_by : (b : Bool) (number : ℕ) (name : List ℕ) (es : List Entry) → failures_told es ≡ [] → failures_told (cond b es (entry.Gone number name ∷ es)) ≡ []
-silent_by true number name es h = h
-silent_by false number name es h = h
-
-farewells_silent : (names : List (List ℕ)) (ss : List Standing) → failures_told (farewells names ss) ≡ []
-farewells_silent names [] = refl
-farewells_silent names (s ∷ ss) = silent_by (lists names s.name) s.number s.name (farewells names ss) (farewells_silent names ss)
+farewells_calm : (names : List (List ℕ)) (ss : List Standing) → (tells_memory (farewells names ss) ≡ false) × (failures_told (farewells names ss) ≡ [])
+farewells_calm names [] = (refl, refl)
+farewells_calm names (s ∷ ss) = farewell_by (lists names s.name) s.number s.name (farewells names ss) (farewells_calm names ss)
 
 -- the whole sweep
 
@@ -113,42 +111,30 @@ or_true : (b : Bool) → (b || true) ≡ true
 or_true true = refl
 or_true false = refl
 
-if_room_sums : {J : Type 0} (answer : Answers J) (later : Laters J) (names : List (List ℕ)) (call count : ℕ) (found : List (List ℕ)) (w : State J) (room : Bool) → Ways (if_room answer later names w room) (λ ok ms v. Sums w.entries (room && ok) (answered Names (told (listing.Names found) call count) ∷ ms) v.entries)
-if_room_sums {J} answer later names call count found w true =
+if_room_sums : {J : Type 0} (answer : Answers J) (later : Laters J) (names : List (List ℕ)) (last : FailedCall) (found : List (List ℕ)) (w : State J) (room : Bool) → Ways (if_room answer later names w room) (λ ok ms v. Sums w.entries (room && ok) (answered Names (told_at (listing.Names found) last) ∷ ms) v.entries)
+if_room_sums {J} answer later names last found w true =
     let x : State J = marked_listed (parted names w) in
     let bye : List Entry = farewells names w.standings in
-    let first : Made = answered Names (told (listing.Names found) call count) in
+    let first : Made = answered Names (told_at (listing.Names found) last) in
     behind_sure (λ ms (r : Unit {0}). Closed ms) (λ ok ms v. Sums w.entries ok (first ∷ ms) v.entries) (closing_unlisted names w.standings) (λ (r : Unit {0}). settling_all answer later names (not w.listed) x) (closing_sums names w.standings)
     (λ ms r c. ways_more (λ ok ns v. Sums x.entries ok ns v.entries) (λ ok ns v. Sums w.entries ok (first ∷ (ms ++ ns)) v.entries) (settling_all answer later names (not w.listed) x)
     (λ ok ns v b. record {
       rest = bye ++ b.rest;
       entries = b.entries ∙ append_assoc w.entries bye b.rest;
-      wants = memory_more bye b.rest ∙ ap (λ (v : Bool). v || tells_memory b.rest) (farewells_calm names w.standings) ∙ b.wants ∙ sym (ap (λ (v : Bool). not ok || v) (want_more ms ns ∙ ap (λ (v : Bool). v || has_want ns) c.0));
-      faults = told_more bye b.rest ∙ ap (λ (v : List FailedCall). v ++ failures_told b.rest) (farewells_silent names w.standings) ∙ b.faults ∙ sym (failures_more ms ns ∙ ap (λ (v : List FailedCall). v ++ failures ns) c.1);
+      wants = memory_more bye b.rest ∙ ap (λ (v : Bool). v || tells_memory b.rest) (farewells_calm names w.standings).0 ∙ b.wants ∙ sym (ap (λ (v : Bool). not ok || v) (want_more ms ns ∙ ap (λ (v : Bool). v || has_want ns) c.0));
+      faults = told_more bye b.rest ∙ ap (λ (v : List FailedCall). v ++ failures_told b.rest) (farewells_calm names w.standings).1 ∙ b.faults ∙ sym (failures_more ms ns ∙ ap (λ (v : List FailedCall). v ++ failures ns) c.1);
     })
     (settling_all_sums answer later names (not w.listed) x))
-if_room_sums {J} answer later names call count found w false =
-    ways_more (λ ok ms v. Sums (w.entries ++ entry.UnsettledAll fault.Memory ∷ []) ok ms v.entries) (λ ok ms v. Sums w.entries false (answered Names (told (listing.Names found) call count) ∷ ms) v.entries) (unlisted fault.Memory w)
-    (λ ok ms v b. record { rest = entry.UnsettledAll fault.Memory ∷ b.rest; entries = b.entries ∙ append_assoc w.entries (entry.UnsettledAll fault.Memory ∷ []) b.rest; wants = refl; faults = b.faults })
-    (unlisted_sums fault.Memory w)
+if_room_sums answer later names last found w false = unlisted_sums fault.Memory (answered Names (told_at (listing.Names found) last)) false w (λ ok ms. refl) refl
 
-after_list_sums : {J : Type 0} (answer : Answers J) (later : Laters J) (w : State J) (r : Listing) (call count : ℕ) → Ways (after_list answer later w r call count) (λ ok ms v. Sums w.entries ok (answered Names (told r call count) ∷ ms) v.entries)
-after_list_sums answer later w (listing.Names names) call count = λ room. if_room_sums answer later (in_sweep_order names) call count names w room
-after_list_sums answer later w listing.Failed call count =
-    let e : Entry = entry.UnsettledAll (fault.Call call count) in
-    let f : FailedCall = record { call = call; count = count } in
-    ways_more (λ ok ms v. Sums (w.entries ++ e ∷ []) ok ms v.entries) (λ ok ms v. Sums w.entries ok (answered Names (told listing.Failed call count) ∷ ms) v.entries) (unlisted (fault.Call call count) w)
-    (λ ok ms v b. record { rest = e ∷ b.rest; entries = b.entries ∙ append_assoc w.entries (e ∷ []) b.rest; wants = b.wants; faults = ap (λ (v : List FailedCall). f ∷ v) b.faults })
-    (unlisted_sums (fault.Call call count) w)
-after_list_sums answer later w listing.Memory call count =
-    let e : Entry = entry.UnsettledAll fault.Memory in
-    ways_more (λ ok ms v. Sums (w.entries ++ e ∷ []) ok ms v.entries) (λ ok ms v. Sums w.entries ok (answered Names (told listing.Memory call count) ∷ ms) v.entries) (unlisted fault.Memory w)
-    (λ ok ms v b. record { rest = e ∷ b.rest; entries = b.entries ∙ append_assoc w.entries (e ∷ []) b.rest; wants = sym (or_true (not ok)); faults = b.faults })
-    (unlisted_sums fault.Memory w)
+after_list_sums : {J : Type 0} (answer : Answers J) (later : Laters J) (w : State J) (r : Listing) (failed : FailedCall) → Ways (after_list answer later w r failed) (λ ok ms v. Sums w.entries ok (answered Names (told_at r failed) ∷ ms) v.entries)
+after_list_sums answer later w (listing.Names names) failed = λ room. if_room_sums answer later (in_sweep_order names) failed names w room
+after_list_sums answer later w listing.Failed failed = unlisted_sums (fault.Call failed) (answered Names (told_at listing.Failed failed)) true w (λ ok ms. refl) refl
+after_list_sums answer later w listing.Memory failed = unlisted_sums fault.Memory (answered Names (told_at listing.Memory failed)) true w (λ ok ms. sym (or_true (not ok))) refl
 
 pub sweeping_sums : {J : Type 0} (answer : Answers J) (later : Laters J) (w : State J) → Ways (sweeping answer later w) (λ ok ms v. Sums w.entries ok ms v.entries)
 unfolding sweeping
-sweeping_sums answer later w = λ t. after_list_sums answer later w t.answer t.number t.count
+sweeping_sums answer later w = λ t. after_list_sums answer later w t.answer (failure_of t)
 
 -- what a script fixes of it
 
@@ -181,9 +167,9 @@ nobody_more es fs a b = list_any-append names_somebody es fs ∙ ap (λ (v : Boo
 
 nobody_told : (es : List Entry) → tells_memory es ≡ false → failures_told es ≡ [] → NameNobody es
 nobody_told [] m f = refl
-nobody_told (entry.Unsettled name (fault.Call call count) ∷ es) m f = let none : ⊥ = cc in absurd none
+nobody_told (entry.Unsettled name (fault.Call failed) ∷ es) m f = let none : ⊥ = cc in absurd none
 nobody_told (entry.Unsettled name fault.Memory ∷ es) m f = let none : ⊥ = cc in absurd none
-nobody_told (entry.UnsettledAll (fault.Call call count) ∷ es) m f = let none : ⊥ = cc in absurd none
+nobody_told (entry.UnsettledAll (fault.Call failed) ∷ es) m f = let none : ⊥ = cc in absurd none
 nobody_told (entry.UnsettledAll fault.Memory ∷ es) m f = let none : ⊥ = cc in absurd none
 nobody_told (entry.Event number moment ∷ es) m f = nobody_told es m f
 nobody_told (entry.Judged number name held verdict cause ∷ es) m f = nobody_told es m f

@@ -3,10 +3,8 @@ use Rattle.std.proofs.Common.{◌≡◌, Bool, false, ℕ, List, Option, ◌⊎�
 use Rattle.ug_types.specs.Elements.{Has}
 use Rattle.ug_kernel.specs.Kernel.{Kernel, IsKernel}
 use Rattle.ug_kernel.specs.Quiet.{Grows}
-use Rattle.ug_kernel.specs.Tree.{Runs, calls}
+use Rattle.ug_kernel.specs.Tree.{calls}
 use Rattle.ug_audit.specs.declared.entry.Entry.{Entry}
-use Rattle.ug_table.specs.State.{Kept}
-use Rattle.ug_table.specs.Settle.{resettling}
 use Rattle.ug_table.specs.Sweep.{names_of}
 use Rattle.ug_table.specs.Laws.{HasStanding}
 use Rattle.ug_table.specs.declared.standing.Standing.{Standing}
@@ -15,21 +13,22 @@ use Rattle.ug_table.specs.declared.standing.Settled.TheVariants as settled
 use Rattle.ug_table.proofs.Values.{IsFileOf, file_same, file_later, LiveAs, open_named}
 use Rattle.ug_types.proofs.Elements.{has_map}
 use Rattle.ug_table.proofs.Places.{Files, Was, tried_was}
-use Rattle.ug_table.proofs.Apart.{Appends, resettling_apart}
-use Rattle.ug_table.proofs.Own.{Good, good_before, resettling_ended}
+use Rattle.ug_table.specs.State.{State, Answers, Laters}
+use Rattle.ug_table.proofs.Apart.{Appends, piece_apart}
+use Rattle.ug_table.proofs.Own.{Good, good_before, piece_own}
 use Rattle.ug_table.proofs.Told.{opens}
 use Rattle.ug_kernel.specs.Along.{Made}
 use Rattle.ug_node.specs.declared.identity.Bound.{Bound}
-use Rattle.ug_kernel.proofs.Ways.{ways_run}
-use Rattle.ug_table.proofs.Shapes.{Flat, Unprobed, Tried, Stopped, Unbound, No_place, Judged_so, Resettles, resettles}
+use Rattle.ug_table.proofs.Shapes.{Flat, Unprobed, Tried, Stopped, Unbound, No_place, Judged_so}
+use Rattle.ug_table.proofs.Chains.{Piece}
 
 -- what is wanted of a device at the end
-abbrev pub Well : List Entry → Kernel → List Standing → List Entry → ℕ → List ℕ → Type 0
-Well es l ss fs i name = Good es l ss fs i name ⊎ (HasStanding l ss i → ⊥)
+abbrev pub Well : Bool → List Entry → Kernel → List Standing → List Entry → ℕ → List ℕ → Type 0
+Well binds es l ss fs i name = Good es l ss fs i name ⊎ ((binds ≡ false) × (HasStanding l ss i → ⊥))
 
-pub well_before : (es fs gs : List Entry) (l : Kernel) (ss : List Standing) (i : ℕ) (name : List ℕ) → Appends es fs → Well fs l ss gs i name → Well es l ss gs i name
-well_before es fs gs l ss i name a (inl h) = inl (good_before es fs gs l ss i name a h)
-well_before es fs gs l ss i name a (inr h) = inr h
+pub well_before : (binds : Bool) (es fs gs : List Entry) (l : Kernel) (ss : List Standing) (i : ℕ) (name : List ℕ) → Appends es fs → Well binds fs l ss gs i name → Well binds es l ss gs i name
+well_before binds es fs gs l ss i name a (inl h) = inl (good_before es fs gs l ss i name a h)
+well_before binds es fs gs l ss i name a (inr h) = inr h
 
 -- no standing of its name, no standing
 pub none_stands : (k : Kernel) (ss : List Standing) (i : ℕ) (name : List ℕ) → Files k ss → LiveAs k i name → (Has (names_of ss) name → ⊥) → HasStanding k ss i → ⊥
@@ -44,21 +43,18 @@ stood k l ss rs i f g was h =
     let is : o.i ≡ i = file_same l h.s.held.0 o.i i later h.file in
     record { s = t.0; has = t.1; file = subst (λ j. IsFileOf k t.0.held.0 j) is o.file }
 
-pub resettling_own : (name : List ℕ) (i : ℕ) (w : Kept) (k l : Kernel) (p : Settled × Kept) → IsKernel k → Files k w.standings → LiveAs k i name → LiveAs l i name → Runs calls k (resettling name w) p l → Well w.entries l p.1.standings p.1.entries i name
-resettling_own name i w k l p sound f first live r = elim (resettling_ended name i w k l p sound f first live r) [
+pub piece_well : {J : Type 0} {answer : Answers J} {later : Laters J} {binds present : Bool} {name : List ℕ} {how : Settled} {k l : Kernel} {w v : State J} (i : ℕ) → IsKernel k → Files k w.standings → LiveAs k i name → LiveAs l i name → Piece calls answer later binds present name how k w l v → Well binds w.entries l v.standings v.entries i name
+piece_well {name = name} {l = l} {v = v} i sound f first live p = elim (piece_own i sound f first live p) [
   | inl h ↦ inl h
-  | inr none ↦ inr (none_stands l p.1.standings i name (resettling_apart name w k l p sound f r).files live none)
+  | inr h ↦ inr (h.0, none_stands l v.standings i name (piece_apart sound f p).files live h.1)
 ]
 
 -- each standing was there before
 
-flat_was : {binds : Bool} {given : List Standing → Bound → Standing → Type 0} {name : List ℕ} {ss : List Standing} {ok : Bool} {ms : List Made} {rest : List Entry} {how : Settled} {rs : List Standing} {o : Option (List Standing × Bound)} → binds ≡ false → Flat binds given name ss ok ms rest how rs o → (s : Standing) → Has rs s → Was ss s
-flat_was {name = name} {ss = ss} f (Unprobed known call count at) s a = tried_was ss name (settled.Fault call count) s a
-flat_was {name = name} {ss = ss} f (Tried known on call count ms es how at b) s a = tried_was ss name how s a
+pub flat_was : {binds : Bool} {given : List Standing → Bound → Standing → Type 0} {name : List ℕ} {ss : List Standing} {ok : Bool} {ms : List Made} {rest : List Entry} {how : Settled} {rs : List Standing} {o : Option (List Standing × Bound)} → binds ≡ false → Flat binds given name ss ok ms rest how rs o → (s : Standing) → Has rs s → Was ss s
+flat_was {name = name} {ss = ss} f (Unprobed known failed at) s a = tried_was ss name (settled.Fault failed) s a
+flat_was {name = name} {ss = ss} f (Tried known on failed ms es how at b) s a = tried_was ss name how s a
 flat_was f (Stopped ms es rs g opening) s a = (s, (opens opening).less s a, refl, refl)
 flat_was f (Unbound ms ns es fs rs r how t opening way end) s a = let none : ⊥ = cc in absurd none
 flat_was f (No_place ms ns es rs b shut t opening way) s a = let none : ⊥ = cc in absurd none
 flat_was f (Judged_so ms ns os es fs rs b x how t opening way given new brought) s a = let none : ⊥ = cc in absurd none
-
-pub resettling_was : (name : List ℕ) (w : Kept) (k l : Kernel) (p : Settled × Kept) → Runs calls k (resettling name w) p l → (s : Standing) → Has p.1.standings s → Was w.standings s
-resettling_was name w k l p r s a = flat_was refl (ways_run calls (Resettles name w) (resettling name w) k p l (resettles name w) r).so.flat s a

@@ -11,9 +11,8 @@ use Rattle.ug_kernel.specs.Quiet.{Quiet}
 use Rattle.ug_kernel.proofs.Grow.{quiet_grows, called_grows}
 use Rattle.ug_kernel.proofs.Quiet.{called_quiet, quiet_refl, quiet_trans}
 use Rattle.ug_kernel.specs.Along.{Made, answered, Along}
-use Rattle.ug_kernel.proofs.Ways.{Way, way_runs, ways_run, along_split, along_sound, along_grows}
-use Rattle.ug_node.proofs.BindShapes.{told}
-use Rattle.ug_table.proofs.Shapes.{Valued, Same, Set, Removal, Not_held, Put_on, Carried, By_value, And_removal, Brought, Left_open, Let_go, Opening, Fresh, Lost, Flat, Unprobed, Tried, Stopped, Unbound, No_place, Judged_so, Settles, settles, Resettles, resettles}
+use Rattle.ug_kernel.proofs.Ways.{Way, way_runs, along_split, along_sound, along_grows}
+use Rattle.ug_table.proofs.Shapes.{Valued, Same, Set, Removal, Not_held, Put_on, Carried, By_value, And_removal, Brought, Left_open, Let_go, Opening, Fresh, Lost, Flat, Unprobed, Tried, Stopped, Unbound, No_place, Judged_so, told_at}
 use Rattle.ug_kernel.specs.Tree.{Runs, calls}
 use Rattle.ug_node.specs.Removal.{holding_remove, RemoveSays}
 use Rattle.ug_node.specs.declared.removal.RemoveHold.{RemoveHold}
@@ -26,10 +25,9 @@ use Rattle.ug_node.specs.declared.identity.Binding.{Binding}
 use Rattle.ug_node.specs.declared.identity.Binding.TheVariants as bound
 use Rattle.ug_node.proofs.Laws.{binding_law}
 use Rattle.ug_audit.specs.declared.entry.Entry.{Entry}
-use Rattle.ug_table.specs.State.{State, Kept, Answers, Laters}
+use Rattle.ug_table.specs.State.{State, Answers, Laters}
 use Rattle.ug_table.specs.Bring.{write_of}
 use Rattle.ug_table.specs.Standings.{standing_of, without}
-use Rattle.ug_table.specs.Settle.{settling, resettling}
 use Rattle.ug_table.specs.declared.standing.Standing.{Standing}
 use Rattle.ug_table.specs.declared.standing.Known.{Known}
 use Rattle.ug_table.specs.declared.standing.Settled.{Settled}
@@ -37,6 +35,7 @@ use Rattle.ug_table.specs.declared.standing.Settled.TheVariants as settled
 use Rattle.ug_table.proofs.Values.{Others, others_refl, others_trans, others_quiet, others_put, IsOpen, open_later}
 use Rattle.ug_table.proofs.Standings.{found}
 use Rattle.ug_table.proofs.Places.{Files, files_later, kept_has, kept_files, tried_has, tried_files}
+use Rattle.ug_table.proofs.Chains.{Piece}
 
 -- entries were added
 abbrev pub Appends : List Entry → List Entry → Type 0
@@ -117,10 +116,10 @@ pub record Opened_quiet (k l : Kernel) (name : List ℕ) (ss rs : List Standing)
 
 pub opening_quiet : {name : List ℕ} {ss : List Standing} {ms : List Made} {es : List Entry} {rs : List Standing} (k l : Kernel) → Opening name ss ms es rs → IsKernel k → Files k ss → Along calls k ms l → Opened_quiet k l name ss rs
 opening_quiet {name} {ss} k l (Fresh e) sound f a = subst (λ v. Opened_quiet k v name ss ss) (sym a) (record { quiet = quiet_refl k; sound = sound; rest = λ s h ne. h; files = f })
-opening_quiet {name} {ss} k l (Lost known call count shut e) sound f a =
+opening_quiet {name} {ss} k l (Lost known failed shut e) sound f a =
     let m = a.0 in
     let n = a.2.0 in
-    let q = quiet_trans k m n (called_quiet (Ask_alive known.held.0) (told probe.Gone call count) k m tt a.1) (called_quiet (Close known.held.0) shut m n tt a.2.1) in
+    let q = quiet_trans k m n (called_quiet (Ask_alive known.held.0) (told_at probe.Gone failed) k m tt a.1) (called_quiet (Close known.held.0) shut m n tt a.2.1) in
     subst (λ v. Opened_quiet k v name ss (without name ss)) (sym a.2.2) (record { quiet = q; sound = a.2.1.sound; rest = λ s h ne. tried_has ss name settled.Nobody s h ne; files = tried_files n ss name settled.Nobody (files_later k n ss (quiet_grows k n q) f) })
 
 -- and with it
@@ -132,12 +131,12 @@ opening_bind {name} {ms = ms} {rs = rs} k l ns r opening way sound f a =
     (record { quiet = quiet_trans k cut.0 l o.quiet law.quiet; sound = law.sound; rest = o.rest; files = files_later cut.0 l rs (quiet_grows cut.0 l law.quiet) o.files }, (cut.0, cut.1, (law.quiet, law.says)))
 
 flat_apart : {binds : Bool} {given : List Standing → Bound → Standing → Type 0} {name : List ℕ} {ss : List Standing} {ok : Bool} {ms : List Made} {rest : List Entry} {how : Settled} {rs : List Standing} {o : Option (List Standing × Bound)} (k l : Kernel) (es fs : List Entry) → fs ≡ es ++ rest → IsKernel k → Files k ss → Flat binds given name ss ok ms rest how rs o → Along calls k ms l → Apart name k ss es l rs fs
-flat_apart {name = name} {ss = ss} k l xs ys e sound f (Unprobed known call count at) a =
-    let how = settled.Fault call count in
-    let q = subst (λ v. Quiet k v) (sym a.2) (called_quiet (Ask_alive known.held.0) (told probe.Failed call count) k a.0 tt a.1) in
+flat_apart {name = name} {ss = ss} k l xs ys e sound f (Unprobed known failed at) a =
+    let how = settled.Fault failed in
+    let q = subst (λ v. Quiet k v) (sym a.2) (called_quiet (Ask_alive known.held.0) (told_at probe.Failed failed) k a.0 tt a.1) in
     record { others = others_quiet name k l q; rest = λ s h ne. tried_has ss name how s h ne; entries = (_, e); files = tried_files l ss name how (files_later k l ss (quiet_grows k l q) f) }
-flat_apart {name = name} {ss = ss} k l xs ys e sound f (Tried known on call count ms es how at b) a =
-    let q = called_quiet (Ask_alive known.held.0) (told (probe.Alive on) call count) k a.0 tt a.1 in
+flat_apart {name = name} {ss = ss} k l xs ys e sound f (Tried known on failed ms es how at b) a =
+    let q = called_quiet (Ask_alive known.held.0) (told_at (probe.Alive on) failed) k a.0 tt a.1 in
     let g = quiet_grows k a.0 q in
     let o = open_later k a.0 name known.held.0 g (open_found name ss known k at f) in
     record { others = others_trans name k a.0 l g (others_quiet name k a.0 q) (brought_apart a.0 l b a.1.sound o a.2); rest = λ s h ne. tried_has ss name how s h ne; entries = (es, e); files = tried_files l ss name how (files_later a.0 l ss (along_grows ms a.0 l a.2) (files_later k a.0 ss g f)) }
@@ -168,21 +167,5 @@ flat_apart {name = name} k l xs ys e sound f (Judged_so ms ns os es fs rs b x ho
       files = kept_files l rs x how (files_later m l rs g o.files) (subst (λ v. IsOpen l v x.held.0) (sym new.named) (open_later m l name x.held.0 g opened_now));
     }
 
--- of states
-abbrev pub Parts : {J : Type 0} → List ℕ → Kernel → State J → Kernel → State J → Type 0
-Parts name k w l v = Apart name k w.standings w.entries l v.standings v.entries
-
-pub settling_apart : {J : Type 0} (answer : Answers J) (later : Laters J) (name : List ℕ) (present : Bool) (w : State J) (k l : Kernel) (p : Settled × State J) → IsKernel k → Files k w.standings → Runs calls k (settling answer later name present w) p l → Parts name k w l p.1
-settling_apart answer later name present w k l p sound f r =
-    let x = ways_run calls (Settles answer later name present w) (settling answer later name present w) k p l (settles answer later name present w) r in
-    flat_apart k l w.entries p.1.entries x.so.entries sound f x.so.flat x.along
-
--- where the listing didn't succeed
-
-abbrev pub KeptParts : List ℕ → Kernel → Kept → Kernel → Kept → Type 0
-KeptParts name k w l v = Apart name k w.standings w.entries l v.standings v.entries
-
-pub resettling_apart : (name : List ℕ) (w : Kept) (k l : Kernel) (p : Settled × Kept) → IsKernel k → Files k w.standings → Runs calls k (resettling name w) p l → KeptParts name k w l p.1
-resettling_apart name w k l p sound f r =
-    let x = ways_run calls (Resettles name w) (resettling name w) k p l (resettles name w) r in
-    flat_apart k l w.entries p.1.entries x.so.entries sound f x.so.flat x.along
+pub piece_apart : {J : Type 0} {answer : Answers J} {later : Laters J} {binds present : Bool} {name : List ℕ} {how : Settled} {k l : Kernel} {w v : State J} → IsKernel k → Files k w.standings → Piece calls answer later binds present name how k w l v → Apart name k w.standings w.entries l v.standings v.entries
+piece_apart {k = k} {l = l} {w = w} {v = v} sound f p = flat_apart k l w.entries v.entries p.entries sound f p.flat p.along

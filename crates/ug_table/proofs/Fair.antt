@@ -15,7 +15,7 @@ use Rattle.ug_kernel.specs.Kernel.{Kernel, IsKernel}
 use Rattle.ug_kernel.specs.Called.{IsGoneAt}
 use Rattle.ug_kernel.specs.Quiet.{Quiet}
 use Rattle.ug_kernel.proofs.Grow.{some_same, quiet_grows, grows_refl}
-use Rattle.ug_kernel.specs.Tree.{Runs, calls}
+use Rattle.ug_kernel.specs.Tree.{calls}
 use Rattle.ug_record.specs.Records.{judged_of}
 use Rattle.ug_node.specs.Bind.{binding}
 use Rattle.ug_node.specs.Bound.{attrs_of, IsBound, BindSays}
@@ -28,10 +28,10 @@ use Rattle.ug_audit.specs.declared.entry.Entry.TheVariants as entry
 use Rattle.ug_audit.specs.declared.entry.Fault.TheVariants as fault
 use Rattle.ug_types.specs.declared.control.Write.TheVariants as write
 use Rattle.ug_kernel.specs.declared.calls.Wrote.TheVariants as wrote
-use Rattle.ug_table.specs.State.{State, Kept, with_kept, Answers, Laters}
+use Rattle.ug_table.specs.State.{State, Answers, Laters}
 use Rattle.ug_table.specs.Standings.{known_of, standing_of, without, with_standing, place_for, settled_standing}
 use Rattle.ug_table.specs.Bring.{is_reject}
-use Rattle.ug_table.specs.Settle.{kept_standings, standing_for, judged_entry, tried_standings, dropped, settling, resettling}
+use Rattle.ug_table.specs.Settle.{kept_standings, standing_for, judged_entry, tried_standings, dropped}
 use Rattle.ug_table.specs.Sweep.{names_of}
 use Rattle.ug_table.specs.Laws.{Tries, AreInOrder, none_before, IsDevice, IsProbed, Stand, numbers_of, Account, Judge, Start, IsOne, IsTold, HasStanding, IsFair, IsRemoveMarked}
 use Rattle.ug_table.specs.declared.standing.Standing.{Standing}
@@ -47,12 +47,13 @@ use Rattle.ug_table.proofs.Steps.{Same, After, one_itself, fair_end, then_quiet,
 use Rattle.ug_table.proofs.Written.{brought_fair}
 use Rattle.ug_table.proofs.Orders.{order_with}
 use Rattle.ug_kernel.specs.Along.{Made, answered, Along}
-use Rattle.ug_kernel.proofs.Ways.{Way, way_runs, ways_run, along_split}
-use Rattle.ug_node.proofs.BindShapes.{told}
-use Rattle.ug_table.proofs.Shapes.{Brought, Opening, Fresh, Lost, Unbound_end, Absent_so, Vanished_so, Failed_so, Short_so, Flat, Unprobed, Tried, Stopped, Unbound, No_place, Judged_so, IsGiven, next_after, judge_after, Settles, settles, Resettles, resettles}
+use Rattle.ug_kernel.proofs.Ways.{Way, way_runs, along_split}
+use Rattle.ug_kernel.specs.declared.calls.FailedCall.{FailedCall}
+use Rattle.ug_table.proofs.Shapes.{Brought, Opening, Fresh, Lost, Unbound_end, Absent_so, Vanished_so, Failed_so, Short_so, Flat, Unprobed, Tried, Stopped, Unbound, No_place, Judged_so, IsGiven, next_after, judge_after, told_at}
 use Rattle.ug_table.proofs.RemoveMarks.{Keeps, keeps_itself, keep_one, Marks}
 use Rattle.ug_table.proofs.SoFar.{AreIn, dropped_in}
 use Rattle.ug_table.proofs.Account.{account_stays}
+use Rattle.ug_table.proofs.Chains.{Piece}
 
 second : {A B : Type 0} (p q : A × B) → p ≡ q → p.1 ≡ q.1
 second p q e = ap (λ (x : _). x.1) e
@@ -229,7 +230,7 @@ kept_after k ss next s settled.Stands number absent stand =
       ];
     } in
     (same, marks)
-kept_after k ss next s (settled.Fault call count) number absent stand = (new_same ss next s number absent stand.names stand.order stand.distinct stand.numbers, keeps_itself (with_standing s ss))
+kept_after k ss next s (settled.Fault failed) number absent stand = (new_same ss next s number absent stand.names stand.order stand.distinct stand.numbers, keeps_itself (with_standing s ss))
 kept_after k ss next s settled.Memory number absent stand = (new_same ss next s number absent stand.names stand.order stand.distinct stand.numbers, keeps_itself (with_standing s ss))
 
 bound_device : (name : List ℕ) (k l : Kernel) (b : Bound) (x : IsBound name k l b) → IsDevice l x.i name b.held (judged_of name b.attrs b.parent)
@@ -269,11 +270,11 @@ then_dropped {J} {answer} {later} {present} {tried} {k} {m} {w} {u} name known a
     subst (λ (v : Entry). FairFrom answer later present tried k w m (record u { standings = without name u.standings; entries = u.entries ++ v ∷ [] })) e went
 
 -- and one whose probe failed is marked
-then_failed : {J : Type 0} {answer : Answers J} {later : Laters J} {present : Bool} {tried : Tries} {k m : Kernel} {w u : State J} (name : List ℕ) (known : Known) (call count : ℕ) → standing_of name u.standings ≡ Some known → FairFrom answer later present tried k w m u → FairFrom answer later present tried k w m (record u { standings = tried_standings u.standings name (settled.Fault call count); entries = u.entries ++ entry.Unsettled name (fault.Call call count) ∷ [] })
-then_failed {m = m} {u = u} name known call count at h =
+then_failed : {J : Type 0} {answer : Answers J} {later : Laters J} {present : Bool} {tried : Tries} {k m : Kernel} {w u : State J} (name : List ℕ) (known : Known) (failed : FailedCall) → standing_of name u.standings ≡ Some known → FairFrom answer later present tried k w m u → FairFrom answer later present tried k w m (record u { standings = tried_standings u.standings name (settled.Fault failed); entries = u.entries ++ entry.Unsettled name (fault.Call failed) ∷ [] })
+then_failed {m = m} {u = u} name known failed at h =
     let f = found name u.standings known at in
-    let after = tried_after m u.standings u.next name f.s (settled.Fault call count) f.has f.named h.fair.stand in
-    then_same (tried_standings u.standings name (settled.Fault call count)) after.0 after.1 (then_note (entry.Unsettled name (fault.Call call count)) tt h)
+    let after = tried_after m u.standings u.next name f.s (settled.Fault failed) f.has f.named h.fair.stand in
+    then_same (tried_standings u.standings name (settled.Fault failed)) after.0 after.1 (then_note (entry.Unsettled name (fault.Call failed)) tt h)
 
 -- before a binding, the name has no standing left
 record OpensFair {J : Type 0} (answer : Answers J) (later : Laters J) (present : Bool) (tried : Tries) (k : Kernel) (w : State J) (l : Kernel) (v : State J) (name : List ℕ) (binds : Bool) : Type 0 where
@@ -284,8 +285,8 @@ record OpensFair {J : Type 0} (answer : Answers J) (later : Laters J) (present :
 opening_fair : {J : Type 0} {answer : Answers J} {later : Laters J} {present : Bool} {tried : Tries} {binds : Bool} {k m : Kernel} {w u : State J} {name : List ℕ} {ms : List Made} {es : List Entry} {rs : List Standing} (l : Kernel) → Opening name u.standings ms es rs → (binds ≡ true → AreIn tried name w u) → FairFrom answer later present tried k w m u → Along calls m ms l → OpensFair answer later present tried k w l (record u { standings = rs; entries = u.entries ++ es }) name binds
 opening_fair {J} {answer} {later} {present} {tried} {binds} {k} {m} {w} {u} {name} l (Fresh e) so h a =
     subst (λ (v : List Entry). OpensFair answer later present tried k w l (record u { entries = v }) name binds) (sym (append-nil u.entries)) (record { fair = fair_end l u refl a h; absent = missing name u.standings e; so = so })
-opening_fair {tried = tried} {w = w} {u = u} {name = name} l (Lost known call count shut e) so h a = record {
-  fair = fair_end l _ refl a.2.2 (then_called (Close known.held.0) shut a.2.0 tt a.2.1 (then_dropped name known e a.1.says (then_called (Ask_alive known.held.0) (told probe.Gone call count) a.0 tt a.1 h)));
+opening_fair {tried = tried} {w = w} {u = u} {name = name} l (Lost known failed shut e) so h a = record {
+  fair = fair_end l _ refl a.2.2 (then_called (Close known.held.0) shut a.2.0 tt a.2.1 (then_dropped name known e a.1.says (then_called (Ask_alive known.held.0) (told_at probe.Gone failed) a.0 tt a.1 h)));
   absent = missing_without name u.standings;
   so = λ b. dropped_in tried w u name known.number h.fair.rest h.fair.entries (so b);
 }
@@ -306,7 +307,7 @@ unbound_fair {J} {answer} {later} {present} {tried} {k} {l} {w} {name} {r} {fs} 
     by : {r : Binding} {fs : List Entry} {how : Settled} → Unbound_end name r fs how → FairFrom answer later present tried k w l v → FairFrom answer later present tried k w l (record v { entries = v.entries ++ fs })
     by Absent_so h = same h
     by Vanished_so h = same h
-    by (Failed_so call count) h = then_note (entry.Unsettled name (fault.Call call count)) tt h
+    by (Failed_so failed) h = then_note (entry.Unsettled name (fault.Call failed)) tt h
     by Short_so h = then_note (entry.Unsettled name fault.Memory) tt h
 
 -- a binding leads to what it says
@@ -316,8 +317,8 @@ binds_fair {n = n} m name ns r way h a =
     (law.sound, law.quiet, law.says, then_quiet m law.sound law.quiet h)
 
 pub flat_fair : {J : Type 0} {answer : Answers J} {later : Laters J} {present : Bool} {tried : Tries} {binds : Bool} {given : List Standing → Bound → Standing → Type 0} {k m : Kernel} {w u : State J} {name : List ℕ} {ok : Bool} {ms : List Made} {rest : List Entry} {how : Settled} {rs : List Standing} {o : Option (List Standing × Bound)} (l : Kernel) → Flat binds given name u.standings ok ms rest how rs o → ((ss : List Standing) (b : Bound) (x : Standing) → given ss b x → IsGiven answer present name u ss b x) → (binds ≡ true → AreIn tried name w u) → FairFrom answer later present tried k w m u → Along calls m ms l → FairFrom answer later present tried k w l (ended_as later present name u o rs rest)
-flat_fair {name = name} l (Unprobed known call count at) is so h a = fair_end l _ refl a.2 (then_failed name known call count at (then_called (Ask_alive known.held.0) (told probe.Failed call count) a.0 tt a.1 h))
-flat_fair {name = name} l (Tried known on call count ms es how at b) is so h a = known_brought l name known on at (then_called (Ask_alive known.held.0) (told (probe.Alive on) call count) a.0 tt a.1 h) b a.2
+flat_fair {name = name} l (Unprobed known failed at) is so h a = fair_end l _ refl a.2 (then_failed name known failed at (then_called (Ask_alive known.held.0) (told_at probe.Failed failed) a.0 tt a.1 h))
+flat_fair {name = name} l (Tried known on failed ms es how at b) is so h a = known_brought l name known on at (then_called (Ask_alive known.held.0) (told_at (probe.Alive on) failed) a.0 tt a.1 h) b a.2
 flat_fair l (Stopped ms es rs f opening) is so h a = (opening_fair l opening so h a).fair
 flat_fair {m = m} {u = u} {name = name} l (Unbound ms ns es fs rs r how t opening way end) is so h a =
     let cut = along_split calls ms ns m l a in
@@ -351,17 +352,7 @@ flat_fair {J} {answer} {later} {present} {tried} {k = k} {m = m} {w = w} {u = u}
 state_is : {J : Type 0} (v : State J) (next : ℕ) (listed : Bool) (judge : J) (es : List Entry) → v.next ≡ next → v.listed ≡ listed → v.judge ≡ judge → v.entries ≡ es → let made : State J = record { standings = v.standings; next = next; listed = listed; judge = judge; entries = es } in v ≡ made
 state_is v next listed judge es a b c d = λ i. record { standings = v.standings; next = a i; listed = b i; judge = c i; entries = d i }
 
-pub then_settling : {J : Type 0} {answer : Answers J} {later : Laters J} {present : Bool} {tried : Tries} {k m : Kernel} {w u : State J} (l : Kernel) (name : List ℕ) (p : Settled × State J) → AreIn tried name w u → FairFrom answer later present tried k w m u → Runs calls m (settling answer later name present u) p l → FairFrom answer later present tried k w l p.1
-then_settling {J} {answer} {later} {present} {tried} {k} {m} {w} {u} l name p so h r =
-    let x = ways_run calls (Settles answer later name present u) (settling answer later name present u) m p l (settles answer later name present u) r in
-    let y = x.so in
-    subst (λ (v : State J). FairFrom answer later present tried k w l v) (sym (state_is p.1 (next_after u y.judged) u.listed (judge_after later present name u y.judged) (u.entries ++ y.rest) y.next y.listed y.judge y.entries))
-    (flat_fair l y.flat (λ ss b z g. g) (λ e. so) h x.along)
-
--- where the listing didn't succeed
-
-pub then_resettling : {J : Type 0} {answer : Answers J} {later : Laters J} {present : Bool} {tried : Tries} {k m : Kernel} {w : State J} (u : State J) (l : Kernel) (name : List ℕ) (x : Kept) (p : Settled × Kept) → FairFrom answer later present tried k w m (with_kept u x) → Runs calls m (resettling name x) p l → FairFrom answer later present tried k w l (with_kept u p.1)
-then_resettling {J} {answer} {later} {present} {tried} {k} {m} {w} u l name x p h r =
-    let y = ways_run calls (Resettles name x) (resettling name x) m p l (resettles name x) r in
-    subst (λ (v : List Entry). FairFrom answer later present tried k w l (record u { standings = p.1.standings; entries = v })) (sym y.so.entries)
-    (flat_fair l y.so.flat (λ ss b z g. absurd g) (λ e. absurd (let none : ⊥ = cc in none)) h y.along)
+pub piece_fair : {J : Type 0} {answer : Answers J} {later : Laters J} {binds present : Bool} {tried : Tries} {name : List ℕ} {how : Settled} {k m l : Kernel} {w u v : State J} → (binds ≡ true → AreIn tried name w u) → FairFrom answer later present tried k w m u → Piece calls answer later binds present name how m u l v → FairFrom answer later present tried k w l v
+piece_fair {J} {answer} {later} {present = present} {tried = tried} {name = name} {k = k} {l = l} {w = w} {u = u} {v = v} so h p =
+    subst (λ (x : State J). FairFrom answer later present tried k w l x) (sym (state_is v (next_after u p.judged) u.listed (judge_after later present name u p.judged) (u.entries ++ p.rest) p.next p.listed p.judge p.entries))
+    (flat_fair l p.flat (λ ss b z g. g) so h p.along)

@@ -10,63 +10,51 @@ use Rattle.ug_types.proofs.Sorting.{to_sweep_order}
 use Rattle.ug_kernel.specs.declared.device.Effect.{Effect}
 use Rattle.ug_kernel.specs.declared.calls.Listing.{Listing}
 use Rattle.ug_kernel.specs.declared.calls.Listing.TheVariants as listing
-use Rattle.ug_kernel.specs.Calls.{Names}
+use Rattle.ug_kernel.specs.Calls.{Names, Told}
 use Rattle.ug_kernel.specs.Kernel.{Kernel, Live, IsKernel}
 use Rattle.ug_kernel.specs.Called.{says_listing}
 use Rattle.ug_kernel.specs.Quiet.{Grows}
 use Rattle.ug_kernel.proofs.Grow.{grows_refl, called_grows}
 use Rattle.ug_kernel.proofs.Held.{live_before}
 use Rattle.ug_kernel.specs.Tree.{Runs, calls}
-use Rattle.ug_kernel.proofs.Runs.{runs_split}
 use Rattle.ug_audit.specs.declared.entry.Entry.{Entry}
 use Rattle.ug_audit.specs.declared.entry.Entry.TheVariants as entry
-use Rattle.ug_audit.specs.declared.entry.Fault.{Fault}
-use Rattle.ug_audit.specs.declared.entry.Fault.TheVariants as fault
 use Rattle.ug_types.specs.declared.control.Write.TheVariants as write
 use Rattle.ug_kernel.specs.declared.calls.Wrote.TheVariants as wrote
-use Rattle.ug_table.specs.State.{State, Kept, kept_of, with_kept, Answers, Laters}
+use Rattle.ug_table.specs.State.{State, Answers, Laters}
 use Rattle.ug_table.specs.Standings.{lists, farewells}
-use Rattle.ug_table.specs.Settle.{settling, resettling}
-use Rattle.ug_table.specs.Sweep.{settling_all, resettling_all, parted, closing_unlisted, names_of, resumed, unlisted, marked_listed, if_room, after_list, sweeping}
-use Rattle.ug_table.specs.Laws.{Tries, AreInOrder, swept_before, IsDevice, IsGone, Stand, Account, Start, Went, IsOne, numbers_of, gone_of, IsFair, IsNamed}
+use Rattle.ug_table.specs.Sweep.{parted, marked_listed, sweeping}
+use Rattle.ug_table.specs.Laws.{Tries, AreInOrder, swept_before, IsDevice, IsGone, Stand, Account, Start, Went, IsOne, numbers_of, gone_of, IsFair}
 use Rattle.ug_table.specs.declared.standing.Standing.{Standing}
-use Rattle.ug_table.specs.declared.standing.Settled.{Settled}
 use Rattle.ug_types.proofs.Elements.{filter_has, has_filter, has_map, distinct_filter, distinct_one}
 use Rattle.ug_table.proofs.Values.{file_same, file_later}
 use Rattle.ug_table.proofs.Standings.{listed_is}
 use Rattle.ug_table.proofs.Says.{gone_has}
 use Rattle.ug_table.proofs.Joined.{FairFrom, fair_trans, StepFrom}
-use Rattle.ug_table.proofs.Steps.{one_itself, stand_of, fair_refl, fair_end, then_quiet, then_called, then_note, gone_device}
+use Rattle.ug_table.proofs.Steps.{one_itself, stand_of, fair_refl, then_quiet, then_called, then_note, gone_device}
 use Rattle.ug_table.proofs.Closings.{closing_quiet}
-use Rattle.ug_table.proofs.Fair.{then_settling, then_resettling}
+use Rattle.ug_table.proofs.Fair.{piece_fair}
+use Rattle.ug_table.proofs.Chains.{Chain, Over, First, Goes, Listed, Unlisted, sweeping_by}
 use Rattle.ug_table.proofs.RemoveMarks.{keeps_itself, keep_marks}
 use Rattle.ug_table.proofs.SoFar.{AreSplit, AreFresh, split_in, parted_split, parted_fresh, part_split, part_fresh}
 use Rattle.ug_table.proofs.Orders.{order_filter, sweep_in_order}
-use Rattle.ug_table.proofs.Told.{ends_run, PartOf, settling_part}
+use Rattle.ug_table.proofs.Told.{piece_part}
 use Rattle.ug_table.proofs.Marks.{order_distinct}
 
-then_settling_all : {J : Type 0} {answer : Answers J} {later : Laters J} {present : Bool} {k : Kernel} {w : State J} (names : List (List ℕ)) (m l : Kernel) (u v : State J) → AllDistinct names → AreInOrder names → AreSplit names w u → AreFresh names w u → FairFrom answer later present swept_before k w m u → Runs calls m (settling_all answer later names present u) v l → FairFrom answer later present swept_before k w l v
-then_settling_all [] m l u v distinct order split fresh h r = fair_end l v r.0 r.1 h
-then_settling_all {J} {answer} {later} {present} {k} {w} (name ∷ names) m l u v distinct order split fresh h r =
-    let cut = runs_split calls m (settling answer later name present u) (λ (p : Settled × State J). settling_all answer later names present p.1) v l r in
-    let part = ends_run calls (PartOf name u) (settling answer later name present u) m cut.0 cut.1 (settling_part answer later name present u) cut.2 in
-    let none : IsNamed h.fair.rest name → ⊥ = fresh h.fair.rest h.fair.entries name (inl refl) in
-    then_settling_all names cut.1 l cut.0.1 v distinct.1 order.1
-    (part_split w u name names h.fair.rest cut.0 h.fair.entries order split none part)
-    (part_fresh w u name names h.fair.rest cut.0 h.fair.entries distinct fresh part)
-    (then_settling cut.1 name cut.0 (split_in name names w u order split) h cut.2) cut.3
+-- what is so of the names still to come, where they are bound
+abbrev Awaits : {J : Type 0} → List (List ℕ) → State J → State J → Type 0
+Awaits names w u = AllDistinct names × AreInOrder names × AreSplit names w u × AreFresh names w u
 
-then_resettling_all : {J : Type 0} {answer : Answers J} {later : Laters J} {present : Bool} {tried : Tries} {k : Kernel} {w : State J} (u : State J) (names : List (List ℕ)) (m l : Kernel) (x y : Kept) → FairFrom answer later present tried k w m (with_kept u x) → Runs calls m (resettling_all names x) y l → FairFrom answer later present tried k w l (with_kept u y)
-then_resettling_all u [] m l x y h r = fair_end l (with_kept u y) (ap (λ (v : Kept). with_kept u v) r.0) r.1 h
-then_resettling_all u (name ∷ names) m l x y h r =
-    let cut = runs_split calls m (resettling name x) (λ (p : Settled × Kept). resettling_all names p.1) y l r in
-    then_resettling_all u names cut.1 l cut.0.1 y (then_resettling u cut.1 name x cut.0 h cut.2) cut.3
-
-then_unlisted : {J : Type 0} {answer : Answers J} {later : Laters J} {present : Bool} {tried : Tries} {k m : Kernel} {w u : State J} (l : Kernel) (why : Fault) (v : State J) → FairFrom answer later present tried k w m u → Runs calls m (unlisted why u) v l → FairFrom answer later present tried k w l v
-then_unlisted {J} {answer} {later} {present} {tried} {k} {m} {w} {u} l why v h r =
-    let x = kept_of u.standings (u.entries ++ entry.UnsettledAll why ∷ []) in
-    let cut = runs_split calls m (resettling_all (names_of u.standings) x) (resumed u) v l r in
-    fair_end l v cut.3.0 cut.3.1 (then_resettling_all u (names_of u.standings) m cut.1 x cut.0 (then_note (entry.UnsettledAll why) tt h) cut.2)
+chain_fair : {J : Type 0} {answer : Answers J} {later : Laters J} {binds present : Bool} {names : List (List ℕ)} {k m l : Kernel} {w u v : State J} → (binds ≡ true → Awaits names w u) → FairFrom answer later present swept_before k w m u → Chain calls answer later binds present names m u l v → FairFrom answer later present swept_before k w l v
+chain_fair so h (Over s x) = h
+chain_fair {w = w} so h (First name names how m n l u x v p c) =
+    let rest = h.fair.rest in
+    let e = h.fair.entries in
+    chain_fair
+    (λ b.
+    let q = so b in
+    (q.0.1, q.1.1, part_split w u name names rest x e q.1 q.2 (q.3 rest e name (inl refl)) (piece_part p), part_fresh w u name names rest x e q.0 q.3 (piece_part p)))
+    (piece_fair (λ b. let q = so b in split_in name names w u q.1 q.2) h p) c
 
 -- an entry for each standing that isn't listed
 farewell_has : (names : List (List ℕ)) (ss : List Standing) (e : Entry) → Has (farewells names ss) e → (t : Standing) × Has ss t × (lists names t.name ≡ false) × (entry.Gone t.number t.name ≡ e)
@@ -181,20 +169,16 @@ then_listed {J} {answer} {later} {present} {tried} {k} {m} {w} {u} h =
     let fair : IsFair answer later present tried k w m (marked_listed u) = record { sound = x.sound; grows = x.grows; rest = x.rest; entries = x.entries; stand = x.stand; account = x.account; left = x.left; gone = x.gone; once = x.once; unjudged = x.unjudged } in
     record { stood = h.stood; fair = fair }
 
-if_room_fair : {J : Type 0} {answer : Answers J} {later : Laters J} {k m : Kernel} {w : State J} (l : Kernel) (names : List (List ℕ)) (room : Bool) (v : State J) → AllDistinct names → AreInOrder names → AreGone m names w.standings → FairFrom answer later (not w.listed) swept_before k w m w → Runs calls m (if_room answer later names w room) v l → FairFrom answer later (not w.listed) swept_before k w l v
-if_room_fair {answer = answer} {later = later} {m = m} {w = w} l names true v distinct order gone h r =
-    let cut = runs_split calls m (closing_unlisted names w.standings) (λ (x : Unit {0}). settling_all answer later names (not w.listed) (marked_listed (parted names w))) v l r in
-    let q = closing_quiet names w.standings m cut.0 cut.1 h.fair.sound cut.2 in
-    then_settling_all names cut.1 l (marked_listed (parted names w)) v distinct order (parted_split names w) (parted_fresh names w) (then_quiet cut.1 q.0 q.1 (then_listed (then_parted names gone h))) cut.3
-if_room_fair l names false v distinct order gone h r = then_unlisted l fault.Memory v h r
-
-after_list_fair : {J : Type 0} (answer : Answers J) (later : Laters J) (w : State J) (k m l : Kernel) (a : Listing) (number count : ℕ) (v : State J) → Grows k m → says_listing a k m → FairFrom answer later (not w.listed) swept_before k w m w → Runs calls m (after_list answer later w a number count) v l → FairFrom answer later (not w.listed) swept_before k w l v
-after_list_fair answer later w k m l (listing.Names names) number count v g says h r = if_room_fair l (in_sweep_order names) r.0 v (order_distinct names says.1) (sweep_in_order names says.1) (listing_gone k m names w.standings w.next g says h.stood) h r.1
-after_list_fair answer later w k m l listing.Failed number count v g says h r = then_unlisted l (fault.Call number count) v h r
-after_list_fair answer later w k m l listing.Memory number count v g says h r = then_unlisted l fault.Memory v h r
+goes_fair : {J : Type 0} {answer : Answers J} {later : Laters J} {k l : Kernel} {w v : State J} → IsKernel k → Stand k w.standings w.next → Goes calls answer later k w l v → FairFrom answer later (not w.listed) swept_before k w l v
+goes_fair {answer = answer} {later = later} {k = k} {w = w} sound stand (Listed found number count m u r g closes chain) =
+    let names = in_sweep_order found in
+    let a : Told Listing = record { answer = listing.Names found; number = number; count = count } in
+    let gone = listing_gone k m found w.standings w.next (called_grows Names a k m g) g.says stand in
+    let q = closing_quiet names w.standings m r u g.sound closes in
+    let h = then_parted names gone (then_called Names a m tt g (fair_refl answer later (not w.listed) swept_before k w sound stand)) in
+    chain_fair (λ e. (order_distinct found g.says.1, sweep_in_order found g.says.1, parted_split names w, parted_fresh names w)) (then_quiet u q.0 q.1 (then_listed h)) chain
+goes_fair {answer = answer} {later = later} {k = k} {w = w} sound stand (Unlisted a why m g begins chain) =
+    chain_fair (λ e. let none : ⊥ = cc in absurd none) (then_note (entry.UnsettledAll why) tt (then_called Names a m tt g (fair_refl answer later (not w.listed) swept_before k w sound stand))) chain
 
 pub sweeping_fair : {J : Type 0} (answer : Answers J) (later : Laters J) (w : State J) (k l : Kernel) (v : State J) → IsKernel k → Stand k w.standings w.next → Runs calls k (sweeping answer later w) v l → IsFair answer later (not w.listed) swept_before k w l v
-unfolding sweeping
-sweeping_fair answer later w k l v sound stand r =
-    let h = after_list_fair answer later w k r.1 l r.0.answer r.0.number r.0.count v (called_grows Names r.0 k r.1 r.2) r.2.says (then_called Names r.0 r.1 tt r.2 (fair_refl answer later (not w.listed) swept_before k w sound stand)) r.3 in
-    h.fair
+sweeping_fair answer later w k l v sound stand r = (goes_fair sound stand (sweeping_by calls answer later k w l v r)).fair

@@ -20,6 +20,7 @@ pub mod Own
 pub mod Again
 pub mod Lived
 pub mod Shapes
+pub mod Chains
 pub mod Told
 pub mod Marks
 pub mod Spared
@@ -33,6 +34,5 @@ pub mod OnePart
 pub mod Parted
 pub mod Faults
 pub mod Once
-pub mod Answered
 pub mod Remarked
 pub mod One

@@ -1,30 +1,26 @@
 -- The marks at the end of a sweep, and whether a listing has succeeded.
-use Rattle.std.proofs.Common.{◌≡◌, ℕ, Bool, true, false, not, List, [], ◌∷◌, ◌++◌, cond, ◌⊎◌, inl, inr, refl, sym, ◌∙◌, ap, subst, append_assoc, append-nil}
+use Rattle.std.proofs.Common.{◌≡◌, ℕ, Bool, true, false, List, [], ◌∷◌, ◌++◌, cond, ◌⊎◌, inl, inr, refl, sym, ◌∙◌, ap, subst, append_assoc, append-nil}
 use Rattle.std.specs.List.{filter}
 use Rattle.std.specs.Ordering.{is_gt}
 use Rattle.ug_types.specs.Elements.{Has, AllDistinct}
 use Rattle.ug_types.specs.Names.{sweep_cmp}
 use Rattle.ug_types.specs.Sweep.{in_place, in_sweep_order}
-use Rattle.ug_kernel.specs.declared.calls.Listing.{Listing}
-use Rattle.ug_kernel.specs.declared.calls.Listing.TheVariants as listing
+use Rattle.ug_kernel.specs.Calls.{Call, Answer}
 use Rattle.ug_kernel.specs.Kernel.{Kernel}
-use Rattle.ug_kernel.specs.Called.{says_listing}
 use Rattle.ug_kernel.specs.Tree.{Runs, calls}
-use Rattle.ug_kernel.proofs.Runs.{runs_split}
 use Rattle.ug_audit.specs.declared.entry.Entry.{Entry}
 use Rattle.ug_audit.specs.declared.entry.Entry.TheVariants as entry
 use Rattle.ug_audit.specs.declared.entry.Fault.{Fault}
-use Rattle.ug_audit.specs.declared.entry.Fault.TheVariants as fault
-use Rattle.ug_table.specs.State.{State, Kept, kept_of, Answers, Laters}
+use Rattle.ug_table.specs.State.{State, noted, Answers, Laters}
 use Rattle.ug_table.specs.Standings.{lists, farewells}
-use Rattle.ug_table.specs.Settle.{settling, resettling}
-use Rattle.ug_table.specs.Sweep.{settling_all, resettling_all, parted, closing_unlisted, names_of, resumed, unlisted, marked_listed, if_room, after_list, sweeping}
+use Rattle.ug_table.specs.Sweep.{parted, names_of, marked_listed, sweeping}
 use Rattle.ug_table.specs.Laws.{IsNamed, IsUnlisted, IsListed, IsMarked}
 use Rattle.ug_table.specs.declared.standing.Standing.{Standing}
-use Rattle.ug_table.specs.declared.standing.Settled.{Settled}
 use Rattle.ug_types.proofs.Elements.{cancel, has_cases, has_map, filter_has}
 use Rattle.ug_table.proofs.Standings.{lists_has, either_listed}
-use Rattle.ug_table.proofs.Told.{EndsSo, ends_run, ends_then, ends_map, Each, each_has, each_append, each_map, NamesOnly, NamesNone, none_named, Part, PartOf, KeptPart, marked_left, marked_right, settling_part, resettling_part}
+use Rattle.ug_table.proofs.Says.{Each, each_has, each_append, each_map, NamesOnly, NamesNone, none_named}
+use Rattle.ug_table.proofs.Told.{Part, piece_part, marked_left, marked_right}
+use Rattle.ug_table.proofs.Chains.{Chain, Over, First, Goes, Listed, Unlisted, sweeping_by}
 
 -- it names none but these as unsettled, and no listing
 abbrev NamesIn : List (List ℕ) → Entry → Type 0
@@ -49,22 +45,11 @@ named_only n name es h a = each_has (NamesOnly n) es (entry.Unsettled name a.0) 
 only_first : (n : List ℕ) (names : List (List ℕ)) (e : Entry) → NamesOnly n e → NamesIn (n ∷ names) e
 only_first n names (entry.Unsettled m why) h = inl (sym h)
 only_first n names (entry.UnsettledAll why) h = h
-only_first n names (entry.Event number moment) h = h
-only_first n names (entry.Judged number name held verdict cause) h = h
-only_first n names (entry.Intent number name write) h = h
-only_first n names (entry.Wrote number name write outcome) h = h
-only_first n names (entry.Gone number name) h = h
-only_first n names (entry.End number) h = h
+only_first n names e h = h
 
 only_later : (n : List ℕ) (names : List (List ℕ)) (e : Entry) → NamesIn names e → NamesIn (n ∷ names) e
 only_later n names (entry.Unsettled m why) h = inr h
-only_later n names (entry.UnsettledAll why) h = h
-only_later n names (entry.Event number moment) h = h
-only_later n names (entry.Judged number name held verdict cause) h = h
-only_later n names (entry.Intent number name write) h = h
-only_later n names (entry.Wrote number name write outcome) h = h
-only_later n names (entry.Gone number name) h = h
-only_later n names (entry.End number) h = h
+only_later n names e h = h
 
 none_parts : (ss : List Standing) (es : List Entry) → Parts [] ss es ss es
 none_parts ss es = record { rest = []; entries = sym (append-nil es); only = tt; others = λ s a ne. a; mark = λ s a h. absurd h }
@@ -86,27 +71,12 @@ parts_more n names ss ms rs es gs fs distinct a b =
       mark = λ s h c. mark s h c;
     }
 
-abbrev pub PartsOf : {J : Type 0} → List (List ℕ) → State J → State J → Type 0
-PartsOf names w v = Parts names w.standings w.entries v.standings v.entries × (v.listed ≡ w.listed)
-
-pub settling_all_parts : {J : Type 0} (answer : Answers J) (later : Laters J) (names : List (List ℕ)) (present : Bool) (w : State J) → AllDistinct names → EndsSo (PartsOf names w) (settling_all answer later names present w)
-settling_all_parts answer later [] present w distinct = (none_parts w.standings w.entries, refl)
-settling_all_parts {J} answer later (n ∷ names) present w distinct =
-    ends_then (PartOf n w) (PartsOf (n ∷ names) w) (settling answer later n present w) (λ (p : Settled × State J). settling_all answer later names present p.1) (settling_part answer later n present w)
-    (λ p a.
-    ends_map (PartsOf names p.1) (PartsOf (n ∷ names) w) (settling_all answer later names present p.1)
-    (λ v b. (parts_more n names w.standings p.1.standings v.standings w.entries p.1.entries v.entries distinct a.0 b.0, b.1 ∙ a.1))
-    (settling_all_parts answer later names present p.1 distinct.1))
-
-resettling_all_parts : (names : List (List ℕ)) (w : Kept) → AllDistinct names → EndsSo (λ (v : Kept). Parts names w.standings w.entries v.standings v.entries) (resettling_all names w)
-resettling_all_parts [] w distinct = none_parts w.standings w.entries
-resettling_all_parts (n ∷ names) w distinct =
-    let P : List (List ℕ) → Kept → Kept → Type 0 = λ ns u v. Parts ns u.standings u.entries v.standings v.entries in
-    ends_then (KeptPart n w) (P (n ∷ names) w) (resettling n w) (λ (p : Settled × Kept). resettling_all names p.1) (resettling_part n w)
-    (λ p a.
-    ends_map (P names p.1) (P (n ∷ names) w) (resettling_all names p.1)
-    (λ v b. parts_more n names w.standings p.1.standings v.standings w.entries p.1.entries v.entries distinct a b)
-    (resettling_all_parts names p.1 distinct.1))
+pub chain_parts : {S J : Type 0} {gives : S → (call : Call) → Answer call → S → Type 0} {answer : Answers J} {later : Laters J} {binds present : Bool} {names : List (List ℕ)} {s t : S} {w v : State J} → AllDistinct names → Chain gives answer later binds present names s w t v → Parts names w.standings w.entries v.standings v.entries × (v.listed ≡ w.listed)
+chain_parts distinct (Over s w) = (none_parts w.standings w.entries, refl)
+chain_parts distinct (First n names how s u t w x v p c) =
+    let a = piece_part p in
+    let b = chain_parts distinct.1 c in
+    (parts_more n names w.standings x.standings v.standings w.entries x.entries v.entries distinct a.0 b.0, b.1 ∙ a.1)
 
 -- the order of a sweep has each name once
 
@@ -164,47 +134,29 @@ stands_known ss rs others s a = elim (either_listed (names_of ss) s.name) [
   | inr ne ↦ has_map (λ (v : Standing). v.name) ss s (others s a ne)
 ]
 
-listed_ends : {J : Type 0} (answer : Answers J) (later : Laters J) (names : List (List ℕ)) (w : State J) (k l : Kernel) (v : State J) (rest : List Entry) → AllDistinct names → Runs calls k (settling_all answer later names (not w.listed) (marked_listed (parted names w))) v l → v.entries ≡ w.entries ++ rest → Ends w v rest
-listed_ends answer later names w k l v rest distinct r e =
-    let x = marked_listed (parted names w) in
+listed_ends : {J : Type 0} {answer : Answers J} {later : Laters J} {present : Bool} {k l : Kernel} {v : State J} (names : List (List ℕ)) (w : State J) (rest : List Entry) → AllDistinct names → Chain calls answer later true present names k (marked_listed (parted names w)) l v → v.entries ≡ w.entries ++ rest → Ends w v rest
+listed_ends {v = v} names w rest distinct chain e =
     let bye = farewells names w.standings in
-    let h = ends_run calls (PartsOf names x) (settling_all answer later names (not w.listed) x) k v l (settling_all_parts answer later names (not w.listed) x distinct) r in
+    let h = chain_parts distinct chain in
     let same : bye ++ h.0.rest ≡ rest = cancel w.entries (bye ++ h.0.rest) rest (sym (append_assoc w.entries bye h.0.rest) ∙ sym h.0.entries ∙ e) in
     let none = farewell_none names w.standings in
     let listed : IsUnlisted (bye ++ h.0.rest) → ⊥ = λ a. elim (has_cases bye h.0.rest (entry.UnsettledAll a.0) a.1) [ inl b ↦ none_unlisted bye none (a.0, b) | inr b ↦ in_unlisted names h.0.rest h.0.only (a.0, b) ] in
     let marks : (s : Standing) → Has v.standings s → IsMarked (bye ++ h.0.rest) s = λ s a. marked_left bye h.0.rest s (none_named bye s.name none) (h.0.mark s a (stands_listed names w.standings v.standings h.0.others s a)) in
     subst (λ (y : List Entry). Ends w v y) same (inl (listed, h.1), marks)
 
-unlisted_ends : {J : Type 0} (why : Fault) (w : State J) (k l : Kernel) (v : State J) (rest : List Entry) → AllDistinct (names_of w.standings) → Runs calls k (unlisted why w) v l → v.entries ≡ w.entries ++ rest → Ends w v rest
-unlisted_ends {J} why w k l v rest distinct r e =
+unlisted_ends : {J : Type 0} {answer : Answers J} {later : Laters J} {present : Bool} {k l : Kernel} {v : State J} (why : Fault) (w : State J) (rest : List Entry) → AllDistinct (names_of w.standings) → Chain calls answer later false present (names_of w.standings) k (noted w (entry.UnsettledAll why)) l v → v.entries ≡ w.entries ++ rest → Ends w v rest
+unlisted_ends {v = v} why w rest distinct chain e =
     let all = entry.UnsettledAll why in
     let names = names_of w.standings in
-    let x = kept_of w.standings (w.entries ++ all ∷ []) in
-    let P : Kept → Type 0 = λ y. Parts names x.standings x.entries y.standings y.entries in
-    let cut = runs_split calls k (resettling_all names x) (resumed w) v l r in
-    let h = ends_run calls P (resettling_all names x) k cut.0 cut.1 (resettling_all_parts names x distinct) cut.2 in
-    let z = cut.0 in
-    let entries : v.entries ≡ z.entries = ap (λ (y : State J). y.entries) cut.3.0 in
-    let standings : v.standings ≡ z.standings = ap (λ (y : State J). y.standings) cut.3.0 in
-    let same : all ∷ h.rest ≡ rest = cancel w.entries (all ∷ h.rest) rest (sym (append_assoc w.entries (all ∷ []) h.rest) ∙ sym h.entries ∙ sym entries ∙ e) in
-    let kept : (s : Standing) → Has z.standings s → Has names s.name = λ s a. stands_known w.standings z.standings h.others s a in
-    let marks : (s : Standing) → Has v.standings s → IsMarked (all ∷ h.rest) s = λ s a.
-    let b = subst (λ (y : List Standing). Has y s) standings a in
-    marked_left (all ∷ []) h.rest s (λ n. elim n.1 [ inl q ↦ let none : ⊥ = cc in none | inr none ↦ none ]) (h.mark s b (kept s b)) in
-    subst (λ (y : List Entry). Ends w v y) same (inr ((why, inl refl), ap (λ (y : State J). y.listed) cut.3.0), marks)
+    let h = chain_parts distinct chain in
+    let same : all ∷ h.0.rest ≡ rest = cancel w.entries (all ∷ h.0.rest) rest (sym (append_assoc w.entries (all ∷ []) h.0.rest) ∙ sym h.0.entries ∙ e) in
+    let marks : (s : Standing) → Has v.standings s → IsMarked (all ∷ h.0.rest) s = λ s a. marked_left (all ∷ []) h.0.rest s (λ n. elim n.1 [ inl q ↦ let none : ⊥ = cc in none | inr none ↦ none ]) (h.0.mark s a (stands_known w.standings v.standings h.0.others s a)) in
+    subst (λ (y : List Entry). Ends w v y) same (inr ((why, inl refl), h.1), marks)
 
-if_room_ends : {J : Type 0} (answer : Answers J) (later : Laters J) (names : List (List ℕ)) (w : State J) (room : Bool) (k l : Kernel) (v : State J) (rest : List Entry) → AllDistinct names → AllDistinct (names_of w.standings) → Runs calls k (if_room answer later names w room) v l → v.entries ≡ w.entries ++ rest → Ends w v rest
-if_room_ends answer later names w true k l v rest distinct known r e =
-    let cut = runs_split calls k (closing_unlisted names w.standings) (λ (x : Unit {0}). settling_all answer later names (not w.listed) (marked_listed (parted names w))) v l r in
-    listed_ends answer later names w cut.1 l v rest distinct cut.3 e
-if_room_ends answer later names w false k l v rest distinct known r e = unlisted_ends fault.Memory w k l v rest known r e
-
-after_list_ends : {J : Type 0} (answer : Answers J) (later : Laters J) (w : State J) (a : Listing) (call count : ℕ) (k m l : Kernel) (v : State J) (rest : List Entry) → says_listing a k m → AllDistinct (names_of w.standings) → Runs calls m (after_list answer later w a call count) v l → v.entries ≡ w.entries ++ rest → Ends w v rest
-after_list_ends answer later w (listing.Names names) call count k m l v rest says known r e = if_room_ends answer later (in_sweep_order names) w r.0 m l v rest (order_distinct names says.1) known r.1 e
-after_list_ends answer later w listing.Failed call count k m l v rest says known r e = unlisted_ends (fault.Call call count) w m l v rest known r e
-after_list_ends answer later w listing.Memory call count k m l v rest says known r e = unlisted_ends fault.Memory w m l v rest known r e
+goes_ends : {J : Type 0} {answer : Answers J} {later : Laters J} {k l : Kernel} {w v : State J} (rest : List Entry) → AllDistinct (names_of w.standings) → v.entries ≡ w.entries ++ rest → Goes calls answer later k w l v → Ends w v rest
+goes_ends {w = w} rest known e (Listed found number count m u r g closes chain) = listed_ends (in_sweep_order found) w rest (order_distinct found g.says.1) chain e
+goes_ends {w = w} rest known e (Unlisted a why m g begins chain) = unlisted_ends why w rest known chain e
 
 -- whatever the entries that were added
 pub sweeping_marks : {J : Type 0} (answer : Answers J) (later : Laters J) (w : State J) (k l : Kernel) (v : State J) (rest : List Entry) → AllDistinct (names_of w.standings) → Runs calls k (sweeping answer later w) v l → v.entries ≡ w.entries ++ rest → Ends w v rest
-unfolding sweeping
-sweeping_marks answer later w k l v rest known r e = after_list_ends answer later w r.0.answer r.0.number r.0.count k r.1 l v rest r.2.says known r.3 e
+sweeping_marks answer later w k l v rest known r e = goes_ends rest known e (sweeping_by calls answer later k w l v r)

@@ -1,17 +1,15 @@
 -- The names that a sweep tells.
 use Rattle.std.proofs.Common.{◌≡◌, ℕ, Bool, true, false, cond, List, [], ◌∷◌, ◌++◌, Option, Some, ◌⊎◌, inl, inr, refl, sym, ◌∙◌, ap, subst, append_assoc}
 use Rattle.ug_types.specs.Elements.{Has, AllDistinct}
-use Rattle.ug_types.specs.Names.{sweep_cmp}
-use Rattle.ug_types.specs.Sweep.{in_place, in_sweep_order}
-use Rattle.std.specs.Ordering.{is_gt}
 use Rattle.ug_kernel.specs.declared.calls.Listing.{Listing}
 use Rattle.ug_kernel.specs.declared.calls.Listing.TheVariants as listing
 use Rattle.ug_kernel.specs.Calls.{Call, Answer}
 use Rattle.ug_kernel.specs.Kernel.{Kernel}
 use Rattle.ug_kernel.specs.Called.{says_listing, Follows}
 use Rattle.ug_kernel.specs.Tree.{Runs, calls}
-use Rattle.ug_kernel.specs.Along.{Made}
+use Rattle.ug_kernel.specs.Along.{Made, failure_of}
 use Rattle.ug_kernel.proofs.Told.{told_run}
+use Rattle.ug_kernel.specs.declared.calls.FailedCall.{FailedCall}
 use Rattle.ug_audit.specs.declared.entry.Entry.{Entry}
 use Rattle.ug_audit.specs.declared.entry.Entry.TheVariants as entry
 use Rattle.ug_table.specs.State.{State, Answers, Laters}
@@ -20,6 +18,7 @@ use Rattle.ug_table.specs.Sweep.{names_of, sweeping}
 use Rattle.ug_table.specs.Parts.{name_in, unsettled_names, EndsUnsettled, InParts, AfterListing, NamesOnce}
 use Rattle.ug_table.specs.declared.standing.Standing.{Standing}
 use Rattle.ug_types.proofs.Elements.{has_cases}
+use Rattle.ug_table.proofs.Marks.{order_distinct}
 use Rattle.ug_table.proofs.Parted.{sweeping_goes}
 
 pub names_more : (es fs : List Entry) → unsettled_names (es ++ fs) ≡ unsettled_names es ++ unsettled_names fs
@@ -33,7 +32,7 @@ part_name name (entry.Unsettled other why ∷ es) h = inr (ap (λ (v : List ℕ)
 part_name name (entry.UnsettledAll why ∷ es) h = absurd h.0
 part_name name (e ∷ es) h = part_name name es h.1
 
-names_of_parts : (names : List (List ℕ)) (ss rs : List Standing) (ms : List Made) (es : List Entry) (name : List ℕ) → InParts names ss rs ms es → Has (unsettled_names es) name → Has names name
+pub names_of_parts : (names : List (List ℕ)) (ss rs : List Standing) (ms : List Made) (es : List Entry) (name : List ℕ) → InParts names ss rs ms es → Has (unsettled_names es) name → Has names name
 names_of_parts [] ss rs ms es name h a = subst (λ (v : List Entry). Has (unsettled_names v) name) h.2 a
 names_of_parts (n ∷ names) ss rs ms es name h a =
     let b = subst (λ (v : List (List ℕ)). Has v name) (ap unsettled_names h.6 ∙ names_more h.3 h.4) a in
@@ -64,51 +63,25 @@ farewells_name_none : (names : List (List ℕ)) (ss : List Standing) → unsettl
 farewells_name_none names [] = refl
 farewells_name_none names (s ∷ ss) = unnamed_by (lists names s.name) (entry.Gone s.number s.name) (farewells names ss) refl (farewells_name_none names ss)
 
--- the order of a sweep keeps names apart
-placed_by : (x y z : List ℕ) (ys : List (List ℕ)) (b : Bool) → (Has (in_place x ys) z → (x ≡ z) ⊎ Has ys z) → Has (cond b (y ∷ in_place x ys) (x ∷ y ∷ ys)) z → (x ≡ z) ⊎ ((y ≡ z) ⊎ Has ys z)
-placed_by x y z ys true f (inl e) = inr (inl e)
-placed_by x y z ys true f (inr h) = elim (f h) [ inl e ↦ inl e | inr a ↦ inr (inr a) ]
-placed_by x y z ys false f h = h
-
-placed : (x z : List ℕ) (ys : List (List ℕ)) → Has (in_place x ys) z → (x ≡ z) ⊎ Has ys z
-placed x z [] h = h
-placed x z (y ∷ ys) h = placed_by x y z ys (is_gt (sweep_cmp x y)) (placed x z ys) h
-
-ordered : (z : List ℕ) (ys : List (List ℕ)) → Has (in_sweep_order ys) z → Has ys z
-ordered z [] h = h
-ordered z (y ∷ ys) h = elim (placed y z (in_sweep_order ys) h) [ inl e ↦ inl e | inr a ↦ inr (ordered z ys a) ]
-
-distinct_by : (x y : List ℕ) (ys : List (List ℕ)) (b : Bool) → ((x ≡ y) ⊎ Has ys x → ⊥) → (Has ys y → ⊥) → AllDistinct ys → AllDistinct (in_place x ys) → AllDistinct (cond b (y ∷ in_place x ys) (x ∷ y ∷ ys))
-distinct_by x y ys true n m d h = (λ a. elim (placed x y ys a) [ inl e ↦ n (inl e) | inr b ↦ m b ], h)
-distinct_by x y ys false n m d h = (λ a. elim a [ inl e ↦ n (inl (sym e)) | inr b ↦ n (inr b) ], (m, d))
-
-distinct_placed : (x : List ℕ) (ys : List (List ℕ)) → (Has ys x → ⊥) → AllDistinct ys → AllDistinct (in_place x ys)
-distinct_placed x [] n d = (n, tt)
-distinct_placed x (y ∷ ys) n d = distinct_by x y ys (is_gt (sweep_cmp x y)) (λ a. elim a [ inl e ↦ n (inl (sym e)) | inr b ↦ n (inr b) ]) d.0 d.1 (distinct_placed x ys (λ a. n (inr a)) d.1)
-
-distinct_ordered : (ys : List (List ℕ)) → AllDistinct ys → AllDistinct (in_sweep_order ys)
-distinct_ordered [] d = tt
-distinct_ordered (y ∷ ys) d = distinct_placed y (in_sweep_order ys) (λ a. d.0 (ordered y ys a)) (distinct_ordered ys d.1)
-
 -- no two parts are of one name
-begins_distinct : (k l : Kernel) (r : Listing) (call count : ℕ) (ss : List Standing) (head : List Entry) (left : List Standing) (names : List (List ℕ)) (shut : List Made) → says_listing r k l → AllDistinct (names_of ss) → AfterListing r call count ss head left names shut → AllDistinct names
-begins_distinct k l (listing.Names found) call count ss head left names shut says d (inl b) = subst (λ (v : List (List ℕ)). AllDistinct v) (sym b.0) (distinct_ordered found says.1)
-begins_distinct k l (listing.Names found) call count ss head left names shut says d (inr b) = subst (λ (v : List (List ℕ)). AllDistinct v) (sym b.0) d
-begins_distinct k l listing.Failed call count ss head left names shut says d b = subst (λ (v : List (List ℕ)). AllDistinct v) (sym b.0) d
-begins_distinct k l listing.Memory call count ss head left names shut says d b = subst (λ (v : List (List ℕ)). AllDistinct v) (sym b.0) d
+pub begins_distinct : (k l : Kernel) (r : Listing) (failed : FailedCall) (ss : List Standing) (head : List Entry) (left : List Standing) (names : List (List ℕ)) (shut : List Made) → says_listing r k l → AllDistinct (names_of ss) → AfterListing r failed ss head left names shut → AllDistinct names
+begins_distinct k l (listing.Names found) failed ss head left names shut says d (inl b) = subst (λ (v : List (List ℕ)). AllDistinct v) (sym b.0) (order_distinct found says.1)
+begins_distinct k l (listing.Names found) failed ss head left names shut says d (inr b) = subst (λ (v : List (List ℕ)). AllDistinct v) (sym b.0) d
+begins_distinct k l listing.Failed failed ss head left names shut says d b = subst (λ (v : List (List ℕ)). AllDistinct v) (sym b.0) d
+begins_distinct k l listing.Memory failed ss head left names shut says d b = subst (λ (v : List (List ℕ)). AllDistinct v) (sym b.0) d
 
-begins_unnamed : (r : Listing) (call count : ℕ) (ss : List Standing) (head : List Entry) (left : List Standing) (names : List (List ℕ)) (shut : List Made) → AfterListing r call count ss head left names shut → unsettled_names head ≡ []
-begins_unnamed (listing.Names found) call count ss head left names shut (inl b) = ap unsettled_names b.1 ∙ farewells_name_none names ss
-begins_unnamed (listing.Names found) call count ss head left names shut (inr b) = ap unsettled_names b.1
-begins_unnamed listing.Failed call count ss head left names shut b = ap unsettled_names b.1
-begins_unnamed listing.Memory call count ss head left names shut b = ap unsettled_names b.1
+pub begins_unnamed : (r : Listing) (failed : FailedCall) (ss : List Standing) (head : List Entry) (left : List Standing) (names : List (List ℕ)) (shut : List Made) → AfterListing r failed ss head left names shut → unsettled_names head ≡ []
+begins_unnamed (listing.Names found) failed ss head left names shut (inl b) = ap unsettled_names b.1 ∙ farewells_name_none names ss
+begins_unnamed (listing.Names found) failed ss head left names shut (inr b) = ap unsettled_names b.1
+begins_unnamed listing.Failed failed ss head left names shut b = ap unsettled_names b.1
+begins_unnamed listing.Memory failed ss head left names shut b = ap unsettled_names b.1
 
 sweeping_once : {J : Type 0} (answer : Answers J) (later : Laters J) (k : Kernel) (w : State J) (l : Kernel) (v : State J) → AllDistinct (names_of w.standings) → Runs calls k (sweeping answer later w) v l → (rest : List Entry) × (v.entries ≡ w.entries ++ rest) × AllDistinct (unsettled_names rest)
 sweeping_once {J} answer later k w l v d h =
     let g = sweeping_goes calls answer later k w l v h in
     let a = g.listed in
-    let apart = begins_distinct k g.along.0 a.answer a.number a.count w.standings g.head g.left g.names g.shut g.along.1.says d g.begins in
-    let none = begins_unnamed a.answer a.number a.count w.standings g.head g.left g.names g.shut g.begins in (
+    let apart = begins_distinct k g.along.0 a.answer (failure_of a) w.standings g.head g.left g.names g.shut g.along.1.says d g.begins in
+    let none = begins_unnamed a.answer (failure_of a) w.standings g.head g.left g.names g.shut g.begins in (
       g.head ++ g.rest,
       g.entries,
       subst (λ (v : List (List ℕ)). AllDistinct v) (sym (names_more g.head g.rest ∙ ap (λ (x : List (List ℕ)). x ++ unsettled_names g.rest) none)) (once_parts g.names g.left v.standings g.made g.rest g.parts apart),

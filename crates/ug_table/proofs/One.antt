@@ -21,7 +21,7 @@ use Rattle.ug_table.specs.Settle.{settling, resettling}
 use Rattle.ug_table.specs.Sweep.{names_of}
 use Rattle.ug_table.specs.Laws.{Tries, none_before, Stand, IsGone, IsNamed, HasStanding, IsAsJudged}
 use Rattle.ug_table.specs.Parts.{told_by, failure_in, failures_told, IsLast, EndsUnsettled}
-use Rattle.ug_table.specs.One.{failed_of, again_numbered, resettling_numbered, why_in, whys, why_of, GoesAsPart, LivedAs, SettledOne, SettlesOne, IsOf, ResettledOne, ResettlesOne}
+use Rattle.ug_table.specs.One.{failed_of, resettling_numbered, why_in, whys, why_of, GoesAsPart, LivedAs, SettledOne, SettlesOne, IsOf, ResettledOne, ResettlesOne}
 use Rattle.ug_table.specs.declared.standing.Standing.{Standing}
 use Rattle.ug_table.specs.declared.standing.Settled.{Settled}
 use Rattle.ug_table.specs.declared.standing.Settled.TheVariants as settled
@@ -30,14 +30,14 @@ use Rattle.ug_table.proofs.Values.{IsFileOf, file_same, file_later, LiveAs, IsOp
 use Rattle.ug_table.proofs.Joined.{FairFrom, had_before}
 use Rattle.ug_table.proofs.Steps.{fair_refl}
 use Rattle.ug_table.proofs.SoFar.{AreIn}
-use Rattle.ug_table.proofs.Fair.{then_settling, then_resettling}
-use Rattle.ug_table.proofs.Own.{settling_own}
-use Rattle.ug_table.proofs.Again.{resettling_own}
 use Rattle.ug_table.proofs.Lived.{lives_first, lives_last, stand_files, judged_at}
 use Rattle.ug_table.proofs.Standings.{numbered_has}
-use Rattle.ug_table.proofs.Told.{ends_run}
-use Rattle.ug_table.proofs.Answered.{Answered, settling_answered, AnsweredAgain, resettling_answered}
-use Rattle.ug_table.proofs.Parted.{WentPart, settling_went, resettling_went}
+use Rattle.ug_table.proofs.Again.{piece_well}
+use Rattle.ug_table.proofs.Told.{flat_whys, unnamed, flat_stands, flat_nobody}
+use Rattle.ug_table.proofs.Chains.{Piece, resettling_piece, run_numbered, settling_piece}
+use Rattle.ug_table.proofs.Fair.{piece_fair}
+use Rattle.ug_table.proofs.OnePart.{flat_is_part}
+use Rattle.ug_table.proofs.Own.{piece_own}
 
 -- what was added is one list
 added : (es fs xs ys : List Entry) → fs ≡ es ++ xs → fs ≡ es ++ ys → ys ≡ xs
@@ -55,12 +55,7 @@ told_more (f ∷ fs) gs = ap (λ (v : List FailedCall). told_by f ++ v) (told_mo
 tells_one : (name : List ℕ) (e : Entry) (es : List Entry) → IsLast name e es → failure_in e ≡ told_all (why_in e)
 tells_one name (entry.Unsettled other why) es last = sym (append-nil (told_by why))
 tells_one name (entry.UnsettledAll why) es last = absurd last
-tells_one name (entry.Event number moment) es last = refl
-tells_one name (entry.Judged number n held verdict cause) es last = refl
-tells_one name (entry.Intent number n what) es last = refl
-tells_one name (entry.Wrote number n what outcome) es last = refl
-tells_one name (entry.Gone number n) es last = refl
-tells_one name (entry.End number) es last = refl
+tells_one name e es last = refl
 
 tells_why : (name : List ℕ) (es : List Entry) → EndsUnsettled name es → failures_told es ≡ told_all (whys es)
 tells_why name [] last = refl
@@ -72,46 +67,29 @@ tells_why name (e ∷ es) last =
 told_of : (how : Settled) → told_all (why_of how) ≡ failed_of how
 told_of settled.Stands = refl
 told_of settled.Nobody = refl
-told_of (settled.Fault call count) = refl
+told_of (settled.Fault failed) = refl
 told_of settled.Memory = refl
 
-as_part : {S : Type 0} (gives : S → (call : Call) → Answer call → S → Type 0) (calls faults : S → ℕ) (counted : Counting gives calls faults) (name : List ℕ) (s : S) (ss : List Standing) (es : List Entry) (t : S) (rs : List Standing) (fs : List Entry) (how : Settled) → WentPart gives name s ss es t rs fs → Answered name es how rs fs → GoesAsPart gives calls faults name s ss es t rs fs how
-as_part gives calls faults counted name s ss es t rs fs how a h =
-    let why : whys a.rest ≡ why_of how = subst (λ (v : List Entry). whys v ≡ why_of how) (added es fs a.rest h.rest a.entries h.entries) h.why in
+as_part : {S J : Type 0} (gives : S → (call : Call) → Answer call → S → Type 0) (calls faults : S → ℕ) (counted : Counting gives calls faults) {answer : Answers J} {later : Laters J} {binds present : Bool} {name : List ℕ} {how : Settled} {s t : S} {w v : State J} → Piece gives answer later binds present name how s w t v → GoesAsPart gives calls faults name s w.standings w.entries t v.standings v.entries how
+as_part gives calls faults counted {name = name} {how = how} {s = s} {t = t} {w = w} {v = v} p =
+    let part = flat_is_part p.flat in
+    let why : whys p.rest ≡ why_of how = flat_whys p.flat in
     record {
-      made = a.calls;
-      along = a.along;
-      rest = a.rest;
-      entries = a.entries;
-      part = a.part;
+      made = p.made;
+      along = p.along;
+      rest = p.rest;
+      entries = p.entries;
+      part = part;
       why = why;
-      failed = sym a.part.told ∙ tells_why name a.rest a.part.last ∙ ap told_all why ∙ told_of how;
-      stands = h.stands;
-      nobody = h.nobody;
-      numbered = along_numbered gives calls faults counted a.calls s t a.along;
-      rises = λ low. along_rises gives calls faults counted a.calls s t low a.along;
+      failed = sym part.told ∙ tells_why name p.rest part.last ∙ ap told_all why ∙ told_of how;
+      stands = flat_stands p.flat;
+      nobody = flat_nobody p.flat;
+      numbered = along_numbered gives calls faults counted p.made s t p.along;
+      rises = λ low. along_rises gives calls faults counted p.made s t low p.along;
     }
 
 pub settling_part : {S J : Type 0} (gives : S → (call : Call) → Answer call → S → Type 0) (calls faults : S → ℕ) (counted : Counting gives calls faults) (answer : Answers J) (later : Laters J) (name : List ℕ) (present : Bool) (w : State J) (s : S) (p : Settled × State J) (t : S) → Runs gives s (settling answer later name present w) p t → GoesAsPart gives calls faults name s w.standings w.entries t p.1.standings p.1.entries p.0
-settling_part {S} {J} gives calls faults counted answer later name present w s p t h =
-    as_part gives calls faults counted name s w.standings w.entries t p.1.standings p.1.entries p.0
-    (settling_went gives answer later name present w s p t h)
-    (ends_run gives (λ (q : Settled × State J). Answered name w.entries q.0 q.1.standings q.1.entries) (settling answer later name present w) s p t (settling_answered answer later name present w) h)
-
--- nothing that is told is unsettled
-right_none : (xs ys : List Fault) → xs ++ ys ≡ [] → ys ≡ []
-right_none [] ys e = e
-right_none (x ∷ xs) ys e = let none : ⊥ = cc in absurd none
-
-told_why : (es : List Entry) (name : List ℕ) (why : Fault) → whys es ≡ [] → Has es (entry.Unsettled name why) → ⊥
-told_why [] name why e a = a
-told_why (x ∷ es) name why e (inl is) =
-    let here : why ∷ whys es ≡ [] = subst (λ (v : Entry). why_in v ++ whys es ≡ []) is e in
-    let none : ⊥ = cc in none
-told_why (x ∷ es) name why e (inr a) = told_why es name why (right_none (why_in x) (whys es) e) a
-
-none_named : (es : List Entry) (name : List ℕ) → whys es ≡ [] → IsNamed es name → ⊥
-none_named es name e a = told_why es name a.0 e a.1
+settling_part gives calls faults counted answer later name present w s p t h = as_part gives calls faults counted (settling_piece gives answer later name present w s p t h)
 
 first_in : {J : Type 0} (w : State J) (name : List ℕ) → AreIn none_before name w w
 first_in w name rest e s a = inr (refl, a)
@@ -123,21 +101,22 @@ standing_named l ss next i name stand live h =
 
 settling_one : {J : Type 0} (answer : Answers J) (later : Laters J) (name : List ℕ) (present : Bool) (w : State J) (k l : Kernel) (p : Settled × State J) → IsKernel k → Stand k w.standings w.next → Runs calls k (settling answer later name present w) p l → SettledOne answer later present name k w l p.1 p.0
 settling_one {J} answer later name present w k l p sound stand r =
-    let a = then_settling l name p (first_in w name) (fair_refl answer later present none_before k w sound stand) r in
-    let h = ends_run calls (λ (q : Settled × State J). Answered name w.entries q.0 q.1.standings q.1.entries) (settling answer later name present w) k p l (settling_answered answer later name present w) r in
+    let piece = settling_piece calls answer later name present w k p l r in
+    let a = piece_fair (λ e. first_in w name) (fair_refl answer later present none_before k w sound stand) piece in
     let last : (i : ℕ) → LivedAs k l name i → LiveAs l i name = λ i x. subst (λ (v : List ℕ). LiveAs l i v) x.2 (lives_last k l i x.0 a.fair.grows x.1) in
     let ended : (i : ℕ) → LivedAs k l name i → IsAsJudged l p.1.standings i ⊎ IsNamed a.fair.rest name = λ i x.
     let first = subst (λ (v : List ℕ). LiveAs k i v) x.2 (lives_first k l i x.0 x.1) in
-    elim (settling_own answer later name present i w k l p sound (stand_files k w.standings w.next stand) first (last i x) r) [
-      | inl g ↦ inl (judged_at l p.1.standings p.1.next i a.fair.stand g)
-      | inr n ↦ inr (subst (λ (v : List Entry). IsNamed v name) (added w.entries p.1.entries a.fair.rest n.0 a.fair.entries n.1) n.2)
+    elim (piece_own i sound (stand_files k w.standings w.next stand) first (last i x) piece) [
+      | inl (inl g) ↦ inl (judged_at l p.1.standings p.1.next i a.fair.stand g)
+      | inl (inr n) ↦ inr (subst (λ (v : List Entry). IsNamed v name) (added w.entries p.1.entries a.fair.rest n.0 a.fair.entries n.1) n.2)
+      | inr e ↦ let same = e.0 in absurd (let none : ⊥ = cc in none)
     ] in
     record {
       fair = a.fair;
       ended = ended;
       nobody = λ e i x. elim (ended i x) [
-        | inl j ↦ h.nobody e (standing_named l p.1.standings p.1.next i name a.fair.stand (last i x) j.standing)
-        | inr n ↦ none_named a.fair.rest name (subst (λ (v : List Entry). whys v ≡ []) (added w.entries p.1.entries a.fair.rest h.rest a.fair.entries h.entries) (h.why ∙ ap why_of e)) n
+        | inl j ↦ flat_nobody piece.flat e (standing_named l p.1.standings p.1.next i name a.fair.stand (last i x) j.standing)
+        | inr n ↦ unnamed a.fair.rest name (subst (λ (v : List Entry). whys v ≡ []) (added w.entries p.1.entries a.fair.rest piece.rest a.fair.entries piece.entries) (flat_whys piece.flat ∙ ap why_of e)) n
       ];
     }
 
@@ -148,16 +127,16 @@ told_settles gives told did answer later name present s w t p r = λ l e.
 
 -- the standing of a number
 
-run_numbered : {S : Type 0} (gives : S → (call : Call) → Answer call → S → Type 0) (number : ℕ) (k : Kept) (x : Standing) (s : S) (p : Settled × Kept) (t : S) → numbered number k.standings ≡ Some x → Runs gives s (resettling_numbered number k) p t → Runs gives s (resettling x.name k) p t
-unfolding resettling_numbered
-run_numbered gives number k x s p t e r = subst (λ (o : Option Standing). Runs gives s (again_numbered k o) p t) e r
+no_verdict : Answers (Unit {0})
+no_verdict judge dev controller present on ss = (target.Block, cause.Implicit)
+
+no_later : Laters (Unit {0})
+no_later judge dev controller present on ss = tt
 
 pub numbered_part : {S : Type 0} (gives : S → (call : Call) → Answer call → S → Type 0) (calls faults : S → ℕ) (counted : Counting gives calls faults) (number : ℕ) (k : Kept) (x : Standing) (s : S) (p : Settled × Kept) (t : S) → numbered number k.standings ≡ Some x → Runs gives s (resettling_numbered number k) p t → GoesAsPart gives calls faults x.name s k.standings k.entries t p.1.standings p.1.entries p.0
 numbered_part gives calls faults counted number k x s p t e r =
-    let h = run_numbered gives number k x s p t e r in
-    as_part gives calls faults counted x.name s k.standings k.entries t p.1.standings p.1.entries p.0
-    (resettling_went gives x.name k s p t h)
-    (ends_run gives (AnsweredAgain x.name k) (resettling x.name k) s p t (resettling_answered x.name k) h).answered
+    let w : State (Unit {0}) = record { standings = k.standings; next = 0; listed = false; judge = tt; entries = k.entries } in
+    as_part gives calls faults counted (resettling_piece gives no_verdict no_later x.name false w k s p t (run_numbered gives number k x s p t e r))
 
 -- two open files of one device are of one name
 one_name : (k : Kernel) (a b : List ℕ) (held other i : ℕ) → IsOpen k a held → IsOpen k b other → IsFileOf k held i → IsFileOf k other i → a ≡ b
@@ -174,20 +153,14 @@ dead l i name gone live =
     let was : true ≡ false = sym gone.2 ∙ ap (λ (v : Device). v.gone) same ∙ live.live.here in
     true≢false was
 
-no_verdict : Answers (Unit {0})
-no_verdict judge dev controller present on ss = (target.Block, cause.Implicit)
-
-no_later : Laters (Unit {0})
-no_later judge dev controller present on ss = tt
-
 resettling_one : (w : State (Unit {0})) (k l : Kernel) (p : Settled × Kept) (x : Standing) → IsKernel k → Stand k w.standings w.next → Has w.standings x → Runs calls k (resettling x.name (kept_of w.standings w.entries)) p l → ResettledOne x k w l (with_kept w p.1) p.0
 resettling_one w k l p x sound stand has r =
     let kept = kept_of w.standings w.entries in
-    let fair : (answer : Answers (Unit {0})) (later : Laters (Unit {0})) (present : Bool) (tried : Tries) → FairFrom answer later present tried k w l (with_kept w p.1) = λ answer later present tried. then_resettling w l x.name kept p (fair_refl answer later present tried k w sound stand) r in
+    let fair : (answer : Answers (Unit {0})) (later : Laters (Unit {0})) (present : Bool) (tried : Tries) → FairFrom answer later present tried k w l (with_kept w p.1) = λ answer later present tried. piece_fair (λ e. let none : ⊥ = cc in absurd none) (fair_refl answer later present tried k w sound stand) (resettling_piece calls answer later x.name present w kept k p l r) in
+    let piece = resettling_piece calls no_verdict no_later x.name false w kept k p l r in
     let a = fair no_verdict no_later false none_before in
     let g = a.fair.grows in
     let files = stand_files k w.standings w.next stand in
-    let h = ends_run calls (AnsweredAgain x.name kept) (resettling x.name kept) k p l (resettling_answered x.name kept) r in
     let stood : (i : ℕ) → IsOf k x i → HasStanding l p.1.standings i ⊎ IsGone l i = λ i file. had_before a l i x.number x.name x.held x.verdict (grows_refl l) (inl (x, has, refl, refl, refl, refl)) (file_later k l x.held.0 i g file) in
     record {
       fair = λ answer later present tried. (fair answer later present tried).fair;
@@ -195,18 +168,18 @@ resettling_one w k l p x sound stand has r =
           let named : x.name ≡ d.name = open_named k x.name d.name x.held.0 i (files x has) file (lives_first k l i d lives) in
           let first = subst (λ (v : List ℕ). LiveAs k i v) (sym named) (lives_first k l i d lives) in
           let last = subst (λ (v : List ℕ). LiveAs l i v) (sym named) (lives_last k l i d g lives) in
-          elim (resettling_own x.name i kept k l p sound files first last r) [
+          elim (piece_well i sound files first last piece) [
             | inl (inl good) ↦ inl (judged_at l p.1.standings w.next i a.fair.stand good)
             | inl (inr n) ↦ inr n
             | inr none ↦ elim (stood i file) [
-              | inl s ↦ absurd (none s)
+              | inl s ↦ absurd (none.1 s)
               | inr gone ↦ absurd (dead l i x.name gone last)
             ]
           ];
       nobody = λ e i file. elim (stood i file) [
         | inl s ↦
             let same : s.s.name ≡ x.name = one_name l s.s.name x.name s.s.held.0 x.held.0 i (stand_files l p.1.standings w.next a.fair.stand s.s s.has) (open_later k l x.name x.held.0 g (files x has)) s.file (file_later k l x.held.0 i g file) in
-            absurd (h.answered.nobody e (subst (λ (v : List ℕ). Has (names_of p.1.standings) v) same (has_map (λ (v : Standing). v.name) p.1.standings s.s s.has)))
+            absurd (flat_nobody piece.flat e (subst (λ (v : List ℕ). Has (names_of p.1.standings) v) same (has_map (λ (v : Standing). v.name) p.1.standings s.s s.has)))
         | inr gone ↦ gone
       ];
     }

@@ -2,7 +2,6 @@
 use Rattle.std.proofs.Common.{◌≡◌, ℕ, Bool, true, false, List, [], ◌∷◌, ◌++◌, Option, Some, None, ◌⊎◌, inl, inr, refl, sym, ◌∙◌, ap, subst, append_assoc, append-nil}
 use Rattle.std.specs.Prelude.{if◌then◌else◌}
 use Rattle.ug_types.specs.Elements.{Has}
-use Rattle.ug_types.specs.Names.{parent_of}
 use Rattle.ug_types.specs.declared.verdict.Held.{Held}
 use Rattle.ug_types.specs.declared.verdict.Target.{Target}
 use Rattle.ug_types.specs.declared.verdict.Target.TheVariants as target
@@ -42,8 +41,8 @@ use Rattle.ug_table.specs.declared.standing.Settled.TheVariants as settled
 use Rattle.ug_types.proofs.Elements.{has_cases, has_left, has_right}
 use Rattle.ug_kernel.proofs.Ways.{failures_more}
 use Rattle.ug_node.proofs.BindShapes.{told, Came, Reads, No_more, Then_read, Stops, No_descriptors, Read_failed, Read_short, Binds_by, No_such, Open_failed, Open_short, Cut, Probed_gone, Probe_failed, Bound_by, way_binds, Holds_by, Not_there, Not_opened, No_memory, Held_on, Died, Unasked, way_holds}
-use Rattle.ug_table.proofs.Shapes.{Written, Done, Went, Broke, Valued, Same, Set, Unheld, Gone_by, Failed_by, Short_by, Removal, Not_held, Put_on, Carried, By_value, And_removal, Brought, Left_open, Let_go, Opening, Fresh, Lost, Unbound_end, Absent_so, Vanished_so, Failed_so, Short_so, Flat, Unprobed, Tried, Stopped, Unbound, No_place, Judged_so}
-use Rattle.ug_table.proofs.Told.{Each, NamesNone}
+use Rattle.ug_table.proofs.Shapes.{Written, Done, Went, Broke, Valued, Same, Set, Unheld, Gone_by, Failed_by, Short_by, Removal, Not_held, Put_on, Carried, By_value, And_removal, Brought, Left_open, Let_go, Opening, Fresh, Lost, Unbound_end, Absent_so, Vanished_so, Failed_so, Short_so, Flat, Unprobed, Tried, Stopped, Unbound, No_place, Judged_so, told_at}
+use Rattle.ug_table.proofs.Says.{Each, NamesNone}
 use Rattle.ug_table.proofs.OtherNames.{OthersStand, others_stand, without_stand, kept_stand, tried_stand}
 use Rattle.ug_table.proofs.Within.{flat_few}
 use Rattle.ug_table.proofs.OpenFiles.{files_join, reads_left, valued_left, carried_left, flat_leaves, flat_numbers}
@@ -112,7 +111,7 @@ reads_keep files b (Then_read of at t ms may came r) =
     (record { about = (may, h.0.about); ends = (inl refl, subst (λ v. EndsAtFailure v ms) (sym none) h.0.ends); due = (tt, h.0.due) }, (ap (λ v. v ++ failures ms) none ∙ h.1.0, h.1.1))
 
 abbrev binding_failures : Binding → List FailedCall
-binding_failures (bound.Failed call count) = record { call = call; count = count } ∷ []
+binding_failures (bound.Failed failed) = failed ∷ []
 binding_failures (bound.Bound b) = []
 binding_failures bound.Absent = []
 binding_failures bound.Vanished = []
@@ -141,7 +140,7 @@ binds_keep files b (Cut file call count ms of at t shut why r a few may stops e)
     (h.0, (h.1.0 ∙ stop_failures of file.0 shut stops ∙ ap binding_failures (sym e), h.1.1))
 binds_keep files b (Probed_gone file call count number total ms shut a few) = open_keeps files b file call count (answered (Ask_alive file.0) (told probe.Gone number total) ∷ answered (Close file.0) shut ∷ []) a (λ c. record { about = (inl refl, ((Authorized, inl refl), tt)); ends = (inl refl, (inr tt, tt)); due = (tt, (tt, tt)) })
 binds_keep files b (Probe_failed file call count number total ms shut a few) = open_keeps files b file call count (answered (Ask_alive file.0) (told probe.Failed number total) ∷ answered (Close file.0) shut ∷ []) a (λ c. record { about = (inl refl, ((Authorized, inl refl), tt)); ends = (inl refl, (inr tt, tt)); due = (tt, (tt, tt)) })
-binds_keep files b (Bound_by call count number total ms x a few) = open_keeps files b x.held call count (answered (Ask_alive x.held.0) (told (probe.Alive x.on) number total) ∷ []) a (λ c. record { about = (inl refl, tt); ends = (inl refl, tt); due = (tt, tt) })
+binds_keep files b (Bound_by call count number total ms x a few are) = open_keeps files b x.held call count (answered (Ask_alive x.held.0) (told (probe.Alive x.on) number total) ∷ []) a (λ c. record { about = (inl refl, tt); ends = (inl refl, tt); due = (tt, tt) })
 
 -- the device was found alive last, and its file is open
 record IsFound (files : List OpenFile) (b : Behind) (held : ℕ) (on : Bool) : Type 0 where
@@ -152,12 +151,12 @@ record IsFound (files : List OpenFile) (b : Behind) (held : ℕ) (on : Bool) : T
 
 stop_unbound : (why : Stop) (x : Bound) → bound.Bound x ≡ binding_of why → ⊥
 stop_unbound stop.Vanished x e = let none : ⊥ = cc in none
-stop_unbound (stop.Fault call count) x e = let none : ⊥ = cc in none
+stop_unbound (stop.Fault failed) x e = let none : ⊥ = cc in none
 stop_unbound stop.Memory x e = let none : ⊥ = cc in none
 
 bound_found : {name : List ℕ} {ms : List Made} {x : Bound} (files : List OpenFile) (b : Behind) → Binds_by name ms (bound.Bound x) → IsFound (files_after files ms) (behind_after b ms) x.held.0 x.on
 bound_found {x = x} files b (Cut file call count ms of at t shut why r a few may stops e) = absurd (stop_unbound why x e)
-bound_found {name} files b (Bound_by call count number total ms x a few) =
+bound_found {name} files b (Bound_by call count number total ms x a few are) =
     let start : Made = answered (Open name Authorized) (told (opened.Token x.held) call count) in
     let own : List OpenFile = open_file x.held.0 Authorized ∷ files in
     let end : Made = answered (Ask_alive x.held.0) (told (probe.Alive x.on) number total) in
@@ -183,12 +182,7 @@ last_more : (name : List ℕ) (es fs : List Entry) → Each NamesNone es → End
 last_more name [] fs n h = h
 last_more name (entry.Unsettled other why ∷ es) fs n h = absurd n.0
 last_more name (entry.UnsettledAll why ∷ es) fs n h = absurd n.0
-last_more name (entry.Event number moment ∷ es) fs n h = (tt, last_more name es fs n.1 h)
-last_more name (entry.Judged number m held verdict cause ∷ es) fs n h = (tt, last_more name es fs n.1 h)
-last_more name (entry.Intent number m what ∷ es) fs n h = (tt, last_more name es fs n.1 h)
-last_more name (entry.Wrote number m what outcome ∷ es) fs n h = (tt, last_more name es fs n.1 h)
-last_more name (entry.Gone number m ∷ es) fs n h = (tt, last_more name es fs n.1 h)
-last_more name (entry.End number ∷ es) fs n h = (tt, last_more name es fs n.1 h)
+last_more name (e ∷ es) fs n h = (tt, last_more name es fs n.1 h)
 
 tells_writes : (name : List ℕ) (ps qs : List PutMade) (xs ys : List Entry) → TellsWrites name ps xs → TellsWrites name qs ys → TellsWrites name (ps ++ qs) (xs ++ ys)
 tells_writes name [] qs xs ys a b = subst (λ v. TellsWrites name qs (v ++ ys)) (sym a) b
@@ -214,9 +208,9 @@ tells_calm name ms ns es c h = record {
 -- the writes
 
 written_tells : {name : List ℕ} {number : ℕ} {what : Write} {t : Told Wrote} {es : List Entry} {how : Settled} (held : ℕ) → Written name number what t es how → Tells name (answered (Put held what) t ∷ []) es
-written_tells {name} {number} held (Done call count) = record { told = refl; writes = (number, [], refl, refl); last = (tt, (tt, tt)); bears = (refl, (refl, tt)) }
-written_tells {name} {number} held (Went call count) = record { told = refl; writes = (number, [], refl, refl); last = (tt, (tt, (tt, tt))); bears = (refl, (refl, (refl, tt))) }
-written_tells {name} {number} held (Broke call count) = record { told = refl; writes = (number, [], refl, refl); last = (tt, (tt, ((refl, refl), tt))); bears = (refl, (refl, (refl, tt))) }
+written_tells {name} {number} held (Done failed) = record { told = refl; writes = (number, [], refl, refl); last = (tt, (tt, tt)); bears = (refl, (refl, tt)) }
+written_tells {name} {number} held (Went failed) = record { told = refl; writes = (number, [], refl, refl); last = (tt, (tt, (tt, tt))); bears = (refl, (refl, (refl, tt))) }
+written_tells {name} {number} held (Broke failed) = record { told = refl; writes = (number, [], refl, refl); last = (tt, (tt, ((refl, refl), tt))); bears = (refl, (refl, (refl, tt))) }
 
 value_due : (verdict : Target) (on : Bool) (held : ℕ) (t : Told Probe) (b : Behind) → b.last ≡ Some (answered (Ask_alive held) t) → t.answer ≡ probe.Alive on → (wants verdict ≡ on → ⊥) → IsWriteDue b held (write_of verdict)
 value_due target.Allow true held t b e alive ne = absurd (ne refl)
@@ -241,17 +235,17 @@ abbrev NoWant : List ℕ → List Entry → Type 0
 NoWant name es = Has es (entry.Unsettled name fault.Memory) → ⊥
 
 written_calm : {name : List ℕ} {number : ℕ} {what : Write} {t : Told Wrote} {es : List Entry} {how : Settled} → Written name number what t es how → NoWant name es
-written_calm (Done call count) (inl e) = let none : ⊥ = cc in none
-written_calm (Done call count) (inr (inl e)) = let none : ⊥ = cc in none
-written_calm (Done call count) (inr (inr n)) = n
-written_calm (Went call count) (inl e) = let none : ⊥ = cc in none
-written_calm (Went call count) (inr (inl e)) = let none : ⊥ = cc in none
-written_calm (Went call count) (inr (inr (inl e))) = let none : ⊥ = cc in none
-written_calm (Went call count) (inr (inr (inr n))) = n
-written_calm (Broke call count) (inl e) = let none : ⊥ = cc in none
-written_calm (Broke call count) (inr (inl e)) = let none : ⊥ = cc in none
-written_calm (Broke call count) (inr (inr (inl e))) = let none : ⊥ = cc in none
-written_calm (Broke call count) (inr (inr (inr n))) = n
+written_calm (Done failed) (inl e) = let none : ⊥ = cc in none
+written_calm (Done failed) (inr (inl e)) = let none : ⊥ = cc in none
+written_calm (Done failed) (inr (inr n)) = n
+written_calm (Went failed) (inl e) = let none : ⊥ = cc in none
+written_calm (Went failed) (inr (inl e)) = let none : ⊥ = cc in none
+written_calm (Went failed) (inr (inr (inl e))) = let none : ⊥ = cc in none
+written_calm (Went failed) (inr (inr (inr n))) = n
+written_calm (Broke failed) (inl e) = let none : ⊥ = cc in none
+written_calm (Broke failed) (inr (inl e)) = let none : ⊥ = cc in none
+written_calm (Broke failed) (inr (inr (inl e))) = let none : ⊥ = cc in none
+written_calm (Broke failed) (inr (inr (inr n))) = n
 
 -- the value's writes: none, or one that is no removal
 abbrev AreValue : List PutMade → Type 0
@@ -282,9 +276,9 @@ record ValueGoes (name : List ℕ) (files : List OpenFile) (b : Behind) (ms : Li
   stands : how ≡ settled.Stands → (failures ms ≡ []) × Each NamesNone es
 
 written_stands : {name : List ℕ} {number : ℕ} {what : Write} {t : Told Wrote} {es : List Entry} {how : Settled} (held : ℕ) → Written name number what t es how → how ≡ settled.Stands → (failures (answered (Put held what) t ∷ []) ≡ []) × Each NamesNone es
-written_stands held (Done call count) e = (refl, (tt, (tt, tt)))
-written_stands held (Went call count) e = let none : ⊥ = cc in absurd none
-written_stands held (Broke call count) e = let none : ⊥ = cc in absurd none
+written_stands held (Done failed) e = (refl, (tt, (tt, tt)))
+written_stands held (Went failed) e = let none : ⊥ = cc in absurd none
+written_stands held (Broke failed) e = let none : ⊥ = cc in absurd none
 
 value_goes : {name : List ℕ} {known : Known} {on : Bool} {ms : List Made} {es : List Entry} {how : Settled} (files : List OpenFile) (b : Behind) → IsFound files b known.held.0 on → Valued name known on ms es how → ValueGoes name files b ms es how
 value_goes files b f (Same e) = record { keeps = record { about = tt; ends = tt; due = tt }; tells = record { told = refl; writes = refl; last = tt; bears = tt }; single = inl refl; calm = λ a. a; stands = λ s. (refl, tt) }
@@ -301,7 +295,7 @@ value_goes {known = known} {on = on} files b f (Set t es how ne w) = record {
 abbrev hold_failures : RemoveHold → List FailedCall
 hold_failures (hold.Ready file) = []
 hold_failures hold.Gone = []
-hold_failures (hold.Failed call count) = record { call = call; count = count } ∷ []
+hold_failures (hold.Failed failed) = failed ∷ []
 hold_failures hold.Memory = []
 
 holds_keep : {name : List ℕ} {held : ℕ} {ms : List Made} {r : RemoveHold} (files : List OpenFile) (b : Behind) → Has files (open_file held Authorized) → Holds_by name held ms r → Keeps name files b ms × ((failures ms ≡ hold_failures r) × (puts_of ms ≡ []))
@@ -317,7 +311,7 @@ ready_found {name} {held} files b (Held_on file on call count number total) = (i
 
 unheld_tells : {name : List ℕ} {number : ℕ} {r : RemoveHold} {es : List Entry} {how : Settled} (ms : List Made) → failures ms ≡ hold_failures r → puts_of ms ≡ [] → Unheld name number r es how → Tells name ms es
 unheld_tells {name} ms f p Gone_by = record { told = sym f; writes = subst (λ v. TellsWrites name v []) (sym p) refl; last = (tt, tt); bears = (refl, tt) }
-unheld_tells {name} ms f p (Failed_by call count) = record { told = sym f; writes = subst (λ v. TellsWrites name v []) (sym p) refl; last = ((refl, refl), tt); bears = (refl, tt) }
+unheld_tells {name} ms f p (Failed_by failed) = record { told = sym f; writes = subst (λ v. TellsWrites name v []) (sym p) refl; last = ((refl, refl), tt); bears = (refl, tt) }
 unheld_tells {name} ms f p Short_by = record { told = sym f; writes = subst (λ v. TellsWrites name v []) (sym p) refl; last = ((refl, refl), tt); bears = (refl, tt) }
 
 -- an opening that was short of memory is among the calls
@@ -330,8 +324,8 @@ hold_short {name} (No_memory call count) = (name, told opened.Memory call count,
 unheld_short : {name : List ℕ} {held number : ℕ} {ms : List Made} {r : RemoveHold} {es : List Entry} {how : Settled} → Holds_by name held ms r → Unheld name number r es how → Has es (entry.Unsettled name fault.Memory) → IsShort ms
 unheld_short h Gone_by (inl e) = let none : ⊥ = cc in absurd none
 unheld_short h Gone_by (inr n) = absurd n
-unheld_short h (Failed_by call count) (inl e) = let none : ⊥ = cc in absurd none
-unheld_short h (Failed_by call count) (inr n) = absurd n
+unheld_short h (Failed_by failed) (inl e) = let none : ⊥ = cc in absurd none
+unheld_short h (Failed_by failed) (inr n) = absurd n
 unheld_short h Short_by a = hold_short h
 
 record RemovalGoes (name : List ℕ) (files : List OpenFile) (b : Behind) (ms : List Made) (es : List Entry) : Type 0 where
@@ -414,17 +408,17 @@ record OpeningGoes (name : List ℕ) (o : Option Known) (b : Behind) (ms : List 
 
 opening_goes : {name : List ℕ} {ss : List Standing} {ms : List Made} {es : List Entry} {rs : List Standing} (b : Behind) → Opening name ss ms es rs → OpeningGoes name (standing_of name ss) b ms es
 opening_goes {name} {ss} b (Fresh e) = record { keeps = record { about = tt; ends = tt; due = tt }; calm = (refl, refl); tells = record { told = refl; writes = refl; last = tt; bears = tt }; none = tt; anew = λ ns. inl e }
-opening_goes {name} {ss} b (Lost known call count shut e) =
-    let m : Made = answered (Ask_alive known.held.0) (told probe.Gone call count) in
+opening_goes {name} {ss} b (Lost known failed shut e) =
+    let m : Made = answered (Ask_alive known.held.0) (told_at probe.Gone failed) in
     let n : Made = answered (Close known.held.0) shut in
     let g : Entry = entry.Gone known.number name in
     subst (λ o. OpeningGoes name o b (m ∷ n ∷ []) (g ∷ [])) (sym e)
-    (record { keeps = record { about = (inl refl, ((Authorized, inl refl), tt)); ends = (inl refl, (inl refl, tt)); due = (tt, (tt, tt)) }; calm = (refl, refl); tells = record { told = refl; writes = refl; last = (tt, tt); bears = (refl, tt) }; none = (tt, tt); anew = λ ns. inr (m, n ∷ ns, refl, (known, told probe.Gone call count, refl, refl, refl)) })
+    (record { keeps = record { about = (inl refl, ((Authorized, inl refl), tt)); ends = (inl refl, (inl refl, tt)); due = (tt, (tt, tt)) }; calm = (refl, refl); tells = record { told = refl; writes = refl; last = (tt, tt); bears = (refl, tt) }; none = (tt, tt); anew = λ ns. inr (m, n ∷ ns, refl, (known, told_at probe.Gone failed, refl, refl, refl)) })
 
 unbound_tells : {name : List ℕ} {r : Binding} {es : List Entry} {how : Settled} (ms : List Made) → failures ms ≡ binding_failures r → puts_of ms ≡ [] → Unbound_end name r es how → Tells name ms es
 unbound_tells {name} ms f p Absent_so = record { told = sym f; writes = subst (λ v. TellsWrites name v []) (sym p) refl; last = tt; bears = tt }
 unbound_tells {name} ms f p Vanished_so = record { told = sym f; writes = subst (λ v. TellsWrites name v []) (sym p) refl; last = tt; bears = tt }
-unbound_tells {name} ms f p (Failed_so call count) = record { told = sym f; writes = subst (λ v. TellsWrites name v []) (sym p) refl; last = ((refl, refl), tt); bears = (refl, tt) }
+unbound_tells {name} ms f p (Failed_so failed) = record { told = sym f; writes = subst (λ v. TellsWrites name v []) (sym p) refl; last = ((refl, refl), tt); bears = (refl, tt) }
 unbound_tells {name} ms f p Short_so = record { told = sym f; writes = subst (λ v. TellsWrites name v []) (sym p) refl; last = ((refl, refl), tt); bears = (refl, tt) }
 
 -- all that a part says of its calls and entries
@@ -438,11 +432,11 @@ no_puts : (ps : List PutMade) → ps ≡ [] → AtMostOneEach ps
 no_puts ps e = subst (λ v. AtMostOneEach v) (sym e) tt
 
 flat_goes : {binds : Bool} {given : List Standing → Bound → Standing → Type 0} {name : List ℕ} {ss : List Standing} {ok : Bool} {ms : List Made} {rest : List Entry} {how : Settled} {rs : List Standing} {o : Option (List Standing × Bound)} → Flat binds given name ss ok ms rest how rs o → FlatGoes name (standing_of name ss) ms rest
-flat_goes {name = name} (Unprobed known call count at) =
-    subst (λ o. FlatGoes name o (answered (Ask_alive known.held.0) (told probe.Failed call count) ∷ []) (entry.Unsettled name (fault.Call call count) ∷ [])) (sym at)
+flat_goes {name = name} (Unprobed known failed at) =
+    subst (λ o. FlatGoes name o (answered (Ask_alive known.held.0) (told_at probe.Failed failed) ∷ []) (entry.Unsettled name (fault.Call failed) ∷ [])) (sym at)
     (record { keeps = record { about = (inl refl, tt); ends = (inl refl, tt); due = (tt, tt) }; tells = record { told = refl; writes = refl; last = ((refl, refl), tt); bears = (refl, tt) }; single = tt; memory = λ a. elim a [ inl e ↦ let none : ⊥ = cc in absurd none | inr n ↦ absurd n ] })
-flat_goes {name = name} (Tried known on call count ms es how at brought) =
-    let t : Told Probe = told (probe.Alive on) call count in
+flat_goes {name = name} (Tried known on failed ms es how at brought) =
+    let t : Told Probe = told_at (probe.Alive on) failed in
     let m : Made = answered (Ask_alive known.held.0) t in
     let h = brought_goes (open_file known.held.0 Authorized ∷ []) (record { last = Some m; earlier = None }) (record { t = t; has = inl refl; last = refl; alive = refl }) brought in
     subst (λ o. FlatGoes name o (m ∷ ms) es) (sym at)
@@ -504,11 +498,11 @@ flat_goes {name = name} {ss = ss} (Judged_so ms ns os es fs rs v x how t opening
 
 opening_others : {name : List ℕ} {ss : List Standing} {ms : List Made} {es : List Entry} {rs : List Standing} → Opening name ss ms es rs → OthersStand name ss rs
 opening_others {name} {ss} (Fresh e) = others_stand name ss
-opening_others {name} {ss} (Lost known call count shut e) = λ other n. without_stand name other ss n
+opening_others {name} {ss} (Lost known failed shut e) = λ other n. without_stand name other ss n
 
 flat_others : {binds : Bool} {given : List Standing → Bound → Standing → Type 0} {name : List ℕ} {ss : List Standing} {ok : Bool} {ms : List Made} {rest : List Entry} {how : Settled} {rs : List Standing} {o : Option (List Standing × Bound)} → Flat binds given name ss ok ms rest how rs o → OthersStand name ss rs
-flat_others {name = name} {ss = ss} (Unprobed known call count at) = tried_stand name ss (settled.Fault call count)
-flat_others {name = name} {ss = ss} (Tried known on call count ms es how at b) = tried_stand name ss how
+flat_others {name = name} {ss = ss} (Unprobed known failed at) = tried_stand name ss (settled.Fault failed)
+flat_others {name = name} {ss = ss} (Tried known on failed ms es how at b) = tried_stand name ss how
 flat_others (Stopped ms es rs f opening) = opening_others opening
 flat_others (Unbound ms ns es fs rs r how t opening way end) = opening_others opening
 flat_others (No_place ms ns es rs b shut t opening way) = opening_others opening

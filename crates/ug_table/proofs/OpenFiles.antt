@@ -1,5 +1,5 @@
 -- The files that a part leaves open, and the numbers that its entries bear.
-use Rattle.std.proofs.Common.{◌≡◌, ℕ, nat_eq, Bool, true, false, cond, List, [], ◌∷◌, ◌++◌, Option, Some, None, refl, sym, ◌∙◌, ap, subst, arith}
+use Rattle.std.proofs.Common.{◌≡◌, ℕ, nat_eq, Bool, true, cond, List, [], ◌∷◌, ◌++◌, Option, Some, None, refl, sym, ◌∙◌, ap, subst, arith}
 use Rattle.ug_types.specs.declared.verdict.Held.{Held}
 use Rattle.ug_types.specs.declared.control.Control.{Control}
 use Rattle.ug_types.specs.declared.control.Control.TheVariants.{Authorized, Remove}
@@ -7,7 +7,7 @@ use Rattle.ug_kernel.specs.declared.calls.Probe.TheVariants as probe
 use Rattle.ug_types.specs.declared.control.Write.{Write}
 use Rattle.ug_types.specs.declared.control.Write.TheVariants as write
 use Rattle.ug_kernel.specs.declared.calls.Wrote.{Wrote}
-use Rattle.ug_kernel.specs.Calls.{Open, Read, Ask_alive, Put, Close, Told}
+use Rattle.ug_kernel.specs.Calls.{Ask_alive, Put, Close, Told}
 use Rattle.ug_kernel.specs.Along.{Made, answered}
 use Rattle.ug_node.specs.Bind.{binding_of}
 use Rattle.ug_node.specs.Removal.{holding_remove}
@@ -21,7 +21,7 @@ use Rattle.ug_node.specs.declared.removal.RemoveHold.TheVariants as hold
 use Rattle.ug_audit.specs.declared.entry.Entry.{Entry}
 use Rattle.ug_audit.specs.declared.entry.Entry.TheVariants as entry
 use Rattle.ug_audit.specs.declared.entry.Fault.TheVariants as fault
-use Rattle.ug_table.specs.Standings.{known_of, standing_of}
+use Rattle.ug_table.specs.Standings.{standing_of}
 use Rattle.ug_table.specs.Settle.{kept_standings, tried_standings}
 use Rattle.ug_table.specs.Parts.{OpenFile, open_file, close_file, files_left, files_after, known_files, number_of, AreOfNumber}
 use Rattle.ug_table.specs.declared.standing.Standing.{Standing}
@@ -29,8 +29,8 @@ use Rattle.ug_table.specs.declared.standing.Known.{Known}
 use Rattle.ug_table.specs.declared.standing.Settled.{Settled}
 use Rattle.ug_table.specs.declared.standing.Settled.TheVariants as settled
 use Rattle.ug_kernel.proofs.Ways.{Way}
-use Rattle.ug_node.proofs.BindShapes.{told, Reads, No_more, Then_read, Binds_by, No_such, Open_failed, Open_short, Cut, Probed_gone, Probe_failed, Bound_by, way_binds, Holds_by, Not_there, Not_opened, No_memory, Held_on, Died, Unasked, way_holds}
-use Rattle.ug_table.proofs.Shapes.{Written, Done, Went, Broke, Valued, Same, Set, Unheld, Gone_by, Failed_by, Short_by, Removal, Not_held, Put_on, Carried, By_value, And_removal, Brought, Left_open, Let_go, Opening, Fresh, Lost, Unbound_end, Absent_so, Vanished_so, Failed_so, Short_so, Flat, Unprobed, Tried, Stopped, Unbound, No_place, Judged_so}
+use Rattle.ug_node.proofs.BindShapes.{Reads, No_more, Then_read, Binds_by, No_such, Open_failed, Open_short, Cut, Probed_gone, Probe_failed, Bound_by, way_binds, Holds_by, Not_there, Not_opened, No_memory, Held_on, Died, Unasked, way_holds}
+use Rattle.ug_table.proofs.Shapes.{Written, Done, Went, Broke, Valued, Same, Set, Unheld, Gone_by, Failed_by, Short_by, Removal, Not_held, Put_on, Carried, By_value, And_removal, Brought, Left_open, Let_go, Opening, Fresh, Lost, Unbound_end, Absent_so, Vanished_so, Failed_so, Short_so, Flat, Unprobed, Tried, Stopped, Unbound, No_place, Judged_so, told_at}
 use Rattle.ug_table.proofs.OwnStanding.{stands_file, stands_number, without_own, tried_own, kept_own}
 
 -- files
@@ -59,12 +59,12 @@ abbrev binding_files : Binding → List OpenFile → List OpenFile
 binding_files (bound.Bound b) files = open_file b.held.0 Authorized ∷ files
 binding_files bound.Absent files = files
 binding_files bound.Vanished files = files
-binding_files (bound.Failed call count) files = files
+binding_files (bound.Failed failed) files = files
 binding_files bound.Memory files = files
 
 stop_files : (why : Stop) (files : List OpenFile) → files ≡ binding_files (binding_of why) files
 stop_files stop.Vanished files = refl
-stop_files (stop.Fault call count) files = refl
+stop_files (stop.Fault failed) files = refl
 stop_files stop.Memory files = refl
 
 pub binds_left : {name : List ℕ} {ms : List Made} {r : Binding} (files : List OpenFile) → Binds_by name ms r → files_after files ms ≡ binding_files r files
@@ -74,13 +74,13 @@ binds_left files (Open_short call count) = refl
 binds_left files (Cut file call count ms of at t shut why r a few may stops e) = open_left (open_file file.0 Authorized ∷ files) _ a ∙ closed_first file.0 Authorized files ∙ stop_files why files ∙ ap (λ (v : Binding). binding_files v files) (sym e)
 binds_left files (Probed_gone file call count number total ms shut a few) = open_left (open_file file.0 Authorized ∷ files) _ a ∙ closed_first file.0 Authorized files
 binds_left files (Probe_failed file call count number total ms shut a few) = open_left (open_file file.0 Authorized ∷ files) _ a ∙ closed_first file.0 Authorized files
-binds_left files (Bound_by call count number total ms b a few) = open_left (open_file b.held.0 Authorized ∷ files) _ a
+binds_left files (Bound_by call count number total ms b a few are) = open_left (open_file b.held.0 Authorized ∷ files) _ a
 
 -- the opening of a `remove` file holds it where it is ready
 abbrev hold_files : RemoveHold → List OpenFile → List OpenFile
 hold_files (hold.Ready file) files = open_file file.0 Remove ∷ files
 hold_files hold.Gone files = files
-hold_files (hold.Failed call count) files = files
+hold_files (hold.Failed failed) files = files
 hold_files hold.Memory files = files
 
 holds_left : {name : List ℕ} {held : ℕ} {ms : List Made} {r : RemoveHold} (files : List OpenFile) → Holds_by name held ms r → files_after files ms ≡ hold_files r files
@@ -100,7 +100,7 @@ valued_left files (Set t es how e w) = refl
 
 removal_left : {name : List ℕ} {known : Known} {ms : List Made} {es : List Entry} {how : Settled} (files : List OpenFile) → Removal name known ms es how → files_after files ms ≡ files
 removal_left {name} {known} files (Not_held ms r es how way Gone_by) = way_left name known.held.0 ms hold.Gone files way
-removal_left {name} {known} files (Not_held ms r es how way (Failed_by call count)) = way_left name known.held.0 ms (hold.Failed call count) files way
+removal_left {name} {known} files (Not_held ms r es how way (Failed_by failed)) = way_left name known.held.0 ms (hold.Failed failed) files way
 removal_left {name} {known} files (Not_held ms r es how way Short_by) = way_left name known.held.0 ms hold.Memory files way
 removal_left {name} {known} files (Put_on ms file t shut es how way w) =
     let ns : List Made = answered (Put file.0 write.Remove) t ∷ answered (Close file.0) shut ∷ [] in
@@ -114,13 +114,13 @@ carried_left files (And_removal ms ns es fs how go v r) = files_join files ms ns
 abbrev ended_files : Settled → ℕ → List OpenFile
 ended_files settled.Nobody held = []
 ended_files settled.Stands held = open_file held Authorized ∷ []
-ended_files (settled.Fault call count) held = open_file held Authorized ∷ []
+ended_files (settled.Fault failed) held = open_file held Authorized ∷ []
 ended_files settled.Memory held = open_file held Authorized ∷ []
 
 still_open : (how : Settled) (held : ℕ) → (how ≡ settled.Nobody → ⊥) → open_file held Authorized ∷ [] ≡ ended_files how held
 still_open settled.Nobody held n = absurd (n refl)
 still_open settled.Stands held n = refl
-still_open (settled.Fault call count) held n = refl
+still_open (settled.Fault failed) held n = refl
 still_open settled.Memory held n = refl
 
 brought_left : {name : List ℕ} {known : Known} {on : Bool} {ms : List Made} {es : List Entry} {how : Settled} → Brought name known on ms es how → files_after (open_file known.held.0 Authorized ∷ []) ms ≡ ended_files how known.held.0
@@ -137,27 +137,27 @@ record NoneOpen (name : List ℕ) (ss : List Standing) (ms : List Made) (rs : Li
 
 opening_left : {name : List ℕ} {ss : List Standing} {ms : List Made} {es : List Entry} {rs : List Standing} → Opening name ss ms es rs → NoneOpen name ss ms rs
 opening_left (Fresh e) = record { files = ap known_files e; none = e }
-opening_left {name} {ss} (Lost known call count shut e) = record {
-  files = ap (λ (o : Option Known). files_after (known_files o) (answered (Ask_alive known.held.0) (told probe.Gone call count) ∷ answered (Close known.held.0) shut ∷ [])) e ∙ closed_first known.held.0 Authorized [];
+opening_left {name} {ss} (Lost known failed shut e) = record {
+  files = ap (λ (o : Option Known). files_after (known_files o) (answered (Ask_alive known.held.0) (told_at probe.Gone failed) ∷ answered (Close known.held.0) shut ∷ [])) e ∙ closed_first known.held.0 Authorized [];
   none = without_own name ss;
 }
 
 tried_files : (name : List ℕ) (ss : List Standing) (how : Settled) (known : Known) → standing_of name ss ≡ Some known → ended_files how known.held.0 ≡ known_files (standing_of name (tried_standings ss name how))
 tried_files name ss settled.Nobody known e = sym (ap known_files (without_own name ss))
 tried_files name ss settled.Stands known e = sym (stands_file _ known.number known.held (tried_own name ss settled.Stands known e (λ s. let none : ⊥ = cc in none)))
-tried_files name ss (settled.Fault call count) known e = sym (stands_file _ known.number known.held (tried_own name ss (settled.Fault call count) known e (λ s. let none : ⊥ = cc in none)))
+tried_files name ss (settled.Fault failed) known e = sym (stands_file _ known.number known.held (tried_own name ss (settled.Fault failed) known e (λ s. let none : ⊥ = cc in none)))
 tried_files name ss settled.Memory known e = sym (stands_file _ known.number known.held (tried_own name ss settled.Memory known e (λ s. let none : ⊥ = cc in none)))
 
 kept_files : (name : List ℕ) (ss : List Standing) (x : Standing) (how : Settled) → x.name ≡ name → standing_of name ss ≡ None → ended_files how x.held.0 ≡ known_files (standing_of name (kept_standings ss x how))
 kept_files name ss x settled.Nobody e n = sym (ap known_files n)
 kept_files name ss x settled.Stands e n = sym (stands_file _ x.number x.held (kept_own name ss x settled.Stands e n (λ s. let none : ⊥ = cc in none)))
-kept_files name ss x (settled.Fault call count) e n = sym (stands_file _ x.number x.held (kept_own name ss x (settled.Fault call count) e n (λ s. let none : ⊥ = cc in none)))
+kept_files name ss x (settled.Fault failed) e n = sym (stands_file _ x.number x.held (kept_own name ss x (settled.Fault failed) e n (λ s. let none : ⊥ = cc in none)))
 kept_files name ss x settled.Memory e n = sym (stands_file _ x.number x.held (kept_own name ss x settled.Memory e n (λ s. let none : ⊥ = cc in none)))
 
 unbound_files : {name : List ℕ} {r : Binding} {es : List Entry} {how : Settled} → Unbound_end name r es how → binding_files r [] ≡ []
 unbound_files Absent_so = refl
 unbound_files Vanished_so = refl
-unbound_files (Failed_so call count) = refl
+unbound_files (Failed_so failed) = refl
 unbound_files Short_so = refl
 
 -- behind an opening
@@ -165,8 +165,8 @@ after_opening : {name : List ℕ} {ss : List Standing} {ms : List Made} {rs : Li
 after_opening {name} {ss} {ms} ns h = files_join (known_files (standing_of name ss)) ms ns ∙ ap (λ (v : List OpenFile). files_after v ns) h.files
 
 pub flat_leaves : {binds : Bool} {given : List Standing → Bound → Standing → Type 0} {name : List ℕ} {ss : List Standing} {ok : Bool} {ms : List Made} {rest : List Entry} {how : Settled} {rs : List Standing} {o : Option (List Standing × Bound)} → Flat binds given name ss ok ms rest how rs o → files_after (known_files (standing_of name ss)) ms ≡ known_files (standing_of name rs)
-flat_leaves {name = name} {ss = ss} (Unprobed known call count at) = ap known_files at ∙ tried_files name ss (settled.Fault call count) known at
-flat_leaves {name = name} {ss = ss} (Tried known on call count ms es how at b) = ap (λ (o : Option Known). files_after (known_files o) ms) at ∙ brought_left b ∙ tried_files name ss how known at
+flat_leaves {name = name} {ss = ss} (Unprobed known failed at) = ap known_files at ∙ tried_files name ss (settled.Fault failed) known at
+flat_leaves {name = name} {ss = ss} (Tried known on failed ms es how at b) = ap (λ (o : Option Known). files_after (known_files o) ms) at ∙ brought_left b ∙ tried_files name ss how known at
 flat_leaves (Stopped ms es rs f opening) = let h = opening_left opening in h.files ∙ sym (ap known_files h.none)
 flat_leaves {name = name} (Unbound ms ns es fs rs r how t opening way end) =
     let h = opening_left opening in
@@ -197,13 +197,13 @@ numbers_more a b c (entry.End number ∷ es) fs h k = numbers_more a b c es fs h
 abbrev ended_number : Settled → ℕ → Option ℕ
 ended_number settled.Nobody number = None
 ended_number settled.Stands number = Some number
-ended_number (settled.Fault call count) number = Some number
+ended_number (settled.Fault failed) number = Some number
 ended_number settled.Memory number = Some number
 
 written_numbers : {name : List ℕ} {number : ℕ} {what : Write} {t : Told Wrote} {es : List Entry} {how : Settled} → Written name number what t es how → AreOfNumber (Some number) es (ended_number how number)
-written_numbers (Done call count) = (refl, (refl, refl))
-written_numbers (Went call count) = (refl, (refl, (refl, refl)))
-written_numbers (Broke call count) = (refl, (refl, refl))
+written_numbers (Done failed) = (refl, (refl, refl))
+written_numbers (Went failed) = (refl, (refl, (refl, refl)))
+written_numbers (Broke failed) = (refl, (refl, refl))
 
 valued_numbers : {name : List ℕ} {known : Known} {on : Bool} {ms : List Made} {es : List Entry} {how : Settled} → Valued name known on ms es how → AreOfNumber (Some known.number) es (ended_number how known.number)
 valued_numbers (Same e) = refl
@@ -211,7 +211,7 @@ valued_numbers (Set t es how e w) = written_numbers w
 
 unheld_numbers : {name : List ℕ} {number : ℕ} {r : RemoveHold} {es : List Entry} {how : Settled} → Unheld name number r es how → AreOfNumber (Some number) es (ended_number how number)
 unheld_numbers Gone_by = (refl, refl)
-unheld_numbers (Failed_by call count) = refl
+unheld_numbers (Failed_by failed) = refl
 unheld_numbers Short_by = refl
 
 removal_numbers : {name : List ℕ} {known : Known} {ms : List Made} {es : List Entry} {how : Settled} → Removal name known ms es how → AreOfNumber (Some known.number) es (ended_number how known.number)
@@ -228,29 +228,29 @@ brought_numbers (Let_go ms es shut c) = carried_numbers c
 
 opening_numbers : {name : List ℕ} {ss : List Standing} {ms : List Made} {es : List Entry} {rs : List Standing} → Opening name ss ms es rs → AreOfNumber (number_of (standing_of name ss)) es None
 opening_numbers (Fresh e) = sym (ap number_of e)
-opening_numbers (Lost known call count shut e) = (ap number_of e, refl)
+opening_numbers (Lost known failed shut e) = (ap number_of e, refl)
 
 tried_number : (name : List ℕ) (ss : List Standing) (how : Settled) (known : Known) → standing_of name ss ≡ Some known → ended_number how known.number ≡ number_of (standing_of name (tried_standings ss name how))
 tried_number name ss settled.Nobody known e = sym (ap number_of (without_own name ss))
 tried_number name ss settled.Stands known e = sym (stands_number _ known.number known.held (tried_own name ss settled.Stands known e (λ s. let none : ⊥ = cc in none)))
-tried_number name ss (settled.Fault call count) known e = sym (stands_number _ known.number known.held (tried_own name ss (settled.Fault call count) known e (λ s. let none : ⊥ = cc in none)))
+tried_number name ss (settled.Fault failed) known e = sym (stands_number _ known.number known.held (tried_own name ss (settled.Fault failed) known e (λ s. let none : ⊥ = cc in none)))
 tried_number name ss settled.Memory known e = sym (stands_number _ known.number known.held (tried_own name ss settled.Memory known e (λ s. let none : ⊥ = cc in none)))
 
 kept_number : (name : List ℕ) (ss : List Standing) (x : Standing) (how : Settled) → x.name ≡ name → standing_of name ss ≡ None → ended_number how x.number ≡ number_of (standing_of name (kept_standings ss x how))
 kept_number name ss x settled.Nobody e n = sym (ap number_of n)
 kept_number name ss x settled.Stands e n = sym (stands_number _ x.number x.held (kept_own name ss x settled.Stands e n (λ s. let none : ⊥ = cc in none)))
-kept_number name ss x (settled.Fault call count) e n = sym (stands_number _ x.number x.held (kept_own name ss x (settled.Fault call count) e n (λ s. let none : ⊥ = cc in none)))
+kept_number name ss x (settled.Fault failed) e n = sym (stands_number _ x.number x.held (kept_own name ss x (settled.Fault failed) e n (λ s. let none : ⊥ = cc in none)))
 kept_number name ss x settled.Memory e n = sym (stands_number _ x.number x.held (kept_own name ss x settled.Memory e n (λ s. let none : ⊥ = cc in none)))
 
 unbound_numbers : {name : List ℕ} {r : Binding} {es : List Entry} {how : Settled} → Unbound_end name r es how → AreOfNumber None es None
 unbound_numbers Absent_so = refl
 unbound_numbers Vanished_so = refl
-unbound_numbers (Failed_so call count) = refl
+unbound_numbers (Failed_so failed) = refl
 unbound_numbers Short_so = refl
 
 pub flat_numbers : {binds : Bool} {given : List Standing → Bound → Standing → Type 0} {name : List ℕ} {ss : List Standing} {ok : Bool} {ms : List Made} {rest : List Entry} {how : Settled} {rs : List Standing} {o : Option (List Standing × Bound)} → Flat binds given name ss ok ms rest how rs o → AreOfNumber (number_of (standing_of name ss)) rest (number_of (standing_of name rs))
-flat_numbers {name = name} {ss = ss} (Unprobed known call count at) = sym (tried_number name ss (settled.Fault call count) known at) ∙ sym (ap number_of at)
-flat_numbers {name = name} {ss = ss} (Tried known on call count ms es how at b) =
+flat_numbers {name = name} {ss = ss} (Unprobed known failed at) = sym (tried_number name ss (settled.Fault failed) known at) ∙ sym (ap number_of at)
+flat_numbers {name = name} {ss = ss} (Tried known on failed ms es how at b) =
     subst (λ (v : Option ℕ). AreOfNumber v es (number_of (standing_of name (tried_standings ss name how)))) (sym (ap number_of at))
     (subst (λ (v : Option ℕ). AreOfNumber (Some known.number) es v) (tried_number name ss how known at) (brought_numbers b))
 flat_numbers {name = name} {ss = ss} (Stopped ms es rs f opening) = subst (λ (v : Option ℕ). AreOfNumber (number_of (standing_of name ss)) es v) (sym (ap number_of (opening_left opening).none)) (opening_numbers opening)

@@ -1,7 +1,8 @@
 -- What settling a name leaves of the standings of others.
-use Rattle.std.proofs.Common.{◌≡◌, ℕ, Bool, true, false, not, ◌&&◌, ◌||◌, List, [], ◌∷◌, ◌++◌, Option, Some, map, cond, take, drop, refl, sym, ◌∙◌, ap}
+use Rattle.std.proofs.Common.{◌≡◌, ℕ, Bool, true, false, not, ◌&&◌, ◌||◌, List, [], ◌∷◌, ◌++◌, Option, Some, map, cond, take, drop, refl, sym, ◌∙◌, ap, true≢false}
+use Rattle.std.specs.List.{filter}
 use Rattle.std.proofs.lemmas.List.{take-append-drop}
-use Rattle.ug_table.specs.Standings.{same_name, known_of, standing_of, without, marked, place_for, with_standing, removed_of, settled_standing}
+use Rattle.ug_table.specs.Standings.{same_name, known_of, standing_of, without, marked, place_for, with_standing, removed_of, settled_standing, lists}
 use Rattle.ug_table.specs.Settle.{kept_standings, tried_standings}
 use Rattle.ug_table.specs.declared.standing.Standing.{Standing}
 use Rattle.ug_table.specs.declared.standing.Known.{Known}
@@ -46,6 +47,15 @@ pub without_stand : (name other : List ℕ) (ss : List Standing) → (other ≡ 
 without_stand name other [] n = refl
 without_stand name other (s ∷ ss) n = without_by name other s ss (same_name s.name name) refl n (without_stand name other ss n)
 
+-- the standings of the names that are listed
+listed_by : (names : List (List ℕ)) (name : List ℕ) (s : Standing) (ss rs : List Standing) (b : Bool) → lists names s.name ≡ b → lists names name ≡ true → standing_of name rs ≡ standing_of name ss → standing_of name (cond b (s ∷ rs) rs) ≡ standing_of name (s ∷ ss)
+listed_by names name s ss rs true e has h = ap (λ (v : Option Known). cond (same_name s.name name) (Some (known_of s)) v) h
+listed_by names name s ss rs false e has h = h ∙ sym (passed name s ss (other_test s.name name (λ f. true≢false (sym has ∙ sym (ap (λ (v : List ℕ). lists names v) f) ∙ e))))
+
+pub listed_stand : (names : List (List ℕ)) (name : List ℕ) (ss : List Standing) → lists names name ≡ true → standing_of name (filter (λ s. lists names s.name) ss) ≡ standing_of name ss
+listed_stand names name [] has = refl
+listed_stand names name (s ∷ ss) has = listed_by names name s ss (filter (λ (v : Standing). lists names v.name) ss) (lists names s.name) refl has (listed_stand names name ss has)
+
 between_stand : (other : List ℕ) (x : Standing) (ss rs : List Standing) → same_name x.name other ≡ false → standing_of other (ss ++ x ∷ rs) ≡ standing_of other (ss ++ rs)
 between_stand other x [] rs e = passed other x rs e
 between_stand other x (s ∷ ss) rs e = ap (λ (v : Option Known). cond (same_name s.name other) (Some (known_of s)) v) (between_stand other x ss rs e)
@@ -58,11 +68,11 @@ with_stand other x ss e =
 pub kept_stand : (name : List ℕ) (ss : List Standing) (x : Standing) (how : Settled) → x.name ≡ name → OthersStand name ss (kept_standings ss x how)
 kept_stand name ss x settled.Nobody e = λ other n. refl
 kept_stand name ss x settled.Stands e = λ other n. with_stand other (settled_standing x) ss (not_named name other x e n)
-kept_stand name ss x (settled.Fault call count) e = λ other n. with_stand other x ss (not_named name other x e n)
+kept_stand name ss x (settled.Fault failed) e = λ other n. with_stand other x ss (not_named name other x e n)
 kept_stand name ss x settled.Memory e = λ other n. with_stand other x ss (not_named name other x e n)
 
 pub tried_stand : (name : List ℕ) (ss : List Standing) (how : Settled) → OthersStand name ss (tried_standings ss name how)
 tried_stand name ss settled.Nobody = λ other n. without_stand name other ss n
 tried_stand name ss settled.Stands = λ other n. marked_stand name other true ss n
-tried_stand name ss (settled.Fault call count) = λ other n. marked_stand name other false ss n
+tried_stand name ss (settled.Fault failed) = λ other n. marked_stand name other false ss n
 tried_stand name ss settled.Memory = λ other n. marked_stand name other false ss n

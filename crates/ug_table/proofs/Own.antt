@@ -17,7 +17,7 @@ use Rattle.ug_kernel.specs.Quiet.{Grows}
 use Rattle.ug_kernel.proofs.Held.{live_before}
 use Rattle.ug_kernel.proofs.Grow.{some_same, grows_refl, grows_trans, quiet_grows, called_grows}
 use Rattle.ug_kernel.proofs.Quiet.{called_quiet}
-use Rattle.ug_kernel.specs.Tree.{Runs, calls}
+use Rattle.ug_kernel.specs.Tree.{calls}
 use Rattle.ug_node.specs.Removal.{holding_remove, RemoveSays}
 use Rattle.ug_node.specs.declared.removal.RemoveHold.{RemoveHold}
 use Rattle.ug_node.specs.declared.removal.RemoveHold.TheVariants as hold
@@ -30,7 +30,7 @@ use Rattle.ug_audit.specs.declared.entry.Entry.TheVariants as entry
 use Rattle.ug_audit.specs.declared.entry.Fault.TheVariants as fault
 use Rattle.ug_table.specs.State.{State, Answers, Laters}
 use Rattle.ug_table.specs.Bring.{wants, write_of}
-use Rattle.ug_table.specs.Settle.{kept_standings, tried_standings, settling}
+use Rattle.ug_table.specs.Settle.{kept_standings, tried_standings}
 use Rattle.ug_table.specs.Laws.{IsNamed, HasStanding}
 use Rattle.ug_table.specs.declared.standing.Standing.{Standing}
 use Rattle.ug_table.specs.declared.standing.Known.{Known}
@@ -45,11 +45,10 @@ use Rattle.ug_table.proofs.Told.{opens}
 use Rattle.ug_table.specs.Sweep.{names_of}
 use Rattle.ug_kernel.specs.Calls.{Told}
 use Rattle.ug_kernel.specs.Along.{Made, answered, Along}
-use Rattle.ug_kernel.proofs.Ways.{Way, way_runs, ways_run, along_split, along_sound, along_grows}
-use Rattle.ug_table.specs.State.{Kept}
-use Rattle.ug_table.specs.Settle.{resettling}
-use Rattle.ug_node.proofs.BindShapes.{told}
-use Rattle.ug_table.proofs.Shapes.{Written, Done, Went, Broke, Valued, Same, Set, Unheld, Gone_by, Failed_by, Short_by, Removal, Not_held, Put_on, Carried, By_value, And_removal, Brought, Left_open, Let_go, Unbound_end, Absent_so, Vanished_so, Failed_so, Short_so, Flat, Unprobed, Tried, Stopped, Unbound, No_place, Judged_so, Settles, settles, Resettles, resettles}
+use Rattle.ug_kernel.proofs.Ways.{Way, way_runs, along_split, along_sound, along_grows}
+use Rattle.ug_kernel.specs.declared.calls.FailedCall.{FailedCall}
+use Rattle.ug_table.proofs.Shapes.{Written, Done, Went, Broke, Valued, Same, Set, Unheld, Gone_by, Failed_by, Short_by, Removal, Not_held, Put_on, Carried, By_value, And_removal, Brought, Left_open, Let_go, Unbound_end, Absent_so, Vanished_so, Failed_so, Short_so, Flat, Unprobed, Tried, Stopped, Unbound, No_place, Judged_so, told_at}
+use Rattle.ug_table.proofs.Chains.{Piece}
 
 -- the name is told among what was added
 abbrev pub NamedSince : List Entry → List Entry → List ℕ → Type 0
@@ -113,24 +112,24 @@ Ends es l how i name on = ((how ≡ settled.Stands) × Value l i on) ⊎ IsNamed
 -- where the file's device is live at the end
 valued_own : {name : List ℕ} {known : Known} {on : Bool} {ms : List Made} {es : List Entry} {how : Settled} (i : ℕ) (k l : Kernel) → Valued name known on ms es how → LiveAs l i name → IsFileOf k known.held.0 i → Value k i on → Along calls k ms l → Ends es l how i name (wants known.verdict)
 valued_own {on = on} i k l (Same e) live file v a = inl (refl, subst (λ b. Value l i b) (sym e) (subst (λ x. Value x i on) (sym a) v))
-valued_own {known = known} i k l (Set t es how e (Done call count)) live file v a = inl (refl, subst (λ x. Value x i (wants known.verdict)) (sym a.2) (done_value known.held.0 i known.verdict call count k a.0 file a.1))
-valued_own {name} {known} i k l (Set t es how e (Went call count)) live file v a =
-    let g = called_grows (Put known.held.0 (write_of known.verdict)) (told wrote.Gone call count) k a.0 a.1 in
+valued_own {known = known} i k l (Set t es how e (Done failed)) live file v a = inl (refl, subst (λ x. Value x i (wants known.verdict)) (sym a.2) (done_value known.held.0 i known.verdict failed k a.0 file a.1))
+valued_own {name} {known} i k l (Set t es how e (Went failed)) live file v a =
+    let g = called_grows (Put known.held.0 (write_of known.verdict)) (told_at wrote.Gone failed) k a.0 a.1 in
     absurd (gone_no a.0 known.held.0 i name a.1.says (file_later k a.0 known.held.0 i g file) (subst (λ x. LiveAs x i name) a.2 live))
-valued_own i k l (Set t es how e (Broke call count)) live file v a = inr (fault.Call call count, inr (inr (inl refl)))
+valued_own i k l (Set t es how e (Broke failed)) live file v a = inr (fault.Call failed, inr (inr (inl refl)))
 
 unheld_own : {name : List ℕ} {number : ℕ} {r : RemoveHold} {es : List Entry} {how : Settled} (held i : ℕ) (on : Bool) (k l : Kernel) → Unheld name number r es how → LiveAs l i name → IsFileOf k held i → Value k i on → Grows k l → RemoveSays held i k r → Ends es l how i name on
 unheld_own {name} held i on k l Gone_by live file v g says = absurd (dead_no held i Authorized k l name v.0 file says g v.1 live)
-unheld_own held i on k l (Failed_by call count) live file v g says = inr (fault.Call call count, inl refl)
+unheld_own held i on k l (Failed_by failed) live file v g says = inr (fault.Call failed, inl refl)
 unheld_own held i on k l Short_by live file v g says = inr (fault.Memory, inl refl)
 
 put_own : {name : List ℕ} {number : ℕ} {t : Told Wrote} {es : List Entry} {how : Settled} (i file : ℕ) (on : Bool) (shut : Closing) (k x l : Kernel) → Written name number write.Remove t es how → LiveAs l i name → IsHeldAs k file i Remove → Value k i on → Called (Put file write.Remove) t k x → Called (Close file) shut x l → Ends es l how i name on
-put_own i file on shut k x l (Done call count) live of v c d = inl (refl, quiet_value x l i on (called_quiet (Close file) shut x l tt d) (removal_value file i on call count k x of c v))
-put_own {name} i file on shut k x l (Went call count) live of v c d =
-    let g = called_grows (Put file write.Remove) (told wrote.Gone call count) k x c in
+put_own i file on shut k x l (Done failed) live of v c d = inl (refl, quiet_value x l i on (called_quiet (Close file) shut x l tt d) (removal_value file i on failed k x of c v))
+put_own {name} i file on shut k x l (Went failed) live of v c d =
+    let g = called_grows (Put file write.Remove) (told_at wrote.Gone failed) k x c in
     let e = g.devices i v.0 v.1 in
     absurd (dead_no file i Remove x l name e.0 (g.held file (record { device = i; control = Remove }) of) c.says (called_grows (Close file) shut x l d) e.1 live)
-put_own i file on shut k x l (Broke call count) live of v c d = inr (fault.Call call count, inr (inr (inl refl)))
+put_own i file on shut k x l (Broke failed) live of v c d = inr (fault.Call failed, inr (inr (inl refl)))
 
 -- the `remove` file is the device's
 hold_own : (name : List ℕ) (held i : ℕ) (on : Bool) (r : RemoveHold) (ms : List Made) (k m l : Kernel) → Way (holding_remove name held) ms r → IsKernel k → LiveAs l i name → IsFileOf k held i → Value k i on → Along calls k ms m → Grows m l → IsFileOf m held i × (Value m i on × RemoveSays held i m r)
@@ -185,11 +184,11 @@ brought_own {name} {known} {on} i k l (Let_go ms es shut c) sound live file at a
 -- a name
 
 -- the probe of a known name's held file speaks of its live device
-pub probed_own : (name : List ℕ) (held i : ℕ) (on : Bool) (call count : ℕ) (k m : Kernel) → IsKernel k → IsOpen k name held → LiveAs k i name → Called (Ask_alive held) (record { answer = probe.Alive on; number = call; count = count }) k m → IsFileOf m held i × Value m i on
-probed_own name held i on call count k m sound o first c =
+pub probed_own : (name : List ℕ) (held i : ℕ) (on : Bool) (failed : FailedCall) (k m : Kernel) → IsKernel k → IsOpen k name held → LiveAs k i name → Called (Ask_alive held) (told_at (probe.Alive on) failed) k m → IsFileOf m held i × Value m i on
+probed_own name held i on failed k m sound o first c =
     let x = alive_open k name held on o c.says in
     let is = live_same k x.0 i name sound x.2 first in
-    let q = called_quiet (Ask_alive held) (record { answer = probe.Alive on; number = call; count = count }) k m tt c in
+    let q = called_quiet (Ask_alive held) (told_at (probe.Alive on) failed) k m tt c in
     (file_later k m held i (quiet_grows k m q) (subst (λ j. IsFileOf k held j) is x.1), quiet_value k m i on q (subst (λ j. Value k j on) is x.3))
 
 -- it stands so, or the name is told; or no binding was tried, and no standing of the name is left
@@ -199,7 +198,7 @@ Ended binds l rs rest i name = (StandsSo l rs i ⊎ IsNamed rest name) ⊎ ((bin
 unbound_own : {name : List ℕ} {r : Binding} {es : List Entry} {how : Settled} (k m : Kernel) (i : ℕ) → Unbound_end name r es how → BindSays name k m r → LiveAs k i name → LiveAs m i name → IsNamed es name
 unbound_own {name} k m i Absent_so says first mid = absurd (says i first.d (lived k m i name first mid) first.named)
 unbound_own {name} k m i Vanished_so says first mid = absurd (says i first.d (lived k m i name first mid) first.named)
-unbound_own k m i (Failed_so call count) says first mid = (fault.Call call count, inl refl)
+unbound_own k m i (Failed_so failed) says first mid = (fault.Call failed, inl refl)
 unbound_own k m i Short_so says first mid = (fault.Memory, inl refl)
 
 -- behind the entries of an opening
@@ -207,10 +206,10 @@ named_later : (es fs : List Entry) (name : List ℕ) → IsNamed fs name → IsN
 named_later es fs name n = (n.0, has_right es fs (entry.Unsettled name n.0) n.1)
 
 flat_own : {binds : Bool} {given : List Standing → Bound → Standing → Type 0} {name : List ℕ} {ss : List Standing} {ok : Bool} {ms : List Made} {rest : List Entry} {how : Settled} {rs : List Standing} {o : Option (List Standing × Bound)} (i : ℕ) (k l : Kernel) → IsKernel k → Files k ss → LiveAs k i name → LiveAs l i name → Flat binds given name ss ok ms rest how rs o → Along calls k ms l → Ended binds l rs rest i name
-flat_own i k l sound f first live (Unprobed known call count at) a = inl (inr (fault.Call call count, inl refl))
-flat_own {name = name} {ss = ss} i k l sound f first live (Tried known on call count ms es how at b) a =
+flat_own i k l sound f first live (Unprobed known failed at) a = inl (inr (fault.Call failed, inl refl))
+flat_own {name = name} {ss = ss} i k l sound f first live (Tried known on failed ms es how at b) a =
     let s = found name ss known at in
-    let x = probed_own name known.held.0 i on call count k a.0 sound (open_found name ss known k at f) first a.1 in
+    let x = probed_own name known.held.0 i on failed k a.0 sound (open_found name ss known k at f) first a.1 in
     inl (elim (brought_own i a.0 l b a.1.sound live x.0 x.1 a.2) [
       | inl h ↦ let t = tried_new ss name how s.s h.0 s.named s.has in inl (as_judged l (tried_standings ss name how) i known.held known.verdict t.0 t.1 (t.2 ∙ ap (λ (v : Known). v.held) s.known) (t.3 ∙ ap (λ (v : Known). v.verdict) s.known) (file_later a.0 l known.held.0 i (along_grows ms a.0 l a.2) x.0) h.1 t.4)
       | inr n ↦ inr n
@@ -239,19 +238,9 @@ flat_own {name = name} i k l sound f first live (Judged_so ms ns os es fs rs b x
       | inr y ↦ inr (named_later es (entry.Judged x.number name x.held x.verdict x.cause ∷ fs) name (y.0, inr y.1))
     ])
 
-pub settling_own : {J : Type 0} (answer : Answers J) (later : Laters J) (name : List ℕ) (present : Bool) (i : ℕ) (w : State J) (k l : Kernel) (p : Settled × State J) → IsKernel k → Files k w.standings → LiveAs k i name → LiveAs l i name → Runs calls k (settling answer later name present w) p l → Good w.entries l p.1.standings p.1.entries i name
-settling_own answer later name present i w k l p sound f first live r =
-    let x = ways_run calls (Settles answer later name present w) (settling answer later name present w) k p l (settles answer later name present w) r in
-    elim (flat_own i k l sound f first live x.so.flat x.along) [
-      | inl h ↦ elim h [ inl s ↦ inl s | inr n ↦ inr (x.so.rest, x.so.entries, n) ]
-      | inr h ↦ let e = h.0 in absurd (let none : ⊥ = cc in none)
-    ]
-
--- where the listing didn't succeed
-pub resettling_ended : (name : List ℕ) (i : ℕ) (w : Kept) (k l : Kernel) (p : Settled × Kept) → IsKernel k → Files k w.standings → LiveAs k i name → LiveAs l i name → Runs calls k (resettling name w) p l → Good w.entries l p.1.standings p.1.entries i name ⊎ (Has (names_of p.1.standings) name → ⊥)
-resettling_ended name i w k l p sound f first live r =
-    let x = ways_run calls (Resettles name w) (resettling name w) k p l (resettles name w) r in
-    elim (flat_own i k l sound f first live x.so.flat x.along) [
-      | inl h ↦ inl (elim h [ inl s ↦ inl s | inr n ↦ inr (x.so.rest, x.so.entries, n) ])
-      | inr h ↦ inr h.1
-    ]
+-- the device of that name is as judged, or the name is told; or it has no standing where nothing is bound
+pub piece_own : {J : Type 0} {answer : Answers J} {later : Laters J} {binds present : Bool} {name : List ℕ} {how : Settled} {k l : Kernel} {w v : State J} (i : ℕ) → IsKernel k → Files k w.standings → LiveAs k i name → LiveAs l i name → Piece calls answer later binds present name how k w l v → Good w.entries l v.standings v.entries i name ⊎ ((binds ≡ false) × (Has (names_of v.standings) name → ⊥))
+piece_own {k = k} {l = l} i sound f first live p = elim (flat_own i k l sound f first live p.flat p.along) [
+  | inl h ↦ inl (elim h [ inl s ↦ inl s | inr n ↦ inr (p.rest, p.entries, n) ])
+  | inr h ↦ inr h
+]

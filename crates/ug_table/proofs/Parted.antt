@@ -1,29 +1,24 @@
 -- A run of a sweep goes along its parts.
-use Rattle.std.proofs.Common.{◌≡◌, ℕ, Bool, true, false, not, List, [], ◌∷◌, ◌++◌, inl, inr, refl, sym, ◌∙◌, ap, subst, append_assoc, append-nil}
+use Rattle.std.proofs.Common.{◌≡◌, ℕ, Bool, List, [], ◌∷◌, ◌++◌, inl, refl, sym, ◌∙◌, ap, append_assoc, append-nil}
 use Rattle.std.specs.List.{filter}
 use Rattle.ug_types.specs.Sweep.{in_sweep_order}
 use Rattle.ug_kernel.specs.declared.calls.Listing.{Listing}
 use Rattle.ug_kernel.specs.declared.calls.Listing.TheVariants as listing
 use Rattle.ug_kernel.specs.Calls.{Call, Names, Told, Answer}
 use Rattle.ug_kernel.specs.Tree.{Runs}
-use Rattle.ug_kernel.specs.Along.{Made, Along}
-use Rattle.ug_kernel.proofs.Runs.{runs_split}
+use Rattle.ug_kernel.specs.Along.{Made, Along, failure_of}
 use Rattle.ug_kernel.proofs.Ways.{along_more}
 use Rattle.ug_audit.specs.declared.entry.Entry.{Entry}
 use Rattle.ug_audit.specs.declared.entry.Entry.TheVariants as entry
-use Rattle.ug_audit.specs.declared.entry.Fault.{Fault}
-use Rattle.ug_audit.specs.declared.entry.Fault.TheVariants as fault
-use Rattle.ug_table.specs.State.{State, Kept, kept_of, Answers, Laters}
+use Rattle.ug_table.specs.State.{State, Answers, Laters}
 use Rattle.ug_table.specs.Standings.{lists, farewells}
-use Rattle.ug_table.specs.Settle.{settling, resettling}
-use Rattle.ug_table.specs.Sweep.{settling_all, resettling_all, parted, closing_unlisted, names_of, resumed, unlisted, marked_listed, if_room, after_list, sweeping}
+use Rattle.ug_table.specs.Sweep.{names_of, sweeping}
 use Rattle.ug_table.specs.Parts.{Part, InParts, AfterListing, GoesInParts}
 use Rattle.ug_table.specs.declared.standing.Standing.{Standing}
 use Rattle.ug_table.specs.declared.standing.Settled.{Settled}
 use Rattle.ug_table.proofs.OnePart.{flat_is_part}
 use Rattle.ug_table.proofs.Closings.{closing_goes}
-use Rattle.ug_kernel.proofs.Ways.{ways_run}
-use Rattle.ug_table.proofs.Shapes.{Settles, settles, Resettles, resettles}
+use Rattle.ug_table.proofs.Chains.{Piece, Chain, Over, First, Goes, Listed, Unlisted, sweeping_by}
 
 -- a run that went along one part
 pub record WentPart {S : Type 0} (gives : S → (call : Call) → Answer call → S → Type 0) (name : List ℕ) (s : S) (ss : List Standing) (es : List Entry) (t : S) (rs : List Standing) (fs : List Entry) : Type 0 where
@@ -50,46 +45,17 @@ one_more gives name names s u t ss ms rs es gs fs a b = record {
   parts = (ms, a.calls, b.calls, a.rest, b.rest, refl, refl, a.part, b.parts);
 }
 
-pub settling_went : {S J : Type 0} (gives : S → (call : Call) → Answer call → S → Type 0) (answer : Answers J) (later : Laters J) (name : List ℕ) (present : Bool) (w : State J) (s : S) (p : Settled × State J) (t : S) → Runs gives s (settling answer later name present w) p t → WentPart gives name s w.standings w.entries t p.1.standings p.1.entries
-settling_went gives answer later name present w s p t h =
-    let x = ways_run gives (Settles answer later name present w) (settling answer later name present w) s p t (settles answer later name present w) h in
-    record { calls = x.made; along = x.along; rest = x.so.rest; entries = x.so.entries; part = flat_is_part x.so.flat }
+pub piece_went : {S J : Type 0} {gives : S → (call : Call) → Answer call → S → Type 0} {answer : Answers J} {later : Laters J} {binds present : Bool} {name : List ℕ} {how : Settled} {s t : S} {w v : State J} → Piece gives answer later binds present name how s w t v → WentPart gives name s w.standings w.entries t v.standings v.entries
+piece_went p = record { calls = p.made; along = p.along; rest = p.rest; entries = p.entries; part = flat_is_part p.flat }
 
-pub resettling_went : {S : Type 0} (gives : S → (call : Call) → Answer call → S → Type 0) (name : List ℕ) (w : Kept) (s : S) (p : Settled × Kept) (t : S) → Runs gives s (resettling name w) p t → WentPart gives name s w.standings w.entries t p.1.standings p.1.entries
-resettling_went gives name w s p t h =
-    let x = ways_run gives (Resettles name w) (resettling name w) s p t (resettles name w) h in
-    record { calls = x.made; along = x.along; rest = x.so.rest; entries = x.so.entries; part = flat_is_part x.so.flat }
-
-settling_all_went : {S J : Type 0} (gives : S → (call : Call) → Answer call → S → Type 0) (answer : Answers J) (later : Laters J) (names : List (List ℕ)) (present : Bool) (w : State J) (s : S) (v : State J) (t : S) → Runs gives s (settling_all answer later names present w) v t → WentParts gives names s w.standings w.entries t v.standings v.entries
-settling_all_went {S} {J} gives answer later [] present w s v t h = record {
-  calls = [];
-  along = h.1;
-  rest = [];
-  entries = ap (λ (x : State J). x.entries) h.0 ∙ sym (append-nil w.entries);
-  parts = (ap (λ (x : State J). x.standings) h.0, refl, refl);
-}
-settling_all_went {S} {J} gives answer later (name ∷ names) present w s v t h =
-    let k = runs_split gives s (settling answer later name present w) (λ (p : Settled × State J). settling_all answer later names present p.1) v t h in
-    one_more gives name names s k.1 t w.standings k.0.1.standings v.standings w.entries k.0.1.entries v.entries
-    (settling_went gives answer later name present w s k.0 k.1 k.2)
-    (settling_all_went gives answer later names present k.0.1 k.1 v t k.3)
-
-resettling_all_went : {S : Type 0} (gives : S → (call : Call) → Answer call → S → Type 0) (names : List (List ℕ)) (w : Kept) (s : S) (v : Kept) (t : S) → Runs gives s (resettling_all names w) v t → WentParts gives names s w.standings w.entries t v.standings v.entries
-resettling_all_went {S} gives [] w s v t h = record {
-  calls = [];
-  along = h.1;
-  rest = [];
-  entries = ap (λ (x : Kept). x.entries) h.0 ∙ sym (append-nil w.entries);
-  parts = (ap (λ (x : Kept). x.standings) h.0, refl, refl);
-}
-resettling_all_went {S} gives (name ∷ names) w s v t h =
-    let k = runs_split gives s (resettling name w) (λ (p : Settled × Kept). resettling_all names p.1) v t h in
-    one_more gives name names s k.1 t w.standings k.0.1.standings v.standings w.entries k.0.1.entries v.entries
-    (resettling_went gives name w s k.0 k.1 k.2)
-    (resettling_all_went gives names k.0.1 k.1 v t k.3)
+chain_went : {S J : Type 0} {gives : S → (call : Call) → Answer call → S → Type 0} {answer : Answers J} {later : Laters J} {binds present : Bool} {names : List (List ℕ)} {s t : S} {w v : State J} → Chain gives answer later binds present names s w t v → WentParts gives names s w.standings w.entries t v.standings v.entries
+chain_went (Over s w) = record { calls = []; along = refl; rest = []; entries = sym (append-nil w.entries); parts = (refl, refl, refl) }
+chain_went {gives = gives} (First name names how s u t w x v p c) =
+    one_more gives name names s u t w.standings x.standings v.standings w.entries x.entries v.entries
+    (piece_went p) (chain_went c)
 
 -- a listing, and the parts that it leads to
-from_parts : {S J : Type 0} (gives : S → (call : Call) → Answer call → S → Type 0) (s : S) (w : State J) (a : Told Listing) (u x t : S) (v : State J) (head : List Entry) (left : List Standing) (names : List (List ℕ)) (shut : List Made) → gives s Names a u → Along gives u shut x → AfterListing a.answer a.number a.count w.standings head left names shut → WentParts gives names x left (w.entries ++ head) t v.standings v.entries → GoesInParts gives s w t v
+from_parts : {S J : Type 0} (gives : S → (call : Call) → Answer call → S → Type 0) (s : S) (w : State J) (a : Told Listing) (u x t : S) (v : State J) (head : List Entry) (left : List Standing) (names : List (List ℕ)) (shut : List Made) → gives s Names a u → Along gives u shut x → AfterListing a.answer (failure_of a) w.standings head left names shut → WentParts gives names x left (w.entries ++ head) t v.standings v.entries → GoesInParts gives s w t v
 from_parts {S} {J} gives s w a u x t v head left names shut g c b p = record {
   listed = a;
   later = shut ++ p.calls;
@@ -106,35 +72,15 @@ from_parts {S} {J} gives s w a u x t v head left names shut g c b p = record {
   parts = p.parts;
 }
 
-unlisted_went : {S J : Type 0} (gives : S → (call : Call) → Answer call → S → Type 0) (why : Fault) (w : State J) (u : S) (v : State J) (t : S) → Runs gives u (unlisted why w) v t → WentParts gives (names_of w.standings) u w.standings (w.entries ++ entry.UnsettledAll why ∷ []) t v.standings v.entries
-unlisted_went {S} {J} gives why w u v t h =
-    let k = runs_split gives u (resettling_all (names_of w.standings) (kept_of w.standings (w.entries ++ entry.UnsettledAll why ∷ []))) (resumed w) v t h in
-    let went = resettling_all_went gives (names_of w.standings) (kept_of w.standings (w.entries ++ entry.UnsettledAll why ∷ [])) u k.0 k.1 k.2 in
-    let P : S → State J → Type 0 = λ (x : S) (y : State J). WentParts gives (names_of w.standings) u w.standings (w.entries ++ entry.UnsettledAll why ∷ []) x y.standings y.entries in
-    subst (λ (x : S). P x v) (sym k.3.1) (subst (λ (y : State J). P k.1 y) (sym k.3.0) went)
-
-if_room_goes : {S J : Type 0} (gives : S → (call : Call) → Answer call → S → Type 0) (answer : Answers J) (later : Laters J) (s : S) (w : State J) (names : List (List ℕ)) (call count : ℕ) (room : Bool) (u : S) (v : State J) (t : S) → gives s Names (record { answer = listing.Names names; number = call; count = count }) u → Runs gives u (if_room answer later (in_sweep_order names) w room) v t → GoesInParts gives s w t v
-if_room_goes {S} {J} gives answer later s w names call count true u v t g h =
-    let a : Told Listing = record { answer = listing.Names names; number = call; count = count } in
-    let ns : List (List ℕ) = in_sweep_order names in
-    let cut = runs_split gives u (closing_unlisted ns w.standings) (λ (x : Unit {0}). settling_all answer later ns (not w.listed) (marked_listed (parted ns w))) v t h in
-    let c = closing_goes gives ns w.standings u cut.0 cut.1 cut.2 in
-    from_parts gives s w a u cut.1 t v (farewells ns w.standings) (filter (λ (x : Standing). lists ns x.name) w.standings) ns c.shut g c.along (inl (refl, refl, refl, c.closings))
-    (settling_all_went gives answer later ns (not w.listed) (marked_listed (parted ns w)) cut.1 v t cut.3)
-if_room_goes {S} {J} gives answer later s w names call count false u v t g h =
-    let a : Told Listing = record { answer = listing.Names names; number = call; count = count } in
-    from_parts gives s w a u u t v (entry.UnsettledAll fault.Memory ∷ []) w.standings (names_of w.standings) [] g refl (inr (refl, refl, refl, refl)) (unlisted_went gives fault.Memory w u v t h)
-
-after_list_goes : {S J : Type 0} (gives : S → (call : Call) → Answer call → S → Type 0) (answer : Answers J) (later : Laters J) (s : S) (w : State J) (r : Listing) (call count : ℕ) (u : S) (v : State J) (t : S) → gives s Names (record { answer = r; number = call; count = count }) u → Runs gives u (after_list answer later w r call count) v t → GoesInParts gives s w t v
-after_list_goes gives answer later s w (listing.Names names) call count u v t g h = if_room_goes gives answer later s w names call count h.0 u v t g h.1
-after_list_goes gives answer later s w listing.Failed call count u v t g h =
-    let a : Told Listing = record { answer = listing.Failed; number = call; count = count } in
-    from_parts gives s w a u u t v (entry.UnsettledAll (fault.Call call count) ∷ []) w.standings (names_of w.standings) [] g refl (refl, refl, refl, refl) (unlisted_went gives (fault.Call call count) w u v t h)
-after_list_goes gives answer later s w listing.Memory call count u v t g h =
-    let a : Told Listing = record { answer = listing.Memory; number = call; count = count } in
-    from_parts gives s w a u u t v (entry.UnsettledAll fault.Memory ∷ []) w.standings (names_of w.standings) [] g refl (refl, refl, refl, refl) (unlisted_went gives fault.Memory w u v t h)
-
 -- a run of a sweep goes in parts
 pub sweeping_goes : {S J : Type 0} (gives : S → (call : Call) → Answer call → S → Type 0) (answer : Answers J) (later : Laters J) (s : S) (w : State J) (t : S) (v : State J) → Runs gives s (sweeping answer later w) v t → GoesInParts gives s w t v
-unfolding sweeping
-sweeping_goes gives answer later s w t v h = after_list_goes gives answer later s w h.0.answer h.0.number h.0.count h.1 v t h.2 h.3
+sweeping_goes {S} {J} gives answer later s w t v h = by (sweeping_by gives answer later s w t v h)
+  where
+    by : Goes gives answer later s w t v → GoesInParts gives s w t v
+    by (Listed found number count m u r g closes chain) =
+        let names = in_sweep_order found in
+        let c = closing_goes gives names w.standings m r u closes in
+        let a : Told Listing = record { answer = listing.Names found; number = number; count = count } in
+        from_parts gives s w a m u t v (farewells names w.standings) (filter (λ (x : Standing). lists names x.name) w.standings) names c.shut g c.along (inl (refl, refl, refl, c.closings)) (chain_went chain)
+    by (Unlisted a why m g begins chain) =
+        from_parts gives s w a m m t v (entry.UnsettledAll why ∷ []) w.standings (names_of w.standings) [] g refl begins (chain_went chain)

@@ -16,7 +16,7 @@ use Rattle.ug_table.specs.Sweep.{names_of}
 use Rattle.ug_table.specs.Laws.{AreInOrder, numbers_of}
 use Rattle.ug_table.specs.Order.{StandInOrder}
 use Rattle.ug_table.specs.Marks.{has_name, has_number, stood_removed, LeavesMarks}
-use Rattle.ug_table.specs.One.{again_numbered, resettling_numbered, NeedsRoom}
+use Rattle.ug_table.specs.One.{resettling_numbered, NeedsRoom}
 use Rattle.ug_table.specs.declared.standing.Standing.{Standing}
 use Rattle.ug_table.specs.declared.standing.Settled.{Settled}
 use Rattle.ug_table.specs.declared.standing.Settled.TheVariants as settled
@@ -24,10 +24,10 @@ use Rattle.ug_types.proofs.Elements.{filter_has, map_has, has_map, insert_has, d
 use Rattle.ug_table.proofs.Orders.{not_itself}
 use Rattle.ug_table.proofs.Places.{marked_other}
 use Rattle.ug_table.proofs.Standings.{same_is, is_same, found, missing, numbered_has}
-use Rattle.ug_kernel.proofs.Ways.{ways_more}
-use Rattle.ug_table.proofs.Shapes.{Opening, Fresh, Lost, Flat, Unprobed, Tried, Stopped, Unbound, No_place, Judged_so, Settles, settles, Resettles, resettles}
-use Rattle.ug_table.proofs.Told.{EndsSo, ends_run, opens}
-use Rattle.ug_table.proofs.Answered.{AnsweredAgain, resettling_answered}
+use Rattle.ug_table.proofs.Shapes.{Opening, Fresh, Lost, Flat, Unprobed, Tried, Stopped, Unbound, No_place, Judged_so, Resettles, resettles}
+use Rattle.ug_table.proofs.Told.{opens, flat_room}
+use Rattle.ug_kernel.proofs.Ways.{ways_run}
+use Rattle.ug_table.proofs.Chains.{settling_piece, run_numbered}
 
 -- names in order are distinct
 names_distinct : (names : List (List ℕ)) → AreInOrder names → AllDistinct names
@@ -142,7 +142,7 @@ without_leaves test name ss how named = record {
 tried_leaves : (test : Test) (name : List ℕ) (ss : List Standing) (how : Settled) → AllDistinct (numbers_of ss) → AreNamed test name ss → LeavesMarks (own test) ss (tried_standings ss name how) how
 tried_leaves test name ss settled.Nobody distinct named = without_leaves test name ss settled.Nobody named
 tried_leaves test name ss settled.Stands distinct named = marked_leaves test name ss true settled.Stands refl distinct named
-tried_leaves test name ss (settled.Fault call count) distinct named = marked_leaves test name ss false (settled.Fault call count) refl distinct named
+tried_leaves test name ss (settled.Fault failed) distinct named = marked_leaves test name ss false (settled.Fault failed) refl distinct named
 tried_leaves test name ss settled.Memory distinct named = marked_leaves test name ss false settled.Memory refl distinct named
 
 -- a name
@@ -155,7 +155,7 @@ own_missing name ss s n a o = n (subst (λ (v : List ℕ). Has (names_of ss) v) 
 
 opening_rest : {name : List ℕ} {ss : List Standing} {ms : List Made} {es : List Entry} {rs : List Standing} → Opening name ss ms es rs → rest_of (of_name name) rs ≡ rest_of (of_name name) ss
 opening_rest (Fresh e) = refl
-opening_rest {name = name} {ss = ss} (Lost known call count shut e) = without_rest (of_name name) name ss (λ s a. refl)
+opening_rest {name = name} {ss = ss} (Lost known failed shut e) = without_rest (of_name name) name ss (λ s a. refl)
 
 -- none stands for it
 opening_leaves : {name : List ℕ} {ss : List Standing} {ms : List Made} {es : List Entry} {rs : List Standing} (how : Settled) → Opening name ss ms es rs → LeavesMarks (has_name name) ss rs how
@@ -185,7 +185,7 @@ kept_leaves name ss rs x settled.Nobody named fresh stays none rest absent = rec
   removed = λ s a o. absurd (own_missing name rs s absent a o);
 }
 kept_leaves name ss rs x settled.Stands named fresh stays none rest absent = with_leaves name ss rs (settled_standing x) settled.Stands named rest absent refl (ap (λ (v : Bool). v || is_reject x.verdict) (stays ∙ sym none))
-kept_leaves name ss rs x (settled.Fault call count) named fresh stays none rest absent = with_leaves name ss rs x (settled.Fault call count) named rest absent fresh (stays ∙ sym (ap (λ (v : Bool). v || false) none))
+kept_leaves name ss rs x (settled.Fault failed) named fresh stays none rest absent = with_leaves name ss rs x (settled.Fault failed) named rest absent fresh (stays ∙ sym (ap (λ (v : Bool). v || false) none))
 kept_leaves name ss rs x settled.Memory named fresh stays none rest absent = with_leaves name ss rs x settled.Memory named rest absent fresh (stays ∙ sym (ap (λ (v : Bool). v || false) none))
 
 next_stood : (next : ℕ) (ss : List Standing) → StandInOrder next ss → stood_removed next ss ≡ false
@@ -196,19 +196,16 @@ next_stood next ss o = none_stood next ss (λ a.
     omega (arith, below, is))
 
 flat_leaves : {binds : Bool} {given : List Standing → Bound → Standing → Type 0} {name : List ℕ} {ss : List Standing} {ok : Bool} {ms : List Made} {rest : List Entry} {how : Settled} {rs : List Standing} {o : Option (List Standing × Bound)} (next : ℕ) → StandInOrder next ss → ((rs : List Standing) (b : Bound) (x : Standing) → given rs b x → x.number ≡ next) → Flat binds given name ss ok ms rest how rs o → LeavesMarks (has_name name) ss rs how
-flat_leaves {name = name} {ss = ss} next order numbered (Unprobed known call count at) = tried_leaves (of_name name) name ss (settled.Fault call count) order.distinct (λ s a. refl)
-flat_leaves {name = name} {ss = ss} next order numbered (Tried known on call count ms es how at b) = tried_leaves (of_name name) name ss how order.distinct (λ s a. refl)
+flat_leaves {name = name} {ss = ss} next order numbered (Unprobed known failed at) = tried_leaves (of_name name) name ss (settled.Fault failed) order.distinct (λ s a. refl)
+flat_leaves {name = name} {ss = ss} next order numbered (Tried known on failed ms es how at b) = tried_leaves (of_name name) name ss how order.distinct (λ s a. refl)
 flat_leaves next order numbered (Stopped ms es rs f opening) = opening_leaves settled.Nobody opening
 flat_leaves next order numbered (Unbound ms ns es fs rs r how t opening way end) = opening_leaves how opening
 flat_leaves next order numbered (No_place ms ns es rs b shut t opening way) = opening_leaves settled.Memory opening
 flat_leaves {name = name} {ss = ss} next order numbered (Judged_so ms ns os es fs rs b x how t opening way given new brought) =
     kept_leaves name ss rs x how new.named new.fresh new.stays (ap (λ (v : ℕ). stood_removed v ss) (numbered rs b x given) ∙ next_stood next ss order) (opening_rest opening) (opens opening).absent
 
-settling_leaves : {J : Type 0} (answer : Answers J) (later : Laters J) (name : List ℕ) (present : Bool) (w : State J) → StandInOrder w.next w.standings → EndsSo (λ (p : Settled × State J). LeavesMarks (has_name name) w.standings p.1.standings p.0) (settling answer later name present w)
-settling_leaves answer later name present w order = ways_more (Settles answer later name present w) (λ ok ms p. LeavesMarks (has_name name) w.standings p.1.standings p.0) (settling answer later name present w) (λ ok ms p h. flat_leaves w.next order (λ rs b x e. ap (λ (v : Standing). v.number) e) h.flat) (settles answer later name present w)
-
 pub run_leaves : {S J : Type 0} (gives : S → (call : Call) → Answer call → S → Type 0) (answer : Answers J) (later : Laters J) (name : List ℕ) (present : Bool) (w : State J) (s : S) (p : Settled × State J) (t : S) → StandInOrder w.next w.standings → Runs gives s (settling answer later name present w) p t → LeavesMarks (has_name name) w.standings p.1.standings p.0
-run_leaves {S} {J} gives answer later name present w s p t order r = ends_run gives (λ (q : Settled × State J). LeavesMarks (has_name name) w.standings q.1.standings q.0) (settling answer later name present w) s p t (settling_leaves answer later name present w order) r
+run_leaves gives answer later name present w s p t order r = flat_leaves w.next order (λ rs b x e. ap (λ (v : Standing). v.number) e) (settling_piece gives answer later name present w s p t r).flat
 
 -- a number
 
@@ -238,31 +235,27 @@ numbered_named next number ss x order at s a = by (nat_eq s.number number) refl 
         sym e ∙ was
 
 flat_tried : {given : List Standing → Bound → Standing → Type 0} {binds : Bool} {name : List ℕ} {ss : List Standing} {ok : Bool} {ms : List Made} {rest : List Entry} {how : Settled} {rs : List Standing} {o : Option (List Standing × Bound)} → Flat binds given name ss ok ms rest how rs o → binds ≡ false → Has (names_of ss) name → rs ≡ tried_standings ss name how
-flat_tried (Unprobed known call count at) f a = refl
-flat_tried (Tried known on call count ms es how at b) f a = refl
+flat_tried (Unprobed known failed at) f a = refl
+flat_tried (Tried known on failed ms es how at b) f a = refl
 flat_tried {name = name} {ss = ss} (Stopped ms es rs f (Fresh e)) g a = absurd (missing name ss e a)
-flat_tried (Stopped ms es rs f (Lost known call count shut e)) g a = refl
+flat_tried (Stopped ms es rs f (Lost known failed shut e)) g a = refl
 flat_tried (Unbound ms ns es fs rs r how t opening way end) f a = absurd (true≢false (sym t ∙ f))
 flat_tried (No_place ms ns es rs b shut t opening way) f a = absurd (true≢false (sym t ∙ f))
 flat_tried (Judged_so ms ns os es fs rs b x how t opening way given new brought) f a = absurd (true≢false (sym t ∙ f))
 
-resettling_tried : (name : List ℕ) (k : Kept) → Has (names_of k.standings) name → EndsSo (λ (p : Settled × Kept). p.1.standings ≡ tried_standings k.standings name p.0) (resettling name k)
-resettling_tried name k a = ways_more (Resettles name k) (λ ok ms p. p.1.standings ≡ tried_standings k.standings name p.0) (resettling name k) (λ ok ms p h. flat_tried h.flat refl a) (resettles name k)
-
-run_of : {S : Type 0} (gives : S → (call : Call) → Answer call → S → Type 0) (number : ℕ) (k : Kept) (x : Standing) (s : S) (p : Settled × Kept) (t : S) → numbered number k.standings ≡ Some x → Runs gives s (resettling_numbered number k) p t → Runs gives s (resettling x.name k) p t
-unfolding resettling_numbered
-run_of gives number k x s p t e r = subst (λ (o : Option Standing). Runs gives s (again_numbered k o) p t) e r
+numbered_flat : {S : Type 0} (gives : S → (call : Call) → Answer call → S → Type 0) (number : ℕ) (k : Kept) (x : Standing) (s : S) (p : Settled × Kept) (t : S) → numbered number k.standings ≡ Some x → Runs gives s (resettling_numbered number k) p t → (ok : Bool) × (ms : List Made) × Resettles x.name k ok ms p
+numbered_flat gives number k x s p t at r = let y = ways_run gives (Resettles x.name k) (resettling x.name k) s p t (resettles x.name k) (run_numbered gives number k x s p t at r) in (y.granted, y.made, y.so)
 
 pub numbered_leaves : {S : Type 0} (gives : S → (call : Call) → Answer call → S → Type 0) (next number : ℕ) (k : Kept) (x : Standing) (s : S) (p : Settled × Kept) (t : S) → StandInOrder next k.standings → numbered number k.standings ≡ Some x → Runs gives s (resettling_numbered number k) p t → LeavesMarks (has_number number) k.standings p.1.standings p.0
 numbered_leaves gives next number k x s p t order at r =
     let has = has_map (λ (v : Standing). v.name) k.standings x (numbered_has number k.standings x at).0 in
-    let tried = ends_run gives (λ (q : Settled × Kept). q.1.standings ≡ tried_standings k.standings x.name q.0) (resettling x.name k) s p t (resettling_tried x.name k has) (run_of gives number k x s p t at r) in
+    let tried = flat_tried (numbered_flat gives number k x s p t at r).2.flat refl has in
     subst (λ (v : List Standing). LeavesMarks (has_number number) k.standings v p.0) (sym tried) (tried_leaves (of_number number) x.name k.standings p.0 order.distinct (numbered_named next number k.standings x order at))
 
 -- want of memory
 pub needs_room : {S : Type 0} (gives : S → (call : Call) → Answer call → S → Type 0) (next number : ℕ) (k : Kept) (x : Standing) (s : S) (p : Settled × Kept) (t : S) → StandInOrder next k.standings → numbered number k.standings ≡ Some x → Runs gives s (resettling_numbered number k) p t → p.0 ≡ settled.Memory → NeedsRoom number k.standings
 needs_room gives next number k x s p t order at r e =
-    let room = (ends_run gives (AnsweredAgain x.name k) (resettling x.name k) s p t (resettling_answered x.name k) (run_of gives number k x s p t at r)).room e in
+    let room = flat_room (numbered_flat gives number k x s p t at r).2.flat refl e in
     let f = found x.name k.standings room.0 room.1 in
     let same : f.s ≡ x = distinct_one (λ (v : Standing). v.name) k.standings f.s x (names_distinct (names_of k.standings) order.order) f.has (numbered_has number k.standings x at).0 f.named in
     (x, at, ap (λ (v : Standing). is_to_go (known_of v)) (sym same) ∙ ap is_to_go f.known ∙ room.2)

@@ -11,7 +11,7 @@ use Rattle.ug_kernel.specs.declared.calls.Wrote.{Wrote}
 use Rattle.ug_kernel.specs.Kernel.{Kernel}
 use Rattle.ug_audit.specs.declared.entry.Entry.{Entry}
 use Rattle.ug_audit.specs.declared.entry.Entry.TheVariants as entry
-use Rattle.ug_table.specs.Laws.{Tries, IsDevice, IsGone, IsProbed, TellsNeither, HasVerdict, wrote_entries, Account, Start, Note, Judge, Had, Had_not, Went, numbers_of, gone_of}
+use Rattle.ug_table.specs.Laws.{IsNamed, Tries, IsDevice, IsGone, IsProbed, TellsNeither, HasVerdict, wrote_entries, Account, Start, Note, Judge, Had, Had_not, Went, numbers_of, gone_of}
 use Rattle.ug_table.specs.declared.standing.Standing.{Standing}
 use Rattle.ug_types.proofs.Elements.{has_left, only_left, last_is, distinct_one, has_cases}
 use Rattle.ug_table.specs.State.{Answers, Laters}
@@ -257,3 +257,36 @@ one_held start k before next0 es next number n m x y v u low distinct h (inr a) 
     let after = (h.judged number n x v a.0 a.1).after in
     let none : ⊥ = omega (arith, below, same, after) in absurd none
 one_held start k before next0 es next number n m x y v u low distinct h (inr a) (inr b) = h.one number n m x y v u a.0 b.0 a.1 b.1
+
+-- each entry is so
+abbrev pub Each : (Entry → Type 0) → List Entry → Type 0
+Each p [] = Unit {0}
+Each p (e ∷ es) = p e × Each p es
+
+pub each_has : (p : Entry → Type 0) (es : List Entry) (e : Entry) → Each p es → Has es e → p e
+each_has p [] e h a = absurd a
+each_has p (x ∷ es) e h (inl is) = subst (λ (v : Entry). p v) is h.0
+each_has p (x ∷ es) e h (inr a) = each_has p es e h.1 a
+
+pub each_append : (p : Entry → Type 0) (es fs : List Entry) → Each p es → Each p fs → Each p (es ++ fs)
+each_append p [] fs h k = k
+each_append p (e ∷ es) fs h k = (h.0, each_append p es fs h.1 k)
+
+pub each_map : (p q : Entry → Type 0) (es : List Entry) → ((e : Entry) → p e → q e) → Each p es → Each q es
+each_map p q [] f h = tt
+each_map p q (e ∷ es) f h = (f e h.0, each_map p q es f h.1)
+
+-- it names none but this one as unsettled, and no listing
+abbrev pub NamesOnly : List ℕ → Entry → Type 0
+NamesOnly name (entry.Unsettled n why) = n ≡ name
+NamesOnly name (entry.UnsettledAll why) = ⊥
+NamesOnly name e = Unit {0}
+
+-- it names none
+abbrev pub NamesNone : Entry → Type 0
+NamesNone (entry.Unsettled n why) = ⊥
+NamesNone (entry.UnsettledAll why) = ⊥
+NamesNone e = Unit {0}
+
+pub none_named : (es : List Entry) (name : List ℕ) → Each NamesNone es → IsNamed es name → ⊥
+none_named es name h a = each_has NamesNone es (entry.Unsettled name a.0) h a.1

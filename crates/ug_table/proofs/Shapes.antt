@@ -12,7 +12,7 @@ use Rattle.ug_types.specs.declared.control.Write.TheVariants as write
 use Rattle.ug_kernel.specs.declared.calls.Wrote.{Wrote}
 use Rattle.ug_kernel.specs.declared.calls.Wrote.TheVariants as wrote
 use Rattle.ug_kernel.specs.Calls.{Ask_alive, Put, Close, Closing, Told}
-use Rattle.ug_kernel.specs.Along.{Made, answered}
+use Rattle.ug_kernel.specs.Along.{Made, answered, failure_of}
 use Rattle.ug_record.specs.Records.{judged_of}
 use Rattle.ug_node.specs.Bind.{binding}
 use Rattle.ug_node.specs.declared.identity.Bound.{Bound}
@@ -33,15 +33,20 @@ use Rattle.ug_table.specs.declared.standing.Known.{Known}
 use Rattle.ug_table.specs.declared.standing.Settled.{Settled}
 use Rattle.ug_table.specs.declared.standing.Settled.TheVariants as settled
 use Rattle.ug_kernel.proofs.Ways.{Ways, Sure, Way, ways_more, behind_sure, sure_last}
-use Rattle.ug_node.proofs.BindShapes.{told, sure_binding, sure_hold}
+use Rattle.ug_kernel.specs.declared.calls.FailedCall.{FailedCall}
+use Rattle.ug_node.proofs.BindShapes.{sure_binding, sure_hold, told}
+
+-- what a call was answered, with its number and the count of failed calls after it
+abbrev pub told_at : {X : Type 0} → X → FailedCall → Told X
+told_at answer last = told answer last.call last.count
 
 -- the shapes
 
 -- what came of a write, its entries, and how it ended
 pub data Written (name : List ℕ) (number : ℕ) (what : Write) : Told Wrote → List Entry → Settled → Type 0 where
-  Done : (call count : ℕ) → Written name number what (told wrote.Done call count) (entry.Intent number name what ∷ entry.Wrote number name what wrote.Done ∷ []) settled.Stands
-  Went : (call count : ℕ) → Written name number what (told wrote.Gone call count) (entry.Intent number name what ∷ entry.Wrote number name what wrote.Gone ∷ entry.Gone number name ∷ []) settled.Nobody
-  Broke : (call count : ℕ) → Written name number what (told wrote.Failed call count) (entry.Intent number name what ∷ entry.Wrote number name what wrote.Failed ∷ entry.Unsettled name (fault.Call call count) ∷ []) (settled.Fault call count)
+  Done : (failed : FailedCall) → Written name number what (told_at wrote.Done failed) (entry.Intent number name what ∷ entry.Wrote number name what wrote.Done ∷ []) settled.Stands
+  Went : (failed : FailedCall) → Written name number what (told_at wrote.Gone failed) (entry.Intent number name what ∷ entry.Wrote number name what wrote.Gone ∷ entry.Gone number name ∷ []) settled.Nobody
+  Broke : (failed : FailedCall) → Written name number what (told_at wrote.Failed failed) (entry.Intent number name what ∷ entry.Wrote number name what wrote.Failed ∷ entry.Unsettled name (fault.Call failed) ∷ []) (settled.Fault failed)
 
 -- the value is as wanted, or is written
 pub data Valued (name : List ℕ) (known : Known) (on : Bool) : List Made → List Entry → Settled → Type 0 where
@@ -51,7 +56,7 @@ pub data Valued (name : List ℕ) (known : Known) (on : Bool) : List Made → Li
 -- the `remove` file isn't held
 pub data Unheld (name : List ℕ) (number : ℕ) : RemoveHold → List Entry → Settled → Type 0 where
   Gone_by : Unheld name number hold.Gone (entry.Gone number name ∷ []) settled.Nobody
-  Failed_by : (call count : ℕ) → Unheld name number (hold.Failed call count) (entry.Unsettled name (fault.Call call count) ∷ []) (settled.Fault call count)
+  Failed_by : (failed : FailedCall) → Unheld name number (hold.Failed failed) (entry.Unsettled name (fault.Call failed) ∷ []) (settled.Fault failed)
   Short_by : Unheld name number hold.Memory (entry.Unsettled name fault.Memory ∷ []) settled.Memory
 
 pub data Removal (name : List ℕ) (known : Known) : List Made → List Entry → Settled → Type 0 where
@@ -71,13 +76,13 @@ pub data Brought (name : List ℕ) (known : Known) (on : Bool) : List Made → L
 -- the name has no standing, or its device is found gone
 pub data Opening (name : List ℕ) (ss : List Standing) : List Made → List Entry → List Standing → Type 0 where
   Fresh : standing_of name ss ≡ None → Opening name ss [] [] ss
-  Lost : (known : Known) (call count : ℕ) (shut : Closing) → standing_of name ss ≡ Some known → Opening name ss (answered (Ask_alive known.held.0) (told probe.Gone call count) ∷ answered (Close known.held.0) shut ∷ []) (entry.Gone known.number name ∷ []) (without name ss)
+  Lost : (known : Known) (failed : FailedCall) (shut : Closing) → standing_of name ss ≡ Some known → Opening name ss (answered (Ask_alive known.held.0) (told_at probe.Gone failed) ∷ answered (Close known.held.0) shut ∷ []) (entry.Gone known.number name ∷ []) (without name ss)
 
 -- no device was bound
 pub data Unbound_end (name : List ℕ) : Binding → List Entry → Settled → Type 0 where
   Absent_so : Unbound_end name bound.Absent [] settled.Nobody
   Vanished_so : Unbound_end name bound.Vanished [] settled.Nobody
-  Failed_so : (call count : ℕ) → Unbound_end name (bound.Failed call count) (entry.Unsettled name (fault.Call call count) ∷ []) (settled.Fault call count)
+  Failed_so : (failed : FailedCall) → Unbound_end name (bound.Failed failed) (entry.Unsettled name (fault.Call failed) ∷ []) (settled.Fault failed)
   Short_so : Unbound_end name bound.Memory (entry.Unsettled name fault.Memory ∷ []) settled.Memory
 
 -- a new standing
@@ -90,8 +95,8 @@ pub record IsNew (name : List ℕ) (b : Bound) (s : Standing) : Type 0 where
 -- A name's part: whether room was granted, the calls, the entries, how it ended, the standings then, and the device that was judged
 -- beside which standings, if one was. Only a settling binds; `given` is what is known of a new standing.
 pub data Flat (binds : Bool) (given : List Standing → Bound → Standing → Type 0) (name : List ℕ) (ss : List Standing) : Bool → List Made → List Entry → Settled → List Standing → Option (List Standing × Bound) → Type 0 where
-  Unprobed : (known : Known) (call count : ℕ) → standing_of name ss ≡ Some known → Flat binds given name ss true (answered (Ask_alive known.held.0) (told probe.Failed call count) ∷ []) (entry.Unsettled name (fault.Call call count) ∷ []) (settled.Fault call count) (tried_standings ss name (settled.Fault call count)) None
-  Tried : (known : Known) (on : Bool) (call count : ℕ) (ms : List Made) (es : List Entry) (how : Settled) → standing_of name ss ≡ Some known → Brought name known on ms es how → Flat binds given name ss true (answered (Ask_alive known.held.0) (told (probe.Alive on) call count) ∷ ms) es how (tried_standings ss name how) None
+  Unprobed : (known : Known) (failed : FailedCall) → standing_of name ss ≡ Some known → Flat binds given name ss true (answered (Ask_alive known.held.0) (told_at probe.Failed failed) ∷ []) (entry.Unsettled name (fault.Call failed) ∷ []) (settled.Fault failed) (tried_standings ss name (settled.Fault failed)) None
+  Tried : (known : Known) (on : Bool) (failed : FailedCall) (ms : List Made) (es : List Entry) (how : Settled) → standing_of name ss ≡ Some known → Brought name known on ms es how → Flat binds given name ss true (answered (Ask_alive known.held.0) (told_at (probe.Alive on) failed) ∷ ms) es how (tried_standings ss name how) None
   Stopped : (ms : List Made) (es : List Entry) (rs : List Standing) → binds ≡ false → Opening name ss ms es rs → Flat binds given name ss true ms es settled.Nobody rs None
   Unbound : (ms ns : List Made) (es fs : List Entry) (rs : List Standing) (r : Binding) (how : Settled) → binds ≡ true → Opening name ss ms es rs → Way (binding name (parent_of name)) ns r → Unbound_end name r fs how → Flat binds given name ss true (ms ++ ns) (es ++ fs) how rs None
   No_place : (ms ns : List Made) (es : List Entry) (rs : List Standing) (b : Bound) (shut : Closing) → binds ≡ true → Opening name ss ms es rs → Way (binding name (parent_of name)) ns (bound.Bound b) → Flat binds given name ss false (ms ++ (ns ++ answered (Close b.held.0) shut ∷ [])) (es ++ entry.Unsettled name fault.Memory ∷ []) settled.Memory rs None
@@ -106,17 +111,17 @@ Adds entries Q ms p = (es : List Entry) × (p.1 ≡ entries ++ es) × Q ms es p.
 behind : (a : List Entry) (e : Entry) (b : List Entry) → (a ++ e ∷ []) ++ b ≡ a ++ e ∷ b
 behind a e b = append_assoc a (e ∷ []) b
 
-written : (name : List ℕ) (number : ℕ) (what : Write) (entries : List Entry) (outcome : Wrote) (call count : ℕ) (P : Bool → List Made → Settled × List Entry → Type 0) → ((es fs : List Entry) (how : Settled) → fs ≡ entries ++ es → Written name number what (told outcome call count) es how → P true [] (how, fs)) → Ways (after_write name number what (entries ++ entry.Intent number name what ∷ []) outcome call count) P
-written name number what entries wrote.Done call count P k = k _ _ _ (behind entries (entry.Intent number name what) (entry.Wrote number name what wrote.Done ∷ [])) (Done call count)
-written name number what entries wrote.Gone call count P k = k _ _ _ (behind (entries ++ entry.Intent number name what ∷ []) (entry.Wrote number name what wrote.Gone) (entry.Gone number name ∷ []) ∙ behind entries (entry.Intent number name what) _) (Went call count)
-written name number what entries wrote.Failed call count P k = k _ _ _ (behind (entries ++ entry.Intent number name what ∷ []) (entry.Wrote number name what wrote.Failed) (entry.Unsettled name (fault.Call call count) ∷ []) ∙ behind entries (entry.Intent number name what) _) (Broke call count)
+written : (name : List ℕ) (number : ℕ) (what : Write) (entries : List Entry) (outcome : Wrote) (failed : FailedCall) (P : Bool → List Made → Settled × List Entry → Type 0) → ((es fs : List Entry) (how : Settled) → fs ≡ entries ++ es → Written name number what (told_at outcome failed) es how → P true [] (how, fs)) → Ways (after_write name number what (entries ++ entry.Intent number name what ∷ []) outcome failed) P
+written name number what entries wrote.Done failed P k = k _ _ _ (behind entries (entry.Intent number name what) (entry.Wrote number name what wrote.Done ∷ [])) (Done failed)
+written name number what entries wrote.Gone failed P k = k _ _ _ (behind (entries ++ entry.Intent number name what ∷ []) (entry.Wrote number name what wrote.Gone) (entry.Gone number name ∷ []) ∙ behind entries (entry.Intent number name what) _) (Went failed)
+written name number what entries wrote.Failed failed P k = k _ _ _ (behind (entries ++ entry.Intent number name what ∷ []) (entry.Wrote number name what wrote.Failed) (entry.Unsettled name (fault.Call failed) ∷ []) ∙ behind entries (entry.Intent number name what) _) (Broke failed)
 
 valued : (name : List ℕ) (known : Known) (on : Bool) (entries : List Entry) → Ways (valuing name known on entries) (Sure (Adds entries (Valued name known on)))
 unfolding valuing
 valued name known on entries = by (wants known.verdict) on refl refl
   where
-    set : (b : Bool) → (wants known.verdict ≡ b → ⊥) → b ≡ on → (t : Told Wrote) → Ways (after_write name known.number (write_of known.verdict) (entries ++ entry.Intent known.number name (write_of known.verdict) ∷ []) t.answer t.number t.count) (Sure (λ ms p. Adds entries (Valued name known on) (answered (Put known.held.0 (write_of known.verdict)) t ∷ ms) p))
-    set b ne e t = written name known.number (write_of known.verdict) entries t.answer t.number t.count (Sure (λ ms p. Adds entries (Valued name known on) (answered (Put known.held.0 (write_of known.verdict)) t ∷ ms) p)) (λ es fs how is w. (refl, (es, is, Set t es how (λ s. ne (s ∙ sym e)) w)))
+    set : (b : Bool) → (wants known.verdict ≡ b → ⊥) → b ≡ on → (t : Told Wrote) → Ways (after_write name known.number (write_of known.verdict) (entries ++ entry.Intent known.number name (write_of known.verdict) ∷ []) t.answer (failure_of t)) (Sure (λ ms p. Adds entries (Valued name known on) (answered (Put known.held.0 (write_of known.verdict)) t ∷ ms) p))
+    set b ne e t = written name known.number (write_of known.verdict) entries t.answer (failure_of t) (Sure (λ ms p. Adds entries (Valued name known on) (answered (Put known.held.0 (write_of known.verdict)) t ∷ ms) p)) (λ es fs how is w. (refl, (es, is, Set t es how (λ s. ne (s ∙ sym e)) w)))
 
     by : (a b : Bool) → wants known.verdict ≡ a → b ≡ on → Ways (to_value name known entries a b) (Sure (Adds entries (Valued name known on)))
     by true true e f = (refl, ([], sym (append-nil entries), Same (e ∙ f)))
@@ -132,9 +137,9 @@ removed name known entries = behind_sure (Way (holding_remove name known.held.0)
     at_end ms p h = (refl, subst (λ v. Adds entries (Removal name known) v p) (sym (append-nil ms)) h)
 
     by : (ms : List Made) (a : RemoveHold) → Way (holding_remove name known.held.0) ms a → Ways (after_hold name known entries a) (Sure (λ ns p. Adds entries (Removal name known) (ms ++ ns) p))
-    by ms (hold.Ready file) way = λ t shut. written name known.number write.Remove entries t.answer t.number t.count (Sure (λ ns p. Adds entries (Removal name known) (ms ++ answered (Put file.0 write.Remove) t ∷ answered (Close file.0) shut ∷ ns) p)) (λ es fs how is w. (refl, (es, is, Put_on ms file t shut es how way w)))
+    by ms (hold.Ready file) way = λ t shut. written name known.number write.Remove entries t.answer (failure_of t) (Sure (λ ns p. Adds entries (Removal name known) (ms ++ answered (Put file.0 write.Remove) t ∷ answered (Close file.0) shut ∷ ns) p)) (λ es fs how is w. (refl, (es, is, Put_on ms file t shut es how way w)))
     by ms hold.Gone way = at_end ms _ (_, refl, Not_held ms hold.Gone _ _ way Gone_by)
-    by ms (hold.Failed call count) way = at_end ms _ (_, refl, Not_held ms (hold.Failed call count) _ _ way (Failed_by call count))
+    by ms (hold.Failed failed) way = at_end ms _ (_, refl, Not_held ms (hold.Failed failed) _ _ way (Failed_by failed))
     by ms hold.Memory way = at_end ms _ (_, refl, Not_held ms hold.Memory _ _ way Short_by)
 
 carried : (name : List ℕ) (known : Known) (on : Bool) (entries : List Entry) → Ways (writing name known on entries) (Sure (Adds entries (Carried name known on)))
@@ -154,7 +159,7 @@ carried name known on entries = behind_sure (Adds entries (Valued name known on)
     by : (ms : List Made) (how : Settled) (fs es : List Entry) → fs ≡ entries ++ es → Valued name known on ms es how → Ways (after_value name known fs how) (Sure (λ ns p. Adds entries (Carried name known on) (ms ++ ns) p))
     by ms settled.Stands fs es e v = goes ms es fs (is_to_go known) refl e v
     by ms settled.Nobody fs es e v = stops ms settled.Nobody es fs e v (λ s. let none : ⊥ = cc in absurd none)
-    by ms (settled.Fault call count) fs es e v = stops ms (settled.Fault call count) es fs e v (λ s. let none : ⊥ = cc in absurd none)
+    by ms (settled.Fault failed) fs es e v = stops ms (settled.Fault failed) es fs e v (λ s. let none : ⊥ = cc in absurd none)
     by ms settled.Memory fs es e v = stops ms settled.Memory es fs e v (λ s. let none : ⊥ = cc in absurd none)
 
 pub brought : (name : List ℕ) (known : Known) (on : Bool) (entries : List Entry) → Ways (bringing name known on entries) (Sure (Adds entries (Brought name known on)))
@@ -167,7 +172,7 @@ brought name known on entries = behind_sure (Adds entries (Carried name known on
     by : (ms : List Made) (how : Settled) (fs es : List Entry) → fs ≡ entries ++ es → Carried name known on ms es how → Ways (close_gone known.held.0 fs how) (Sure (λ ns p. Adds entries (Brought name known on) (ms ++ ns) p))
     by ms settled.Nobody fs es e c = λ shut. (refl, (es, e, Let_go ms es shut c))
     by ms settled.Stands fs es e c = stays ms settled.Stands fs es e c (λ s. let none : ⊥ = cc in none)
-    by ms (settled.Fault call count) fs es e c = stays ms (settled.Fault call count) fs es e c (λ s. let none : ⊥ = cc in none)
+    by ms (settled.Fault failed) fs es e c = stays ms (settled.Fault failed) fs es e c (λ s. let none : ⊥ = cc in none)
     by ms settled.Memory fs es e c = stays ms settled.Memory fs es e c (λ s. let none : ⊥ = cc in none)
 
 -- a settling
@@ -241,22 +246,22 @@ entered {J} answer later name present w ms es fs rs same opening = behind_sure (
     by ns (bound.Bound b) way = λ c. room ns b way c
     by ns bound.Absent way = unbound ns bound.Absent [] fs settled.Nobody (sym (append-nil fs)) way Absent_so
     by ns bound.Vanished way = unbound ns bound.Vanished [] fs settled.Nobody (sym (append-nil fs)) way Vanished_so
-    by ns (bound.Failed call count) way = unbound ns (bound.Failed call count) _ _ (settled.Fault call count) refl way (Failed_so call count)
+    by ns (bound.Failed failed) way = unbound ns (bound.Failed failed) _ _ (settled.Fault failed) refl way (Failed_so failed)
     by ns bound.Memory way = unbound ns bound.Memory _ _ settled.Memory refl way Short_so
 
 pub settles : {J : Type 0} (answer : Answers J) (later : Laters J) (name : List ℕ) (present : Bool) (w : State J) → Ways (settling answer later name present w) (Settles answer later name present w)
 unfolding settling
 settles {J} answer later name present w = from (standing_of name w.standings) refl
   where
-    known_by : (known : Known) → standing_of name w.standings ≡ Some known → (r : Probe) (call count : ℕ) → Ways (after_known answer later name present w known r call count) (λ ok ms p. Settles answer later name present w ok (answered (Ask_alive known.held.0) (told r call count) ∷ ms) p)
-    known_by known e (probe.Alive on) call count =
-        sure_last (Adds w.entries (Brought name known on)) (λ ok ms p. Settles answer later name present w ok (answered (Ask_alive known.held.0) (told (probe.Alive on) call count) ∷ ms) p) (bringing name known on w.entries) (to_mark w name) (λ (q : Settled × List Entry). (q.0, record w { standings = tried_standings w.standings name q.0; entries = q.1 })) (λ q. refl) (brought name known on w.entries)
-        (λ ms q h. record { rest = h.0; judged = None; flat = Tried known on call count ms h.0 q.0 e h.2; entries = h.1; listed = refl; next = refl; judge = refl })
-    known_by known e probe.Gone call count = λ shut. entered answer later name present w (answered (Ask_alive known.held.0) (told probe.Gone call count) ∷ answered (Close known.held.0) shut ∷ []) (entry.Gone known.number name ∷ []) (w.entries ++ entry.Gone known.number name ∷ []) (without name w.standings) refl (Lost known call count shut e)
-    known_by known e probe.Failed call count = record { rest = _; judged = None; flat = Unprobed known call count e; entries = refl; listed = refl; next = refl; judge = refl }
+    known_by : (known : Known) → standing_of name w.standings ≡ Some known → (r : Probe) (failed : FailedCall) → Ways (after_known answer later name present w known r failed) (λ ok ms p. Settles answer later name present w ok (answered (Ask_alive known.held.0) (told_at r failed) ∷ ms) p)
+    known_by known e (probe.Alive on) failed =
+        sure_last (Adds w.entries (Brought name known on)) (λ ok ms p. Settles answer later name present w ok (answered (Ask_alive known.held.0) (told_at (probe.Alive on) failed) ∷ ms) p) (bringing name known on w.entries) (to_mark w name) (λ (q : Settled × List Entry). (q.0, record w { standings = tried_standings w.standings name q.0; entries = q.1 })) (λ q. refl) (brought name known on w.entries)
+        (λ ms q h. record { rest = h.0; judged = None; flat = Tried known on failed ms h.0 q.0 e h.2; entries = h.1; listed = refl; next = refl; judge = refl })
+    known_by known e probe.Gone failed = λ shut. entered answer later name present w (answered (Ask_alive known.held.0) (told_at probe.Gone failed) ∷ answered (Close known.held.0) shut ∷ []) (entry.Gone known.number name ∷ []) (w.entries ++ entry.Gone known.number name ∷ []) (without name w.standings) refl (Lost known failed shut e)
+    known_by known e probe.Failed failed = record { rest = _; judged = None; flat = Unprobed known failed e; entries = refl; listed = refl; next = refl; judge = refl }
 
     from : (o : Option Known) → standing_of name w.standings ≡ o → Ways (from_standing answer later name present w o) (Settles answer later name present w)
-    from (Some known) e = λ t. known_by known e t.answer t.number t.count
+    from (Some known) e = λ t. known_by known e t.answer (failure_of t)
     from None e = entered answer later name present w [] [] w.entries w.standings (sym (append-nil w.entries)) (Fresh e)
 
 -- a resettling
@@ -273,13 +278,13 @@ pub resettles : (name : List ℕ) (k : Kept) → Ways (resettling name k) (Reset
 unfolding resettling
 resettles name k = from (standing_of name k.standings) refl
   where
-    known_by : (known : Known) → standing_of name k.standings ≡ Some known → (r : Probe) (call count : ℕ) → Ways (after_again name k known r call count) (λ ok ms p. Resettles name k ok (answered (Ask_alive known.held.0) (told r call count) ∷ ms) p)
-    known_by known e (probe.Alive on) call count =
-        sure_last (Adds k.entries (Brought name known on)) (λ ok ms p. Resettles name k ok (answered (Ask_alive known.held.0) (told (probe.Alive on) call count) ∷ ms) p) (bringing name known on k.entries) (to_keep_mark k name) (λ (q : Settled × List Entry). (q.0, record { standings = tried_standings k.standings name q.0; entries = q.1 })) (λ q. refl) (brought name known on k.entries)
-        (λ ms q h. record { rest = h.0; flat = Tried known on call count ms h.0 q.0 e h.2; entries = h.1 })
-    known_by known e probe.Gone call count = λ shut. record { rest = _; flat = Stopped _ _ _ refl (Lost known call count shut e); entries = refl }
-    known_by known e probe.Failed call count = record { rest = _; flat = Unprobed known call count e; entries = refl }
+    known_by : (known : Known) → standing_of name k.standings ≡ Some known → (r : Probe) (failed : FailedCall) → Ways (after_again name k known r failed) (λ ok ms p. Resettles name k ok (answered (Ask_alive known.held.0) (told_at r failed) ∷ ms) p)
+    known_by known e (probe.Alive on) failed =
+        sure_last (Adds k.entries (Brought name known on)) (λ ok ms p. Resettles name k ok (answered (Ask_alive known.held.0) (told_at (probe.Alive on) failed) ∷ ms) p) (bringing name known on k.entries) (to_keep_mark k name) (λ (q : Settled × List Entry). (q.0, record { standings = tried_standings k.standings name q.0; entries = q.1 })) (λ q. refl) (brought name known on k.entries)
+        (λ ms q h. record { rest = h.0; flat = Tried known on failed ms h.0 q.0 e h.2; entries = h.1 })
+    known_by known e probe.Gone failed = λ shut. record { rest = _; flat = Stopped _ _ _ refl (Lost known failed shut e); entries = refl }
+    known_by known e probe.Failed failed = record { rest = _; flat = Unprobed known failed e; entries = refl }
 
     from : (o : Option Known) → standing_of name k.standings ≡ o → Ways (again name k o) (Resettles name k)
-    from (Some known) e = λ t. known_by known e t.answer t.number t.count
+    from (Some known) e = λ t. known_by known e t.answer (failure_of t)
     from None e = record { rest = []; flat = Stopped [] [] k.standings refl (Fresh e); entries = sym (append-nil k.entries) }

@@ -9,10 +9,10 @@ use Rattle.ug_table.specs.Settle.{dropped}
 use Rattle.ug_table.specs.Sweep.{parted}
 use Rattle.ug_table.specs.Laws.{AreInOrder, IsNamed, IsMarked, Tries, swept_before, IsMarkedIn, AreMarkedIn}
 use Rattle.ug_table.specs.declared.standing.Standing.{Standing}
-use Rattle.ug_table.specs.declared.standing.Settled.{Settled}
 use Rattle.ug_types.proofs.Elements.{cancel, has_cases, filter_has}
 use Rattle.ug_table.proofs.Standings.{same_is, is_same, lists_has}
-use Rattle.ug_table.proofs.Told.{none_named, Part, PartOf, marked_left, marked_right}
+use Rattle.ug_table.proofs.Says.{none_named}
+use Rattle.ug_table.proofs.Told.{Part, PartOf, marked_left, marked_right}
 use Rattle.ug_table.proofs.Marks.{named_only, farewell_none}
 use Rattle.ug_table.proofs.Orders.{not_behind, not_itself}
 
@@ -68,24 +68,24 @@ parted_fresh names w rest e n a named =
     none_named bye n (farewell_none names w.standings) (subst (λ (v : List Entry). IsNamed v n) (sym same) named)
 
 -- one name's part
-part_mark : {J : Type 0} (w u : State J) (name : List ℕ) (names : List (List ℕ)) (gs : List Entry) (p : Settled × State J) (s : Standing) (b : Bool) → same_name s.name name ≡ b → AreInOrder (name ∷ names) → ((s : Standing) → Has u.standings s → IsSplit (name ∷ names) w.standings gs s) → (IsNamed gs name → ⊥) → (x : Part name u.standings u.entries p.1.standings p.1.entries) → Has p.1.standings s → IsSplit names w.standings (gs ++ x.rest) s
-part_mark w u name names gs p s true is o split fresh x a =
+part_mark : {J : Type 0} (w u : State J) (name : List ℕ) (names : List (List ℕ)) (gs : List Entry) (z : State J) (s : Standing) (b : Bool) → same_name s.name name ≡ b → AreInOrder (name ∷ names) → ((s : Standing) → Has u.standings s → IsSplit (name ∷ names) w.standings gs s) → (IsNamed gs name → ⊥) → (x : Part name u.standings u.entries z.standings z.entries) → Has z.standings s → IsSplit names w.standings (gs ++ x.rest) s
+part_mark w u name names gs z s true is o split fresh x a =
     let e = same_is s.name name is in
     inl (λ n h. subst (λ (v : List ℕ). swept_before v n ≡ true) (sym e) (o.0 n h), marked_left gs x.rest s (λ n. fresh (subst (λ (v : List ℕ). IsNamed gs v) e n)) (x.mark s a e))
-part_mark w u name names gs p s false is o split fresh x a =
+part_mark w u name names gs z s false is o split fresh x a =
     let ne : s.name ≡ name → ⊥ = λ e. let same = is_same s.name name e in let none : ⊥ = cc in none in
     elim (split s (x.others s a ne)) [
       | inl h ↦ inl (λ n b. h.0 n (inr b), marked_right gs x.rest s (λ n. ne (named_only name s.name x.rest x.only n)) h.1)
       | inr h ↦ elim h.0 [ inl e ↦ absurd (ne (sym e)) | inr b ↦ inr (b, h.1) ]
     ]
 
-pub part_split : {J : Type 0} (w u : State J) (name : List ℕ) (names : List (List ℕ)) (gs : List Entry) (p : Settled × State J) → u.entries ≡ w.entries ++ gs → AreInOrder (name ∷ names) → AreSplit (name ∷ names) w u → (IsNamed gs name → ⊥) → PartOf name u p → AreSplit names w p.1
-part_split w u name names gs p e o split fresh part rest f s a =
+pub part_split : {J : Type 0} (w u : State J) (name : List ℕ) (names : List (List ℕ)) (gs : List Entry) (z : State J) → u.entries ≡ w.entries ++ gs → AreInOrder (name ∷ names) → AreSplit (name ∷ names) w u → (IsNamed gs name → ⊥) → PartOf name u z → AreSplit names w z
+part_split w u name names gs z e o split fresh part rest f s a =
     let x = part.0 in
-    subst (λ (v : List Entry). IsSplit names w.standings v s) (added_rest w.entries u.entries gs rest x.rest e (sym x.entries ∙ f)) (part_mark w u name names gs p s (same_name s.name name) refl o (split gs e) fresh x a)
+    subst (λ (v : List Entry). IsSplit names w.standings v s) (added_rest w.entries u.entries gs rest x.rest e (sym x.entries ∙ f)) (part_mark w u name names gs z s (same_name s.name name) refl o (split gs e) fresh x a)
 
-pub part_fresh : {J : Type 0} (w u : State J) (name : List ℕ) (names : List (List ℕ)) (gs : List Entry) (p : Settled × State J) → u.entries ≡ w.entries ++ gs → AllDistinct (name ∷ names) → AreFresh (name ∷ names) w u → PartOf name u p → AreFresh names w p.1
-part_fresh w u name names gs p e distinct fresh part rest f n a named =
+pub part_fresh : {J : Type 0} (w u : State J) (name : List ℕ) (names : List (List ℕ)) (gs : List Entry) (z : State J) → u.entries ≡ w.entries ++ gs → AllDistinct (name ∷ names) → AreFresh (name ∷ names) w u → PartOf name u z → AreFresh names w z
+part_fresh w u name names gs z e distinct fresh part rest f n a named =
     let x = part.0 in
     let same = added_rest w.entries u.entries gs rest x.rest e (sym x.entries ∙ f) in
     let told = subst (λ (v : List Entry). IsNamed v n) (sym same) named in

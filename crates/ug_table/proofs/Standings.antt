@@ -1,13 +1,13 @@
 -- The standings of names.
-use Rattle.std.proofs.Common.{◌≡◌, ◌↔◌, ℕ, nat_eq, Option, option_copied, IsNone, Bor, sym, Bool, true, false, not, ◌∙◌, ◌||◌, List, [], ◌∷◌, Some, None, map, cond, ◌⊎◌, inl, inr, refl, ap, arith}
+use Rattle.std.proofs.Common.{◌≡◌, ◌↔◌, ℕ, nat_eq, Option, option_copied, IsNone, Bor, sym, Bool, true, false, not, ◌∙◌, ◌||◌, List, [], ◌∷◌, Some, None, map, cond, ◌⊎◌, inl, inr, refl, ap, subst, arith}
 use Rattle.std.specs.Cmp.Lexicographic.{bytes_decides}
-use Rattle.ug_types.specs.Elements.{Has}
+use Rattle.ug_types.specs.Elements.{Has, AllDistinct}
 use Rattle.ug_table.specs.Standings.{same_name, known_of, standing_of, numbered, without, marked, lists, removed_of}
 use Rattle.ug_table.specs.Sweep.{names_of}
 use Rattle.ug_table.specs.Laws.{numbers_of}
 use Rattle.ug_table.specs.declared.standing.Standing.{Standing}
 use Rattle.ug_table.specs.declared.standing.Known.{Known}
-use Rattle.ug_types.proofs.Elements.{filter_has, map_has}
+use Rattle.ug_types.proofs.Elements.{filter_has, map_has, has_map, distinct_one}
 use Rattle.ug_table.specs.Bring.{is_reject}
 
 pub same_is : (a b : List ℕ) → same_name a b ≡ true → a ≡ b
@@ -40,6 +40,16 @@ missing_by name x ss false e f h (inr a) = f h a
 pub missing : (name : List ℕ) (ss : List Standing) → standing_of name ss ≡ None → Has (names_of ss) name → ⊥
 missing name [] h a = a
 missing name (x ∷ ss) h a = missing_by name x ss (same_name x.name name) refl (λ k. missing name ss k) h a
+
+-- a standing is its name's, where no name has two
+pub stands_one : (name : List ℕ) (ss : List Standing) (s : Standing) → AllDistinct (names_of ss) → Has ss s → s.name ≡ name → standing_of name ss ≡ Some (known_of s)
+stands_one name ss s distinct a e = by (standing_of name ss) refl
+  where
+    by : (o : Option Known) → standing_of name ss ≡ o → standing_of name ss ≡ Some (known_of s)
+    by None q = absurd (missing name ss q (subst (λ (v : List ℕ). Has (names_of ss) v) e (has_map (λ (v : Standing). v.name) ss s a)))
+    by (Some known) q =
+        let f = found name ss known q in
+        q ∙ ap (λ (v : Known). Some v) (sym f.known ∙ ap known_of (distinct_one (λ (v : Standing). v.name) ss f.s s distinct f.has a (f.named ∙ sym e)))
 
 pub missing_without : (name : List ℕ) (ss : List Standing) → Has (names_of (without name ss)) name → ⊥
 missing_without name ss a =

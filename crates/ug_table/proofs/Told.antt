@@ -1,153 +1,132 @@
 -- What settling a name tells as unsettled, and how it leaves the marks, whatever the kernel answers.
-use Rattle.std.proofs.Common.{◌≡◌, ℕ, Bool, true, false, not, cond, List, [], ◌∷◌, ◌++◌, map, Option, inl, inr, refl, sym, ◌∙◌, ap, subst}
+use Rattle.std.proofs.Common.{◌≡◌, ℕ, Bool, true, false, not, cond, List, [], ◌∷◌, ◌++◌, map, Option, inl, inr, refl, sym, ◌∙◌, ap, subst, Some, append_assoc}
 use Rattle.ug_types.specs.Elements.{Has}
 use Rattle.ug_types.specs.declared.control.Write.{Write}
 use Rattle.ug_kernel.specs.declared.calls.Wrote.{Wrote}
-use Rattle.ug_kernel.specs.declared.calls.Wrote.TheVariants as wrote
-use Rattle.ug_kernel.specs.Calls.{Call, Answer}
-use Rattle.ug_kernel.specs.Tree.{Prog, Runs, then}
+use Rattle.ug_kernel.specs.Calls.{Call, Answer, Told}
 use Rattle.ug_node.specs.declared.identity.Bound.{Bound}
 use Rattle.ug_node.specs.declared.identity.Binding.{Binding}
 use Rattle.ug_audit.specs.declared.entry.Entry.{Entry}
 use Rattle.ug_audit.specs.declared.entry.Entry.TheVariants as entry
 use Rattle.ug_audit.specs.declared.entry.Fault.TheVariants as fault
-use Rattle.ug_node.specs.declared.removal.RemoveHold.{RemoveHold}
-use Rattle.ug_table.specs.State.{State, Kept, Answers, Laters}
-use Rattle.ug_table.specs.Bring.{is_to_go, bringing}
-use Rattle.ug_table.specs.Standings.{same_name, without, marked, place_for, with_standing, settled_standing}
-use Rattle.ug_table.specs.Settle.{kept_standings, tried_standings, settling, resettling}
+use Rattle.ug_table.specs.State.{State, Answers, Laters}
+use Rattle.ug_table.specs.Standings.{same_name, without, marked, place_for, with_standing, settled_standing, standing_of}
+use Rattle.ug_table.specs.Settle.{kept_standings, tried_standings}
 use Rattle.ug_table.specs.Sweep.{names_of}
 use Rattle.ug_table.specs.Laws.{IsNamed, IsMarked}
 use Rattle.ug_table.specs.declared.standing.Standing.{Standing}
 use Rattle.ug_table.specs.declared.standing.Known.{Known}
 use Rattle.ug_table.specs.declared.standing.Settled.{Settled}
 use Rattle.ug_table.specs.declared.standing.Settled.TheVariants as settled
-use Rattle.ug_types.proofs.Elements.{has_left, has_right, has_cases, filter_has, map_has, has_map, insert_has}
-use Rattle.ug_kernel.proofs.Ways.{Ways, Sure, ways_run, ways_next, ways_more}
-use Rattle.ug_table.proofs.Shapes.{Written, Done, Went, Broke, Valued, Same, Set, Unheld, Gone_by, Failed_by, Short_by, Removal, Not_held, Put_on, Carried, By_value, And_removal, Brought, Left_open, Let_go, Opening, Fresh, Lost, Unbound_end, Absent_so, Vanished_so, Failed_so, Short_so, Flat, Unprobed, Tried, Stopped, Unbound, No_place, Judged_so, Adds, brought, Settles, settles, Resettles, resettles}
-use Rattle.ug_kernel.specs.Calls.{Told}
+use Rattle.ug_types.proofs.Elements.{has_left, has_right, has_cases, filter_has, map_has, has_map, insert_has, has_new}
+use Rattle.ug_table.proofs.Shapes.{Written, Done, Went, Broke, Valued, Same, Set, Gone_by, Failed_by, Short_by, Removal, Not_held, Put_on, Carried, By_value, And_removal, Brought, Left_open, Let_go, Opening, Fresh, Lost, Unbound_end, Absent_so, Vanished_so, Failed_so, Short_so, Flat, Unprobed, Tried, Stopped, Unbound, No_place, Judged_so, brought}
 use Rattle.ug_kernel.specs.Along.{Made}
-use Rattle.ug_table.proofs.Standings.{is_same, missing, missing_without}
+use Rattle.ug_table.proofs.Standings.{is_same, missing, missing_without, found, names_marked}
 use Rattle.ug_table.proofs.Places.{marked_other}
+use Rattle.ug_table.proofs.Chains.{Piece}
+use Rattle.ug_audit.specs.declared.entry.Fault.{Fault}
+use Rattle.ug_table.specs.Bring.{is_to_go}
+use Rattle.ug_table.specs.One.{why_in, whys, why_of}
+use Rattle.ug_table.specs.Parts.{EndsUnsettled}
+use Rattle.ug_table.proofs.OnePart.{flat_is_part}
+use Rattle.ug_table.proofs.Says.{Each, NamesOnly}
 
--- each end of the tree is so
-abbrev pub EndsSo : {R : Type 0} → (R → Type 0) → Prog R → Type 0
-EndsSo p t = Ways t (λ ok ms r. p r)
+-- why
 
-pub ends_run : {S R : Type 0} (gives : S → (call : Call) → Answer call → S → Type 0) (p : R → Type 0) (t : Prog R) (s : S) (r : R) (u : S) → EndsSo p t → Runs gives s t r u → p r
-ends_run gives p t s r u e h = (ways_run gives (λ ok ms x. p x) t s r u e h).so
+whys_more : (es fs : List Entry) → whys (es ++ fs) ≡ whys es ++ whys fs
+whys_more [] fs = refl
+whys_more (e ∷ es) fs = ap (λ (v : List Fault). why_in e ++ v) (whys_more es fs) ∙ sym (append_assoc (why_in e) (whys es) (whys fs))
 
-pub ends_then : {A B : Type 0} (p : A → Type 0) (q : B → Type 0) (t : Prog A) (f : A → Prog B) → EndsSo p t → ((a : A) → p a → EndsSo q (f a)) → EndsSo q (then t f)
-ends_then p q t f e g = ways_next (λ ok ms a. p a) (λ ok ms b. q b) t f e (λ ok ms a h. g a h)
+-- the entries tell how it ended; want of memory is answered only where the device is to be removed
 
-pub ends_map : {R : Type 0} (p q : R → Type 0) (t : Prog R) → ((r : R) → p r → q r) → EndsSo p t → EndsSo q t
-ends_map p q t f e = ways_more (λ ok ms r. p r) (λ ok ms r. q r) t (λ ok ms r h. f r h) e
+written_whys : {name : List ℕ} {number : ℕ} {what : Write} {t : Told Wrote} {es : List Entry} {how : Settled} → Written name number what t es how → (whys es ≡ why_of how) × (how ≡ settled.Memory → ⊥)
+written_whys (Done failed) = (refl, λ e. let none : ⊥ = cc in none)
+written_whys (Went failed) = (refl, λ e. let none : ⊥ = cc in none)
+written_whys (Broke failed) = (refl, λ e. let none : ⊥ = cc in none)
 
--- each entry is so
-abbrev pub Each : (Entry → Type 0) → List Entry → Type 0
-Each p [] = Unit {0}
-Each p (e ∷ es) = p e × Each p es
+valued_whys : {name : List ℕ} {known : Known} {on : Bool} {ms : List Made} {es : List Entry} {how : Settled} → Valued name known on ms es how → (whys es ≡ why_of how) × (how ≡ settled.Memory → ⊥)
+valued_whys (Same e) = (refl, λ f. let none : ⊥ = cc in none)
+valued_whys (Set t es how e w) = written_whys w
 
-pub each_has : (p : Entry → Type 0) (es : List Entry) (e : Entry) → Each p es → Has es e → p e
-each_has p [] e h a = absurd a
-each_has p (x ∷ es) e h (inl is) = subst (λ (v : Entry). p v) is h.0
-each_has p (x ∷ es) e h (inr a) = each_has p es e h.1 a
+removal_whys : {name : List ℕ} {known : Known} {ms : List Made} {es : List Entry} {how : Settled} → Removal name known ms es how → whys es ≡ why_of how
+removal_whys (Not_held ms answer es how way Gone_by) = refl
+removal_whys (Not_held ms answer es how way (Failed_by failed)) = refl
+removal_whys (Not_held ms answer es how way Short_by) = refl
+removal_whys (Put_on ms file t shut es how way w) = (written_whys w).0
 
-pub each_append : (p : Entry → Type 0) (es fs : List Entry) → Each p es → Each p fs → Each p (es ++ fs)
-each_append p [] fs h k = k
-each_append p (e ∷ es) fs h k = (h.0, each_append p es fs h.1 k)
+carried_whys : {name : List ℕ} {known : Known} {on : Bool} {ms : List Made} {es : List Entry} {how : Settled} → Carried name known on ms es how → (whys es ≡ why_of how) × (how ≡ settled.Memory → is_to_go known ≡ true)
+carried_whys (By_value ms es how v k) = let a = valued_whys v in (a.0, λ e. absurd (a.1 e))
+carried_whys (And_removal ms ns es fs how go v r) = (whys_more es fs ∙ ap (λ (w : List Fault). w ++ whys fs) (valued_whys v).0 ∙ removal_whys r, λ e. go)
 
-pub each_map : (p q : Entry → Type 0) (es : List Entry) → ((e : Entry) → p e → q e) → Each p es → Each q es
-each_map p q [] f h = tt
-each_map p q (e ∷ es) f h = (f e h.0, each_map p q es f h.1)
+brought_whys : {name : List ℕ} {known : Known} {on : Bool} {ms : List Made} {es : List Entry} {how : Settled} → Brought name known on ms es how → (whys es ≡ why_of how) × (how ≡ settled.Memory → is_to_go known ≡ true)
+brought_whys (Left_open ms es how c n) = carried_whys c
+brought_whys (Let_go ms es shut c) = carried_whys c
 
--- it names none but this one as unsettled, and no listing
-abbrev pub NamesOnly : List ℕ → Entry → Type 0
-NamesOnly name (entry.Unsettled n why) = n ≡ name
-NamesOnly name (entry.UnsettledAll why) = ⊥
-NamesOnly name e = Unit {0}
+opening_whys : {name : List ℕ} {ss : List Standing} {ms : List Made} {es : List Entry} {rs : List Standing} → Opening name ss ms es rs → whys es ≡ []
+opening_whys (Fresh e) = refl
+opening_whys (Lost known failed shut e) = refl
 
--- it names none
-abbrev pub NamesNone : Entry → Type 0
-NamesNone (entry.Unsettled n why) = ⊥
-NamesNone (entry.UnsettledAll why) = ⊥
-NamesNone e = Unit {0}
+unbound_whys : {name : List ℕ} {r : Binding} {es : List Entry} {how : Settled} → Unbound_end name r es how → (whys es ≡ why_of how) × (how ≡ settled.Stands → ⊥)
+unbound_whys Absent_so = (refl, λ e. let none : ⊥ = cc in none)
+unbound_whys Vanished_so = (refl, λ e. let none : ⊥ = cc in none)
+unbound_whys (Failed_so failed) = (refl, λ e. let none : ⊥ = cc in none)
+unbound_whys Short_so = (refl, λ e. let none : ⊥ = cc in none)
 
--- it names none for memory
-abbrev pub NotMemory : Entry → Type 0
-NotMemory (entry.Unsettled n fault.Memory) = ⊥
-NotMemory e = Unit {0}
+-- behind an opening
+after_opening : {name : List ℕ} {ss : List Standing} {ms : List Made} {es : List Entry} {rs : List Standing} (fs : List Entry) → Opening name ss ms es rs → whys (es ++ fs) ≡ whys fs
+after_opening {es = es} fs o = whys_more es fs ∙ ap (λ (v : List Fault). v ++ whys fs) (opening_whys o)
 
-pub none_named : (es : List Entry) (name : List ℕ) → Each NamesNone es → IsNamed es name → ⊥
-none_named es name h a = each_has NamesNone es (entry.Unsettled name a.0) h a.1
+-- the entries of a part tell how it ended
+pub flat_whys : {binds : Bool} {given : List Standing → Bound → Standing → Type 0} {name : List ℕ} {ss : List Standing} {ok : Bool} {ms : List Made} {rest : List Entry} {how : Settled} {rs : List Standing} {o : Option (List Standing × Bound)} → Flat binds given name ss ok ms rest how rs o → whys rest ≡ why_of how
+flat_whys (Unprobed known failed at) = refl
+flat_whys (Tried known on failed ms es how at b) = (brought_whys b).0
+flat_whys (Stopped ms es rs f opening) = opening_whys opening
+flat_whys (Unbound ms ns es fs rs r how t opening way end) = after_opening fs opening ∙ (unbound_whys end).0
+flat_whys (No_place ms ns es rs b shut t opening way) = after_opening _ opening
+flat_whys (Judged_so ms ns os es fs rs b x how t opening way given new brought) = after_opening _ opening ∙ (brought_whys brought).0
+
+-- nothing that is told is unsettled
+right_none : (xs ys : List Fault) → xs ++ ys ≡ [] → ys ≡ []
+right_none [] ys e = e
+right_none (x ∷ xs) ys e = let none : ⊥ = cc in absurd none
+
+told_why : (es : List Entry) (name : List ℕ) (why : Fault) → whys es ≡ [] → Has es (entry.Unsettled name why) → ⊥
+told_why [] name why e a = a
+told_why (x ∷ es) name why e (inl is) =
+    let here : why ∷ whys es ≡ [] = subst (λ (v : Entry). why_in v ++ whys es ≡ []) is e in
+    let none : ⊥ = cc in none
+told_why (x ∷ es) name why e (inr a) = told_why es name why (right_none (why_in x) (whys es) e) a
+
+pub unnamed : (es : List Entry) (name : List ℕ) → whys es ≡ [] → IsNamed es name → ⊥
+unnamed es name e a = told_why es name a.0 e a.1
+
+-- an entry that tells it unsettled is the last, and names it
+ends_only : (name : List ℕ) (es : List Entry) → EndsUnsettled name es → Each (NamesOnly name) es
+ends_only name [] h = tt
+ends_only name (entry.Unsettled n why ∷ es) h = (h.0.0, ends_only name es h.1)
+ends_only name (entry.UnsettledAll why ∷ es) h = absurd h.0
+ends_only name (e ∷ es) h = (tt, ends_only name es h.1)
+
+why_named : (name : List ℕ) (es : List Entry) (why : Fault) → EndsUnsettled name es → whys es ≡ why ∷ [] → IsNamed es name
+why_named name [] why h e = let none : ⊥ = cc in absurd none
+why_named name (entry.Unsettled n x ∷ es) why h e = (x, inl (ap (λ (v : List ℕ). entry.Unsettled v x) h.0.0))
+why_named name (entry.UnsettledAll x ∷ es) why h e = absurd h.0
+why_named name (x ∷ es) why h e = let k = why_named name es why h.1 e in (k.0, inr k.1)
 
 -- what the entries say of a name, by how it was settled
 abbrev Tells : Settled → List ℕ → List Entry → Type 0
 Tells settled.Stands name rest = IsNamed rest name → ⊥
-Tells (settled.Fault call count) name rest = IsNamed rest name
+Tells (settled.Fault failed) name rest = IsNamed rest name
 Tells settled.Nobody name rest = Unit {0}
 Tells settled.Memory name rest = IsNamed rest name
 
--- the writes
+tells_how : (how : Settled) (name : List ℕ) (es : List Entry) → EndsUnsettled name es → whys es ≡ why_of how → Tells how name es
+tells_how settled.Stands name es h e = unnamed es name e
+tells_how settled.Nobody name es h e = tt
+tells_how (settled.Fault failed) name es h e = why_named name es (fault.Call failed) h e
+tells_how settled.Memory name es h e = why_named name es fault.Memory h e
 
--- a device that isn't to be removed isn't told for memory
-record TellsSo (name : List ℕ) (go : Bool) (es : List Entry) (how : Settled) : Type 0 where
-  only : Each (NamesOnly name) es
-  spared : go ≡ false → Each NotMemory es
-  tells : Tells how name es
-
-written_tells : {name : List ℕ} {number : ℕ} {what : Write} {t : Told Wrote} {es : List Entry} {how : Settled} (go : Bool) → Written name number what t es how → TellsSo name go es how
-written_tells {name} {number} {what} go (Done call count) = record { only = (tt, (tt, tt)); spared = λ e. (tt, (tt, tt)); tells = none_named (entry.Intent number name what ∷ entry.Wrote number name what wrote.Done ∷ []) name (tt, (tt, tt)) }
-written_tells go (Went call count) = record { only = (tt, (tt, (tt, tt))); spared = λ e. (tt, (tt, (tt, tt))); tells = tt }
-written_tells go (Broke call count) = record { only = (tt, (tt, (refl, tt))); spared = λ e. (tt, (tt, (tt, tt))); tells = (fault.Call call count, inr (inr (inl refl))) }
-
-valued_tells : {name : List ℕ} {known : Known} {on : Bool} {ms : List Made} {es : List Entry} {how : Settled} (go : Bool) → Valued name known on ms es how → TellsSo name go es how
-valued_tells {name} go (Same e) = record { only = tt; spared = λ f. tt; tells = none_named [] name tt }
-valued_tells go (Set t es how e w) = written_tells go w
-
-unheld_tells : {name : List ℕ} {number : ℕ} {r : RemoveHold} {es : List Entry} {how : Settled} → Unheld name number r es how → TellsSo name true es how
-unheld_tells Gone_by = record { only = (tt, tt); spared = λ e. (tt, tt); tells = tt }
-unheld_tells (Failed_by call count) = record { only = (refl, tt); spared = λ e. (tt, tt); tells = (fault.Call call count, inl refl) }
-unheld_tells Short_by = record { only = (refl, tt); spared = λ e. absurd (let none : ⊥ = cc in none); tells = (fault.Memory, inl refl) }
-
-removal_tells : {name : List ℕ} {known : Known} {ms : List Made} {es : List Entry} {how : Settled} → Removal name known ms es how → TellsSo name true es how
-removal_tells (Not_held ms r es how way u) = unheld_tells u
-removal_tells (Put_on ms file t shut es how way w) = written_tells true w
-
-tells_more : (how : Settled) (name : List ℕ) (es fs : List Entry) → (IsNamed es name → ⊥) → Tells how name fs → Tells how name (es ++ fs)
-tells_more settled.Stands name es fs none t = λ a. elim (has_cases es fs (entry.Unsettled name a.0) a.1) [ inl b ↦ none (a.0, b) | inr b ↦ t (a.0, b) ]
-tells_more (settled.Fault call count) name es fs none t = (t.0, has_right es fs (entry.Unsettled name t.0) t.1)
-tells_more settled.Nobody name es fs none t = tt
-tells_more settled.Memory name es fs none t = (t.0, has_right es fs (entry.Unsettled name t.0) t.1)
-
-carried_tells : {name : List ℕ} {known : Known} {on : Bool} {ms : List Made} {es : List Entry} {how : Settled} → Carried name known on ms es how → TellsSo name (is_to_go known) es how
-carried_tells {known = known} (By_value ms es how v k) = valued_tells (is_to_go known) v
-carried_tells {name} (And_removal ms ns es fs how go v r) =
-    let a = valued_tells true v in
-    let b = removal_tells r in
-    record {
-      only = each_append (NamesOnly name) es fs a.only b.only;
-      spared = λ e. absurd (let is = go in let none : ⊥ = cc in none);
-      tells = tells_more how name es fs a.tells b.tells;
-    }
-
-brought_tells : {name : List ℕ} {known : Known} {on : Bool} {ms : List Made} {es : List Entry} {how : Settled} → Brought name known on ms es how → TellsSo name (is_to_go known) es how
-brought_tells (Left_open ms es how c n) = carried_tells c
-brought_tells (Let_go ms es shut c) = carried_tells c
-
-pub record Brings (name : List ℕ) (go : Bool) (es : List Entry) (p : Settled × List Entry) : Type 0 where
-  pub rest : List Entry
-  pub entries : p.1 ≡ es ++ rest
-  pub only : Each (NamesOnly name) rest
-  pub spared : go ≡ false → Each NotMemory rest
-
-pub bringing_brings : (name : List ℕ) (known : Known) (on : Bool) (es : List Entry) → EndsSo (Brings name (is_to_go known) es) (bringing name known on es)
-bringing_brings name known on es =
-    ways_more (Sure (Adds es (Brought name known on))) (λ ok ms p. Brings name (is_to_go known) es p) (bringing name known on es)
-    (λ ok ms p k. let h = k.1 in let t = brought_tells h.2 in record { rest = h.0; entries = h.1; only = t.only; spared = t.spared })
-    (brought name known on es)
-
--- a name
+-- the standings
 
 -- other names' standings are as they were; its own is marked by what is told
 pub record Part (name : List ℕ) (ss : List Standing) (es : List Entry) (rs : List Standing) (fs : List Entry) : Type 0 where
@@ -176,7 +155,7 @@ new_others ss x s a ne = elim (insert_has ss (place_for x.name ss) x s a) [
 kept_others : (ss : List Standing) (x : Standing) (how : Settled) (s : Standing) → Has (kept_standings ss x how) s → (s.name ≡ x.name → ⊥) → Has ss s
 kept_others ss x settled.Nobody s a ne = a
 kept_others ss x settled.Stands s a ne = new_others ss (settled_standing x) s a ne
-kept_others ss x (settled.Fault call count) s a ne = new_others ss x s a ne
+kept_others ss x (settled.Fault failed) s a ne = new_others ss x s a ne
 kept_others ss x settled.Memory s a ne = new_others ss x s a ne
 
 new_mark : (ss : List Standing) (x s : Standing) (rest : List Entry) → (Has (names_of ss) x.name → ⊥) → IsMarked rest x → Has (with_standing x ss) s → s.name ≡ x.name → IsMarked rest s
@@ -188,7 +167,7 @@ new_mark ss x s rest absent m a e = elim (insert_has ss (place_for x.name ss) x 
 kept_mark : (ss : List Standing) (x : Standing) (how : Settled) (rest : List Entry) (s : Standing) → (Has (names_of ss) x.name → ⊥) → x.settled ≡ false → Tells how x.name rest → Has (kept_standings ss x how) s → s.name ≡ x.name → IsMarked rest s
 kept_mark ss x settled.Nobody rest s absent f t a e = absurd (absent (subst (λ (v : List ℕ). Has (names_of ss) v) e (has_map (λ (v : Standing). v.name) ss s a)))
 kept_mark ss x settled.Stands rest s absent f t a e = new_mark ss (settled_standing x) s rest absent (inl (refl, t)) a e
-kept_mark ss x (settled.Fault call count) rest s absent f t a e = new_mark ss x s rest absent (inr (f, t)) a e
+kept_mark ss x (settled.Fault failed) rest s absent f t a e = new_mark ss x s rest absent (inr (f, t)) a e
 kept_mark ss x settled.Memory rest s absent f t a e = new_mark ss x s rest absent (inr (f, t)) a e
 
 -- a standing that is tried again
@@ -202,7 +181,7 @@ marked_others ss name b s a ne =
 tried_others : (ss : List Standing) (name : List ℕ) (how : Settled) (s : Standing) → Has (tried_standings ss name how) s → (s.name ≡ name → ⊥) → Has ss s
 tried_others ss name settled.Nobody s a ne = (filter_has (λ (v : Standing). not (same_name v.name name)) ss s a).0
 tried_others ss name settled.Stands s a ne = marked_others ss name true s a ne
-tried_others ss name (settled.Fault call count) s a ne = marked_others ss name false s a ne
+tried_others ss name (settled.Fault failed) s a ne = marked_others ss name false s a ne
 tried_others ss name settled.Memory s a ne = marked_others ss name false s a ne
 
 marked_mark : (ss : List Standing) (name : List ℕ) (b : Bool) (s : Standing) → Has (map (marked name b) ss) s → s.name ≡ name → s.settled ≡ b
@@ -214,18 +193,17 @@ marked_mark ss name b s a e =
 tried_mark : (ss : List Standing) (name : List ℕ) (how : Settled) (rest : List Entry) (s : Standing) → Tells how name rest → Has (tried_standings ss name how) s → s.name ≡ name → IsMarked rest s
 tried_mark ss name settled.Nobody rest s t a e = absurd (missing_without name ss (subst (λ (v : List ℕ). Has (names_of (without name ss)) v) e (has_map (λ (v : Standing). v.name) (without name ss) s a)))
 tried_mark ss name settled.Stands rest s t a e = inl (marked_mark ss name true s a e, subst (λ (v : List ℕ). IsNamed rest v → ⊥) (sym e) t)
-tried_mark ss name (settled.Fault call count) rest s t a e = inr (marked_mark ss name false s a e, subst (λ (v : List ℕ). IsNamed rest v) (sym e) t)
+tried_mark ss name (settled.Fault failed) rest s t a e = inr (marked_mark ss name false s a e, subst (λ (v : List ℕ). IsNamed rest v) (sym e) t)
 tried_mark ss name settled.Memory rest s t a e = inr (marked_mark ss name false s a e, subst (λ (v : List ℕ). IsNamed rest v) (sym e) t)
 
 -- before a binding, no standing of the name is left
-pub record Opens (name : List ℕ) (ss : List Standing) (es : List Entry) (rs : List Standing) : Type 0 where
-  pub none : Each NamesNone es
+pub record Opens (name : List ℕ) (ss : List Standing) (rs : List Standing) : Type 0 where
   pub less : (s : Standing) → Has rs s → Has ss s
   pub absent : Has (names_of rs) name → ⊥
 
-pub opens : {name : List ℕ} {ss : List Standing} {ms : List Made} {es : List Entry} {rs : List Standing} → Opening name ss ms es rs → Opens name ss es rs
-opens {name} {ss} (Fresh e) = record { none = tt; less = λ s a. a; absent = missing name ss e }
-opens {name} {ss} (Lost known call count shut e) = record { none = (tt, tt); less = λ s a. tried_others_less s a; absent = missing_without name ss }
+pub opens : {name : List ℕ} {ss : List Standing} {ms : List Made} {es : List Entry} {rs : List Standing} → Opening name ss ms es rs → Opens name ss rs
+opens {name} {ss} (Fresh e) = record { less = λ s a. a; absent = missing name ss e }
+opens {name} {ss} (Lost known failed shut e) = record { less = λ s a. tried_others_less s a; absent = missing_without name ss }
   where
     tried_others_less : (s : Standing) → Has (without name ss) s → Has ss s
     tried_others_less s a = (filter_has (λ (v : Standing). not (same_name v.name name)) ss s a).0
@@ -234,60 +212,87 @@ opens {name} {ss} (Lost known call count shut e) = record { none = (tt, tt); les
 own_name : (ss : List Standing) (name : List ℕ) (s : Standing) → Has ss s → s.name ≡ name → Has (names_of ss) name
 own_name ss name s a e = subst (λ (v : List ℕ). Has (names_of ss) v) e (has_map (λ (v : Standing). v.name) ss s a)
 
-unbound_only : {name : List ℕ} {r : Binding} {es : List Entry} {how : Settled} → Unbound_end name r es how → Each (NamesOnly name) es
-unbound_only Absent_so = tt
-unbound_only Vanished_so = tt
-unbound_only (Failed_so call count) = (refl, tt)
-unbound_only Short_so = (refl, tt)
+flat_others : {binds : Bool} {given : List Standing → Bound → Standing → Type 0} {name : List ℕ} {ss : List Standing} {ok : Bool} {ms : List Made} {rest : List Entry} {how : Settled} {rs : List Standing} {o : Option (List Standing × Bound)} → Flat binds given name ss ok ms rest how rs o → (s : Standing) → Has rs s → (s.name ≡ name → ⊥) → Has ss s
+flat_others {name = name} {ss = ss} (Unprobed known failed at) s a ne = tried_others ss name (settled.Fault failed) s a ne
+flat_others {name = name} {ss = ss} (Tried known on failed ms es how at b) s a ne = tried_others ss name how s a ne
+flat_others (Stopped ms es rs f opening) s a ne = (opens opening).less s a
+flat_others (Unbound ms ns es fs rs r how t opening way end) s a ne = (opens opening).less s a
+flat_others (No_place ms ns es rs b shut t opening way) s a ne = (opens opening).less s a
+flat_others (Judged_so ms ns os es fs rs b x how t opening way given new brought) s a ne = (opens opening).less s (kept_others rs x how s a (λ f. ne (f ∙ new.named)))
 
--- it names none, so none but this one
-only_none : (name : List ℕ) (e : Entry) → NamesNone e → NamesOnly name e
-only_none name (entry.Unsettled n why) h = absurd h
-only_none name (entry.UnsettledAll why) h = h
-only_none name (entry.Event number moment) h = h
-only_none name (entry.Judged number n held verdict cause) h = h
-only_none name (entry.Intent number n what) h = h
-only_none name (entry.Wrote number n what outcome) h = h
-only_none name (entry.Gone number n) h = h
-only_none name (entry.End number) h = h
+flat_mark : {binds : Bool} {given : List Standing → Bound → Standing → Type 0} {name : List ℕ} {ss : List Standing} {ok : Bool} {ms : List Made} {rest : List Entry} {how : Settled} {rs : List Standing} {o : Option (List Standing × Bound)} → Tells how name rest → Flat binds given name ss ok ms rest how rs o → (s : Standing) → Has rs s → s.name ≡ name → IsMarked rest s
+flat_mark {name = name} {ss = ss} t (Unprobed known failed at) s a is = tried_mark ss name (settled.Fault failed) (entry.Unsettled name (fault.Call failed) ∷ []) s t a is
+flat_mark {name = name} {ss = ss} t (Tried known on failed ms es how at b) s a is = tried_mark ss name how es s t a is
+flat_mark {name = name} t (Stopped ms es rs f opening) s a is = absurd ((opens opening).absent (own_name rs name s a is))
+flat_mark {name = name} t (Unbound ms ns es fs rs r how f opening way end) s a is = absurd ((opens opening).absent (own_name rs name s a is))
+flat_mark {name = name} t (No_place ms ns es rs b shut f opening way) s a is = absurd ((opens opening).absent (own_name rs name s a is))
+flat_mark {rest = rest} t (Judged_so ms ns os es fs rs b x how f opening way given new brought) s a is =
+    kept_mark rs x how rest s (subst (λ v. Has (names_of rs) v → ⊥) (sym new.named) (opens opening).absent) new.fresh (subst (λ v. Tells how v rest) (sym new.named) t) a (is ∙ sym new.named)
 
 pub flat_part : {binds : Bool} {given : List Standing → Bound → Standing → Type 0} {name : List ℕ} {ss : List Standing} {ok : Bool} {ms : List Made} {rest : List Entry} {how : Settled} {rs : List Standing} {o : Option (List Standing × Bound)} (es fs : List Entry) → fs ≡ es ++ rest → Flat binds given name ss ok ms rest how rs o → Part name ss es rs fs
-flat_part {name = name} {ss = ss} xs ys e (Unprobed known call count at) = record { rest = _; entries = e; only = (refl, tt); others = λ s a ne. tried_others ss name (settled.Fault call count) s a ne; mark = λ s a is. tried_mark ss name (settled.Fault call count) (entry.Unsettled name (fault.Call call count) ∷ []) s (fault.Call call count, inl refl) a is }
-flat_part {name = name} {ss = ss} xs ys e (Tried known on call count ms es how at b) =
-    let t = brought_tells b in
-    record { rest = es; entries = e; only = t.only; others = λ s a ne. tried_others ss name how s a ne; mark = λ s a is. tried_mark ss name how es s t.tells a is }
-flat_part {name = name} xs ys e (Stopped ms es rs f opening) =
-    let o = opens opening in
-    record { rest = es; entries = e; only = each_map NamesNone (NamesOnly name) es (only_none name) o.none; others = λ s a ne. o.less s a; mark = λ s a is. absurd (o.absent (own_name rs name s a is)) }
-flat_part {name = name} xs ys e (Unbound ms ns es fs rs r how t opening way end) =
-    let o = opens opening in
-    record { rest = es ++ fs; entries = e; only = each_append (NamesOnly name) es fs (each_map NamesNone (NamesOnly name) es (only_none name) o.none) (unbound_only end); others = λ s a ne. o.less s a; mark = λ s a is. absurd (o.absent (own_name rs name s a is)) }
-flat_part {name = name} xs ys e (No_place ms ns es rs b shut t opening way) =
-    let o = opens opening in
-    record { rest = _; entries = e; only = each_append (NamesOnly name) es _ (each_map NamesNone (NamesOnly name) es (only_none name) o.none) (refl, tt); others = λ s a ne. o.less s a; mark = λ s a is. absurd (o.absent (own_name rs name s a is)) }
-flat_part {name = name} xs ys e (Judged_so ms ns os es fs rs b x how t opening way given new brought) =
-    let o = opens opening in
-    let t = brought_tells brought in
-    let told = entry.Judged x.number name x.held x.verdict x.cause in
-    record {
-      rest = es ++ told ∷ fs;
-      entries = e;
-      only = each_append (NamesOnly name) es (told ∷ fs) (each_map NamesNone (NamesOnly name) es (only_none name) o.none) (tt, t.only);
-      others = λ s a ne. o.less s (kept_others rs x how s a (λ f. ne (f ∙ new.named)));
-      mark = λ s a is. marked_left es (told ∷ fs) s (none_named es s.name o.none) (marked_left (told ∷ []) fs s (none_named (told ∷ []) s.name (tt, tt)) (kept_mark rs x how fs s (subst (λ v. Has (names_of rs) v → ⊥) (sym new.named) o.absent) new.fresh (subst (λ v. Tells how v fs) (sym new.named) t.tells) a (is ∙ sym new.named)));
-    }
+flat_part {name = name} {rest = rest} {how = how} xs ys e f =
+    let last = (flat_is_part f).last in
+    record { rest = rest; entries = e; only = ends_only name rest last; others = flat_others f; mark = flat_mark (tells_how how name rest last (flat_whys f)) f }
 
 -- of states, which keep whether a listing has succeeded
-abbrev pub PartOf : {J : Type 0} → List ℕ → State J → Settled × State J → Type 0
-PartOf name w p = Part name w.standings w.entries p.1.standings p.1.entries × (p.1.listed ≡ w.listed)
+abbrev pub PartOf : {J : Type 0} → List ℕ → State J → State J → Type 0
+PartOf name w v = Part name w.standings w.entries v.standings v.entries × (v.listed ≡ w.listed)
 
-pub settling_part : {J : Type 0} (answer : Answers J) (later : Laters J) (name : List ℕ) (present : Bool) (w : State J) → EndsSo (PartOf name w) (settling answer later name present w)
-settling_part answer later name present w = ways_more (Settles answer later name present w) (λ ok ms p. PartOf name w p) (settling answer later name present w) (λ ok ms p h. (flat_part w.entries p.1.entries h.entries h.flat, h.listed)) (settles answer later name present w)
+pub piece_part : {S J : Type 0} {gives : S → (call : Call) → Answer call → S → Type 0} {answer : Answers J} {later : Laters J} {binds present : Bool} {name : List ℕ} {how : Settled} {s t : S} {w v : State J} → Piece gives answer later binds present name how s w t v → PartOf name w v
+piece_part {w = w} {v = v} p = (flat_part w.entries v.entries p.entries p.flat, p.listed)
 
--- where the listing didn't succeed
+-- the answer says whether the name has a standing
 
-abbrev pub KeptPart : List ℕ → Kept → Settled × Kept → Type 0
-KeptPart name w p = Part name w.standings w.entries p.1.standings p.1.entries
+kept_stands : (ss : List Standing) (x : Standing) (how : Settled) → how ≡ settled.Stands → Has (names_of (kept_standings ss x how)) x.name
+kept_stands ss x settled.Stands e = has_map (λ (v : Standing). v.name) (with_standing (settled_standing x) ss) (settled_standing x) (has_new ss (place_for x.name ss) (settled_standing x))
+kept_stands ss x settled.Nobody e = let none : ⊥ = cc in absurd none
+kept_stands ss x (settled.Fault failed) e = let none : ⊥ = cc in absurd none
+kept_stands ss x settled.Memory e = let none : ⊥ = cc in absurd none
 
-pub resettling_part : (name : List ℕ) (w : Kept) → EndsSo (KeptPart name w) (resettling name w)
-resettling_part name w = ways_more (Resettles name w) (λ ok ms p. KeptPart name w p) (resettling name w) (λ ok ms p h. flat_part w.entries p.1.entries h.entries h.flat) (resettles name w)
+kept_nobody : (ss : List Standing) (x : Standing) (how : Settled) (name : List ℕ) → (Has (names_of ss) name → ⊥) → how ≡ settled.Nobody → Has (names_of (kept_standings ss x how)) name → ⊥
+kept_nobody ss x settled.Nobody name absent e = absent
+kept_nobody ss x settled.Stands name absent e = let none : ⊥ = cc in absurd none
+kept_nobody ss x (settled.Fault failed) name absent e = let none : ⊥ = cc in absurd none
+kept_nobody ss x settled.Memory name absent e = let none : ⊥ = cc in absurd none
+
+tried_stands : (ss : List Standing) (name : List ℕ) (how : Settled) → Has (names_of ss) name → how ≡ settled.Stands → Has (names_of (tried_standings ss name how)) name
+tried_stands ss name settled.Stands a e = subst (λ (v : List (List ℕ)). Has v name) (sym (names_marked name true ss)) a
+tried_stands ss name settled.Nobody a e = let none : ⊥ = cc in absurd none
+tried_stands ss name (settled.Fault failed) a e = let none : ⊥ = cc in absurd none
+tried_stands ss name settled.Memory a e = let none : ⊥ = cc in absurd none
+
+tried_nobody : (ss : List Standing) (name : List ℕ) (how : Settled) → how ≡ settled.Nobody → Has (names_of (tried_standings ss name how)) name → ⊥
+tried_nobody ss name settled.Nobody e = missing_without name ss
+tried_nobody ss name settled.Stands e = let none : ⊥ = cc in absurd none
+tried_nobody ss name (settled.Fault failed) e = let none : ⊥ = cc in absurd none
+tried_nobody ss name settled.Memory e = let none : ⊥ = cc in absurd none
+
+known_has : (name : List ℕ) (ss : List Standing) (known : Known) → standing_of name ss ≡ Some known → Has (names_of ss) name
+known_has name ss known e =
+    let s = found name ss known e in
+    subst (λ (v : List ℕ). Has (names_of ss) v) s.named (has_map (λ (v : Standing). v.name) ss s.s s.has)
+
+pub flat_stands : {binds : Bool} {given : List Standing → Bound → Standing → Type 0} {name : List ℕ} {ss : List Standing} {ok : Bool} {ms : List Made} {rest : List Entry} {how : Settled} {rs : List Standing} {o : Option (List Standing × Bound)} → Flat binds given name ss ok ms rest how rs o → how ≡ settled.Stands → Has (names_of rs) name
+flat_stands (Unprobed known failed at) e = let none : ⊥ = cc in absurd none
+flat_stands {name = name} {ss = ss} (Tried known on failed ms es how at b) e = tried_stands ss name how (known_has name ss known at) e
+flat_stands (Stopped ms es rs f opening) e = let none : ⊥ = cc in absurd none
+flat_stands (Unbound ms ns es fs rs r how t opening way end) e = absurd ((unbound_whys end).1 e)
+flat_stands (No_place ms ns es rs b shut t opening way) e = let none : ⊥ = cc in absurd none
+flat_stands (Judged_so ms ns os es fs rs b x how t opening way given new brought) e = subst (λ v. Has (names_of (kept_standings rs x how)) v) new.named (kept_stands rs x how e)
+
+pub flat_nobody : {binds : Bool} {given : List Standing → Bound → Standing → Type 0} {name : List ℕ} {ss : List Standing} {ok : Bool} {ms : List Made} {rest : List Entry} {how : Settled} {rs : List Standing} {o : Option (List Standing × Bound)} → Flat binds given name ss ok ms rest how rs o → how ≡ settled.Nobody → Has (names_of rs) name → ⊥
+flat_nobody (Unprobed known failed at) e = let none : ⊥ = cc in absurd none
+flat_nobody {name = name} {ss = ss} (Tried known on failed ms es how at b) e = tried_nobody ss name how e
+flat_nobody (Stopped ms es rs f opening) e = (opens opening).absent
+flat_nobody (Unbound ms ns es fs rs r how t opening way end) e = (opens opening).absent
+flat_nobody (No_place ms ns es rs b shut t opening way) e = (opens opening).absent
+flat_nobody {name = name} (Judged_so ms ns os es fs rs b x how t opening way given new brought) e = kept_nobody rs x how name (opens opening).absent e
+
+-- where nothing is bound, want of memory is answered only where the standing's device is to be removed
+pub flat_room : {given : List Standing → Bound → Standing → Type 0} {binds : Bool} {name : List ℕ} {ss : List Standing} {ok : Bool} {ms : List Made} {rest : List Entry} {how : Settled} {rs : List Standing} {o : Option (List Standing × Bound)} → Flat binds given name ss ok ms rest how rs o → binds ≡ false → how ≡ settled.Memory → (known : Known) × (standing_of name ss ≡ Some known) × (is_to_go known ≡ true)
+flat_room (Unprobed known failed at) f e = let none : ⊥ = cc in absurd none
+flat_room (Tried known on failed ms es how at b) f e = (known, at, (brought_whys b).1 e)
+flat_room (Stopped ms es rs f opening) g e = let none : ⊥ = cc in absurd none
+flat_room (Unbound ms ns es fs rs r how t opening way end) f e = let none : ⊥ = cc in absurd none
+flat_room (No_place ms ns es rs b shut t opening way) f e = let none : ⊥ = cc in absurd none
+flat_room (Judged_so ms ns os es fs rs b x how t opening way given new brought) f e = let none : ⊥ = cc in absurd none

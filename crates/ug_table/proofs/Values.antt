@@ -17,7 +17,9 @@ use Rattle.ug_kernel.specs.Quiet.{Quiet, Grows}
 use Rattle.ug_kernel.proofs.Grow.{some_same}
 use Rattle.ug_kernel.proofs.Quiet.{moves_quiet}
 use Rattle.ug_kernel.proofs.Held.{live_before}
+use Rattle.ug_kernel.specs.declared.calls.FailedCall.{FailedCall}
 use Rattle.ug_table.specs.Bring.{wants, write_of}
+use Rattle.ug_table.proofs.Shapes.{told_at}
 
 -- the held file is that device's `authorized`
 abbrev pub IsFileOf : Kernel → ℕ → ℕ → Type 0
@@ -90,8 +92,8 @@ verdict_value target.Block was = refl
 verdict_value target.Reject was = refl
 
 -- a write that is done leaves what the verdict wants
-pub done_value : (held i : ℕ) (verdict : Target) (number count : ℕ) (k l : Kernel) → IsFileOf k held i → Called (Put held (write_of verdict)) (record { answer = wrote.Done; number = number; count = count }) k l → Value l i (wants verdict)
-done_value held i verdict number count k l file c =
+pub done_value : (held i : ℕ) (verdict : Target) (failed : FailedCall) (k l : Kernel) → IsFileOf k held i → Called (Put held (write_of verdict)) (told_at wrote.Done failed) k l → Value l i (wants verdict)
+done_value held i verdict failed k l file c =
     let w : IsWritten held (write_of verdict) c.before c.after = c.effect in
     let at = (moves_quiet k c.before c.moves_before).held held (record { device = i; control = Authorized }) file in
     let is = written_device held i Authorized (write_of verdict) c.before c.after w at in
@@ -100,8 +102,8 @@ done_value held i verdict number count k l file c =
     quiet_value c.after l i (wants verdict) (moves_quiet c.after l c.moves_after) (d, now, verdict_value verdict w.d.on)
 
 -- a removal leaves the value
-pub removal_value : (file i : ℕ) (on : Bool) (number count : ℕ) (k l : Kernel) → IsHeldAs k file i Remove → Called (Put file write.Remove) (record { answer = wrote.Done; number = number; count = count }) k l → Value k i on → Value l i on
-removal_value file i on number count k l of c v =
+pub removal_value : (file i : ℕ) (on : Bool) (failed : FailedCall) (k l : Kernel) → IsHeldAs k file i Remove → Called (Put file write.Remove) (told_at wrote.Done failed) k l → Value k i on → Value l i on
+removal_value file i on failed k l of c v =
     let w : IsWritten file write.Remove c.before c.after = c.effect in
     let moved = moves_quiet k c.before c.moves_before in
     let is = written_device file i Remove write.Remove c.before c.after w (moved.held file (record { device = i; control = Remove }) of) in

@@ -27,7 +27,7 @@ binds_few (Open_short call count) = omega arith
 binds_few (Cut file call count ms of at t shut why r a few may stops e) = let sum = count_more ms (answered (Read of at) t ∷ answered (Close file.0) shut ∷ []) in omega (arith, few, sum)
 binds_few (Probed_gone file call count number total ms shut a few) = let sum = count_more ms (answered (Ask_alive file.0) (told probe.Gone number total) ∷ answered (Close file.0) shut ∷ []) in omega (arith, few, sum)
 binds_few (Probe_failed file call count number total ms shut a few) = let sum = count_more ms (answered (Ask_alive file.0) (told probe.Failed number total) ∷ answered (Close file.0) shut ∷ []) in omega (arith, few, sum)
-binds_few (Bound_by call count number total ms b a few) = let sum = count_more ms (answered (Ask_alive b.held.0) (told (probe.Alive b.on) number total) ∷ []) in omega (arith, few, sum)
+binds_few (Bound_by call count number total ms b a few are) = let sum = count_more ms (answered (Ask_alive b.held.0) (told (probe.Alive b.on) number total) ∷ []) in omega (arith, few, sum)
 
 holds_few : {name : List ℕ} {held : ℕ} {ms : List Made} {r : RemoveHold} → Holds_by name held ms r → count_calls ms ≤ 2
 holds_few (Not_there call count) = omega arith
@@ -68,14 +68,14 @@ brought_few {known = known} (Let_go ms es shut c) =
 
 opening_few : {name : List ℕ} {ss : List Standing} {ms : List Made} {es : List Entry} {rs : List Standing} → Opening name ss ms es rs → count_calls ms ≤ 1
 opening_few (Fresh e) = omega arith
-opening_few (Lost known call count shut e) = omega arith
+opening_few (Lost known failed shut e) = omega arith
 
 way_few : (name : List ℕ) (ms : List Made) (r : Binding) → Way (binding name (parent_of name)) ms r → count_calls ms ≤ 9
 way_few name ms r way = binds_few (way_binds name ms r way)
 
 pub flat_few : {binds : Bool} {given : List Standing → Bound → Standing → Type 0} {name : List ℕ} {ss : List Standing} {ok : Bool} {ms : List Made} {rest : List Entry} {how : Settled} {rs : List Standing} {o : Option (List Standing × Bound)} → Flat binds given name ss ok ms rest how rs o → count_calls ms ≤ 14
-flat_few (Unprobed known call count at) = omega arith
-flat_few (Tried known on call count ms es how at b) = let few = brought_few b in omega (arith, few)
+flat_few (Unprobed known failed at) = omega arith
+flat_few (Tried known on failed ms es how at b) = let few = brought_few b in omega (arith, few)
 flat_few (Stopped ms es rs f opening) = let few = opening_few opening in omega (arith, few)
 flat_few {name = name} (Unbound ms ns es fs rs r how t opening way end) =
     let a = opening_few opening in

@@ -39,10 +39,10 @@ use Rattle.ug_table.proofs.Says.{plain_wrote}
 use Rattle.ug_table.proofs.Joined.{FairFrom, fair_trans, StepFrom}
 use Rattle.ug_kernel.specs.Calls.{Told, Closing}
 use Rattle.ug_kernel.proofs.Grow.{quiet_grows}
-use Rattle.ug_kernel.specs.Along.{Made, answered, Along}
+use Rattle.ug_kernel.specs.Along.{Made, answered, Along, failure_of}
 use Rattle.ug_kernel.proofs.Ways.{Way, way_runs, along_split}
-use Rattle.ug_node.proofs.BindShapes.{told}
-use Rattle.ug_table.proofs.Shapes.{Written, Done, Went, Broke, Valued, Same, Set, Unheld, Gone_by, Failed_by, Short_by, Removal, Not_held, Put_on, Carried, By_value, And_removal, Brought, Left_open, Let_go}
+use Rattle.ug_kernel.specs.declared.calls.FailedCall.{FailedCall}
+use Rattle.ug_table.proofs.Shapes.{Written, Done, Went, Broke, Valued, Same, Set, Unheld, Gone_by, Failed_by, Short_by, Removal, Not_held, Put_on, Carried, By_value, And_removal, Brought, Left_open, Let_go, told_at}
 use Rattle.ug_table.proofs.Steps.{After, same_refl, plain_fair, keep_fair, fair_end, then_quiet, then_called, then_note, then_same, then_went}
 
 -- the log after a write
@@ -58,10 +58,10 @@ one_more held i control what k before after l file b w a =
 abbrev PutLogs : ℕ → Write → Wrote → Kernel → Kernel → Type 0
 PutLogs i what outcome k l = (MayHave outcome × (l.log ≡ k.log ++ record { device = i; write = what } ∷ [])) ⊎ (MayHaveNot outcome × (l.log ≡ k.log))
 
-put_logs : (held i : ℕ) (control : Control) (what : Write) (outcome : Wrote) (number count : ℕ) (k l : Kernel) → IsHeldAs k held i control → Called (Put held what) (record { answer = outcome; number = number; count = count }) k l → PutLogs i what outcome k l
-put_logs held i control what wrote.Done number count k l file c = inl (tt, one_more held i control what k c.before c.after l file c.moves_before c.effect c.moves_after)
-put_logs held i control what wrote.Gone number count k l file c = inr (tt, c.moves_after.log ∙ ap (λ (v : Kernel). v.log) c.effect ∙ c.moves_before.log)
-put_logs held i control what wrote.Failed number count k l file c = elim c.effect [
+put_logs : (held i : ℕ) (control : Control) (what : Write) (outcome : Wrote) (failed : FailedCall) (k l : Kernel) → IsHeldAs k held i control → Called (Put held what) (told_at outcome failed) k l → PutLogs i what outcome k l
+put_logs held i control what wrote.Done failed k l file c = inl (tt, one_more held i control what k c.before c.after l file c.moves_before c.effect c.moves_after)
+put_logs held i control what wrote.Gone failed k l file c = inr (tt, c.moves_after.log ∙ ap (λ (v : Kernel). v.log) c.effect ∙ c.moves_before.log)
+put_logs held i control what wrote.Failed failed k l file c = elim c.effect [
   | inl e ↦ inr (tt, c.moves_after.log ∙ ap (λ (v : Kernel). v.log) e ∙ c.moves_before.log)
   | inr w ↦ inl (tt, one_more held i control what k c.before c.after l file c.moves_before w c.moves_after)
 ]
@@ -75,22 +75,22 @@ with_write w s what outcome = record w { entries = (w.entries ++ entry.Intent s.
 abbrev StandsAs : {J : Type 0} → Kernel → State J → Standing → ℕ → Type 0
 StandsAs m u s i = Has u.standings s × IsDevice m i s.name s.held s.judged
 
-put_account : {J : Type 0} {answer : Answers J} {later : Laters J} {present : Bool} {tried : Tries} (m l : Kernel) (u : State J) (s : Standing) (i held : ℕ) (control : Control) (what : Write) (outcome : Wrote) (number count : ℕ) → StandsAs m u s i → IsHeldAs m held i control → CallsFor s.verdict what → IsFirst u.standings [] s.number what → Called (Put held what) (record { answer = outcome; number = number; count = count }) m l → Account answer later present tried m l u.standings m.log u.judge u.next (wrote_entries s.number s.name what outcome) l.log u.judge u.next
-put_account {J} {answer} {later} {present} {tried} m l u s i held control what outcome number count at file due first c =
-    let g = called_grows (Put held what) (record { answer = outcome; number = number; count = count }) m l c in
+put_account : {J : Type 0} {answer : Answers J} {later : Laters J} {present : Bool} {tried : Tries} (m l : Kernel) (u : State J) (s : Standing) (i held : ℕ) (control : Control) (what : Write) (outcome : Wrote) (failed : FailedCall) → StandsAs m u s i → IsHeldAs m held i control → CallsFor s.verdict what → IsFirst u.standings [] s.number what → Called (Put held what) (told_at outcome failed) m l → Account answer later present tried m l u.standings m.log u.judge u.next (wrote_entries s.number s.name what outcome) l.log u.judge u.next
+put_account {J} {answer} {later} {present} {tried} m l u s i held control what outcome failed at file due first c =
+    let g = called_grows (Put held what) (told_at outcome failed) m l c in
     let here = device_stays m l i s.name s.held s.judged g at.1 in
     let es = wrote_entries s.number s.name what outcome in
-    elim (put_logs held i control what outcome number count m l file c) [
+    elim (put_logs held i control what outcome failed m l file c) [
       | inl e ↦ subst (λ (v : List Effect). Account answer later present tried m l u.standings m.log u.judge u.next es v u.judge u.next) (sym e.1) (Had [] m.log u.judge u.next i s.number s.name s.held s.judged s.verdict what outcome here (inl (s, at.0, refl, refl, refl, refl)) due first e.0 Start)
       | inr e ↦ subst (λ (v : List Effect). Account answer later present tried m l u.standings m.log u.judge u.next es v u.judge u.next) (sym e.1) (Had_not [] m.log u.judge u.next i s.number s.name s.held s.judged s.verdict what outcome here (inl (s, at.0, refl, refl, refl, refl)) due first e.0 Start)
     ]
 
 -- a write that leaves the marks
-put_fair : {J : Type 0} {answer : Answers J} {later : Laters J} {present : Bool} {tried : Tries} {k m : Kernel} {w u : State J} (l : Kernel) (s : Standing) (i held : ℕ) (control : Control) (what : Write) (outcome : Wrote) (number count : ℕ) → StandsAs m u s i → IsHeldAs m held i control → CallsFor s.verdict what → IsFirst u.standings [] s.number what → NoRemoval (wrote_entries s.number s.name what outcome) → Called (Put held what) (record { answer = outcome; number = number; count = count }) m l → FairFrom answer later present tried k w m u → FairFrom answer later present tried k w l (with_write u s what outcome)
-put_fair {J} {answer} {later} {present} {tried} {k} {m} {w} {u} l s i held control what outcome number count at file due first none c h =
-    let g = called_grows (Put held what) (record { answer = outcome; number = number; count = count }) m l c in
+put_fair : {J : Type 0} {answer : Answers J} {later : Laters J} {present : Bool} {tried : Tries} {k m : Kernel} {w u : State J} (l : Kernel) (s : Standing) (i held : ℕ) (control : Control) (what : Write) (outcome : Wrote) (failed : FailedCall) → StandsAs m u s i → IsHeldAs m held i control → CallsFor s.verdict what → IsFirst u.standings [] s.number what → NoRemoval (wrote_entries s.number s.name what outcome) → Called (Put held what) (told_at outcome failed) m l → FairFrom answer later present tried k w m u → FairFrom answer later present tried k w l (with_write u s what outcome)
+put_fair {J} {answer} {later} {present} {tried} {k} {m} {w} {u} l s i held control what outcome failed at file due first none c h =
+    let g = called_grows (Put held what) (told_at outcome failed) m l c in
     let es = wrote_entries s.number s.name what outcome in
-    let step = keep_fair answer later present tried m l u u.standings es c.sound g h.fair.stand (same_refl m u.standings u.next h.fair.stand) (keeps_itself u.standings) none (plain_wrote s.number s.name what outcome) (put_account m l u s i held control what outcome number count at file due first c) in
+    let step = keep_fair answer later present tried m l u u.standings es c.sound g h.fair.stand (same_refl m u.standings u.next h.fair.stand) (keeps_itself u.standings) none (plain_wrote s.number s.name what outcome) (put_account m l u s i held control what outcome failed at file due first c) in
     fair_trans h (subst (λ (v : List Entry). StepFrom answer later present tried m u l (record u { entries = v })) (sym (append_assoc u.entries (entry.Intent s.number s.name what ∷ []) (entry.Wrote s.number s.name what outcome ∷ []))) step)
 
 -- the standings after it, by how it was settled
@@ -102,7 +102,7 @@ Afters ss s after = (how : Settled) → After s ss how (after how)
 abbrev mid : {J : Type 0} → State J → (Settled → List Standing) → Settled → List Standing
 mid w after settled.Stands = w.standings
 mid w after settled.Nobody = after settled.Nobody
-mid w after (settled.Fault call count) = after (settled.Fault call count)
+mid w after (settled.Fault failed) = after (settled.Fault failed)
 mid w after settled.Memory = after settled.Memory
 
 abbrev more : {J : Type 0} → State J → List Standing → List Entry → State J
@@ -133,9 +133,9 @@ three_more : {J : Type 0} {answer : Answers J} {later : Laters J} {present : Boo
 three_more {answer = answer} {later = later} {present = present} {tried = tried} {k = k} {l = l} {w = w} u ss a b c h = subst (λ (v : List Entry). FairFrom answer later present tried k w l (record u { standings = ss; entries = v })) (append_assoc (u.entries ++ a ∷ []) (b ∷ []) (c ∷ []) ∙ append_assoc u.entries (a ∷ []) (b ∷ c ∷ [])) h
 
 value_fair : {J : Type 0} {answer : Answers J} {later : Laters J} {present : Bool} {tried : Tries} {k m : Kernel} {w : State J} {t : Told Wrote} {es : List Entry} {how : Settled} (u : State J) (n : Kernel) (s : Standing) (after : Settled → List Standing) (what : Write) → Written s.name s.number what t es how → Has u.standings s → Afters u.standings s after → says_put s.held.0 t.answer n m → FairFrom answer later present tried k w m (with_write u s what t.answer) → FairFrom answer later present tried k w m (more u (mid u after how) es)
-value_fair u n s after what (Done call count) has a says h = two_more u u.standings _ _ h
-value_fair u n s after what (Went call count) has a says h = three_more u (after settled.Nobody) _ _ _ (then_went s (after settled.Nobody) has (a settled.Nobody) says h)
-value_fair u n s after what (Broke call count) has a says h = three_more u (after (settled.Fault call count)) _ _ _ (let after_fault = a (settled.Fault call count) in then_same (after (settled.Fault call count)) after_fault.0 after_fault.1 (then_note (entry.Unsettled s.name (fault.Call call count)) tt h))
+value_fair u n s after what (Done failed) has a says h = two_more u u.standings _ _ h
+value_fair u n s after what (Went failed) has a says h = three_more u (after settled.Nobody) _ _ _ (then_went s (after settled.Nobody) has (a settled.Nobody) says h)
+value_fair u n s after what (Broke failed) has a says h = three_more u (after (settled.Fault failed)) _ _ _ (let after_fault = a (settled.Fault failed) in then_same (after (settled.Fault failed)) after_fault.0 after_fault.1 (then_note (entry.Unsettled s.name (fault.Call failed)) tt h))
 
 none_more : {J : Type 0} {answer : Answers J} {later : Laters J} {present : Bool} {tried : Tries} {k l : Kernel} {w : State J} (u : State J) → FairFrom answer later present tried k w l u → FairFrom answer later present tried k w l (more u u.standings [])
 none_more {answer = answer} {later = later} {present = present} {tried = tried} {k = k} {l = l} {w = w} u h = subst (λ (v : List Entry). FairFrom answer later present tried k w l (record u { entries = v })) (sym (append-nil u.entries)) h
@@ -144,7 +144,7 @@ valued_fair : {J : Type 0} {answer : Answers J} {later : Laters J} {present : Bo
 valued_fair {u = u} l s after (Same e) has a h r = fair_end l (more u u.standings []) refl r (none_more u h)
 valued_fair {m = m} {u = u} l s after (Set t es how e v) has a h r =
     let x = h.fair.stand.devices s has in
-    let put = put_fair r.0 s x.0 s.held.0 Authorized (write_of s.verdict) t.answer t.number t.count (has, x.1) x.1.file (value_called s.verdict) (value_first u.standings [] s.number s.verdict) (value_no_removal s s.verdict t.answer) r.1 h in
+    let put = put_fair r.0 s x.0 s.held.0 Authorized (write_of s.verdict) t.answer (failure_of t) (has, x.1) x.1.file (value_called s.verdict) (value_first u.standings [] s.number s.verdict) (value_no_removal s s.verdict t.answer) r.1 h in
     fair_end l (more u (mid u after how) es) refl r.2 (value_fair u m s after (write_of s.verdict) v has a r.1.says put)
 
 -- the removal
@@ -176,23 +176,23 @@ remove_first m u s has e one (inl b) =
 remove_first m u s has e one (inr b) = b.1
 
 -- the log has it
-done_removal : (m l : Kernel) (s : Standing) (i file number count : ℕ) → IsDevice m i s.name s.held s.judged → IsHeldAs m file i Remove → Called (Put file write.Remove) (record { answer = wrote.Done; number = number; count = count }) m l → HasRemoval l s.held
-done_removal m l s i file number count d of c j at =
-    let g = called_grows (Put file write.Remove) (record { answer = wrote.Done; number = number; count = count }) m l c in
+done_removal : (m l : Kernel) (s : Standing) (i file : ℕ) (failed : FailedCall) → IsDevice m i s.name s.held s.judged → IsHeldAs m file i Remove → Called (Put file write.Remove) (told_at wrote.Done failed) m l → HasRemoval l s.held
+done_removal m l s i file failed d of c j at =
+    let g = called_grows (Put file write.Remove) (told_at wrote.Done failed) m l c in
     let is : i ≡ j = file_same l s.held.0 i j (file_later m l s.held.0 i g d.file) at in
     let e : Effect = record { device = i; write = write.Remove } in
     let logged : Has l.log e = subst (λ (v : List Effect). Has v e) (sym (one_more file i Remove write.Remove m c.before c.after l of c.moves_before c.effect c.moves_after)) (has_right m.log (e ∷ []) e (inl refl)) in
     subst (λ (v : ℕ). Has l.log (record { device = v; write = write.Remove })) is logged
 
 -- a removal that was done marks the standing
-removed_fair : {J : Type 0} {answer : Answers J} {later : Laters J} {present : Bool} {tried : Tries} {k m : Kernel} {w u : State J} (l : Kernel) (s : Standing) (i file number count : ℕ) (rs : List Standing) → StandsAs m u s i → IsHeldAs m file i Remove → is_reject s.verdict ≡ true → s.removed ≡ false → After s u.standings settled.Stands rs → Called (Put file write.Remove) (record { answer = wrote.Done; number = number; count = count }) m l → FairFrom answer later present tried k w m u → FairFrom answer later present tried k w l (record u { standings = rs; entries = (u.entries ++ entry.Intent s.number s.name write.Remove ∷ []) ++ entry.Wrote s.number s.name write.Remove wrote.Done ∷ [] })
-removed_fair {J} {answer} {later} {present} {tried} {k} {m} {w} {u} l s i file number count rs at of reject fresh a c h =
-    let g = called_grows (Put file write.Remove) (record { answer = wrote.Done; number = number; count = count }) m l c in
+removed_fair : {J : Type 0} {answer : Answers J} {later : Laters J} {present : Bool} {tried : Tries} {k m : Kernel} {w u : State J} (l : Kernel) (s : Standing) (i file : ℕ) (failed : FailedCall) (rs : List Standing) → StandsAs m u s i → IsHeldAs m file i Remove → is_reject s.verdict ≡ true → s.removed ≡ false → After s u.standings settled.Stands rs → Called (Put file write.Remove) (told_at wrote.Done failed) m l → FairFrom answer later present tried k w m u → FairFrom answer later present tried k w l (record u { standings = rs; entries = (u.entries ++ entry.Intent s.number s.name write.Remove ∷ []) ++ entry.Wrote s.number s.name write.Remove wrote.Done ∷ [] })
+removed_fair {J} {answer} {later} {present} {tried} {k} {m} {w} {u} l s i file failed rs at of reject fresh a c h =
+    let g = called_grows (Put file write.Remove) (told_at wrote.Done failed) m l c in
     let stand = h.fair.stand in
     let es = wrote_entries s.number s.name write.Remove wrote.Done in
     let first = remove_first m u s at.0 fresh (λ t b e. distinct_one (λ (v : Standing). v.number) u.standings t s stand.distinct b at.0 e) in
-    let account = put_account m l u s i file Remove write.Remove wrote.Done number count at of (reject_calls s.verdict reject) first c in
-    let removed = removal_removed l u.standings rs s (stand_stays m l u.standings u.next g stand).removed (done_removal m l s i file number count at.1 of c) a.1 in
+    let account = put_account m l u s i file Remove write.Remove wrote.Done failed at of (reject_calls s.verdict reject) first c in
+    let removed = removal_removed l u.standings rs s (stand_stays m l u.standings u.next g stand).removed (done_removal m l s i file failed at.1 of c) a.1 in
     let step = plain_fair answer later present tried m l u rs es c.sound g stand a.0 (removal_marks u.standings rs s stand.distinct reject a.1) removed (plain_wrote s.number s.name write.Remove wrote.Done) account in
     fair_trans h (subst (λ (v : List Entry). StepFrom answer later present tried m u l (record u { standings = rs; entries = v })) (sym (append_assoc u.entries (entry.Intent s.number s.name write.Remove ∷ []) (entry.Wrote s.number s.name write.Remove wrote.Done ∷ []))) step)
 
@@ -207,23 +207,23 @@ gone_through k l s i file d of gone g =
     gone_later k l s.name s.held.0 i g (record { d = d.d; file = d.file; device = d.device; named = d.named }) (λ e live. gone i e (record { file = record { device = i; control = Remove }; at = of; is = refl; device = live.at }) live)
 
 put_on_fair : {J : Type 0} {answer : Answers J} {later : Laters J} {present : Bool} {tried : Tries} {k m : Kernel} {w u : State J} {t : Told Wrote} {es : List Entry} {how : Settled} (x y : Kernel) (s : Standing) (i file : ℕ) (after : Settled → List Standing) (shut : Closing) → Written s.name s.number write.Remove t es how → StandsAs m u s i → IsHeldAs m file i Remove → is_reject s.verdict ≡ true → s.removed ≡ false → Afters u.standings s after → Called (Put file write.Remove) t m x → Called (Close file) shut x y → FairFrom answer later present tried k w m u → FairFrom answer later present tried k w y (more u (after how) es)
-put_on_fair {u = u} x y s i file after shut (Done call count) at of reject fresh a c d h =
-    two_more u (after settled.Stands) _ _ (then_called (Close file) shut y tt d (removed_fair x s i file call count (after settled.Stands) at of reject fresh (a settled.Stands) c h))
-put_on_fair {m = m} {u = u} x y s i file after shut (Went call count) at of reject fresh a c d h =
+put_on_fair {u = u} x y s i file after shut (Done failed) at of reject fresh a c d h =
+    two_more u (after settled.Stands) _ _ (then_called (Close file) shut y tt d (removed_fair x s i file failed (after settled.Stands) at of reject fresh (a settled.Stands) c h))
+put_on_fair {m = m} {u = u} x y s i file after shut (Went failed) at of reject fresh a c d h =
     let first = remove_first m u s at.0 fresh (λ t b e. distinct_one (λ (v : Standing). v.number) u.standings t s h.fair.stand.distinct b at.0 e) in
-    let put = put_fair x s i file Remove write.Remove wrote.Gone call count at of (reject_calls s.verdict reject) first (undone_no_removal s wrote.Gone (λ e. let none : ⊥ = cc in none)) c h in
-    let g = called_grows (Put file write.Remove) (told wrote.Gone call count) m x c in
+    let put = put_fair x s i file Remove write.Remove wrote.Gone failed at of (reject_calls s.verdict reject) first (undone_no_removal s wrote.Gone (λ e. let none : ⊥ = cc in none)) c h in
+    let g = called_grows (Put file write.Remove) (told_at wrote.Gone failed) m x c in
     let gone = gone_through x y s i file (device_stays m x i s.name s.held s.judged g at.1) (g.held file (record { device = i; control = Remove }) of) c.says (called_grows (Close file) shut x y d) in
     three_more u (after settled.Nobody) _ _ _ (then_went s (after settled.Nobody) at.0 (a settled.Nobody) gone (then_called (Close file) shut y tt d put))
-put_on_fair {m = m} {u = u} x y s i file after shut (Broke call count) at of reject fresh a c d h =
+put_on_fair {m = m} {u = u} x y s i file after shut (Broke failed) at of reject fresh a c d h =
     let first = remove_first m u s at.0 fresh (λ t b e. distinct_one (λ (v : Standing). v.number) u.standings t s h.fair.stand.distinct b at.0 e) in
-    let put = put_fair x s i file Remove write.Remove wrote.Failed call count at of (reject_calls s.verdict reject) first (undone_no_removal s wrote.Failed (λ e. let none : ⊥ = cc in none)) c h in
-    let failed = a (settled.Fault call count) in
-    three_more u (after (settled.Fault call count)) _ _ _ (then_same (after (settled.Fault call count)) failed.0 failed.1 (then_note (entry.Unsettled s.name (fault.Call call count)) tt (then_called (Close file) shut y tt d put)))
+    let put = put_fair x s i file Remove write.Remove wrote.Failed failed at of (reject_calls s.verdict reject) first (undone_no_removal s wrote.Failed (λ e. let none : ⊥ = cc in none)) c h in
+    let mark = a (settled.Fault failed) in
+    three_more u (after (settled.Fault failed)) _ _ _ (then_same (after (settled.Fault failed)) mark.0 mark.1 (then_note (entry.Unsettled s.name (fault.Call failed)) tt (then_called (Close file) shut y tt d put)))
 
 unheld_fair : {J : Type 0} {answer : Answers J} {later : Laters J} {present : Bool} {tried : Tries} {k m : Kernel} {w u : State J} {r : RemoveHold} {es : List Entry} {how : Settled} (s : Standing) (i : ℕ) (after : Settled → List Standing) → Unheld s.name s.number r es how → Has u.standings s → RemoveSays s.held.0 i m r → Afters u.standings s after → FairFrom answer later present tried k w m u → FairFrom answer later present tried k w m (more u (after how) es)
 unheld_fair s i after Gone_by has says a h = then_went s (after settled.Nobody) has (a settled.Nobody) says h
-unheld_fair s i after (Failed_by call count) has says a h = let failed = a (settled.Fault call count) in then_same (after (settled.Fault call count)) failed.0 failed.1 (then_note (entry.Unsettled s.name (fault.Call call count)) tt h)
+unheld_fair s i after (Failed_by failed) has says a h = let mark = a (settled.Fault failed) in then_same (after (settled.Fault failed)) mark.0 mark.1 (then_note (entry.Unsettled s.name (fault.Call failed)) tt h)
 unheld_fair s i after Short_by has says a h = let short = a settled.Memory in then_same (after settled.Memory) short.0 short.1 (then_note (entry.Unsettled s.name fault.Memory) tt h)
 
 -- the `remove` file of the standing's device
@@ -248,7 +248,7 @@ removal_fair {m = m} {u = u} l s after (Put_on ms file t shut es how way v) go h
 only_value : {J : Type 0} {answer : Answers J} {later : Laters J} {present : Bool} {tried : Tries} {k l : Kernel} {w : State J} (u : State J) (s : Standing) (after : Settled → List Standing) (how : Settled) (es : List Entry) → (how ≡ settled.Stands → is_to_go (known_of s) ≡ false) → Has u.standings s → Afters u.standings s after → FairFrom answer later present tried k w l (more u (mid u after how) es) → FairFrom answer later present tried k w l (more u (after how) es)
 only_value u s after settled.Stands es f has a h = let stands = a settled.Stands in then_same (after settled.Stands) stands.0 (marks_keep u.standings (after settled.Stands) s has (removed_if (is_reject s.verdict) s.removed (f refl)) stands.1) h
 only_value u s after settled.Nobody es f has a h = h
-only_value u s after (settled.Fault call count) es f has a h = h
+only_value u s after (settled.Fault failed) es f has a h = h
 only_value u s after settled.Memory es f has a h = h
 
 carried_fair : {J : Type 0} {answer : Answers J} {later : Laters J} {present : Bool} {tried : Tries} {k m : Kernel} {w u : State J} {on : Bool} {ms : List Made} {es : List Entry} {how : Settled} (l : Kernel) (s : Standing) (after : Settled → List Standing) → Carried s.name (known_of s) on ms es how → Has u.standings s → ((how : Settled) → After s u.standings how (after how)) → FairFrom answer later present tried k w m u → Along calls m ms l → FairFrom answer later present tried k w l (record u { standings = after how; entries = u.entries ++ es })

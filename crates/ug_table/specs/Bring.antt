@@ -4,10 +4,12 @@ use Rattle.ug_types.specs.declared.verdict.Target.{Target}
 use Rattle.ug_types.specs.declared.verdict.Target.TheVariants as target
 use Rattle.ug_types.specs.declared.control.Write.{Write}
 use Rattle.ug_types.specs.declared.control.Write.TheVariants as write
+use Rattle.ug_kernel.specs.declared.calls.FailedCall.{FailedCall}
 use Rattle.ug_kernel.specs.declared.calls.Wrote.{Wrote}
 use Rattle.ug_kernel.specs.declared.calls.Wrote.TheVariants as wrote
 use Rattle.ug_kernel.specs.Calls.{Put, Close}
 use Rattle.ug_kernel.specs.Tree.{Prog, Return, Ask, then}
+use Rattle.ug_kernel.specs.Along.{failure_of}
 use Rattle.ug_node.specs.Removal.{holding_remove}
 use Rattle.ug_node.specs.declared.removal.RemoveHold.{RemoveHold}
 use Rattle.ug_node.specs.declared.removal.RemoveHold.TheVariants as hold
@@ -47,13 +49,13 @@ CallsFor target.Reject write.Off = Unit {0}
 CallsFor target.Reject write.Remove = Unit {0}
 
 -- the outcome of a write is journalled
-abbrev pub after_write : List ℕ → ℕ → Write → List Entry → Wrote → ℕ → ℕ → Prog (Settled × List Entry)
-after_write name number what entries wrote.Done call count = Return (settled.Stands, entries ++ entry.Wrote number name what wrote.Done ∷ [])
-after_write name number what entries wrote.Gone call count = Return (settled.Nobody, (entries ++ entry.Wrote number name what wrote.Gone ∷ []) ++ entry.Gone number name ∷ [])
-after_write name number what entries wrote.Failed call count = Return (settled.Fault call count, (entries ++ entry.Wrote number name what wrote.Failed ∷ []) ++ entry.Unsettled name (fault.Call call count) ∷ [])
+abbrev pub after_write : List ℕ → ℕ → Write → List Entry → Wrote → FailedCall → Prog (Settled × List Entry)
+after_write name number what entries wrote.Done failed = Return (settled.Stands, entries ++ entry.Wrote number name what wrote.Done ∷ [])
+after_write name number what entries wrote.Gone failed = Return (settled.Nobody, (entries ++ entry.Wrote number name what wrote.Gone ∷ []) ++ entry.Gone number name ∷ [])
+after_write name number what entries wrote.Failed failed = Return (settled.Fault failed, (entries ++ entry.Wrote number name what wrote.Failed ∷ []) ++ entry.Unsettled name (fault.Call failed) ∷ [])
 
 abbrev pub to_write : List ℕ → Known → Write → List Entry → Prog (Settled × List Entry)
-to_write name known what entries = Ask (Put known.held.0 what) (λ t. after_write name known.number what (entries ++ entry.Intent known.number name what ∷ []) t.answer t.number t.count)
+to_write name known what entries = Ask (Put known.held.0 what) (λ t. after_write name known.number what (entries ++ entry.Intent known.number name what ∷ []) t.answer (failure_of t))
 
 abbrev pub to_value : List ℕ → Known → List Entry → Bool → Bool → Prog (Settled × List Entry)
 to_value name known entries true true = Return (settled.Stands, entries)
@@ -67,12 +69,12 @@ valuing name known on entries = to_value name known entries (wants known.verdict
 
 -- its `remove` file is written, and closed
 abbrev pub to_remove : List ℕ → Known → ℕ → List Entry → Prog (Settled × List Entry)
-to_remove name known file entries = Ask (Put file write.Remove) (λ t. Ask (Close file) (λ closed. after_write name known.number write.Remove (entries ++ entry.Intent known.number name write.Remove ∷ []) t.answer t.number t.count))
+to_remove name known file entries = Ask (Put file write.Remove) (λ t. Ask (Close file) (λ closed. after_write name known.number write.Remove (entries ++ entry.Intent known.number name write.Remove ∷ []) t.answer (failure_of t)))
 
 abbrev pub after_hold : List ℕ → Known → List Entry → RemoveHold → Prog (Settled × List Entry)
 after_hold name known entries (hold.Ready file) = to_remove name known file.0 entries
 after_hold name known entries hold.Gone = Return (settled.Nobody, entries ++ entry.Gone known.number name ∷ [])
-after_hold name known entries (hold.Failed call count) = Return (settled.Fault call count, entries ++ entry.Unsettled name (fault.Call call count) ∷ [])
+after_hold name known entries (hold.Failed failed) = Return (settled.Fault failed, entries ++ entry.Unsettled name (fault.Call failed) ∷ [])
 after_hold name known entries hold.Memory = Return (settled.Memory, entries ++ entry.Unsettled name fault.Memory ∷ [])
 
 -- the removal
@@ -90,7 +92,7 @@ if_to_go name known entries false = Return (settled.Stands, entries)
 abbrev pub after_value : List ℕ → Known → List Entry → Settled → Prog (Settled × List Entry)
 after_value name known entries settled.Stands = if_to_go name known entries (is_to_go known)
 after_value name known entries settled.Nobody = Return (settled.Nobody, entries)
-after_value name known entries (settled.Fault call count) = Return (settled.Fault call count, entries)
+after_value name known entries (settled.Fault failed) = Return (settled.Fault failed, entries)
 after_value name known entries settled.Memory = Return (settled.Memory, entries)
 
 -- the value, and then the removal
@@ -101,7 +103,7 @@ writing name known on entries = then (valuing name known on entries) (λ p. afte
 abbrev pub close_gone : ℕ → List Entry → Settled → Prog (Settled × List Entry)
 close_gone held entries settled.Nobody = Ask (Close held) (λ closed. Return (settled.Nobody, entries))
 close_gone held entries settled.Stands = Return (settled.Stands, entries)
-close_gone held entries (settled.Fault call count) = Return (settled.Fault call count, entries)
+close_gone held entries (settled.Fault failed) = Return (settled.Fault failed, entries)
 close_gone held entries settled.Memory = Return (settled.Memory, entries)
 
 -- the writes; and where they find the device gone, its held file is closed

@@ -45,14 +45,14 @@ whys (e ∷ es) = why_in e ++ whys es
 abbrev pub why_of : Settled → List Fault
 why_of settled.Stands = []
 why_of settled.Nobody = []
-why_of (settled.Fault call count) = fault.Call call count ∷ []
+why_of (settled.Fault failed) = fault.Call failed ∷ []
 why_of settled.Memory = fault.Memory ∷ []
 
 -- the failed call that an answer tells
 abbrev pub failed_of : Settled → List FailedCall
 failed_of settled.Stands = []
 failed_of settled.Nobody = []
-failed_of (settled.Fault call count) = record { call = call; count = count } ∷ []
+failed_of (settled.Fault failed) = failed ∷ []
 failed_of settled.Memory = []
 
 -- The settling of a name is one part of a sweep, from the standings and the entries before it to those after it. A fault is

@@ -18,7 +18,7 @@ use Rattle.ug_kernel.specs.declared.calls.Wrote.{Wrote}
 use Rattle.ug_kernel.specs.Calls.{Call, Names, Open, Read, Ask_alive, Put, Close, Closing, Told, Answer}
 use Rattle.ug_kernel.specs.Kernel.{Kernel, IsKernel}
 use Rattle.ug_kernel.specs.declared.calls.FailedCall.{FailedCall}
-use Rattle.ug_kernel.specs.Along.{Made, answered, count_calls, Along, failure, failures, AreNumbered, Rises}
+use Rattle.ug_kernel.specs.Along.{Made, answered, count_calls, Along, failure, failures, AreNumbered, Rises, failure_of}
 use Rattle.ug_audit.specs.declared.entry.Entry.{Entry}
 use Rattle.ug_audit.specs.declared.entry.Entry.TheVariants as entry
 use Rattle.ug_audit.specs.declared.entry.Fault.{Fault}
@@ -34,7 +34,7 @@ use Rattle.ug_table.specs.Bring.{is_to_go}
 
 -- the failed call that an `unsettled` entry tells
 abbrev pub told_by : Fault → List FailedCall
-told_by (fault.Call call count) = record { call = call; count = count } ∷ []
+told_by (fault.Call failed) = failed ∷ []
 told_by fault.Memory = []
 
 abbrev pub failure_in : Entry → List FailedCall
@@ -298,10 +298,10 @@ abbrev pub BeginsUnlisted : Fault → List Standing → List Entry → List Stan
 BeginsUnlisted why ss entries left names shut = (names ≡ names_of ss) × (entries ≡ entry.UnsettledAll why ∷ []) × (left ≡ ss) × (shut ≡ [])
 
 -- what the answer to the listing leads to; where it has names, memory can be short for what is noted of them
-abbrev pub AfterListing : Listing → ℕ → ℕ → List Standing → List Entry → List Standing → List (List ℕ) → List Made → Type 0
-AfterListing (listing.Names listed) call count ss entries left names shut = BeginsListed listed ss entries left names shut ⊎ BeginsUnlisted fault.Memory ss entries left names shut
-AfterListing listing.Failed call count ss entries left names shut = BeginsUnlisted (fault.Call call count) ss entries left names shut
-AfterListing listing.Memory call count ss entries left names shut = BeginsUnlisted fault.Memory ss entries left names shut
+abbrev pub AfterListing : Listing → FailedCall → List Standing → List Entry → List Standing → List (List ℕ) → List Made → Type 0
+AfterListing (listing.Names listed) failed ss entries left names shut = BeginsListed listed ss entries left names shut ⊎ BeginsUnlisted fault.Memory ss entries left names shut
+AfterListing listing.Failed failed ss entries left names shut = BeginsUnlisted (fault.Call failed) ss entries left names shut
+AfterListing listing.Memory failed ss entries left names shut = BeginsUnlisted fault.Memory ss entries left names shut
 
 -- A sweep's calls are the listing, the closing of what isn't listed, and then the names' parts; and so are its entries.
 pub record GoesInParts {S J : Type 0} (gives : S → (call : Call) → Answer call → S → Type 0) (s : S) (w : State J) (t : S) (v : State J) : Type 0 where
@@ -316,7 +316,7 @@ pub record GoesInParts {S J : Type 0} (gives : S → (call : Call) → Answer ca
   pub shut : List Made
   pub made : List Made
   pub cut : later ≡ shut ++ made
-  pub begins : AfterListing listed.answer listed.number listed.count w.standings head left names shut
+  pub begins : AfterListing listed.answer (failure_of listed) w.standings head left names shut
   pub parts : InParts names left v.standings made rest
 
 -- In a sweep in parts each call that failed is told with its number and the count of faults after it, and no other is; and calls

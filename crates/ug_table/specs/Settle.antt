@@ -4,10 +4,12 @@ use Rattle.ug_types.specs.Names.{parent_of}
 use Rattle.ug_types.specs.declared.record.Judged.{Judged}
 use Rattle.ug_types.specs.declared.verdict.Target.{Target}
 use Rattle.ug_types.specs.declared.verdict.Cause.{Cause}
+use Rattle.ug_kernel.specs.declared.calls.FailedCall.{FailedCall}
 use Rattle.ug_kernel.specs.declared.calls.Probe.{Probe}
 use Rattle.ug_kernel.specs.declared.calls.Probe.TheVariants as probe
 use Rattle.ug_kernel.specs.Calls.{Ask_alive, Close}
 use Rattle.ug_kernel.specs.Tree.{Prog, Return, Ask, Room, then}
+use Rattle.ug_kernel.specs.Along.{failure_of}
 use Rattle.ug_record.specs.Records.{judged_of}
 use Rattle.ug_node.specs.Bind.{binding}
 use Rattle.ug_node.specs.declared.identity.Bound.{Bound}
@@ -27,7 +29,7 @@ use Rattle.ug_table.specs.declared.standing.Settled.TheVariants as settled
 
 abbrev pub stands : Settled → Bool
 stands settled.Stands = true
-stands (settled.Fault call count) = false
+stands (settled.Fault failed) = false
 stands settled.Nobody = false
 stands settled.Memory = false
 
@@ -35,18 +37,23 @@ stands settled.Memory = false
 abbrev pub kept_standings : List Standing → Standing → Settled → List Standing
 kept_standings ss s settled.Nobody = ss
 kept_standings ss s settled.Stands = with_standing (settled_standing s) ss
-kept_standings ss s (settled.Fault call count) = with_standing s ss
+kept_standings ss s (settled.Fault failed) = with_standing s ss
 kept_standings ss s settled.Memory = with_standing s ss
 
 abbrev pub to_keep : {J : Type 0} → State J → Standing → Settled × List Entry → Prog (Settled × State J)
 to_keep w s p = Return (p.0, record w { standings = kept_standings w.standings s p.0; entries = p.1 })
 
-abbrev pub unsettled : {J : Type 0} → State J → List ℕ → Fault → Settled → Prog (Settled × State J)
-unsettled w name why how = Return (how, noted w (entry.Unsettled name why))
+-- how a name ends whose settling a fault stopped
+abbrev pub stopped_by : Fault → Settled
+stopped_by (fault.Call failed) = settled.Fault failed
+stopped_by fault.Memory = settled.Memory
+
+abbrev pub unsettled : {J : Type 0} → State J → List ℕ → Fault → Prog (Settled × State J)
+unsettled w name why = Return (stopped_by why, noted w (entry.Unsettled name why))
 
 -- want of memory for a standing: its file is closed
 abbrev pub no_room : {J : Type 0} → State J → List ℕ → ℕ → Prog (Settled × State J)
-no_room w name held = Ask (Close held) (λ closed. unsettled w name fault.Memory settled.Memory)
+no_room w name held = Ask (Close held) (λ closed. unsettled w name fault.Memory)
 
 -- the standing that a verdict makes
 abbrev pub standing_for : {J : Type 0} → State J → List ℕ → ℕ → Judged → Target × Cause → Standing
@@ -92,8 +99,8 @@ abbrev pub after_bind : {J : Type 0} → Answers J → Laters J → List ℕ →
 after_bind answer later name present w (bound.Bound b) = admitting answer later name present w b
 after_bind answer later name present w bound.Absent = Return (settled.Nobody, w)
 after_bind answer later name present w bound.Vanished = Return (settled.Nobody, w)
-after_bind answer later name present w (bound.Failed call count) = unsettled w name (fault.Call call count) (settled.Fault call count)
-after_bind answer later name present w bound.Memory = unsettled w name fault.Memory settled.Memory
+after_bind answer later name present w (bound.Failed failed) = unsettled w name (fault.Call failed)
+after_bind answer later name present w bound.Memory = unsettled w name fault.Memory
 
 -- a name that has no standing
 unfoldable pub entering : {J : Type 0} → Answers J → Laters J → List ℕ → Bool → State J → Prog (Settled × State J)
@@ -103,7 +110,7 @@ entering answer later name present w = then (binding name (parent_of name)) (aft
 abbrev pub tried_standings : List Standing → List ℕ → Settled → List Standing
 tried_standings ss name settled.Nobody = without name ss
 tried_standings ss name settled.Stands = map (marked name true) ss
-tried_standings ss name (settled.Fault call count) = map (marked name false) ss
+tried_standings ss name (settled.Fault failed) = map (marked name false) ss
 tried_standings ss name settled.Memory = map (marked name false) ss
 
 abbrev pub to_mark : {J : Type 0} → State J → List ℕ → Settled × List Entry → Prog (Settled × State J)
@@ -113,16 +120,16 @@ to_mark w name p = Return (p.0, record w { standings = tried_standings w.standin
 abbrev pub dropped : {J : Type 0} → State J → List ℕ → ℕ → State J
 dropped w name number = record w { standings = without name w.standings; entries = w.entries ++ entry.Gone number name ∷ [] }
 
-abbrev pub failed_probe : {J : Type 0} → State J → List ℕ → ℕ → ℕ → Prog (Settled × State J)
-failed_probe w name call count = Return (settled.Fault call count, record w { standings = tried_standings w.standings name (settled.Fault call count); entries = w.entries ++ entry.Unsettled name (fault.Call call count) ∷ [] })
+abbrev pub failed_probe : {J : Type 0} → State J → List ℕ → FailedCall → Prog (Settled × State J)
+failed_probe w name failed = Return (settled.Fault failed, record w { standings = tried_standings w.standings name (settled.Fault failed); entries = w.entries ++ entry.Unsettled name (fault.Call failed) ∷ [] })
 
-abbrev pub after_known : {J : Type 0} → Answers J → Laters J → List ℕ → Bool → State J → Known → Probe → ℕ → ℕ → Prog (Settled × State J)
-after_known answer later name present w known (probe.Alive on) call count = then (bringing name known on w.entries) (to_mark w name)
-after_known answer later name present w known probe.Gone call count = Ask (Close known.held.0) (λ closed. entering answer later name present (dropped w name known.number))
-after_known answer later name present w known probe.Failed call count = failed_probe w name call count
+abbrev pub after_known : {J : Type 0} → Answers J → Laters J → List ℕ → Bool → State J → Known → Probe → FailedCall → Prog (Settled × State J)
+after_known answer later name present w known (probe.Alive on) failed = then (bringing name known on w.entries) (to_mark w name)
+after_known answer later name present w known probe.Gone failed = Ask (Close known.held.0) (λ closed. entering answer later name present (dropped w name known.number))
+after_known answer later name present w known probe.Failed failed = failed_probe w name failed
 
 abbrev pub from_standing : {J : Type 0} → Answers J → Laters J → List ℕ → Bool → State J → Option Known → Prog (Settled × State J)
-from_standing answer later name present w (Some known) = Ask (Ask_alive known.held.0) (λ t. after_known answer later name present w known t.answer t.number t.count)
+from_standing answer later name present w (Some known) = Ask (Ask_alive known.held.0) (λ t. after_known answer later name present w known t.answer (failure_of t))
 from_standing answer later name present w None = entering answer later name present w
 
 -- one listed name
@@ -132,13 +139,13 @@ settling answer later name present w = from_standing answer later name present w
 abbrev pub to_keep_mark : Kept → List ℕ → Settled × List Entry → Prog (Settled × Kept)
 to_keep_mark k name p = Return (p.0, record { standings = tried_standings k.standings name p.0; entries = p.1 })
 
-abbrev pub after_again : List ℕ → Kept → Known → Probe → ℕ → ℕ → Prog (Settled × Kept)
-after_again name k known (probe.Alive on) call count = then (bringing name known on k.entries) (to_keep_mark k name)
-after_again name k known probe.Gone call count = Ask (Close known.held.0) (λ closed. Return (settled.Nobody, record { standings = without name k.standings; entries = k.entries ++ entry.Gone known.number name ∷ [] }))
-after_again name k known probe.Failed call count = Return (settled.Fault call count, record { standings = tried_standings k.standings name (settled.Fault call count); entries = k.entries ++ entry.Unsettled name (fault.Call call count) ∷ [] })
+abbrev pub after_again : List ℕ → Kept → Known → Probe → FailedCall → Prog (Settled × Kept)
+after_again name k known (probe.Alive on) failed = then (bringing name known on k.entries) (to_keep_mark k name)
+after_again name k known probe.Gone failed = Ask (Close known.held.0) (λ closed. Return (settled.Nobody, record { standings = without name k.standings; entries = k.entries ++ entry.Gone known.number name ∷ [] }))
+after_again name k known probe.Failed failed = Return (settled.Fault failed, record { standings = tried_standings k.standings name (settled.Fault failed); entries = k.entries ++ entry.Unsettled name (fault.Call failed) ∷ [] })
 
 abbrev pub again : List ℕ → Kept → Option Known → Prog (Settled × Kept)
-again name k (Some known) = Ask (Ask_alive known.held.0) (λ t. after_again name k known t.answer t.number t.count)
+again name k (Some known) = Ask (Ask_alive known.held.0) (λ t. after_again name k known t.answer (failure_of t))
 again name k None = Return (settled.Nobody, k)
 
 -- one known name where the listing didn't succeed

@@ -2,10 +2,12 @@
 use Rattle.std.specs.Prelude.{ℕ, Bool, true, false, not, List, [], ◌∷◌, ◌++◌, map, cond}
 use Rattle.std.specs.List.{filter}
 use Rattle.ug_types.specs.Sweep.{in_sweep_order}
+use Rattle.ug_kernel.specs.declared.calls.FailedCall.{FailedCall}
 use Rattle.ug_kernel.specs.declared.calls.Listing.{Listing}
 use Rattle.ug_kernel.specs.declared.calls.Listing.TheVariants as listing
 use Rattle.ug_kernel.specs.Calls.{Names, Close}
 use Rattle.ug_kernel.specs.Tree.{Prog, Return, Ask, Room, then}
+use Rattle.ug_kernel.specs.Along.{failure_of}
 use Rattle.ug_audit.specs.declared.entry.Entry.TheVariants as entry
 use Rattle.ug_audit.specs.declared.entry.Fault.{Fault}
 use Rattle.ug_audit.specs.declared.entry.Fault.TheVariants as fault
@@ -50,11 +52,11 @@ abbrev pub if_room : {J : Type 0} → Answers J → Laters J → List (List ℕ)
 if_room answer later names w true = then (closing_unlisted names w.standings) (λ closed. settling_all answer later names (not w.listed) (marked_listed (parted names w)))
 if_room answer later names w false = unlisted fault.Memory w
 
-abbrev pub after_list : {J : Type 0} → Answers J → Laters J → State J → Listing → ℕ → ℕ → Prog (State J)
-after_list answer later w (listing.Names names) call count = Room (if_room answer later (in_sweep_order names) w)
-after_list answer later w listing.Failed call count = unlisted (fault.Call call count) w
-after_list answer later w listing.Memory call count = unlisted fault.Memory w
+abbrev pub after_list : {J : Type 0} → Answers J → Laters J → State J → Listing → FailedCall → Prog (State J)
+after_list answer later w (listing.Names names) failed = Room (if_room answer later (in_sweep_order names) w)
+after_list answer later w listing.Failed failed = unlisted (fault.Call failed) w
+after_list answer later w listing.Memory failed = unlisted fault.Memory w
 
 -- the whole sweep
 unfoldable pub sweeping : {J : Type 0} → Answers J → Laters J → State J → Prog (State J)
-sweeping answer later w = Ask Names (λ t. after_list answer later w t.answer t.number t.count)
+sweeping answer later w = Ask Names (λ t. after_list answer later w t.answer (failure_of t))

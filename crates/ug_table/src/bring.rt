@@ -1,13 +1,15 @@
 // Brings a device to its verdict.
-ghost use Rattle.std.specs.Prelude.{◌≡◌, ◌≤◌, ◌+◌};
+ghost use Rattle.std.specs.Prelude.{◌≡◌, ◌≤◌, ◌+◌, ◌++◌, ◌∷◌, []};
 ghost use Rattle.ug_kernel.specs.Tree.{Runs};
 ghost use Rattle.ug_audit.specs.Journal.{Notes, noted_in};
+ghost use Rattle.ug_audit.specs.declared.entry.Entry.TheVariants.{Unsettled};
+ghost use Rattle.ug_table.specs.Settle.{stopped_by};
 ghost use Rattle.ug_table.specs.Bring.{wants, write_of, is_reject, is_to_go, valuing, to_remove, removing, writing, bringing};
 
 use crate::standing::{Known, Settled};
 use std::alloc::Global;
 use ug_audit::{Entry, Fault, Journal};
-use ug_node::{RemoveHold, hold_remove, put};
+use ug_node::{RemoveHold, failed_call, hold_remove, put};
 use ug_sysfs::{Sysfs, Write, Wrote};
 use ug_types::{Held, NodeName, Target};
 
@@ -49,6 +51,17 @@ fn is_to_go(known: Known) -> bool
     is_reject(known.verdict) && !known.removed
 }
 
+/// Notes what stopped the settling of a name, which ends so.
+pub fn note_fault(out: &mut Journal, name: &NodeName, fault: Fault) -> Settled
+    requires { 1 ≤ (noted_in out.old).spare }
+    ensures settled { result ≡ stopped_by fault }
+    ensures entries { (noted_in out.new).entries ≡ (noted_in out.old).entries ++ Unsettled name.now fault ∷ [] }
+    ensures journal { Notes 1 out.old out.new }
+{
+    out.push(Entry::Unsettled { name: *name, fault });
+    fault.into()
+}
+
 /// Writes where the value differs from the one that the verdict wants.
 #[tactic(auto, unfolding(crate::specs::Bring::valuing))]
 fn set_value<Y: Sysfs>(
@@ -88,15 +101,7 @@ fn set_value<Y: Sysfs>(
             });
             Settled::Nobody
         }
-        Wrote::Failed => {
-            let call = sysfs.calls();
-            let count = sysfs.faults();
-            out.push(Entry::Unsettled {
-                name: *name,
-                fault: Fault::Call { call, count },
-            });
-            Settled::Fault { call, count }
-        }
+        Wrote::Failed => note_fault(out, name, Fault::Call(failed_call(sysfs))),
     }
 }
 
@@ -121,8 +126,7 @@ fn write_remove<Y: Sysfs>(
     };
     out.push(intent);
     let wrote = put(sysfs, file, write);
-    let call = sysfs.calls();
-    let count = sysfs.faults();
+    let failed = failed_call(sysfs);
     sysfs.close(file);
     out.push(Entry::Wrote {
         number,
@@ -139,14 +143,7 @@ fn write_remove<Y: Sysfs>(
             });
             Settled::Nobody
         }
-        Wrote::Failed => {
-            let failed = Fault::Call { call, count };
-            out.push(Entry::Unsettled {
-                name: *name,
-                fault: failed,
-            });
-            Settled::Fault { call, count }
-        }
+        Wrote::Failed => note_fault(out, name, Fault::Call(failed)),
     }
 }
 
@@ -172,18 +169,8 @@ fn remove<Y: Sysfs>(
             });
             Settled::Nobody
         }
-        RemoveHold::Failed { call, count } => {
-            let fault = Fault::Call { call, count };
-            out.push(Entry::Unsettled { name: *name, fault });
-            Settled::Fault { call, count }
-        }
-        RemoveHold::Memory => {
-            out.push(Entry::Unsettled {
-                name: *name,
-                fault: Fault::Memory,
-            });
-            Settled::Memory
-        }
+        RemoveHold::Failed(failed) => note_fault(out, name, Fault::Call(failed)),
+        RemoveHold::Memory => note_fault(out, name, Fault::Memory),
     }
 }
 
@@ -209,7 +196,7 @@ pub fn bring<Y: Sysfs>(
             Settled::Nobody
         }
         Settled::Stands => Settled::Stands,
-        Settled::Fault { call, count } => Settled::Fault { call, count },
+        Settled::Fault(failed) => Settled::Fault(failed),
         Settled::Memory => Settled::Memory,
     }
 }
@@ -235,7 +222,7 @@ fn make_writes<Y: Sysfs>(
             Settled::Stands
         }
         Settled::Nobody => Settled::Nobody,
-        Settled::Fault { call, count } => Settled::Fault { call, count },
+        Settled::Fault(failed) => Settled::Fault(failed),
         Settled::Memory => Settled::Memory,
     }
 }

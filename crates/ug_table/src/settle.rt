@@ -12,13 +12,13 @@ ghost use Rattle.ug_table.specs.declared.standing.Standing.{Standing};
 ghost use Rattle.ug_table.specs.declared.standing.Settled.TheVariants.{Memory};
 ghost use Rattle.ug_table.specs.Settle.{stands, kept_standings, tried_standings, no_room, to_judge, admitting, entering, settling, resettling};
 
-use crate::bring::{bring, is_reject};
+use crate::bring::{bring, is_reject, note_fault};
 use crate::judge::Judge;
 use crate::standing::{Known, Settled, Standing};
 use crate::table::{Table, find, forget, known_of, mark, put_in};
 use std::alloc::Global;
 use ug_audit::{Entry, Fault, Journal};
-use ug_node::{Binding, Bound, bind, reprobe};
+use ug_node::{Binding, Bound, bind, failed_call, reprobe};
 use ug_record::record_of;
 use ug_sysfs::{Probe, Sysfs};
 use ug_types::{Held, Judged, NoMemory, NodeName};
@@ -100,11 +100,7 @@ impl Table {
         ensures journal { Notes 1 out.old out.new }
     {
         sysfs.close(held);
-        out.push(Entry::Unsettled {
-            name: *name,
-            fault: Fault::Memory,
-        });
-        Settled::Memory
+        note_fault(out, name, Fault::Memory)
     }
 
     // A device that has a record and room gets the next number and a verdict, and the writes are made.
@@ -208,20 +204,8 @@ impl Table {
             Binding::Bound(bound) => self.admit(alloc, sysfs, name, present, judge, bound, out),
             Binding::Absent => Settled::Nobody,
             Binding::Vanished => Settled::Nobody,
-            Binding::Failed { call, count } => {
-                out.push(Entry::Unsettled {
-                    name: *name,
-                    fault: Fault::Call { call, count },
-                });
-                Settled::Fault { call, count }
-            }
-            Binding::Memory => {
-                out.push(Entry::Unsettled {
-                    name: *name,
-                    fault: Fault::Memory,
-                });
-                Settled::Memory
-            }
+            Binding::Failed(failed) => note_fault(out, name, Fault::Call(failed)),
+            Binding::Memory => note_fault(out, name, Fault::Memory),
         }
     }
 
@@ -320,12 +304,9 @@ impl Table {
             Some(known) => known,
             None => return self.enter(alloc, sysfs, name, present, judge, out),
         };
-        match reprobe(sysfs, known.held) {
-            Probe::Alive(on) => {
-                let settled = bring(alloc, sysfs, name, known, on, out);
-                remember(&mut self.standings, name, settled);
-                settled
-            }
+        let settled = match reprobe(sysfs, known.held) {
+            Probe::Alive(on) => bring(alloc, sysfs, name, known, on, out),
+            Probe::Failed => note_fault(out, name, Fault::Call(failed_call(sysfs))),
             Probe::Gone => {
                 out.push(Entry::Gone {
                     number: known.number,
@@ -333,19 +314,11 @@ impl Table {
                 });
                 sysfs.close(known.held);
                 forget(&mut self.standings, name);
-                self.enter(alloc, sysfs, name, present, judge, out)
+                return self.enter(alloc, sysfs, name, present, judge, out);
             }
-            Probe::Failed => {
-                let call = sysfs.calls();
-                let count = sysfs.faults();
-                out.push(Entry::Unsettled {
-                    name: *name,
-                    fault: Fault::Call { call, count },
-                });
-                remember(&mut self.standings, name, Settled::Fault { call, count });
-                Settled::Fault { call, count }
-            }
-        }
+        };
+        remember(&mut self.standings, name, settled);
+        settled
     }
 }
 
@@ -368,30 +341,18 @@ pub fn settle_known<Y: Sysfs>(
         Some(known) => known,
         None => return Settled::Nobody,
     };
-    match reprobe(sysfs, known.held) {
-        Probe::Alive(on) => {
-            let settled = bring(alloc, sysfs, name, known, on, out);
-            remember(standings, name, settled);
-            settled
-        }
+    let settled = match reprobe(sysfs, known.held) {
+        Probe::Alive(on) => bring(alloc, sysfs, name, known, on, out),
+        Probe::Failed => note_fault(out, name, Fault::Call(failed_call(sysfs))),
         Probe::Gone => {
             out.push(Entry::Gone {
                 number: known.number,
                 name: *name,
             });
             sysfs.close(known.held);
-            forget(standings, name);
             Settled::Nobody
         }
-        Probe::Failed => {
-            let call = sysfs.calls();
-            let count = sysfs.faults();
-            out.push(Entry::Unsettled {
-                name: *name,
-                fault: Fault::Call { call, count },
-            });
-            remember(standings, name, Settled::Fault { call, count });
-            Settled::Fault { call, count }
-        }
-    }
+    };
+    remember(standings, name, settled);
+    settled
 }

@@ -1,4 +1,6 @@
 // How a device stands.
+use ug_audit::Fault;
+use ug_kernel::FailedCall;
 use ug_types::{Cause, Held, Judged, NodeName, Target};
 
 /// A device that was judged, with the file by which it is known.
@@ -32,7 +34,20 @@ pub enum Settled {
     Stands,
     /// Nothing stands for the name.
     Nobody,
-    /// The number of the failed call in its event, and the count of failed calls after it.
-    Fault { call: u64, count: u64 },
+    Fault(FailedCall),
     Memory,
+}
+
+impl From<Fault> for Settled {
+    ghost use Rattle.std.specs.Prelude.{◌≡◌};
+    ghost use Rattle.ug_table.specs.Settle.{stopped_by};
+
+    ghost from_gives = { λ fault settled. settled ≡ stopped_by fault };
+
+    fn from(fault: Fault) -> Settled {
+        match fault {
+            Fault::Call(failed) => Settled::Fault(failed),
+            Fault::Memory => Settled::Memory,
+        }
+    }
 }

@@ -17,6 +17,7 @@ use crate::standing::Standing;
 use crate::table::Table;
 use std::alloc::Global;
 use ug_audit::{Entry, Fault, Journal};
+use ug_node::failed_call;
 use ug_sysfs::{Listing, Sysfs};
 use ug_types::{List, NodeName, sort_names};
 
@@ -192,10 +193,7 @@ impl Table {
         let names = match sysfs.list(alloc) {
             Listing::Names(names) => sorted(names),
             Listing::Failed => {
-                let fault = Fault::Call {
-                    call: sysfs.calls(),
-                    count: sysfs.faults(),
-                };
+                let fault = Fault::Call(failed_call(sysfs));
                 self.go_unlisted(alloc, sysfs, fault, judge, out);
                 return;
             }

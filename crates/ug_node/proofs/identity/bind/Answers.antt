@@ -1,5 +1,4 @@
-use Rattle.ug_node.proofs.Laws.{told_binds}
-use Rattle.ug_node.proofs.Rises.{told_fault}
+use Rattle.ug_node.proofs.Laws.{told_binds, told_fault}
 use Rattle.ug_node.proofs.identity.bind.Goals as goal
 
 pub returns-clause-law : goal.returns-clause-law

@@ -1,18 +1,15 @@
-use Rattle.std.proofs.Common.{List, not, false, ◌∙◌, ap}
+use Rattle.std.proofs.Common.{List, not, ◌∙◌, ap}
 use Rattle.ug_table.specs.Standings.{same_name, standing_of}
 use Rattle.ug_table.specs.declared.standing.Standing.{Standing}
-use Rattle.ug_table.proofs.KeptOrder.{keeps_filter, keeps_marked, keeps_tried, kept_as, kept_fields}
+use Rattle.ug_table.proofs.KeptOrder.{keeps_filter, keeps_tried, kept_as, kept_fields}
 use Rattle.ug_table.proofs.OwnStanding.{without_own}
 use Rattle.ug_table.proofs.table.Table.settle_name.Goals as goal
 
-pub invariant_of-self : goal.invariant_of-self
-invariant_of-self g c = kept_fields _ _ _ _ (kept_as _ _ _ c.remember.ensures.standings (keeps_tried c.args.name.now c.bring-settled.result c.self.inside.standings.items)) c.remember.ensures.len c.self.invariant
+pub invariant_of-self-2 : goal.invariant_of-self-2
+invariant_of-self-2 g c = kept_fields _ _ _ _ (kept_as _ _ _ c.remember.ensures.standings (keeps_tried c.args.name.now _ c.self.inside.standings.items)) c.remember.ensures.len c.self.invariant
 
-pub invariant_of-self-in-Gone : goal.invariant_of-self-in-Gone
-invariant_of-self-in-Gone g c = kept_fields _ _ _ _ (kept_as _ _ _ c.forget.ensures.standings (keeps_filter (λ (s : Standing). not (same_name s.name c.args.name.now)) c.self.inside.standings.items)) c.forget.ensures.len c.self.invariant
+pub invariant_of-self : goal.invariant_of-self
+invariant_of-self g c = kept_fields _ _ _ _ (kept_as _ _ _ c.forget.ensures.standings (keeps_filter (λ (s : Standing). not (same_name s.name c.args.name.now)) c.self.inside.standings.items)) c.forget.ensures.len c.self.invariant
 
 pub enter-requires-in-Gone-clause-absent : goal.enter-requires-in-Gone-clause-absent
 enter-requires-in-Gone-clause-absent g c = ap (λ (v : List Standing). standing_of c.args.name.now v) c.forget.ensures.standings ∙ without_own c.args.name.now c.self.inside.standings.items
-
-pub invariant_of-self-in-Failed : goal.invariant_of-self-in-Failed
-invariant_of-self-in-Failed g c = kept_fields _ _ _ _ (kept_as _ _ _ c.remember-in-Failed.ensures.standings (keeps_marked c.args.name.now false c.self.inside.standings.items)) c.remember-in-Failed.ensures.len c.self.invariant
