@@ -9,7 +9,7 @@ use crate::lines::{line_of_count, line_of_fault};
 use std::alloc::Global;
 use ug_input::{read_input, refuse, say};
 use ug_lines::Ended;
-use ug_rule::parse_file;
+use ug_rule::count_rules;
 use ug_types::{FileFault, Sink, Source};
 
 /// The greatest number of bytes that are read.
@@ -22,8 +22,8 @@ fn tell<K: Sink>(alloc: Global, bytes: &[u8], out: &mut K) -> Ended
     ensures not_read { result ≢ Ended.ReadFault }
     ensures cause { result ≡ Ended.WriteFault → Rose (K.faults out.old) (K.faults out.new) }
 {
-    match parse_file(alloc, bytes) {
-        Ok(rules) => say(out, line_of_count(rules.len() as u64).bytes(), Ended::Done),
+    match count_rules(alloc, bytes) {
+        Ok(count) => say(out, line_of_count(count).bytes(), Ended::Done),
         Err(FileFault::Bad(fault)) => say(out, line_of_fault(fault).bytes(), Ended::Bad),
         Err(FileFault::Memory) => say(out, b"no memory\n", Ended::Memory),
     }

@@ -2,8 +2,6 @@
 #![tactic(auto)]
 
 mod checking;
-mod laws;
 mod lines;
 
 pub use checking::check_rules;
-pub use laws::text_law;

@@ -2,7 +2,7 @@
 use Rattle.std.proofs.Common.{ℕ, ◌<◌, Bool, true, false, List, [], ◌∷◌, map, None, Some, arith, if◌then◌else◌}
 use Rattle.std.specs.Prelude.{IfSome}
 use Rattle.std.specs.List.{AllByRecursion}
-use Rattle.std.proofs.lemmas.List.Elements.{recursion_from_All}
+use Rattle.std.proofs.lemmas.List.Elements.{All-from_recursion, recursion_from_All}
 use Rattle.ug_types.specs.declared.record.DeviceRecord.{DeviceRecord}
 use Rattle.ug_types.specs.declared.record.Triple.{Triple}
 use Rattle.ug_types.specs.declared.verdict.Target.{Target}
@@ -10,7 +10,7 @@ use Rattle.ug_rule.specs.Grammar.{WellFormed}
 use Rattle.ug_rule.specs.Values.{id_in, interface_in, string_in}
 use Rattle.ug_rule.specs.WordGrammar.{Exact, OfProtocol, id_with}
 use Rattle.ug_rule.proofs.WordCuts.{id_reads, interface_reads}
-use Rattle.ug_print.specs.Bytes.{AreBytes}
+use Rattle.ug_print.specs.Bytes.{AreBytes, QueryOfBytes, RuleOfBytes, TextsOfBytes}
 use Rattle.ug_print.specs.Generated.{equals, generated_of, interface_of, interfaces_of, query_of}
 use Rattle.ug_print.specs.Items.{id_text, interface_text, string_text}
 use Rattle.ug_print.specs.Ranges.{RecordInRange, TripleInRange}
@@ -66,3 +66,28 @@ unfolding generated_of
 generated_well device target with_port r =
     let rule = generated_of device target with_port in
     record { line = rule_text rule; says = rule_again rule (record { query = query_fits device with_port r; conds = tt }) }
+
+-- ---- its texts are bytes
+
+one_of_bytes : (text : List ℕ) → AreBytes text → TextsOfBytes (equals (text ∷ []))
+one_of_bytes text b = All-from_recursion AreBytes (text ∷ []) (b, tt)
+
+port_of_bytes : (with_port : Bool) (port : List ℕ) → AreBytes port → TextsOfBytes (if with_port then equals (port ∷ []) else None)
+port_of_bytes true port b = one_of_bytes port b
+port_of_bytes false port b = tt
+
+query_of_bytes : (device : DeviceRecord) (with_port : Bool) → RecordInRange device → QueryOfBytes (query_of device with_port)
+unfolding query_of
+query_of_bytes device with_port r = record {
+  serial = one_of_bytes device.serial r.serial;
+  name = one_of_bytes device.name r.name;
+  hash = one_of_bytes device.hash r.hash;
+  parent_hash = one_of_bytes device.parent_hash r.parent_hash;
+  via_port = port_of_bytes with_port device.via_port r.via_port;
+  connect = one_of_bytes device.connect r.connect;
+  label = tt;
+}
+
+pub generated_bytes : (device : DeviceRecord) (target : Target) (with_port : Bool) → RecordInRange device → RuleOfBytes (generated_of device target with_port)
+unfolding generated_of
+generated_bytes device target with_port r = record { query = query_of_bytes device with_port r; conds = tt }

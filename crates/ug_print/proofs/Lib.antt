@@ -1,3 +1,4 @@
+pub mod Alike
 pub mod Appending
 pub mod Chances
 pub mod ConditionsAgain
@@ -7,11 +8,14 @@ pub mod Fractions
 pub mod GeneratedFits
 pub mod Hexadecimal
 pub mod IdWords
+pub mod MalformedLines
+pub mod OneLine
 pub mod Pieces
 pub mod Printed
 pub mod QueryAgain
 pub mod Readings
 pub mod RuleAgain
+pub mod RuleTexts
 pub mod Strings
 pub mod Times
 pub mod ValuesAgain

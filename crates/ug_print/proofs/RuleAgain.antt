@@ -13,7 +13,9 @@ use Rattle.ug_rule.specs.declared.keywords.Attr.{Attr}
 use Rattle.ug_rule.specs.Grammar.{AreAttributes, AreParts, IsConditions, Part, Attribute, If, Says}
 use Rattle.ug_rule.specs.Keywords.{target_of, is_if}
 use Rattle.ug_rule.specs.Queries.{no_query}
+use Rattle.ug_rule.specs.Texts.{IsLine}
 use Rattle.ug_print.specs.Words.{cond_text, conds_words, query_words, rule_text, set_words, target_word}
+use Rattle.ug_print.proofs.OneLine.{cut_line}
 use Rattle.ug_print.proofs.Pieces.{Piece, ArePieces, Cut, CutAll, IsWord, Whole, cut-append, cut_word, joined_cut, one_word, whole, word_piece}
 use Rattle.ug_print.proofs.Readings.{Leads, Taken, Reads, known_word, word_leads}
 use Rattle.ug_print.proofs.ConditionsAgain.{CondFits, conditions_again}
@@ -59,7 +61,7 @@ parts_then line (attr ∷ attrs) parts query next all conds found tokens left a 
 
 -- ---- the rule
 
-target_known : (target : Target) → IsWord (target_word target) × (target_of (target_word target) ≡ Some target)
+pub target_known : (target : Target) → IsWord (target_word target) × (target_of (target_word target) ≡ Some target)
 unfolding target_of
 target_known Allow = (known_word (codes "allow") refl, refl)
 target_known Block = (known_word (codes "block") refl, refl)
@@ -96,3 +98,9 @@ rule_again rule f =
         are = parts_then line u.is.0 parts.0 no_query rule.query rule.query None rule.conds a.rest u.rest u.is.1 parts.1;
       };
     }
+
+pub rule_on_line : (rule : Rule) → RuleFits rule → IsLine (rule_text rule)
+rule_on_line rule f =
+    let t : Told (query_words rule.query) (Attributes no_query rule.query) = query_again rule.query f.query in
+    let e : Ends (conds_words rule.conds) rule.query rule.conds = conds_end rule.query rule.conds f.conds in
+    cut_line (rule_text rule) (word_piece (target_word rule.target) ∷ (t.told.pieces ++ e.pieces)) (rule_pieces rule t e)

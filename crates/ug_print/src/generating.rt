@@ -1,14 +1,14 @@
 // Rules made of devices.
-ghost use Rattle.std.specs.Prelude.{◌≡◌, ◌<◌, ◌^◌, ◌++◌, ◌∷◌, [], All, IfOk, Ok, OnOk, List, None, Some, if◌then◌else◌, map, true};
+ghost use Rattle.std.specs.Prelude.{◌≡◌, ◌↔◌, ◌<◌, ◌^◌, ◌++◌, ◌∷◌, [], All, IfOk, IsTrue, OnOk, List, None, Some, if◌then◌else◌, map};
+ghost use Rattle.ug_types.specs.declared.record.DeviceRecord.{DeviceRecord};
+ghost use Rattle.ug_match.specs.Queries.{query_matches};
 ghost use Rattle.ug_rule.specs.Grammar.{WellFormed};
-ghost use Rattle.ug_rule.specs.Rules.{rule_read};
+ghost use Rattle.ug_print.specs.Alike.{IsAlike};
 ghost use Rattle.ug_rule.specs.WordGrammar.{id_with};
-ghost use Rattle.ug_print.specs.Bytes.{AreBytes};
+ghost use Rattle.ug_print.specs.Bytes.{AreBytes, RuleOfBytes};
 ghost use Rattle.ug_print.specs.Generated.{equals, generated_of, interface_of, interfaces_of, query_of};
 ghost use Rattle.ug_print.specs.Ranges.{RecordInRange, TripleInRange};
-ghost use Rattle.ug_print.specs.Words.{rule_text};
 
-use crate::printing::print_rule;
 use std::alloc::Global;
 use ug_types::{
     DeviceRecord, Id, Iface, List, NoMemory, Op, Query, Rule, Target, Text, Triple, Values,
@@ -117,20 +117,13 @@ pub fn generated_rule(
 ) -> Result<Rule, NoMemory>
     ensures rule { IfOk result (λ rule. rule ≡ generated_of device.now target with_port) }
     ensures well_formed { IfOk result (λ rule. WellFormed rule) }
+    ensures bytes { IfOk result (λ rule. RuleOfBytes rule) }
+    ensures own { IfOk result (λ rule. IsTrue (query_matches rule.query device.now)) }
+    ensures alike { IfOk result (λ rule. (other : DeviceRecord) → IsTrue (query_matches rule.query other) ↔ IsAlike with_port device.now other) }
 {
     Ok(Rule {
         target,
         query: query(alloc, device, with_port)?,
         conds: None,
     })
-}
-
-/// The line of a list of devices: the text of the rule that is made of the device with its verdict and its port. It
-/// reads as that rule.
-pub fn device_line(alloc: Global, device: &DeviceRecord, verdict: Target) -> Result<Text, NoMemory>
-    ensures text { IfOk result (λ text. text ≡ rule_text (generated_of device.now verdict true)) }
-    ensures reads { IfOk result (λ text. rule_read text ≡ Ok (generated_of device.now verdict true)) }
-{
-    let rule = generated_rule(alloc, device, verdict, true)?;
-    print_rule(alloc, &rule)
 }

@@ -2,11 +2,15 @@
 #![tactic(auto)]
 
 mod conditions;
+mod device_lines;
 mod generating;
 mod items;
 pub mod laws;
 mod printing;
+mod rule_texts;
 mod sets;
 
-pub use generating::{device_line, generated_rule};
+pub use device_lines::{device_line, malformed_line};
+pub use generating::generated_rule;
 pub use printing::print_rule;
+pub use rule_texts::{RulesText, RulesTextFault, rules_text};

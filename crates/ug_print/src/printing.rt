@@ -2,6 +2,7 @@
 ghost use Rattle.std.specs.Prelude.{◌≡◌, ◌++◌, ◌∷◌, [], IfOk, Ok, OnOk};
 ghost use Rattle.ug_rule.specs.Grammar.{WellFormed};
 ghost use Rattle.ug_rule.specs.Rules.{rule_read};
+ghost use Rattle.ug_print.specs.Bytes.{RuleOfBytes};
 ghost use Rattle.ug_print.specs.Words.{rule_text, target_word};
 
 use crate::conditions::put_conds;
@@ -9,7 +10,7 @@ use crate::sets::{join, put_query, put_word};
 use std::alloc::Global;
 use ug_types::{List, NoMemory, Rule, Target, Text};
 
-fn put_target(alloc: Global, words: &mut List<Text>, target: Target) -> Result<(), NoMemory>
+pub fn put_target(alloc: Global, words: &mut List<Text>, target: Target) -> Result<(), NoMemory>
     ensures { OnOk result (words.new ≡ words.old ++ target_word target ∷ []) }
 {
     match target {
@@ -25,6 +26,7 @@ fn put_target(alloc: Global, words: &mut List<Text>, target: Target) -> Result<(
 #[tactic(auto, unfolding(crate::specs::Words::rule_text))]
 pub fn print_rule(alloc: Global, rule: &Rule) -> Result<Text, NoMemory>
     ensures text { IfOk result (λ text. text ≡ rule_text rule.now) }
+    ensures bytes { OnOk result (RuleOfBytes rule.now) }
     ensures reads { WellFormed rule.now → IfOk result (λ text. rule_read text ≡ Ok rule.now) }
 {
     let mut words = List::new(alloc);

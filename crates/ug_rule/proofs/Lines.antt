@@ -1,5 +1,5 @@
 -- The first line of a text, and the lines behind it.
-use Rattle.std.proofs.Common.{◌≡◌, ℕ, suc, ◌+◌, ◌-◌, ◌<◌, ◌≤◌, Bool, true, false, not, nat_eq, nat_lt, Some, None, List, [], ◌∷◌, length, take, drop, Result, Ok, Err, refl, sym, ap, ◌∙◌, arith, length-drop}
+use Rattle.std.proofs.Common.{◌≡◌, ℕ, suc, ◌+◌, ◌-◌, ◌<◌, ◌≤◌, Bool, true, false, not, nat_eq, nat_lt, Option, Some, None, List, [], ◌∷◌, ◌++◌, length, length-append, take, drop, Result, Ok, Err, refl, sym, ap, ◌∙◌, arith, length-drop}
 use Rattle.std.specs.List.{position, position_or_len}
 use Rattle.std.proofs.lemmas.List.Sums.{prefix_len-le-length}
 use Rattle.std.proofs.lemmas.Option.{cond_some, none-some}
@@ -13,7 +13,8 @@ use Rattle.ug_types.specs.declared.text_fault.FileFault.{FileFault}
 use Rattle.ug_types.specs.declared.text_fault.FileFault.TheVariants.{Bad, Memory}
 use Rattle.ug_types.specs.declared.text_fault.TextFault.{TextFault}
 use Rattle.ug_rule.specs.Faults.{on_ok}
-use Rattle.ug_rule.specs.Files.{onto, lines_of, line_read, added, rules_from, IsFault, Adds}
+use Rattle.ug_rule.specs.declared.fault.Fault.{Fault}
+use Rattle.ug_rule.specs.Files.{onto, lines_of, line_read, added, fault_on, counted, rules_from, IsFault, Adds, Counts}
 
 abbrev first_length : List ℕ → ℕ
 first_length xs = position_or_len (nat_eq 10) xs
@@ -104,3 +105,33 @@ ends number rules at text read h q = sym q ∙ ap (λ (l : List ℕ). rules_from
 
 pub length-rest : (at : ℕ) (text : List ℕ) → length (take (length text - at) (drop at text)) ≡ length text - at
 length-rest at text = ap length (to_end at text) ∙ length-drop at text
+
+-- ---- rules that are counted and not kept
+
+abbrev LineRead : Type 0
+LineRead = Result (Option Rule) Fault
+
+-- a line was counted: with some rules before it, its rule and theirs are so many
+pub record Counted (number : ℕ) (rules : List Rule) (read : LineRead) (next : ℕ) : Type 0 where
+  pub more : List Rule
+  pub adds : added number rules read ≡ Ok more
+  pub are : length more ≡ next
+  pub few : next ≤ length rules + 1
+
+pub line_counted : (number count next : ℕ) (rules : List Rule) (read : LineRead) → length rules ≡ count → counted number count read ≡ Ok next → Counted number rules read next
+line_counted number count next rules (Ok None) e h =
+    let same : count ≡ next = cc in
+    record { more = rules; adds = refl; are = e ∙ same; few = omega arith }
+line_counted number count next rules (Ok (Some rule)) e h =
+    let one : count + 1 ≡ next = cc in
+    record { more = rules ++ rule ∷ []; adds = refl; are = length-append rules (rule ∷ []) ∙ (ap (λ (n : ℕ). n + 1) e ∙ one); few = omega arith }
+line_counted number count next rules (Err fault) e h = let none : ⊥ = cc in absurd none
+
+fault_counted : (number count : ℕ) (rules : List Rule) (read : LineRead) (fault : TextFault) → counted number count read ≡ Err fault → added number rules read ≡ Err fault
+fault_counted number count rules (Ok None) fault h = let none : ⊥ = cc in absurd none
+fault_counted number count rules (Ok (Some rule)) fault h = let none : ⊥ = cc in absurd none
+fault_counted number count rules (Err found) fault h = let e : fault_on number found ≡ fault = cc in ap (λ (f : TextFault). Err f) e
+
+pub not_counted : (number count : ℕ) (rules : List Rule) (read : LineRead) (fault : FileFault) → Counts (Err fault) (counted number count read) → Adds (Err fault) rules (added number rules read)
+not_counted number count rules read Memory h = tt
+not_counted number count rules read (Bad fault) h = fault_counted number count rules read fault h

@@ -1,5 +1,5 @@
 -- The rules of a text: those of its lines that are neither blank nor comments.
-use Rattle.std.specs.Prelude.{◌≡◌, ℕ, ◌+◌, nat_eq, if◌then◌else◌, List, [], ◌∷◌, ◌++◌, Option, Some, None, Result, Ok, Err}
+use Rattle.std.specs.Prelude.{◌≡◌, ℕ, ◌+◌, nat_eq, length, if◌then◌else◌, List, [], ◌∷◌, ◌++◌, Option, Some, None, Result, Ok, Err}
 use Rattle.ug_lex.specs.declared.token.Token.{Token}
 use Rattle.ug_types.specs.declared.rule.Rule.{Rule}
 use Rattle.ug_types.specs.declared.text_fault.FileFault.{FileFault}
@@ -32,9 +32,13 @@ abbrev pub with_rule : List Rule → Option Rule → List Rule
 with_rule rules None = rules
 with_rule rules (Some rule) = rules ++ rule ∷ []
 
+-- a fault on the line of that number
+abbrev pub fault_on : ℕ → Fault → TextFault
+fault_on number fault = record { line = number; kind = kind_number fault.kind; place = fault.place }
+
 abbrev pub added : ℕ → List Rule → Result (Option Rule) Fault → Result (List Rule) TextFault
 added number rules (Ok found) = Ok (with_rule rules found)
-added number rules (Err fault) = Err (record { line = number; kind = kind_number fault.kind; place = fault.place })
+added number rules (Err fault) = Err (fault_on number fault)
 
 -- the rules with those of lines that are numbered from a number on, up to the first bad line
 unfoldable pub rules_from : ℕ → List Rule → List (List ℕ) → Result (List Rule) TextFault
@@ -54,3 +58,18 @@ abbrev pub Adds : Result (Unit {0}) FileFault → List Rule → Result (List Rul
 Adds (Ok done) rules read = read ≡ Ok rules
 Adds (Err (Bad fault)) rules read = read ≡ Err fault
 Adds (Err Memory) rules read = Unit {0}
+
+-- the number of rules with that of a line
+abbrev pub counted : ℕ → ℕ → Result (Option Rule) Fault → Result ℕ TextFault
+counted number count (Ok None) = Ok count
+counted number count (Ok (Some rule)) = Ok (count + 1)
+counted number count (Err fault) = Err (fault_on number fault)
+
+abbrev pub Counts : Result ℕ FileFault → Result ℕ TextFault → Type 0
+Counts (Ok count) read = read ≡ Ok count
+Counts (Err (Bad fault)) read = read ≡ Err fault
+Counts (Err Memory) read = Unit {0}
+
+-- so many rules were read
+abbrev pub IsCount : ℕ → Result (List Rule) TextFault → Type 0
+IsCount count read = (rules : List Rule) × (read ≡ Ok rules) × (count ≡ length rules)

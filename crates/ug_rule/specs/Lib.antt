@@ -7,6 +7,7 @@ pub mod Grammar
 pub mod Keywords
 pub mod Queries
 pub mod Rules
+pub mod Texts
 pub mod Tokens
 pub mod Values
 pub mod WordGrammar

@@ -1,10 +1,10 @@
 // Texts of rules, a line each.
-ghost use Rattle.std.specs.Prelude.{◌≡◌, ◌≤◌, nat_eq, length, IfOk, IfErr};
+ghost use Rattle.std.specs.Prelude.{◌≡◌, ◌-◌, ◌^◌, ◌<◌, ◌≤◌, nat_eq, length, IfOk, IfErr};
 ghost use Rattle.std.specs.List.{position, position_or_len};
 ghost use Rattle.ug_rule.specs.Faults.{Answers};
 ghost use Rattle.ug_rule.specs.Files as files;
 
-use crate::fault::Stop;
+use crate::fault::{Fault, Stop};
 use crate::rules::rule;
 use crate::tokens_left::read;
 use std::alloc::Global;
@@ -39,6 +39,16 @@ fn read_line(alloc: Global, line: &[u8]) -> Result<Option<Rule>, Stop>
     Ok(Some(rule(alloc, line, tokens)?))
 }
 
+fn fault_on(number: u64, fault: Fault) -> FileFault
+    ensures { result ≡ FileFault.Bad (files.fault_on number fault) }
+{
+    FileFault::Bad(TextFault {
+        line: number,
+        kind: fault.kind.number(),
+        place: fault.place,
+    })
+}
+
 // Adds the rule of a line, if it has one.
 fn add_line(alloc: Global, line: &[u8], number: u64, rules: &mut Vec<Rule>) -> Result<(), FileFault>
     ensures { files.Adds result rules.new.items (files.added number rules.old.items (files.line_read line.now)) }
@@ -49,11 +59,20 @@ fn add_line(alloc: Global, line: &[u8], number: u64, rules: &mut Vec<Rule>) -> R
             Err(_) => Err(FileFault::Memory),
         },
         Ok(None) => Ok(()),
-        Err(Stop::Bad(fault)) => Err(FileFault::Bad(TextFault {
-            line: number,
-            kind: fault.kind.number(),
-            place: fault.place,
-        })),
+        Err(Stop::Bad(fault)) => Err(fault_on(number, fault)),
+        Err(Stop::Memory) => Err(FileFault::Memory),
+    }
+}
+
+// The number of rules with that of a line, if it has one.
+fn count_line(alloc: Global, line: &[u8], number: u64, count: u64) -> Result<u64, FileFault>
+    requires { count < 2 ^ 64 - 1 }
+    ensures { files.Counts result (files.counted number count (files.line_read line.now)) }
+{
+    match read_line(alloc, line) {
+        Ok(Some(_)) => Ok(count + 1),
+        Ok(None) => Ok(count),
+        Err(Stop::Bad(fault)) => Err(fault_on(number, fault)),
         Err(Stop::Memory) => Err(FileFault::Memory),
     }
 }
@@ -78,4 +97,26 @@ pub fn parse_file(alloc: Global, text: &[u8]) -> Result<Vec<Rule>, FileFault>
         at += length + 1;
     }
     Ok(rules)
+}
+
+/// How many rules `parse_file` reads in a text, or its first bad line. One rule is kept at a time, so that memory grows
+/// with the longest line.
+pub fn count_rules(alloc: Global, text: &[u8]) -> Result<u64, FileFault>
+    ensures good { IfOk result (λ count. files.IsCount count (files.file_read text.now)) }
+    ensures bad { IfErr result (λ fault. files.IsFault fault (files.file_read text.now)) }
+{
+    let mut count: u64 = 0;
+    let mut number: u64 = 1;
+    let mut at = 0;
+    while at < text.len() {
+        let rest = &text[at..];
+        let length = line_length(rest);
+        match count_line(alloc, &rest[..length], number, count) {
+            Ok(more) => count = more,
+            Err(fault) => return Err(fault),
+        }
+        number += 1;
+        at += length + 1;
+    }
+    Ok(count)
 }

@@ -1,22 +1,24 @@
 // Laws of the meaning of a rule's text.
 ghost use Rattle.std.specs.Prelude.{◌≡◌, ◌↔◌, ◌⊎◌, ℕ, List, Some, None, Ok, Err};
 ghost use Rattle.ug_lex.specs.declared.token.Token.{Token};
+ghost use Rattle.ug_types.specs.declared.text_fault.TextFault.{TextFault};
 ghost use Rattle.ug_rule.specs.declared.fault.Ending.{Ending};
 ghost use Rattle.ug_rule.specs.declared.fault.Fault.{Fault};
 ghost use Rattle.ug_rule.specs.Conditions.{conditions_of};
 ghost use Rattle.ug_rule.specs.FaultKinds.{query_early_kind, query_stray_kind, rule_early_kind, rule_stray_kind};
-ghost use Rattle.ug_rule.specs.Files.{line_read};
+ghost use Rattle.ug_rule.specs.Files.{file_read, line_read, lines_of};
 ghost use Rattle.ug_rule.specs.FirstFault.{AreQuery, AreRule, FirstFault, IsBadLine, IsBlankLine};
 ghost use Rattle.ug_rule.specs.Grammar.{AllAttributes, Asks, IsConditions, IsQuery, IsRule, IsValue, Says, WellFormed};
 ghost use Rattle.ug_rule.specs.Queries.{attributes_of};
 ghost use Rattle.ug_rule.specs.Rules.{rule_of, rule_read, whole_query, query_read};
+ghost use Rattle.ug_rule.specs.Texts.{AreRules, IsFirstBad, Splits};
 ghost use Rattle.ug_rule.specs.Values.{id_in, interface_in, string_in, value_of};
 ghost use Rattle.ug_rule.specs.declared.words.Clock.{Clock};
 ghost use Rattle.ug_rule.specs.declared.words.DaySpan.{DaySpan};
 ghost use Rattle.ug_rule.specs.WordGrammar.{IsChance, IsId, IsInterface, IsPast, IsSpan, IsTime};
 ghost use Rattle.ug_rule.specs.Words.{chance_of, id_of, interface_of, past_of, span_of, time_of};
 
-use ug_types::{Conds, Id, Iface, Query, Rule, Values};
+use ug_types::{Conds, Id, Iface, Query, Rule, TextFault, Values};
 
 /// A value is read exactly as its tokens are cut into one item, or an operator or none and items in braces.
 pub fn values_law()
@@ -73,6 +75,14 @@ pub fn text_lines_law()
     ensures blank { (line : List ℕ) → (line_read line ≡ Ok None) ↔ IsBlankLine line }
     ensures rules { (line : List ℕ) (rule : Rule) → (line_read line ≡ Ok (Some rule)) ↔ Says line rule }
     ensures faults { (line : List ℕ) (fault : Fault) → (line_read line ≡ Err fault) ↔ IsBadLine line fault }
+{}
+
+/// A text splits into its lines and in no other way. It is read exactly where each line is a rule, blank or a comment, and
+/// then its rules are those of the lines, in their order; a fault is that of its first bad line.
+pub fn text_law()
+    ensures lines { (text : List ℕ) (lines : List (List ℕ)) → (lines_of text ≡ lines) ↔ Splits text lines }
+    ensures rules { (text : List ℕ) (rules : List Rule) → (file_read text ≡ Ok rules) ↔ AreRules (lines_of text) rules }
+    ensures fault { (text : List ℕ) (fault : TextFault) → (file_read text ≡ Err fault) ↔ IsFirstBad (lines_of text) fault }
 {}
 
 /// A line is one rule, or has one first fault, and never both. So it is with queries.

@@ -13,9 +13,9 @@ mod values;
 mod words;
 
 pub use fault::RuleFault;
-pub use files::parse_file;
+pub use files::{count_rules, parse_file};
 pub use laws::{
-    attributes_law, conditions_law, first_fault_law, lines_law, one_meaning, rules_law,
+    attributes_law, conditions_law, first_fault_law, lines_law, one_meaning, rules_law, text_law,
     text_lines_law, values_law, words_law,
 };
 pub use rules::{parse_query, parse_rule};

@@ -1,5 +1,5 @@
-use Rattle.ug_print.proofs.Printed.{apart, printed}
+use Rattle.ug_print.proofs.Printed.{apart, on_line, printed}
 use Rattle.ug_print.proofs.laws.printed_law.Goals as goal
 
 pub returns : goal.returns
-returns c = record { read = printed; apart = apart }
+returns c = record { one_line = on_line; read = printed; apart = apart }

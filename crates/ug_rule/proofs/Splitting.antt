@@ -2,7 +2,7 @@
 use Rattle.std.proofs.Common.{◌≡◌, ◌≢◌, ℕ, List, [], ◌∷◌, ◌++◌, Bool, true, false, nat_eq, refl, sym, ap, subst, ◌∙◌, arith}
 use Rattle.std.proofs.lemmas.Bool.Decides.{nat_tests}
 use Rattle.ug_rule.specs.Files.{onto, lines_of}
-use Rattle.ug_checking.specs.Texts.{IsLine, Splits, Nothing, Open, Closed}
+use Rattle.ug_rule.specs.Texts.{IsLine, Splits, Nothing, Open, Closed}
 
 is_newline : (b : ℕ) → nat_eq 10 b ≡ true → b ≡ 10
 is_newline b e = grind (arith, nat_tests)

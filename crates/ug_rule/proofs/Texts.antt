@@ -5,10 +5,10 @@ use Rattle.ug_types.specs.declared.rule.Rule.{Rule}
 use Rattle.ug_types.specs.declared.text_fault.TextFault.{TextFault}
 use Rattle.ug_rule.specs.declared.fault.Fault.{Fault}
 use Rattle.ug_rule.specs.Faults.{on_ok}
-use Rattle.ug_rule.specs.Files.{line_read, added, rules_from}
+use Rattle.ug_rule.specs.Files.{line_read, added, fault_on, rules_from}
 use Rattle.ug_rule.specs.FirstFault.{IsBadLine}
 use Rattle.ug_rule.proofs.TextLines.{blank_line, line_blank, line_rule, rule_line, bad_line, line_bad}
-use Rattle.ug_checking.specs.Texts.{AreRules, NoLines, Blank, OneMore, fault_on, IsFirstBad}
+use Rattle.ug_rule.specs.Texts.{AreRules, NoLines, Blank, OneMore, IsFirstBad}
 
 one_more : (a b : ℕ) → a + 1 + b ≡ a + suc b
 one_more a b = omega arith

@@ -1,9 +1,9 @@
 use Rattle.std.proofs.Common.{List, ℕ, subst}
-use Rattle.ug_checking.specs.Texts.{Splits}
-use Rattle.ug_checking.proofs.Splitting.{splits, splits-only}
+use Rattle.ug_rule.specs.Texts.{Splits}
+use Rattle.ug_rule.proofs.Splitting.{splits, splits-only}
 use Rattle.ug_rule.specs.Files.{lines_of}
-use Rattle.ug_checking.proofs.Texts.{rules-read, read-rules, fault-read, read-fault}
-use Rattle.ug_checking.proofs.laws.text_law.Goals as goal
+use Rattle.ug_rule.proofs.Texts.{rules-read, read-rules, fault-read, read-fault}
+use Rattle.ug_rule.proofs.laws.text_law.Goals as goal
 
 pub returns-clause-lines : goal.returns-clause-lines
 returns-clause-lines c = λ text lines. (λ e. subst (λ (ls : List (List ℕ)). Splits text ls) e (splits text), λ s. splits-only text lines s)

@@ -3,7 +3,7 @@ use Rattle.std.specs.Prelude.{ℕ, ◌≡◌, ◌≢◌, ◌+◌, List, [], ◌�
 use Rattle.ug_types.specs.declared.rule.Rule.{Rule}
 use Rattle.ug_types.specs.declared.text_fault.TextFault.{TextFault}
 use Rattle.ug_rule.specs.declared.fault.Fault.{Fault}
-use Rattle.ug_rule.specs.Faults.{kind_number}
+use Rattle.ug_rule.specs.Files.{fault_on}
 use Rattle.ug_rule.specs.FirstFault.{IsBlankLine, IsBadLine}
 use Rattle.ug_rule.specs.Grammar.{Says}
 
@@ -24,10 +24,6 @@ pub data AreRules : List (List ℕ) → List Rule → Type 0 where
   NoLines : AreRules [] []
   Blank : (line : List ℕ) (lines : List (List ℕ)) (rules : List Rule) → IsBlankLine line → AreRules lines rules → AreRules (line ∷ lines) rules
   OneMore : (line : List ℕ) (rule : Rule) (lines : List (List ℕ)) (rules : List Rule) → Says line rule → AreRules lines rules → AreRules (line ∷ lines) (rule ∷ rules)
-
--- a fault on the line of that number
-abbrev pub fault_on : ℕ → Fault → TextFault
-fault_on number fault = record { line = number; kind = kind_number fault.kind; place = fault.place }
 
 -- the lines before are good, this one is not, and its number, counted from 1, and its own fault are told
 pub record IsFirstBad (lines : List (List ℕ)) (fault : TextFault) : Type 0 where

@@ -1,0 +1,56 @@
+// Lines of a list of devices.
+ghost use Rattle.std.specs.Prelude.{◌≡◌, IfOk, Ok, decimal, true};
+ghost use Rattle.ug_rule.specs.Rules.{rule_read};
+ghost use Rattle.ug_rule.specs.Texts.{IsLine};
+ghost use Rattle.ug_print.specs.DeviceLines.{malformed_text};
+ghost use Rattle.ug_print.specs.Generated.{generated_of};
+ghost use Rattle.ug_print.specs.Words.{rule_text};
+
+use crate::generating::generated_rule;
+use crate::items::print_string;
+use crate::printing::{print_rule, put_target};
+use crate::sets::{join, put_word};
+use itoa::Buffer;
+use std::alloc::Global;
+use ug_types::{DeviceRecord, List, NoMemory, NodeName, Target, Text};
+
+/// The line of a list of devices: the text of the rule that is made of the device with its verdict and its port. It
+/// reads as that rule.
+pub fn device_line(alloc: Global, device: &DeviceRecord, verdict: Target) -> Result<Text, NoMemory>
+    ensures text { IfOk result (λ text. text ≡ rule_text (generated_of device.now verdict true)) }
+    ensures reads { IfOk result (λ text. rule_read text ≡ Ok (generated_of device.now verdict true)) }
+    ensures one_line { IfOk result (λ text. IsLine text) }
+{
+    let rule = generated_rule(alloc, device, verdict, true)?;
+    print_rule(alloc, &rule)
+}
+
+fn print_decimal(alloc: Global, n: u64) -> Result<Text, NoMemory>
+    ensures { IfOk result (λ text. text ≡ decimal n) }
+{
+    let mut buffer = Buffer::new();
+    Text::of(alloc, buffer.format(n).as_bytes())
+}
+
+/// The line of a device whose descriptors are malformed, with the verdict on it: the kind and the place of the first
+/// fault, and the device's name as its port.
+#[tactic(auto, unfolding(crate::specs::DeviceLines::malformed_text))]
+pub fn malformed_line(
+    alloc: Global,
+    name: &NodeName,
+    kind: u8,
+    place: u64,
+    verdict: Target,
+) -> Result<Text, NoMemory>
+    ensures text { IfOk result (λ text. text ≡ malformed_text verdict kind place name.now) }
+    ensures one_line { IfOk result (λ text. IsLine text) }
+{
+    let mut words = List::new(alloc);
+    put_target(alloc, &mut words, verdict)?;
+    put_word(alloc, &mut words, b"malformed")?;
+    words.push(print_decimal(alloc, kind as u64)?)?;
+    words.push(print_decimal(alloc, place)?)?;
+    put_word(alloc, &mut words, b"via-port")?;
+    words.push(print_string(alloc, name.bytes())?)?;
+    join(alloc, words.as_slice())
+}
