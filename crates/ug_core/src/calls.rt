@@ -10,7 +10,7 @@ use crate::policy::Policy;
 use crate::report::Report;
 use std::alloc::Global;
 use ug_audit::{Entries, Entry, Journal};
-use ug_sysfs::Sysfs;
+use ug_kernel::Sysfs;
 use ug_table::Table;
 use ug_types::{Moment, NoMemory};
 

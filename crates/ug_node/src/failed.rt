@@ -1,8 +1,7 @@
 // Tells a failed call by its numbers.
 ghost use Rattle.std.specs.Prelude.{◌≡◌};
 
-use ug_kernel::FailedCall;
-use ug_sysfs::Sysfs;
+use ug_kernel::{FailedCall, Sysfs};
 
 /// Tells the last call as one that failed. Closing a file in between changes nothing, since it isn't counted.
 pub fn failed_call<Y: Sysfs>(sysfs: &Y) -> FailedCall

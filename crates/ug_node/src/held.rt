@@ -1,7 +1,7 @@
 // Calls on a file that is held.
 ghost use Rattle.ug_kernel.specs.Calls.{Ask_alive, Put};
 
-use ug_sysfs::{Probe, Sysfs, Write, Wrote};
+use ug_kernel::{Probe, Sysfs, Write, Wrote};
 use ug_types::Held;
 
 /// Asks again whether the device of a held file is there, and whether it is on.

@@ -8,8 +8,7 @@ ghost use Rattle.ug_node.specs.Bound.{Binds, TellsFault};
 use crate::failed::failed_call;
 use crate::files::{Stop, read_own, read_parent};
 use std::alloc::Global;
-use ug_kernel::FailedCall;
-use ug_sysfs::{Control, Opened, Probe, Sysfs};
+use ug_kernel::{Control, FailedCall, Opened, Probe, Sysfs};
 use ug_types::{Attrs, Held, NodeName};
 
 /// A device that lived from the opening of its file to the probe of it, with its own files and its parent's.

@@ -5,8 +5,7 @@ ghost use Rattle.ug_node.specs.Removal.{holding_remove, HoldsRemove, TellsRemove
 
 use crate::failed::failed_call;
 use std::alloc::Global;
-use ug_kernel::FailedCall;
-use ug_sysfs::{Control, Opened, Probe, Sysfs};
+use ug_kernel::{Control, FailedCall, Opened, Probe, Sysfs};
 use ug_types::{Held, NodeName};
 
 /// The answer to the opening of a device's `remove` file. The file is closed on each answer but `Ready`.

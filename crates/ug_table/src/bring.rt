@@ -10,7 +10,7 @@ use crate::standing::{Known, Settled};
 use std::alloc::Global;
 use ug_audit::{Entry, Fault, Journal};
 use ug_node::{RemoveHold, failed_call, hold_remove, put};
-use ug_sysfs::{Sysfs, Write, Wrote};
+use ug_kernel::{Sysfs, Write, Wrote};
 use ug_types::{Held, NodeName, Target};
 
 /// Whether a verdict wants the device to be authorised.

@@ -20,7 +20,7 @@ use std::alloc::Global;
 use ug_audit::{Entry, Fault, Journal};
 use ug_node::{Binding, Bound, bind, failed_call, reprobe};
 use ug_record::record_of;
-use ug_sysfs::{Probe, Sysfs};
+use ug_kernel::{Probe, Sysfs};
 use ug_types::{Held, Judged, NoMemory, NodeName};
 
 // Whether the name is a root hub's.

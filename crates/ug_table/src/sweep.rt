@@ -18,7 +18,7 @@ use crate::table::Table;
 use std::alloc::Global;
 use ug_audit::{Entry, Fault, Journal};
 use ug_node::failed_call;
-use ug_sysfs::{Listing, Sysfs};
+use ug_kernel::{Listing, Sysfs};
 use ug_types::{List, NodeName, sort_names};
 
 fn has(names: &[NodeName], name: &NodeName) -> bool
