@@ -155,7 +155,7 @@ fn is_gone<R: Files>(rt: &R, control: &OpenControl<R::File>) -> bool {
 fn probe_control<R: Files>(rt: &R, control: &mut OpenControl<R::File>) -> Probe {
     match read_first(&mut control.file) {
         Ok(Some(b'0')) => Probe::Alive(false),
-        Ok(Some(_)) => Probe::Alive(true),
+        Ok(Some(b'1')) => Probe::Alive(true),
         _ => {
             if is_gone(rt, control) {
                 Probe::Gone
