@@ -180,10 +180,7 @@ numbers_more a b c (entry.Judged number n held verdict cause ∷ es) fs h k = (h
 numbers_more a b c (entry.Intent number n what ∷ es) fs h k = (h.0, numbers_more a b c es fs h.1 k)
 numbers_more a b c (entry.Wrote number n what outcome ∷ es) fs h k = (h.0, numbers_more a b c es fs h.1 k)
 numbers_more a b c (entry.Gone number n ∷ es) fs h k = (h.0, numbers_more None b c es fs h.1 k)
-numbers_more a b c (entry.Unsettled n why ∷ es) fs h k = numbers_more a b c es fs h k
-numbers_more a b c (entry.UnsettledAll why ∷ es) fs h k = numbers_more a b c es fs h k
-numbers_more a b c (entry.Event number moment ∷ es) fs h k = numbers_more a b c es fs h k
-numbers_more a b c (entry.End number ∷ es) fs h k = numbers_more a b c es fs h k
+numbers_more a b c (e ∷ es) fs h k = numbers_more a b c es fs h k
 
 -- the number of a standing, which ends where its device is gone
 abbrev ended_number : Settled → ℕ → Option ℕ
