@@ -8,9 +8,8 @@ use Rattle.ug_kernel.specs.declared.calls.Listing.TheVariants as listing
 use Rattle.ug_kernel.specs.Calls.{Names, Close}
 use Rattle.ug_kernel.specs.Tree.{Prog, Return, Ask, Runs, then}
 use Rattle.ug_kernel.specs.declared.calls.FailedCall.{FailedCall}
-use Rattle.ug_kernel.specs.Along.{Made, answered, failure, failures}
+use Rattle.ug_kernel.specs.Along.{Made, answered, failure, failures, failure_of}
 use Rattle.ug_kernel.proofs.Ways.{Ways, Sure, ways_more, ways_next, ways_last, behind_sure, failures_more}
-use Rattle.ug_node.proofs.BindShapes.{told}
 use Rattle.ug_sysfs.specs.World.{World, Gives}
 use Rattle.ug_audit.specs.declared.entry.Entry.{Entry}
 use Rattle.ug_audit.specs.declared.entry.Entry.TheVariants as entry
@@ -24,7 +23,7 @@ use Rattle.ug_table.specs.Parts.{failures_told}
 use Rattle.ug_table.specs.declared.standing.Standing.{Standing}
 use Rattle.ug_table.specs.declared.standing.Settled.{Settled}
 use Rattle.ug_table.proofs.OnePart.{told_more, flat_is_part}
-use Rattle.ug_table.proofs.Shapes.{Settles, settles, Resettles, resettles}
+use Rattle.ug_table.proofs.Shapes.{told_at, Settles, settles, Resettles, resettles}
 use Rattle.ug_play.specs.Play.{play, entry_tells_memory, tells_memory, TellsMemory, IsPlayed, names_somebody, NameNobody}
 use Rattle.ug_play.proofs.Answers.{has_want, play_way}
 use Rattle.ug_play.proofs.Wants.{refused, want_more, memory_more, flat_want}
@@ -113,11 +112,11 @@ or_true : (b : Bool) → (b || true) ≡ true
 or_true true = refl
 or_true false = refl
 
-if_room_sums : {J : Type 0} (answer : Answers J) (later : Laters J) (names : List (List ℕ)) (call count : ℕ) (found : List (List ℕ)) (w : State J) (room : Bool) → Ways (if_room answer later names w room) (λ ok ms v. Sums w.entries (room && ok) (answered Names (told (listing.Names found) call count) ∷ ms) v.entries)
-if_room_sums {J} answer later names call count found w true =
+if_room_sums : {J : Type 0} (answer : Answers J) (later : Laters J) (names : List (List ℕ)) (failed : FailedCall) (found : List (List ℕ)) (w : State J) (room : Bool) → Ways (if_room answer later names w room) (λ ok ms v. Sums w.entries (room && ok) (answered Names (told_at (listing.Names found) failed) ∷ ms) v.entries)
+if_room_sums {J} answer later names failed found w true =
     let x : State J = marked_listed (parted names w) in
     let bye : List Entry = farewells names w.standings in
-    let first : Made = answered Names (told (listing.Names found) call count) in
+    let first : Made = answered Names (told_at (listing.Names found) failed) in
     behind_sure (λ ms (r : Unit {0}). Closed ms) (λ ok ms v. Sums w.entries ok (first ∷ ms) v.entries) (closing_unlisted names w.standings) (λ (r : Unit {0}). settling_all answer later names (not w.listed) x) (closing_sums names w.standings)
     (λ ms r c. ways_more (λ ok ns v. Sums x.entries ok ns v.entries) (λ ok ns v. Sums w.entries ok (first ∷ (ms ++ ns)) v.entries) (settling_all answer later names (not w.listed) x)
     (λ ok ns v b. record {
@@ -127,28 +126,27 @@ if_room_sums {J} answer later names call count found w true =
       faults = told_more bye b.rest ∙ ap (λ (v : List FailedCall). v ++ failures_told b.rest) (farewells_silent names w.standings) ∙ b.faults ∙ sym (failures_more ms ns ∙ ap (λ (v : List FailedCall). v ++ failures ns) c.1);
     })
     (settling_all_sums answer later names (not w.listed) x))
-if_room_sums {J} answer later names call count found w false =
-    ways_more (λ ok ms v. Sums (w.entries ++ entry.UnsettledAll fault.Memory ∷ []) ok ms v.entries) (λ ok ms v. Sums w.entries false (answered Names (told (listing.Names found) call count) ∷ ms) v.entries) (unlisted fault.Memory w)
+if_room_sums {J} answer later names failed found w false =
+    ways_more (λ ok ms v. Sums (w.entries ++ entry.UnsettledAll fault.Memory ∷ []) ok ms v.entries) (λ ok ms v. Sums w.entries false (answered Names (told_at (listing.Names found) failed) ∷ ms) v.entries) (unlisted fault.Memory w)
     (λ ok ms v b. record { rest = entry.UnsettledAll fault.Memory ∷ b.rest; entries = b.entries ∙ append_assoc w.entries (entry.UnsettledAll fault.Memory ∷ []) b.rest; wants = refl; faults = b.faults })
     (unlisted_sums fault.Memory w)
 
-after_list_sums : {J : Type 0} (answer : Answers J) (later : Laters J) (w : State J) (r : Listing) (call count : ℕ) → Ways (after_list answer later w r call count) (λ ok ms v. Sums w.entries ok (answered Names (told r call count) ∷ ms) v.entries)
-after_list_sums answer later w (listing.Names names) call count = λ room. if_room_sums answer later (in_sweep_order names) call count names w room
-after_list_sums answer later w listing.Failed call count =
-    let e : Entry = entry.UnsettledAll (fault.Call call count) in
-    let f : FailedCall = record { call = call; count = count } in
-    ways_more (λ ok ms v. Sums (w.entries ++ e ∷ []) ok ms v.entries) (λ ok ms v. Sums w.entries ok (answered Names (told listing.Failed call count) ∷ ms) v.entries) (unlisted (fault.Call call count) w)
-    (λ ok ms v b. record { rest = e ∷ b.rest; entries = b.entries ∙ append_assoc w.entries (e ∷ []) b.rest; wants = b.wants; faults = ap (λ (v : List FailedCall). f ∷ v) b.faults })
-    (unlisted_sums (fault.Call call count) w)
-after_list_sums answer later w listing.Memory call count =
+after_list_sums : {J : Type 0} (answer : Answers J) (later : Laters J) (w : State J) (r : Listing) (failed : FailedCall) → Ways (after_list answer later w r failed) (λ ok ms v. Sums w.entries ok (answered Names (told_at r failed) ∷ ms) v.entries)
+after_list_sums answer later w (listing.Names names) failed = λ room. if_room_sums answer later (in_sweep_order names) failed names w room
+after_list_sums answer later w listing.Failed failed =
+    let e : Entry = entry.UnsettledAll (fault.Call failed) in
+    ways_more (λ ok ms v. Sums (w.entries ++ e ∷ []) ok ms v.entries) (λ ok ms v. Sums w.entries ok (answered Names (told_at listing.Failed failed) ∷ ms) v.entries) (unlisted (fault.Call failed) w)
+    (λ ok ms v b. record { rest = e ∷ b.rest; entries = b.entries ∙ append_assoc w.entries (e ∷ []) b.rest; wants = b.wants; faults = ap (λ (v : List FailedCall). failed ∷ v) b.faults })
+    (unlisted_sums (fault.Call failed) w)
+after_list_sums answer later w listing.Memory failed =
     let e : Entry = entry.UnsettledAll fault.Memory in
-    ways_more (λ ok ms v. Sums (w.entries ++ e ∷ []) ok ms v.entries) (λ ok ms v. Sums w.entries ok (answered Names (told listing.Memory call count) ∷ ms) v.entries) (unlisted fault.Memory w)
+    ways_more (λ ok ms v. Sums (w.entries ++ e ∷ []) ok ms v.entries) (λ ok ms v. Sums w.entries ok (answered Names (told_at listing.Memory failed) ∷ ms) v.entries) (unlisted fault.Memory w)
     (λ ok ms v b. record { rest = e ∷ b.rest; entries = b.entries ∙ append_assoc w.entries (e ∷ []) b.rest; wants = sym (or_true (not ok)); faults = b.faults })
     (unlisted_sums fault.Memory w)
 
 pub sweeping_sums : {J : Type 0} (answer : Answers J) (later : Laters J) (w : State J) → Ways (sweeping answer later w) (λ ok ms v. Sums w.entries ok ms v.entries)
 unfolding sweeping
-sweeping_sums answer later w = λ t. after_list_sums answer later w t.answer t.number t.count
+sweeping_sums answer later w = λ t. after_list_sums answer later w t.answer (failure_of t)
 
 -- what a script fixes of it
 
@@ -181,9 +179,9 @@ nobody_more es fs a b = list_any-append names_somebody es fs ∙ ap (λ (v : Boo
 
 nobody_told : (es : List Entry) → tells_memory es ≡ false → failures_told es ≡ [] → NameNobody es
 nobody_told [] m f = refl
-nobody_told (entry.Unsettled name (fault.Call call count) ∷ es) m f = let none : ⊥ = cc in absurd none
+nobody_told (entry.Unsettled name (fault.Call failed) ∷ es) m f = let none : ⊥ = cc in absurd none
 nobody_told (entry.Unsettled name fault.Memory ∷ es) m f = let none : ⊥ = cc in absurd none
-nobody_told (entry.UnsettledAll (fault.Call call count) ∷ es) m f = let none : ⊥ = cc in absurd none
+nobody_told (entry.UnsettledAll (fault.Call failed) ∷ es) m f = let none : ⊥ = cc in absurd none
 nobody_told (entry.UnsettledAll fault.Memory ∷ es) m f = let none : ⊥ = cc in absurd none
 nobody_told (entry.Event number moment ∷ es) m f = nobody_told es m f
 nobody_told (entry.Judged number name held verdict cause ∷ es) m f = nobody_told es m f

@@ -63,7 +63,7 @@ abbrev short_binding : Binding → Bool
 short_binding (bound.Bound b) = false
 short_binding bound.Absent = false
 short_binding bound.Vanished = false
-short_binding (bound.Failed call count) = false
+short_binding (bound.Failed failed) = false
 short_binding bound.Memory = true
 
 stop_want : {at : _} {t : Told ReadOut} {why : Stop} (of : List ℕ) (file : ℕ) (shut : Closing) → Stops at t why → has_want (answered (Read of at) t ∷ answered (Close file) shut ∷ []) ≡ short_binding (binding_of why)
@@ -83,7 +83,7 @@ binds_want (Bound_by call count number total ms b a few) = behind_sure ms _ (rea
 abbrev short_hold : RemoveHold → Bool
 short_hold (hold.Ready file) = false
 short_hold hold.Gone = false
-short_hold (hold.Failed call count) = false
+short_hold (hold.Failed failed) = false
 short_hold hold.Memory = true
 
 holds_want : {name : List ℕ} {held : ℕ} {ms : List Made} {r : RemoveHold} → Holds_by name held ms r → has_want ms ≡ short_hold r
@@ -97,9 +97,9 @@ holds_want (Unasked file call count number total shut) = refl
 -- the writes
 
 written_calm : {name : List ℕ} {number : ℕ} {what : Write} {t : Told Wrote} {es : List Entry} {how : Settled} → Written name number what t es how → tells_memory es ≡ false
-written_calm (Done call count) = refl
-written_calm (Went call count) = refl
-written_calm (Broke call count) = refl
+written_calm (Done failed) = refl
+written_calm (Went failed) = refl
+written_calm (Broke failed) = refl
 
 valued_calm : {name : List ℕ} {known : Known} {on : Bool} {ms : List Made} {es : List Entry} {how : Settled} → Valued name known on ms es how → (tells_memory es ≡ false) × (has_want ms ≡ false)
 valued_calm (Same e) = (refl, refl)
@@ -107,7 +107,7 @@ valued_calm (Set t es how e w) = (written_calm w, refl)
 
 unheld_want : {name : List ℕ} {number : ℕ} {r : RemoveHold} {es : List Entry} {how : Settled} → Unheld name number r es how → tells_memory es ≡ short_hold r
 unheld_want Gone_by = refl
-unheld_want (Failed_by call count) = refl
+unheld_want (Failed_by failed) = refl
 unheld_want Short_by = refl
 
 removal_want : {name : List ℕ} {known : Known} {ms : List Made} {es : List Entry} {how : Settled} → Removal name known ms es how → tells_memory es ≡ has_want ms
@@ -126,17 +126,17 @@ brought_want {known = known} (Let_go ms es shut c) = carried_want c ∙ sym (wan
 
 opening_calm : {name : List ℕ} {ss : List Standing} {ms : List Made} {es : List Entry} {rs : List Standing} → Opening name ss ms es rs → (tells_memory es ≡ false) × (has_want ms ≡ false)
 opening_calm (Fresh e) = (refl, refl)
-opening_calm (Lost known call count shut e) = (refl, refl)
+opening_calm (Lost known failed shut e) = (refl, refl)
 
 unbound_want : {name : List ℕ} {r : Binding} {es : List Entry} {how : Settled} → Unbound_end name r es how → tells_memory es ≡ short_binding r
 unbound_want Absent_so = refl
 unbound_want Vanished_so = refl
-unbound_want (Failed_so call count) = refl
+unbound_want (Failed_so failed) = refl
 unbound_want Short_so = refl
 
 pub flat_want : {binds : Bool} {given : List Standing → Bound → Standing → Type 0} {name : List ℕ} {ss : List Standing} {ok : Bool} {ms : List Made} {rest : List Entry} {how : Settled} {rs : List Standing} {o : Option (List Standing × Bound)} → Flat binds given name ss ok ms rest how rs o → tells_memory rest ≡ refused ok ms
-flat_want (Unprobed known call count at) = refl
-flat_want (Tried known on call count ms es how at b) = brought_want b
+flat_want (Unprobed known failed at) = refl
+flat_want (Tried known on failed ms es how at b) = brought_want b
 flat_want (Stopped ms es rs f opening) = (opening_calm opening).0 ∙ sym (opening_calm opening).1
 flat_want {name = name} (Unbound ms ns es fs rs r how t opening way end) =
     behind_calm es fs (opening_calm opening).0 ∙ unbound_want end ∙ sym (binds_want (way_binds name ns r way)) ∙ sym (behind_sure ms ns (opening_calm opening).1)

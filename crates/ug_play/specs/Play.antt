@@ -15,7 +15,7 @@ play (Ask call next) w = play (next (answer_of w call).0) (answer_of w call).1
 play (Room next) w = play (next true) w
 
 abbrev pub is_memory : Fault → Bool
-is_memory (fault.Call call count) = false
+is_memory (fault.Call failed) = false
 is_memory fault.Memory = true
 
 -- an entry that tells want of memory, for a name or for the listing
