@@ -1,5 +1,5 @@
 -- An event of the daemon: its first entry, the sweep, and its last.
-use Rattle.std.specs.Prelude.{◌≡◌, false, ℕ, ◌+◌, ◌-◌, ◌^◌, Bool, ◌&&◌, nat_le, [], ◌∷◌, ◌++◌}
+use Rattle.std.specs.Prelude.{◌≡◌, false, ℕ, ◌+◌, ◌-◌, ◌^◌, Bool, ◌&&◌, nat_le, nat_lt, [], ◌∷◌, ◌++◌}
 use Rattle.ug_types.specs.declared.verdict.Moment.{Moment}
 use Rattle.ug_kernel.specs.Calls.{Call, Answer}
 use Rattle.ug_kernel.specs.Tree.{Prog, Return, Runs, then}
@@ -37,9 +37,10 @@ handling moment d = then (sweeping policy_answer policy_later (begun d moment)) 
 abbrev pub is_low : ℕ → Bool
 is_low n = nat_le n (2 ^ 64 - 1 - 4194304)
 
--- the next device number, the counts of faults and the event number leave room
+-- the next device number, the counts of faults and the event number leave room, and an id is left for one rule more
 abbrev pub has_numbers : DaemonState → ℕ → ℕ → Bool
-has_numbers d sysfs_faults disk_faults = is_low d.sweep.next && is_low d.event && is_low sysfs_faults && is_low disk_faults
+has_numbers d sysfs_faults disk_faults =
+    is_low d.sweep.next && is_low d.event && is_low sysfs_faults && is_low disk_faults && nat_lt d.sweep.judge.next (2 ^ 64 - 1)
 
 abbrev pub moment_of : Event → Moment
 moment_of (Sweep moment) = moment

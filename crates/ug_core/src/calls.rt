@@ -38,7 +38,8 @@ impl Daemon {
         })
     }
 
-    /// Whether the next device number, the counts of faults and the event's number leave room for an event.
+    /// Whether the next device number, the counts of faults and the event's number leave room for an event, and an id is left for
+    /// one rule more.
     pub fn has_numbers(&self, sysfs_faults: u64, disk_faults: u64) -> bool
         ensures { result ≡ has_numbers (daemon_of self.now) sysfs_faults disk_faults }
     {
@@ -46,6 +47,7 @@ impl Daemon {
             && low(self.next_event)
             && low(sysfs_faults)
             && low(disk_faults)
+            && self.policy.has_id()
     }
 
     /// The number of the next event.

@@ -97,11 +97,18 @@ impl Policy {
         }
     }
 
+    /// Whether an id is left for one rule more.
+    pub fn has_id(&self) -> bool
+        ensures { result ≡ nat_lt (judging_of self.now).next (2 ^ 64 - 1) }
+    {
+        self.rules.next_id() < u64::MAX
+    }
+
     /// Whether there are fewer than 65,536 rules and an id is left for one more.
     pub fn has_place(&self) -> bool
         ensures { result ≡ (nat_lt (length (judging_of self.now).rules) 65536 && nat_lt (judging_of self.now).next (2 ^ 64 - 1)) }
     {
-        self.rules.len() < 65536 && self.rules.next_id() < u64::MAX
+        self.rules.len() < 65536 && self.has_id()
     }
 
     /// Puts a rule behind the others, which is permanent and has no history. A refusal changes nothing.

@@ -32,7 +32,7 @@ use Rattle.ug_core.specs.Policy.{Judging, policy_answer, policy_later}
 use Rattle.ug_core.specs.Event.{DaemonState, handling, has_numbers}
 use Rattle.ug_core.specs.Laws.{Handled, TellsEvent}
 use Rattle.ug_core.proofs.Failures.{event_tells, event_names}
-use Rattle.ug_lines.specs.Fold.{BadLine, Outcome, Writes, Refused, Stage, Going, Halted, is_within, stage_after, advance, plays}
+use Rattle.ug_lines.specs.Fold.{BadLine, Outcome, Writes, Refused}
 use Rattle.ug_script.specs.declared.step.Step.{Step}
 use Rattle.ug_script.specs.declared.step.Step.TheVariants.{Skip, Rule, Conf, Seed, Zone, Plug, Unplug, Schedule, Fail, Sweep}
 use Rattle.ug_conf.specs.declared.fault.Fault.{Fault}
@@ -42,7 +42,7 @@ use Rattle.ug_script.specs.Grammar.{step_of_line}
 use Rattle.ug_script.specs.Replay.{Script, with_rule, header, fresh, quiet, bad, has_place, is_setting, conf_read, with_seed, with_zone, is_offset, with_devices, after_event, taken, taken_if, script_step}
 use Rattle.ug_sysfs.specs.declared.script.Scheduled.{Scheduled}
 use Rattle.ug_script.specs.Schedule.{arranged}
-use Rattle.ug_script.specs.Laws.{event_of, Begins, faults_of, IsLawfulEvent, StaysLawful}
+use Rattle.ug_script.specs.Laws.{event_of, Begins, faults_of, IsLawfulEvent}
 
 abbrev calls_of : World → ℕ
 calls_of w = w.calls
@@ -59,10 +59,6 @@ HoldsIn (Some s, w) = Holds s.daemon.sweep.standings s.daemon.sweep.next w
 abbrev pub HoldsAfter : Outcome (Option Script × World) → Type 0
 HoldsAfter (Writes text p) = HoldsIn p
 HoldsAfter (Refused fault p) = HoldsIn p
-
-abbrev HoldsAt : Stage (Option Script × World) → Type 0
-HoldsAt (Going n text p) = HoldsIn p
-HoldsAt (Halted fault n text p) = HoldsIn p
 
 moves_on : (ss : List Standing) (next : ℕ) (k l : Kernel) → Moves k l → Stand k ss next → Stand l ss next
 moves_on ss next k l m s = stand_stays k l ss next (quiet_grows k l (moves_quiet k l m)) s
@@ -136,25 +132,9 @@ taken_if_holds : (step : Option Step) (s : Script) (w : World) → HoldsIn (Some
 taken_if_holds None s w h = h
 taken_if_holds (Some step) s w h = taken_holds step s w h
 
-step_holds : (p : Option Script × World) (line : List ℕ) → HoldsIn p → HoldsAfter (script_step p line)
+pub step_holds : (p : Option Script × World) (line : List ℕ) → HoldsIn p → HoldsAfter (script_step p line)
 step_holds (None, w) line h = when (pointwise nat_eq line header) (quiet fresh w) (Refused BadLine (None, w)) h h
 step_holds (Some s, w) line h = taken_if_holds (step_of_line line) s w h
-
-after_holds : (n : ℕ) (text : List ℕ) (o : Outcome (Option Script × World)) → HoldsAfter o → HoldsAt (stage_after n text o)
-after_holds n text (Writes more next) h = h
-after_holds n text (Refused fault next) h = h
-
-if_within : (b : Bool) (o p : Stage (Option Script × World)) → HoldsAt o → HoldsAt p → HoldsAt (if b then o else p)
-if_within true o p x y = x
-if_within false o p x y = y
-
-advance_holds : (stage : Stage (Option Script × World)) (line : List ℕ) → HoldsAt stage → HoldsAt (advance script_step stage line)
-advance_holds (Going n text p) line h = if_within (is_within n line) (stage_after n text (script_step p line)) (Halted BadLine n text p) (after_holds n text (script_step p line) (step_holds p line h)) h
-advance_holds (Halted fault n text p) line h = h
-
-plays_hold : (lines : List (List ℕ)) (stage : Stage (Option Script × World)) → HoldsAt stage → HoldsAt (plays script_step stage lines)
-plays_hold [] stage h = h
-plays_hold (line ∷ lines) stage h = plays_hold lines (advance script_step stage line) (advance_holds stage line h)
 
 pub no_standing : (k : Kernel) → Stand k [] 1
 no_standing k = record { devices = λ s a. absurd a; numbers = λ s a. absurd a; names = tt; order = tt; distinct = tt; removed = λ s a. absurd a }
@@ -191,8 +171,3 @@ lawful_event moment s w h = record {
   once = names_once moment s.daemon (arranged s.moves w) (arranged_holds s.daemon.sweep.standings s.daemon.sweep.next s.moves w h);
   room = event_sure moment s.daemon (arranged s.moves w);
 }
-
-pub stays_lawful : (w : World) → w.ran_out ≡ false → IsKernel w.kernel → StaysLawful w
-stays_lawful w run sound lines n text s v e =
-    let h : HoldsAt (Going n text (Some s, v)) = subst HoldsAt e (plays_hold lines (Going 0 [] (None, w)) (record { told = run; sound = sound; stand = no_standing w.kernel })) in
-    record { sound = h.sound; stand = h.stand; events = λ moment. lawful_event moment s v h }

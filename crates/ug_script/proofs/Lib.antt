@@ -3,6 +3,9 @@ pub mod Moments
 pub mod NamesRead
 pub mod Events
 pub mod Lawful
+pub mod Spent
+pub mod Numbers
+pub mod Stays
 pub mod Accounts
 pub mod Recorded
 pub mod Journals

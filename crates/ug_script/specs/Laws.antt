@@ -1,5 +1,5 @@
 -- What holds wherever a script has come to.
-use Rattle.std.specs.Prelude.{◌≡◌, ℕ, false, List, [], Some, None}
+use Rattle.std.specs.Prelude.{◌≡◌, ℕ, true, false, List, [], Some, None}
 use Rattle.ug_types.specs.Elements.{AllDistinct}
 use Rattle.ug_types.specs.declared.verdict.Moment.{Moment}
 use Rattle.ug_kernel.specs.Kernel.{IsKernel}
@@ -7,7 +7,7 @@ use Rattle.ug_sysfs.specs.World.{World, Gives, begun}
 use Rattle.ug_table.specs.Laws.{Stand}
 use Rattle.ug_table.specs.Parts.{unsettled_names}
 use Rattle.ug_play.specs.Play.{play, tells_memory}
-use Rattle.ug_core.specs.Event.{DaemonState, handling}
+use Rattle.ug_core.specs.Event.{DaemonState, handling, has_numbers}
 use Rattle.ug_core.specs.Laws.{Handled, TellsEvent}
 use Rattle.ug_lines.specs.Fold.{Going, plays}
 use Rattle.ug_script.specs.Replay.{Script, script_step}
@@ -32,13 +32,15 @@ pub record IsLawfulEvent (moment : Moment) (s : Script) (w : World) : Type 0 whe
   pub once : AllDistinct (unsettled_names (event_of moment s w).0.sweep.entries)
   pub room : tells_memory (event_of moment s w).0.sweep.entries ≡ false
 
--- the kernel is sound and each standing is of one of its devices; and so is an event, if one comes next
-pub record IsLawful (s : Script) (w : World) : Type 0 where
+-- The kernel is sound and each standing is of one of its devices; and so is an event, if one comes next. And where the first world
+-- had no fault, the numbers leave room for one, so that the line of an event is never bad.
+pub record IsLawful (first : World) (s : Script) (w : World) : Type 0 where
   pub sound : IsKernel w.kernel
   pub stand : Stand w.kernel s.daemon.sweep.standings s.daemon.sweep.next
   pub events : (moment : Moment) → IsLawfulEvent moment s w
+  pub numbers : first.faults ≡ 0 → has_numbers s.daemon w.faults 0 ≡ true
 
 -- wherever lines lead from a world without a daemon
 abbrev pub StaysLawful : World → Type 0
 StaysLawful first = (lines : List (List ℕ)) (n : ℕ) (text : List ℕ) (s : Script) (w : World)
-    → plays script_step (Going 0 [] (None, first)) lines ≡ Going n text (Some s, w) → IsLawful s w
+    → plays script_step (Going 0 [] (None, first)) lines ≡ Going n text (Some s, w) → IsLawful first s w
