@@ -1,7 +1,11 @@
 pub mod Again
 pub mod Numerals
 pub mod OneReply
+pub mod Pieces
 pub mod Printed
 pub mod Reading
+pub mod RefusalScans
 pub mod RefusalWords
+pub mod Scans
+pub mod StreamLines
 pub mod Words
