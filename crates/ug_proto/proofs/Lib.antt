@@ -4,6 +4,8 @@ pub mod OneReply
 pub mod Pieces
 pub mod Printed
 pub mod Reading
+pub mod AnswerScans
+pub mod RefusalNumbers
 pub mod RefusalScans
 pub mod RefusalWords
 pub mod Scans

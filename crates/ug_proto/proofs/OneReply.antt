@@ -47,7 +47,7 @@ lines_first : (lines : List (List ℕ)) (more : List ℕ) → get_or (reply_text
 unfolding reply_text
 lines_first lines more = refl
 
-refused_first : (r : Refusal) (more : List ℕ) → get_or (reply_text (Refused r) ++ more) 0 0 ≡ 114
+pub refused_first : (r : Refusal) (more : List ℕ) → get_or (reply_text (Refused r) ++ more) 0 0 ≡ 114
 unfolding reply_text
 refused_first r more = ap (λ (l : List ℕ). get_or l 0 0) (append_assoc (refusal_words r) (10 ∷ []) more) ∙ first_letter r (10 ∷ more)
 

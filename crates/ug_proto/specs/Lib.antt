@@ -1,3 +1,4 @@
+pub mod AnswerParts
 pub mod Begun
 pub mod Frames
 pub mod Lines
