@@ -1,5 +1,5 @@
 -- The lines of replies, one behind another.
-use Rattle.std.proofs.Common.{◌≡◌, ◌≢◌, ℕ, zero, suc, ◌+◌, ◌-◌, ◌<◌, ◌≤◌, ◌^◌, inl, inr, List, [], ◌∷◌, ◌++◌, length, length-append, drop, get_or, take, refl, sym, ap, subst, ◌∙◌, append_assoc, arith, Option, Some, None, Result, Ok, Err}
+use Rattle.std.proofs.Common.{◌≡◌, ◌≢◌, ℕ, zero, suc, ◌+◌, ◌-◌, ◌<◌, ◌≤◌, ◌^◌, ◌⊎◌, inl, inr, List, [], ◌∷◌, ◌++◌, length, length-append, length-take, drop, get_or, take, refl, sym, ap, subst, ◌∙◌, append_assoc, arith, Option, Some, None, Result, Ok, Err}
 use Rattle.std.specs.Prelude.{decimal, codes}
 use Rattle.std.proofs.lemmas.List.{append-nil, take-append-drop}
 use Rattle.std.proofs.Math.Seq.{take-append_seam}
@@ -149,14 +149,65 @@ pub refused_taken : (bytes rest : List ℕ) (r : Refusal) → IsTextThen refusal
 refused_taken bytes rest r h = (h.0, h.1 ∙ ap (λ (l : List ℕ). l ++ rest) (sym (refused_text r)))
 
 -- what the reading tells
-pub reply_begins : (bytes rest : List ℕ) (r : Reply) → IsTextThen reply_text IsReply bytes r rest → BeginsWithReply bytes r (length bytes - length rest)
-reply_begins bytes rest r h =
-    let size : length bytes ≡ length (reply_text r) + length rest = ap length h.1 ∙ length-append (reply_text r) rest in
-    let at : length bytes - length rest ≡ length (reply_text r) = omega (arith, size) in
-    (h.0, omega (arith, size), ap (λ (n : ℕ). take n bytes) at ∙ ap (take (length (reply_text r))) h.1 ∙ take-append_seam (reply_text r) rest)
-
 pub no_reply : (bytes : List ℕ) → NeverBecomes reply_text IsReply bytes → IsNoReply bytes
 no_reply bytes h = (
   (λ b. h b.it b.more [] b.can (b.whole ∙ sym (append-nil (reply_text b.it)))),
   λ r n b. h r [] (drop n bytes) b.0 (append-nil bytes ∙ sym (take-append-drop n bytes) ∙ ap (λ (l : List ℕ). l ++ drop n bytes) b.2),
 )
+
+-- of two texts that go on to one, one begins with the other
+longer_front : (a b x y : List ℕ) → a ++ x ≡ b ++ y → ((more : List ℕ) × (a ++ more ≡ b)) ⊎ ((more : List ℕ) × (b ++ more ≡ a))
+longer_front [] b x y e = inl (b, refl)
+longer_front (c ∷ a) [] x y e = inr (c ∷ a, refl)
+longer_front (c ∷ a) (d ∷ b) x y e =
+    let first : c ≡ d = cc in
+    let rest : a ++ x ≡ b ++ y = cc in
+    elim (longer_front a b x y rest) as (λ _. ((more : List ℕ) × ((c ∷ a) ++ more ≡ d ∷ b)) ⊎ ((more : List ℕ) × ((d ∷ b) ++ more ≡ c ∷ a))) [
+      | inl h ↦ inl (h.0, λ i. first i ∷ h.1 i)
+      | inr h ↦ inr (h.0, λ i. sym first i ∷ h.1 i)
+    ]
+
+one_in_front : (a b : Reply) (x y : List ℕ) → IsReply a → IsReply b → reply_text a ++ x ≡ reply_text b ++ y → a ≡ b
+one_in_front a b x y h k e = elim (longer_front (reply_text a) (reply_text b) x y e) as (λ _. a ≡ b) [
+  | inl m ↦ (one_reply a b m.0 h k m.1).0
+  | inr m ↦ sym (one_reply b a m.0 k h m.1).0
+]
+
+-- a text is read in one way
+same_place : (bytes : List ℕ) (a b : Reply) (m n : ℕ) → BeginsWithReply bytes a m → BeginsWithReply bytes b n → (a ≡ b) × (m ≡ n)
+same_place bytes a b m n h k =
+    let front = sym (ap (λ (l : List ℕ). l ++ drop m bytes) h.2) ∙ take-append-drop m bytes in
+    let other = sym (ap (λ (l : List ℕ). l ++ drop n bytes) k.2) ∙ take-append-drop n bytes in
+    let same : a ≡ b = one_in_front a b (drop m bytes) (drop n bytes) h.0 k.0 (front ∙ sym other) in
+    let sizes : length (take m bytes) ≡ length (take n bytes) = ap length h.2 ∙ ap (λ (r : Reply). length (reply_text r)) same ∙ sym (ap length k.2) in
+    (same, omega (arith, sizes, length-take m bytes, length-take n bytes, h.1, k.1))
+
+not_both : (bytes : List ℕ) (r : Reply) (n : ℕ) → BeginsWithReply bytes r n → IsReplyBegun bytes → ⊥
+not_both bytes r n h b =
+    let whole : reply_text r ++ (drop n bytes ++ b.more) ≡ reply_text b.it =
+        sym (append_assoc (reply_text r) (drop n bytes) b.more) ∙ ap (λ (l : List ℕ). l ++ b.more) (sym (ap (λ (l : List ℕ). l ++ drop n bytes) h.2) ∙ take-append-drop n bytes) ∙ b.whole in
+    let none : drop n bytes ++ b.more ≡ [] = (one_reply r b.it (drop n bytes ++ b.more) h.0 b.can whole).1 in
+    b.some (behind (drop n bytes) b.more none)
+  where
+    behind : (x y : List ℕ) → x ++ y ≡ [] → y ≡ []
+    behind [] y e = e
+    behind (c ∷ x) y e = let none : ⊥ = cc in absurd none
+
+abbrev Read : Type 0
+Read = Result (Option (Reply × ℕ)) ReplyFault
+
+told : (r s : Reply) (m n : ℕ) → r ≡ s → m ≡ n → ◌≡◌ {A = Read} (Ok (Some (r, m))) (Ok (Some (s, n)))
+told r s m n e f = λ i. Ok (Some (e i, f i))
+
+pub read_in_one_way : (bytes : List ℕ) (a b : Read) → ReadsReply bytes a → ReadsReply bytes b → a ≢ Err fault.Memory → b ≢ Err fault.Memory → a ≡ b
+read_in_one_way bytes (Ok (Some r)) (Ok (Some s)) h k x y = let e = same_place bytes r.0 s.0 r.1 s.1 h k in told r.0 s.0 r.1 s.1 e.0 e.1
+read_in_one_way bytes (Ok (Some r)) (Ok None) h k x y = absurd (not_both bytes r.0 r.1 h k)
+read_in_one_way bytes (Ok (Some r)) (Err fault.BadReply) h k x y = absurd (k.1 r.0 r.1 h)
+read_in_one_way bytes (Ok None) (Ok (Some s)) h k x y = absurd (not_both bytes s.0 s.1 k h)
+read_in_one_way bytes (Ok None) (Ok None) h k x y = refl
+read_in_one_way bytes (Ok None) (Err fault.BadReply) h k x y = absurd (k.0 h)
+read_in_one_way bytes (Err fault.BadReply) (Ok (Some s)) h k x y = absurd (h.1 s.0 s.1 k)
+read_in_one_way bytes (Err fault.BadReply) (Ok None) h k x y = absurd (h.0 k)
+read_in_one_way bytes (Err fault.BadReply) (Err fault.BadReply) h k x y = refl
+read_in_one_way bytes (Err fault.Memory) b h k x y = absurd (x refl)
+read_in_one_way bytes a (Err fault.Memory) h k x y = absurd (y refl)
