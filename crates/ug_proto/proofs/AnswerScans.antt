@@ -1,10 +1,8 @@
 -- The lines of replies, one behind another.
-use Rattle.std.proofs.Common.{◌≡◌, ◌≢◌, ℕ, zero, suc, ◌+◌, ◌-◌, ◌<◌, ◌≤◌, ◌^◌, ◌⊎◌, inl, inr, List, [], ◌∷◌, ◌++◌, length, length-append, length-take, drop, get_or, take, refl, sym, ap, subst, ◌∙◌, append_assoc, arith, Option, Some, None, Result, Ok, Err}
+use Rattle.std.proofs.Common.{◌≡◌, ◌≢◌, ℕ, zero, suc, ◌+◌, ◌-◌, ◌<◌, ◌^◌, ◌⊎◌, inl, inr, List, [], ◌∷◌, ◌++◌, length, length-append, length-take, drop, get_or, take, refl, sym, ap, ◌∙◌, append_assoc, arith, Option, Some, None, Result, Ok, Err}
 use Rattle.std.specs.Prelude.{decimal, codes}
 use Rattle.std.proofs.lemmas.List.{append-nil, take-append-drop}
-use Rattle.std.proofs.Math.Seq.{take-append_seam}
 use Rattle.ug_types.specs.Elements.{Has}
-use Rattle.ug_types.specs.Refusals.{refusal_words}
 use Rattle.ug_types.specs.declared.refusal.Refusal.{Refusal}
 use Rattle.ug_proto.specs.declared.reply.Reply.{Reply}
 use Rattle.ug_proto.specs.declared.reply.Reply.TheVariants.{Lines, Refused}
@@ -85,16 +83,16 @@ pub answer_stops : (n : ℕ) (bytes behind : List ℕ) (s : Stop) → n < 2 ^ 64
 answer_stops n bytes behind s l w h =
     goes_on answer_text IsAnswer ended_lines (AreLinesOf n) bytes (number_then 10 n) behind s w
     (λ lines more rest c e.
-        let same : n ≡ length lines = one_number 10 18446744073709551615 (omega arith) (omega arith) n (length lines) more (ended_lines lines ++ rest) (omega arith, omega (arith, l)) (omega arith, omega (arith, c.1))
-            (e ∙ ap (λ (t : List ℕ). t ++ rest) (answer_parts lines) ∙ append_assoc (number_then 10 (length lines)) (ended_lines lines) rest) in
-        (lines, (c.0, sym same), answer_parts lines ∙ ap (λ (m : ℕ). number_then 10 m ++ ended_lines lines) (sym same)))
+    let same : n ≡ length lines = one_number 10 18446744073709551615 (omega arith) (omega arith) n (length lines) more (ended_lines lines ++ rest) (omega arith, omega (arith, l)) (omega arith, omega (arith, c.1))
+    (e ∙ ap (λ (t : List ℕ). t ++ rest) (answer_parts lines) ∙ append_assoc (number_then 10 (length lines)) (ended_lines lines) rest) in
+    (lines, (c.0, sym same), answer_parts lines ∙ ap (λ (m : ℕ). number_then 10 m ++ ended_lines lines) (sym same)))
     (λ lines c. (lines, (c.0, omega (arith, c.1, l)), answer_parts lines ∙ ap (λ (m : ℕ). number_then 10 m ++ ended_lines lines) c.1)) h
 
 pub answer_taken : (n : ℕ) (bytes behind rest : List ℕ) (lines : List (List ℕ)) → n < 2 ^ 64 → bytes ≡ number_then 10 n ++ behind → IsTextThen ended_lines (AreLinesOf n) behind lines rest → IsTextThen answer_text IsAnswer bytes lines rest
 answer_taken n bytes behind rest lines l w h = (
   (h.0.0, omega (arith, h.0.1, l)),
   w ∙ ap (λ (m : ℕ). number_then 10 m ++ behind) (sym h.0.1) ∙ ap (λ (t : List ℕ). number_then 10 (length lines) ++ t) h.1 ∙ sym (append_assoc (number_then 10 (length lines)) (ended_lines lines) rest)
-  ∙ ap (λ (t : List ℕ). t ++ rest) (sym (answer_parts lines)),
+      ∙ ap (λ (t : List ℕ). t ++ rest) (sym (answer_parts lines)),
 )
 
 lines_text : (lines : List (List ℕ)) → reply_text (Lines lines) ≡ codes "ok " ++ answer_text lines
@@ -185,7 +183,7 @@ same_place bytes a b m n h k =
 not_both : (bytes : List ℕ) (r : Reply) (n : ℕ) → BeginsWithReply bytes r n → IsReplyBegun bytes → ⊥
 not_both bytes r n h b =
     let whole : reply_text r ++ (drop n bytes ++ b.more) ≡ reply_text b.it =
-        sym (append_assoc (reply_text r) (drop n bytes) b.more) ∙ ap (λ (l : List ℕ). l ++ b.more) (sym (ap (λ (l : List ℕ). l ++ drop n bytes) h.2) ∙ take-append-drop n bytes) ∙ b.whole in
+    sym (append_assoc (reply_text r) (drop n bytes) b.more) ∙ ap (λ (l : List ℕ). l ++ b.more) (sym (ap (λ (l : List ℕ). l ++ drop n bytes) h.2) ∙ take-append-drop n bytes) ∙ b.whole in
     let none : drop n bytes ++ b.more ≡ [] = (one_reply r b.it (drop n bytes ++ b.more) h.0 b.can whole).1 in
     b.some (behind (drop n bytes) b.more none)
   where

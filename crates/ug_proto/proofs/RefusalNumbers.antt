@@ -1,7 +1,6 @@
 -- Refusals by their numbers.
-use Rattle.std.proofs.Common.{◌≡◌, ℕ, zero, suc, ◌+◌, ◌/◌, ◌%◌, ◌<◌, ◌≤◌, ◌^◌, Bool, true, false, nat_eq, List, [], ◌∷◌, ◌++◌, refl, sym, ap, subst, ◌∙◌, append_assoc, arith}
+use Rattle.std.proofs.Common.{◌≡◌, ℕ, zero, suc, ◌+◌, ◌/◌, ◌%◌, ◌<◌, ◌≤◌, ◌^◌, true, false, nat_eq, List, [], ◌∷◌, ◌++◌, refl, sym, ap, subst, ◌∙◌, append_assoc, arith}
 use Rattle.std.specs.Prelude.{decimal, codes}
-use Rattle.std.proofs.lemmas.Bool.Decides.{nat_tests}
 use Rattle.std.proofs.lemmas.Fmt.{decimal_digit, decimal_step}
 use Rattle.ug_types.specs.Access.{section_word, privilege_word}
 use Rattle.ug_types.specs.declared.access.Section.{Section}
@@ -12,11 +11,9 @@ use Rattle.ug_types.specs.declared.refusal.Refusal.{Refusal}
 use Rattle.ug_types.specs.declared.refusal.Refusal.TheVariants as refusal
 use Rattle.ug_types.specs.Refusals.{refusal_words}
 use Rattle.ug_proto.specs.declared.scan.Stop.{Stop}
-use Rattle.ug_proto.specs.declared.scan.Stop.TheVariants as stop
-use Rattle.ug_proto.specs.Numbers.{number_in}
 use Rattle.ug_proto.specs.RefusalParts.{number_then, IsNumberIn, named_number, named_numbers, IsPairIn, denial_text, Anything, stands_number, refusal_number, refusal_rest, refusal_line, IsNumbered}
 use Rattle.ug_proto.specs.Replies.{IsRefusal}
-use Rattle.ug_proto.specs.Scanning.{IsTextBegun, NeverBecomes, IsTextThen, IsStop}
+use Rattle.ug_proto.specs.Scanning.{NeverBecomes, IsTextThen, IsStop}
 use Rattle.ug_proto.proofs.RefusalScans.{one_number}
 use Rattle.ug_proto.proofs.Scans.{begins_with, goes_on}
 
@@ -228,9 +225,9 @@ pub rest_stops : (n : ℕ) (bytes behind : List ℕ) (s : Stop) → IsNumberIn 1
 rest_stops n bytes behind s k w h =
     goes_on refusal_behind IsRefusal refusal_rest (IsNumbered n) bytes (number_then 32 n) behind s w
     (λ r more rest c e.
-        let u = numbers r in
-        let same : n ≡ refusal_number r = one_number 32 13 (omega arith) (omega arith) n (refusal_number r) more (refusal_rest r ++ rest) (omega arith, k.1) (omega arith, u.1) (e ∙ append_assoc (number_then 32 (refusal_number r)) (refusal_rest r) rest) in
-        (r, (c, sym same), ap (λ (m : ℕ). number_then 32 m ++ refusal_rest r) (sym same)))
+    let u = numbers r in
+    let same : n ≡ refusal_number r = one_number 32 13 (omega arith) (omega arith) n (refusal_number r) more (refusal_rest r ++ rest) (omega arith, k.1) (omega arith, u.1) (e ∙ append_assoc (number_then 32 (refusal_number r)) (refusal_rest r) rest) in
+    (r, (c, sym same), ap (λ (m : ℕ). number_then 32 m ++ refusal_rest r) (sym same)))
     (λ r c. (r, c.0, ap (λ (m : ℕ). number_then 32 m ++ refusal_rest r) c.1)) h
 
 pub line_stops : (bytes behind : List ℕ) (s : Stop) → bytes ≡ codes "refused " ++ behind → IsStop refusal_behind IsRefusal behind s → IsStop refusal_line IsRefusal bytes s
@@ -245,6 +242,6 @@ pub line_taken : (bytes a b rest : List ℕ) (n : ℕ) (r : Refusal) → bytes �
 line_taken bytes a b rest n r e f h = (
   h.0.0,
   e ∙ ap (λ (l : List ℕ). codes "refused " ++ l) (f ∙ ap (λ (m : ℕ). number_then 32 m ++ b) (sym h.0.1) ∙ ap (λ (l : List ℕ). number_then 32 (refusal_number r) ++ l) h.1 ∙ sym (append_assoc (number_then 32 (refusal_number r)) (refusal_rest r) rest))
-  ∙ sym (append_assoc (codes "refused ") (refusal_behind r) rest)
-  ∙ ap (λ (l : List ℕ). l ++ rest) (sym (line_parts r)),
+      ∙ sym (append_assoc (codes "refused ") (refusal_behind r) rest)
+      ∙ ap (λ (l : List ℕ). l ++ rest) (sym (line_parts r)),
 )

@@ -1,10 +1,9 @@
 -- The parts of refusals, one behind another.
-use Rattle.std.proofs.Common.{◌≡◌, ◌≢◌, ℕ, ◌<◌, ◌≤◌, ◌^◌, inl, inr, Bool, true, false, cond, nat_eq, List, [], ◌∷◌, ◌++◌, length, take, drop, eq-eqb, Some, refl, sym, ap, subst, ◌∙◌, append_assoc, arith, Option, None}
+use Rattle.std.proofs.Common.{◌≡◌, ◌≢◌, ℕ, ◌<◌, ◌^◌, inl, inr, Bool, true, false, cond, nat_eq, List, [], ◌∷◌, ◌++◌, length, take, drop, eq-eqb, refl, sym, ap, subst, ◌∙◌, append_assoc, arith, None}
 use Rattle.std.specs.Prelude.{decimal, codes}
-use Rattle.std.specs.Cmp.Lexicographic.{pointwise, same_text}
+use Rattle.std.specs.Cmp.Lexicographic.{pointwise}
 use Rattle.std.proofs.lemmas.Bool.{false≢true}
 use Rattle.std.proofs.lemmas.Fmt.{decimal_injective}
-use Rattle.std.proofs.lemmas.List.{append-nil, take_all}
 use Rattle.std.proofs.lemmas.Option.{none-some, same_Some}
 use Rattle.std.proofs.Math.Seq.{take-append_seam}
 use Rattle.ug_types.specs.Access.{section_word, privilege_word, section_of, privilege_of}
@@ -15,9 +14,8 @@ use Rattle.ug_types.specs.declared.access.Privilege.{Privilege}
 use Rattle.ug_types.specs.declared.access.Privilege.TheVariants as privilege
 use Rattle.ug_types.proofs.AccessWords.{section_read, privilege_read}
 use Rattle.ug_proto.specs.declared.scan.Stop.{Stop}
-use Rattle.ug_proto.specs.declared.scan.Stop.TheVariants as stop
-use Rattle.ug_proto.specs.RefusalParts.{number_then, IsNumberIn, named_number, named_numbers, IsPairIn, section_then, privilege_then, denied_pair, begins_word, begins_section, begins_privilege, Anything}
-use Rattle.ug_proto.specs.Scanning.{IsTextBegun, NeverBecomes, IsTextThen, IsStop}
+use Rattle.ug_proto.specs.RefusalParts.{number_then, IsNumberIn, section_then, privilege_then, denied_pair, begins_word, begins_section, begins_privilege, Anything}
+use Rattle.ug_proto.specs.Scanning.{IsTextBegun, NeverBecomes, IsStop}
 use Rattle.ug_proto.proofs.Numerals.{text_itself}
 use Rattle.ug_proto.proofs.Scans.{cut, front_of, word_then, begins_with, goes_on, number_has_no}
 

@@ -1,7 +1,7 @@
 -- Parts of texts, one behind another.
-use Rattle.std.proofs.Common.{◌≡◌, ◌≢◌, ℕ, zero, suc, ◌+◌, ◌-◌, ◌<◌, ◌≤◌, ◌^◌, ◌⊎◌, inl, inr, Bool, true, false, nat_eq, eq-eqb, drop-cons, List, [], ◌∷◌, ◌++◌, length, length-append, take, drop, get_or, refl, sym, ap, subst, ◌∙◌, append_assoc, arith}
-use Rattle.std.specs.Prelude.{decimal, Option, Some, None}
-use Rattle.std.proofs.lemmas.Fmt.{digits_value-decimal, first_decimal, decimal-digits_value, decimal_nonempty}
+use Rattle.std.proofs.Common.{◌≡◌, ◌≢◌, ℕ, zero, suc, ◌+◌, ◌-◌, ◌<◌, ◌≤◌, ◌^◌, ◌⊎◌, inl, inr, true, false, nat_eq, eq-eqb, drop-cons, List, [], ◌∷◌, ◌++◌, length, length-append, take, drop, get_or, refl, sym, ap, subst, ◌∙◌, append_assoc, arith}
+use Rattle.std.specs.Prelude.{decimal, Some, None}
+use Rattle.std.proofs.lemmas.Fmt.{digits_value-decimal, first_decimal, decimal-digits_value}
 use Rattle.std.proofs.lemmas.Bool.{false≢true}
 use Rattle.std.proofs.lemmas.Bool.Decides.{nat_tests}
 use Rattle.std.proofs.lemmas.List.{append-nil, take_all, take_more, take-append-drop}
@@ -16,8 +16,8 @@ use Rattle.ug_proto.specs.declared.scan.Stop.TheVariants as stop
 use Rattle.ug_proto.specs.Numbers.{number_in}
 use Rattle.std.proofs.lemmas.Option.{none-some, same_Some}
 use Rattle.ug_proto.specs.RefusalParts.{number_then, IsNumberIn}
-use Rattle.ug_proto.specs.Scanning.{IsTextBegun, NeverBecomes, IsTextThen, IsStop}
-use Rattle.ug_proto.proofs.Numerals.{decimal_digits, zero_text, text_itself, number_found, is_number}
+use Rattle.ug_proto.specs.Scanning.{IsTextBegun, NeverBecomes, IsStop}
+use Rattle.ug_proto.proofs.Numerals.{decimal_digits, zero_text, text_itself, is_number}
 
 -- texts that go on behind their first such byte
 pub cut : (e : ℕ) (a b x y : List ℕ) → ¬ Has a e → ¬ Has b e → a ++ e ∷ x ≡ b ++ e ∷ y → (a ≡ b) × (x ≡ y)

@@ -1,9 +1,8 @@
-use Rattle.std.proofs.Common.{ℕ, List, ◌++◌}
 use Rattle.std.specs.Prelude.{codes}
 use Rattle.std.proofs.lemmas.Result.{err_from_is_err_and}
 use Rattle.ug_types.specs.declared.access.Section.TheVariants.{Devices}
 use Rattle.ug_types.specs.declared.access.Privilege.TheVariants.{Modify}
-use Rattle.ug_proto.specs.RefusalParts.{section_then, privilege_then, Anything, denied_pair}
+use Rattle.ug_proto.specs.RefusalParts.{Anything, denied_pair}
 use Rattle.ug_proto.proofs.RefusalScans.{front_stops, behind_stops, denied_section, denied_privilege}
 use Rattle.ug_proto.proofs.parse.take_denial.Goals as goal
 

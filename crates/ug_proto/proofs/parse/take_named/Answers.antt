@@ -1,4 +1,4 @@
-use Rattle.std.proofs.Common.{ℕ, ◌<◌, ◌≤◌, ◌^◌, List, ◌++◌, arith}
+use Rattle.std.proofs.Common.{arith}
 use Rattle.std.proofs.lemmas.Result.{err_from_is_err_and}
 use Rattle.ug_proto.specs.RefusalParts.{number_then, IsNumberIn}
 use Rattle.ug_proto.proofs.RefusalScans.{front_stops, behind_stops}

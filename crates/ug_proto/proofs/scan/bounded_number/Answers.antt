@@ -1,4 +1,4 @@
-use Rattle.std.proofs.Common.{ℕ, ◌<◌, ◌^◌, sym, ◌∙◌, arith}
+use Rattle.std.proofs.Common.{sym, ◌∙◌, arith}
 use Rattle.ug_proto.proofs.Numerals.{number_found}
 use Rattle.ug_proto.proofs.Scans.{other_number, not_number}
 use Rattle.ug_proto.proofs.scan.bounded_number.Goals as goal

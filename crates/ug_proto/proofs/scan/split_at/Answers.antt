@@ -1,4 +1,4 @@
-use Rattle.std.proofs.Common.{List, ℕ, ◌≤◌, length, take, subst, arith}
+use Rattle.std.proofs.Common.{List, ℕ, subst, arith}
 use Rattle.std.proofs.lemmas.List.{take_all}
 use Rattle.ug_types.specs.Elements.{Has}
 use Rattle.ug_proto.proofs.Scans.{none_before, end_here}

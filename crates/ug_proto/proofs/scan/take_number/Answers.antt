@@ -1,4 +1,4 @@
-use Rattle.std.proofs.Common.{ℕ, ◌<◌, ◌^◌, sym, ◌∙◌, arith}
+use Rattle.std.proofs.Common.{sym, ◌∙◌, arith}
 use Rattle.ug_proto.proofs.Scans.{no_bytes, some_bytes_by, nothing_begun, number_begun, no_number_then, no_number_begun}
 use Rattle.ug_proto.proofs.scan.take_number.Goals as goal
 
