@@ -1,7 +1,13 @@
 pub mod Again
 pub mod Numerals
 pub mod OneReply
+pub mod Pieces
 pub mod Printed
 pub mod Reading
+pub mod AnswerScans
+pub mod RefusalNumbers
+pub mod RefusalScans
 pub mod RefusalWords
+pub mod Scans
+pub mod StreamLines
 pub mod Words

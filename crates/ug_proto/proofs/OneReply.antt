@@ -1,32 +1,21 @@
 -- No reply's text begins with that of another.
-use Rattle.std.proofs.Common.{◌≡◌, ℕ, ◌<◌, ◌^◌, inl, inr, List, [], ◌∷◌, ◌++◌, length, drop, get_or, refl, sym, ap, subst, ◌∙◌, append_assoc, arith}
-use Rattle.std.specs.Prelude.{codes, decimal}
+use Rattle.std.proofs.Common.{◌≡◌, ℕ, List, [], ◌∷◌, ◌++◌, length, drop, get_or, refl, sym, ap, ◌∙◌, append_assoc, arith}
+use Rattle.std.specs.Prelude.{decimal}
 use Rattle.std.proofs.lemmas.Fmt.{decimal_injective}
-use Rattle.ug_types.specs.Elements.{Has}
 use Rattle.ug_types.specs.Refusals.{refusal_words}
 use Rattle.ug_types.specs.declared.refusal.Refusal.{Refusal}
 use Rattle.ug_proto.specs.declared.reply.Reply.{Reply}
 use Rattle.ug_proto.specs.declared.reply.Reply.TheVariants.{Lines, Refused}
 use Rattle.ug_proto.specs.Replies.{ended_lines, reply_text, AreWholeLines, IsReply}
+use Rattle.ug_proto.proofs.Scans.{cut}
 use Rattle.ug_proto.proofs.RefusalWords.{clean_so, number_clean, refusal_clean, one_refusal, first_letter}
-
--- texts that go on behind their first newline
-cut : (a b x y : List ℕ) → ¬ Has a 10 → ¬ Has b 10 → a ++ 10 ∷ x ≡ b ++ 10 ∷ y → (a ≡ b) × (x ≡ y)
-cut [] [] x y h k e = let rest : x ≡ y = cc in (refl, rest)
-cut [] (c ∷ b) x y h k e = let first : c ≡ 10 = cc in absurd (k (inl first))
-cut (c ∷ a) [] x y h k e = let first : c ≡ 10 = cc in absurd (h (inl first))
-cut (c ∷ a) (d ∷ b) x y h k e =
-    let first : c ≡ d = cc in
-    let rest : a ++ 10 ∷ x ≡ b ++ 10 ∷ y = cc in
-    let r = cut a b x y (λ m. h (inr m)) (λ m. k (inr m)) rest in
-    (λ i. first i ∷ r.0 i, r.1)
 
 one_list : (ls ms : List (List ℕ)) (more : List ℕ) → AreWholeLines ls → AreWholeLines ms → length ls ≡ length ms → ended_lines ls ++ more ≡ ended_lines ms → (ls ≡ ms) × (more ≡ [])
 one_list [] [] more h k l e = (refl, e)
 one_list [] (b ∷ ms) more h k l e = absurd (omega (arith, l))
 one_list (a ∷ ls) [] more h k l e = absurd (omega (arith, l))
 one_list (a ∷ ls) (b ∷ ms) more h k l e =
-    let c = cut a b (ended_lines ls ++ more) (ended_lines ms) h.0 k.0 (sym (append_assoc a (10 ∷ ended_lines ls) more) ∙ e) in
+    let c = cut 10 a b (ended_lines ls ++ more) (ended_lines ms) h.0 k.0 (sym (append_assoc a (10 ∷ ended_lines ls) more) ∙ e) in
     let r = one_list ls ms more h.1 k.1 (omega (arith, l)) c.1 in
     (λ i. c.0 i ∷ r.0 i, r.1)
 
@@ -34,20 +23,20 @@ same_lines : (ls ms : List (List ℕ)) (more : List ℕ) → IsReply (Lines ls) 
 unfolding reply_text
 same_lines ls ms more h k e =
     let behind : decimal (length ls) ++ (10 ∷ (ended_lines ls ++ more)) ≡ decimal (length ms) ++ (10 ∷ ended_lines ms) = sym (append_assoc (decimal (length ls)) (10 ∷ ended_lines ls) more) ∙ ap (drop 3) e in
-    let c = cut (decimal (length ls)) (decimal (length ms)) (ended_lines ls ++ more) (ended_lines ms) (clean_so (decimal (length ls)) (number_clean (length ls) h.1)) (clean_so (decimal (length ms)) (number_clean (length ms) k.1)) behind in
+    let c = cut 10 (decimal (length ls)) (decimal (length ms)) (ended_lines ls ++ more) (ended_lines ms) (clean_so (decimal (length ls)) (number_clean (length ls) h.1)) (clean_so (decimal (length ms)) (number_clean (length ms) k.1)) behind in
     one_list ls ms more h.0 k.0 (decimal_injective (length ls) (length ms) h.1 k.1 c.0) c.1
 
 same_refusal : (a b : Refusal) (more : List ℕ) → IsReply (Refused a) → IsReply (Refused b) → reply_text (Refused a) ++ more ≡ reply_text (Refused b) → (a ≡ b) × (more ≡ [])
 unfolding reply_text
 same_refusal a b more h k e =
-    let c = cut (refusal_words a) (refusal_words b) more [] (clean_so (refusal_words a) (refusal_clean a h)) (clean_so (refusal_words b) (refusal_clean b k)) (sym (append_assoc (refusal_words a) (10 ∷ []) more) ∙ e) in
+    let c = cut 10 (refusal_words a) (refusal_words b) more [] (clean_so (refusal_words a) (refusal_clean a h)) (clean_so (refusal_words b) (refusal_clean b k)) (sym (append_assoc (refusal_words a) (10 ∷ []) more) ∙ e) in
     (one_refusal a b h k c.0, c.1)
 
 lines_first : (lines : List (List ℕ)) (more : List ℕ) → get_or (reply_text (Lines lines) ++ more) 0 0 ≡ 111
 unfolding reply_text
 lines_first lines more = refl
 
-refused_first : (r : Refusal) (more : List ℕ) → get_or (reply_text (Refused r) ++ more) 0 0 ≡ 114
+pub refused_first : (r : Refusal) (more : List ℕ) → get_or (reply_text (Refused r) ++ more) 0 0 ≡ 114
 unfolding reply_text
 refused_first r more = ap (λ (l : List ℕ). get_or l 0 0) (append_assoc (refusal_words r) (10 ∷ []) more) ∙ first_letter r (10 ∷ more)
 

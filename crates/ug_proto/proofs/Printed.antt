@@ -1,5 +1,5 @@
 -- Lines, each with its newline.
-use Rattle.std.proofs.Common.{◌≡◌, ℕ, suc, ◌+◌, ◌<◌, List, [], ◌∷◌, ◌++◌, length, drop, slice_index_or, refl, sym, ap, ◌∙◌, append_assoc, arith, drop-cons}
+use Rattle.std.proofs.Common.{◌≡◌, ℕ, suc, ◌+◌, ◌<◌, List, [], ◌∷◌, ◌++◌, length, drop, slice_index_or, ap, ◌∙◌, append_assoc, arith, drop-cons}
 use Rattle.ug_proto.specs.Replies.{ended_lines}
 
 pub next_line : (lines : List (List ℕ)) (i : ℕ) (d : List ℕ) → i < length lines → ended_lines (drop i lines) ≡ slice_index_or lines i d ++ (10 ∷ ended_lines (drop (i + 1) lines))

@@ -1,5 +1,5 @@
 -- What reads as a request is its text.
-use Rattle.std.proofs.Common.{◌≡◌, ◌≢◌, ℕ, ◌<◌, ◌^◌, ◌⊎◌, inl, inr, Bool, true, false, cond, nat_eq, List, [], ◌∷◌, ◌++◌, length, Option, Some, None, Result, Ok, Err, refl, sym, ap, subst, ◌∙◌, arith}
+use Rattle.std.proofs.Common.{◌≡◌, ◌≢◌, ℕ, ◌<◌, ◌^◌, inl, inr, Bool, true, false, cond, nat_eq, List, [], ◌∷◌, ◌++◌, length, Option, Some, None, Result, Ok, Err, refl, sym, ap, subst, ◌∙◌, arith}
 use Rattle.std.specs.Prelude.{codes, decimal}
 use Rattle.std.specs.Cmp.Lexicographic.{pointwise, same_text}
 use Rattle.std.proofs.lemmas.Bool.Decides.{nat_tests}
@@ -13,7 +13,7 @@ use Rattle.ug_types.specs.declared.verdict.Target.TheVariants as target
 use Rattle.ug_proto.specs.declared.request.Request.{Request}
 use Rattle.ug_proto.specs.declared.request.Request.TheVariants as request
 use Rattle.ug_proto.specs.Numbers.{number_in}
-use Rattle.ug_proto.specs.Requests.{then_take, or_wrong, next_word, behind_next, next_place, next_read, unless_empty, ended, after_number, after_in, kind_in, permanence_in, get_read, set_read, permanence_read, device_read, rule_read, append_read, remove_read, named_read, request_read}
+use Rattle.ug_proto.specs.Requests.{then_take, or_wrong, behind_next, next_place, next_read, unless_empty, ended, after_number, after_in, kind_in, permanence_in, get_read, set_read, permanence_read, device_read, rule_read, append_read, remove_read, named_read, request_read}
 use Rattle.ug_proto.specs.Splitting.{first_word, behind_word, IsPlainWord}
 use Rattle.ug_proto.specs.Texts.{device_word, permanence_words, kind_word, after_word, request_text, IsAfter, IsRequest}
 use Rattle.ug_proto.proofs.Numerals.{number_found, zero_text}

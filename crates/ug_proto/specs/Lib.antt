@@ -1,6 +1,13 @@
+pub mod AnswerParts
+pub mod Begun
+pub mod Frames
+pub mod Lines
 pub mod Numbers
 pub mod Privileges
+pub mod RefusalParts
 pub mod Replies
+pub mod ReplyReading
 pub mod Requests
+pub mod Scanning
 pub mod Splitting
 pub mod Texts

@@ -1,5 +1,5 @@
 -- Words with one space between.
-use Rattle.std.specs.Prelude.{◌≡◌, ◌≢◌, ℕ, nat_eq, if◌then◌else◌, List, [], ◌∷◌}
+use Rattle.std.specs.Prelude.{◌≢◌, ℕ, nat_eq, if◌then◌else◌, List, [], ◌∷◌}
 use Rattle.ug_types.specs.Elements.{Has}
 
 -- the word that a text begins with, which may be empty

@@ -1,19 +1,24 @@
 // Requests and replies, as they go over a link.
 #![tactic(auto)]
 
+mod framer;
 mod laws;
 mod numbers;
+mod parse;
 mod print;
 mod read;
 mod reply;
 mod request;
+mod scan;
 mod split;
 #[cfg(test)]
 mod tests;
 
-pub use laws::{replies_law, requests_law};
+pub use framer::{FrameFault, Framer};
+pub use laws::{in_any_pieces, lines_in_one_way, one_reading_law, replies_law, requests_law};
+pub use parse::parse_reply;
 pub use print::{print_reply, print_request};
 pub use read::parse_request;
-pub use reply::Reply;
+pub use reply::{Reply, ReplyFault};
 pub use request::{Request, RequestFault};
 pub use ug_types::{After, Refusal};

@@ -8,3 +8,11 @@ pub enum Reply {
     Lines(List<Text>),
     Refused(Refusal),
 }
+
+/// Why a text was not read.
+#[derive(Clone, Copy, Debug, PartialEq, Eq)]
+pub enum ReplyFault {
+    /// It is no reply, and none begins so.
+    BadReply,
+    Memory,
+}

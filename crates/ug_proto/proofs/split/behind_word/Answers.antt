@@ -1,4 +1,4 @@
-use Rattle.std.proofs.Common.{◌≡◌, ◌∙◌, ℕ, drop, length, ap, sym}
+use Rattle.std.proofs.Common.{◌∙◌, ℕ, drop, ap}
 use Rattle.ug_types.proofs.Known.{to_end}
 use Rattle.ug_proto.proofs.Words.{dropped_word}
 use Rattle.ug_proto.proofs.split.behind_word.Goals as goal

@@ -1,0 +1,252 @@
+// Replies from their texts.
+ghost use Rattle.std.specs.Prelude.{◌≡◌, ◌++◌, ◌∷◌, [], ◌≤◌, ℕ, List, length, IfOk, IfErr, IfSome, IfNone, codes};
+ghost use Rattle.ug_types.specs.Access.{section_word, privilege_word};
+ghost use Rattle.ug_types.specs.Elements.{Has};
+ghost use Rattle.ug_proto.specs.Scanning.{IsTextThen, IsStop};
+ghost use Rattle.ug_proto.specs.RefusalParts.{IsNumberIn, named_number, named_numbers, IsPairIn, section_then, privilege_then, begins_section, begins_privilege, denial_text, refusal_rest, refusal_line, IsNumbered, Anything};
+ghost use Rattle.ug_proto.specs.AnswerParts.{IsUnended, AreLinesOf, answer_text, IsAnswer};
+ghost use Rattle.ug_proto.specs.Replies.{IsRefusal, ended_lines, reply_text, IsReply};
+ghost use Rattle.ug_proto.specs.ReplyReading.{ReadsReply};
+
+use crate::reply::{Reply, ReplyFault};
+use crate::scan::{Stop, split_at, take_number, take_word};
+use std::alloc::Global;
+use ug_types::{List, Privilege, Refusal, Section, Text};
+
+const MAX: u64 = 18446744073709551615;
+
+fn begins_section(text: &[u8]) -> bool
+    ensures { result ≡ begins_section text.now }
+{
+    if Section::Devices.word().starts_with(text) {
+        return true;
+    }
+    if Section::Policy.word().starts_with(text) {
+        return true;
+    }
+    if Section::Exceptions.word().starts_with(text) {
+        return true;
+    }
+    Section::Parameters.word().starts_with(text)
+}
+
+fn take_section(text: &[u8]) -> Result<(Section, &[u8]), Stop>
+    ensures ok { IfOk result (λ p. IsTextThen section_then Anything text.now p.0 p.1.now) }
+    ensures err { IfErr result (λ stop. IsStop section_then Anything text.now stop) }
+{
+    match split_at(text, b' ') {
+        Some((word, rest)) => match Section::named(word) {
+            Some(section) => Ok((section, rest)),
+            None => Err(Stop::Bad),
+        },
+        None => {
+            if begins_section(text) {
+                return Err(Stop::Short);
+            }
+            Err(Stop::Bad)
+        }
+    }
+}
+
+fn begins_privilege(text: &[u8]) -> bool
+    ensures { result ≡ begins_privilege text.now }
+{
+    if Privilege::Modify.word().starts_with(text) {
+        return true;
+    }
+    if Privilege::List.word().starts_with(text) {
+        return true;
+    }
+    Privilege::Listen.word().starts_with(text)
+}
+
+fn take_privilege(text: &[u8]) -> Result<(Privilege, &[u8]), Stop>
+    ensures ok { IfOk result (λ p. IsTextThen privilege_then Anything text.now p.0 p.1.now) }
+    ensures err { IfErr result (λ stop. IsStop privilege_then Anything text.now stop) }
+{
+    match split_at(text, b'\n') {
+        Some((word, rest)) => match Privilege::named(word) {
+            Some(privilege) => Ok((privilege, rest)),
+            None => Err(Stop::Bad),
+        },
+        None => {
+            if begins_privilege(text) {
+                return Err(Stop::Short);
+            }
+            Err(Stop::Bad)
+        }
+    }
+}
+
+fn take_denial(text: &[u8]) -> Result<(Section, Privilege, &[u8]), Stop>
+    ensures ok { IfOk result (λ p. IsTextThen denial_text Anything text.now (p.0, p.1) p.2.now) }
+    ensures err { IfErr result (λ stop. IsStop denial_text Anything text.now stop) }
+{
+    let rest = take_word(text, b"denied ")?;
+    let (section, rest) = take_section(rest)?;
+    let (privilege, rest) = take_privilege(rest)?;
+    Ok((section, privilege, rest))
+}
+
+// A name and a number of at most that size.
+fn take_named<'a>(text: &'a [u8], name: &[u8], most: u64) -> Result<(u64, &'a [u8]), Stop>
+    ensures ok { IfOk result (λ p. IsTextThen (named_number name.now) (IsNumberIn 0 most) text.now p.0 p.1.now) }
+    ensures err { IfErr result (λ stop. IsStop (named_number name.now) (IsNumberIn 0 most) text.now stop) }
+{
+    let rest = take_word(text, name)?;
+    let (number, rest) = take_number(rest, 0, most, b'\n')?;
+    Ok((number, rest))
+}
+
+// A name, a number of at most that size, and a number.
+fn take_pair<'a>(text: &'a [u8], name: &[u8], most: u64) -> Result<(u64, u64, &'a [u8]), Stop>
+    ensures ok { IfOk result (λ p. IsTextThen (named_numbers name.now) (IsPairIn most) text.now (p.0, p.1) p.2.now) }
+    ensures err { IfErr result (λ stop. IsStop (named_numbers name.now) (IsPairIn most) text.now stop) }
+{
+    let rest = take_word(text, name)?;
+    let (first, rest) = take_number(rest, 0, most, b' ')?;
+    let (second, rest) = take_number(rest, 0, MAX, b'\n')?;
+    Ok((first, second, rest))
+}
+
+// The rest of the refusal of that number.
+#[tactic(auto, unfolding(crate::specs::RefusalParts::refusal_rest))]
+fn take_numbered(number: u64, text: &[u8]) -> Result<(Refusal, &[u8]), Stop>
+    ensures ok { IfOk result (λ p. IsTextThen refusal_rest (IsNumbered number) text.now p.0 p.1.now) }
+    ensures err { IfErr result (λ stop. IsStop refusal_rest (IsNumbered number) text.now stop) }
+{
+    match number {
+        1 => {
+            let (place, rest) = take_named(text, b"bad-request ", MAX)?;
+            Ok((Refusal::BadRequest { place }, rest))
+        }
+        2 => {
+            let (section, privilege, rest) = take_denial(text)?;
+            Ok((Refusal::Denied { section, privilege }, rest))
+        }
+        3 => {
+            let (kind, place, rest) = take_pair(text, b"bad-rule ", 255)?;
+            let kind = kind as u8;
+            Ok((Refusal::BadRule { kind, place }, rest))
+        }
+        4 => {
+            let (number, rest) = take_named(text, b"no-device ", MAX)?;
+            Ok((Refusal::NoDevice { number }, rest))
+        }
+        5 => {
+            let (id, rest) = take_named(text, b"no-rule ", MAX)?;
+            Ok((Refusal::NoRule { id }, rest))
+        }
+        6 => {
+            let rest = take_word(text, b"bad-parameter\n")?;
+            Ok((Refusal::BadParameter, rest))
+        }
+        7 => {
+            let rest = take_word(text, b"bad-value\n")?;
+            Ok((Refusal::BadValue, rest))
+        }
+        8 => {
+            let (number, rest) = take_named(text, b"malformed-device ", MAX)?;
+            Ok((Refusal::MalformedDevice { number }, rest))
+        }
+        9 => {
+            let rest = take_word(text, b"rules-full\n")?;
+            Ok((Refusal::RulesFull, rest))
+        }
+        10 => {
+            let (count, rest) = take_named(text, b"store-fault ", MAX)?;
+            Ok((Refusal::StoreFault { count }, rest))
+        }
+        11 => {
+            let (call, count, rest) = take_pair(text, b"device-fault ", MAX)?;
+            Ok((Refusal::DeviceFault { call, count }, rest))
+        }
+        12 => {
+            let (stands, rest) = take_named(text, b"memory ", 1)?;
+            let stands = stands == 1;
+            Ok((Refusal::Memory { stands }, rest))
+        }
+        13 => {
+            let (count, rest) = take_named(text, b"probe-fault ", MAX)?;
+            Ok((Refusal::ProbeFault { count }, rest))
+        }
+        _ => Err(Stop::Bad),
+    }
+}
+
+fn take_refusal(text: &[u8]) -> Result<(Refusal, &[u8]), Stop>
+    ensures ok { IfOk result (λ p. IsTextThen refusal_line IsRefusal text.now p.0 p.1.now) }
+    ensures err { IfErr result (λ stop. IsStop refusal_line IsRefusal text.now stop) }
+{
+    let rest = take_word(text, b"refused ")?;
+    let (number, rest) = take_number(rest, 1, 13, b' ')?;
+    let (refusal, rest) = take_numbered(number, rest)?;
+    Ok((refusal, rest))
+}
+
+fn take_line(alloc: Global, text: &[u8]) -> Result<(Text, &[u8]), Stop>
+    ensures ok { IfOk result (λ p. (¬ Has p.0 10) × (text.now ≡ p.0 ++ 10 ∷ p.1.now)) }
+    ensures err { IfErr result (λ stop. IsUnended text.now stop) }
+{
+    match split_at(text, b'\n') {
+        Some((line, rest)) => {
+            let line = Text::of(alloc, line)?;
+            Ok((line, rest))
+        }
+        None => Err(Stop::Short),
+    }
+}
+
+fn take_lines(alloc: Global, count: u64, text: &[u8]) -> Result<(List<Text>, &[u8]), Stop>
+    ensures ok { IfOk result (λ p. IsTextThen ended_lines (AreLinesOf count) text.now p.0 p.1.now) }
+    ensures err { IfErr result (λ stop. IsStop ended_lines (AreLinesOf count) text.now stop) }
+{
+    let mut lines = List::new(alloc);
+    let mut rest = text;
+    for _i in 0..count {
+        let (line, behind) = take_line(alloc, rest)?;
+        lines.push(line)?;
+        rest = behind;
+    }
+    Ok((lines, rest))
+}
+
+fn take_answer(alloc: Global, text: &[u8]) -> Result<(List<Text>, &[u8]), Stop>
+    ensures ok { IfOk result (λ p. IsTextThen answer_text IsAnswer text.now p.0 p.1.now) }
+    ensures err { IfErr result (λ stop. IsStop answer_text IsAnswer text.now stop) }
+{
+    let (count, rest) = take_number(text, 0, MAX, b'\n')?;
+    let (lines, rest) = take_lines(alloc, count, rest)?;
+    Ok((lines, rest))
+}
+
+fn take_reply(alloc: Global, text: &[u8]) -> Result<(Reply, &[u8]), Stop>
+    ensures ok { IfOk result (λ p. IsTextThen reply_text IsReply text.now p.0 p.1.now) }
+    ensures err { IfErr result (λ stop. IsStop reply_text IsReply text.now stop) }
+{
+    match take_word(text, b"ok ") {
+        Ok(rest) => {
+            let (lines, rest) = take_answer(alloc, rest)?;
+            Ok((Reply::Lines(lines), rest))
+        }
+        Err(Stop::Bad) => {
+            let (refusal, rest) = take_refusal(text)?;
+            Ok((Reply::Refused(refusal), rest))
+        }
+        Err(Stop::Short) => Err(Stop::Short),
+        Err(Stop::Memory) => Err(Stop::Memory),
+    }
+}
+
+/// The reply that the text begins with, and how many bytes it has; nothing while a reply begins with the whole text and has more
+/// bytes.
+pub fn parse_reply(alloc: Global, text: &[u8]) -> Result<Option<(Reply, usize)>, ReplyFault>
+    ensures { ReadsReply text.now result }
+{
+    match take_reply(alloc, text) {
+        Ok((reply, rest)) => Ok(Some((reply, text.len() - rest.len()))),
+        Err(Stop::Short) => Ok(None),
+        Err(Stop::Bad) => Err(ReplyFault::BadReply),
+        Err(Stop::Memory) => Err(ReplyFault::Memory),
+    }
+}
