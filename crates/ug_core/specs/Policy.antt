@@ -1,8 +1,6 @@
 -- The verdict on a device that has none yet.
 use Rattle.std.specs.Prelude.{ℕ, min, Bool, true, false, if◌then◌else◌, List, [], ◌∷◌, map}
 use Rattle.jiff.specs.declared.tz.timezone.TimeZone.{TimeZone}
-use Rattle.rand_chacha.specs.ChaCha.{ChaCha, next_word, of_seed}
-use Rattle.rand_core.specs.Steps.{stream_of, steps_u32}
 use Rattle.rand_core.specs.Stream.{Stream}
 use Rattle.ug_types.specs.declared.record.DeviceRecord.{DeviceRecord}
 use Rattle.ug_types.specs.declared.record.Judged.{Judged}
@@ -29,14 +27,6 @@ use Rattle.ug_conf.specs.declared.settings.Present.TheVariants as present
 use Rattle.ug_core.specs.declared.classes.Classes.{Classes}
 use Rattle.ug_core.specs.declared.policy.Policy.{Policy}
 
--- the words that a generator gives
-abbrev pub stream_from : ChaCha → Stream
-stream_from rng = stream_of (steps_u32 (next_word 10)) rng
-
--- those of ChaCha20 with that seed of 32 bytes
-abbrev pub seeded : List ℕ → Stream
-seeded seed = stream_from (of_seed seed)
-
 -- the second of the local day, at a second since 1970
 abbrev pub clock_of : TimeZone → ℕ → ℕ
 clock_of zone second = local_second_at zone second
@@ -51,9 +41,9 @@ pub record Judging : Type 0 where
   pub ctx : Context
   pub stream : Stream
 
--- what a policy judges by
-abbrev pub judging_of : Policy → Judging
-judging_of p = record { classes = p.classes; rules = p.rules.entries; next = p.rules.next; clock = clock_of p.zone; ctx = p.ctx; stream = stream_from p.rng }
+-- what a policy judges by, where its generator gives these words
+abbrev pub judging_of : {R : Type 0} → (R → Stream) → Policy R → Judging
+judging_of words p = record { classes = p.classes; rules = p.rules.entries; next = p.rules.next; clock = clock_of p.zone; ctx = p.ctx; stream = words p.rng }
 
 -- a moment, with its second of the local day; behind the last second that the calendar has, that one counts
 abbrev pub context_at : (ℕ → ℕ) → Moment → Context

@@ -1,18 +1,21 @@
 // The daemon's calls.
-ghost use Rattle.std.specs.Prelude.{◌≡◌, ◌≤◌, ◌<◌, ◌+◌, ◌-◌, ◌*◌, ◌^◌, [], IsTrue, length, IfOk};
+ghost use Rattle.std.specs.Prelude.{◌≡◌, ◌≤◌, ◌<◌, ◌+◌, ◌-◌, ◌*◌, ◌^◌, [], IsTrue, length, IfOk, OnOk, OnErr};
 ghost use Rattle.ug_kernel.specs.Tree.{Runs};
-ghost use Rattle.ug_core.specs.Event.{daemon_of, IsStarted, moment_of, RunsEvent, handling, has_numbers, is_low};
-ghost use Rattle.ug_core.specs.Policy.{judging_of};
+ghost use Rattle.ug_core.specs.Event.{daemon_of, IsStarted, moment_of, RunsEvent, handling, has_numbers, has_place, is_low, with_classes, with_clock, with_rule, with_words};
+ghost use Rattle.ug_core.specs.Policy.{clock_of, judging_of};
 ghost use Rattle.ug_core.specs.Laws.{Handles, TellsEvent, NamesOnceIn};
 
+use crate::classes::Classes;
 use crate::daemon::{Daemon, Event};
 use crate::policy::Policy;
 use crate::report::Report;
+use jiff::tz::TimeZone;
+use rand_core::Rng;
 use std::alloc::Global;
 use ug_audit::{Entries, Entry, Journal};
 use ug_kernel::Sysfs;
 use ug_table::Table;
-use ug_types::{Moment, NoMemory};
+use ug_types::{Moment, NoMemory, Rule};
 
 const LOW: u64 = u64::MAX - 4194304;
 
@@ -22,10 +25,14 @@ fn low(n: u64) -> bool
     n <= LOW
 }
 
-impl Daemon {
+impl<'z, R: Rng + Drop> Daemon<'z, R> {
     /// A daemon with that policy, whose first event has that number. It makes the room of an event's entries.
-    pub fn start(alloc: Global, policy: Policy, first: u64) -> Result<Daemon, NoMemory>
-        ensures started { IfOk result (λ d. IsStarted (judging_of policy) first (daemon_of d)) }
+    pub fn start(
+        alloc: Global,
+        policy: Policy<'z, R>,
+        first: u64,
+    ) -> Result<Daemon<'z, R>, NoMemory>
+        ensures started { IfOk result (λ d. IsStarted (judging_of R.stream policy.entry) first (daemon_of d)) }
         ensures number { IfOk result (λ d. d.report.event ≡ 0) }
     {
         let mut entries = Entries::new(alloc);
@@ -36,6 +43,49 @@ impl Daemon {
             next_event: first,
             report: Report { event: 0, entries },
         })
+    }
+
+    /// The words to come are those of that generator.
+    pub fn set_rng(&mut self, rng: R)
+        ensures daemon { daemon_of self.new ≡ with_words (R.stream rng) (daemon_of self.old) }
+        ensures report { self.new.report ≡ self.old.report }
+    {
+        self.policy.set_rng(rng);
+    }
+}
+
+impl<'z, R: Rng> Daemon<'z, R> {
+    /// Whether there are fewer than 65,536 rules and an id is left for one more.
+    pub fn has_place(&self) -> bool
+        ensures { result ≡ has_place (daemon_of self.now) }
+    {
+        self.policy.has_place()
+    }
+
+    /// Puts a rule behind the others, which is permanent and has no history. A refusal changes nothing.
+    pub fn append_rule(&mut self, rule: Rule) -> Result<(), NoMemory>
+        requires { IsTrue (has_place (daemon_of self.old)) }
+        ensures ok { OnOk result (daemon_of self.new ≡ with_rule rule (daemon_of self.old)) }
+        ensures err { OnErr result (daemon_of self.new ≡ daemon_of self.old) }
+        ensures report { self.new.report ≡ self.old.report }
+    {
+        self.policy.append(rule)
+    }
+
+    /// Verdicts go by these settings.
+    pub fn set_classes(&mut self, classes: Classes)
+        ensures daemon { daemon_of self.new ≡ with_classes classes (daemon_of self.old) }
+        ensures report { self.new.report ≡ self.old.report }
+    {
+        self.policy.set_classes(classes);
+    }
+
+    /// The clock is that of the zone.
+    pub fn set_zone(&mut self, zone: TimeZone<'z>)
+        ensures daemon { daemon_of self.new ≡ with_clock (clock_of zone.entry) (daemon_of self.old) }
+        ensures report { self.new.report ≡ self.old.report }
+    {
+        self.policy.set_zone(zone);
     }
 
     /// Whether the next device number, the counts of faults and the event's number leave room for an event, and an id is left for

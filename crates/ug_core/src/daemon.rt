@@ -3,6 +3,7 @@ ghost use Rattle.std.specs.Prelude.{◌≤◌, ◌+◌, ◌*◌, length};
 
 use crate::policy::Policy;
 use crate::report::Report;
+use rand_core::Rng;
 use ug_table::Table;
 use ug_types::Moment;
 
@@ -13,10 +14,10 @@ pub enum Event {
     Sweep(Moment),
 }
 
-/// The rules, the standings, and the report of the last event.
+/// The policy, the standings, and the report of the last event.
 #[derive(Drop)]
-pub struct Daemon {
-    pub policy: Policy,
+pub struct Daemon<'z, R: Rng> {
+    pub(crate) policy: Policy<'z, R>,
     pub(crate) table: Table,
     pub(crate) next_event: u64,
     pub(crate) report: Report,

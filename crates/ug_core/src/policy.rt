@@ -3,12 +3,11 @@ ghost use Rattle.std.specs.Prelude.{◌≡◌, ◌<◌, ◌+◌, ◌-◌, ◌^�
 ghost use Rattle.ug_policy.specs.Deciding.{find_decider};
 ghost use Rattle.ug_policy.specs.Edits.{new_entry};
 ghost use Rattle.ug_table.specs.Allowed.{allowed_records};
-ghost use Rattle.ug_core.specs.Policy.{Judging, asks, by_class, clock_of, context_at, judging_of, policy_answer, policy_later, rules_if, seeded, stream_from, stream_if};
+ghost use Rattle.ug_core.specs.Policy.{Judging, asks, by_class, clock_of, context_at, judging_of, policy_answer, policy_later, rules_if, stream_if};
 
 use crate::classes::{Class, Classes, cause_for, keep};
 use jiff::tz::TimeZone;
-use rand_chacha::ChaCha20Rng;
-use rand_core::SeedableRng;
+use rand_core::Rng;
 use ug_cond::{Allowed, Context, local_second};
 use ug_conf::Present;
 use ug_policy::RuleList;
@@ -17,12 +16,12 @@ use ug_types::{After, Cause, DeviceRecord, Judged, Moment, NoMemory, Query, Rule
 
 /// The settings for classes of devices, the rules in order, the local time zone, when devices are judged, and the generator of random words.
 #[derive(Drop)]
-pub struct Policy {
+pub struct Policy<'z, R: Rng> {
     classes: Classes,
     rules: RuleList,
-    zone: TimeZone<'static>,
+    zone: TimeZone<'z>,
     ctx: Context,
-    rng: ChaCha20Rng,
+    rng: R,
 }
 
 /// The settled devices of a table whose verdict is to allow them.
@@ -40,19 +39,19 @@ impl<'a> Allowed for AllowedIn<'a> {
 }
 
 /// The verdict on a device whose descriptors can be read.
-fn judge(
+fn judge<R: Rng>(
     classes: Classes,
     rules: &mut RuleList,
-    rng: &mut ChaCha20Rng,
+    rng: &mut R,
     ctx: &Context,
     device: &DeviceRecord,
     class: Class,
     table: &Table,
 ) -> (Target, Cause)
-    ensures answer { result ≡ by_class classes (find_decider device.now ctx.now (allowed_records table.now.standings) rules.old.entries (stream_from rng.old)) class.controller class.present class.on }
-    ensures rules { rules.new.entries ≡ rules_if (asks classes class.controller class.present) rules.old.entries (find_decider device.now ctx.now (allowed_records table.now.standings) rules.old.entries (stream_from rng.old)) device.now ctx.now.moment }
+    ensures answer { result ≡ by_class classes (find_decider device.now ctx.now (allowed_records table.now.standings) rules.old.entries (R.stream rng.old)) class.controller class.present class.on }
+    ensures rules { rules.new.entries ≡ rules_if (asks classes class.controller class.present) rules.old.entries (find_decider device.now ctx.now (allowed_records table.now.standings) rules.old.entries (R.stream rng.old)) device.now ctx.now.moment }
     ensures next { rules.new.next ≡ rules.old.next }
-    ensures words { stream_from rng.new ≡ stream_if (asks classes class.controller class.present) (stream_from rng.old) (find_decider device.now ctx.now (allowed_records table.now.standings) rules.old.entries (stream_from rng.old)) device.now }
+    ensures words { R.stream rng.new ≡ stream_if (asks classes class.controller class.present) (R.stream rng.old) (find_decider device.now ctx.now (allowed_records table.now.standings) rules.old.entries (R.stream rng.old)) device.now }
 {
     match classes.choice_for(class) {
         Present::Allow => (Target::Allow, cause_for(class.present)),
@@ -80,10 +79,10 @@ fn append(rules: &mut RuleList, rule: Rule) -> Result<(), NoMemory>
     Ok(())
 }
 
-impl Policy {
-    /// These settings and rules, with the clock of that zone and the words of a seed of 32 bytes.
-    pub fn new(classes: Classes, rules: RuleList, zone: TimeZone<'static>, seed: [u8; 32]) -> Policy
-        ensures { judging_of result ≡ record { classes = classes; rules = rules.entries; next = rules.next; clock = clock_of zone.entry; ctx = record { moment = record { 0 = 0 }; second = 0 }; stream = seeded seed } }
+impl<'z, R: Rng> Policy<'z, R> {
+    /// These settings and rules, with the clock of that zone and the words of that generator.
+    pub fn new(classes: Classes, rules: RuleList, zone: TimeZone<'z>, rng: R) -> Policy<'z, R>
+        ensures { judging_of R.stream result ≡ record { classes = classes; rules = rules.entries; next = rules.next; clock = clock_of zone.entry; ctx = record { moment = record { 0 = 0 }; second = 0 }; stream = R.stream rng } }
     {
         Policy {
             classes,
@@ -93,58 +92,51 @@ impl Policy {
                 moment: Moment(0),
                 second: 0,
             },
-            rng: ChaCha20Rng::from_seed(seed),
+            rng,
         }
     }
 
     /// Whether an id is left for one rule more.
     pub fn has_id(&self) -> bool
-        ensures { result ≡ nat_lt (judging_of self.now).next (2 ^ 64 - 1) }
+        ensures { result ≡ nat_lt (judging_of R.stream self.now).next (2 ^ 64 - 1) }
     {
         self.rules.next_id() < u64::MAX
     }
 
     /// Whether there are fewer than 65,536 rules and an id is left for one more.
     pub fn has_place(&self) -> bool
-        ensures { result ≡ (nat_lt (length (judging_of self.now).rules) 65536 && nat_lt (judging_of self.now).next (2 ^ 64 - 1)) }
+        ensures { result ≡ (nat_lt (length (judging_of R.stream self.now).rules) 65536 && nat_lt (judging_of R.stream self.now).next (2 ^ 64 - 1)) }
     {
         self.rules.len() < 65536 && self.has_id()
     }
 
     /// Puts a rule behind the others, which is permanent and has no history. A refusal changes nothing.
     pub fn append(&mut self, rule: Rule) -> Result<(), NoMemory>
-        requires few { length (judging_of self.old).rules < 65536 }
-        requires left { (judging_of self.old).next < 2 ^ 64 - 1 }
-        ensures ok { OnOk result (judging_of self.new ≡ record (judging_of self.old) { rules = (judging_of self.old).rules ++ new_entry (judging_of self.old).next rule false ∷ []; next = (judging_of self.old).next + 1 }) }
-        ensures err { OnErr result (judging_of self.new ≡ judging_of self.old) }
+        requires few { length (judging_of R.stream self.old).rules < 65536 }
+        requires left { (judging_of R.stream self.old).next < 2 ^ 64 - 1 }
+        ensures ok { OnOk result (judging_of R.stream self.new ≡ record (judging_of R.stream self.old) { rules = (judging_of R.stream self.old).rules ++ new_entry (judging_of R.stream self.old).next rule false ∷ []; next = (judging_of R.stream self.old).next + 1 }) }
+        ensures err { OnErr result (judging_of R.stream self.new ≡ judging_of R.stream self.old) }
     {
         append(&mut self.rules, rule)
     }
 
     /// Verdicts go by these settings.
     pub fn set_classes(&mut self, classes: Classes)
-        ensures { judging_of self.new ≡ record (judging_of self.old) { classes = classes } }
+        ensures { judging_of R.stream self.new ≡ record (judging_of R.stream self.old) { classes = classes } }
     {
         self.classes = classes;
     }
 
     /// The clock is that of the zone.
-    pub fn set_zone(&mut self, zone: TimeZone<'static>)
-        ensures { judging_of self.new ≡ record (judging_of self.old) { clock = clock_of zone.entry } }
+    pub fn set_zone(&mut self, zone: TimeZone<'z>)
+        ensures { judging_of R.stream self.new ≡ record (judging_of R.stream self.old) { clock = clock_of zone.entry } }
     {
         self.zone = zone;
     }
 
-    /// The words to come are those of ChaCha20 with that seed.
-    pub fn set_seed(&mut self, seed: [u8; 32])
-        ensures { judging_of self.new ≡ record (judging_of self.old) { stream = seeded seed } }
-    {
-        self.rng = ChaCha20Rng::from_seed(seed);
-    }
-
     /// The next verdicts are given at that moment.
     pub fn set_moment(&mut self, moment: Moment)
-        ensures { judging_of self.new ≡ record (judging_of self.old) { ctx = context_at (judging_of self.old).clock moment } }
+        ensures { judging_of R.stream self.new ≡ record (judging_of R.stream self.old) { ctx = context_at (judging_of R.stream self.old).clock moment } }
     {
         self.ctx = Context {
             moment,
@@ -153,10 +145,19 @@ impl Policy {
     }
 }
 
-impl Judge for Policy {
+impl<'z, R: Rng + Drop> Policy<'z, R> {
+    /// The words to come are those of that generator.
+    pub fn set_rng(&mut self, rng: R)
+        ensures { judging_of R.stream self.new ≡ record (judging_of R.stream self.old) { stream = R.stream rng } }
+    {
+        self.rng = rng;
+    }
+}
+
+impl<'z, R: Rng> Judge for Policy<'z, R> {
     ghost Meaning = { Judging };
 
-    ghost meaning = { judging_of };
+    ghost meaning = { judging_of R.stream };
 
     ghost answer = { policy_answer };
 

@@ -1,6 +1,8 @@
 // Events over a kernel in memory: the journal's lines of each.
 use crate::{Classes, Daemon, Event, Policy, line_of};
 use jiff::tz::TimeZone;
+use rand_chacha::ChaCha20Rng;
+use rand_core::SeedableRng;
 use std::alloc::Global;
 use std::process::Abort;
 use std::test::Fail;
@@ -53,20 +55,20 @@ fn rule(alloc: Global, target: Target, product: u16) -> Result<Rule, Fail> {
 }
 
 // Settings by default, no rules, the clock of UTC, and a seed of zeros.
-fn start(alloc: Global, first: u64) -> Result<Daemon, Fail> {
+fn start(alloc: Global, first: u64) -> Result<Daemon<'static, ChaCha20Rng>, Fail> {
     let classes = Classes::of(&default_settings(alloc)?);
-    let policy = Policy::new(classes, RuleList::new(alloc), TimeZone::UTC, [0; 32]);
+    let rng = ChaCha20Rng::from_seed([0; 32]);
+    let policy = Policy::new(classes, RuleList::new(alloc), TimeZone::UTC, rng);
     Ok(Daemon::start(alloc, policy, first)?)
 }
 
-fn add(rt: &impl Abort, daemon: &mut Daemon, rule: Rule) -> Result<(), Fail> {
-    assert!(rt; daemon.policy.has_place());
-    let policy = &mut daemon.policy;
-    policy.append(rule)?;
+fn add(rt: &impl Abort, daemon: &mut Daemon<'static, ChaCha20Rng>, rule: Rule) -> Result<(), Fail> {
+    assert!(rt; daemon.has_place());
+    daemon.append_rule(rule)?;
     Ok(())
 }
 
-fn notes(daemon: &Daemon, lines: &[&[u8]]) -> bool {
+fn notes(daemon: &Daemon<'static, ChaCha20Rng>, lines: &[&[u8]]) -> bool {
     let entries = daemon.report().entries.as_slice();
     let same = entries
         .iter()

@@ -24,9 +24,9 @@ use Rattle.ug_play.specs.Play.{play, names_somebody, NameNobody}
 use Rattle.ug_play.proofs.Sweeps.{quiet_sweep, nobody_more}
 use Rattle.ug_play.proofs.Still.{lived_in_play}
 use Rattle.ug_core.specs.Event as event
-use Rattle.ug_core.specs.Policy.{Judging, seeded, policy_answer, policy_later}
+use Rattle.ug_core.specs.Policy.{Judging, policy_answer, policy_later}
 use Rattle.ug_core.specs.Verdicts.{IsLater}
-use Rattle.ug_core.specs.Event.{DaemonState, handling, has_numbers}
+use Rattle.ug_core.specs.Event.{DaemonState, handling, has_numbers, with_rule, has_place, with_classes}
 use Rattle.ug_core.specs.Laws.{Handled}
 use Rattle.ug_lines.specs.Fold.{Fault, BadLine, Outcome, Writes, Refused, Stage, Going, Halted, is_within, stage_after, plays}
 use Rattle.ug_script.specs.declared.step.Step.{Step}
@@ -36,7 +36,7 @@ use Rattle.ug_conf.specs.Draft.{Draft, line_read}
 use Rattle.ug_conf.specs.Reader.{next_number}
 use Rattle.ug_core.specs.Settings.{classes_of}
 use Rattle.ug_script.specs.Grammar.{step_of_line}
-use Rattle.ug_script.specs.Replay.{Script, with_rule, header, fresh, terminated, lines_text, quiet, bad, seed_given, policy_of, has_place, is_setting, conf_read, with_classes, with_seed, with_zone, is_offset, with_devices, after_event, taken, taken_if, script_step}
+use Rattle.ug_script.specs.Replay.{Script, header, fresh, terminated, lines_text, quiet, bad, seed_given, policy_of, is_setting, conf_read, with_seed, with_zone, is_offset, with_devices, after_event, taken, taken_if, script_step, seeded}
 use Rattle.ug_sysfs.specs.declared.script.Failing.{Failing}
 use Rattle.ug_sysfs.specs.declared.script.Scheduled.{Scheduled}
 use Rattle.ug_script.specs.Schedule.{with_move, arranged}

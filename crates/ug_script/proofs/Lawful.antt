@@ -29,7 +29,7 @@ use Rattle.ug_play.proofs.Sweeps.{sure_sweep}
 use Rattle.ug_play.proofs.Plays.{play_runs, play_told, play_then}
 use Rattle.ug_core.specs.Event as event
 use Rattle.ug_core.specs.Policy.{Judging, policy_answer, policy_later}
-use Rattle.ug_core.specs.Event.{DaemonState, handling, has_numbers}
+use Rattle.ug_core.specs.Event.{DaemonState, handling, has_numbers, with_rule, has_place}
 use Rattle.ug_core.specs.Laws.{Handled, TellsEvent}
 use Rattle.ug_core.proofs.Failures.{event_tells, event_names}
 use Rattle.ug_lines.specs.Fold.{BadLine, Outcome, Writes, Refused}
@@ -39,7 +39,7 @@ use Rattle.ug_conf.specs.declared.fault.Fault.{Fault}
 use Rattle.ug_conf.specs.Draft.{Draft, line_read}
 use Rattle.ug_conf.specs.Reader.{next_number}
 use Rattle.ug_script.specs.Grammar.{step_of_line}
-use Rattle.ug_script.specs.Replay.{Script, with_rule, header, fresh, quiet, bad, has_place, is_setting, conf_read, with_seed, with_zone, is_offset, with_devices, after_event, taken, taken_if, script_step}
+use Rattle.ug_script.specs.Replay.{Script, header, fresh, quiet, bad, is_setting, conf_read, with_seed, with_zone, is_offset, with_devices, after_event, taken, taken_if, script_step}
 use Rattle.ug_sysfs.specs.declared.script.Scheduled.{Scheduled}
 use Rattle.ug_script.specs.Schedule.{arranged}
 use Rattle.ug_script.specs.Laws.{event_of, Begins, faults_of, IsLawfulEvent}

@@ -25,7 +25,7 @@ use Rattle.ug_table.specs.declared.standing.Standing.{Standing}
 use Rattle.ug_play.specs.Play.{play}
 use Rattle.ug_play.proofs.Plays.{play_runs}
 use Rattle.ug_core.specs.Event as event
-use Rattle.ug_core.specs.Event.{DaemonState, has_numbers, is_low}
+use Rattle.ug_core.specs.Event.{DaemonState, has_numbers, is_low, has_place, with_rule}
 use Rattle.ug_core.specs.Policy.{Judging, policy_answer, policy_later}
 use Rattle.ug_lines.specs.Fold.{BadLine, Outcome, Writes, Refused}
 use Rattle.ug_script.specs.declared.step.Step.{Step}
@@ -34,7 +34,7 @@ use Rattle.ug_conf.specs.declared.fault.Fault.{Fault}
 use Rattle.ug_conf.specs.Draft.{Draft, line_read}
 use Rattle.ug_conf.specs.Reader.{next_number}
 use Rattle.ug_script.specs.Grammar.{step_of_line}
-use Rattle.ug_script.specs.Replay.{Script, header, fresh, quiet, bad, has_place, with_rule, is_setting, conf_read, with_seed, with_zone, is_offset, after_event, taken, taken_if, script_step}
+use Rattle.ug_script.specs.Replay.{Script, header, fresh, quiet, bad, is_setting, conf_read, with_seed, with_zone, is_offset, after_event, taken, taken_if, script_step}
 use Rattle.ug_script.specs.Schedule.{arranged}
 use Rattle.ug_script.specs.Laws.{event_of}
 use Rattle.ug_script.proofs.Lawful.{Holds, HoldsIn, plays_sweep}

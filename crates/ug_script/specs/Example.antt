@@ -11,8 +11,8 @@ use Rattle.ug_sysfs.specs.declared.script.Scheduled.{Scheduled}
 use Rattle.ug_sysfs.specs.Devices.{plugged}
 use Rattle.ug_sysfs.specs.World.{World, begun, over}
 use Rattle.ug_play.specs.Play.{play}
-use Rattle.ug_core.specs.Event.{DaemonState, handling}
-use Rattle.ug_script.specs.Replay.{fresh, with_rule, with_devices}
+use Rattle.ug_core.specs.Event.{DaemonState, handling, with_rule}
+use Rattle.ug_script.specs.Replay.{fresh, with_devices}
 
 -- a device with nothing but its descriptors
 abbrev pub device_of : List ℕ → List ℕ → Device

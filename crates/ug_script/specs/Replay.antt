@@ -1,7 +1,10 @@
 -- What each line of a script writes, and what it leaves.
-use Rattle.std.specs.Prelude.{◌≡◌, ℕ, ◌+◌, ◌-◌, ◌^◌, ℤ, pos, neg_ℤ, ◌+ℤ◌, int_le, unsigned_abs, replicate, Bool, true, false, not, is_none, ◌&&◌, ◌||◌, nat_lt, nat_eq, if◌then◌else◌, List, [], ◌∷◌, ◌++◌, length, codes, decimal, Option, Some, None, Result, Ok, Err, flat_map, find}
+use Rattle.std.specs.Prelude.{◌≡◌, ℕ, ◌+◌, ◌-◌, ℤ, pos, neg_ℤ, ◌+ℤ◌, int_le, unsigned_abs, replicate, Bool, true, false, not, is_none, ◌&&◌, ◌||◌, nat_eq, if◌then◌else◌, List, [], ◌∷◌, ◌++◌, codes, decimal, Option, Some, None, Result, Ok, Err, flat_map, find}
 use Rattle.std.specs.Cmp.Lexicographic.{pointwise}
 use Rattle.std.specs.Int.{int_rem_euclid}
+use Rattle.rand_chacha.specs.ChaCha.{next_word, of_seed}
+use Rattle.rand_core.specs.Steps.{stream_of, steps_u32}
+use Rattle.rand_core.specs.Stream.{Stream}
 use Rattle.ug_types.specs.declared.rule.Rule as types
 use Rattle.ug_types.specs.declared.verdict.Moment.{Moment}
 use Rattle.ug_kernel.specs.declared.device.Device.{Device}
@@ -10,15 +13,13 @@ use Rattle.ug_sysfs.specs.World.{World, begun, over}
 use Rattle.ug_audit.specs.declared.entry.Entry.{Entry}
 use Rattle.ug_audit.specs.Lines.{entry_line}
 use Rattle.ug_play.specs.Play.{play, tells_memory}
-use Rattle.ug_policy.specs.Edits.{new_entry}
 use Rattle.ug_conf.specs.declared.fault.Fault as conf
 use Rattle.ug_conf.specs.Settings.{defaults}
 use Rattle.ug_conf.specs.Draft.{Draft, draft_of, line_read}
 use Rattle.ug_conf.specs.Reader.{Progress, next_number}
-use Rattle.ug_core.specs.declared.classes.Classes.{Classes}
 use Rattle.ug_core.specs.Settings.{classes_of}
-use Rattle.ug_core.specs.Policy.{Judging, as_given, seeded}
-use Rattle.ug_core.specs.Event.{DaemonState, daemon_of, handling, has_numbers}
+use Rattle.ug_core.specs.Policy.{Judging, as_given}
+use Rattle.ug_core.specs.Event.{DaemonState, daemon_of, handling, has_numbers, has_place, with_classes, with_clock, with_rule, with_words}
 use Rattle.ug_lines.specs.Fold.{Outcome, Writes, Refused, BadLine}
 use Rattle.ug_script.specs.declared.runner.Runner.{Runner}
 use Rattle.ug_script.specs.declared.running.Running.{Running}
@@ -53,6 +54,10 @@ runner_state runner = script_in runner.running
 -- the second of the day on a clock that is so many seconds ahead of UTC
 abbrev pub clock_ahead : ℤ → ℕ → ℕ
 clock_ahead offset second = unsigned_abs (int_rem_euclid (pos second +ℤ offset) (pos 86400))
+
+-- the words of ChaCha20 from that seed of 32 bytes
+abbrev pub seeded : List ℕ → Stream
+seeded seed = stream_of (steps_u32 (next_word 10)) (of_seed seed)
 
 -- without a seed, 32 bytes 0
 abbrev pub no_seed : List ℕ
@@ -105,26 +110,9 @@ policy_of s = record {
   stream = seeded (seed_given s.seed);
 }
 
-abbrev pub with_rule : types.Rule → DaemonState → DaemonState
-with_rule rule d = record d {
-  sweep = record d.sweep {
-    judge = record d.sweep.judge {
-      rules = d.sweep.judge.rules ++ new_entry d.sweep.judge.next rule false ∷ [];
-      next = d.sweep.judge.next + 1;
-    };
-  };
-}
-
--- there are fewer than 65,536 rules, and an id is left
-abbrev pub has_place : DaemonState → Bool
-has_place d = nat_lt (length d.sweep.judge.rules) 65536 && nat_lt d.sweep.judge.next (2 ^ 64 - 1)
-
 -- one rule more, while rules may come
 abbrev pub rule_step : types.Rule → Script → World → Outcome (Option Script × World)
 rule_step rule s w = if s.setup && has_place s.daemon then quiet (record s { daemon = with_rule rule s.daemon }) w else bad s w
-
-abbrev pub with_judge : Judging → DaemonState → DaemonState
-with_judge judge d = record d { sweep = record d.sweep { judge = judge } }
 
 -- neither blank nor a comment
 abbrev pub begins_setting : Option ℕ → Bool
@@ -133,10 +121,6 @@ begins_setting (Some b) = not (nat_eq b 35)
 
 abbrev pub is_setting : List ℕ → Bool
 is_setting text = begins_setting (find (λ b. not (nat_eq b 32 || nat_eq b 9)) text)
-
--- verdicts go by these settings
-abbrev pub with_classes : Classes → DaemonState → DaemonState
-with_classes classes d = with_judge (record d.sweep.judge { classes = classes }) d
 
 abbrev pub conf_read : Result Draft conf.Fault → Script → World → Outcome (Option Script × World)
 conf_read (Ok draft) s w = quiet (record s { settings = record { draft = draft; lines = next_number s.settings.lines }; daemon = with_classes (classes_of draft.settings) s.daemon }) w
@@ -148,7 +132,7 @@ conf_taken text s w = if s.setup && is_setting text then conf_read (line_read (n
 
 -- the words are those of that seed
 abbrev pub with_seed : List ℕ → DaemonState → DaemonState
-with_seed seed d = with_judge (record d.sweep.judge { stream = seeded seed }) d
+with_seed seed d = with_words (seeded seed) d
 
 -- at most one seed, while rules may come
 abbrev pub seed_taken : List ℕ → Script → World → Outcome (Option Script × World)
@@ -156,7 +140,7 @@ seed_taken seed s w = if s.setup && is_none s.seed then quiet (record s { seed =
 
 -- the clock is so many seconds ahead of UTC
 abbrev pub with_zone : ℤ → DaemonState → DaemonState
-with_zone offset d = with_judge (record d.sweep.judge { clock = clock_ahead offset }) d
+with_zone offset d = with_clock (clock_ahead offset) d
 
 -- less than a day
 abbrev pub is_offset : ℤ → Bool

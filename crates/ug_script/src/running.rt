@@ -3,7 +3,7 @@ ghost use Rattle.std.specs.Prelude.{◌≡◌, ◌≤◌, ◌&&◌, ◌||◌, �
 ghost use Rattle.ug_types.specs.Ends.{Rose};
 ghost use Rattle.ug_lines.specs.Runs.{Steps};
 ghost use Rattle.ug_play.specs.Play.{IsPlayed};
-ghost use Rattle.ug_core.specs.Event.{daemon_of, handling, has_numbers};
+ghost use Rattle.ug_core.specs.Event.{daemon_of, handling, has_numbers, has_place};
 ghost use Rattle.ug_core.specs.Policy.{clock_of, judging_of};
 ghost use Rattle.ug_conf.specs.Settings.{defaults};
 ghost use Rattle.ug_sysfs.specs.World.{World, begun};
@@ -14,6 +14,8 @@ use crate::schedule::Schedule;
 use crate::step::Step;
 use crate::text::{put, tells_memory, text_of};
 use jiff::tz::{Offset, TimeZone};
+use rand_chacha::ChaCha20Rng;
+use rand_core::{Rng, SeedableRng};
 use std::alloc::Global;
 use ug_conf::{LineFault, Settings, SettingsReader};
 use ug_core::{Classes, Daemon, Event, Policy};
@@ -31,15 +33,16 @@ pub struct Running {
     pub seed: Option<[u8; 32]>,
     pub zoned: bool,
     pub schedule: Schedule,
-    pub daemon: Daemon,
+    pub daemon: Daemon<'static, ChaCha20Rng>,
 }
 
 /// These settings, no rules, the clock of UTC, and the words of a seed of 32 bytes 0.
-fn first_policy(alloc: Global, settings: &Settings) -> Policy
-    ensures { settings.now ≡ defaults → judging_of result ≡ fresh.daemon.sweep.judge }
+fn first_policy(alloc: Global, settings: &Settings) -> Policy<'static, ChaCha20Rng>
+    ensures { settings.now ≡ defaults → judging_of ⟦<ChaCha20Rng as Rng>⟧.stream result ≡ fresh.daemon.sweep.judge }
 {
     let rules = RuleList::new(alloc);
-    Policy::new(Classes::of(settings), rules, zone_ahead(0), [0; 32])
+    let rng = ChaCha20Rng::from_seed([0; 32]);
+    Policy::new(Classes::of(settings), rules, zone_ahead(0), rng)
 }
 
 /// The zone whose clocks are always so many seconds ahead of UTC, less than a day.
@@ -84,7 +87,12 @@ fn refuse(_rule: Rule) -> Ran
 }
 
 /// An event, which the kernel's script fixes unless it is told that memory was wanting.
-fn handle(alloc: Global, daemon: &mut Daemon, moment: Moment, kernel: &mut SimKernel)
+fn handle(
+    alloc: Global,
+    daemon: &mut Daemon<'static, ChaCha20Rng>,
+    moment: Moment,
+    kernel: &mut SimKernel,
+)
     requires { has_numbers (daemon_of daemon.old) kernel.old.faults 0 ≡ true }
     ensures { IsPlayed tells (handling moment (daemon_of daemon.old)) (begun kernel.old) (daemon_of daemon.new) kernel.new }
 {
@@ -108,9 +116,9 @@ impl Running {
     }
 
     fn takes_rules(&self) -> bool
-        ensures { result ≡ (self.now.setup && replay.has_place (daemon_of self.now.daemon)) }
+        ensures { result ≡ (self.now.setup && has_place (daemon_of self.now.daemon)) }
     {
-        self.setup && self.daemon.policy.has_place()
+        self.setup && self.daemon.has_place()
     }
 
     /// Takes a line of settings, and writes nothing.
@@ -124,8 +132,7 @@ impl Running {
         match self.settings.line(text) {
             Ok(()) => {
                 let classes = Classes::of(self.settings.so_far());
-                let daemon = &mut self.daemon;
-                daemon.policy.set_classes(classes);
+                self.daemon.set_classes(classes);
                 Ran::Done
             }
             Err(LineFault::Bad(_)) => Ran::Bad,
@@ -141,8 +148,7 @@ impl Running {
         if !self.takes_rules() {
             return refuse(rule);
         }
-        let daemon = &mut self.daemon;
-        match daemon.policy.append(rule) {
+        match self.daemon.append_rule(rule) {
             Ok(()) => Ran::Done,
             Err(_) => Ran::Memory,
         }
@@ -157,8 +163,7 @@ impl Running {
             return Ran::Bad;
         }
         self.seed = Some(seed);
-        let daemon = &mut self.daemon;
-        daemon.policy.set_seed(seed);
+        self.daemon.set_rng(ChaCha20Rng::from_seed(seed));
         Ran::Done
     }
 
@@ -171,8 +176,7 @@ impl Running {
             return Ran::Bad;
         }
         self.zoned = true;
-        let daemon = &mut self.daemon;
-        daemon.policy.set_zone(zone_ahead(offset));
+        self.daemon.set_zone(zone_ahead(offset));
         Ran::Done
     }
 

@@ -10,7 +10,7 @@ use Rattle.ug_script.proofs.running.Running.sweep.Goals as goal
 
 pub returns-in-Ok-clause-ran : goal.returns-in-Ok-clause-ran
 returns-in-Ok-clause-ran g c =
-    let text : c.as_slice.result.now ≡ lines_text c.handle.new.daemon.report.entries.entries = c.as_slice.ensures.value ∙ c.in-Ok.ensures ∙ ap lines_text (search rules) in
+    let text : c.as_slice.result.now ≡ lines_text (daemon_of c.handle.new.daemon).sweep.entries = c.as_slice.ensures.value ∙ c.in-Ok.ensures ∙ ap lines_text (search rules) in
     let same : c.arrange.new.kernel ≡ arranged c.args.self.now.schedule c.args.kernel.now = search rules in
     let played : IsPlayed tells (handling c.args.moment (daemon_of c.args.self.now.daemon)) (begun (arranged c.args.self.now.schedule c.args.kernel.now)) (daemon_of c.handle.new.daemon) c.handle.new.kernel =
     subst (λ (w : World). IsPlayed tells (handling c.args.moment (daemon_of c.args.self.now.daemon)) (begun w) (daemon_of c.handle.new.daemon) c.handle.new.kernel) same c.handle.ensures in
