@@ -4,13 +4,13 @@ use Rattle.ug_types.specs.Sweep.{in_sweep_order}
 use Rattle.ug_kernel.specs.declared.calls.Listing.{Listing}
 use Rattle.ug_kernel.specs.declared.calls.Listing.TheVariants as listing
 use Rattle.ug_kernel.specs.Calls.{Call, Answer, Names, Told}
-use Rattle.ug_kernel.specs.Kernel.{Kernel, IsKernel}
+use Rattle.ug_kernel.specs.Kernel.{Kernel}
 use Rattle.ug_kernel.specs.Quiet.{Grows}
 use Rattle.ug_kernel.specs.Tree.{Runs, calls}
 use Rattle.ug_kernel.specs.Along.{Made, Along, failure_of}
 use Rattle.ug_kernel.proofs.Grow.{grows_refl, grows_trans}
 use Rattle.ug_kernel.proofs.Runs.{runs_split}
-use Rattle.ug_kernel.proofs.Ways.{ways_run, along_sound, along_grows}
+use Rattle.ug_kernel.proofs.Ways.{ways_run, along_grows}
 use Rattle.ug_node.specs.declared.identity.Bound.{Bound}
 use Rattle.ug_audit.specs.declared.entry.Entry.{Entry}
 use Rattle.ug_audit.specs.declared.entry.Entry.TheVariants as entry
@@ -110,10 +110,6 @@ sweeping_by {S} {J} gives answer later s w t v h = by h.0.answer h.0.number h.0.
     by listing.Memory number count m g r = without_list (record { answer = listing.Memory; number = number; count = count }) fault.Memory m g (refl, refl, refl, refl) r
 
 -- over kernels
-
-pub chain_sound : {J : Type 0} {answer : Answers J} {later : Laters J} {binds present : Bool} {names : List (List ℕ)} {k l : Kernel} {w v : State J} → Chain calls answer later binds present names k w l v → IsKernel k → IsKernel l
-chain_sound (Over s w) sound = sound
-chain_sound (First name names how s u t w x v p c) sound = chain_sound c (along_sound p.made s u sound p.along)
 
 pub chain_grows : {J : Type 0} {answer : Answers J} {later : Laters J} {binds present : Bool} {names : List (List ℕ)} {k l : Kernel} {w v : State J} → Chain calls answer later binds present names k w l v → Grows k l
 chain_grows (Over s w) = grows_refl s

@@ -230,8 +230,7 @@ kept_after k ss next s settled.Stands number absent stand =
       ];
     } in
     (same, marks)
-kept_after k ss next s (settled.Fault failed) number absent stand = (new_same ss next s number absent stand.names stand.order stand.distinct stand.numbers, keeps_itself (with_standing s ss))
-kept_after k ss next s settled.Memory number absent stand = (new_same ss next s number absent stand.names stand.order stand.distinct stand.numbers, keeps_itself (with_standing s ss))
+kept_after k ss next s how number absent stand = (new_same ss next s number absent stand.names stand.order stand.distinct stand.numbers, keeps_itself (with_standing s ss))
 
 bound_device : (name : List ℕ) (k l : Kernel) (b : Bound) (x : IsBound name k l b) → IsDevice l x.i name b.held (judged_of name b.attrs b.parent)
 bound_device name k l b x =

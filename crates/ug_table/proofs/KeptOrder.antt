@@ -34,8 +34,7 @@ keeps_marked name mark ss next o = record {
 pub keeps_tried : (name : List ℕ) (how : Settled) (ss : List Standing) → KeepsOrder ss (tried_standings ss name how)
 keeps_tried name settled.Nobody ss = keeps_filter (λ (s : Standing). not (same_name s.name name)) ss
 keeps_tried name settled.Stands ss = keeps_marked name true ss
-keeps_tried name (settled.Fault failed) ss = keeps_marked name false ss
-keeps_tried name settled.Memory ss = keeps_marked name false ss
+keeps_tried name how ss = keeps_marked name false ss
 
 -- a new one
 order_new : (next : ℕ) (ss : List Standing) (s : Standing) → s.number ≡ next → (Has (names_of ss) s.name → ⊥) → StandInOrder next ss → StandInOrder (next + 1) (with_standing s ss)
@@ -56,8 +55,7 @@ order_new next ss s is absent o =
 pub order_kept : (next : ℕ) (ss : List Standing) (s : Standing) (how : Settled) → s.number ≡ next → standing_of s.name ss ≡ None → StandInOrder next ss → StandInOrder (next + 1) (kept_standings ss s how)
 order_kept next ss s settled.Nobody is none o = record { order = o.order; distinct = o.distinct; numbers = λ t a. let below = o.numbers t a in omega (arith, below) }
 order_kept next ss s settled.Stands is none o = order_new next ss (settled_standing s) is (missing s.name ss none) o
-order_kept next ss s (settled.Fault failed) is none o = order_new next ss s is (missing s.name ss none) o
-order_kept next ss s settled.Memory is none o = order_new next ss s is (missing s.name ss none) o
+order_kept next ss s how is none o = order_new next ss s is (missing s.name ss none) o
 
 pub kept_as : (before made after : List Standing) → after ≡ made → KeepsOrder before made → KeepsOrder before after
 kept_as before made after e k = subst (λ (v : List Standing). KeepsOrder before v) (sym e) k

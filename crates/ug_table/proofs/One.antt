@@ -66,9 +66,7 @@ tells_why name (e ∷ es) last =
 
 told_of : (how : Settled) → told_all (why_of how) ≡ failed_of how
 told_of settled.Stands = refl
-told_of settled.Nobody = refl
-told_of (settled.Fault failed) = refl
-told_of settled.Memory = refl
+told_of how = refl
 
 as_part : {S J : Type 0} (gives : S → (call : Call) → Answer call → S → Type 0) (calls faults : S → ℕ) (counted : Counting gives calls faults) {answer : Answers J} {later : Laters J} {binds present : Bool} {name : List ℕ} {how : Settled} {s t : S} {w v : State J} → Piece gives answer later binds present name how s w t v → GoesAsPart gives calls faults name s w.standings w.entries t v.standings v.entries how
 as_part gives calls faults counted {name = name} {how = how} {s = s} {t = t} {w = w} {v = v} p =

@@ -113,15 +113,11 @@ carried_left files (And_removal ms ns es fs how go v r) = files_join files ms ns
 -- the file of a standing, which is closed where its device is gone
 abbrev ended_files : Settled → ℕ → List OpenFile
 ended_files settled.Nobody held = []
-ended_files settled.Stands held = open_file held Authorized ∷ []
-ended_files (settled.Fault failed) held = open_file held Authorized ∷ []
-ended_files settled.Memory held = open_file held Authorized ∷ []
+ended_files how held = open_file held Authorized ∷ []
 
 still_open : (how : Settled) (held : ℕ) → (how ≡ settled.Nobody → ⊥) → open_file held Authorized ∷ [] ≡ ended_files how held
 still_open settled.Nobody held n = absurd (n refl)
-still_open settled.Stands held n = refl
-still_open (settled.Fault failed) held n = refl
-still_open settled.Memory held n = refl
+still_open how held n = refl
 
 brought_left : {name : List ℕ} {known : Known} {on : Bool} {ms : List Made} {es : List Entry} {how : Settled} → Brought name known on ms es how → files_after (open_file known.held.0 Authorized ∷ []) ms ≡ ended_files how known.held.0
 brought_left {known = known} (Left_open ms es how c n) = carried_left (open_file known.held.0 Authorized ∷ []) c ∙ still_open how known.held.0 n
@@ -144,15 +140,11 @@ opening_left {name} {ss} (Lost known failed shut e) = record {
 
 tried_files : (name : List ℕ) (ss : List Standing) (how : Settled) (known : Known) → standing_of name ss ≡ Some known → ended_files how known.held.0 ≡ known_files (standing_of name (tried_standings ss name how))
 tried_files name ss settled.Nobody known e = sym (ap known_files (without_own name ss))
-tried_files name ss settled.Stands known e = sym (stands_file _ known.number known.held (tried_own name ss settled.Stands known e (λ s. let none : ⊥ = cc in none)))
-tried_files name ss (settled.Fault failed) known e = sym (stands_file _ known.number known.held (tried_own name ss (settled.Fault failed) known e (λ s. let none : ⊥ = cc in none)))
-tried_files name ss settled.Memory known e = sym (stands_file _ known.number known.held (tried_own name ss settled.Memory known e (λ s. let none : ⊥ = cc in none)))
+tried_files name ss how known e = sym (stands_file _ known.number known.held (tried_own name ss how known e (λ s. let none : ⊥ = cc in none)))
 
 kept_files : (name : List ℕ) (ss : List Standing) (x : Standing) (how : Settled) → x.name ≡ name → standing_of name ss ≡ None → ended_files how x.held.0 ≡ known_files (standing_of name (kept_standings ss x how))
 kept_files name ss x settled.Nobody e n = sym (ap known_files n)
-kept_files name ss x settled.Stands e n = sym (stands_file _ x.number x.held (kept_own name ss x settled.Stands e n (λ s. let none : ⊥ = cc in none)))
-kept_files name ss x (settled.Fault failed) e n = sym (stands_file _ x.number x.held (kept_own name ss x (settled.Fault failed) e n (λ s. let none : ⊥ = cc in none)))
-kept_files name ss x settled.Memory e n = sym (stands_file _ x.number x.held (kept_own name ss x settled.Memory e n (λ s. let none : ⊥ = cc in none)))
+kept_files name ss x how e n = sym (stands_file _ x.number x.held (kept_own name ss x how e n (λ s. let none : ⊥ = cc in none)))
 
 unbound_files : {name : List ℕ} {r : Binding} {es : List Entry} {how : Settled} → Unbound_end name r es how → binding_files r [] ≡ []
 unbound_files Absent_so = refl
@@ -188,17 +180,12 @@ numbers_more a b c (entry.Judged number n held verdict cause ∷ es) fs h k = (h
 numbers_more a b c (entry.Intent number n what ∷ es) fs h k = (h.0, numbers_more a b c es fs h.1 k)
 numbers_more a b c (entry.Wrote number n what outcome ∷ es) fs h k = (h.0, numbers_more a b c es fs h.1 k)
 numbers_more a b c (entry.Gone number n ∷ es) fs h k = (h.0, numbers_more None b c es fs h.1 k)
-numbers_more a b c (entry.Unsettled n why ∷ es) fs h k = numbers_more a b c es fs h k
-numbers_more a b c (entry.UnsettledAll why ∷ es) fs h k = numbers_more a b c es fs h k
-numbers_more a b c (entry.Event number moment ∷ es) fs h k = numbers_more a b c es fs h k
-numbers_more a b c (entry.End number ∷ es) fs h k = numbers_more a b c es fs h k
+numbers_more a b c (e ∷ es) fs h k = numbers_more a b c es fs h k
 
 -- the number of a standing, which ends where its device is gone
 abbrev ended_number : Settled → ℕ → Option ℕ
 ended_number settled.Nobody number = None
-ended_number settled.Stands number = Some number
-ended_number (settled.Fault failed) number = Some number
-ended_number settled.Memory number = Some number
+ended_number how number = Some number
 
 written_numbers : {name : List ℕ} {number : ℕ} {what : Write} {t : Told Wrote} {es : List Entry} {how : Settled} → Written name number what t es how → AreOfNumber (Some number) es (ended_number how number)
 written_numbers (Done failed) = (refl, (refl, refl))
@@ -232,15 +219,11 @@ opening_numbers (Lost known failed shut e) = (ap number_of e, refl)
 
 tried_number : (name : List ℕ) (ss : List Standing) (how : Settled) (known : Known) → standing_of name ss ≡ Some known → ended_number how known.number ≡ number_of (standing_of name (tried_standings ss name how))
 tried_number name ss settled.Nobody known e = sym (ap number_of (without_own name ss))
-tried_number name ss settled.Stands known e = sym (stands_number _ known.number known.held (tried_own name ss settled.Stands known e (λ s. let none : ⊥ = cc in none)))
-tried_number name ss (settled.Fault failed) known e = sym (stands_number _ known.number known.held (tried_own name ss (settled.Fault failed) known e (λ s. let none : ⊥ = cc in none)))
-tried_number name ss settled.Memory known e = sym (stands_number _ known.number known.held (tried_own name ss settled.Memory known e (λ s. let none : ⊥ = cc in none)))
+tried_number name ss how known e = sym (stands_number _ known.number known.held (tried_own name ss how known e (λ s. let none : ⊥ = cc in none)))
 
 kept_number : (name : List ℕ) (ss : List Standing) (x : Standing) (how : Settled) → x.name ≡ name → standing_of name ss ≡ None → ended_number how x.number ≡ number_of (standing_of name (kept_standings ss x how))
 kept_number name ss x settled.Nobody e n = sym (ap number_of n)
-kept_number name ss x settled.Stands e n = sym (stands_number _ x.number x.held (kept_own name ss x settled.Stands e n (λ s. let none : ⊥ = cc in none)))
-kept_number name ss x (settled.Fault failed) e n = sym (stands_number _ x.number x.held (kept_own name ss x (settled.Fault failed) e n (λ s. let none : ⊥ = cc in none)))
-kept_number name ss x settled.Memory e n = sym (stands_number _ x.number x.held (kept_own name ss x settled.Memory e n (λ s. let none : ⊥ = cc in none)))
+kept_number name ss x how e n = sym (stands_number _ x.number x.held (kept_own name ss x how e n (λ s. let none : ⊥ = cc in none)))
 
 unbound_numbers : {name : List ℕ} {r : Binding} {es : List Entry} {how : Settled} → Unbound_end name r es how → AreOfNumber None es None
 unbound_numbers Absent_so = refl

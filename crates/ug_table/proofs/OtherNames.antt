@@ -68,11 +68,9 @@ with_stand other x ss e =
 pub kept_stand : (name : List ℕ) (ss : List Standing) (x : Standing) (how : Settled) → x.name ≡ name → OthersStand name ss (kept_standings ss x how)
 kept_stand name ss x settled.Nobody e = λ other n. refl
 kept_stand name ss x settled.Stands e = λ other n. with_stand other (settled_standing x) ss (not_named name other x e n)
-kept_stand name ss x (settled.Fault failed) e = λ other n. with_stand other x ss (not_named name other x e n)
-kept_stand name ss x settled.Memory e = λ other n. with_stand other x ss (not_named name other x e n)
+kept_stand name ss x how e = λ other n. with_stand other x ss (not_named name other x e n)
 
 pub tried_stand : (name : List ℕ) (ss : List Standing) (how : Settled) → OthersStand name ss (tried_standings ss name how)
 tried_stand name ss settled.Nobody = λ other n. without_stand name other ss n
 tried_stand name ss settled.Stands = λ other n. marked_stand name other true ss n
-tried_stand name ss (settled.Fault failed) = λ other n. marked_stand name other false ss n
-tried_stand name ss settled.Memory = λ other n. marked_stand name other false ss n
+tried_stand name ss how = λ other n. marked_stand name other false ss n

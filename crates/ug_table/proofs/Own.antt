@@ -57,9 +57,6 @@ NamedSince es fs name = (rest : List Entry) × (fs ≡ es ++ rest) × IsNamed re
 pub named_before : (es fs gs : List Entry) (name : List ℕ) → Appends es fs → NamedSince fs gs name → NamedSince es gs name
 named_before es fs gs name a h = (a.0 ++ h.0, h.1 ∙ ap (λ v. v ++ h.0) a.1 ∙ append_assoc es a.0 h.0, (h.2.0, has_right a.0 h.0 (entry.Unsettled name h.2.0) h.2.1))
 
-pub named_after : (es fs gs : List Entry) (name : List ℕ) → NamedSince es fs name → Appends fs gs → NamedSince es gs name
-named_after es fs gs name h a = (h.0 ++ a.0, a.1 ∙ ap (λ v. v ++ a.0) h.1 ∙ append_assoc es h.0 a.0, (h.2.0, has_left h.0 a.0 (entry.Unsettled name h.2.0) h.2.1))
-
 -- the device has a standing and the value that its verdict wants, and where it is rejected it is marked as removed
 pub record StandsSo (k : Kernel) (ss : List Standing) (i : ℕ) : Type 0 where
   pub standing : HasStanding k ss i

@@ -45,8 +45,7 @@ without_own name (s ∷ ss) = without_by name s ss (same_name s.name name) refl 
 pub tried_own : (name : List ℕ) (ss : List Standing) (how : Settled) (known : Known) → standing_of name ss ≡ Some known → (how ≡ settled.Nobody → ⊥) → StandsAs known.number known.held (standing_of name (tried_standings ss name how))
 tried_own name ss settled.Nobody known e n = absurd (n refl)
 tried_own name ss settled.Stands known e n = marked_own name true ss known e
-tried_own name ss (settled.Fault failed) known e n = marked_own name false ss known e
-tried_own name ss settled.Memory known e n = marked_own name false ss known e
+tried_own name ss how known e n = marked_own name false ss known e
 
 -- a new one
 
@@ -66,5 +65,4 @@ with_own name x ss e n =
 pub kept_own : (name : List ℕ) (ss : List Standing) (x : Standing) (how : Settled) → x.name ≡ name → standing_of name ss ≡ None → (how ≡ settled.Nobody → ⊥) → StandsAs x.number x.held (standing_of name (kept_standings ss x how))
 kept_own name ss x settled.Nobody e none n = absurd (n refl)
 kept_own name ss x settled.Stands e none n = (known_of (settled_standing x), with_own name (settled_standing x) ss e none, refl, refl)
-kept_own name ss x (settled.Fault failed) e none n = (known_of x, with_own name x ss e none, refl, refl)
-kept_own name ss x settled.Memory e none n = (known_of x, with_own name x ss e none, refl, refl)
+kept_own name ss x how e none n = (known_of x, with_own name x ss e none, refl, refl)

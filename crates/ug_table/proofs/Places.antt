@@ -34,8 +34,7 @@ files_later k l ss g f s a = open_later k l s.name s.held.0 g (f s a)
 pub kept_has : (ss : List Standing) (x : Standing) (how : Settled) (s : Standing) → Has ss s → Has (kept_standings ss x how) s
 kept_has ss x settled.Nobody s h = h
 kept_has ss x settled.Stands s h = has_old ss (place_for x.name ss) (settled_standing x) s h
-kept_has ss x (settled.Fault failed) s h = has_old ss (place_for x.name ss) x s h
-kept_has ss x settled.Memory s h = has_old ss (place_for x.name ss) x s h
+kept_has ss x how s h = has_old ss (place_for x.name ss) x s h
 
 with_files : (k : Kernel) (ss : List Standing) (x : Standing) → Files k ss → IsOpen k x.name x.held.0 → Files k (with_standing x ss)
 with_files k ss x f o s a = elim (insert_has ss (place_for x.name ss) x s a) [
@@ -46,8 +45,7 @@ with_files k ss x f o s a = elim (insert_has ss (place_for x.name ss) x s a) [
 pub kept_files : (k : Kernel) (ss : List Standing) (x : Standing) (how : Settled) → Files k ss → IsOpen k x.name x.held.0 → Files k (kept_standings ss x how)
 kept_files k ss x settled.Nobody f o = f
 kept_files k ss x settled.Stands f o = with_files k ss (settled_standing x) f o
-kept_files k ss x (settled.Fault failed) f o = with_files k ss x f o
-kept_files k ss x settled.Memory f o = with_files k ss x f o
+kept_files k ss x how f o = with_files k ss x f o
 
 -- a rejected one is marked as removed
 abbrev pub IsRemovedIf : Standing → Type 0
@@ -67,8 +65,7 @@ marked_has ss name b s h ne = subst (λ (v : Standing). Has (map (marked name b)
 pub tried_has : (ss : List Standing) (name : List ℕ) (how : Settled) (s : Standing) → Has ss s → (s.name ≡ name → ⊥) → Has (tried_standings ss name how) s
 tried_has ss name settled.Nobody s h ne = has_filter (λ (v : Standing). not (same_name v.name name)) ss s h (ap not (other_test s.name name ne))
 tried_has ss name settled.Stands s h ne = marked_has ss name true s h ne
-tried_has ss name (settled.Fault failed) s h ne = marked_has ss name false s h ne
-tried_has ss name settled.Memory s h ne = marked_has ss name false s h ne
+tried_has ss name how s h ne = marked_has ss name false s h ne
 
 -- each was there
 abbrev pub Was : List Standing → Standing → Type 0
@@ -80,8 +77,7 @@ marked_was ss name b s h = let m = map_has (marked name b) ss s h in (m.0, m.1, 
 pub tried_was : (ss : List Standing) (name : List ℕ) (how : Settled) (s : Standing) → Has (tried_standings ss name how) s → Was ss s
 tried_was ss name settled.Nobody s h = (s, (filter_has (λ (v : Standing). not (same_name v.name name)) ss s h).0, refl, refl)
 tried_was ss name settled.Stands s h = marked_was ss name true s h
-tried_was ss name (settled.Fault failed) s h = marked_was ss name false s h
-tried_was ss name settled.Memory s h = marked_was ss name false s h
+tried_was ss name how s h = marked_was ss name false s h
 
 pub tried_files : (k : Kernel) (ss : List Standing) (name : List ℕ) (how : Settled) → Files k ss → Files k (tried_standings ss name how)
 tried_files k ss name how f s a =

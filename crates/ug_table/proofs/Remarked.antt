@@ -142,8 +142,7 @@ without_leaves test name ss how named = record {
 tried_leaves : (test : Test) (name : List ℕ) (ss : List Standing) (how : Settled) → AllDistinct (numbers_of ss) → AreNamed test name ss → LeavesMarks (own test) ss (tried_standings ss name how) how
 tried_leaves test name ss settled.Nobody distinct named = without_leaves test name ss settled.Nobody named
 tried_leaves test name ss settled.Stands distinct named = marked_leaves test name ss true settled.Stands refl distinct named
-tried_leaves test name ss (settled.Fault failed) distinct named = marked_leaves test name ss false (settled.Fault failed) refl distinct named
-tried_leaves test name ss settled.Memory distinct named = marked_leaves test name ss false settled.Memory refl distinct named
+tried_leaves test name ss how distinct named = marked_leaves test name ss false how refl distinct named
 
 -- a name
 
@@ -185,8 +184,7 @@ kept_leaves name ss rs x settled.Nobody named fresh stays none rest absent = rec
   removed = λ s a o. absurd (own_missing name rs s absent a o);
 }
 kept_leaves name ss rs x settled.Stands named fresh stays none rest absent = with_leaves name ss rs (settled_standing x) settled.Stands named rest absent refl (ap (λ (v : Bool). v || is_reject x.verdict) (stays ∙ sym none))
-kept_leaves name ss rs x (settled.Fault failed) named fresh stays none rest absent = with_leaves name ss rs x (settled.Fault failed) named rest absent fresh (stays ∙ sym (ap (λ (v : Bool). v || false) none))
-kept_leaves name ss rs x settled.Memory named fresh stays none rest absent = with_leaves name ss rs x settled.Memory named rest absent fresh (stays ∙ sym (ap (λ (v : Bool). v || false) none))
+kept_leaves name ss rs x how named fresh stays none rest absent = with_leaves name ss rs x how named rest absent fresh (stays ∙ sym (ap (λ (v : Bool). v || false) none))
 
 next_stood : (next : ℕ) (ss : List Standing) → StandInOrder next ss → stood_removed next ss ≡ false
 next_stood next ss o = none_stood next ss (λ a.

@@ -187,8 +187,7 @@ then_went {J} {answer} {later} {present} {tried} {k} {m} {w} {u} x rs has less g
 abbrev pub After : Standing → List Standing → Settled → List Standing → Type 0
 After x ss settled.Nobody rs = Less x ss rs
 After x ss settled.Stands rs = Same ss rs × Marks x ss rs
-After x ss (settled.Fault failed) rs = Same ss rs × KeepMarks ss rs
-After x ss settled.Memory rs = Same ss rs × KeepMarks ss rs
+After x ss how rs = Same ss rs × KeepMarks ss rs
 
 marked_same : (k : Kernel) (ss : List Standing) (next : ℕ) (name : List ℕ) (mark : Bool) → Stand k ss next → Same ss (map (marked name mark) ss)
 marked_same k ss next name mark stand = record {
@@ -253,5 +252,4 @@ without_less k ss next name x has named stand = record {
 pub tried_after : (k : Kernel) (ss : List Standing) (next : ℕ) (name : List ℕ) (x : Standing) (how : Settled) → Has ss x → x.name ≡ name → Stand k ss next → After x ss how (tried_standings ss name how)
 tried_after k ss next name x settled.Nobody has named stand = without_less k ss next name x has named stand
 tried_after k ss next name x settled.Stands has named stand = (marked_same k ss next name true stand, settled_marks k ss next name x has named stand)
-tried_after k ss next name x (settled.Fault failed) has named stand = (marked_same k ss next name false stand, unsettled_marks ss name)
-tried_after k ss next name x settled.Memory has named stand = (marked_same k ss next name false stand, unsettled_marks ss name)
+tried_after k ss next name x how has named stand = (marked_same k ss next name false stand, unsettled_marks ss name)

@@ -116,9 +116,8 @@ why_named name (x ∷ es) why h e = let k = why_named name es why h.1 e in (k.0,
 -- what the entries say of a name, by how it was settled
 abbrev Tells : Settled → List ℕ → List Entry → Type 0
 Tells settled.Stands name rest = IsNamed rest name → ⊥
-Tells (settled.Fault failed) name rest = IsNamed rest name
 Tells settled.Nobody name rest = Unit {0}
-Tells settled.Memory name rest = IsNamed rest name
+Tells how name rest = IsNamed rest name
 
 tells_how : (how : Settled) (name : List ℕ) (es : List Entry) → EndsUnsettled name es → whys es ≡ why_of how → Tells how name es
 tells_how settled.Stands name es h e = unnamed es name e
@@ -155,8 +154,7 @@ new_others ss x s a ne = elim (insert_has ss (place_for x.name ss) x s a) [
 kept_others : (ss : List Standing) (x : Standing) (how : Settled) (s : Standing) → Has (kept_standings ss x how) s → (s.name ≡ x.name → ⊥) → Has ss s
 kept_others ss x settled.Nobody s a ne = a
 kept_others ss x settled.Stands s a ne = new_others ss (settled_standing x) s a ne
-kept_others ss x (settled.Fault failed) s a ne = new_others ss x s a ne
-kept_others ss x settled.Memory s a ne = new_others ss x s a ne
+kept_others ss x how s a ne = new_others ss x s a ne
 
 new_mark : (ss : List Standing) (x s : Standing) (rest : List Entry) → (Has (names_of ss) x.name → ⊥) → IsMarked rest x → Has (with_standing x ss) s → s.name ≡ x.name → IsMarked rest s
 new_mark ss x s rest absent m a e = elim (insert_has ss (place_for x.name ss) x s a) [
@@ -167,8 +165,7 @@ new_mark ss x s rest absent m a e = elim (insert_has ss (place_for x.name ss) x 
 kept_mark : (ss : List Standing) (x : Standing) (how : Settled) (rest : List Entry) (s : Standing) → (Has (names_of ss) x.name → ⊥) → x.settled ≡ false → Tells how x.name rest → Has (kept_standings ss x how) s → s.name ≡ x.name → IsMarked rest s
 kept_mark ss x settled.Nobody rest s absent f t a e = absurd (absent (subst (λ (v : List ℕ). Has (names_of ss) v) e (has_map (λ (v : Standing). v.name) ss s a)))
 kept_mark ss x settled.Stands rest s absent f t a e = new_mark ss (settled_standing x) s rest absent (inl (refl, t)) a e
-kept_mark ss x (settled.Fault failed) rest s absent f t a e = new_mark ss x s rest absent (inr (f, t)) a e
-kept_mark ss x settled.Memory rest s absent f t a e = new_mark ss x s rest absent (inr (f, t)) a e
+kept_mark ss x how rest s absent f t a e = new_mark ss x s rest absent (inr (f, t)) a e
 
 -- a standing that is tried again
 
@@ -181,8 +178,7 @@ marked_others ss name b s a ne =
 tried_others : (ss : List Standing) (name : List ℕ) (how : Settled) (s : Standing) → Has (tried_standings ss name how) s → (s.name ≡ name → ⊥) → Has ss s
 tried_others ss name settled.Nobody s a ne = (filter_has (λ (v : Standing). not (same_name v.name name)) ss s a).0
 tried_others ss name settled.Stands s a ne = marked_others ss name true s a ne
-tried_others ss name (settled.Fault failed) s a ne = marked_others ss name false s a ne
-tried_others ss name settled.Memory s a ne = marked_others ss name false s a ne
+tried_others ss name how s a ne = marked_others ss name false s a ne
 
 marked_mark : (ss : List Standing) (name : List ℕ) (b : Bool) (s : Standing) → Has (map (marked name b) ss) s → s.name ≡ name → s.settled ≡ b
 marked_mark ss name b s a e =
@@ -193,8 +189,7 @@ marked_mark ss name b s a e =
 tried_mark : (ss : List Standing) (name : List ℕ) (how : Settled) (rest : List Entry) (s : Standing) → Tells how name rest → Has (tried_standings ss name how) s → s.name ≡ name → IsMarked rest s
 tried_mark ss name settled.Nobody rest s t a e = absurd (missing_without name ss (subst (λ (v : List ℕ). Has (names_of (without name ss)) v) e (has_map (λ (v : Standing). v.name) (without name ss) s a)))
 tried_mark ss name settled.Stands rest s t a e = inl (marked_mark ss name true s a e, subst (λ (v : List ℕ). IsNamed rest v → ⊥) (sym e) t)
-tried_mark ss name (settled.Fault failed) rest s t a e = inr (marked_mark ss name false s a e, subst (λ (v : List ℕ). IsNamed rest v) (sym e) t)
-tried_mark ss name settled.Memory rest s t a e = inr (marked_mark ss name false s a e, subst (λ (v : List ℕ). IsNamed rest v) (sym e) t)
+tried_mark ss name how rest s t a e = inr (marked_mark ss name false s a e, subst (λ (v : List ℕ). IsNamed rest v) (sym e) t)
 
 -- before a binding, no standing of the name is left
 pub record Opens (name : List ℕ) (ss : List Standing) (rs : List Standing) : Type 0 where
@@ -245,27 +240,19 @@ piece_part {w = w} {v = v} p = (flat_part w.entries v.entries p.entries p.flat, 
 
 kept_stands : (ss : List Standing) (x : Standing) (how : Settled) → how ≡ settled.Stands → Has (names_of (kept_standings ss x how)) x.name
 kept_stands ss x settled.Stands e = has_map (λ (v : Standing). v.name) (with_standing (settled_standing x) ss) (settled_standing x) (has_new ss (place_for x.name ss) (settled_standing x))
-kept_stands ss x settled.Nobody e = let none : ⊥ = cc in absurd none
-kept_stands ss x (settled.Fault failed) e = let none : ⊥ = cc in absurd none
-kept_stands ss x settled.Memory e = let none : ⊥ = cc in absurd none
+kept_stands ss x how e = let none : ⊥ = cc in absurd none
 
 kept_nobody : (ss : List Standing) (x : Standing) (how : Settled) (name : List ℕ) → (Has (names_of ss) name → ⊥) → how ≡ settled.Nobody → Has (names_of (kept_standings ss x how)) name → ⊥
 kept_nobody ss x settled.Nobody name absent e = absent
-kept_nobody ss x settled.Stands name absent e = let none : ⊥ = cc in absurd none
-kept_nobody ss x (settled.Fault failed) name absent e = let none : ⊥ = cc in absurd none
-kept_nobody ss x settled.Memory name absent e = let none : ⊥ = cc in absurd none
+kept_nobody ss x how name absent e = let none : ⊥ = cc in absurd none
 
 tried_stands : (ss : List Standing) (name : List ℕ) (how : Settled) → Has (names_of ss) name → how ≡ settled.Stands → Has (names_of (tried_standings ss name how)) name
 tried_stands ss name settled.Stands a e = subst (λ (v : List (List ℕ)). Has v name) (sym (names_marked name true ss)) a
-tried_stands ss name settled.Nobody a e = let none : ⊥ = cc in absurd none
-tried_stands ss name (settled.Fault failed) a e = let none : ⊥ = cc in absurd none
-tried_stands ss name settled.Memory a e = let none : ⊥ = cc in absurd none
+tried_stands ss name how a e = let none : ⊥ = cc in absurd none
 
 tried_nobody : (ss : List Standing) (name : List ℕ) (how : Settled) → how ≡ settled.Nobody → Has (names_of (tried_standings ss name how)) name → ⊥
 tried_nobody ss name settled.Nobody e = missing_without name ss
-tried_nobody ss name settled.Stands e = let none : ⊥ = cc in absurd none
-tried_nobody ss name (settled.Fault failed) e = let none : ⊥ = cc in absurd none
-tried_nobody ss name settled.Memory e = let none : ⊥ = cc in absurd none
+tried_nobody ss name how e = let none : ⊥ = cc in absurd none
 
 known_has : (name : List ℕ) (ss : List Standing) (known : Known) → standing_of name ss ≡ Some known → Has (names_of ss) name
 known_has name ss known e =

@@ -101,9 +101,7 @@ Afters ss s after = (how : Settled) → After s ss how (after how)
 
 abbrev mid : {J : Type 0} → State J → (Settled → List Standing) → Settled → List Standing
 mid w after settled.Stands = w.standings
-mid w after settled.Nobody = after settled.Nobody
-mid w after (settled.Fault failed) = after (settled.Fault failed)
-mid w after settled.Memory = after settled.Memory
+mid w after how = after how
 
 abbrev more : {J : Type 0} → State J → List Standing → List Entry → State J
 more w ss es = record w { standings = ss; entries = w.entries ++ es }
@@ -247,9 +245,7 @@ removal_fair {m = m} {u = u} l s after (Put_on ms file t shut es how way v) go h
 
 only_value : {J : Type 0} {answer : Answers J} {later : Laters J} {present : Bool} {tried : Tries} {k l : Kernel} {w : State J} (u : State J) (s : Standing) (after : Settled → List Standing) (how : Settled) (es : List Entry) → (how ≡ settled.Stands → is_to_go (known_of s) ≡ false) → Has u.standings s → Afters u.standings s after → FairFrom answer later present tried k w l (more u (mid u after how) es) → FairFrom answer later present tried k w l (more u (after how) es)
 only_value u s after settled.Stands es f has a h = let stands = a settled.Stands in then_same (after settled.Stands) stands.0 (marks_keep u.standings (after settled.Stands) s has (removed_if (is_reject s.verdict) s.removed (f refl)) stands.1) h
-only_value u s after settled.Nobody es f has a h = h
-only_value u s after (settled.Fault failed) es f has a h = h
-only_value u s after settled.Memory es f has a h = h
+only_value u s after how es f has a h = h
 
 carried_fair : {J : Type 0} {answer : Answers J} {later : Laters J} {present : Bool} {tried : Tries} {k m : Kernel} {w u : State J} {on : Bool} {ms : List Made} {es : List Entry} {how : Settled} (l : Kernel) (s : Standing) (after : Settled → List Standing) → Carried s.name (known_of s) on ms es how → Has u.standings s → ((how : Settled) → After s u.standings how (after how)) → FairFrom answer later present tried k w m u → Along calls m ms l → FairFrom answer later present tried k w l (record u { standings = after how; entries = u.entries ++ es })
 carried_fair {u = u} l s after (By_value ms es how v f) has a h along = only_value u s after how es f has a (valued_fair l s after v has a h along)
