@@ -25,9 +25,8 @@ use Rattle.ug_table.specs.declared.standing.Settled.{Settled}
 use Rattle.ug_table.proofs.OnePart.{told_more, flat_is_part}
 use Rattle.ug_table.proofs.Shapes.{told_at, Settles, settles, Resettles, resettles}
 use Rattle.ug_play.specs.Play.{play, is_memory, tells_memory, TellsMemory, IsPlayed, names_somebody, NameNobody}
-use Rattle.ug_play.proofs.Answers.{has_want, play_way}
-use Rattle.ug_play.proofs.Wants.{refused, want_more, memory_more, flat_want}
-use Rattle.ug_play.proofs.Played.{TellsWant, played}
+use Rattle.ug_play.proofs.Answers.{has_want, refused, play_way, TellsWant, played}
+use Rattle.ug_play.proofs.Wants.{want_more, memory_more, flat_want}
 
 -- entries that are added tell want of memory just where memory was refused, and the failed calls
 pub record Sums (es : List Entry) (ok : Bool) (ms : List Made) (fs : List Entry) : Type 0 where

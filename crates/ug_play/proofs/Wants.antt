@@ -1,5 +1,5 @@
 -- What a name's part tells of want of memory: it tells it just where memory was refused in it.
-use Rattle.std.proofs.Common.{◌≡◌, ℕ, Bool, true, false, not, ◌||◌, List, [], ◌∷◌, ◌++◌, Option, refl, sym, ◌∙◌, ap}
+use Rattle.std.proofs.Common.{◌≡◌, ℕ, Bool, true, false, ◌||◌, List, [], ◌∷◌, ◌++◌, Option, refl, sym, ◌∙◌, ap}
 use Rattle.std.proofs.lemmas.List.Folds.{list_any-append}
 use Rattle.ug_kernel.specs.declared.calls.ReadOut.{ReadOut}
 use Rattle.ug_kernel.specs.declared.calls.ReadOut.TheVariants as out
@@ -21,11 +21,7 @@ use Rattle.ug_table.specs.declared.standing.Known.{Known}
 use Rattle.ug_table.specs.declared.standing.Settled.{Settled}
 use Rattle.ug_table.proofs.Shapes.{Written, Done, Went, Broke, Valued, Same, Set, Unheld, Gone_by, Failed_by, Short_by, Removal, Not_held, Put_on, Carried, By_value, And_removal, Brought, Left_open, Let_go, Opening, Fresh, Lost, Unbound_end, Absent_so, Vanished_so, Failed_so, Short_so, Flat, Unprobed, Tried, Stopped, Unbound, No_place, Judged_so}
 use Rattle.ug_play.specs.Play.{entry_tells_memory, tells_memory}
-use Rattle.ug_play.proofs.Answers.{short_read, is_want, has_want}
-
--- memory was refused on a way
-abbrev pub refused : Bool → List Made → Bool
-refused ok ms = not ok || has_want ms
+use Rattle.ug_play.proofs.Answers.{short_read, is_want, has_want, refused}
 
 pub want_more : (ms ns : List Made) → has_want (ms ++ ns) ≡ (has_want ms || has_want ns)
 want_more ms ns = list_any-append (λ (m : Made). is_want m.call m.answer) ms ns
@@ -58,11 +54,8 @@ reads_sure No_more = refl
 reads_sure (Then_read of at t ms may came r) = ap (λ (b : Bool). b || has_want ms) (came_sure t.answer came) ∙ reads_sure r
 
 abbrev short_binding : Binding → Bool
-short_binding (bound.Bound b) = false
-short_binding bound.Absent = false
-short_binding bound.Vanished = false
-short_binding (bound.Failed failed) = false
 short_binding bound.Memory = true
+short_binding answer = false
 
 stop_want : {at : _} {t : Told ReadOut} {why : Stop} (of : List ℕ) (file : ℕ) (shut : Closing) → Stops at t why → has_want (answered (Read of at) t ∷ answered (Close file) shut ∷ []) ≡ short_binding (binding_of why)
 stop_want of file shut (No_descriptors call count) = refl
@@ -79,10 +72,8 @@ binds_want (Probe_failed file call count number total ms shut a few) = behind_su
 binds_want (Bound_by call count number total ms b a few are) = behind_sure ms _ (reads_sure a)
 
 abbrev short_hold : RemoveHold → Bool
-short_hold (hold.Ready file) = false
-short_hold hold.Gone = false
-short_hold (hold.Failed failed) = false
 short_hold hold.Memory = true
+short_hold answer = false
 
 holds_want : {name : List ℕ} {held : ℕ} {ms : List Made} {r : RemoveHold} → Holds_by name held ms r → has_want ms ≡ short_hold r
 holds_want (Not_there call count) = refl
