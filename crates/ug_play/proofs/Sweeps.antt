@@ -6,11 +6,11 @@ use Rattle.ug_types.specs.Sweep.{in_sweep_order}
 use Rattle.ug_types.specs.declared.verdict.Held.{Held}
 use Rattle.ug_kernel.specs.declared.calls.Listing.{Listing}
 use Rattle.ug_kernel.specs.declared.calls.Listing.TheVariants as listing
-use Rattle.ug_kernel.specs.Calls.{Names, Close}
-use Rattle.ug_kernel.specs.Tree.{Prog, Return, Ask, Runs, then}
+use Rattle.ug_kernel.specs.Calls.{Names}
+use Rattle.ug_kernel.specs.Tree.{Prog, Return, Runs, then}
 use Rattle.ug_kernel.specs.declared.calls.FailedCall.{FailedCall}
 use Rattle.ug_kernel.specs.Along.{Made, answered, failure_of, failure, failures}
-use Rattle.ug_kernel.proofs.Ways.{Ways, Sure, ways_more, ways_next, ways_last, behind_sure, failures_more}
+use Rattle.ug_kernel.proofs.Ways.{Ways, ways_more, ways_next, ways_last, behind_sure, failures_more}
 use Rattle.ug_sysfs.specs.World.{World, Gives}
 use Rattle.ug_audit.specs.declared.entry.Entry.{Entry}
 use Rattle.ug_audit.specs.declared.entry.Entry.TheVariants as entry
