@@ -3,13 +3,14 @@ use Rattle.std.proofs.Common.{◌≡◌, ℕ, Bool, true, false, not, cond, ◌&
 use Rattle.std.specs.List.{list_any}
 use Rattle.std.proofs.lemmas.List.Folds.{list_any-append}
 use Rattle.ug_types.specs.Sweep.{in_sweep_order}
+use Rattle.ug_types.specs.declared.verdict.Held.{Held}
 use Rattle.ug_kernel.specs.declared.calls.Listing.{Listing}
 use Rattle.ug_kernel.specs.declared.calls.Listing.TheVariants as listing
-use Rattle.ug_kernel.specs.Calls.{Names, Close}
-use Rattle.ug_kernel.specs.Tree.{Prog, Return, Ask, Runs, then}
+use Rattle.ug_kernel.specs.Calls.{Names}
+use Rattle.ug_kernel.specs.Tree.{Prog, Return, Runs, then}
 use Rattle.ug_kernel.specs.declared.calls.FailedCall.{FailedCall}
 use Rattle.ug_kernel.specs.Along.{Made, answered, failure_of, failure, failures}
-use Rattle.ug_kernel.proofs.Ways.{Ways, Sure, ways_more, ways_next, ways_last, behind_sure, failures_more}
+use Rattle.ug_kernel.proofs.Ways.{Ways, ways_more, ways_next, ways_last, behind_sure, failures_more}
 use Rattle.ug_sysfs.specs.World.{World, Gives}
 use Rattle.ug_audit.specs.declared.entry.Entry.{Entry}
 use Rattle.ug_audit.specs.declared.entry.Entry.TheVariants as entry
@@ -19,9 +20,10 @@ use Rattle.ug_table.specs.State.{State, Kept, kept_of, with_kept, Answers, Later
 use Rattle.ug_table.specs.Standings.{lists, farewells}
 use Rattle.ug_table.specs.Settle.{settling, resettling}
 use Rattle.ug_table.specs.Sweep.{settling_all, resettling_all, parted, closing_unlisted, names_of, resumed, unlisted, marked_listed, if_room, after_list, sweeping}
-use Rattle.ug_table.specs.Parts.{told_by, failures_told}
+use Rattle.ug_table.specs.Parts.{AreClosings, unlisted_files, told_by, failures_told}
 use Rattle.ug_table.specs.declared.standing.Standing.{Standing}
 use Rattle.ug_table.specs.declared.standing.Settled.{Settled}
+use Rattle.ug_table.proofs.Closings.{closes, closings_calm}
 use Rattle.ug_table.proofs.OnePart.{told_more, flat_is_part}
 use Rattle.ug_table.proofs.Shapes.{told_at, Settles, settles, Resettles, resettles}
 use Rattle.ug_play.specs.Play.{play, is_memory, tells_memory, TellsMemory, IsPlayed, names_somebody, NameNobody}
@@ -85,16 +87,9 @@ unlisted_sums {J} why first room w wants faults =
 
 -- closings tell nothing
 
-abbrev Closed : List Made → Type 0
-Closed ms = (has_want ms ≡ false) × (failures ms ≡ [])
-
-closing_sums : (names : List (List ℕ)) (ss : List Standing) → Ways (closing_unlisted names ss) (Sure (λ ms (r : Unit {0}). Closed ms))
-closing_sums names [] = (refl, (refl, refl))
-closing_sums names (s ∷ ss) = by (lists names s.name) (closing_sums names ss)
-  where
-    by : (b : Bool) → Ways (closing_unlisted names ss) (Sure (λ ms (r : Unit {0}). Closed ms)) → Ways (cond b (closing_unlisted names ss) (Ask (Close s.held.0) (λ closed. closing_unlisted names ss))) (Sure (λ ms (r : Unit {0}). Closed ms))
-    by true more = more
-    by false more = λ closed. more
+closings_sure : (files : List Held) (ms : List Made) → AreClosings files ms → has_want ms ≡ false
+closings_sure [] ms h = ap has_want h
+closings_sure (file ∷ files) ms h = ap has_want h.2 ∙ closings_sure files h.1 h.3
 
 farewell_by : (b : Bool) (number : ℕ) (name : List ℕ) (es : List Entry) → (tells_memory es ≡ false) × (failures_told es ≡ []) → (tells_memory (cond b es (entry.Gone number name ∷ es)) ≡ false) × (failures_told (cond b es (entry.Gone number name ∷ es)) ≡ [])
 farewell_by true number name es h = h
@@ -115,13 +110,13 @@ if_room_sums {J} answer later names last found w true =
     let x : State J = marked_listed (parted names w) in
     let bye : List Entry = farewells names w.standings in
     let first : Made = answered Names (told_at (listing.Names found) last) in
-    behind_sure (λ ms (r : Unit {0}). Closed ms) (λ ok ms v. Sums w.entries ok (first ∷ ms) v.entries) (closing_unlisted names w.standings) (λ (r : Unit {0}). settling_all answer later names (not w.listed) x) (closing_sums names w.standings)
+    behind_sure (λ ms (r : Unit {0}). AreClosings (unlisted_files names w.standings) ms) (λ ok ms v. Sums w.entries ok (first ∷ ms) v.entries) (closing_unlisted names w.standings) (λ (r : Unit {0}). settling_all answer later names (not w.listed) x) (closes names w.standings)
     (λ ms r c. ways_more (λ ok ns v. Sums x.entries ok ns v.entries) (λ ok ns v. Sums w.entries ok (first ∷ (ms ++ ns)) v.entries) (settling_all answer later names (not w.listed) x)
     (λ ok ns v b. record {
       rest = bye ++ b.rest;
       entries = b.entries ∙ append_assoc w.entries bye b.rest;
-      wants = memory_more bye b.rest ∙ ap (λ (v : Bool). v || tells_memory b.rest) (farewells_calm names w.standings).0 ∙ b.wants ∙ sym (ap (λ (v : Bool). not ok || v) (want_more ms ns ∙ ap (λ (v : Bool). v || has_want ns) c.0));
-      faults = told_more bye b.rest ∙ ap (λ (v : List FailedCall). v ++ failures_told b.rest) (farewells_calm names w.standings).1 ∙ b.faults ∙ sym (failures_more ms ns ∙ ap (λ (v : List FailedCall). v ++ failures ns) c.1);
+      wants = memory_more bye b.rest ∙ ap (λ (v : Bool). v || tells_memory b.rest) (farewells_calm names w.standings).0 ∙ b.wants ∙ sym (ap (λ (v : Bool). not ok || v) (want_more ms ns ∙ ap (λ (v : Bool). v || has_want ns) (closings_sure (unlisted_files names w.standings) ms c)));
+      faults = told_more bye b.rest ∙ ap (λ (v : List FailedCall). v ++ failures_told b.rest) (farewells_calm names w.standings).1 ∙ b.faults ∙ sym (failures_more ms ns ∙ ap (λ (v : List FailedCall). v ++ failures ns) (closings_calm (unlisted_files names w.standings) ms c));
     })
     (settling_all_sums answer later names (not w.listed) x))
 if_room_sums answer later names last found w false = unlisted_sums fault.Memory (answered Names (told_at (listing.Names found) last)) false w (λ ok ms. refl) refl
