@@ -43,16 +43,16 @@ use Rattle.ug_table.proofs.Shapes.{Flat, Unprobed, Tried, Stopped, Unbound, No_p
 abbrev pub Well : Bool → List Entry → Kernel → List Standing → List Entry → ℕ → List ℕ → Type 0
 Well binds es l ss fs i name = Good es l ss fs i name ⊎ ((binds ≡ false) × (HasStanding l ss i → ⊥))
 
-pub well_before : (binds : Bool) (es fs gs : List Entry) (l : Kernel) (ss : List Standing) (i : ℕ) (name : List ℕ) → Appends es fs → Well binds fs l ss gs i name → Well binds es l ss gs i name
+well_before : (binds : Bool) (es fs gs : List Entry) (l : Kernel) (ss : List Standing) (i : ℕ) (name : List ℕ) → Appends es fs → Well binds fs l ss gs i name → Well binds es l ss gs i name
 well_before binds es fs gs l ss i name a (inl h) = inl (good_before es fs gs l ss i name a h)
 well_before binds es fs gs l ss i name a (inr h) = inr h
 
 -- no standing of its name, no standing
-pub none_stands : (k : Kernel) (ss : List Standing) (i : ℕ) (name : List ℕ) → Files k ss → LiveAs k i name → (Has (names_of ss) name → ⊥) → HasStanding k ss i → ⊥
+none_stands : (k : Kernel) (ss : List Standing) (i : ℕ) (name : List ℕ) → Files k ss → LiveAs k i name → (Has (names_of ss) name → ⊥) → HasStanding k ss i → ⊥
 none_stands k ss i name f live none h = none (subst (λ v. Has (names_of ss) v) (open_named k h.s.name name h.s.held.0 i (f h.s h.has) h.file live) (has_map (λ (v : Standing). v.name) ss h.s h.has))
 
 -- a standing that was there had the same device
-pub stood : (k l : Kernel) (ss rs : List Standing) (i : ℕ) → Files k ss → Grows k l → ((s : Standing) → Has rs s → Was ss s) → HasStanding l rs i → HasStanding k ss i
+stood : (k l : Kernel) (ss rs : List Standing) (i : ℕ) → Files k ss → Grows k l → ((s : Standing) → Has rs s → Was ss s) → HasStanding l rs i → HasStanding k ss i
 stood k l ss rs i f g was h =
     let t = was h.s h.has in
     let o = f t.0 t.1 in
@@ -68,7 +68,7 @@ piece_well {name = name} {l = l} {v = v} i sound f first live p = elim (piece_ow
 
 -- each standing was there before
 
-pub flat_was : {binds : Bool} {given : List Standing → Bound → Standing → Type 0} {name : List ℕ} {ss : List Standing} {ok : Bool} {ms : List Made} {rest : List Entry} {how : Settled} {rs : List Standing} {o : Option (List Standing × Bound)} → binds ≡ false → Flat binds given name ss ok ms rest how rs o → (s : Standing) → Has rs s → Was ss s
+flat_was : {binds : Bool} {given : List Standing → Bound → Standing → Type 0} {name : List ℕ} {ss : List Standing} {ok : Bool} {ms : List Made} {rest : List Entry} {how : Settled} {rs : List Standing} {o : Option (List Standing × Bound)} → binds ≡ false → Flat binds given name ss ok ms rest how rs o → (s : Standing) → Has rs s → Was ss s
 flat_was {name = name} {ss = ss} f (Unprobed known failed at) s a = tried_was ss name (settled.Fault failed) s a
 flat_was {name = name} {ss = ss} f (Tried known on failed ms es how at b) s a = tried_was ss name how s a
 flat_was f (Stopped ms es rs g opening) s a = (s, (opens opening).less s a, refl, refl)
@@ -139,7 +139,7 @@ begins name i es k ss (Some known) e f live = inl (known_listed name ss known e)
 
 -- the whole sweep
 
-pub parted_files : {J : Type 0} (k : Kernel) (names : List (List ℕ)) (w : State J) → Files k w.standings → Files k (parted names w).standings
+parted_files : {J : Type 0} (k : Kernel) (names : List (List ℕ)) (w : State J) → Files k w.standings → Files k (parted names w).standings
 parted_files k names w f s a = f s (filter_has (λ (v : Standing). lists names v.name) w.standings s a).0
 
 -- where names are bound, the device is as judged or told

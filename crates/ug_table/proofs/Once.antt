@@ -47,7 +47,7 @@ part_name name (entry.Unsettled other why ∷ es) h = inr (ap (λ (v : List ℕ)
 part_name name (entry.UnsettledAll why ∷ es) h = absurd h.0
 part_name name (e ∷ es) h = part_name name es h.1
 
-pub names_of_parts : (names : List (List ℕ)) (ss rs : List Standing) (ms : List Made) (es : List Entry) (name : List ℕ) → InParts names ss rs ms es → Has (unsettled_names es) name → Has names name
+names_of_parts : (names : List (List ℕ)) (ss rs : List Standing) (ms : List Made) (es : List Entry) (name : List ℕ) → InParts names ss rs ms es → Has (unsettled_names es) name → Has names name
 names_of_parts [] ss rs ms es name h a = subst (λ (v : List Entry). Has (unsettled_names v) name) h.2 a
 names_of_parts (n ∷ names) ss rs ms es name h a =
     let b = subst (λ (v : List (List ℕ)). Has v name) (ap unsettled_names h.6 ∙ names_more h.3 h.4) a in
@@ -79,13 +79,13 @@ farewells_name_none names [] = refl
 farewells_name_none names (s ∷ ss) = unnamed_by (lists names s.name) (entry.Gone s.number s.name) (farewells names ss) refl (farewells_name_none names ss)
 
 -- no two parts are of one name
-pub begins_distinct : (k l : Kernel) (r : Listing) (failed : FailedCall) (ss : List Standing) (head : List Entry) (left : List Standing) (names : List (List ℕ)) (shut : List Made) → says_listing r k l → AllDistinct (names_of ss) → AfterListing r failed ss head left names shut → AllDistinct names
+begins_distinct : (k l : Kernel) (r : Listing) (failed : FailedCall) (ss : List Standing) (head : List Entry) (left : List Standing) (names : List (List ℕ)) (shut : List Made) → says_listing r k l → AllDistinct (names_of ss) → AfterListing r failed ss head left names shut → AllDistinct names
 begins_distinct k l (listing.Names found) failed ss head left names shut says d (inl b) = subst (λ (v : List (List ℕ)). AllDistinct v) (sym b.0) (order_distinct found says.1)
 begins_distinct k l (listing.Names found) failed ss head left names shut says d (inr b) = subst (λ (v : List (List ℕ)). AllDistinct v) (sym b.0) d
 begins_distinct k l listing.Failed failed ss head left names shut says d b = subst (λ (v : List (List ℕ)). AllDistinct v) (sym b.0) d
 begins_distinct k l listing.Memory failed ss head left names shut says d b = subst (λ (v : List (List ℕ)). AllDistinct v) (sym b.0) d
 
-pub begins_unnamed : (r : Listing) (failed : FailedCall) (ss : List Standing) (head : List Entry) (left : List Standing) (names : List (List ℕ)) (shut : List Made) → AfterListing r failed ss head left names shut → unsettled_names head ≡ []
+begins_unnamed : (r : Listing) (failed : FailedCall) (ss : List Standing) (head : List Entry) (left : List Standing) (names : List (List ℕ)) (shut : List Made) → AfterListing r failed ss head left names shut → unsettled_names head ≡ []
 begins_unnamed (listing.Names found) failed ss head left names shut (inl b) = ap unsettled_names b.1 ∙ farewells_name_none names ss
 begins_unnamed (listing.Names found) failed ss head left names shut (inr b) = ap unsettled_names b.1
 begins_unnamed listing.Failed failed ss head left names shut b = ap unsettled_names b.1

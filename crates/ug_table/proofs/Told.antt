@@ -225,7 +225,7 @@ flat_mark {name = name} t (No_place ms ns es rs b shut f opening way) s a is = a
 flat_mark {rest = rest} t (Judged_so ms ns os es fs rs b x how f opening way given new brought) s a is =
     kept_mark rs x how rest s (subst (λ v. Has (names_of rs) v → ⊥) (sym new.named) (opens opening).absent) new.fresh (subst (λ v. Tells how v rest) (sym new.named) t) a (is ∙ sym new.named)
 
-pub flat_part : {binds : Bool} {given : List Standing → Bound → Standing → Type 0} {name : List ℕ} {ss : List Standing} {ok : Bool} {ms : List Made} {rest : List Entry} {how : Settled} {rs : List Standing} {o : Option (List Standing × Bound)} (es fs : List Entry) → fs ≡ es ++ rest → Flat binds given name ss ok ms rest how rs o → Part name ss es rs fs
+flat_part : {binds : Bool} {given : List Standing → Bound → Standing → Type 0} {name : List ℕ} {ss : List Standing} {ok : Bool} {ms : List Made} {rest : List Entry} {how : Settled} {rs : List Standing} {o : Option (List Standing × Bound)} (es fs : List Entry) → fs ≡ es ++ rest → Flat binds given name ss ok ms rest how rs o → Part name ss es rs fs
 flat_part {name = name} {rest = rest} {how = how} xs ys e f =
     let last = (flat_is_part f).last in
     record { rest = rest; entries = e; only = ends_only name rest last; others = flat_others f; mark = flat_mark (tells_how how name rest last (flat_whys f)) f }
