@@ -114,7 +114,7 @@ pub record Opened_quiet (k l : Kernel) (name : List ℕ) (ss rs : List Standing)
   pub rest : (s : Standing) → Has ss s → (s.name ≡ name → ⊥) → Has rs s
   pub files : Files l rs
 
-pub opening_quiet : {name : List ℕ} {ss : List Standing} {ms : List Made} {es : List Entry} {rs : List Standing} (k l : Kernel) → Opening name ss ms es rs → IsKernel k → Files k ss → Along calls k ms l → Opened_quiet k l name ss rs
+opening_quiet : {name : List ℕ} {ss : List Standing} {ms : List Made} {es : List Entry} {rs : List Standing} (k l : Kernel) → Opening name ss ms es rs → IsKernel k → Files k ss → Along calls k ms l → Opened_quiet k l name ss rs
 opening_quiet {name} {ss} k l (Fresh e) sound f a = subst (λ v. Opened_quiet k v name ss ss) (sym a) (record { quiet = quiet_refl k; sound = sound; rest = λ s h ne. h; files = f })
 opening_quiet {name} {ss} k l (Lost known failed shut e) sound f a =
     let m = a.0 in

@@ -32,7 +32,7 @@ parent_stays k l (Some p) attrs g h =
     let x = g.devices p h.0 h.1 in
     (x.0, x.1, h.2 ∙ ap (λ (v : Attrs). Some v) (parent_attrs_stay h.0 x.0 x.2))
 
-pub record_stays : (k l : Kernel) (d e : Device) (judged : Judged) → Grows k l → Stays d e → IsRecordOf k d judged → IsRecordOf l e judged
+record_stays : (k l : Kernel) (d e : Device) (judged : Judged) → Grows k l → Stays d e → IsRecordOf k d judged → IsRecordOf l e judged
 record_stays k l d e judged g s h =
     let name : judged_of d.name (attrs_of d) h.0 ≡ judged_of e.name (attrs_of d) h.0 = ap (λ (v : List ℕ). judged_of v (attrs_of d) h.0) (sym s.name) in
     let attrs : judged_of e.name (attrs_of d) h.0 ≡ judged_of e.name (attrs_of e) h.0 = ap (λ (v : Attrs). judged_of e.name v h.0) (attrs_stay d e s) in

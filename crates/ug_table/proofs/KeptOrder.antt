@@ -23,7 +23,7 @@ keeps_filter test ss next o = record {
   numbers = λ s a. o.numbers s (filter_has test ss s a).0;
 }
 
-pub keeps_marked : (name : List ℕ) (mark : Bool) (ss : List Standing) → KeepsOrder ss (map (marked name mark) ss)
+keeps_marked : (name : List ℕ) (mark : Bool) (ss : List Standing) → KeepsOrder ss (map (marked name mark) ss)
 keeps_marked name mark ss next o = record {
   order = subst (λ (v : List (List ℕ)). AreInOrder v) (sym (names_marked name mark ss)) o.order;
   distinct = subst (λ (v : List ℕ). AllDistinct v) (sym (numbers_marked name mark ss)) o.distinct;
@@ -52,7 +52,7 @@ order_new next ss s is absent o =
       ];
     }
 
-pub order_kept : (next : ℕ) (ss : List Standing) (s : Standing) (how : Settled) → s.number ≡ next → standing_of s.name ss ≡ None → StandInOrder next ss → StandInOrder (next + 1) (kept_standings ss s how)
+order_kept : (next : ℕ) (ss : List Standing) (s : Standing) (how : Settled) → s.number ≡ next → standing_of s.name ss ≡ None → StandInOrder next ss → StandInOrder (next + 1) (kept_standings ss s how)
 order_kept next ss s settled.Nobody is none o = record { order = o.order; distinct = o.distinct; numbers = λ t a. let below = o.numbers t a in omega (arith, below) }
 order_kept next ss s settled.Stands is none o = order_new next ss (settled_standing s) is (missing s.name ss none) o
 order_kept next ss s how is none o = order_new next ss s is (missing s.name ss none) o
@@ -72,7 +72,7 @@ kept_more next cap other room ss rs after s how is same none e place made len o 
 
 -- the standing with the next number, as one more is looked at
 
-pub nearer_found : (ss : List Standing) (number : ℕ) (found : Option Standing) (x : Standing) → is_nearer number found x ≡ true → IsNextNumbered ss number found → IsNextNumbered (ss ++ x ∷ []) number (Some x)
+nearer_found : (ss : List Standing) (number : ℕ) (found : Option Standing) (x : Standing) → is_nearer number found x ≡ true → IsNextNumbered ss number found → IsNextNumbered (ss ++ x ∷ []) number (Some x)
 nearer_found ss number None x e h = (
   has_right ss (x ∷ []) x (inl refl),
   grind (arith, e),
@@ -90,7 +90,7 @@ nearer_found ss number (Some found) x e h = (
   ],
 )
 
-pub no_nearer_found : (ss : List Standing) (number : ℕ) (found : Option Standing) (x : Standing) → is_nearer number found x ≡ false → IsNextNumbered ss number found → IsNextNumbered (ss ++ x ∷ []) number found
+no_nearer_found : (ss : List Standing) (number : ℕ) (found : Option Standing) (x : Standing) → is_nearer number found x ≡ false → IsNextNumbered ss number found → IsNextNumbered (ss ++ x ∷ []) number found
 no_nearer_found ss number None x e h = λ s a. elim (last_is ss x s a) [
   | inl b ↦ h s b
   | inr is ↦ let same = ap (λ (v : Standing). v.number) is in let most : x.number ≤ number = grind (arith, e) in omega (arith, same, most)
@@ -108,7 +108,7 @@ no_nearer_found ss number (Some found) x e h = (
 )
 
 -- the first of them, and one more
-pub passed_more : (ss : List Standing) (i : ℕ) (x : Standing) → i < length ss → x ≡ get_or ss i x → take (i + 1) ss ≡ take i ss ++ x ∷ []
+passed_more : (ss : List Standing) (i : ℕ) (x : Standing) → i < length ss → x ≡ get_or ss i x → take (i + 1) ss ≡ take i ss ++ x ∷ []
 passed_more ss i x lt e = take_more ss i x lt ∙ ap (λ (v : Standing). take i ss ++ v ∷ []) (sym e)
 
 pub found_more : (ss : List Standing) (i number : ℕ) (found now : Option Standing) (x : Standing) (b : Bool) → i < length ss → x ≡ get_or ss i x → is_nearer number found x ≡ b → now ≡ cond b (Some x) found → IsNextNumbered (take i ss) number found → IsNextNumbered (take (i + 1) ss) number now

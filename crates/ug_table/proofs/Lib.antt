@@ -17,15 +17,12 @@ pub mod Values
 pub mod Places
 pub mod Apart
 pub mod Own
-pub mod Again
 pub mod Lived
 pub mod Shapes
 pub mod Chains
 pub mod Told
 pub mod Marks
-pub mod Spared
 pub mod Swept
-pub mod OtherNames
 pub mod OwnStanding
 pub mod OpenFiles
 pub mod Closings

@@ -11,7 +11,7 @@ use Rattle.ug_table.specs.Settle.{settling, resettling}
 use Rattle.ug_table.specs.Sweep.{settling_all, resettling_all}
 use Rattle.ug_table.specs.declared.standing.Settled.{Settled}
 
-pub next_of : {X : Type 0} (xs : List X) (i : ℕ) (x : X) → i < length xs → x ≡ get_or xs i x → drop i xs ≡ x ∷ drop (i + 1) xs
+next_of : {X : Type 0} (xs : List X) (i : ℕ) (x : X) → i < length xs → x ≡ get_or xs i x → drop i xs ≡ x ∷ drop (i + 1) xs
 next_of {X} xs i x lt e = drop_more xs i x lt ∙ ap (λ (y : X). y ∷ drop (i + 1) xs) (sym e)
 
 pub settling_more : {S J : Type 0} (gives : S → (call : Call) → Answer call → S → Type 0) (answer : Answers J) (later : Laters J) (names : List (List ℕ)) (present : Bool) (i : ℕ) (name : List ℕ) (w : State J) (s u : S) (p : Settled × State J) → i < length names → name ≡ get_or names i name → Runs gives s (settling answer later name present w) p u → (r : State J) (t : S) → Runs gives u (settling_all answer later (drop (i + 1) names) present p.1) r t → Runs gives s (settling_all answer later (drop i names) present w) r t

@@ -36,7 +36,7 @@ pub record Parts (names : List (List ℕ)) (ss : List Standing) (es : List Entry
   pub others : (s : Standing) → Has rs s → (Has names s.name → ⊥) → Has ss s
   pub mark : (s : Standing) → Has rs s → Has names s.name → IsMarked rest s
 
-pub named_in : (names : List (List ℕ)) (es : List Entry) (name : List ℕ) → Each (NamesIn names) es → IsNamed es name → Has names name
+named_in : (names : List (List ℕ)) (es : List Entry) (name : List ℕ) → Each (NamesIn names) es → IsNamed es name → Has names name
 named_in names es name h a = each_has (NamesIn names) es (entry.Unsettled name a.0) h a.1
 
 pub named_only : (n name : List ℕ) (es : List Entry) → Each (NamesOnly n) es → IsNamed es name → name ≡ n
@@ -71,7 +71,7 @@ parts_more n names ss ms rs es gs fs distinct a b =
       mark = λ s h c. mark s h c;
     }
 
-pub chain_parts : {S J : Type 0} {gives : S → (call : Call) → Answer call → S → Type 0} {answer : Answers J} {later : Laters J} {binds present : Bool} {names : List (List ℕ)} {s t : S} {w v : State J} → AllDistinct names → Chain gives answer later binds present names s w t v → Parts names w.standings w.entries v.standings v.entries × (v.listed ≡ w.listed)
+chain_parts : {S J : Type 0} {gives : S → (call : Call) → Answer call → S → Type 0} {answer : Answers J} {later : Laters J} {binds present : Bool} {names : List (List ℕ)} {s t : S} {w v : State J} → AllDistinct names → Chain gives answer later binds present names s w t v → Parts names w.standings w.entries v.standings v.entries × (v.listed ≡ w.listed)
 chain_parts distinct (Over s w) = (none_parts w.standings w.entries, refl)
 chain_parts distinct (First n names how s u t w x v p c) =
     let a = piece_part p in

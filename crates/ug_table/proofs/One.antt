@@ -30,9 +30,8 @@ use Rattle.ug_table.proofs.Values.{IsFileOf, file_same, file_later, LiveAs, IsOp
 use Rattle.ug_table.proofs.Joined.{FairFrom, had_before}
 use Rattle.ug_table.proofs.Steps.{fair_refl}
 use Rattle.ug_table.proofs.SoFar.{AreIn}
-use Rattle.ug_table.proofs.Lived.{lives_first, lives_last, stand_files, judged_at}
+use Rattle.ug_table.proofs.Lived.{lives_first, lives_last, stand_files, judged_at, piece_well}
 use Rattle.ug_table.proofs.Standings.{numbered_has}
-use Rattle.ug_table.proofs.Again.{piece_well}
 use Rattle.ug_table.proofs.Told.{flat_whys, unnamed, flat_stands, flat_nobody}
 use Rattle.ug_table.proofs.Chains.{Piece, resettling_piece, run_numbered, settling_piece}
 use Rattle.ug_table.proofs.Fair.{piece_fair}

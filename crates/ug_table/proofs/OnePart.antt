@@ -43,7 +43,7 @@ use Rattle.ug_kernel.proofs.Ways.{failures_more}
 use Rattle.ug_node.proofs.BindShapes.{told, Came, Reads, No_more, Then_read, Stops, No_descriptors, Read_failed, Read_short, Binds_by, No_such, Open_failed, Open_short, Cut, Probed_gone, Probe_failed, Bound_by, way_binds, Holds_by, Not_there, Not_opened, No_memory, Held_on, Died, Unasked, way_holds}
 use Rattle.ug_table.proofs.Shapes.{Written, Done, Went, Broke, Valued, Same, Set, Unheld, Gone_by, Failed_by, Short_by, Removal, Not_held, Put_on, Carried, By_value, And_removal, Brought, Left_open, Let_go, Opening, Fresh, Lost, Unbound_end, Absent_so, Vanished_so, Failed_so, Short_so, Flat, Unprobed, Tried, Stopped, Unbound, No_place, Judged_so, told_at}
 use Rattle.ug_table.proofs.Says.{Each, NamesNone}
-use Rattle.ug_table.proofs.OtherNames.{OthersStand, others_stand, without_stand, kept_stand, tried_stand}
+use Rattle.ug_table.proofs.OwnStanding.{OthersStand, others_stand, without_stand, kept_stand, tried_stand}
 use Rattle.ug_table.proofs.Within.{flat_few}
 use Rattle.ug_table.proofs.OpenFiles.{files_join, reads_left, valued_left, carried_left, flat_leaves, flat_numbers}
 

@@ -67,7 +67,7 @@ stop_files stop.Vanished files = refl
 stop_files (stop.Fault failed) files = refl
 stop_files stop.Memory files = refl
 
-pub binds_left : {name : List ℕ} {ms : List Made} {r : Binding} (files : List OpenFile) → Binds_by name ms r → files_after files ms ≡ binding_files r files
+binds_left : {name : List ℕ} {ms : List Made} {r : Binding} (files : List OpenFile) → Binds_by name ms r → files_after files ms ≡ binding_files r files
 binds_left files (No_such call count) = refl
 binds_left files (Open_failed call count) = refl
 binds_left files (Open_short call count) = refl

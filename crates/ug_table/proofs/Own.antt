@@ -54,7 +54,7 @@ use Rattle.ug_table.proofs.Chains.{Piece}
 abbrev pub NamedSince : List Entry → List Entry → List ℕ → Type 0
 NamedSince es fs name = (rest : List Entry) × (fs ≡ es ++ rest) × IsNamed rest name
 
-pub named_before : (es fs gs : List Entry) (name : List ℕ) → Appends es fs → NamedSince fs gs name → NamedSince es gs name
+named_before : (es fs gs : List Entry) (name : List ℕ) → Appends es fs → NamedSince fs gs name → NamedSince es gs name
 named_before es fs gs name a h = (a.0 ++ h.0, h.1 ∙ ap (λ v. v ++ h.0) a.1 ∙ append_assoc es a.0 h.0, (h.2.0, has_right a.0 h.0 (entry.Unsettled name h.2.0) h.2.1))
 
 -- the device has a standing and the value that its verdict wants, and where it is rejected it is marked as removed
@@ -181,7 +181,7 @@ brought_own {name} {known} {on} i k l (Let_go ms es shut c) sound live file at a
 -- a name
 
 -- the probe of a known name's held file speaks of its live device
-pub probed_own : (name : List ℕ) (held i : ℕ) (on : Bool) (failed : FailedCall) (k m : Kernel) → IsKernel k → IsOpen k name held → LiveAs k i name → Called (Ask_alive held) (told_at (probe.Alive on) failed) k m → IsFileOf m held i × Value m i on
+probed_own : (name : List ℕ) (held i : ℕ) (on : Bool) (failed : FailedCall) (k m : Kernel) → IsKernel k → IsOpen k name held → LiveAs k i name → Called (Ask_alive held) (told_at (probe.Alive on) failed) k m → IsFileOf m held i × Value m i on
 probed_own name held i on failed k m sound o first c =
     let x = alive_open k name held on o c.says in
     let is = live_same k x.0 i name sound x.2 first in

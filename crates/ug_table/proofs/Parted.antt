@@ -13,22 +13,13 @@ use Rattle.ug_audit.specs.declared.entry.Entry.TheVariants as entry
 use Rattle.ug_table.specs.State.{State, Answers, Laters}
 use Rattle.ug_table.specs.Standings.{lists, farewells}
 use Rattle.ug_table.specs.Sweep.{names_of, sweeping}
-use Rattle.ug_table.specs.Parts.{Part, InParts, AfterListing, GoesInParts}
+use Rattle.ug_table.specs.Parts.{InParts, AfterListing, GoesInParts}
 use Rattle.ug_table.specs.declared.standing.Standing.{Standing}
-use Rattle.ug_table.specs.declared.standing.Settled.{Settled}
 use Rattle.ug_table.proofs.OnePart.{flat_is_part}
 use Rattle.ug_table.proofs.Closings.{closing_goes}
-use Rattle.ug_table.proofs.Chains.{Piece, Chain, Over, First, Goes, Listed, Unlisted, sweeping_by}
+use Rattle.ug_table.proofs.Chains.{Chain, Over, First, Goes, Listed, Unlisted, sweeping_by}
 
--- a run that went along one part
-pub record WentPart {S : Type 0} (gives : S → (call : Call) → Answer call → S → Type 0) (name : List ℕ) (s : S) (ss : List Standing) (es : List Entry) (t : S) (rs : List Standing) (fs : List Entry) : Type 0 where
-  pub calls : List Made
-  pub along : Along gives s calls t
-  pub rest : List Entry
-  pub entries : fs ≡ es ++ rest
-  pub part : Part name ss rs calls rest
-
--- and along all of them
+-- a run that went along the parts
 record WentParts {S : Type 0} (gives : S → (call : Call) → Answer call → S → Type 0) (names : List (List ℕ)) (s : S) (ss : List Standing) (es : List Entry) (t : S) (rs : List Standing) (fs : List Entry) : Type 0 where
   pub calls : List Made
   pub along : Along gives s calls t
@@ -36,23 +27,17 @@ record WentParts {S : Type 0} (gives : S → (call : Call) → Answer call → S
   pub entries : fs ≡ es ++ rest
   pub parts : InParts names ss rs calls rest
 
-one_more : {S : Type 0} (gives : S → (call : Call) → Answer call → S → Type 0) (name : List ℕ) (names : List (List ℕ)) (s u t : S) (ss ms rs : List Standing) (es gs fs : List Entry) → WentPart gives name s ss es u ms gs → WentParts gives names u ms gs t rs fs → WentParts gives (name ∷ names) s ss es t rs fs
-one_more gives name names s u t ss ms rs es gs fs a b = record {
-  calls = a.calls ++ b.calls;
-  along = along_more gives a.calls b.calls s u t a.along b.along;
-  rest = a.rest ++ b.rest;
-  entries = b.entries ∙ ap (λ (v : List Entry). v ++ b.rest) a.entries ∙ append_assoc es a.rest b.rest;
-  parts = (ms, a.calls, b.calls, a.rest, b.rest, refl, refl, a.part, b.parts);
-}
-
-pub piece_went : {S J : Type 0} {gives : S → (call : Call) → Answer call → S → Type 0} {answer : Answers J} {later : Laters J} {binds present : Bool} {name : List ℕ} {how : Settled} {s t : S} {w v : State J} → Piece gives answer later binds present name how s w t v → WentPart gives name s w.standings w.entries t v.standings v.entries
-piece_went p = record { calls = p.made; along = p.along; rest = p.rest; entries = p.entries; part = flat_is_part p.flat }
-
 chain_went : {S J : Type 0} {gives : S → (call : Call) → Answer call → S → Type 0} {answer : Answers J} {later : Laters J} {binds present : Bool} {names : List (List ℕ)} {s t : S} {w v : State J} → Chain gives answer later binds present names s w t v → WentParts gives names s w.standings w.entries t v.standings v.entries
 chain_went (Over s w) = record { calls = []; along = refl; rest = []; entries = sym (append-nil w.entries); parts = (refl, refl, refl) }
 chain_went {gives = gives} (First name names how s u t w x v p c) =
-    one_more gives name names s u t w.standings x.standings v.standings w.entries x.entries v.entries
-    (piece_went p) (chain_went c)
+    let b = chain_went c in
+    record {
+      calls = p.made ++ b.calls;
+      along = along_more gives p.made b.calls s u t p.along b.along;
+      rest = p.rest ++ b.rest;
+      entries = b.entries ∙ ap (λ (y : List Entry). y ++ b.rest) p.entries ∙ append_assoc w.entries p.rest b.rest;
+      parts = (x.standings, p.made, b.calls, p.rest, b.rest, refl, refl, flat_is_part p.flat, b.parts);
+    }
 
 -- a listing, and the parts that it leads to
 from_parts : {S J : Type 0} (gives : S → (call : Call) → Answer call → S → Type 0) (s : S) (w : State J) (a : Told Listing) (u x t : S) (v : State J) (head : List Entry) (left : List Standing) (names : List (List ℕ)) (shut : List Made) → gives s Names a u → Along gives u shut x → AfterListing a.answer (failure_of a) w.standings head left names shut → WentParts gives names x left (w.entries ++ head) t v.standings v.entries → GoesInParts gives s w t v

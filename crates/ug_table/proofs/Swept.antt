@@ -11,7 +11,7 @@ use Rattle.ug_table.specs.Laws.{Stand, Swept, Sweeps}
 use Rattle.ug_table.proofs.FairSweep.{sweeping_fair}
 use Rattle.ug_table.proofs.Lived.{sweeping_settled}
 use Rattle.ug_table.proofs.Marks.{sweeping_marks}
-use Rattle.ug_table.proofs.Spared.{sweeping_spared}
+use Rattle.ug_table.proofs.Once.{sweeping_spared}
 
 sweeping_swept : {J : Type 0} (answer : Answers J) (later : Laters J) (w : State J) (k l : Kernel) (v : State J) → IsKernel k → Stand k w.standings w.next → Runs calls k (sweeping answer later w) v l → Swept answer later k w l v
 sweeping_swept answer later w k l v sound stand r =

@@ -21,8 +21,9 @@ use Rattle.ug_table.specs.declared.standing.Settled.TheVariants as settled
 use Rattle.ug_types.proofs.Elements.{has_left, has_right, has_cases, filter_has, map_has, has_map, insert_has, has_new}
 use Rattle.ug_table.proofs.Shapes.{Written, Done, Went, Broke, Valued, Same, Set, Gone_by, Failed_by, Short_by, Removal, Not_held, Put_on, Carried, By_value, And_removal, Brought, Left_open, Let_go, Opening, Fresh, Lost, Unbound_end, Absent_so, Vanished_so, Failed_so, Short_so, Flat, Unprobed, Tried, Stopped, Unbound, No_place, Judged_so, brought}
 use Rattle.ug_kernel.specs.Along.{Made}
-use Rattle.ug_table.proofs.Standings.{is_same, missing, missing_without, found, names_marked}
+use Rattle.ug_table.proofs.Standings.{is_same, missing, missing_without, found}
 use Rattle.ug_table.proofs.Places.{marked_other}
+use Rattle.ug_table.proofs.OwnStanding.{tried_own}
 use Rattle.ug_table.proofs.Chains.{Piece}
 use Rattle.ug_audit.specs.declared.entry.Fault.{Fault}
 use Rattle.ug_table.specs.Bring.{is_to_go}
@@ -224,7 +225,7 @@ flat_mark {name = name} t (No_place ms ns es rs b shut f opening way) s a is = a
 flat_mark {rest = rest} t (Judged_so ms ns os es fs rs b x how f opening way given new brought) s a is =
     kept_mark rs x how rest s (subst (λ v. Has (names_of rs) v → ⊥) (sym new.named) (opens opening).absent) new.fresh (subst (λ v. Tells how v rest) (sym new.named) t) a (is ∙ sym new.named)
 
-pub flat_part : {binds : Bool} {given : List Standing → Bound → Standing → Type 0} {name : List ℕ} {ss : List Standing} {ok : Bool} {ms : List Made} {rest : List Entry} {how : Settled} {rs : List Standing} {o : Option (List Standing × Bound)} (es fs : List Entry) → fs ≡ es ++ rest → Flat binds given name ss ok ms rest how rs o → Part name ss es rs fs
+flat_part : {binds : Bool} {given : List Standing → Bound → Standing → Type 0} {name : List ℕ} {ss : List Standing} {ok : Bool} {ms : List Made} {rest : List Entry} {how : Settled} {rs : List Standing} {o : Option (List Standing × Bound)} (es fs : List Entry) → fs ≡ es ++ rest → Flat binds given name ss ok ms rest how rs o → Part name ss es rs fs
 flat_part {name = name} {rest = rest} {how = how} xs ys e f =
     let last = (flat_is_part f).last in
     record { rest = rest; entries = e; only = ends_only name rest last; others = flat_others f; mark = flat_mark (tells_how how name rest last (flat_whys f)) f }
@@ -238,6 +239,11 @@ piece_part {w = w} {v = v} p = (flat_part w.entries v.entries p.entries p.flat, 
 
 -- the answer says whether the name has a standing
 
+known_has : (name : List ℕ) (ss : List Standing) (known : Known) → standing_of name ss ≡ Some known → Has (names_of ss) name
+known_has name ss known e =
+    let s = found name ss known e in
+    subst (λ (v : List ℕ). Has (names_of ss) v) s.named (has_map (λ (v : Standing). v.name) ss s.s s.has)
+
 kept_stands : (ss : List Standing) (x : Standing) (how : Settled) → how ≡ settled.Stands → Has (names_of (kept_standings ss x how)) x.name
 kept_stands ss x settled.Stands e = has_map (λ (v : Standing). v.name) (with_standing (settled_standing x) ss) (settled_standing x) (has_new ss (place_for x.name ss) (settled_standing x))
 kept_stands ss x how e = let none : ⊥ = cc in absurd none
@@ -246,22 +252,15 @@ kept_nobody : (ss : List Standing) (x : Standing) (how : Settled) (name : List �
 kept_nobody ss x settled.Nobody name absent e = absent
 kept_nobody ss x how name absent e = let none : ⊥ = cc in absurd none
 
-tried_stands : (ss : List Standing) (name : List ℕ) (how : Settled) → Has (names_of ss) name → how ≡ settled.Stands → Has (names_of (tried_standings ss name how)) name
-tried_stands ss name settled.Stands a e = subst (λ (v : List (List ℕ)). Has v name) (sym (names_marked name true ss)) a
-tried_stands ss name how a e = let none : ⊥ = cc in absurd none
-
 tried_nobody : (ss : List Standing) (name : List ℕ) (how : Settled) → how ≡ settled.Nobody → Has (names_of (tried_standings ss name how)) name → ⊥
 tried_nobody ss name settled.Nobody e = missing_without name ss
 tried_nobody ss name how e = let none : ⊥ = cc in absurd none
 
-known_has : (name : List ℕ) (ss : List Standing) (known : Known) → standing_of name ss ≡ Some known → Has (names_of ss) name
-known_has name ss known e =
-    let s = found name ss known e in
-    subst (λ (v : List ℕ). Has (names_of ss) v) s.named (has_map (λ (v : Standing). v.name) ss s.s s.has)
-
 pub flat_stands : {binds : Bool} {given : List Standing → Bound → Standing → Type 0} {name : List ℕ} {ss : List Standing} {ok : Bool} {ms : List Made} {rest : List Entry} {how : Settled} {rs : List Standing} {o : Option (List Standing × Bound)} → Flat binds given name ss ok ms rest how rs o → how ≡ settled.Stands → Has (names_of rs) name
 flat_stands (Unprobed known failed at) e = let none : ⊥ = cc in absurd none
-flat_stands {name = name} {ss = ss} (Tried known on failed ms es how at b) e = tried_stands ss name how (known_has name ss known at) e
+flat_stands {name = name} {ss = ss} (Tried known on failed ms es how at b) e =
+    let k = tried_own name ss how known at (λ n. let none : ⊥ = cc in none) in
+    known_has name (tried_standings ss name how) k.0 k.1
 flat_stands (Stopped ms es rs f opening) e = let none : ⊥ = cc in absurd none
 flat_stands (Unbound ms ns es fs rs r how t opening way end) e = absurd ((unbound_whys end).1 e)
 flat_stands (No_place ms ns es rs b shut t opening way) e = let none : ⊥ = cc in absurd none
