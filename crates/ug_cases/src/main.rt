@@ -1,6 +1,7 @@
-// Cases of rules, policies, settings and records: reads them, and tells which differ.
+// Cases of rules, policies, settings, records and control: reads them, and tells which differ.
 #![tactic(auto)]
 
+mod control;
 mod echo;
 mod entries;
 mod inputs;
@@ -68,6 +69,18 @@ fn tell_of_records(alloc: Global, kind: &str, case: &Case) -> Result<Option<Vec<
     }))
 }
 
+fn tell_of_control(alloc: Global, kind: &str, case: &Case) -> Result<Option<Vec<u8>>, NoMemory> {
+    let line = case.line_given();
+    Ok(Some(match kind {
+        "request" => control::tell_line(alloc, line)?,
+        "request-fronts" => control::tell_fronts(alloc, line, false)?,
+        "reply" => control::tell_text(alloc, &case.input)?,
+        "reply-fronts" => control::tell_fronts(alloc, &case.input, true)?,
+        "frame" => control::tell_stream(alloc, case)?,
+        _ => return Ok(None),
+    }))
+}
+
 impl Teller for Cases {
     fn tell(&self, alloc: Global, case: &Case) -> Result<Vec<u8>, NoMemory> {
         let kind = str::from_utf8(&case.kind).unwrap_or("");
@@ -78,6 +91,9 @@ impl Teller for Cases {
             return Ok(told);
         }
         if let Some(told) = tell_of_records(alloc, kind, case)? {
+            return Ok(told);
+        }
+        if let Some(told) = tell_of_control(alloc, kind, case)? {
             return Ok(told);
         }
         Ok(Vec::from_slice(alloc, b"no such kind")?)

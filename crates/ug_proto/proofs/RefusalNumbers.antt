@@ -13,7 +13,7 @@ use Rattle.ug_types.specs.Refusals.{refusal_words}
 use Rattle.ug_proto.specs.declared.scan.Stop.{Stop}
 use Rattle.ug_proto.specs.RefusalParts.{number_then, IsNumberIn, named_number, named_numbers, IsPairIn, denial_text, Anything, stands_number, refusal_number, refusal_rest, refusal_line, IsNumbered}
 use Rattle.ug_proto.specs.Replies.{IsRefusal}
-use Rattle.ug_proto.specs.Scanning.{NeverBecomes, IsTextThen, IsStop}
+use Rattle.ug_proto.specs.Scanning.{IsTextThen, IsStop}
 use Rattle.ug_proto.proofs.RefusalScans.{one_number}
 use Rattle.ug_proto.proofs.Scans.{begins_with, goes_on}
 
@@ -145,9 +145,6 @@ stands (suc (suc n)) h = absurd (omega (arith, h.1))
 pub memory : (bytes : List ℕ) (s : Stop) → IsStop (named_number (codes "memory ")) (IsNumberIn 0 1) bytes s → IsStop refusal_rest (IsNumbered 12) bytes s
 unfolding refusal_rest
 memory bytes s h = arm (named_number (codes "memory ")) (IsNumberIn 0 1) 12 (λ x. refusal.Memory (nat_eq x 1)) bytes s (λ x k. (tt, refl)) (λ x k. ap (named_number (codes "memory ")) (stands x k)) only_memory h
-
-pub no_refusal : (n : ℕ) (bytes : List ℕ) → ((r : Refusal) → refusal_number r ≡ n → ⊥) → NeverBecomes refusal_rest (IsNumbered n) bytes
-no_refusal n bytes h = λ r more rest c e. h r c.1
 
 pub at_number : (n m : ℕ) (bytes : List ℕ) (s : Stop) → n ≡ m → IsStop refusal_rest (IsNumbered m) bytes s → IsStop refusal_rest (IsNumbered n) bytes s
 at_number n m bytes s e h = subst (λ (k : ℕ). IsStop refusal_rest (IsNumbered k) bytes s) (sym e) h

@@ -163,10 +163,6 @@ one_section s t u v a b q =
     let c = cut 32 (section_word s) (section_word t) u v (section_plain s) (section_plain t) at in
     same_Some s t (sym (section_read s) ∙ ap section_of c.0 ∙ section_read t)
 
--- three parts joined
-pub joined : (bytes front rest a : List ℕ) (more : List ℕ) → bytes ≡ front ++ rest → rest ≡ a ++ more → bytes ≡ (front ++ a) ++ more
-joined bytes front rest a more e f = e ∙ ap (λ (l : List ℕ). front ++ l) f ∙ sym (append_assoc front a more)
-
 -- what has no numbers is any
 any_pair : (bytes : List ℕ) (s : Stop) → IsStop {X = Section × Privilege} denied_pair (λ p. Anything p.0 × Anything p.1) bytes s → IsStop {X = Section × Privilege} denied_pair Anything bytes s
 any_pair bytes s h = goes_on {X = Section × Privilege} {Y = Section × Privilege} denied_pair Anything denied_pair (λ p. Anything p.0 × Anything p.1) bytes [] bytes s refl (λ x more rest c e. (x, (tt, tt), refl)) (λ y c. (y, tt, refl)) h

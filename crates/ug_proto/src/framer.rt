@@ -88,8 +88,8 @@ impl Framer {
         }
     }
 
-    /// Takes the next piece of the stream. After a fault each later piece is refused in the same way; the lines that ended before it
-    /// can still be taken.
+    /// Takes the next piece of the stream. After a fault each later piece is refused in the same way; the
+    /// lines that ended before it can still be taken.
     pub fn feed(&mut self, piece: &[u8]) -> Result<(), FrameFault>
         ensures { FeedsPiece self.old piece.now result self.new }
     {

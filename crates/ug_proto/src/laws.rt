@@ -12,30 +12,39 @@ use crate::request::Request;
 
 /// A line reads as a request exactly where it is that request's text, and the request is one that can be written.
 pub fn requests_law()
-    ensures { (line : List ℕ) (r : Request) → (request_read line ≡ Ok r) ↔ ((line ≡ request_text r) × IsRequest r) }
+    ensures { (line : List ℕ) (r : Request) → (request_read line ≡ Ok r)
+        ↔ ((line ≡ request_text r) × IsRequest r) }
 {}
 
 /// No reply's text begins with that of another, so no two have one text, and a reader knows where each ends.
 pub fn replies_law()
-    ensures { (a b : Reply) (more : List ℕ) → IsReply a → IsReply b → reply_text a ++ more ≡ reply_text b → (a ≡ b) × (more ≡ []) }
+    ensures { (a b : Reply) (more : List ℕ) → IsReply a → IsReply b
+        → reply_text a ++ more ≡ reply_text b → (a ≡ b) × (more ≡ []) }
 {}
 
 /// A text reads in one way: it begins with the text of that one reply, or more of a reply is to come, or neither.
 pub fn one_reading_law()
-    ensures { (text : List ℕ) (a b : Result (Option (Reply × ℕ)) ReplyFault) → ReadsReply text a → ReadsReply text b → a ≢ Err Memory → b ≢ Err Memory → a ≡ b }
+    ensures { (text : List ℕ) (a b : Result (Option (Reply × ℕ)) ReplyFault)
+        → ReadsReply text a → ReadsReply text b → a ≢ Err Memory → b ≢ Err Memory → a ≡ b }
 {}
 
 /// However the bytes of a stream are cut, its lines and what has begun are the same.
 pub fn in_any_pieces()
-    ensures lines { (begun : Begun) (a b : List ℕ) → lines_ended_in begun (a ++ b) ≡ lines_ended_in begun a ++ lines_ended_in (begun_after begun a) b }
-    ensures begun { (begun : Begun) (a b : List ℕ) → begun_after begun (a ++ b) ≡ begun_after (begun_after begun a) b }
+    ensures lines { (begun : Begun) (a b : List ℕ) → lines_ended_in begun (a ++ b)
+        ≡ lines_ended_in begun a ++ lines_ended_in (begun_after begun a) b }
+    ensures begun { (begun : Begun) (a b : List ℕ) → begun_after begun (a ++ b)
+        ≡ begun_after (begun_after begun a) b }
 {}
 
 /// A stream is its lines, each ended by a newline, and a rest that is no whole line; or behind its lines stand 65,536 bytes
 /// without a newline. It is so in one way.
 pub fn lines_in_one_way()
-    ensures whole { (bytes rest : List ℕ) → begun_after (Partial []) bytes ≡ Partial rest → IsCutInto bytes (stream_lines bytes) rest }
-    ensures only { (bytes rest : List ℕ) (lines : List (List ℕ)) → IsCutInto bytes lines rest → (begun_after (Partial []) bytes ≡ Partial rest) × (lines ≡ stream_lines bytes) }
-    ensures overlong { (bytes : List ℕ) → begun_after (Partial []) bytes ≡ Overlong → IsOverlong bytes (stream_lines bytes) }
-    ensures overlong_only { (bytes : List ℕ) (lines : List (List ℕ)) → IsOverlong bytes lines → (begun_after (Partial []) bytes ≡ Overlong) × (lines ≡ stream_lines bytes) }
+    ensures whole { (bytes rest : List ℕ) → begun_after (Partial []) bytes ≡ Partial rest
+        → IsCutInto bytes (stream_lines bytes) rest }
+    ensures only { (bytes rest : List ℕ) (lines : List (List ℕ)) → IsCutInto bytes lines rest
+        → (begun_after (Partial []) bytes ≡ Partial rest) × (lines ≡ stream_lines bytes) }
+    ensures overlong { (bytes : List ℕ) → begun_after (Partial []) bytes ≡ Overlong
+        → IsOverlong bytes (stream_lines bytes) }
+    ensures overlong_only { (bytes : List ℕ) (lines : List (List ℕ)) → IsOverlong bytes lines
+        → (begun_after (Partial []) bytes ≡ Overlong) × (lines ≡ stream_lines bytes) }
 {}

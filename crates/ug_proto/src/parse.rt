@@ -90,8 +90,10 @@ fn take_denial(text: &[u8]) -> Result<(Section, Privilege, &[u8]), Stop>
 
 // A name and a number of at most that size.
 fn take_named<'a>(text: &'a [u8], name: &[u8], most: u64) -> Result<(u64, &'a [u8]), Stop>
-    ensures ok { IfOk result (λ p. IsTextThen (named_number name.now) (IsNumberIn 0 most) text.now p.0 p.1.now) }
-    ensures err { IfErr result (λ stop. IsStop (named_number name.now) (IsNumberIn 0 most) text.now stop) }
+    ensures ok { IfOk result
+        (λ p. IsTextThen (named_number name.now) (IsNumberIn 0 most) text.now p.0 p.1.now) }
+    ensures err { IfErr result
+        (λ stop. IsStop (named_number name.now) (IsNumberIn 0 most) text.now stop) }
 {
     let rest = take_word(text, name)?;
     let (number, rest) = take_number(rest, 0, most, b'\n')?;
@@ -100,8 +102,10 @@ fn take_named<'a>(text: &'a [u8], name: &[u8], most: u64) -> Result<(u64, &'a [u
 
 // A name, a number of at most that size, and a number.
 fn take_pair<'a>(text: &'a [u8], name: &[u8], most: u64) -> Result<(u64, u64, &'a [u8]), Stop>
-    ensures ok { IfOk result (λ p. IsTextThen (named_numbers name.now) (IsPairIn most) text.now (p.0, p.1) p.2.now) }
-    ensures err { IfErr result (λ stop. IsStop (named_numbers name.now) (IsPairIn most) text.now stop) }
+    ensures ok { IfOk result
+        (λ p. IsTextThen (named_numbers name.now) (IsPairIn most) text.now (p.0, p.1) p.2.now) }
+    ensures err { IfErr result
+        (λ stop. IsStop (named_numbers name.now) (IsPairIn most) text.now stop) }
 {
     let rest = take_word(text, name)?;
     let (first, rest) = take_number(rest, 0, most, b' ')?;
@@ -112,7 +116,8 @@ fn take_pair<'a>(text: &'a [u8], name: &[u8], most: u64) -> Result<(u64, u64, &'
 // The rest of the refusal of that number.
 #[tactic(auto, unfolding(crate::specs::RefusalParts::refusal_rest))]
 fn take_numbered(number: u64, text: &[u8]) -> Result<(Refusal, &[u8]), Stop>
-    ensures ok { IfOk result (λ p. IsTextThen refusal_rest (IsNumbered number) text.now p.0 p.1.now) }
+    ensures ok { IfOk result
+        (λ p. IsTextThen refusal_rest (IsNumbered number) text.now p.0 p.1.now) }
     ensures err { IfErr result (λ stop. IsStop refusal_rest (IsNumbered number) text.now stop) }
 {
     match number {
@@ -238,8 +243,8 @@ fn take_reply(alloc: Global, text: &[u8]) -> Result<(Reply, &[u8]), Stop>
     }
 }
 
-/// The reply that the text begins with, and how many bytes it has; nothing while a reply begins with the whole text and has more
-/// bytes.
+/// The reply that the text begins with, and how many bytes it has; nothing while the text is only the
+/// beginning of a reply. It takes time linear in the text.
 pub fn parse_reply(alloc: Global, text: &[u8]) -> Result<Option<(Reply, usize)>, ReplyFault>
     ensures { ReadsReply text.now result }
 {

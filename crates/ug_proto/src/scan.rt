@@ -31,7 +31,8 @@ impl From<NoMemory> for Stop {
 
 /// What stands before the first such byte, and behind it.
 pub fn split_at(text: &[u8], end: u8) -> Option<(&[u8], &[u8])>
-    ensures some { IfSome result (λ p. (text.now ≡ p.0.now ++ end ∷ p.1.now) × (¬ Has p.0.now end)) }
+    ensures some { IfSome result
+        (λ p. (text.now ≡ p.0.now ++ end ∷ p.1.now) × (¬ Has p.0.now end)) }
     ensures none { IfNone result (¬ Has text.now end) }
 {
     for (i, byte) in text.iter().enumerate() {
@@ -45,7 +46,8 @@ pub fn split_at(text: &[u8], end: u8) -> Option<(&[u8], &[u8])>
 /// Takes these bytes.
 pub fn take_word<'a>(text: &'a [u8], word: &[u8]) -> Result<&'a [u8], Stop>
     ensures ok { IfOk result (λ rest. text.now ≡ word.now ++ rest.now) }
-    ensures err { IfErr result (λ stop. IsStop {X = Unit {0}} (λ _. word.now) (λ _. Unit {0}) text.now stop) }
+    ensures err { IfErr result
+        (λ stop. IsStop {X = Unit {0}} (λ _. word.now) (λ _. Unit {0}) text.now stop) }
 {
     if text.starts_with(word) {
         return Ok(&text[word.len()..]);
@@ -79,8 +81,10 @@ pub fn take_number(text: &[u8], least: u64, most: u64, end: u8) -> Result<(u64, 
     requires digits { end < 48 }
     requires least { least ≤ 1 }
     requires most { least ≤ most }
-    ensures ok { IfOk result (λ p. IsTextThen (number_then end) (IsNumberIn least most) text.now p.0 p.1.now) }
-    ensures err { IfErr result (λ stop. IsStop (number_then end) (IsNumberIn least most) text.now stop) }
+    ensures ok { IfOk result
+        (λ p. IsTextThen (number_then end) (IsNumberIn least most) text.now p.0 p.1.now) }
+    ensures err { IfErr result
+        (λ stop. IsStop (number_then end) (IsNumberIn least most) text.now stop) }
 {
     match split_at(text, end) {
         Some((word, rest)) => match bounded_number(word, least, most) {
