@@ -34,6 +34,7 @@ fn tell_of_rules(alloc: Global, kind: &str, case: &Case) -> Result<Option<Vec<u8
         "rule-bytes" => rules::answer_every_byte(alloc, line)?,
         "query" => rules::tell_query(alloc, line)?,
         "rule-file" => rules::tell_file(alloc, &case.input)?,
+        "saved-rules" => rules::tell_saved(alloc, &case.input)?,
         "policy" => policies::tell(alloc, line)?,
         "local-second" => zones::tell(alloc, line)?,
         _ => return Ok(None),

@@ -3,7 +3,7 @@ use std::alloc::Global;
 use ug_casefile::{Case, bytes_of_hex, push_escaped};
 use ug_descr::{DescrFault, decode, ifaces};
 use ug_match::matches;
-use ug_print::{device_line, generated_rule, print_rule};
+use ug_print::{device_line, generated_rule, malformed_line, print_rule};
 use ug_record::{record_of, text_of};
 use ug_rule::parse_query;
 use ug_types::{Attrs, DeviceRecord, Judged, NoMemory, NodeName, Target, Text, Triple};
@@ -78,12 +78,18 @@ fn target(case: &Case) -> Target {
     }
 }
 
-/// The line of a device with its verdict, or `malformed KIND PLACE`.
+/// The line of a device with its verdict.
 pub fn tell_device_line(alloc: Global, case: &Case) -> Result<Vec<u8>, NoMemory> {
-    match record(alloc, case)? {
-        Ok(record) => Ok(device_line(alloc, &record, target(case))?.into_vec()),
-        Err(told) => Ok(told),
-    }
+    let Ok(name) = NodeName::parse(case.setting(b"name").unwrap_or(b"1-1")) else {
+        return Ok(Vec::from_slice(alloc, b"no name")?);
+    };
+    let line = match judged(alloc, case, &name)? {
+        Judged::Good(record) => device_line(alloc, &record, target(case))?,
+        Judged::Malformed { kind, place } => {
+            malformed_line(alloc, &name, kind, place, target(case))?
+        }
+    };
+    Ok(line.into_vec())
 }
 
 /// The rule for a device, with its port where the setting `port` stands.

@@ -1,8 +1,8 @@
 // Rules and queries as they are read and printed.
 use std::alloc::Global;
 use ug_casefile::push_escaped;
-use ug_print::print_rule;
-use ug_rule::{RuleFault, parse_file, parse_query, parse_rule};
+use ug_print::{RulesTextFault, print_rule, rules_text};
+use ug_rule::{RuleFault, count_rules, parse_file, parse_query, parse_rule};
 use ug_types::{FileFault, NoMemory, Rule, Target, Text};
 
 fn tell_fault(alloc: Global, fault: RuleFault) -> Result<Vec<u8>, NoMemory> {
@@ -55,18 +55,34 @@ pub fn tell_query(alloc: Global, line: &[u8]) -> Result<Vec<u8>, NoMemory> {
     Ok(Vec::from_slice(alloc, text.bytes().get(6..).unwrap_or(&[]))?)
 }
 
-/// How many rules a text has, or `fault LINE KIND PLACE`.
-pub fn tell_file(alloc: Global, text: &[u8]) -> Result<Vec<u8>, NoMemory> {
-    match parse_file(alloc, text) {
-        Ok(rules) => {
-            let count = rules.len();
-            Ok(format!(in alloc; "{count} rules")?.into_bytes())
-        }
-        Err(FileFault::Bad(fault)) => Ok(format!(in alloc;
+fn tell_file_fault(alloc: Global, fault: FileFault) -> Result<Vec<u8>, NoMemory> {
+    match fault {
+        FileFault::Bad(fault) => Ok(format!(in alloc;
             "fault {} {} {}",
             fault.line, fault.kind, fault.place
         )?.into_bytes()),
-        Err(FileFault::Memory) => Err(NoMemory),
+        FileFault::Memory => Err(NoMemory),
+    }
+}
+
+/// How many rules a text has, or `fault LINE KIND PLACE`.
+pub fn tell_file(alloc: Global, text: &[u8]) -> Result<Vec<u8>, NoMemory> {
+    match count_rules(alloc, text) {
+        Ok(count) => Ok(format!(in alloc; "{count} rules")?.into_bytes()),
+        Err(fault) => tell_file_fault(alloc, fault),
+    }
+}
+
+/// The rules of a text as a rule file has them, or `fault LINE KIND PLACE`.
+pub fn tell_saved(alloc: Global, text: &[u8]) -> Result<Vec<u8>, NoMemory> {
+    let rules = match parse_file(alloc, text) {
+        Ok(rules) => rules,
+        Err(fault) => return tell_file_fault(alloc, fault),
+    };
+    match rules_text(alloc, &rules) {
+        Ok(text) => Ok(text.into_vec()),
+        Err(RulesTextFault::TooLong) => Ok(Vec::from_slice(alloc, b"too long")?),
+        Err(RulesTextFault::Memory) => Err(NoMemory),
     }
 }
 

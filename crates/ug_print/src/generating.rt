@@ -119,7 +119,8 @@ pub fn generated_rule(
     ensures well_formed { IfOk result (λ rule. WellFormed rule) }
     ensures bytes { IfOk result (λ rule. RuleOfBytes rule) }
     ensures own { IfOk result (λ rule. IsTrue (query_matches rule.query device.now)) }
-    ensures alike { IfOk result (λ rule. (other : DeviceRecord) → IsTrue (query_matches rule.query other) ↔ IsAlike with_port device.now other) }
+    ensures alike { IfOk result (λ rule. (other : DeviceRecord)
+        → IsTrue (query_matches rule.query other) ↔ IsAlike with_port device.now other) }
 {
     Ok(Rule {
         target,

@@ -25,18 +25,25 @@ pub fn printed_law()
 
 /// Of the same rules: the text of a rule file with them has their canonical texts for its lines, and reads as them.
 pub fn rules_text_law()
-    ensures lines { (rules : List Rule) → All WellFormed rules → All RuleOfBytes rules → Splits (rules_text_of rules) (map rule_text rules) }
-    ensures reads { (rules : List Rule) → All WellFormed rules → All RuleOfBytes rules → file_read (rules_text_of rules) ≡ Ok rules }
+    ensures lines { (rules : List Rule) → All WellFormed rules → All RuleOfBytes rules
+        → Splits (rules_text_of rules) (map rule_text rules) }
+    ensures reads { (rules : List Rule) → All WellFormed rules → All RuleOfBytes rules
+        → file_read (rules_text_of rules) ≡ Ok rules }
 {}
 
 /// Such a rule with another target is one too.
 pub fn target_law()
-    ensures well_formed { (rule : Rule) (target : Target) → WellFormed rule → RuleOfBytes rule → WellFormed (record rule { target = target }) }
-    ensures bytes { (rule : Rule) (target : Target) → RuleOfBytes rule → RuleOfBytes (record rule { target = target }) }
+    ensures well_formed { (rule : Rule) (target : Target) → WellFormed rule → RuleOfBytes rule
+        → WellFormed (record rule { target = target }) }
+    ensures bytes { (rule : Rule) (target : Target) → RuleOfBytes rule
+        → RuleOfBytes (record rule { target = target }) }
 {}
 
 /// The rule that is made of a device matches that device, and exactly the devices that are as it asks.
 pub fn generated_law()
-    ensures own { (device : DeviceRecord) (target : Target) (with_port : Bool) → IsTrue (query_matches (generated_of device target with_port).query device) }
-    ensures alike { (device other : DeviceRecord) (target : Target) (with_port : Bool) → IsTrue (query_matches (generated_of device target with_port).query other) ↔ IsAlike with_port device other }
+    ensures own { (device : DeviceRecord) (target : Target) (with_port : Bool)
+        → IsTrue (query_matches (generated_of device target with_port).query device) }
+    ensures alike { (device other : DeviceRecord) (target : Target) (with_port : Bool)
+        → IsTrue (query_matches (generated_of device target with_port).query other)
+        ↔ IsAlike with_port device other }
 {}

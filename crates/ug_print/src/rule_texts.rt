@@ -41,7 +41,8 @@ fn put_line(alloc: Global, out: &mut Vec<u8>, rule: &Rule) -> Result<(), RulesTe
     requires { length out.old.items ≤ 67108864 }
     ensures line { OnOk result (out.new.items ≡ out.old.items ++ rule_line rule.now) }
     ensures fits { OnOk result (length out.new.items ≤ 67108864) }
-    ensures too_long { result ≡ Err RulesTextFault.TooLong → 67108864 < length (out.old.items ++ rule_line rule.now) }
+    ensures too_long { result ≡ Err RulesTextFault.TooLong
+        → 67108864 < length (out.old.items ++ rule_line rule.now) }
     ensures err { OnErr result (out.new.items ≡ out.old.items) }
     ensures bytes { OnOk result (RuleOfBytes rule.now) }
 {
@@ -80,7 +81,8 @@ impl RulesText {
     pub fn push(&mut self, alloc: Global, rule: &Rule) -> Result<(), RulesTextFault>
         ensures line { OnOk result (self.new ≡ self.old ++ rule_line rule.now) }
         ensures fits { OnOk result (length self.new ≤ 67108864) }
-        ensures too_long { result ≡ Err RulesTextFault.TooLong → 67108864 < length (self.old ++ rule_line rule.now) }
+        ensures too_long { result ≡ Err RulesTextFault.TooLong
+            → 67108864 < length (self.old ++ rule_line rule.now) }
         ensures err { OnErr result (self.new ≡ self.old) }
         ensures bytes { OnOk result (RuleOfBytes rule.now) }
     {
@@ -100,7 +102,8 @@ impl RulesText {
 pub fn rules_text(alloc: Global, rules: &[Rule]) -> Result<Text, RulesTextFault>
     ensures text { IfOk result (λ text. text ≡ rules_text_of rules.now) }
     ensures fits { OnOk result (length (rules_text_of rules.now) ≤ 67108864) }
-    ensures too_long { result ≡ Err RulesTextFault.TooLong → 67108864 < length (rules_text_of rules.now) }
+    ensures too_long { result ≡ Err RulesTextFault.TooLong
+        → 67108864 < length (rules_text_of rules.now) }
     ensures bytes { OnOk result (All RuleOfBytes rules.now) }
     ensures reads { All WellFormed rules.now → IfOk result (λ text. file_read text ≡ Ok rules.now) }
 {
