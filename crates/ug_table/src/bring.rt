@@ -9,8 +9,8 @@ ghost use Rattle.ug_table.specs.Bring.{wants, write_of, is_reject, is_to_go, val
 use crate::standing::{Known, Settled};
 use std::alloc::Global;
 use ug_audit::{Entry, Fault, Journal};
-use ug_node::{RemoveHold, failed_call, hold_remove, put};
 use ug_kernel::{Sysfs, Write, Wrote};
+use ug_node::{RemoveHold, failed_call, hold_remove, put};
 use ug_types::{Held, NodeName, Target};
 
 /// Whether a verdict wants the device to be authorised.

@@ -18,9 +18,9 @@ use crate::standing::{Known, Settled, Standing};
 use crate::table::{Table, find, forget, known_of, mark, put_in};
 use std::alloc::Global;
 use ug_audit::{Entry, Fault, Journal};
+use ug_kernel::{Probe, Sysfs};
 use ug_node::{Binding, Bound, bind, failed_call, reprobe};
 use ug_record::record_of;
-use ug_kernel::{Probe, Sysfs};
 use ug_types::{Held, Judged, NoMemory, NodeName};
 
 // Whether the name is a root hub's.

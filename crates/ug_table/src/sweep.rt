@@ -17,8 +17,8 @@ use crate::standing::Standing;
 use crate::table::Table;
 use std::alloc::Global;
 use ug_audit::{Entry, Fault, Journal};
-use ug_node::failed_call;
 use ug_kernel::{Listing, Sysfs};
+use ug_node::failed_call;
 use ug_types::{List, NodeName, sort_names};
 
 fn has(names: &[NodeName], name: &NodeName) -> bool
