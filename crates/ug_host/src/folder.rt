@@ -143,8 +143,8 @@ impl<R: Files + AllocGlobal + Clone + Drop> Folder<R> {
     }
 }
 
-// Whether the device of a control is gone: the name's folder is missing, or its device has another number.
-fn is_gone<R: Files>(rt: &R, control: &OpenControl<R::File>) -> bool {
+// Whether the device of a control is gone, as its name tells: its folder is missing, or its device has another number.
+fn is_replaced<R: Files>(rt: &R, control: &OpenControl<R::File>) -> bool {
     match read_number(rt, control.devnum_path.as_str()) {
         Ok(devnum) => devnum != control.devnum,
         Err(FileFault::Missing) => true,
@@ -152,12 +152,22 @@ fn is_gone<R: Files>(rt: &R, control: &OpenControl<R::File>) -> bool {
     }
 }
 
+// Whether the device of a control is gone, as its file tells that can be read, or else its name. The name alone doesn't serve: a
+// root hub's number is always 1, and those of its devices begin anew with it.
+fn is_gone<R: Files>(rt: &R, control: &mut OpenControl<R::File>) -> bool {
+    match read_first(&mut control.file) {
+        Err(FileFault::Missing) => true,
+        _ => is_replaced(rt, control),
+    }
+}
+
 fn probe_control<R: Files>(rt: &R, control: &mut OpenControl<R::File>) -> Probe {
     match read_first(&mut control.file) {
         Ok(Some(b'0')) => Probe::Alive(false),
         Ok(Some(b'1')) => Probe::Alive(true),
+        Err(FileFault::Missing) => Probe::Gone,
         _ => {
-            if is_gone(rt, control) {
+            if is_replaced(rt, control) {
                 Probe::Gone
             } else {
                 Probe::Failed
