@@ -4,7 +4,7 @@ use std::fs::OpenOptions;
 use std::io::{ErrorKind, Read, Seek, SeekFrom, Write};
 use std::rt::Files;
 use std::{fs, io, str};
-use ug_types::{NoMemory, NodeName, Text};
+use ug_types::{NodeName, Text};
 
 /// `ENODEV` of errno(3): what a file of sysfs answers whose device is gone.
 const NO_DEVICE: i32 = 19;
@@ -33,12 +33,6 @@ impl From<io::Error> for FileFault {
 
 impl From<AllocError> for FileFault {
     fn from(_error: AllocError) -> FileFault {
-        FileFault::Memory
-    }
-}
-
-impl From<NoMemory> for FileFault {
-    fn from(_error: NoMemory) -> FileFault {
         FileFault::Memory
     }
 }

@@ -23,13 +23,13 @@ fn port_of(word: &str) -> &str {
 /// hub its name, a colon, the number of its configuration and `.0`.
 fn is_hub_interface(entry: &str, hub: &str) -> bool {
     match entry.split_once(':') {
-        Some((device, rest)) => rest.ends_with(".0") && is_prefix_of(device, hub),
+        Some((device, rest)) => rest.ends_with(".0") && is_of_hub(device, hub),
         None => false,
     }
 }
 
 /// Whether the part of an interface's name before its colon is that of the hub: `1-0` for `usb1`.
-fn is_prefix_of(device: &str, hub: &str) -> bool {
+fn is_of_hub(device: &str, hub: &str) -> bool {
     match hub.strip_prefix("usb") {
         Some(bus) => match device.strip_suffix("-0") {
             Some(number) => number == bus,
