@@ -28,7 +28,8 @@ impl Line {
     }
 
     pub fn bytes(&self) -> &[u8]
-        ensures { result.now ≡ self.now }
+        ensures is { result.now ≡ self.now }
+        ensures short { length result.now ≤ 512 }
     {
         self.bytes.as_slice()
     }
