@@ -11,11 +11,13 @@ pub struct Line {
 }
 
 impl Model for Line {
-    ghost use Rattle.std.specs.Prelude.{ℕ, List};
+    ghost use Rattle.std.specs.Prelude.{ℕ, List, ◌≤◌, length};
 
     ghost Value = { List ℕ };
 
     ghost view = { λ l. l.bytes.items };
+
+    ghost invariant = { λ l. length l.bytes.items ≤ 512 };
 }
 
 impl Line {
@@ -28,8 +30,7 @@ impl Line {
     }
 
     pub fn bytes(&self) -> &[u8]
-        ensures is { result.now ≡ self.now }
-        ensures short { length result.now ≤ 512 }
+        ensures { result.now ≡ self.now }
     {
         self.bytes.as_slice()
     }
