@@ -1,12 +1,15 @@
--- Words are sections and privileges exactly as these are written.
+-- Words are sections, privileges and targets exactly as these are written.
 use Rattle.std.proofs.Common.{◌≡◌, ℕ, Bool, true, false, cond, nat_eq, List, Option, Some, refl, sym, ap, ◌∙◌}
-use Rattle.std.specs.Prelude.{codes}
+use Rattle.std.specs.Prelude.{codes, ◌↔◌}
 use Rattle.std.specs.Cmp.Lexicographic.{pointwise, same_text}
 use Rattle.std.proofs.lemmas.Option.{none-some, same_Some}
 use Rattle.ug_types.specs.declared.access.Section.{Section}
 use Rattle.ug_types.specs.declared.access.Section.TheVariants.{Devices, Policy, Exceptions, Parameters}
 use Rattle.ug_types.specs.declared.access.Privilege.{Privilege}
 use Rattle.ug_types.specs.declared.access.Privilege.TheVariants as privilege
+use Rattle.ug_types.specs.declared.verdict.Target.{Target}
+use Rattle.ug_types.specs.declared.verdict.Target.TheVariants.{Allow, Block, Reject}
+use Rattle.ug_types.specs.Targets.{target_word, target_of}
 use Rattle.ug_types.specs.Access.{section_word, privilege_word, section_of, privilege_of}
 
 -- one row of a table
@@ -37,3 +40,16 @@ unfolding privilege_of privilege_word
 privilege_read privilege.Modify = refl
 privilege_read privilege.List = refl
 privilege_read privilege.Listen = refl
+
+pub target_written : (word : List ℕ) (it : Target) → target_of word ≡ Some it → word ≡ target_word it
+unfolding target_of
+target_written word it h = row target_word word (codes "allow") Allow it _ refl (λ h. row target_word word (codes "block") Block it _ refl (λ h. row target_word word (codes "reject") Reject it _ refl (λ h. absurd (none-some it h)) h) h) h
+
+pub target_read : (it : Target) → target_of (target_word it) ≡ Some it
+unfolding target_of
+target_read Allow = refl
+target_read Block = refl
+target_read Reject = refl
+
+pub target_law : (target : Target) (word : List ℕ) → (target_of word ≡ Some target) ↔ (word ≡ target_word target)
+target_law target word = (target_written word target, λ e. ap target_of e ∙ target_read target)

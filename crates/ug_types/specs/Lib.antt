@@ -1,6 +1,7 @@
 pub mod Access
 pub mod Elements
 pub mod Ends
+pub mod Failing
 pub mod Names
 pub mod NodeNames
 pub mod Padded
@@ -9,3 +10,5 @@ pub mod Principals
 pub mod Reading
 pub mod Refusals
 pub mod Sweep
+pub mod Targets
+pub mod TextFaults

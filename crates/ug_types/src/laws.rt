@@ -1,7 +1,9 @@
-// What the definitions of names come to.
-ghost use Rattle.std.specs.Prelude.{◌≡◌, ℕ, ◌+◌, List, ◌∷◌, ◌++◌, Some, None, codes, decimal};
+// What the definitions of names and words come to.
+ghost use Rattle.std.specs.Prelude.{◌≡◌, ℕ, ◌+◌, List, ◌∷◌, ◌++◌, ◌↔◌, Some, None, codes, decimal};
 ghost use Rattle.std.specs.declared.cmp.Ordering.TheVariants.{Less};
 ghost use Rattle.ug_types.specs.NodeNames.{IsBus, IsDevice, IsNodeName, IsPort, IsRootHub};
+ghost use Rattle.ug_types.specs.declared.verdict.Target.{Target};
+ghost use Rattle.ug_types.specs.Targets.{target_of, target_word};
 ghost use Rattle.ug_types.specs.Names.{depth_of, parent_of, sweep_cmp};
 
 /// A root hub alone has no parent. What hangs on a root hub has that hub, and what hangs on a device has that device.
@@ -14,4 +16,9 @@ pub fn parents_law()
     ensures depth_top { (name : List ℕ) → IsNodeName name → parent_of name ≡ None → depth_of name ≡ 0 }
     ensures depth_above { (name parent : List ℕ) → IsNodeName name → parent_of name ≡ Some parent → depth_of name ≡ depth_of parent + 1 }
     ensures first { (name parent : List ℕ) → IsNodeName name → parent_of name ≡ Some parent → sweep_cmp parent name ≡ Less }
+{}
+
+/// A word is a target exactly where it is the target's own.
+pub fn targets_law()
+    ensures { (target : Target) (word : List ℕ) → (target_of word ≡ Some target) ↔ (word ≡ target_word target) }
 {}

@@ -11,11 +11,13 @@ pub struct Line {
 }
 
 impl Model for Line {
-    ghost use Rattle.std.specs.Prelude.{ℕ, List};
+    ghost use Rattle.std.specs.Prelude.{ℕ, List, ◌≤◌, length};
 
     ghost Value = { List ℕ };
 
     ghost view = { λ l. l.bytes.items };
+
+    ghost invariant = { λ l. length l.bytes.items ≤ 512 };
 }
 
 impl Line {
