@@ -182,9 +182,7 @@ wanted : (s : World) (call : Call) (a : Answer call) (t : World) → Wants s cal
 wanted s Names a t w = ap (λ (x : Told Listing). short_listing x.answer) w.answer ∙ ap short_listing w.memory
 wanted s (Open name control) a t w = ap (λ (x : Told Opened). short_open x.answer) w.answer ∙ ap short_open w.memory
 wanted s (Read name attr) a t w = ap (λ (x : Told ReadOut). short_read x.answer) w.answer ∙ ap short_read w.memory
-wanted s (Ask_alive held) a t w = absurd w.memory
-wanted s (Put held write) a t w = absurd w.memory
-wanted s (Close held) a t w = absurd w.memory
+wanted s x a t w = absurd w.memory
 
 refused_now : (ok b w : Bool) → b ≡ true → (not ok || (b || w)) ≡ true
 refused_now true b w e = ap (λ (v : Bool). v || w) e

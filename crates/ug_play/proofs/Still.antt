@@ -42,20 +42,13 @@ length_put write None k = refl
 length_put write (Some i) k = length_switched write i (slice_get k.devices i) k.devices
 
 length_act : (call : Call) (k : Kernel) → length (act call k).1.devices ≡ length k.devices
-length_act Names k = refl
 length_act (Open name control) k = length_opened control (find name 0 k.devices) k
-length_act (Read name at) k = refl
-length_act (Ask_alive held) k = refl
 length_act (Put held write) k = length_put write (live_held held k.held k.devices) k
-length_act (Close held) k = refl
+length_act x k = refl
 
 length_hidden : (call : Call) (k : Kernel) → length (hidden call k).devices ≡ length k.devices
-length_hidden Names k = refl
-length_hidden (Open name control) k = refl
-length_hidden (Read name at) k = refl
-length_hidden (Ask_alive held) k = refl
 length_hidden (Put held write) k = length_put write (live_held held k.held k.devices) k
-length_hidden (Close held) k = refl
+length_hidden x k = refl
 
 length_effect : (o : Option Bool) (call : Call) (k : Kernel) → length (effect o call k).1.devices ≡ length k.devices
 length_effect None call k = length_act call k

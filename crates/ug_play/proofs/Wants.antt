@@ -43,11 +43,9 @@ or_false false = refl
 -- a binding
 
 came_sure : (r : ReadOut) → Came r → short_read r ≡ false
-came_sure (out.Bytes bytes) c = refl
-came_sure out.Absent c = refl
-came_sure out.TooLong c = refl
 came_sure out.Failed c = absurd c
 came_sure out.Memory c = absurd c
+came_sure x c = refl
 
 reads_sure : {name : List ℕ} {ms : List Made} → Reads name ms → has_want ms ≡ false
 reads_sure No_more = refl
@@ -59,17 +57,14 @@ short_binding answer = false
 
 stop_want : {at : _} {t : Told ReadOut} {why : Stop} (of : List ℕ) (file : ℕ) (shut : Closing) → Stops at t why → has_want (answered (Read of at) t ∷ answered (Close file) shut ∷ []) ≡ short_binding (binding_of why)
 stop_want of file shut (No_descriptors call count) = refl
-stop_want of file shut (Read_failed at call count) = refl
-stop_want of file shut (Read_short at call count) = refl
+stop_want of file shut x = refl
 
 binds_want : {name : List ℕ} {ms : List Made} {r : Binding} → Binds_by name ms r → has_want ms ≡ short_binding r
-binds_want (No_such call count) = refl
-binds_want (Open_failed call count) = refl
-binds_want (Open_short call count) = refl
 binds_want (Cut file call count ms of at t shut why r a few may stops e) = behind_sure ms _ (reads_sure a) ∙ stop_want of file.0 shut stops ∙ ap short_binding (sym e)
 binds_want (Probed_gone file call count number total ms shut a few) = behind_sure ms _ (reads_sure a)
 binds_want (Probe_failed file call count number total ms shut a few) = behind_sure ms _ (reads_sure a)
 binds_want (Bound_by call count number total ms b a few are) = behind_sure ms _ (reads_sure a)
+binds_want x = refl
 
 abbrev short_hold : RemoveHold → Bool
 short_hold hold.Memory = true
@@ -77,18 +72,13 @@ short_hold answer = false
 
 holds_want : {name : List ℕ} {held : ℕ} {ms : List Made} {r : RemoveHold} → Holds_by name held ms r → has_want ms ≡ short_hold r
 holds_want (Not_there call count) = refl
-holds_want (Not_opened call count) = refl
-holds_want (No_memory call count) = refl
-holds_want (Held_on file on call count number total) = refl
-holds_want (Died file call count number total shut) = refl
-holds_want (Unasked file call count number total shut) = refl
+holds_want x = refl
 
 -- the writes
 
 written_calm : {name : List ℕ} {number : ℕ} {what : Write} {t : Told Wrote} {es : List Entry} {how : Settled} → Written name number what t es how → tells_memory es ≡ false
 written_calm (Done failed) = refl
-written_calm (Went failed) = refl
-written_calm (Broke failed) = refl
+written_calm x = refl
 
 valued_calm : {name : List ℕ} {known : Known} {on : Bool} {ms : List Made} {es : List Entry} {how : Settled} → Valued name known on ms es how → (tells_memory es ≡ false) × (has_want ms ≡ false)
 valued_calm (Same e) = (refl, refl)
@@ -96,8 +86,7 @@ valued_calm (Set t es how e w) = (written_calm w, refl)
 
 unheld_want : {name : List ℕ} {number : ℕ} {r : RemoveHold} {es : List Entry} {how : Settled} → Unheld name number r es how → tells_memory es ≡ short_hold r
 unheld_want Gone_by = refl
-unheld_want (Failed_by failed) = refl
-unheld_want Short_by = refl
+unheld_want x = refl
 
 removal_want : {name : List ℕ} {known : Known} {ms : List Made} {es : List Entry} {how : Settled} → Removal name known ms es how → tells_memory es ≡ has_want ms
 removal_want {name} {known} (Not_held ms r es how way u) = unheld_want u ∙ sym (holds_want (way_holds name known.held.0 ms r way))
@@ -119,9 +108,7 @@ opening_calm (Lost known failed shut e) = (refl, refl)
 
 unbound_want : {name : List ℕ} {r : Binding} {es : List Entry} {how : Settled} → Unbound_end name r es how → tells_memory es ≡ short_binding r
 unbound_want Absent_so = refl
-unbound_want Vanished_so = refl
-unbound_want (Failed_so failed) = refl
-unbound_want Short_so = refl
+unbound_want x = refl
 
 pub flat_want : {binds : Bool} {given : List Standing → Bound → Standing → Type 0} {name : List ℕ} {ss : List Standing} {ok : Bool} {ms : List Made} {rest : List Entry} {how : Settled} {rs : List Standing} {o : Option (List Standing × Bound)} → Flat binds given name ss ok ms rest how rs o → tells_memory rest ≡ refused ok ms
 flat_want (Unprobed known failed at) = refl

@@ -12,7 +12,7 @@ use Rattle.ug_kernel.proofs.Grow.{quiet_grows, called_grows}
 use Rattle.ug_kernel.proofs.Quiet.{called_quiet, quiet_refl, quiet_trans}
 use Rattle.ug_kernel.specs.Along.{Made, answered, Along}
 use Rattle.ug_kernel.proofs.Ways.{Way, way_runs, along_split, along_sound, along_grows}
-use Rattle.ug_table.proofs.Shapes.{Valued, Same, Set, Removal, Not_held, Put_on, Carried, By_value, And_removal, Brought, Left_open, Let_go, Opening, Fresh, Lost, Flat, Unprobed, Tried, Stopped, Unbound, No_place, Judged_so, told_at}
+use Rattle.ug_table.proofs.Shapes.{Piece, Valued, Same, Set, Removal, Not_held, Put_on, Carried, By_value, And_removal, Brought, Left_open, Let_go, Opening, Fresh, Lost, Flat, Unprobed, Tried, Stopped, Unbound, No_place, Judged_so, told_at}
 use Rattle.ug_kernel.specs.Tree.{Runs, calls}
 use Rattle.ug_node.specs.Removal.{holding_remove, RemoveSays}
 use Rattle.ug_node.specs.declared.removal.RemoveHold.{RemoveHold}
@@ -35,7 +35,6 @@ use Rattle.ug_table.specs.declared.standing.Settled.TheVariants as settled
 use Rattle.ug_table.proofs.Values.{Others, others_refl, others_trans, others_quiet, others_put, IsOpen, open_later}
 use Rattle.ug_table.proofs.Standings.{found}
 use Rattle.ug_table.proofs.Places.{Files, files_later, kept_has, kept_files, tried_has, tried_files}
-use Rattle.ug_table.proofs.Chains.{Piece}
 
 -- entries were added
 abbrev pub Appends : List Entry → List Entry → Type 0
@@ -167,5 +166,9 @@ flat_apart {name = name} k l xs ys e sound f (Judged_so ms ns os es fs rs b x ho
       files = kept_files l rs x how (files_later m l rs g o.files) (subst (λ v. IsOpen l v x.held.0) (sym new.named) (open_later m l name x.held.0 g opened_now));
     }
 
-pub piece_apart : {J : Type 0} {answer : Answers J} {later : Laters J} {binds present : Bool} {name : List ℕ} {how : Settled} {k l : Kernel} {w v : State J} → IsKernel k → Files k w.standings → Piece calls answer later binds present name how k w l v → Apart name k w.standings w.entries l v.standings v.entries
-piece_apart {k = k} {l = l} {w = w} {v = v} sound f p = flat_apart k l w.entries v.entries p.entries sound f p.flat p.along
+pub piece_apart : {J : Type 0} {answer : Answers J} {later : Laters J} {binds present : Bool}
+    {name : List ℕ} {how : Settled} {ok : Bool} {ms : List Made} {k l : Kernel} {w v : State J}
+    → IsKernel k → Files k w.standings → Piece answer later binds present name w ok ms how v
+    → Along calls k ms l → Apart name k w.standings w.entries l v.standings v.entries
+piece_apart {k = k} {l = l} {w = w} {v = v} sound f p a =
+    flat_apart k l w.entries v.entries p.entries sound f p.flat a

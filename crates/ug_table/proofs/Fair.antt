@@ -49,11 +49,10 @@ use Rattle.ug_table.proofs.Orders.{order_with}
 use Rattle.ug_kernel.specs.Along.{Made, answered, Along}
 use Rattle.ug_kernel.proofs.Ways.{Way, way_runs, along_split}
 use Rattle.ug_kernel.specs.declared.calls.FailedCall.{FailedCall}
-use Rattle.ug_table.proofs.Shapes.{Brought, Opening, Fresh, Lost, Unbound_end, Absent_so, Vanished_so, Failed_so, Short_so, Flat, Unprobed, Tried, Stopped, Unbound, No_place, Judged_so, IsGiven, next_after, judge_after, told_at}
+use Rattle.ug_table.proofs.Shapes.{Piece, Brought, Opening, Fresh, Lost, Unbound_end, Absent_so, Vanished_so, Failed_so, Short_so, Flat, Unprobed, Tried, Stopped, Unbound, No_place, Judged_so, IsGiven, next_after, judge_after, told_at}
 use Rattle.ug_table.proofs.RemoveMarks.{Keeps, keeps_itself, keep_one, Marks}
 use Rattle.ug_table.proofs.SoFar.{AreIn, dropped_in}
 use Rattle.ug_table.proofs.Account.{account_stays}
-use Rattle.ug_table.proofs.Chains.{Piece}
 
 second : {A B : Type 0} (p q : A × B) → p ≡ q → p.1 ≡ q.1
 second p q e = ap (λ (x : _). x.1) e
@@ -304,10 +303,9 @@ unbound_fair {J} {answer} {later} {present} {tried} {k} {l} {w} {name} {r} {fs} 
     same h = subst (λ (x : List Entry). FairFrom answer later present tried k w l (record v { entries = x })) (sym (append-nil v.entries)) h
 
     by : {r : Binding} {fs : List Entry} {how : Settled} → Unbound_end name r fs how → FairFrom answer later present tried k w l v → FairFrom answer later present tried k w l (record v { entries = v.entries ++ fs })
-    by Absent_so h = same h
-    by Vanished_so h = same h
     by (Failed_so failed) h = then_note (entry.Unsettled name (fault.Call failed)) tt h
     by Short_so h = then_note (entry.Unsettled name fault.Memory) tt h
+    by x h = same h
 
 -- a binding leads to what it says
 binds_fair : {J : Type 0} {answer : Answers J} {later : Laters J} {present : Bool} {tried : Tries} {k n : Kernel} {w u : State J} (m : Kernel) (name : List ℕ) (ns : List Made) (r : Binding) → Way (binding name (parent_of name)) ns r → FairFrom answer later present tried k w n u → Along calls n ns m → IsKernel m × Quiet n m × BindSays name n m r × FairFrom answer later present tried k w m u
@@ -351,7 +349,16 @@ flat_fair {J} {answer} {later} {present} {tried} {k = k} {m = m} {w = w} {u = u}
 state_is : {J : Type 0} (v : State J) (next : ℕ) (listed : Bool) (judge : J) (es : List Entry) → v.next ≡ next → v.listed ≡ listed → v.judge ≡ judge → v.entries ≡ es → let made : State J = record { standings = v.standings; next = next; listed = listed; judge = judge; entries = es } in v ≡ made
 state_is v next listed judge es a b c d = λ i. record { standings = v.standings; next = a i; listed = b i; judge = c i; entries = d i }
 
-pub piece_fair : {J : Type 0} {answer : Answers J} {later : Laters J} {binds present : Bool} {tried : Tries} {name : List ℕ} {how : Settled} {k m l : Kernel} {w u v : State J} → (binds ≡ true → AreIn tried name w u) → FairFrom answer later present tried k w m u → Piece calls answer later binds present name how m u l v → FairFrom answer later present tried k w l v
-piece_fair {J} {answer} {later} {present = present} {tried = tried} {name = name} {k = k} {l = l} {w = w} {u = u} {v = v} so h p =
-    subst (λ (x : State J). FairFrom answer later present tried k w l x) (sym (state_is v (next_after u p.judged) u.listed (judge_after later present name u p.judged) (u.entries ++ p.rest) p.next p.listed p.judge p.entries))
-    (flat_fair l p.flat (λ ss b z g. g) so h p.along)
+pub piece_fair : {J : Type 0} {answer : Answers J} {later : Laters J} {binds present : Bool}
+    {tried : Tries} {name : List ℕ} {how : Settled} {ok : Bool} {ms : List Made} {k m l : Kernel}
+    {w u v : State J} → (binds ≡ true → AreIn tried name w u)
+    → FairFrom answer later present tried k w m u
+    → Piece answer later binds present name u ok ms how v → Along calls m ms l
+    → FairFrom answer later present tried k w l v
+piece_fair {J} {answer} {later} {present = present} {tried = tried} {name = name} {k = k} {l = l} {w = w}
+    {u = u} {v = v} so h p a =
+    let next = next_after u p.judged in
+    let judge = judge_after later present name u p.judged in
+    let is = state_is v next u.listed judge (u.entries ++ p.rest) p.next p.listed p.judge p.entries in
+    subst (λ (x : State J). FairFrom answer later present tried k w l x) (sym is)
+    (flat_fair l p.flat (λ ss b z g. g) so h a)

@@ -10,7 +10,7 @@ use Rattle.ug_types.proofs.Sorting.{to_sweep_order}
 use Rattle.ug_kernel.specs.declared.device.Effect.{Effect}
 use Rattle.ug_kernel.specs.declared.calls.Listing.{Listing}
 use Rattle.ug_kernel.specs.declared.calls.Listing.TheVariants as listing
-use Rattle.ug_kernel.specs.Calls.{Names, Told}
+use Rattle.ug_kernel.specs.Calls.{Names}
 use Rattle.ug_kernel.specs.Kernel.{Kernel, Live, IsKernel}
 use Rattle.ug_kernel.specs.Called.{says_listing}
 use Rattle.ug_kernel.specs.Quiet.{Grows}
@@ -32,9 +32,13 @@ use Rattle.ug_table.proofs.Standings.{listed_is}
 use Rattle.ug_table.proofs.Says.{gone_has}
 use Rattle.ug_table.proofs.Joined.{FairFrom, fair_trans, StepFrom}
 use Rattle.ug_table.proofs.Steps.{one_itself, stand_of, fair_refl, then_quiet, then_called, then_note, gone_device}
-use Rattle.ug_table.proofs.Closings.{closing_quiet}
+use Rattle.ug_table.proofs.Closings.{closings_quiet}
 use Rattle.ug_table.proofs.Fair.{piece_fair}
-use Rattle.ug_table.proofs.Chains.{Chain, Over, First, Goes, Listed, Unlisted, sweeping_by}
+use Rattle.ug_table.proofs.Chains.{Chain, Over, First, Goes, Listed, Unlisted, sweeping_run}
+use Rattle.ug_table.proofs.Shapes.{told_at}
+use Rattle.ug_kernel.proofs.Ways.{along_split}
+use Rattle.ug_kernel.specs.Along.{Made, Along}
+use Rattle.ug_table.specs.Parts.{unlisted_files}
 use Rattle.ug_table.proofs.RemoveMarks.{keeps_itself, keep_marks}
 use Rattle.ug_table.proofs.SoFar.{AreSplit, AreFresh, split_in, parted_split, parted_fresh, part_split, part_fresh}
 use Rattle.ug_table.proofs.Orders.{order_filter, sweep_in_order}
@@ -45,16 +49,23 @@ use Rattle.ug_table.proofs.Marks.{order_distinct}
 abbrev Awaits : {J : Type 0} → List (List ℕ) → State J → State J → Type 0
 Awaits names w u = AllDistinct names × AreInOrder names × AreSplit names w u × AreFresh names w u
 
-chain_fair : {J : Type 0} {answer : Answers J} {later : Laters J} {binds present : Bool} {names : List (List ℕ)} {k m l : Kernel} {w u v : State J} → (binds ≡ true → Awaits names w u) → FairFrom answer later present swept_before k w m u → Chain calls answer later binds present names m u l v → FairFrom answer later present swept_before k w l v
-chain_fair so h (Over s x) = h
-chain_fair {w = w} so h (First name names how m n l u x v p c) =
+chain_fair : {J : Type 0} {answer : Answers J} {later : Laters J} {binds present : Bool}
+    {names : List (List ℕ)} {k m : Kernel} {w u v : State J} {ok : Bool} {ms : List Made} {es : List Entry}
+    (l : Kernel) → (binds ≡ true → Awaits names w u)
+    → FairFrom answer later present swept_before k w m u
+    → Chain answer later binds present names u ok ms es v → Along calls m ms l
+    → FairFrom answer later present swept_before k w l v
+chain_fair {answer = answer} {later = later} {present = present} {k = k} {w = w} l so h (Over x) a =
+    subst (λ (n : Kernel). FairFrom answer later present swept_before k w n x) (sym a) h
+chain_fair {m = m} {w = w} l so h (First name names how u x v ok more ms ns es p c) a =
     let rest = h.fair.rest in
     let e = h.fair.entries in
-    chain_fair
+    let cut = along_split calls ms ns m l a in
+    chain_fair l
     (λ b.
     let q = so b in
     (q.0.1, q.1.1, part_split w u name names rest x e q.1 q.2 (q.3 rest e name (inl refl)) (piece_part p), part_fresh w u name names rest x e q.0 q.3 (piece_part p)))
-    (piece_fair (λ b. let q = so b in split_in name names w u q.1 q.2) h p) c
+    (piece_fair (λ b. let q = so b in split_in name names w u q.1 q.2) h p cut.1) c cut.2
 
 -- an entry for each standing that isn't listed
 farewell_has : (names : List (List ℕ)) (ss : List Standing) (e : Entry) → Has (farewells names ss) e → (t : Standing) × Has ss t × (lists names t.name ≡ false) × (entry.Gone t.number t.name ≡ e)
@@ -169,16 +180,23 @@ then_listed {J} {answer} {later} {present} {tried} {k} {m} {w} {u} h =
     let fair : IsFair answer later present tried k w m (marked_listed u) = record { sound = x.sound; grows = x.grows; rest = x.rest; entries = x.entries; stand = x.stand; account = x.account; left = x.left; gone = x.gone; once = x.once; unjudged = x.unjudged } in
     record { stood = h.stood; fair = fair }
 
-goes_fair : {J : Type 0} {answer : Answers J} {later : Laters J} {k l : Kernel} {w v : State J} → IsKernel k → Stand k w.standings w.next → Goes calls answer later k w l v → FairFrom answer later (not w.listed) swept_before k w l v
-goes_fair {answer = answer} {later = later} {k = k} {w = w} sound stand (Listed found number count m u r g closes chain) =
+goes_fair : {J : Type 0} {answer : Answers J} {later : Laters J} {k l : Kernel} {w v : State J} {ok : Bool}
+    {ms : List Made} {es : List Entry} → IsKernel k → Stand k w.standings w.next
+    → Goes answer later w ok ms es v → Along calls k ms l
+    → FairFrom answer later (not w.listed) swept_before k w l v
+goes_fair {answer = answer} {later = later} {k = k} {l = l} {w = w} sound stand (Listed found failed ok shut made es v closings chain) b =
     let names = in_sweep_order found in
-    let a : Told Listing = record { answer = listing.Names found; number = number; count = count } in
-    let gone = listing_gone k m found w.standings w.next (called_grows Names a k m g) g.says stand in
-    let q = closing_quiet names w.standings m r u g.sound closes in
-    let h = then_parted names gone (then_called Names a m tt g (fair_refl answer later (not w.listed) swept_before k w sound stand)) in
-    chain_fair (λ e. (order_distinct found g.says.1, sweep_in_order found g.says.1, parted_split names w, parted_fresh names w)) (then_quiet u q.0 q.1 (then_listed h)) chain
-goes_fair {answer = answer} {later = later} {k = k} {w = w} sound stand (Unlisted a why m g begins chain) =
-    chain_fair (λ e. let none : ⊥ = cc in absurd none) (then_note (entry.UnsettledAll why) tt (then_called Names a m tt g (fair_refl answer later (not w.listed) swept_before k w sound stand))) chain
+    let a = told_at (listing.Names found) failed in
+    let m = b.0 in
+    let cut = along_split calls shut made m l b.2 in
+    let gone = listing_gone k m found w.standings w.next (called_grows Names a k m b.1) b.1.says stand in
+    let q = closings_quiet (unlisted_files names w.standings) shut m cut.0 b.1.sound closings cut.1 in
+    let h = then_parted names gone (then_called Names a m tt b.1 (fair_refl answer later (not w.listed) swept_before k w sound stand)) in
+    chain_fair l (λ e. (order_distinct found b.1.says.1, sweep_in_order found b.1.says.1, parted_split names w, parted_fresh names w)) (then_quiet cut.0 q.0 q.1 (then_listed h)) chain cut.2
+goes_fair {answer = answer} {later = later} {k = k} {l = l} {w = w} sound stand (Unlisted list failed room why ok made es v by chain) b =
+    chain_fair l (λ e. let none : ⊥ = cc in absurd none) (then_note (entry.UnsettledAll why) tt (then_called Names (told_at list failed) b.0 tt b.1 (fair_refl answer later (not w.listed) swept_before k w sound stand))) chain b.2
 
 pub sweeping_fair : {J : Type 0} (answer : Answers J) (later : Laters J) (w : State J) (k l : Kernel) (v : State J) → IsKernel k → Stand k w.standings w.next → Runs calls k (sweeping answer later w) v l → IsFair answer later (not w.listed) swept_before k w l v
-sweeping_fair answer later w k l v sound stand r = (goes_fair sound stand (sweeping_by calls answer later k w l v r)).fair
+sweeping_fair answer later w k l v sound stand r =
+    let x = sweeping_run calls answer later k w l v r in
+    (goes_fair sound stand x.so.1 x.along).fair

@@ -77,9 +77,8 @@ removed_on before middle es fs number a (inl t) = elim (a.removed t.0 t.1) [
 removed_on before middle es fs number a (inr b) = inr (b.0, has_right es fs (entry.Wrote number b.0 write.Remove wrote.Done) b.1)
 
 first_on : (before middle : List Standing) (es fs : List Entry) (bound number : ℕ) (what : Write) → AreLow before bound → ((n : ℕ) (name : List ℕ) (w : Write) (outcome : Wrote) → Has es (entry.Wrote n name w outcome) → n < bound) → AreLeft before es middle → ((t : Standing) × Has middle t × (t.number ≡ number)) ⊎ (bound ≤ number) → IsFirst middle fs number what → IsFirst before (es ++ fs) number what
-first_on before middle es fs bound number write.On low told a n f = tt
-first_on before middle es fs bound number write.Off low told a n f = tt
 first_on before middle es fs bound number write.Remove low told a n f = λ w. f (removed_back before middle es fs bound number low told a n w)
+first_on before middle es fs bound number x low told a n f = tt
 
 marked_on : (before middle : List Standing) (es fs : List Entry) (bound : ℕ) (s : Standing) → AreLow before bound → ((n : ℕ) (name : List ℕ) (w : Write) (outcome : Wrote) → Has es (entry.Wrote n name w outcome) → n < bound) → AreLeft before es middle → ((t : Standing) × Has middle t × (t.number ≡ s.number)) ⊎ (bound ≤ s.number) → IsRemoveMarked middle fs s → IsRemoveMarked before (es ++ fs) s
 marked_on before middle es fs bound s low told a n (inl y) = inl (y.0, removed_on before middle es fs s.number a y.1)

@@ -28,7 +28,6 @@ pub mod OpenFiles
 pub mod Closings
 pub mod Within
 pub mod OnePart
-pub mod Parted
 pub mod Faults
 pub mod Once
 pub mod Remarked

@@ -6,14 +6,13 @@ use Rattle.ug_types.proofs.Sorting.{to_sweep_order}
 use Rattle.ug_kernel.specs.declared.device.Device.{Device}
 use Rattle.ug_kernel.specs.declared.calls.Listing.{Listing}
 use Rattle.ug_kernel.specs.declared.calls.Listing.TheVariants as listing
-use Rattle.ug_kernel.specs.Calls.{Names, Told}
+use Rattle.ug_kernel.specs.Calls.{Names}
 use Rattle.ug_kernel.specs.Kernel.{Kernel, IsKernel}
 use Rattle.ug_kernel.specs.Called.{Lived}
 use Rattle.ug_kernel.specs.Quiet.{Grows}
 use Rattle.ug_kernel.proofs.Grow.{quiet_grows, grows_trans, some_same, called_grows}
 use Rattle.ug_kernel.specs.Tree.{Runs, calls}
-use Rattle.ug_kernel.proofs.Kernels.{runs_grow}
-use Rattle.ug_kernel.proofs.Ways.{along_sound, along_grows}
+use Rattle.ug_kernel.proofs.Ways.{along_split, along_sound, along_grows}
 use Rattle.ug_audit.specs.declared.entry.Entry.{Entry}
 use Rattle.ug_audit.specs.declared.entry.Entry.TheVariants as entry
 use Rattle.ug_audit.specs.declared.entry.Fault.{Fault}
@@ -22,22 +21,23 @@ use Rattle.ug_table.specs.Bring.{wants, is_reject}
 use Rattle.ug_table.specs.Standings.{same_name, standing_of, lists, farewells}
 use Rattle.ug_table.specs.Sweep.{parted, names_of, sweeping}
 use Rattle.ug_table.specs.Laws.{Stand, IsNamed, HasStanding, IsAsJudged, IsSettled}
+use Rattle.ug_table.specs.Parts.{unlisted_files}
 use Rattle.ug_table.specs.declared.standing.Standing.{Standing}
 use Rattle.ug_table.specs.declared.standing.Known.{Known}
 use Rattle.ug_types.proofs.Elements.{cancel, has_left, filter_has, has_map}
 use Rattle.ug_table.proofs.Values.{file_later, LiveAs, lives_between, lived, open_named, IsFileOf, file_same}
 use Rattle.ug_table.proofs.Standings.{same_is, is_same, found, missing}
-use Rattle.ug_table.proofs.Closings.{closing_quiet}
+use Rattle.ug_table.proofs.Closings.{closings_quiet}
 use Rattle.ug_table.proofs.Places.{Files, files_later, Was, tried_was}
 use Rattle.ug_table.proofs.Apart.{Appends, appends_refl, appends_trans, Apart, piece_apart}
 use Rattle.ug_table.proofs.Own.{StandsSo, Good, good_before, as_judged, piece_own}
-use Rattle.ug_table.proofs.Chains.{Piece, Chain, Over, First, chain_grows, Goes, Listed, Unlisted, sweeping_by}
+use Rattle.ug_table.proofs.Chains.{Chain, Over, First, Goes, Listed, Unlisted, sweeping_run}
 use Rattle.ug_table.specs.declared.standing.Settled.{Settled}
 use Rattle.ug_table.specs.declared.standing.Settled.TheVariants as settled
 use Rattle.ug_table.proofs.Told.{opens}
-use Rattle.ug_kernel.specs.Along.{Made}
+use Rattle.ug_kernel.specs.Along.{Made, Along}
 use Rattle.ug_node.specs.declared.identity.Bound.{Bound}
-use Rattle.ug_table.proofs.Shapes.{Flat, Unprobed, Tried, Stopped, Unbound, No_place, Judged_so}
+use Rattle.ug_table.proofs.Shapes.{told_at, Piece, Flat, Unprobed, Tried, Stopped, Unbound, No_place, Judged_so}
 
 -- what is wanted of a device at the end
 abbrev pub Well : Bool → List Entry → Kernel → List Standing → List Entry → ℕ → List ℕ → Type 0
@@ -60,11 +60,16 @@ stood k l ss rs i f g was h =
     let is : o.i ≡ i = file_same l h.s.held.0 o.i i later h.file in
     record { s = t.0; has = t.1; file = subst (λ j. IsFileOf k t.0.held.0 j) is o.file }
 
-pub piece_well : {J : Type 0} {answer : Answers J} {later : Laters J} {binds present : Bool} {name : List ℕ} {how : Settled} {k l : Kernel} {w v : State J} (i : ℕ) → IsKernel k → Files k w.standings → LiveAs k i name → LiveAs l i name → Piece calls answer later binds present name how k w l v → Well binds w.entries l v.standings v.entries i name
-piece_well {name = name} {l = l} {v = v} i sound f first live p = elim (piece_own i sound f first live p) [
-  | inl h ↦ inl h
-  | inr h ↦ inr (h.0, none_stands l v.standings i name (piece_apart sound f p).files live h.1)
-]
+pub piece_well : {J : Type 0} {answer : Answers J} {later : Laters J} {binds present : Bool}
+    {name : List ℕ} {how : Settled} {ok : Bool} {ms : List Made} {k l : Kernel} {w v : State J} (i : ℕ)
+    → IsKernel k → Files k w.standings → LiveAs k i name → LiveAs l i name
+    → Piece answer later binds present name w ok ms how v → Along calls k ms l
+    → Well binds w.entries l v.standings v.entries i name
+piece_well {name = name} {l = l} {v = v} i sound f first live p a =
+    elim (piece_own i sound f first live p a) [
+      | inl h ↦ inl h
+      | inr h ↦ inr (h.0, none_stands l v.standings i name (piece_apart sound f p a).files live h.1)
+    ]
 
 -- each standing was there before
 
@@ -100,19 +105,28 @@ step P Q n name names false e own other (inr p) = inr (other (λ is. let same = 
 
 -- the names
 
-chain_well : {J : Type 0} {answer : Answers J} {later : Laters J} {binds present : Bool} {names : List (List ℕ)} {k l : Kernel} {w v : State J} (name : List ℕ) (i : ℕ) (es : List Entry) → IsKernel k → Files k w.standings → LiveAs k i name → LiveAs l i name → Appends es w.entries → Has names name ⊎ Well binds es k w.standings w.entries i name → Chain calls answer later binds present names k w l v → Appends es v.entries × Well binds es l v.standings v.entries i name
-chain_well name i es sound f first live a (inl c) (Over s w) = absurd c
-chain_well name i es sound f first live a (inr c) (Over s w) = (a, c)
-chain_well {answer = answer} {later = later} {binds = binds} {present = present} name i es sound f first live a c (First n names how k u l w x v p rest) =
-    let g = along_grows p.made k u p.along in
-    let mid = lives_between k u l i name g (chain_grows rest) first live in
-    let apart = piece_apart sound f p in
+chain_well : {J : Type 0} {answer : Answers J} {later : Laters J} {binds present : Bool}
+    {names : List (List ℕ)} {k l : Kernel} {w v : State J} {ok : Bool} {ms : List Made}
+    {added : List Entry} (name : List ℕ) (i : ℕ) (es : List Entry) → IsKernel k → Files k w.standings
+    → LiveAs k i name → LiveAs l i name → Appends es w.entries
+    → Has names name ⊎ Well binds es k w.standings w.entries i name
+    → Chain answer later binds present names w ok ms added v → Along calls k ms l
+    → Appends es v.entries × Well binds es l v.standings v.entries i name
+chain_well name i es sound f first live a (inl c) (Over w) b = absurd c
+chain_well {binds = binds} name i es sound f first live a (inr c) (Over w) b =
+    (a, subst (λ (m : Kernel). Well binds es m w.standings w.entries i name) (sym b) c)
+chain_well {answer = answer} {later = later} {binds = binds} {present = present} {k = k} {l = l} name i es sound f first live a c (First n names how w x v ok more ms ns added p rest) b =
+    let cut = along_split calls ms ns k l b in
+    let u = cut.0 in
+    let g = along_grows ms k u cut.1 in
+    let mid = lives_between k u l i name g (along_grows ns u l cut.2) first live in
+    let apart = piece_apart sound f p cut.1 in
     let P = Well binds es k w.standings w.entries i name in
     let Q = Well binds es u x.standings x.entries i name in
-    let own : n ≡ name → Q = λ e. well_before binds es w.entries x.entries u x.standings i name a (piece_well i sound f first mid (subst (λ (y : List ℕ). Piece calls answer later binds present y how k w u x) e p)) in
+    let own : n ≡ name → Q = λ e. well_before binds es w.entries x.entries u x.standings i name a (piece_well i sound f first mid (subst (λ (y : List ℕ). Piece answer later binds present y w ok ms how x) e p) cut.1) in
     let back : binds ≡ false → HasStanding u x.standings i → HasStanding k w.standings i = λ e. stood k u w.standings x.standings i f g (flat_was e p.flat) in
-    chain_well name i es (along_sound p.made k u sound p.along) apart.files mid live (appends_trans es w.entries x.entries a apart.entries)
-    (step P Q n name names (same_name n name) refl own (λ ne h. well_apart binds n name i es k w.standings w.entries u x.standings x.entries ne f first g apart back h) c) rest
+    chain_well name i es (along_sound ms k u sound cut.1) apart.files mid live (appends_trans es w.entries x.entries a apart.entries)
+    (step P Q n name names (same_name n name) refl own (λ ne h. well_apart binds n name i es k w.standings w.entries u x.standings x.entries ne f first g apart back h) c) rest cut.2
 
 -- what is said of a device at the end of a sweep
 abbrev Ended : Kernel → List Standing → List Entry → ℕ → List ℕ → Type 0
@@ -147,24 +161,30 @@ well_good : (es : List Entry) (l : Kernel) (ss : List Standing) (fs : List Entry
 well_good es l ss fs i name (inl h) = h
 well_good es l ss fs i name (inr h) = let e = h.0 in absurd (let none : ⊥ = cc in none)
 
-goes_ended : {J : Type 0} {answer : Answers J} {later : Laters J} {k l : Kernel} {w v : State J} (rest : List Entry) (i : ℕ) (name : List ℕ) → Files k w.standings → v.entries ≡ w.entries ++ rest → LiveAs k i name → LiveAs l i name → Goes calls answer later k w l v → Ended l v.standings rest i name
-goes_ended {k = k} {l = l} {w = w} {v = v} rest i name f e first live (Listed found number count m u r g closes chain) =
+goes_ended : {J : Type 0} {answer : Answers J} {later : Laters J} {k l : Kernel} {w v : State J} {ok : Bool}
+    {ms : List Made} {es : List Entry} (rest : List Entry) (i : ℕ) (name : List ℕ)
+    → Files k w.standings → v.entries ≡ w.entries ++ rest → LiveAs k i name → LiveAs l i name
+    → Goes answer later w ok ms es v → Along calls k ms l → Ended l v.standings rest i name
+goes_ended {k = k} {l = l} {w = w} {v = v} rest i name f e first live (Listed found failed ok shut made es _ closings chain) b =
     let names = in_sweep_order found in
-    let a : Told Listing = record { answer = listing.Names found; number = number; count = count } in
-    let q = closing_quiet names w.standings m r u g.sound closes in
-    let h = called_grows Names a k m g in
+    let m = b.0 in
+    let cut = along_split calls shut made m l b.2 in
+    let u = cut.0 in
+    let q = closings_quiet (unlisted_files names w.standings) shut m u b.1.sound closings cut.1 in
+    let h = called_grows Names (told_at (listing.Names found) failed) k m b.1 in
     let j = quiet_grows m u q.1 in
-    let late = lives_between k u l i name (grows_trans k m u h j) (chain_grows chain) first live in
+    let late = lives_between k u l i name (grows_trans k m u h j) (along_grows made u l cut.2) first live in
     let mid = lives_between k m u i name h j first late in
-    let has : Has names name = to_sweep_order found name (subst (λ (n : List ℕ). Has found n) first.named (g.says.0 i first.d (lived k m i name first mid))) in
+    let has : Has names name = to_sweep_order found name (subst (λ (n : List ℕ). Has found n) first.named (b.1.says.0 i first.d (lived k m i name first mid))) in
     good_ended w.entries l v.standings v.entries rest i name e
-    (well_good w.entries l v.standings v.entries i name (chain_well name i w.entries q.0 (parted_files u names w (files_later k u w.standings (grows_trans k m u h j) f)) late live (farewells names w.standings, refl) (inl has) chain).1)
-goes_ended {k = k} {l = l} {w = w} {v = v} rest i name f e first live (Unlisted a why m g after chain) =
-    let h = called_grows Names a k m g in
+    (well_good w.entries l v.standings v.entries i name (chain_well name i w.entries q.0 (parted_files u names w (files_later k u w.standings (grows_trans k m u h j) f)) late live (farewells names w.standings, refl) (inl has) chain cut.2).1)
+goes_ended {k = k} {l = l} {w = w} {v = v} rest i name f e first live (Unlisted list failed room why ok made added _ by chain) b =
+    let m = b.0 in
+    let h = called_grows Names (told_at list failed) k m b.1 in
     let files = files_later k m w.standings h f in
-    let mid = lives_between k m l i name h (chain_grows chain) first live in
+    let mid = lives_between k m l i name h (along_grows made m l b.2) first live in
     let es = w.entries ++ entry.UnsettledAll why ∷ [] in
-    let at = chain_well name i es g.sound files mid live (appends_refl es) (begins name i es m w.standings (standing_of name w.standings) refl files mid) chain in
+    let at = chain_well name i es b.1.sound files mid live (appends_refl es) (begins name i es m w.standings (standing_of name w.standings) refl files mid) chain b.2 in
     well_ended false w.entries why l v.standings v.entries rest i name e at.0 at.1
 
 pub lives_first : (k l : Kernel) (i : ℕ) (d : Device) → Lived k.devices l.devices i d → LiveAs k i d.name
@@ -191,7 +211,11 @@ judged_at l ss next i stand h = record {
 
 -- whatever the entries that were added
 pub sweeping_settled : {J : Type 0} (answer : Answers J) (later : Laters J) (w : State J) (k l : Kernel) (v : State J) (rest : List Entry) → Stand k w.standings w.next → Stand l v.standings v.next → Runs calls k (sweeping answer later w) v l → v.entries ≡ w.entries ++ rest → IsSettled k l v.standings rest
-sweeping_settled answer later w k l v rest stand end r e i d lives = elim (goes_ended rest i d.name (stand_files k w.standings w.next stand) e (lives_first k l i d lives) (lives_last k l i d (runs_grow (sweeping answer later w) k v l r) lives) (sweeping_by calls answer later k w l v r)) [
-  | inl h ↦ inl (judged_at l v.standings v.next i end h)
-  | inr h ↦ inr h
-]
+sweeping_settled answer later w k l v rest stand end r e i d lives =
+    let x = sweeping_run calls answer later k w l v r in
+    let last = lives_last k l i d (along_grows x.made k l x.along) lives in
+    let files = stand_files k w.standings w.next stand in
+    elim (goes_ended rest i d.name files e (lives_first k l i d lives) last x.so.1 x.along) [
+      | inl h ↦ inl (judged_at l v.standings v.next i end h)
+      | inr h ↦ inr h
+    ]

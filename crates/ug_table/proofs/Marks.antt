@@ -5,12 +5,12 @@ use Rattle.std.specs.Ordering.{is_gt}
 use Rattle.ug_types.specs.Elements.{Has, AllDistinct}
 use Rattle.ug_types.specs.Names.{sweep_cmp}
 use Rattle.ug_types.specs.Sweep.{in_place, in_sweep_order}
-use Rattle.ug_kernel.specs.Calls.{Call, Answer}
 use Rattle.ug_kernel.specs.Kernel.{Kernel}
 use Rattle.ug_kernel.specs.Tree.{Runs, calls}
 use Rattle.ug_audit.specs.declared.entry.Entry.{Entry}
 use Rattle.ug_audit.specs.declared.entry.Entry.TheVariants as entry
 use Rattle.ug_audit.specs.declared.entry.Fault.{Fault}
+use Rattle.ug_kernel.specs.Along.{Made, Along}
 use Rattle.ug_table.specs.State.{State, noted, Answers, Laters}
 use Rattle.ug_table.specs.Standings.{lists, farewells}
 use Rattle.ug_table.specs.Sweep.{parted, names_of, marked_listed, sweeping}
@@ -20,7 +20,7 @@ use Rattle.ug_types.proofs.Elements.{cancel, has_cases, has_map, filter_has}
 use Rattle.ug_table.proofs.Standings.{lists_has, either_listed}
 use Rattle.ug_table.proofs.Says.{Each, each_has, each_append, each_map, NamesOnly, NamesNone, none_named}
 use Rattle.ug_table.proofs.Told.{Part, piece_part, marked_left, marked_right}
-use Rattle.ug_table.proofs.Chains.{Chain, Over, First, Goes, Listed, Unlisted, sweeping_by}
+use Rattle.ug_table.proofs.Chains.{Chain, Over, First, Goes, Listed, Unlisted, sweeping_run}
 
 -- it names none but these as unsettled, and no listing
 abbrev NamesIn : List (List ℕ) → Entry → Type 0
@@ -44,8 +44,7 @@ named_only n name es h a = each_has (NamesOnly n) es (entry.Unsettled name a.0) 
 
 only_first : (n : List ℕ) (names : List (List ℕ)) (e : Entry) → NamesOnly n e → NamesIn (n ∷ names) e
 only_first n names (entry.Unsettled m why) h = inl (sym h)
-only_first n names (entry.UnsettledAll why) h = h
-only_first n names e h = h
+only_first n names x h = h
 
 only_later : (n : List ℕ) (names : List (List ℕ)) (e : Entry) → NamesIn names e → NamesIn (n ∷ names) e
 only_later n names (entry.Unsettled m why) h = inr h
@@ -71,9 +70,12 @@ parts_more n names ss ms rs es gs fs distinct a b =
       mark = λ s h c. mark s h c;
     }
 
-chain_parts : {S J : Type 0} {gives : S → (call : Call) → Answer call → S → Type 0} {answer : Answers J} {later : Laters J} {binds present : Bool} {names : List (List ℕ)} {s t : S} {w v : State J} → AllDistinct names → Chain gives answer later binds present names s w t v → Parts names w.standings w.entries v.standings v.entries × (v.listed ≡ w.listed)
-chain_parts distinct (Over s w) = (none_parts w.standings w.entries, refl)
-chain_parts distinct (First n names how s u t w x v p c) =
+chain_parts : {J : Type 0} {answer : Answers J} {later : Laters J} {binds present : Bool}
+    {names : List (List ℕ)} {w v : State J} {ok : Bool} {ms : List Made} {es : List Entry}
+    → AllDistinct names → Chain answer later binds present names w ok ms es v
+    → Parts names w.standings w.entries v.standings v.entries × (v.listed ≡ w.listed)
+chain_parts distinct (Over w) = (none_parts w.standings w.entries, refl)
+chain_parts distinct (First n names how w x v ok more ms ns es p c) =
     let a = piece_part p in
     let b = chain_parts distinct.1 c in
     (parts_more n names w.standings x.standings v.standings w.entries x.entries v.entries distinct a.0 b.0, b.1 ∙ a.1)
@@ -134,7 +136,10 @@ stands_known ss rs others s a = elim (either_listed (names_of ss) s.name) [
   | inr ne ↦ has_map (λ (v : Standing). v.name) ss s (others s a ne)
 ]
 
-listed_ends : {J : Type 0} {answer : Answers J} {later : Laters J} {present : Bool} {k l : Kernel} {v : State J} (names : List (List ℕ)) (w : State J) (rest : List Entry) → AllDistinct names → Chain calls answer later true present names k (marked_listed (parted names w)) l v → v.entries ≡ w.entries ++ rest → Ends w v rest
+listed_ends : {J : Type 0} {answer : Answers J} {later : Laters J} {present : Bool} {v : State J} {ok : Bool}
+    {ms : List Made} {es : List Entry} (names : List (List ℕ)) (w : State J) (rest : List Entry)
+    → AllDistinct names → Chain answer later true present names (marked_listed (parted names w)) ok ms es v
+    → v.entries ≡ w.entries ++ rest → Ends w v rest
 listed_ends {v = v} names w rest distinct chain e =
     let bye = farewells names w.standings in
     let h = chain_parts distinct chain in
@@ -144,7 +149,11 @@ listed_ends {v = v} names w rest distinct chain e =
     let marks : (s : Standing) → Has v.standings s → IsMarked (bye ++ h.0.rest) s = λ s a. marked_left bye h.0.rest s (none_named bye s.name none) (h.0.mark s a (stands_listed names w.standings v.standings h.0.others s a)) in
     subst (λ (y : List Entry). Ends w v y) same (inl (listed, h.1), marks)
 
-unlisted_ends : {J : Type 0} {answer : Answers J} {later : Laters J} {present : Bool} {k l : Kernel} {v : State J} (why : Fault) (w : State J) (rest : List Entry) → AllDistinct (names_of w.standings) → Chain calls answer later false present (names_of w.standings) k (noted w (entry.UnsettledAll why)) l v → v.entries ≡ w.entries ++ rest → Ends w v rest
+unlisted_ends : {J : Type 0} {answer : Answers J} {later : Laters J} {present : Bool} {v : State J} {ok : Bool}
+    {ms : List Made} {es : List Entry} (why : Fault) (w : State J) (rest : List Entry)
+    → AllDistinct (names_of w.standings)
+    → Chain answer later false present (names_of w.standings) (noted w (entry.UnsettledAll why)) ok ms es v
+    → v.entries ≡ w.entries ++ rest → Ends w v rest
 unlisted_ends {v = v} why w rest distinct chain e =
     let all = entry.UnsettledAll why in
     let names = names_of w.standings in
@@ -153,10 +162,18 @@ unlisted_ends {v = v} why w rest distinct chain e =
     let marks : (s : Standing) → Has v.standings s → IsMarked (all ∷ h.0.rest) s = λ s a. marked_left (all ∷ []) h.0.rest s (λ n. elim n.1 [ inl q ↦ let none : ⊥ = cc in none | inr none ↦ none ]) (h.0.mark s a (stands_known w.standings v.standings h.0.others s a)) in
     subst (λ (y : List Entry). Ends w v y) same (inr ((why, inl refl), h.1), marks)
 
-goes_ends : {J : Type 0} {answer : Answers J} {later : Laters J} {k l : Kernel} {w v : State J} (rest : List Entry) → AllDistinct (names_of w.standings) → v.entries ≡ w.entries ++ rest → Goes calls answer later k w l v → Ends w v rest
-goes_ends {w = w} rest known e (Listed found number count m u r g closes chain) = listed_ends (in_sweep_order found) w rest (order_distinct found g.says.1) chain e
-goes_ends {w = w} rest known e (Unlisted a why m g begins chain) = unlisted_ends why w rest known chain e
+goes_ends : {J : Type 0} {answer : Answers J} {later : Laters J} {w v : State J} {ok : Bool}
+    {ms : List Made} {es : List Entry} (k l : Kernel) (rest : List Entry) → AllDistinct (names_of w.standings)
+    → v.entries ≡ w.entries ++ rest → Goes answer later w ok ms es v → Along calls k ms l → Ends w v rest
+goes_ends {w = w} k l rest known e (Listed found failed ok shut made es v closings chain) a =
+    listed_ends (in_sweep_order found) w rest (order_distinct found a.1.says.1) chain e
+goes_ends {w = w} k l rest known e (Unlisted list failed room why ok made es v by chain) a =
+    unlisted_ends why w rest known chain e
 
 -- whatever the entries that were added
-pub sweeping_marks : {J : Type 0} (answer : Answers J) (later : Laters J) (w : State J) (k l : Kernel) (v : State J) (rest : List Entry) → AllDistinct (names_of w.standings) → Runs calls k (sweeping answer later w) v l → v.entries ≡ w.entries ++ rest → Ends w v rest
-sweeping_marks answer later w k l v rest known r e = goes_ends rest known e (sweeping_by calls answer later k w l v r)
+pub sweeping_marks : {J : Type 0} (answer : Answers J) (later : Laters J) (w : State J) (k l : Kernel)
+    (v : State J) (rest : List Entry) → AllDistinct (names_of w.standings)
+    → Runs calls k (sweeping answer later w) v l → v.entries ≡ w.entries ++ rest → Ends w v rest
+sweeping_marks answer later w k l v rest known r e =
+    let x = sweeping_run calls answer later k w l v r in
+    goes_ends k l rest known e x.so.1 x.along

@@ -33,7 +33,9 @@ use Rattle.ug_table.proofs.SoFar.{AreIn}
 use Rattle.ug_table.proofs.Lived.{lives_first, lives_last, stand_files, judged_at, piece_well}
 use Rattle.ug_table.proofs.Standings.{numbered_has}
 use Rattle.ug_table.proofs.Told.{flat_whys, unnamed, flat_stands, flat_nobody}
-use Rattle.ug_table.proofs.Chains.{Piece, resettling_piece, run_numbered, settling_piece}
+use Rattle.ug_table.proofs.Chains.{settling_run, resettling_run, run_numbered, no_verdict, no_later, numbered_run}
+use Rattle.ug_table.proofs.Shapes.{Piece}
+use Rattle.ug_kernel.specs.Along.{Made, Along}
 use Rattle.ug_table.proofs.Fair.{piece_fair}
 use Rattle.ug_table.proofs.OnePart.{flat_is_part}
 use Rattle.ug_table.proofs.Own.{piece_own}
@@ -67,13 +69,17 @@ told_of : (how : Settled) → told_all (why_of how) ≡ failed_of how
 told_of settled.Stands = refl
 told_of how = refl
 
-as_part : {S J : Type 0} (gives : S → (call : Call) → Answer call → S → Type 0) (calls faults : S → ℕ) (counted : Counting gives calls faults) {answer : Answers J} {later : Laters J} {binds present : Bool} {name : List ℕ} {how : Settled} {s t : S} {w v : State J} → Piece gives answer later binds present name how s w t v → GoesAsPart gives calls faults name s w.standings w.entries t v.standings v.entries how
-as_part gives calls faults counted {name = name} {how = how} {s = s} {t = t} {w = w} {v = v} p =
+as_part : {S J : Type 0} (gives : S → (call : Call) → Answer call → S → Type 0) (calls faults : S → ℕ)
+    (counted : Counting gives calls faults) {answer : Answers J} {later : Laters J} {binds present : Bool}
+    {name : List ℕ} {how : Settled} {ok : Bool} {ms : List Made} {s t : S} {w v : State J}
+    → Piece answer later binds present name w ok ms how v → Along gives s ms t
+    → GoesAsPart gives calls faults name s w.standings w.entries t v.standings v.entries how
+as_part gives calls faults counted {name = name} {how = how} {ms = ms} {s = s} {t = t} p a =
     let part = flat_is_part p.flat in
     let why : whys p.rest ≡ why_of how = flat_whys p.flat in
     record {
-      made = p.made;
-      along = p.along;
+      made = ms;
+      along = a;
       rest = p.rest;
       entries = p.entries;
       part = part;
@@ -81,12 +87,14 @@ as_part gives calls faults counted {name = name} {how = how} {s = s} {t = t} {w 
       failed = sym part.told ∙ tells_why name p.rest part.last ∙ ap told_all why ∙ told_of how;
       stands = flat_stands p.flat;
       nobody = flat_nobody p.flat;
-      numbered = along_numbered gives calls faults counted p.made s t p.along;
-      rises = λ low. along_rises gives calls faults counted p.made s t low p.along;
+      numbered = along_numbered gives calls faults counted ms s t a;
+      rises = λ low. along_rises gives calls faults counted ms s t low a;
     }
 
 pub settling_part : {S J : Type 0} (gives : S → (call : Call) → Answer call → S → Type 0) (calls faults : S → ℕ) (counted : Counting gives calls faults) (answer : Answers J) (later : Laters J) (name : List ℕ) (present : Bool) (w : State J) (s : S) (p : Settled × State J) (t : S) → Runs gives s (settling answer later name present w) p t → GoesAsPart gives calls faults name s w.standings w.entries t p.1.standings p.1.entries p.0
-settling_part gives calls faults counted answer later name present w s p t h = as_part gives calls faults counted (settling_piece gives answer later name present w s p t h)
+settling_part gives calls faults counted answer later name present w s p t h =
+    let x = settling_run gives answer later name present w s p t h in
+    as_part gives calls faults counted x.so x.along
 
 first_in : {J : Type 0} (w : State J) (name : List ℕ) → AreIn none_before name w w
 first_in w name rest e s a = inr (refl, a)
@@ -98,12 +106,14 @@ standing_named l ss next i name stand live h =
 
 settling_one : {J : Type 0} (answer : Answers J) (later : Laters J) (name : List ℕ) (present : Bool) (w : State J) (k l : Kernel) (p : Settled × State J) → IsKernel k → Stand k w.standings w.next → Runs calls k (settling answer later name present w) p l → SettledOne answer later present name k w l p.1 p.0
 settling_one {J} answer later name present w k l p sound stand r =
-    let piece = settling_piece calls answer later name present w k p l r in
-    let a = piece_fair (λ e. first_in w name) (fair_refl answer later present none_before k w sound stand) piece in
+    let x = settling_run calls answer later name present w k p l r in
+    let piece = x.so in
+    let along = x.along in
+    let a = piece_fair (λ e. first_in w name) (fair_refl answer later present none_before k w sound stand) piece x.along in
     let last : (i : ℕ) → LivedAs k l name i → LiveAs l i name = λ i x. subst (λ (v : List ℕ). LiveAs l i v) x.2 (lives_last k l i x.0 a.fair.grows x.1) in
     let ended : (i : ℕ) → LivedAs k l name i → IsAsJudged l p.1.standings i ⊎ IsNamed a.fair.rest name = λ i x.
     let first = subst (λ (v : List ℕ). LiveAs k i v) x.2 (lives_first k l i x.0 x.1) in
-    elim (piece_own i sound (stand_files k w.standings w.next stand) first (last i x) piece) [
+    elim (piece_own i sound (stand_files k w.standings w.next stand) first (last i x) piece along) [
       | inl (inl g) ↦ inl (judged_at l p.1.standings p.1.next i a.fair.stand g)
       | inl (inr n) ↦ inr (subst (λ (v : List Entry). IsNamed v name) (added w.entries p.1.entries a.fair.rest n.0 a.fair.entries n.1) n.2)
       | inr e ↦ let same = e.0 in absurd (let none : ⊥ = cc in none)
@@ -124,16 +134,10 @@ told_settles gives told did answer later name present s w t p r = λ l e.
 
 -- the standing of a number
 
-no_verdict : Answers (Unit {0})
-no_verdict judge dev controller present on ss = (target.Block, cause.Implicit)
-
-no_later : Laters (Unit {0})
-no_later judge dev controller present on ss = tt
-
 pub numbered_part : {S : Type 0} (gives : S → (call : Call) → Answer call → S → Type 0) (calls faults : S → ℕ) (counted : Counting gives calls faults) (number : ℕ) (k : Kept) (x : Standing) (s : S) (p : Settled × Kept) (t : S) → numbered number k.standings ≡ Some x → Runs gives s (resettling_numbered number k) p t → GoesAsPart gives calls faults x.name s k.standings k.entries t p.1.standings p.1.entries p.0
 numbered_part gives calls faults counted number k x s p t e r =
-    let w : State (Unit {0}) = record { standings = k.standings; next = 0; listed = false; judge = tt; entries = k.entries } in
-    as_part gives calls faults counted (resettling_piece gives no_verdict no_later x.name false w k s p t (run_numbered gives number k x s p t e r))
+    let y = numbered_run gives number k x s p t e r in
+    as_part gives calls faults counted y.so y.along
 
 -- two open files of one device are of one name
 one_name : (k : Kernel) (a b : List ℕ) (held other i : ℕ) → IsOpen k a held → IsOpen k b other → IsFileOf k held i → IsFileOf k other i → a ≡ b
@@ -153,8 +157,9 @@ dead l i name gone live =
 resettling_one : (w : State (Unit {0})) (k l : Kernel) (p : Settled × Kept) (x : Standing) → IsKernel k → Stand k w.standings w.next → Has w.standings x → Runs calls k (resettling x.name (kept_of w.standings w.entries)) p l → ResettledOne x k w l (with_kept w p.1) p.0
 resettling_one w k l p x sound stand has r =
     let kept = kept_of w.standings w.entries in
-    let fair : (answer : Answers (Unit {0})) (later : Laters (Unit {0})) (present : Bool) (tried : Tries) → FairFrom answer later present tried k w l (with_kept w p.1) = λ answer later present tried. piece_fair (λ e. let none : ⊥ = cc in absurd none) (fair_refl answer later present tried k w sound stand) (resettling_piece calls answer later x.name present w kept k p l r) in
-    let piece = resettling_piece calls no_verdict no_later x.name false w kept k p l r in
+    let fair : (answer : Answers (Unit {0})) (later : Laters (Unit {0})) (present : Bool) (tried : Tries) → FairFrom answer later present tried k w l (with_kept w p.1) = λ answer later present tried. let y = resettling_run calls answer later x.name present w kept k p l r in piece_fair (λ e. let none : ⊥ = cc in absurd none) (fair_refl answer later present tried k w sound stand) y.so y.along in
+    let y = resettling_run calls no_verdict no_later x.name false w kept k p l r in
+    let piece = y.so in
     let a = fair no_verdict no_later false none_before in
     let g = a.fair.grows in
     let files = stand_files k w.standings w.next stand in
@@ -165,7 +170,7 @@ resettling_one w k l p x sound stand has r =
           let named : x.name ≡ d.name = open_named k x.name d.name x.held.0 i (files x has) file (lives_first k l i d lives) in
           let first = subst (λ (v : List ℕ). LiveAs k i v) (sym named) (lives_first k l i d lives) in
           let last = subst (λ (v : List ℕ). LiveAs l i v) (sym named) (lives_last k l i d g lives) in
-          elim (piece_well i sound files first last piece) [
+          elim (piece_well i sound files first last piece y.along) [
             | inl (inl good) ↦ inl (judged_at l p.1.standings w.next i a.fair.stand good)
             | inl (inr n) ↦ inr n
             | inr none ↦ elim (stood i file) [

@@ -97,11 +97,9 @@ abbrev IsCalm : List Made → Type 0
 IsCalm ms = (failures ms ≡ []) × (puts_of ms ≡ [])
 
 came_well : (r : ReadOut) → Came r → failed_read r ≡ false
-came_well (out.Bytes bytes) c = refl
-came_well out.Absent c = refl
-came_well out.TooLong c = refl
 came_well out.Failed c = absurd c
 came_well out.Memory c = absurd c
+came_well x c = refl
 
 reads_keep : {name : List ℕ} {ms : List Made} (files : List OpenFile) (b : Behind) → Reads name ms → Keeps name files b ms × IsCalm ms
 reads_keep files b No_more = (record { about = tt; ends = tt; due = tt }, (refl, refl))
@@ -112,15 +110,11 @@ reads_keep files b (Then_read of at t ms may came r) =
 
 abbrev binding_failures : Binding → List FailedCall
 binding_failures (bound.Failed failed) = failed ∷ []
-binding_failures (bound.Bound b) = []
-binding_failures bound.Absent = []
-binding_failures bound.Vanished = []
-binding_failures bound.Memory = []
+binding_failures x = []
 
 stop_failures : {at : Attr} {t : Told ReadOut} {why : Stop} (of : List ℕ) (file : ℕ) (shut : Closing) → Stops at t why → failures (answered (Read of at) t ∷ answered (Close file) shut ∷ []) ≡ binding_failures (binding_of why)
 stop_failures of file shut (No_descriptors call count) = refl
-stop_failures of file shut (Read_failed at call count) = refl
-stop_failures of file shut (Read_short at call count) = refl
+stop_failures of file shut x = refl
 
 -- an opening, readings, and an end
 open_keeps : {name : List ℕ} {ms : List Made} (files : List OpenFile) (b : Behind) (file : Held) (call count : ℕ) (ns : List Made) → Reads name ms → ((c : Behind) → Keeps name (open_file file.0 Authorized ∷ files) c ns) → let all = answered (Open name Authorized) (told (opened.Token file) call count) ∷ (ms ++ ns) in Keeps name files b all × ((failures all ≡ failures ns) × (puts_of all ≡ puts_of ns))
@@ -132,15 +126,13 @@ open_keeps {name} {ms} files b file call count ns r k =
     (record { about = (refl, rest.about); ends = (inl refl, rest.ends); due = (tt, rest.due) }, (failures_more ms ns ∙ ap (λ v. v ++ failures ns) h.1.0, puts_more ms ns ∙ ap (λ v. v ++ puts_of ns) h.1.1))
 
 binds_keep : {name : List ℕ} {ms : List Made} {r : Binding} (files : List OpenFile) (b : Behind) → Binds_by name ms r → Keeps name files b ms × ((failures ms ≡ binding_failures r) × (puts_of ms ≡ []))
-binds_keep files b (No_such call count) = (record { about = (refl, tt); ends = (inl refl, tt); due = (tt, tt) }, (refl, refl))
-binds_keep files b (Open_failed call count) = (record { about = (refl, tt); ends = (inl refl, tt); due = (tt, tt) }, (refl, refl))
-binds_keep files b (Open_short call count) = (record { about = (refl, tt); ends = (inl refl, tt); due = (tt, tt) }, (refl, refl))
 binds_keep files b (Cut file call count ms of at t shut why r a few may stops e) =
     let h = open_keeps files b file call count (answered (Read of at) t ∷ answered (Close file.0) shut ∷ []) a (λ c. record { about = (may, ((Authorized, inl refl), tt)); ends = (inl refl, (inr tt, tt)); due = (tt, (tt, tt)) }) in
     (h.0, (h.1.0 ∙ stop_failures of file.0 shut stops ∙ ap binding_failures (sym e), h.1.1))
 binds_keep files b (Probed_gone file call count number total ms shut a few) = open_keeps files b file call count (answered (Ask_alive file.0) (told probe.Gone number total) ∷ answered (Close file.0) shut ∷ []) a (λ c. record { about = (inl refl, ((Authorized, inl refl), tt)); ends = (inl refl, (inr tt, tt)); due = (tt, (tt, tt)) })
 binds_keep files b (Probe_failed file call count number total ms shut a few) = open_keeps files b file call count (answered (Ask_alive file.0) (told probe.Failed number total) ∷ answered (Close file.0) shut ∷ []) a (λ c. record { about = (inl refl, ((Authorized, inl refl), tt)); ends = (inl refl, (inr tt, tt)); due = (tt, (tt, tt)) })
 binds_keep files b (Bound_by call count number total ms x a few are) = open_keeps files b x.held call count (answered (Ask_alive x.held.0) (told (probe.Alive x.on) number total) ∷ []) a (λ c. record { about = (inl refl, tt); ends = (inl refl, tt); due = (tt, tt) })
+binds_keep files b x = (record { about = (refl, tt); ends = (inl refl, tt); due = (tt, tt) }, (refl, refl))
 
 -- the device was found alive last, and its file is open
 record IsFound (files : List OpenFile) (b : Behind) (held : ℕ) (on : Bool) : Type 0 where
@@ -151,8 +143,7 @@ record IsFound (files : List OpenFile) (b : Behind) (held : ℕ) (on : Bool) : T
 
 stop_unbound : (why : Stop) (x : Bound) → bound.Bound x ≡ binding_of why → ⊥
 stop_unbound stop.Vanished x e = let none : ⊥ = cc in none
-stop_unbound (stop.Fault failed) x e = let none : ⊥ = cc in none
-stop_unbound stop.Memory x e = let none : ⊥ = cc in none
+stop_unbound y x e = let none : ⊥ = cc in none
 
 bound_found : {name : List ℕ} {ms : List Made} {x : Bound} (files : List OpenFile) (b : Behind) → Binds_by name ms (bound.Bound x) → IsFound (files_after files ms) (behind_after b ms) x.held.0 x.on
 bound_found {x = x} files b (Cut file call count ms of at t shut why r a few may stops e) = absurd (stop_unbound why x e)
@@ -222,13 +213,11 @@ value_due target.Reject false held t b e alive ne = absurd (ne refl)
 
 value_file : (verdict : Target) (held : ℕ) (files : List OpenFile) → Has files (open_file held Authorized) → Has files (open_file held (control_of (write_of verdict)))
 value_file target.Allow held files h = h
-value_file target.Block held files h = h
-value_file target.Reject held files h = h
+value_file x held files h = h
 
 no_removal : (verdict : Target) → write_of verdict ≡ write.Remove → ⊥
 no_removal target.Allow e = let none : ⊥ = cc in none
-no_removal target.Block e = let none : ⊥ = cc in none
-no_removal target.Reject e = let none : ⊥ = cc in none
+no_removal x e = let none : ⊥ = cc in none
 
 -- no entry but one of a call tells of want of memory
 abbrev NoWant : List ℕ → List Entry → Type 0
@@ -277,8 +266,7 @@ record ValueGoes (name : List ℕ) (files : List OpenFile) (b : Behind) (ms : Li
 
 written_stands : {name : List ℕ} {number : ℕ} {what : Write} {t : Told Wrote} {es : List Entry} {how : Settled} (held : ℕ) → Written name number what t es how → how ≡ settled.Stands → (failures (answered (Put held what) t ∷ []) ≡ []) × Each NamesNone es
 written_stands held (Done failed) e = (refl, (tt, (tt, tt)))
-written_stands held (Went failed) e = let none : ⊥ = cc in absurd none
-written_stands held (Broke failed) e = let none : ⊥ = cc in absurd none
+written_stands held x e = let none : ⊥ = cc in absurd none
 
 value_goes : {name : List ℕ} {known : Known} {on : Bool} {ms : List Made} {es : List Entry} {how : Settled} (files : List OpenFile) (b : Behind) → IsFound files b known.held.0 on → Valued name known on ms es how → ValueGoes name files b ms es how
 value_goes files b f (Same e) = record { keeps = record { about = tt; ends = tt; due = tt }; tells = record { told = refl; writes = refl; last = tt; bears = tt }; single = inl refl; calm = λ a. a; stands = λ s. (refl, tt) }
@@ -293,26 +281,21 @@ value_goes {known = known} {on = on} files b f (Set t es how ne w) = record {
 -- the removal
 
 abbrev hold_failures : RemoveHold → List FailedCall
-hold_failures (hold.Ready file) = []
-hold_failures hold.Gone = []
 hold_failures (hold.Failed failed) = failed ∷ []
-hold_failures hold.Memory = []
+hold_failures x = []
 
 holds_keep : {name : List ℕ} {held : ℕ} {ms : List Made} {r : RemoveHold} (files : List OpenFile) (b : Behind) → Has files (open_file held Authorized) → Holds_by name held ms r → Keeps name files b ms × ((failures ms ≡ hold_failures r) × (puts_of ms ≡ []))
-holds_keep files b has (Not_there call count) = (record { about = (refl, tt); ends = (inl refl, tt); due = (tt, tt) }, (refl, refl))
-holds_keep files b has (Not_opened call count) = (record { about = (refl, tt); ends = (inl refl, tt); due = (tt, tt) }, (refl, refl))
-holds_keep files b has (No_memory call count) = (record { about = (refl, tt); ends = (inl refl, tt); due = (tt, tt) }, (refl, refl))
 holds_keep files b has (Held_on file on call count number total) = (record { about = (refl, (inr has, tt)); ends = (inl refl, (inl refl, tt)); due = (tt, (tt, tt)) }, (refl, refl))
 holds_keep files b has (Died file call count number total shut) = (record { about = (refl, (inr has, ((Remove, inl refl), tt))); ends = (inl refl, (inl refl, (inr tt, tt))); due = (tt, (tt, (tt, tt))) }, (refl, refl))
 holds_keep files b has (Unasked file call count number total shut) = (record { about = (refl, (inr has, ((Remove, inl refl), tt))); ends = (inl refl, (inl refl, (inr tt, tt))); due = (tt, (tt, (tt, tt))) }, (refl, refl))
+holds_keep files b has x = (record { about = (refl, tt); ends = (inl refl, tt); due = (tt, tt) }, (refl, refl))
 
 ready_found : {name : List ℕ} {held : ℕ} {ms : List Made} {file : Held} (files : List OpenFile) (b : Behind) → Holds_by name held ms (hold.Ready file) → Has (files_after files ms) (open_file file.0 Remove) × (((on : Bool) × FoundAlive (behind_after b ms).last on) × OpenedRemove (behind_after b ms).earlier file.0)
 ready_found {name} {held} files b (Held_on file on call count number total) = (inl refl, ((on, (held, told (probe.Alive on) number total, refl, refl)), (name, told (opened.Token file) call count, file, refl, refl, refl)))
 
 unheld_tells : {name : List ℕ} {number : ℕ} {r : RemoveHold} {es : List Entry} {how : Settled} (ms : List Made) → failures ms ≡ hold_failures r → puts_of ms ≡ [] → Unheld name number r es how → Tells name ms es
 unheld_tells {name} ms f p Gone_by = record { told = sym f; writes = subst (λ v. TellsWrites name v []) (sym p) refl; last = (tt, tt); bears = (refl, tt) }
-unheld_tells {name} ms f p (Failed_by failed) = record { told = sym f; writes = subst (λ v. TellsWrites name v []) (sym p) refl; last = ((refl, refl), tt); bears = (refl, tt) }
-unheld_tells {name} ms f p Short_by = record { told = sym f; writes = subst (λ v. TellsWrites name v []) (sym p) refl; last = ((refl, refl), tt); bears = (refl, tt) }
+unheld_tells {name} ms f p x = record { told = sym f; writes = subst (λ v. TellsWrites name v []) (sym p) refl; last = ((refl, refl), tt); bears = (refl, tt) }
 
 -- an opening that was short of memory is among the calls
 abbrev IsShort : List Made → Type 0
@@ -416,10 +399,9 @@ opening_goes {name} {ss} b (Lost known failed shut e) =
     (record { keeps = record { about = (inl refl, ((Authorized, inl refl), tt)); ends = (inl refl, (inl refl, tt)); due = (tt, (tt, tt)) }; calm = (refl, refl); tells = record { told = refl; writes = refl; last = (tt, tt); bears = (refl, tt) }; none = (tt, tt); anew = λ ns. inr (m, n ∷ ns, refl, (known, told_at probe.Gone failed, refl, refl, refl)) })
 
 unbound_tells : {name : List ℕ} {r : Binding} {es : List Entry} {how : Settled} (ms : List Made) → failures ms ≡ binding_failures r → puts_of ms ≡ [] → Unbound_end name r es how → Tells name ms es
-unbound_tells {name} ms f p Absent_so = record { told = sym f; writes = subst (λ v. TellsWrites name v []) (sym p) refl; last = tt; bears = tt }
-unbound_tells {name} ms f p Vanished_so = record { told = sym f; writes = subst (λ v. TellsWrites name v []) (sym p) refl; last = tt; bears = tt }
 unbound_tells {name} ms f p (Failed_so failed) = record { told = sym f; writes = subst (λ v. TellsWrites name v []) (sym p) refl; last = ((refl, refl), tt); bears = (refl, tt) }
 unbound_tells {name} ms f p Short_so = record { told = sym f; writes = subst (λ v. TellsWrites name v []) (sym p) refl; last = ((refl, refl), tt); bears = (refl, tt) }
+unbound_tells {name} ms f p x = record { told = sym f; writes = subst (λ v. TellsWrites name v []) (sym p) refl; last = tt; bears = tt }
 
 -- all that a part says of its calls and entries
 record FlatGoes (name : List ℕ) (o : Option Known) (ms : List Made) (es : List Entry) : Type 0 where

@@ -57,39 +57,28 @@ open_left {ms = ms} files ns a = files_join files ms ns ∙ ap (λ (v : List Ope
 -- a binding holds the file of the device that it bound
 abbrev binding_files : Binding → List OpenFile → List OpenFile
 binding_files (bound.Bound b) files = open_file b.held.0 Authorized ∷ files
-binding_files bound.Absent files = files
-binding_files bound.Vanished files = files
-binding_files (bound.Failed failed) files = files
-binding_files bound.Memory files = files
+binding_files x files = files
 
 stop_files : (why : Stop) (files : List OpenFile) → files ≡ binding_files (binding_of why) files
 stop_files stop.Vanished files = refl
-stop_files (stop.Fault failed) files = refl
-stop_files stop.Memory files = refl
+stop_files x files = refl
 
 binds_left : {name : List ℕ} {ms : List Made} {r : Binding} (files : List OpenFile) → Binds_by name ms r → files_after files ms ≡ binding_files r files
-binds_left files (No_such call count) = refl
-binds_left files (Open_failed call count) = refl
-binds_left files (Open_short call count) = refl
 binds_left files (Cut file call count ms of at t shut why r a few may stops e) = open_left (open_file file.0 Authorized ∷ files) _ a ∙ closed_first file.0 Authorized files ∙ stop_files why files ∙ ap (λ (v : Binding). binding_files v files) (sym e)
 binds_left files (Probed_gone file call count number total ms shut a few) = open_left (open_file file.0 Authorized ∷ files) _ a ∙ closed_first file.0 Authorized files
 binds_left files (Probe_failed file call count number total ms shut a few) = open_left (open_file file.0 Authorized ∷ files) _ a ∙ closed_first file.0 Authorized files
 binds_left files (Bound_by call count number total ms b a few are) = open_left (open_file b.held.0 Authorized ∷ files) _ a
+binds_left files x = refl
 
 -- the opening of a `remove` file holds it where it is ready
 abbrev hold_files : RemoveHold → List OpenFile → List OpenFile
 hold_files (hold.Ready file) files = open_file file.0 Remove ∷ files
-hold_files hold.Gone files = files
-hold_files (hold.Failed failed) files = files
-hold_files hold.Memory files = files
+hold_files x files = files
 
 holds_left : {name : List ℕ} {held : ℕ} {ms : List Made} {r : RemoveHold} (files : List OpenFile) → Holds_by name held ms r → files_after files ms ≡ hold_files r files
-holds_left files (Not_there call count) = refl
-holds_left files (Not_opened call count) = refl
-holds_left files (No_memory call count) = refl
-holds_left files (Held_on file on call count number total) = refl
 holds_left files (Died file call count number total shut) = closed_first file.0 Remove files
 holds_left files (Unasked file call count number total shut) = closed_first file.0 Remove files
+holds_left files x = refl
 
 way_left : (name : List ℕ) (held : ℕ) (ms : List Made) (r : RemoveHold) (files : List OpenFile) → Way (holding_remove name held) ms r → files_after files ms ≡ hold_files r files
 way_left name held ms r files way = holds_left files (way_holds name held ms r way)
@@ -148,9 +137,7 @@ kept_files name ss x how e n = sym (stands_file _ x.number x.held (kept_own name
 
 unbound_files : {name : List ℕ} {r : Binding} {es : List Entry} {how : Settled} → Unbound_end name r es how → binding_files r [] ≡ []
 unbound_files Absent_so = refl
-unbound_files Vanished_so = refl
-unbound_files (Failed_so failed) = refl
-unbound_files Short_so = refl
+unbound_files x = refl
 
 -- behind an opening
 after_opening : {name : List ℕ} {ss : List Standing} {ms : List Made} {rs : List Standing} (ns : List Made) → NoneOpen name ss ms rs → files_after (known_files (standing_of name ss)) (ms ++ ns) ≡ files_after [] ns
@@ -188,9 +175,8 @@ ended_number settled.Nobody number = None
 ended_number how number = Some number
 
 written_numbers : {name : List ℕ} {number : ℕ} {what : Write} {t : Told Wrote} {es : List Entry} {how : Settled} → Written name number what t es how → AreOfNumber (Some number) es (ended_number how number)
-written_numbers (Done failed) = (refl, (refl, refl))
 written_numbers (Went failed) = (refl, (refl, (refl, refl)))
-written_numbers (Broke failed) = (refl, (refl, refl))
+written_numbers x = (refl, (refl, refl))
 
 valued_numbers : {name : List ℕ} {known : Known} {on : Bool} {ms : List Made} {es : List Entry} {how : Settled} → Valued name known on ms es how → AreOfNumber (Some known.number) es (ended_number how known.number)
 valued_numbers (Same e) = refl
@@ -198,8 +184,7 @@ valued_numbers (Set t es how e w) = written_numbers w
 
 unheld_numbers : {name : List ℕ} {number : ℕ} {r : RemoveHold} {es : List Entry} {how : Settled} → Unheld name number r es how → AreOfNumber (Some number) es (ended_number how number)
 unheld_numbers Gone_by = (refl, refl)
-unheld_numbers (Failed_by failed) = refl
-unheld_numbers Short_by = refl
+unheld_numbers x = refl
 
 removal_numbers : {name : List ℕ} {known : Known} {ms : List Made} {es : List Entry} {how : Settled} → Removal name known ms es how → AreOfNumber (Some known.number) es (ended_number how known.number)
 removal_numbers (Not_held ms r es how way u) = unheld_numbers u
@@ -227,9 +212,7 @@ kept_number name ss x how e n = sym (stands_number _ x.number x.held (kept_own n
 
 unbound_numbers : {name : List ℕ} {r : Binding} {es : List Entry} {how : Settled} → Unbound_end name r es how → AreOfNumber None es None
 unbound_numbers Absent_so = refl
-unbound_numbers Vanished_so = refl
-unbound_numbers (Failed_so failed) = refl
-unbound_numbers Short_so = refl
+unbound_numbers x = refl
 
 pub flat_numbers : {binds : Bool} {given : List Standing → Bound → Standing → Type 0} {name : List ℕ} {ss : List Standing} {ok : Bool} {ms : List Made} {rest : List Entry} {how : Settled} {rs : List Standing} {o : Option (List Standing × Bound)} → Flat binds given name ss ok ms rest how rs o → AreOfNumber (number_of (standing_of name ss)) rest (number_of (standing_of name rs))
 flat_numbers {name = name} {ss = ss} (Unprobed known failed at) = sym (tried_number name ss (settled.Fault failed) known at) ∙ sym (ap number_of at)

@@ -17,13 +17,11 @@ use Rattle.ug_table.proofs.Marks.{place_has, order_has}
 
 less_is : (r : Ordering) → is_lt r ≡ true → r ≡ Less
 less_is Less e = refl
-less_is Equal e = absurd (true≢false (sym e))
-less_is Greater e = absurd (true≢false (sym e))
+less_is x e = absurd (true≢false (sym e))
 
 turned_less : (r : Ordering) → is_lt r ≡ true → is_lt (ordering_reverse r) ≡ false
-turned_less Less e = refl
-turned_less Equal e = refl
 turned_less Greater e = absurd (true≢false (sym e))
+turned_less x e = refl
 
 pub not_behind : (x y : List ℕ) → swept_before x y ≡ true → swept_before y x ≡ false
 not_behind x y h = ap is_lt (sweep_total.antisymm y x) ∙ turned_less (sweep_cmp x y) h
@@ -35,9 +33,8 @@ further : (x y z : List ℕ) → swept_before x y ≡ true → swept_before y z 
 further x y z a b = ap is_lt (sweep_total.trans x y z (less_is (sweep_cmp x y) a) (less_is (sweep_cmp y z) b))
 
 greater_turned : (r : Ordering) → is_gt r ≡ true → is_lt (ordering_reverse r) ≡ true
-greater_turned Less e = absurd (true≢false (sym e))
-greater_turned Equal e = absurd (true≢false (sym e))
 greater_turned Greater e = refl
+greater_turned x e = absurd (true≢false (sym e))
 
 greater_before : (x y : List ℕ) → is_gt (sweep_cmp x y) ≡ true → swept_before y x ≡ true
 greater_before x y h = ap is_lt (sweep_total.antisymm y x) ∙ greater_turned (sweep_cmp x y) h

@@ -47,8 +47,7 @@ use Rattle.ug_kernel.specs.Calls.{Told}
 use Rattle.ug_kernel.specs.Along.{Made, answered, Along}
 use Rattle.ug_kernel.proofs.Ways.{Way, way_runs, along_split, along_sound, along_grows}
 use Rattle.ug_kernel.specs.declared.calls.FailedCall.{FailedCall}
-use Rattle.ug_table.proofs.Shapes.{Written, Done, Went, Broke, Valued, Same, Set, Unheld, Gone_by, Failed_by, Short_by, Removal, Not_held, Put_on, Carried, By_value, And_removal, Brought, Left_open, Let_go, Unbound_end, Absent_so, Vanished_so, Failed_so, Short_so, Flat, Unprobed, Tried, Stopped, Unbound, No_place, Judged_so, told_at}
-use Rattle.ug_table.proofs.Chains.{Piece}
+use Rattle.ug_table.proofs.Shapes.{Piece, Written, Done, Went, Broke, Valued, Same, Set, Unheld, Gone_by, Failed_by, Short_by, Removal, Not_held, Put_on, Carried, By_value, And_removal, Brought, Left_open, Let_go, Unbound_end, Absent_so, Vanished_so, Failed_so, Short_so, Flat, Unprobed, Tried, Stopped, Unbound, No_place, Judged_so, told_at}
 
 -- the name is told among what was added
 abbrev pub NamedSince : List Entry → List Entry → List ℕ → Type 0
@@ -193,10 +192,9 @@ abbrev pub Ended : Bool → Kernel → List Standing → List Entry → ℕ → 
 Ended binds l rs rest i name = (StandsSo l rs i ⊎ IsNamed rest name) ⊎ ((binds ≡ false) × (Has (names_of rs) name → ⊥))
 
 unbound_own : {name : List ℕ} {r : Binding} {es : List Entry} {how : Settled} (k m : Kernel) (i : ℕ) → Unbound_end name r es how → BindSays name k m r → LiveAs k i name → LiveAs m i name → IsNamed es name
-unbound_own {name} k m i Absent_so says first mid = absurd (says i first.d (lived k m i name first mid) first.named)
-unbound_own {name} k m i Vanished_so says first mid = absurd (says i first.d (lived k m i name first mid) first.named)
 unbound_own k m i (Failed_so failed) says first mid = (fault.Call failed, inl refl)
 unbound_own k m i Short_so says first mid = (fault.Memory, inl refl)
+unbound_own {name} k m i x says first mid = absurd (says i first.d (lived k m i name first mid) first.named)
 
 -- behind the entries of an opening
 named_later : (es fs : List Entry) (name : List ℕ) → IsNamed fs name → IsNamed (es ++ fs) name
@@ -236,8 +234,14 @@ flat_own {name = name} i k l sound f first live (Judged_so ms ns os es fs rs b x
     ])
 
 -- the device of that name is as judged, or the name is told; or it has no standing where nothing is bound
-pub piece_own : {J : Type 0} {answer : Answers J} {later : Laters J} {binds present : Bool} {name : List ℕ} {how : Settled} {k l : Kernel} {w v : State J} (i : ℕ) → IsKernel k → Files k w.standings → LiveAs k i name → LiveAs l i name → Piece calls answer later binds present name how k w l v → Good w.entries l v.standings v.entries i name ⊎ ((binds ≡ false) × (Has (names_of v.standings) name → ⊥))
-piece_own {k = k} {l = l} i sound f first live p = elim (flat_own i k l sound f first live p.flat p.along) [
-  | inl h ↦ inl (elim h [ inl s ↦ inl s | inr n ↦ inr (p.rest, p.entries, n) ])
-  | inr h ↦ inr h
-]
+pub piece_own : {J : Type 0} {answer : Answers J} {later : Laters J} {binds present : Bool}
+    {name : List ℕ} {how : Settled} {ok : Bool} {ms : List Made} {k l : Kernel} {w v : State J} (i : ℕ)
+    → IsKernel k → Files k w.standings → LiveAs k i name → LiveAs l i name
+    → Piece answer later binds present name w ok ms how v → Along calls k ms l
+    → Good w.entries l v.standings v.entries i name
+    ⊎ ((binds ≡ false) × (Has (names_of v.standings) name → ⊥))
+piece_own {k = k} {l = l} i sound f first live p a =
+    elim (flat_own i k l sound f first live p.flat a) [
+      | inl h ↦ inl (elim h [ inl s ↦ inl s | inr n ↦ inr (p.rest, p.entries, n) ])
+      | inr h ↦ inr h
+    ]

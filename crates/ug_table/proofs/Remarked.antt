@@ -24,10 +24,9 @@ use Rattle.ug_types.proofs.Elements.{filter_has, map_has, has_map, insert_has, d
 use Rattle.ug_table.proofs.Orders.{not_itself}
 use Rattle.ug_table.proofs.Places.{marked_other}
 use Rattle.ug_table.proofs.Standings.{same_is, is_same, found, missing, numbered_has}
-use Rattle.ug_table.proofs.Shapes.{Opening, Fresh, Lost, Flat, Unprobed, Tried, Stopped, Unbound, No_place, Judged_so, Resettles, resettles}
+use Rattle.ug_table.proofs.Shapes.{Opening, Fresh, Lost, Flat, Unprobed, Tried, Stopped, Unbound, No_place, Judged_so}
 use Rattle.ug_table.proofs.Told.{opens, flat_room}
-use Rattle.ug_kernel.proofs.Ways.{ways_run}
-use Rattle.ug_table.proofs.Chains.{settling_piece, run_numbered}
+use Rattle.ug_table.proofs.Chains.{settling_run, numbered_run}
 
 -- names in order are distinct
 names_distinct : (names : List (List ℕ)) → AreInOrder names → AllDistinct names
@@ -203,7 +202,7 @@ flat_leaves {name = name} {ss = ss} next order numbered (Judged_so ms ns os es f
     kept_leaves name ss rs x how new.named new.fresh new.stays (ap (λ (v : ℕ). stood_removed v ss) (numbered rs b x given) ∙ next_stood next ss order) (opening_rest opening) (opens opening).absent
 
 pub run_leaves : {S J : Type 0} (gives : S → (call : Call) → Answer call → S → Type 0) (answer : Answers J) (later : Laters J) (name : List ℕ) (present : Bool) (w : State J) (s : S) (p : Settled × State J) (t : S) → StandInOrder w.next w.standings → Runs gives s (settling answer later name present w) p t → LeavesMarks (has_name name) w.standings p.1.standings p.0
-run_leaves gives answer later name present w s p t order r = flat_leaves w.next order (λ rs b x e. ap (λ (v : Standing). v.number) e) (settling_piece gives answer later name present w s p t r).flat
+run_leaves gives answer later name present w s p t order r = flat_leaves w.next order (λ rs b x e. ap (λ (v : Standing). v.number) e) (settling_run gives answer later name present w s p t r).so.flat
 
 -- a number
 
@@ -241,19 +240,16 @@ flat_tried (Unbound ms ns es fs rs r how t opening way end) f a = absurd (true�
 flat_tried (No_place ms ns es rs b shut t opening way) f a = absurd (true≢false (sym t ∙ f))
 flat_tried (Judged_so ms ns os es fs rs b x how t opening way given new brought) f a = absurd (true≢false (sym t ∙ f))
 
-numbered_flat : {S : Type 0} (gives : S → (call : Call) → Answer call → S → Type 0) (number : ℕ) (k : Kept) (x : Standing) (s : S) (p : Settled × Kept) (t : S) → numbered number k.standings ≡ Some x → Runs gives s (resettling_numbered number k) p t → (ok : Bool) × (ms : List Made) × Resettles x.name k ok ms p
-numbered_flat gives number k x s p t at r = let y = ways_run gives (Resettles x.name k) (resettling x.name k) s p t (resettles x.name k) (run_numbered gives number k x s p t at r) in (y.granted, y.made, y.so)
-
 pub numbered_leaves : {S : Type 0} (gives : S → (call : Call) → Answer call → S → Type 0) (next number : ℕ) (k : Kept) (x : Standing) (s : S) (p : Settled × Kept) (t : S) → StandInOrder next k.standings → numbered number k.standings ≡ Some x → Runs gives s (resettling_numbered number k) p t → LeavesMarks (has_number number) k.standings p.1.standings p.0
 numbered_leaves gives next number k x s p t order at r =
     let has = has_map (λ (v : Standing). v.name) k.standings x (numbered_has number k.standings x at).0 in
-    let tried = flat_tried (numbered_flat gives number k x s p t at r).2.flat refl has in
+    let tried = flat_tried (numbered_run gives number k x s p t at r).so.flat refl has in
     subst (λ (v : List Standing). LeavesMarks (has_number number) k.standings v p.0) (sym tried) (tried_leaves (of_number number) x.name k.standings p.0 order.distinct (numbered_named next number k.standings x order at))
 
 -- want of memory
 pub needs_room : {S : Type 0} (gives : S → (call : Call) → Answer call → S → Type 0) (next number : ℕ) (k : Kept) (x : Standing) (s : S) (p : Settled × Kept) (t : S) → StandInOrder next k.standings → numbered number k.standings ≡ Some x → Runs gives s (resettling_numbered number k) p t → p.0 ≡ settled.Memory → NeedsRoom number k.standings
 needs_room gives next number k x s p t order at r e =
-    let room = flat_room (numbered_flat gives number k x s p t at r).2.flat refl e in
+    let room = flat_room (numbered_run gives number k x s p t at r).so.flat refl e in
     let f = found x.name k.standings room.0 room.1 in
     let same : f.s ≡ x = distinct_one (λ (v : Standing). v.name) k.standings f.s x (names_distinct (names_of k.standings) order.order) f.has (numbered_has number k.standings x at).0 f.named in
     (x, at, ap (λ (v : Standing). is_to_go (known_of v)) (sym same) ∙ ap is_to_go f.known ∙ room.2)

@@ -19,12 +19,11 @@ use Rattle.ug_table.specs.declared.standing.Known.{Known}
 use Rattle.ug_table.specs.declared.standing.Settled.{Settled}
 use Rattle.ug_table.specs.declared.standing.Settled.TheVariants as settled
 use Rattle.ug_types.proofs.Elements.{has_left, has_right, has_cases, filter_has, map_has, has_map, insert_has, has_new}
-use Rattle.ug_table.proofs.Shapes.{Written, Done, Went, Broke, Valued, Same, Set, Gone_by, Failed_by, Short_by, Removal, Not_held, Put_on, Carried, By_value, And_removal, Brought, Left_open, Let_go, Opening, Fresh, Lost, Unbound_end, Absent_so, Vanished_so, Failed_so, Short_so, Flat, Unprobed, Tried, Stopped, Unbound, No_place, Judged_so, brought}
+use Rattle.ug_table.proofs.Shapes.{Piece, Written, Done, Went, Broke, Valued, Same, Set, Gone_by, Failed_by, Short_by, Removal, Not_held, Put_on, Carried, By_value, And_removal, Brought, Left_open, Let_go, Opening, Fresh, Lost, Unbound_end, Absent_so, Vanished_so, Failed_so, Short_so, Flat, Unprobed, Tried, Stopped, Unbound, No_place, Judged_so, brought}
 use Rattle.ug_kernel.specs.Along.{Made}
 use Rattle.ug_table.proofs.Standings.{is_same, missing, missing_without, found}
 use Rattle.ug_table.proofs.Places.{marked_other}
 use Rattle.ug_table.proofs.OwnStanding.{tried_own}
-use Rattle.ug_table.proofs.Chains.{Piece}
 use Rattle.ug_audit.specs.declared.entry.Fault.{Fault}
 use Rattle.ug_table.specs.Bring.{is_to_go}
 use Rattle.ug_table.specs.One.{why_in, whys, why_of}
@@ -42,8 +41,7 @@ whys_more (e ∷ es) fs = ap (λ (v : List Fault). why_in e ++ v) (whys_more es 
 
 written_whys : {name : List ℕ} {number : ℕ} {what : Write} {t : Told Wrote} {es : List Entry} {how : Settled} → Written name number what t es how → (whys es ≡ why_of how) × (how ≡ settled.Memory → ⊥)
 written_whys (Done failed) = (refl, λ e. let none : ⊥ = cc in none)
-written_whys (Went failed) = (refl, λ e. let none : ⊥ = cc in none)
-written_whys (Broke failed) = (refl, λ e. let none : ⊥ = cc in none)
+written_whys x = (refl, λ e. let none : ⊥ = cc in none)
 
 valued_whys : {name : List ℕ} {known : Known} {on : Bool} {ms : List Made} {es : List Entry} {how : Settled} → Valued name known on ms es how → (whys es ≡ why_of how) × (how ≡ settled.Memory → ⊥)
 valued_whys (Same e) = (refl, λ f. let none : ⊥ = cc in none)
@@ -69,9 +67,7 @@ opening_whys (Lost known failed shut e) = refl
 
 unbound_whys : {name : List ℕ} {r : Binding} {es : List Entry} {how : Settled} → Unbound_end name r es how → (whys es ≡ why_of how) × (how ≡ settled.Stands → ⊥)
 unbound_whys Absent_so = (refl, λ e. let none : ⊥ = cc in none)
-unbound_whys Vanished_so = (refl, λ e. let none : ⊥ = cc in none)
-unbound_whys (Failed_so failed) = (refl, λ e. let none : ⊥ = cc in none)
-unbound_whys Short_so = (refl, λ e. let none : ⊥ = cc in none)
+unbound_whys x = (refl, λ e. let none : ⊥ = cc in none)
 
 -- behind an opening
 after_opening : {name : List ℕ} {ss : List Standing} {ms : List Made} {es : List Entry} {rs : List Standing} (fs : List Entry) → Opening name ss ms es rs → whys (es ++ fs) ≡ whys fs
@@ -234,7 +230,9 @@ flat_part {name = name} {rest = rest} {how = how} xs ys e f =
 abbrev pub PartOf : {J : Type 0} → List ℕ → State J → State J → Type 0
 PartOf name w v = Part name w.standings w.entries v.standings v.entries × (v.listed ≡ w.listed)
 
-pub piece_part : {S J : Type 0} {gives : S → (call : Call) → Answer call → S → Type 0} {answer : Answers J} {later : Laters J} {binds present : Bool} {name : List ℕ} {how : Settled} {s t : S} {w v : State J} → Piece gives answer later binds present name how s w t v → PartOf name w v
+pub piece_part : {J : Type 0} {answer : Answers J} {later : Laters J} {binds present : Bool}
+    {name : List ℕ} {how : Settled} {ok : Bool} {ms : List Made} {w v : State J}
+    → Piece answer later binds present name w ok ms how v → PartOf name w v
 piece_part {w = w} {v = v} p = (flat_part w.entries v.entries p.entries p.flat, p.listed)
 
 -- the answer says whether the name has a standing
@@ -257,14 +255,12 @@ tried_nobody ss name settled.Nobody e = missing_without name ss
 tried_nobody ss name how e = let none : ⊥ = cc in absurd none
 
 pub flat_stands : {binds : Bool} {given : List Standing → Bound → Standing → Type 0} {name : List ℕ} {ss : List Standing} {ok : Bool} {ms : List Made} {rest : List Entry} {how : Settled} {rs : List Standing} {o : Option (List Standing × Bound)} → Flat binds given name ss ok ms rest how rs o → how ≡ settled.Stands → Has (names_of rs) name
-flat_stands (Unprobed known failed at) e = let none : ⊥ = cc in absurd none
 flat_stands {name = name} {ss = ss} (Tried known on failed ms es how at b) e =
     let k = tried_own name ss how known at (λ n. let none : ⊥ = cc in none) in
     known_has name (tried_standings ss name how) k.0 k.1
-flat_stands (Stopped ms es rs f opening) e = let none : ⊥ = cc in absurd none
 flat_stands (Unbound ms ns es fs rs r how t opening way end) e = absurd ((unbound_whys end).1 e)
-flat_stands (No_place ms ns es rs b shut t opening way) e = let none : ⊥ = cc in absurd none
 flat_stands (Judged_so ms ns os es fs rs b x how t opening way given new brought) e = subst (λ v. Has (names_of (kept_standings rs x how)) v) new.named (kept_stands rs x how e)
+flat_stands x e = let none : ⊥ = cc in absurd none
 
 pub flat_nobody : {binds : Bool} {given : List Standing → Bound → Standing → Type 0} {name : List ℕ} {ss : List Standing} {ok : Bool} {ms : List Made} {rest : List Entry} {how : Settled} {rs : List Standing} {o : Option (List Standing × Bound)} → Flat binds given name ss ok ms rest how rs o → how ≡ settled.Nobody → Has (names_of rs) name → ⊥
 flat_nobody (Unprobed known failed at) e = let none : ⊥ = cc in absurd none

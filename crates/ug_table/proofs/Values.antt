@@ -88,8 +88,7 @@ put_other held i j control write answer on k l file ne c v =
 
 verdict_value : (verdict : Target) (was : Bool) → value_after (write_of verdict) was ≡ wants verdict
 verdict_value target.Allow was = refl
-verdict_value target.Block was = refl
-verdict_value target.Reject was = refl
+verdict_value x was = refl
 
 -- a write that is done leaves what the verdict wants
 pub done_value : (held i : ℕ) (verdict : Target) (failed : FailedCall) (k l : Kernel) → IsFileOf k held i → Called (Put held (write_of verdict)) (told_at wrote.Done failed) k l → Value l i (wants verdict)

@@ -21,21 +21,15 @@ use Rattle.ug_node.proofs.BindShapes.{told, Binds_by, No_such, Open_failed, Open
 use Rattle.ug_table.proofs.Shapes.{Valued, Same, Set, Removal, Not_held, Put_on, Carried, By_value, And_removal, Brought, Left_open, Let_go, Opening, Fresh, Lost, Flat, Unprobed, Tried, Stopped, Unbound, No_place, Judged_so}
 
 binds_few : {name : List ℕ} {ms : List Made} {r : Binding} → Binds_by name ms r → count_calls ms ≤ 9
-binds_few (No_such call count) = omega arith
-binds_few (Open_failed call count) = omega arith
-binds_few (Open_short call count) = omega arith
 binds_few (Cut file call count ms of at t shut why r a few may stops e) = let sum = count_more ms (answered (Read of at) t ∷ answered (Close file.0) shut ∷ []) in omega (arith, few, sum)
 binds_few (Probed_gone file call count number total ms shut a few) = let sum = count_more ms (answered (Ask_alive file.0) (told probe.Gone number total) ∷ answered (Close file.0) shut ∷ []) in omega (arith, few, sum)
 binds_few (Probe_failed file call count number total ms shut a few) = let sum = count_more ms (answered (Ask_alive file.0) (told probe.Failed number total) ∷ answered (Close file.0) shut ∷ []) in omega (arith, few, sum)
 binds_few (Bound_by call count number total ms b a few are) = let sum = count_more ms (answered (Ask_alive b.held.0) (told (probe.Alive b.on) number total) ∷ []) in omega (arith, few, sum)
+binds_few x = omega arith
 
 holds_few : {name : List ℕ} {held : ℕ} {ms : List Made} {r : RemoveHold} → Holds_by name held ms r → count_calls ms ≤ 2
 holds_few (Not_there call count) = omega arith
-holds_few (Not_opened call count) = omega arith
-holds_few (No_memory call count) = omega arith
-holds_few (Held_on file on call count number total) = omega arith
-holds_few (Died file call count number total shut) = omega arith
-holds_few (Unasked file call count number total shut) = omega arith
+holds_few x = omega arith
 
 valued_few : {name : List ℕ} {known : Known} {on : Bool} {ms : List Made} {es : List Entry} {how : Settled} → Valued name known on ms es how → count_calls ms ≤ 1
 valued_few (Same e) = omega arith

@@ -108,13 +108,11 @@ more w ss es = record w { standings = ss; entries = w.entries ++ es }
 
 value_called : (verdict : Target) → CallsFor verdict (write_of verdict)
 value_called target.Allow = tt
-value_called target.Block = tt
-value_called target.Reject = tt
+value_called x = tt
 
 value_first : (ss : List Standing) (es : List Entry) (number : ℕ) (verdict : Target) → IsFirst ss es number (write_of verdict)
 value_first ss es number target.Allow = tt
-value_first ss es number target.Block = tt
-value_first ss es number target.Reject = tt
+value_first ss es number x = tt
 
 value_no_removal : (s : Standing) (verdict : Target) (outcome : Wrote) → NoRemoval (wrote_entries s.number s.name (write_of verdict) outcome)
 value_no_removal s verdict outcome number name (inl e) = let none : ⊥ = cc in none
@@ -148,9 +146,8 @@ valued_fair {m = m} {u = u} l s after (Set t es how e v) has a h r =
 -- the removal
 
 reject_calls : (verdict : Target) → is_reject verdict ≡ true → CallsFor verdict write.Remove
-reject_calls target.Allow e = let none : ⊥ = cc in absurd none
-reject_calls target.Block e = let none : ⊥ = cc in absurd none
 reject_calls target.Reject e = tt
+reject_calls x e = let none : ⊥ = cc in absurd none
 
 and_first : (a b : Bool) → (a && b) ≡ true → a ≡ true
 and_first true b e = refl
