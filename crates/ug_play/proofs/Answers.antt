@@ -23,33 +23,10 @@ use Rattle.ug_kernel.proofs.Ways.{Ways, ways_more, ways_run}
 use Rattle.ug_sysfs.specs.Devices.{find}
 use Rattle.ug_sysfs.specs.declared.script.Failing.{Failing}
 use Rattle.ug_sysfs.specs.World.{World, answer_of, answer_unless, answer_from, entered, fate, fate_of, effect, opened_at, read_from, read_at, alive_of, probed_at, put_at, live_held, Wants, Gives}
+use Rattle.ug_table.proofs.OnePart.{short_listing, short_open, short_read, is_want, has_want}
 use Rattle.ug_play.specs.Play.{play, IsPlayed}
 use Rattle.ug_play.proofs.Plays.{unless_cases, told_unless}
 use Rattle.ug_sysfs.proofs.RanOut.{stays_out}
-
--- answers that are want of memory
-
-abbrev pub short_listing : Listing → Bool
-short_listing listing.Memory = true
-short_listing answer = false
-
-abbrev pub short_open : Opened → Bool
-short_open opened.Memory = true
-short_open answer = false
-
-abbrev pub short_read : ReadOut → Bool
-short_read out.Memory = true
-short_read answer = false
-
-abbrev pub is_want : (call : Call) → Answer call → Bool
-is_want Names a = short_listing a.answer
-is_want (Open name control) a = short_open a.answer
-is_want (Read name at) a = short_read a.answer
-is_want call a = false
-
--- one of the calls was answered so
-abbrev pub has_want : List Made → Bool
-has_want ms = list_any (λ (m : Made). is_want m.call m.answer) ms
 
 -- memory was refused on a way
 abbrev pub refused : Bool → List Made → Bool

@@ -19,8 +19,9 @@ use Rattle.ug_table.specs.declared.standing.Standing.{Standing}
 use Rattle.ug_table.proofs.Chains.{Chain, Over, First, List_failed, List_short, No_room, Goes, Listed, Unlisted, Comes, sweeping_by, goes_entries}
 use Rattle.ug_table.proofs.Faults.{goes_tells}
 use Rattle.ug_play.specs.Play.{play, tells_memory, TellsMemory, IsPlayed, names_somebody, NameNobody}
-use Rattle.ug_play.proofs.Answers.{has_want, refused, play_way, TellsWant, played}
-use Rattle.ug_play.proofs.Wants.{want_more, memory_more, flat_want}
+use Rattle.ug_table.proofs.OnePart.{has_want, want_more}
+use Rattle.ug_play.proofs.Answers.{refused, play_way, TellsWant, played}
+use Rattle.ug_play.proofs.Wants.{memory_more, flat_want}
 
 -- entries that are added tell want of memory just where memory was refused, and the failed calls
 pub record Sums (es : List Entry) (ok : Bool) (ms : List Made) (fs : List Entry) : Type 0 where

@@ -1,6 +1,9 @@
 -- A run of a sweep goes along its parts, and tells each failed call.
-use Rattle.std.proofs.Common.{◌≡◌, ℕ, Bool, true, false, cond, List, [], ◌∷◌, ◌++◌, inl, inr, refl, sym, ◌∙◌, ap, subst}
+use Rattle.std.proofs.Common.{◌≡◌, ℕ, ◌+◌, ◌≤◌, length, Option, Some, None, arith, Bool, true, false, cond, List, [], ◌∷◌, ◌++◌, inl, inr, refl, sym, ◌∙◌, ap, subst}
 use Rattle.std.specs.List.{filter}
+use Rattle.std.proofs.lemmas.List.{length-append}
+use Rattle.ug_types.proofs.Sorting.{length-sweep_order}
+use Rattle.ug_node.specs.declared.identity.Bound.{Bound}
 use Rattle.ug_types.specs.Sweep.{in_sweep_order}
 use Rattle.ug_kernel.specs.declared.calls.FailedCall.{FailedCall}
 use Rattle.ug_kernel.specs.declared.calls.Listing.{Listing}
@@ -17,10 +20,10 @@ use Rattle.ug_audit.specs.declared.entry.Fault.TheVariants as fault
 use Rattle.ug_table.specs.State.{State, Answers, Laters}
 use Rattle.ug_table.specs.Standings.{lists, farewells}
 use Rattle.ug_table.specs.Sweep.{names_of, sweeping}
-use Rattle.ug_table.specs.Parts.{told_by, failures_told, InParts, unlisted_files, AfterListing, GoesInParts, TellsFaults}
+use Rattle.ug_table.specs.Parts.{told_by, failures_told, numbers_given, InParts, unlisted_files, AfterListing, GoesInParts, TellsFaults}
 use Rattle.ug_table.specs.declared.standing.Standing.{Standing}
-use Rattle.ug_table.proofs.Shapes.{told_at}
-use Rattle.ug_table.proofs.OnePart.{told_more, flat_is_part}
+use Rattle.ug_table.proofs.Shapes.{told_at, next_after}
+use Rattle.ug_table.proofs.OnePart.{told_more, given_count, given_more, flat_given, flat_none, flat_is_part}
 use Rattle.ug_table.proofs.Closings.{closings_calm}
 use Rattle.ug_table.proofs.Chains.{Chain, Over, First, Without, List_failed, List_short, No_room, Goes, Listed, Unlisted, goes_entries, sweeping_run}
 
@@ -37,12 +40,54 @@ unlisted_begins : {list : Listing} {failed : FailedCall} {room : Bool} {why : Fa
 unlisted_begins ss (No_room found failed) = inr (refl, refl, refl, refl)
 unlisted_begins ss x = (refl, refl, refl, refl)
 
+-- the numbers that are given out
+
+next_is : {J : Type 0} (w : State J) (o : Option (List Standing × Bound)) → next_after w o ≡ w.next + given_count o
+next_is w None = omega arith
+next_is w (Some judged) = refl
+
+pub chain_next : {J : Type 0} {answer : Answers J} {later : Laters J} {binds present : Bool}
+    {names : List (List ℕ)} {w v : State J} {ok : Bool} {ms : List Made} {es : List Entry}
+    → Chain answer later binds present names w ok ms es v → v.next ≡ w.next + length (numbers_given es)
+chain_next (Over w) = omega arith
+chain_next (First name names how w x v ok more ms ns es p c) =
+    let rest = chain_next c in
+    let here = p.next in
+    let is = next_is w p.judged in
+    let given = flat_given p.flat in
+    let sum = ap length (given_more p.rest es) ∙ length-append (numbers_given p.rest) (numbers_given es) in
+    omega (arith, rest, here, is, given, sum)
+
+-- one a name at most, and none where nothing is bound
+pub chain_given : {J : Type 0} {answer : Answers J} {later : Laters J} {present : Bool}
+    {names : List (List ℕ)} {w v : State J} {ok : Bool} {ms : List Made} {es : List Entry}
+    → Chain answer later true present names w ok ms es v → length (numbers_given es) ≤ length names
+chain_given (Over w) = omega arith
+chain_given (First name names how w x v ok more ms ns es p c) =
+    let rest = chain_given c in
+    let one = (flat_is_part p.flat).given in
+    let sum = ap length (given_more p.rest es) ∙ length-append (numbers_given p.rest) (numbers_given es) in
+    omega (arith, rest, one, sum)
+
+pub chain_none : {J : Type 0} {answer : Answers J} {later : Laters J} {present : Bool}
+    {names : List (List ℕ)} {w v : State J} {ok : Bool} {ms : List Made} {es : List Entry}
+    → Chain answer later false present names w ok ms es v → length (numbers_given es) ≡ 0
+chain_none (Over w) = refl
+chain_none (First name names how w x v ok more ms ns es p c) =
+    let rest = chain_none c in
+    let given = flat_given p.flat in
+    let none = flat_none refl p.flat in
+    let sum = ap length (given_more p.rest es) ∙ length-append (numbers_given p.rest) (numbers_given es) in
+    omega (arith, rest, given, none, sum)
+
 -- the parts of a sweep
 pub in_parts : {S J : Type 0} {gives : S → (call : Call) → Answer call → S → Type 0} {answer : Answers J}
     {later : Laters J} {s t : S} {w v : State J} {ok : Bool} {ms : List Made} {es : List Entry}
     → Along gives s ms t → Goes answer later w ok ms es v → GoesInParts gives s w t v
 in_parts {w = w} a (Listed found failed ok shut made es v closings c) =
     let names = in_sweep_order found in
+    let few = chain_given c in
+    let same = length-sweep_order found in
     record {
       listed = told_at (listing.Names found) failed;
       later = shut ++ made;
@@ -57,8 +102,12 @@ in_parts {w = w} a (Listed found failed ok shut made es v closings c) =
       cut = refl;
       begins = inl (refl, refl, refl, closings);
       parts = chain_parts c;
+      next = chain_next c;
+      given = omega (arith, few, same);
     }
-in_parts {w = w} a (Unlisted list failed room why ok made es v by c) = record {
+in_parts {w = w} a (Unlisted list failed room why ok made es v by c) =
+  let none = chain_none c in
+  record {
   listed = told_at list failed;
   later = made;
   along = a;
@@ -72,6 +121,8 @@ in_parts {w = w} a (Unlisted list failed room why ok made es v by c) = record {
   cut = refl;
   begins = unlisted_begins w.standings by;
   parts = chain_parts c;
+  next = chain_next c;
+  given = omega (arith, none);
 }
 
 -- a run of a sweep goes in parts

@@ -24,9 +24,7 @@ pub mod Told
 pub mod Marks
 pub mod Swept
 pub mod OwnStanding
-pub mod OpenFiles
 pub mod Closings
-pub mod Within
 pub mod OnePart
 pub mod Faults
 pub mod Once

@@ -32,40 +32,19 @@ use Rattle.ug_table.proofs.Steps.{fair_refl}
 use Rattle.ug_table.proofs.SoFar.{AreIn}
 use Rattle.ug_table.proofs.Lived.{lives_first, lives_last, stand_files, judged_at, piece_well}
 use Rattle.ug_table.proofs.Standings.{numbered_has}
-use Rattle.ug_table.proofs.Told.{flat_whys, unnamed, flat_stands, flat_nobody}
+use Rattle.ug_table.proofs.Told.{unnamed, flat_stands, flat_nobody}
 use Rattle.ug_table.proofs.Chains.{settling_run, resettling_run, run_numbered, no_verdict, no_later, numbered_run}
 use Rattle.ug_table.proofs.Shapes.{Piece}
 use Rattle.ug_kernel.specs.Along.{Made, Along}
 use Rattle.ug_table.proofs.Fair.{piece_fair}
-use Rattle.ug_table.proofs.OnePart.{flat_is_part}
+use Rattle.ug_table.proofs.OnePart.{failed_by, tells_why, flat_whys, flat_is_part}
 use Rattle.ug_table.proofs.Own.{piece_own}
 
 -- what was added is one list
 added : (es fs xs ys : List Entry) → fs ≡ es ++ xs → fs ≡ es ++ ys → ys ≡ xs
 added es fs xs ys e f = cancel es ys xs (sym f ∙ e)
 
--- what was told of failed calls, by why
-abbrev told_all : List Fault → List FailedCall
-told_all [] = []
-told_all (f ∷ fs) = told_by f ++ told_all fs
-
-told_more : (fs gs : List Fault) → told_all (fs ++ gs) ≡ told_all fs ++ told_all gs
-told_more [] gs = refl
-told_more (f ∷ fs) gs = ap (λ (v : List FailedCall). told_by f ++ v) (told_more fs gs) ∙ sym (append_assoc (told_by f) (told_all fs) (told_all gs))
-
-tells_one : (name : List ℕ) (e : Entry) (es : List Entry) → IsLast name e es → failure_in e ≡ told_all (why_in e)
-tells_one name (entry.Unsettled other why) es last = sym (append-nil (told_by why))
-tells_one name (entry.UnsettledAll why) es last = absurd last
-tells_one name e es last = refl
-
-tells_why : (name : List ℕ) (es : List Entry) → EndsUnsettled name es → failures_told es ≡ told_all (whys es)
-tells_why name [] last = refl
-tells_why name (e ∷ es) last =
-    ap (λ (v : List FailedCall). failure_in e ++ v) (tells_why name es last.1)
-    ∙ ap (λ (v : List FailedCall). v ++ told_all (whys es)) (tells_one name e es last.0)
-    ∙ sym (told_more (why_in e) (whys es))
-
-told_of : (how : Settled) → told_all (why_of how) ≡ failed_of how
+told_of : (how : Settled) → failed_by (why_of how) ≡ failed_of how
 told_of settled.Stands = refl
 told_of how = refl
 
@@ -84,7 +63,7 @@ as_part gives calls faults counted {name = name} {how = how} {ms = ms} {s = s} {
       entries = p.entries;
       part = part;
       why = why;
-      failed = sym part.told ∙ tells_why name p.rest part.last ∙ ap told_all why ∙ told_of how;
+      failed = sym part.told ∙ tells_why name p.rest part.last ∙ ap failed_by why ∙ told_of how;
       stands = flat_stands p.flat;
       nobody = flat_nobody p.flat;
       numbered = along_numbered gives calls faults counted ms s t a;

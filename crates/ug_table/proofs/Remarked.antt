@@ -25,7 +25,8 @@ use Rattle.ug_table.proofs.Orders.{not_itself}
 use Rattle.ug_table.proofs.Places.{marked_other}
 use Rattle.ug_table.proofs.Standings.{same_is, is_same, found, missing, numbered_has}
 use Rattle.ug_table.proofs.Shapes.{Opening, Fresh, Lost, Flat, Unprobed, Tried, Stopped, Unbound, No_place, Judged_so}
-use Rattle.ug_table.proofs.Told.{opens, flat_room}
+use Rattle.ug_table.proofs.Told.{opens}
+use Rattle.ug_table.proofs.OnePart.{flat_room}
 use Rattle.ug_table.proofs.Chains.{settling_run, numbered_run}
 
 -- names in order are distinct

@@ -28,59 +28,8 @@ use Rattle.ug_audit.specs.declared.entry.Fault.{Fault}
 use Rattle.ug_table.specs.Bring.{is_to_go}
 use Rattle.ug_table.specs.One.{why_in, whys, why_of}
 use Rattle.ug_table.specs.Parts.{EndsUnsettled}
-use Rattle.ug_table.proofs.OnePart.{flat_is_part}
+use Rattle.ug_table.proofs.OnePart.{flat_is_part, flat_whys}
 use Rattle.ug_table.proofs.Says.{Each, NamesOnly}
-
--- why
-
-whys_more : (es fs : List Entry) → whys (es ++ fs) ≡ whys es ++ whys fs
-whys_more [] fs = refl
-whys_more (e ∷ es) fs = ap (λ (v : List Fault). why_in e ++ v) (whys_more es fs) ∙ sym (append_assoc (why_in e) (whys es) (whys fs))
-
--- the entries tell how it ended; want of memory is answered only where the device is to be removed
-
-written_whys : {name : List ℕ} {number : ℕ} {what : Write} {t : Told Wrote} {es : List Entry} {how : Settled} → Written name number what t es how → (whys es ≡ why_of how) × (how ≡ settled.Memory → ⊥)
-written_whys (Done failed) = (refl, λ e. let none : ⊥ = cc in none)
-written_whys x = (refl, λ e. let none : ⊥ = cc in none)
-
-valued_whys : {name : List ℕ} {known : Known} {on : Bool} {ms : List Made} {es : List Entry} {how : Settled} → Valued name known on ms es how → (whys es ≡ why_of how) × (how ≡ settled.Memory → ⊥)
-valued_whys (Same e) = (refl, λ f. let none : ⊥ = cc in none)
-valued_whys (Set t es how e w) = written_whys w
-
-removal_whys : {name : List ℕ} {known : Known} {ms : List Made} {es : List Entry} {how : Settled} → Removal name known ms es how → whys es ≡ why_of how
-removal_whys (Not_held ms answer es how way Gone_by) = refl
-removal_whys (Not_held ms answer es how way (Failed_by failed)) = refl
-removal_whys (Not_held ms answer es how way Short_by) = refl
-removal_whys (Put_on ms file t shut es how way w) = (written_whys w).0
-
-carried_whys : {name : List ℕ} {known : Known} {on : Bool} {ms : List Made} {es : List Entry} {how : Settled} → Carried name known on ms es how → (whys es ≡ why_of how) × (how ≡ settled.Memory → is_to_go known ≡ true)
-carried_whys (By_value ms es how v k) = let a = valued_whys v in (a.0, λ e. absurd (a.1 e))
-carried_whys (And_removal ms ns es fs how go v r) = (whys_more es fs ∙ ap (λ (w : List Fault). w ++ whys fs) (valued_whys v).0 ∙ removal_whys r, λ e. go)
-
-brought_whys : {name : List ℕ} {known : Known} {on : Bool} {ms : List Made} {es : List Entry} {how : Settled} → Brought name known on ms es how → (whys es ≡ why_of how) × (how ≡ settled.Memory → is_to_go known ≡ true)
-brought_whys (Left_open ms es how c n) = carried_whys c
-brought_whys (Let_go ms es shut c) = carried_whys c
-
-opening_whys : {name : List ℕ} {ss : List Standing} {ms : List Made} {es : List Entry} {rs : List Standing} → Opening name ss ms es rs → whys es ≡ []
-opening_whys (Fresh e) = refl
-opening_whys (Lost known failed shut e) = refl
-
-unbound_whys : {name : List ℕ} {r : Binding} {es : List Entry} {how : Settled} → Unbound_end name r es how → (whys es ≡ why_of how) × (how ≡ settled.Stands → ⊥)
-unbound_whys Absent_so = (refl, λ e. let none : ⊥ = cc in none)
-unbound_whys x = (refl, λ e. let none : ⊥ = cc in none)
-
--- behind an opening
-after_opening : {name : List ℕ} {ss : List Standing} {ms : List Made} {es : List Entry} {rs : List Standing} (fs : List Entry) → Opening name ss ms es rs → whys (es ++ fs) ≡ whys fs
-after_opening {es = es} fs o = whys_more es fs ∙ ap (λ (v : List Fault). v ++ whys fs) (opening_whys o)
-
--- the entries of a part tell how it ended
-pub flat_whys : {binds : Bool} {given : List Standing → Bound → Standing → Type 0} {name : List ℕ} {ss : List Standing} {ok : Bool} {ms : List Made} {rest : List Entry} {how : Settled} {rs : List Standing} {o : Option (List Standing × Bound)} → Flat binds given name ss ok ms rest how rs o → whys rest ≡ why_of how
-flat_whys (Unprobed known failed at) = refl
-flat_whys (Tried known on failed ms es how at b) = (brought_whys b).0
-flat_whys (Stopped ms es rs f opening) = opening_whys opening
-flat_whys (Unbound ms ns es fs rs r how t opening way end) = after_opening fs opening ∙ (unbound_whys end).0
-flat_whys (No_place ms ns es rs b shut t opening way) = after_opening _ opening
-flat_whys (Judged_so ms ns os es fs rs b x how t opening way given new brought) = after_opening _ opening ∙ (brought_whys brought).0
 
 -- nothing that is told is unsettled
 right_none : (xs ys : List Fault) → xs ++ ys ≡ [] → ys ≡ []
@@ -254,11 +203,16 @@ tried_nobody : (ss : List Standing) (name : List ℕ) (how : Settled) → how �
 tried_nobody ss name settled.Nobody e = missing_without name ss
 tried_nobody ss name how e = let none : ⊥ = cc in absurd none
 
+unbound_stands : {name : List ℕ} {r : Binding} {es : List Entry} {how : Settled}
+    → Unbound_end name r es how → how ≡ settled.Stands → ⊥
+unbound_stands Absent_so e = let none : ⊥ = cc in none
+unbound_stands x e = let none : ⊥ = cc in none
+
 pub flat_stands : {binds : Bool} {given : List Standing → Bound → Standing → Type 0} {name : List ℕ} {ss : List Standing} {ok : Bool} {ms : List Made} {rest : List Entry} {how : Settled} {rs : List Standing} {o : Option (List Standing × Bound)} → Flat binds given name ss ok ms rest how rs o → how ≡ settled.Stands → Has (names_of rs) name
 flat_stands {name = name} {ss = ss} (Tried known on failed ms es how at b) e =
     let k = tried_own name ss how known at (λ n. let none : ⊥ = cc in none) in
     known_has name (tried_standings ss name how) k.0 k.1
-flat_stands (Unbound ms ns es fs rs r how t opening way end) e = absurd ((unbound_whys end).1 e)
+flat_stands (Unbound ms ns es fs rs r how t opening way end) e = absurd (unbound_stands end e)
 flat_stands (Judged_so ms ns os es fs rs b x how t opening way given new brought) e = subst (λ v. Has (names_of (kept_standings rs x how)) v) new.named (kept_stands rs x how e)
 flat_stands x e = let none : ⊥ = cc in absurd none
 
@@ -269,12 +223,3 @@ flat_nobody (Stopped ms es rs f opening) e = (opens opening).absent
 flat_nobody (Unbound ms ns es fs rs r how t opening way end) e = (opens opening).absent
 flat_nobody (No_place ms ns es rs b shut t opening way) e = (opens opening).absent
 flat_nobody {name = name} (Judged_so ms ns os es fs rs b x how t opening way given new brought) e = kept_nobody rs x how name (opens opening).absent e
-
--- where nothing is bound, want of memory is answered only where the standing's device is to be removed
-pub flat_room : {given : List Standing → Bound → Standing → Type 0} {binds : Bool} {name : List ℕ} {ss : List Standing} {ok : Bool} {ms : List Made} {rest : List Entry} {how : Settled} {rs : List Standing} {o : Option (List Standing × Bound)} → Flat binds given name ss ok ms rest how rs o → binds ≡ false → how ≡ settled.Memory → (known : Known) × (standing_of name ss ≡ Some known) × (is_to_go known ≡ true)
-flat_room (Unprobed known failed at) f e = let none : ⊥ = cc in absurd none
-flat_room (Tried known on failed ms es how at b) f e = (known, at, (brought_whys b).1 e)
-flat_room (Stopped ms es rs f opening) g e = let none : ⊥ = cc in absurd none
-flat_room (Unbound ms ns es fs rs r how t opening way end) f e = let none : ⊥ = cc in absurd none
-flat_room (No_place ms ns es rs b shut t opening way) f e = let none : ⊥ = cc in absurd none
-flat_room (Judged_so ms ns os es fs rs b x how t opening way given new brought) f e = let none : ⊥ = cc in absurd none
