@@ -3,13 +3,7 @@ use Rattle.std.proofs.Common.{◌≡◌, ℕ, ◌<◌, Bool, true, false, List, 
 use Rattle.std.specs.List.{slice_get}
 use Rattle.std.proofs.lemmas.List.{length-set}
 use Rattle.std.proofs.lemmas.Option.{slice_get_within, slice_get_cases, same_Some}
-use Rattle.ug_kernel.specs.declared.device.Device.{Device}
-use Rattle.ug_types.specs.declared.control.Control.{Control}
-use Rattle.ug_types.specs.declared.control.Write.{Write}
-use Rattle.ug_kernel.specs.Calls.{Call, Answer, Names, Open, Read, Ask_alive, Put, Close}
-use Rattle.ug_kernel.specs.Kernel.{Kernel, Live}
-use Rattle.ug_kernel.specs.Called.{Lived}
-use Rattle.ug_kernel.specs.Quiet.{Grows}
+use Rattle.ug_table.proofs.Common.{Device, Control, Write, Call, Answer, Names, Open, Read, Ask_alive, Put, Close, Kernel, Live, Lived, Grows}
 use Rattle.ug_kernel.specs.Tree.{Prog, Return, Ask, Room}
 use Rattle.ug_sysfs.specs.Devices.{find}
 use Rattle.ug_sysfs.specs.declared.script.Scheduled.{Scheduled}

@@ -2,25 +2,19 @@
 use Rattle.std.proofs.Common.{◌≡◌, ℕ, Bool, true, false, not, cond, ◌&&◌, ◌||◌, List, [], ◌∷◌, ◌++◌, refl, sym, ◌∙◌, ap, subst}
 use Rattle.std.specs.List.{list_any}
 use Rattle.std.proofs.lemmas.List.Folds.{list_any-append}
-use Rattle.ug_types.specs.Sweep.{in_sweep_order}
-use Rattle.ug_types.specs.declared.verdict.Held.{Held}
+use Rattle.ug_table.proofs.Common.{in_sweep_order, Held, Made, failures, Entry, State, Answers, Laters, lists, farewells, AreClosings, unlisted_files, failures_told, Standing}
 use Rattle.ug_kernel.specs.Tree.{Prog, Return, Runs, then}
-use Rattle.ug_kernel.specs.Along.{Made, failures}
 use Rattle.ug_kernel.proofs.Ways.{Ways, ways_more, ways_last}
 use Rattle.ug_sysfs.specs.World.{World, Gives}
-use Rattle.ug_audit.specs.declared.entry.Entry.{Entry}
 use Rattle.ug_audit.specs.declared.entry.Entry.TheVariants as entry
 use Rattle.ug_audit.specs.declared.entry.Fault.TheVariants as fault
-use Rattle.ug_table.specs.State.{State, Answers, Laters}
-use Rattle.ug_table.specs.Standings.{lists, farewells}
 use Rattle.ug_table.specs.Sweep.{sweeping}
-use Rattle.ug_table.specs.Parts.{AreClosings, unlisted_files, failures_told}
-use Rattle.ug_table.specs.declared.standing.Standing.{Standing}
+use Rattle.ug_table.proofs.Standings.{farewells_by}
 use Rattle.ug_table.proofs.Chains.{Chain, Over, First, List_failed, List_short, No_room, Goes, Listed, Unlisted, Comes, sweeping_by, goes_entries}
 use Rattle.ug_table.proofs.Faults.{goes_tells}
 use Rattle.ug_play.specs.Play.{play, tells_memory, TellsMemory, IsPlayed, names_somebody, NameNobody}
-use Rattle.ug_table.proofs.OnePart.{has_want, want_more}
-use Rattle.ug_play.proofs.Answers.{refused, play_way, TellsWant, played}
+use Rattle.ug_table.proofs.PartCalls.{has_want, want_more}
+use Rattle.ug_play.proofs.Plays.{refused, play_way, TellsWant, played}
 use Rattle.ug_play.proofs.Wants.{memory_more, flat_want}
 
 -- entries that are added tell want of memory just where memory was refused, and the failed calls
@@ -57,13 +51,8 @@ closings_sure [] ms h = ap has_want h
 closings_sure (file ∷ files) ms h = ap has_want h.2 ∙ closings_sure files h.1 h.3
 
 farewells_calm : (names : List (List ℕ)) (ss : List Standing) → tells_memory (farewells names ss) ≡ false
-farewells_calm names [] = refl
-farewells_calm names (s ∷ ss) = by (lists names s.name) (farewells_calm names ss)
-  where
-    by : (b : Bool) → tells_memory (farewells names ss) ≡ false
-        → tells_memory (cond b (farewells names ss) (entry.Gone s.number s.name ∷ farewells names ss)) ≡ false
-    by true h = h
-    by false h = h
+farewells_calm names ss =
+    farewells_by (λ es. tells_memory es ≡ false) refl (λ number name es h. h) names ss
 
 or_true : (b : Bool) → (b || true) ≡ true
 or_true true = refl

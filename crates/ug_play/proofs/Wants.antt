@@ -1,19 +1,15 @@
 -- What a name's part tells of want of memory: it tells it just where memory was refused in it.
 use Rattle.std.proofs.Common.{◌≡◌, ℕ, Bool, true, false, ◌||◌, List, [], ◌∷◌, ◌++◌, Option, refl, sym, ◌∙◌, ap}
 use Rattle.std.proofs.lemmas.List.Folds.{list_any-append}
-use Rattle.ug_kernel.specs.Along.{Made}
-use Rattle.ug_node.specs.declared.identity.Bound.{Bound}
-use Rattle.ug_audit.specs.declared.entry.Entry.{Entry}
+use Rattle.ug_table.proofs.Common.{Made, Bound, Entry, EndsUnsettled, Standing, Settled}
 use Rattle.ug_audit.specs.declared.entry.Entry.TheVariants as entry
 use Rattle.ug_audit.specs.declared.entry.Fault.TheVariants as fault
 use Rattle.ug_table.specs.One.{whys}
-use Rattle.ug_table.specs.Parts.{EndsUnsettled}
-use Rattle.ug_table.specs.declared.standing.Standing.{Standing}
-use Rattle.ug_table.specs.declared.standing.Settled.{Settled}
 use Rattle.ug_table.proofs.Shapes.{Flat}
-use Rattle.ug_table.proofs.OnePart.{are_short, flat_whys, flat_short, flat_is_part}
+use Rattle.ug_table.proofs.OnePart.{flat_whys, flat_short, flat_is_part}
+use Rattle.ug_table.proofs.PartCalls.{are_short}
 use Rattle.ug_play.specs.Play.{entry_tells_memory, tells_memory}
-use Rattle.ug_play.proofs.Answers.{refused}
+use Rattle.ug_play.proofs.Plays.{refused}
 
 pub memory_more : (es fs : List Entry) → tells_memory (es ++ fs) ≡ (tells_memory es || tells_memory fs)
 memory_more es fs = list_any-append entry_tells_memory es fs

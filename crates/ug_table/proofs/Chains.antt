@@ -1,29 +1,44 @@
 -- A sweep, flat: the listing, the closings of what isn't listed, and a chain of parts, one for each name, each with its shape.
-use Rattle.std.proofs.Common.{◌≡◌, ℕ, Bool, true, false, not, ◌&&◌, List, [], ◌∷◌, ◌++◌, Option, Some, inl, inr, refl, sym, ◌∙◌, ap, subst, append_assoc, append-nil}
-use Rattle.ug_types.specs.Sweep.{in_sweep_order}
+use Rattle.std.proofs.Common.{◌≡◌, ℕ, Bool, true, false, not, cond, map, List, [], ◌∷◌, refl, sym, ◌∙◌, ap, subst, ◌&&◌, ◌++◌, Option, Some, inl, inr, append_assoc, append-nil}
+use Rattle.std.specs.List.{filter}
+use Rattle.ug_table.proofs.Common.{Held, Close, Call, Answer, Names, Kernel, IsKernel, Quiet, Ask, calls, Runs, Made, answered, Along, failures, failure_of, lists, numbered, farewells, AreClosings, unlisted_files, Standing, in_sweep_order, FailedCall, Listing, Entry, Fault, State, Kept, kept_of, with_kept, noted, Answers, Laters, Settled}
+use Rattle.ug_kernel.proofs.Ways.{Ways, Sure, ways_more, along_sound, Unwritten, along_quiet, Went, ways_next, ways_last, behind_sure, ways_run}
+use Rattle.ug_table.specs.Sweep.{closing_unlisted, settling_all, resettling_all, parted, names_of, resumed, unlisted, marked_listed, if_room, after_list, sweeping}
 use Rattle.ug_types.specs.declared.verdict.Target.TheVariants as target
 use Rattle.ug_types.specs.declared.verdict.Cause.TheVariants as cause
-use Rattle.ug_kernel.specs.declared.calls.FailedCall.{FailedCall}
-use Rattle.ug_kernel.specs.declared.calls.Listing.{Listing}
 use Rattle.ug_kernel.specs.declared.calls.Listing.TheVariants as listing
-use Rattle.ug_kernel.specs.Calls.{Call, Answer, Names}
-use Rattle.ug_kernel.specs.Tree.{Runs}
-use Rattle.ug_kernel.specs.Along.{Made, answered, failure_of}
-use Rattle.ug_kernel.proofs.Ways.{Ways, Went, ways_more, ways_next, ways_last, behind_sure, ways_run}
-use Rattle.ug_audit.specs.declared.entry.Entry.{Entry}
 use Rattle.ug_audit.specs.declared.entry.Entry.TheVariants as entry
-use Rattle.ug_audit.specs.declared.entry.Fault.{Fault}
 use Rattle.ug_audit.specs.declared.entry.Fault.TheVariants as fault
-use Rattle.ug_table.specs.State.{State, Kept, kept_of, with_kept, noted, Answers, Laters}
-use Rattle.ug_table.specs.Standings.{numbered, farewells}
 use Rattle.ug_table.specs.Settle.{settling, resettling}
-use Rattle.ug_table.specs.Sweep.{settling_all, resettling_all, parted, closing_unlisted, names_of, resumed, unlisted, marked_listed, if_room, after_list, sweeping}
 use Rattle.ug_table.specs.One.{again_numbered, resettling_numbered}
-use Rattle.ug_table.specs.Parts.{AreClosings, unlisted_files}
-use Rattle.ug_table.specs.declared.standing.Standing.{Standing}
-use Rattle.ug_table.specs.declared.standing.Settled.{Settled}
-use Rattle.ug_table.proofs.Closings.{closes}
 use Rattle.ug_table.proofs.Shapes.{Piece, Settles, settles, Resettles, resettles, told_at}
+
+-- The closing of the files of what isn't listed.
+
+-- each file is closed, in order
+pub closes : (names : List (List ℕ)) (ss : List Standing) → Ways (closing_unlisted names ss) (Sure (λ ms (r : Unit {0}). AreClosings (unlisted_files names ss) ms))
+closes names [] = (refl, refl)
+closes names (x ∷ ss) = by (lists names x.name) (closes names ss)
+  where
+    files : Bool → List Held
+    files b = map (λ (y : Standing). y.held) (cond (not b) (x ∷ filter (λ (y : Standing). not (lists names y.name)) ss) (filter (λ (y : Standing). not (lists names y.name)) ss))
+
+    by : (b : Bool) → Ways (closing_unlisted names ss) (Sure (λ ms (r : Unit {0}). AreClosings (unlisted_files names ss) ms)) → Ways (cond b (closing_unlisted names ss) (Ask (Close x.held.0) (λ closed. closing_unlisted names ss))) (Sure (λ ms (r : Unit {0}). AreClosings (files b) ms))
+    by true more = more
+    by false more = λ shut. ways_more (Sure (λ ms (r : Unit {0}). AreClosings (unlisted_files names ss) ms)) (Sure (λ ms (r : Unit {0}). AreClosings (files false) (answered (Close x.held.0) shut ∷ ms))) (closing_unlisted names ss) (λ ok ms r h. (h.0, (shut, ms, refl, h.1))) more
+
+pub closings_calm : (files : List Held) (ms : List Made) → AreClosings files ms → failures ms ≡ []
+closings_calm [] ms h = ap failures h
+closings_calm (file ∷ files) ms h = ap failures h.2 ∙ closings_calm files h.1 h.3
+
+-- it writes nothing
+
+closings_unwritten : (files : List Held) (ms : List Made) → AreClosings files ms → Unwritten ms
+closings_unwritten [] ms h = subst (λ v. Unwritten v) (sym h) tt
+closings_unwritten (file ∷ files) ms h = subst (λ v. Unwritten v) (sym h.2) (tt, closings_unwritten files h.1 h.3)
+
+pub closings_quiet : (files : List Held) (ms : List Made) (k l : Kernel) → IsKernel k → AreClosings files ms → Along calls k ms l → IsKernel l × Quiet k l
+closings_quiet files ms k l sound c a = (along_sound ms k l sound a, along_quiet ms k l (closings_unwritten files ms c) a)
 
 -- one for each name, in this order
 pub data Chain {J : Type 0} (answer : Answers J) (later : Laters J) (binds present : Bool)

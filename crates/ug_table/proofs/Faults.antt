@@ -3,29 +3,17 @@ use Rattle.std.proofs.Common.{◌≡◌, ℕ, ◌+◌, ◌≤◌, length, Option
 use Rattle.std.specs.List.{filter}
 use Rattle.std.proofs.lemmas.List.{length-append}
 use Rattle.ug_types.proofs.Sorting.{length-sweep_order}
-use Rattle.ug_node.specs.declared.identity.Bound.{Bound}
-use Rattle.ug_types.specs.Sweep.{in_sweep_order}
-use Rattle.ug_kernel.specs.declared.calls.FailedCall.{FailedCall}
-use Rattle.ug_kernel.specs.declared.calls.Listing.{Listing}
+use Rattle.ug_table.proofs.Common.{Bound, in_sweep_order, FailedCall, Listing, Call, Names, Told, Answer, Runs, Made, answered, Along, failure, failures, Rises, Entry, Fault, State, Answers, Laters, lists, farewells, told_by, failures_told, numbers_given, InParts, unlisted_files, AfterListing, GoesInParts, TellsFaults, Standing}
 use Rattle.ug_kernel.specs.declared.calls.Listing.TheVariants as listing
-use Rattle.ug_kernel.specs.Calls.{Call, Names, Told, Answer}
-use Rattle.ug_kernel.specs.Tree.{Runs}
-use Rattle.ug_kernel.specs.Along.{Made, answered, Along, failure, failures, Rises}
 use Rattle.ug_kernel.proofs.Ways.{failures_more}
 use Rattle.ug_kernel.proofs.Rises.{Counting, along_numbered, along_rises}
-use Rattle.ug_audit.specs.declared.entry.Entry.{Entry}
 use Rattle.ug_audit.specs.declared.entry.Entry.TheVariants as entry
-use Rattle.ug_audit.specs.declared.entry.Fault.{Fault}
 use Rattle.ug_audit.specs.declared.entry.Fault.TheVariants as fault
-use Rattle.ug_table.specs.State.{State, Answers, Laters}
-use Rattle.ug_table.specs.Standings.{lists, farewells}
 use Rattle.ug_table.specs.Sweep.{names_of, sweeping}
-use Rattle.ug_table.specs.Parts.{told_by, failures_told, numbers_given, InParts, unlisted_files, AfterListing, GoesInParts, TellsFaults}
-use Rattle.ug_table.specs.declared.standing.Standing.{Standing}
 use Rattle.ug_table.proofs.Shapes.{told_at, next_after}
 use Rattle.ug_table.proofs.OnePart.{told_more, given_count, given_more, flat_given, flat_none, flat_is_part}
-use Rattle.ug_table.proofs.Closings.{closings_calm}
-use Rattle.ug_table.proofs.Chains.{Chain, Over, First, Without, List_failed, List_short, No_room, Goes, Listed, Unlisted, goes_entries, sweeping_run}
+use Rattle.ug_table.proofs.Standings.{farewells_by}
+use Rattle.ug_table.proofs.Chains.{closings_calm, Chain, Over, First, Without, List_failed, List_short, No_room, Goes, Listed, Unlisted, goes_entries, sweeping_run}
 
 chain_parts : {J : Type 0} {answer : Answers J} {later : Laters J} {binds present : Bool}
     {names : List (List ℕ)} {w v : State J} {ok : Bool} {ms : List Made} {es : List Entry}
@@ -125,14 +113,6 @@ in_parts {w = w} a (Unlisted list failed room why ok made es v by c) =
   given = omega (arith, none);
 }
 
--- a run of a sweep goes in parts
-pub sweeping_goes : {S J : Type 0} (gives : S → (call : Call) → Answer call → S → Type 0)
-    (answer : Answers J) (later : Laters J) (s : S) (w : State J) (t : S) (v : State J)
-    → Runs gives s (sweeping answer later w) v t → GoesInParts gives s w t v
-sweeping_goes gives answer later s w t v h =
-    let x = sweeping_run gives answer later s w t v h in
-    in_parts x.along x.so.1
-
 -- each failed call is told in its part
 chain_tells : {J : Type 0} {answer : Answers J} {later : Laters J} {binds present : Bool}
     {names : List (List ℕ)} {w v : State J} {ok : Bool} {ms : List Made} {es : List Entry}
@@ -145,14 +125,10 @@ chain_tells (First name names how w x v ok more ms ns es p c) =
     ∙ sym (failures_more ms ns)
 
 -- `gone` tells no failure
-farewells_tell_none : (names : List (List ℕ)) (ss : List Standing) → failures_told (farewells names ss) ≡ []
-farewells_tell_none names [] = refl
-farewells_tell_none names (s ∷ ss) = by (lists names s.name) (farewells_tell_none names ss)
-  where
-    by : (b : Bool) → failures_told (farewells names ss) ≡ []
-        → failures_told (cond b (farewells names ss) (entry.Gone s.number s.name ∷ farewells names ss)) ≡ []
-    by true h = h
-    by false h = h
+farewells_tell_none : (names : List (List ℕ)) (ss : List Standing)
+    → failures_told (farewells names ss) ≡ []
+farewells_tell_none names ss =
+    farewells_by (λ es. failures_told es ≡ []) refl (λ number name es h. h) names ss
 
 why_told : {list : Listing} {failed : FailedCall} {room : Bool} {why : Fault}
     → Without list failed room why → told_by why ≡ failure Names (told_at list failed)

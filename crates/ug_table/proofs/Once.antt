@@ -1,40 +1,22 @@
 -- The names that a sweep tells, none twice; and that no device is told for want of memory that had a standing, lived through it, and
 -- wasn't still to be removed.
 use Rattle.std.proofs.Common.{◌≡◌, ℕ, Bool, true, false, cond, List, [], ◌∷◌, ◌++◌, Option, Some, ◌⊎◌, inl, inr, refl, sym, ◌∙◌, ap, subst, append_assoc}
-use Rattle.ug_types.specs.Elements.{Has, AllDistinct}
+use Rattle.ug_table.proofs.Common.{Has, AllDistinct, Call, Answer, Names, Ask_alive, Kernel, Follows, says_probe, Runs, calls, Made, answered, Along, Entry, State, Answers, Laters, lists, farewells, known_of, standing_of, name_in, unsettled_names, EndsUnsettled, NamesOnce, Part, IsLast, Standing, in_sweep_order, Grows, Probe, Fault, Stand, IsSpared, Known}
 use Rattle.ug_kernel.specs.declared.calls.Listing.TheVariants as listing
-use Rattle.ug_kernel.specs.Calls.{Call, Answer, Names, Ask_alive}
-use Rattle.ug_kernel.specs.Kernel.{Kernel}
-use Rattle.ug_kernel.specs.Called.{Follows, says_probe}
-use Rattle.ug_kernel.specs.Tree.{Runs, calls}
-use Rattle.ug_kernel.specs.Along.{Made, answered, Along}
 use Rattle.ug_kernel.proofs.Told.{told_run}
-use Rattle.ug_audit.specs.declared.entry.Entry.{Entry}
 use Rattle.ug_audit.specs.declared.entry.Entry.TheVariants as entry
-use Rattle.ug_table.specs.State.{State, Answers, Laters}
-use Rattle.ug_table.specs.Standings.{lists, farewells, known_of, standing_of}
 use Rattle.ug_table.specs.Sweep.{names_of, sweeping}
-use Rattle.ug_table.specs.Parts.{name_in, unsettled_names, EndsUnsettled, NamesOnce, Part, IsLast}
-use Rattle.ug_table.specs.declared.standing.Standing.{Standing}
 use Rattle.ug_types.proofs.Elements.{has_cases, cancel, has_right}
 use Rattle.ug_table.proofs.Marks.{order_distinct}
 use Rattle.ug_table.proofs.Chains.{Chain, Over, First, Goes, Listed, Unlisted, goes_entries, sweeping_run}
 use Rattle.ug_table.proofs.OnePart.{flat_is_part}
 use Rattle.ug_table.proofs.Shapes.{told_at}
-use Rattle.ug_types.specs.Sweep.{in_sweep_order}
-use Rattle.ug_kernel.specs.Quiet.{Grows}
-use Rattle.ug_kernel.specs.declared.calls.Probe.{Probe}
 use Rattle.ug_kernel.specs.declared.calls.Probe.TheVariants as probe
 use Rattle.ug_kernel.proofs.Grow.{some_same, called_grows, grows_trans}
 use Rattle.ug_kernel.proofs.Ways.{along_split, along_grows}
-use Rattle.ug_audit.specs.declared.entry.Fault.{Fault}
 use Rattle.ug_audit.specs.declared.entry.Fault.TheVariants as fault
 use Rattle.ug_table.specs.Bring.{is_to_go}
-use Rattle.ug_table.specs.Laws.{Stand, IsSpared}
-use Rattle.ug_table.specs.declared.standing.Known.{Known}
-use Rattle.ug_table.proofs.Values.{IsFileOf, file_later, LiveAs, lives_between, gone_no, open_named}
-use Rattle.ug_table.proofs.Standings.{stands_one, listed_is}
-use Rattle.ug_table.proofs.OwnStanding.{listed_stand}
+use Rattle.ug_table.proofs.Standings.{farewells_by, IsFileOf, file_later, LiveAs, lives_between, gone_no, open_named, stands_one, listed_is, listed_stand}
 use Rattle.ug_table.proofs.Lived.{lives_first, lives_last, stand_files}
 
 pub names_more : (es fs : List Entry) → unsettled_names (es ++ fs) ≡ unsettled_names es ++ unsettled_names fs
@@ -81,13 +63,10 @@ chain_once d (First name names how w x v ok more ms ns es p c) =
     ] in
     subst AllDistinct (sym (names_more p.rest es)) whole
 
-unnamed_by : (b : Bool) (e : Entry) (es : List Entry) → name_in e ≡ [] → unsettled_names es ≡ [] → unsettled_names (cond b es (e ∷ es)) ≡ []
-unnamed_by true e es f h = h
-unnamed_by false e es f h = ap (λ (v : List (List ℕ)). v ++ unsettled_names es) f ∙ h
-
-farewells_name_none : (names : List (List ℕ)) (ss : List Standing) → unsettled_names (farewells names ss) ≡ []
-farewells_name_none names [] = refl
-farewells_name_none names (s ∷ ss) = unnamed_by (lists names s.name) (entry.Gone s.number s.name) (farewells names ss) refl (farewells_name_none names ss)
+farewells_name_none : (names : List (List ℕ)) (ss : List Standing)
+    → unsettled_names (farewells names ss) ≡ []
+farewells_name_none names ss =
+    farewells_by (λ es. unsettled_names es ≡ []) refl (λ number name es h. h) names ss
 
 goes_once : {J : Type 0} {answer : Answers J} {later : Laters J} {w v : State J} {ok : Bool}
     {ms : List Made} {es : List Entry} (k l : Kernel) → AllDistinct (names_of w.standings)

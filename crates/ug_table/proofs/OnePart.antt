@@ -1,110 +1,32 @@
 -- One name's part of a sweep, from its shapes: one law on its calls, and one on its entries.
 use Rattle.std.proofs.Common.{◌≡◌, ℕ, ◌+◌, ◌≤◌, Bool, true, false, not, cond, ◌||◌, List, [], ◌∷◌, ◌++◌, length, Option, Some, None, ◌⊎◌, inl, inr, refl, sym, ◌∙◌, ap, subst, append_assoc, append-nil, arith}
-use Rattle.std.specs.List.{list_any}
-use Rattle.std.specs.Prelude.{if◌then◌else◌, nat_eq}
-use Rattle.std.proofs.lemmas.List.Folds.{list_any-append}
-use Rattle.ug_types.specs.Elements.{Has}
-use Rattle.ug_types.specs.declared.verdict.Held.{Held}
-use Rattle.ug_types.specs.declared.verdict.Target.{Target}
+use Rattle.std.specs.Prelude.{if◌then◌else◌}
+use Rattle.ug_table.proofs.Common.{Has, Held, Target, Authorized, Remove, Write, FailedCall, Probe, Wrote, Call, Open, Ask_alive, Put, Close, Told, Made, answered, failures, count_calls, Bound, Binding, RemoveHold, Entry, Fault, standing_of, wrote_entries, OpenFile, open_file, Behind, behind_more, IsWriteDue, PutMade, AtMostOneEach, told_by, failure_in, failures_told, write_in, writes_in, TellsWrites, EndsUnsettled, IsBoundAnew, LacksRoom, control_of, known_files, AllBear, number_of, AreOfNumber, numbers_given, Part, Standing, Known, Settled}
 use Rattle.ug_types.specs.declared.verdict.Target.TheVariants as target
-use Rattle.ug_types.specs.declared.control.Control.{Control}
-use Rattle.ug_types.specs.declared.control.Control.TheVariants.{Authorized, Remove}
-use Rattle.ug_types.specs.declared.control.Attr.{Attr}
-use Rattle.ug_types.specs.declared.control.Write.{Write}
 use Rattle.ug_types.specs.declared.control.Write.TheVariants as write
-use Rattle.ug_kernel.specs.declared.calls.FailedCall.{FailedCall}
-use Rattle.ug_kernel.specs.declared.calls.Listing.{Listing}
-use Rattle.ug_kernel.specs.declared.calls.Listing.TheVariants as listing
-use Rattle.ug_kernel.specs.declared.calls.Opened.{Opened}
-use Rattle.ug_kernel.specs.declared.calls.Opened.TheVariants as opened
-use Rattle.ug_kernel.specs.declared.calls.Probe.{Probe}
 use Rattle.ug_kernel.specs.declared.calls.Probe.TheVariants as probe
-use Rattle.ug_kernel.specs.declared.calls.ReadOut.{ReadOut}
 use Rattle.ug_kernel.specs.declared.calls.ReadOut.TheVariants as out
-use Rattle.ug_kernel.specs.declared.calls.Wrote.{Wrote}
-use Rattle.ug_kernel.specs.Calls.{Call, Names, Open, Read, Ask_alive, Put, Close, Closing, Told, Answer, failed_read}
-use Rattle.ug_kernel.specs.Along.{Made, answered, failure, failures, count_calls}
-use Rattle.ug_kernel.proofs.Ways.{failures_more}
-use Rattle.ug_node.specs.Bind.{binding_of}
-use Rattle.ug_node.specs.declared.files.Stop.{Stop}
-use Rattle.ug_node.specs.declared.files.Stop.TheVariants as stop
-use Rattle.ug_node.specs.declared.identity.Bound.{Bound}
-use Rattle.ug_node.specs.declared.identity.Binding.{Binding}
 use Rattle.ug_node.specs.declared.identity.Binding.TheVariants as bound
-use Rattle.ug_node.specs.declared.removal.RemoveHold.{RemoveHold}
 use Rattle.ug_node.specs.declared.removal.RemoveHold.TheVariants as hold
-use Rattle.ug_node.proofs.BindShapes.{told, IsReadable, Came, Reads, No_more, Then_read, Stops, No_descriptors, Binds_by, Cut, Probed_gone, Probe_failed, Bound_by, way_binds, Holds_by, No_memory, Held_on, Died, Unasked, way_holds, count_more}
-use Rattle.ug_audit.specs.declared.entry.Entry.{Entry}
+use Rattle.ug_node.proofs.BindShapes.{told, way_binds, Holds_by, way_holds}
 use Rattle.ug_audit.specs.declared.entry.Entry.TheVariants as entry
-use Rattle.ug_audit.specs.declared.entry.Fault.{Fault}
 use Rattle.ug_audit.specs.declared.entry.Fault.TheVariants as fault
-use Rattle.ug_table.specs.Standings.{standing_of, known_of}
 use Rattle.ug_table.specs.Settle.{kept_standings, tried_standings}
 use Rattle.ug_table.specs.Bring.{wants, write_of, is_to_go}
 use Rattle.ug_table.specs.One.{why_in, whys, why_of}
-use Rattle.ug_table.specs.Laws.{wrote_entries}
-use Rattle.ug_table.specs.Parts.{OpenFile, open_file, close_file, files_left, files_after, AreAbout, EndsAtFailure, Behind, behind_more, FoundAlive, OpenedRemove, IsWriteDue, AreDue, PutMade, put_of, puts_of, AtMostOneEach, told_by, failure_in, failures_told, write_in, writes_in, TellsWrites, EndsUnsettled, IsBoundAnew, LacksRoom, control_of, known_files, AllBear, number_of, AreOfNumber, numbers_given, Part}
-use Rattle.ug_table.specs.declared.standing.Standing.{Standing}
-use Rattle.ug_table.specs.declared.standing.Known.{Known}
-use Rattle.ug_table.specs.declared.standing.Settled.{Settled}
 use Rattle.ug_table.specs.declared.standing.Settled.TheVariants as settled
-use Rattle.ug_types.proofs.Elements.{has_left, has_right}
+use Rattle.ug_types.proofs.Elements.{has_right}
 use Rattle.ug_table.proofs.Shapes.{Written, Done, Went, Broke, Valued, Same, Set, Unheld, Gone_by, Short_by, Removal, Not_held, Put_on, Carried, By_value, And_removal, Brought, Left_open, Let_go, Opening, Fresh, Lost, Unbound_end, Absent_so, Vanished_so, Flat, Unprobed, Tried, Stopped, Unbound, No_place, Judged_so, told_at}
-use Rattle.ug_table.proofs.OwnStanding.{OthersStand, others_stand, without_stand, kept_stand, tried_stand, stands_file, stands_number, without_own, tried_own, kept_own}
+use Rattle.ug_table.proofs.Standings.{OthersStand, others_stand, without_stand, kept_stand, tried_stand, stands_file, stands_number, without_own, tried_own, kept_own}
+use Rattle.ug_table.proofs.PartCalls.{has_want, failed_by, are_short, behind_after, CallsOf, calls_are, calls_more, calls_as, closed_first, binding_faults, binding_files, binds_calls, IsFound, bound_found, hold_faults, hold_files, holds_calls, ready_due, IsShort, hold_short}
 
--- answers that are want of memory
-
-abbrev pub short_listing : Listing → Bool
-short_listing listing.Memory = true
-short_listing answer = false
-
-abbrev pub short_open : Opened → Bool
-short_open opened.Memory = true
-short_open answer = false
-
-abbrev pub short_read : ReadOut → Bool
-short_read out.Memory = true
-short_read answer = false
-
-abbrev pub is_want : (call : Call) → Answer call → Bool
-is_want Names a = short_listing a.answer
-is_want (Open name control) a = short_open a.answer
-is_want (Read name at) a = short_read a.answer
-is_want call a = false
-
--- one of the calls was answered so
-abbrev pub has_want : List Made → Bool
-has_want ms = list_any (λ (m : Made). is_want m.call m.answer) ms
-
-pub want_more : (ms ns : List Made) → has_want (ms ++ ns) ≡ (has_want ms || has_want ns)
-want_more ms ns = list_any-append (λ (m : Made). is_want m.call m.answer) ms ns
-
--- the failed calls among faults, and whether one is want of memory
-
-abbrev pub failed_by : List Fault → List FailedCall
-failed_by [] = []
-failed_by (f ∷ fs) = told_by f ++ failed_by fs
-
-abbrev pub is_short : Fault → Bool
-is_short (fault.Call failed) = false
-is_short fault.Memory = true
-
-abbrev pub are_short : List Fault → Bool
-are_short fs = list_any is_short fs
-
--- of lists joined
+-- entries
 
 pub told_more : (es fs : List Entry) → failures_told (es ++ fs) ≡ failures_told es ++ failures_told fs
 told_more [] fs = refl
 told_more (e ∷ es) fs =
     ap (λ (v : List FailedCall). failure_in e ++ v) (told_more es fs)
     ∙ sym (append_assoc (failure_in e) (failures_told es) (failures_told fs))
-
-puts_more : (ms ns : List Made) → puts_of (ms ++ ns) ≡ puts_of ms ++ puts_of ns
-puts_more [] ns = refl
-puts_more (m ∷ ms) ns =
-    ap (λ (v : List PutMade). put_of m.call m.answer ++ v) (puts_more ms ns)
-    ∙ sym (append_assoc (put_of m.call m.answer) (puts_of ms) (puts_of ns))
 
 writes_more : (es fs : List Entry) → writes_in (es ++ fs) ≡ writes_in es ++ writes_in fs
 writes_more [] fs = refl
@@ -117,243 +39,6 @@ whys_more [] fs = refl
 whys_more (e ∷ es) fs =
     ap (λ (v : List Fault). why_in e ++ v) (whys_more es fs)
     ∙ sym (append_assoc (why_in e) (whys es) (whys fs))
-
-files_join : (files : List OpenFile) (ms ns : List Made)
-    → files_after files (ms ++ ns) ≡ files_after (files_after files ms) ns
-files_join files [] ns = refl
-files_join files (m ∷ ms) ns = files_join (files_left m.call m.answer files) ms ns
-
-abbrev behind_after : Behind → List Made → Behind
-behind_after b [] = b
-behind_after b (m ∷ ms) = behind_after (behind_more b m) ms
-
-behind_join : (b : Behind) (ms ns : List Made)
-    → behind_after b (ms ++ ns) ≡ behind_after (behind_after b ms) ns
-behind_join b [] ns = refl
-behind_join b (m ∷ ms) ns = behind_join (behind_more b m) ms ns
-
-about_more : (name : List ℕ) (files : List OpenFile) (ms ns : List Made) → AreAbout name files ms
-    → AreAbout name (files_after files ms) ns → AreAbout name files (ms ++ ns)
-about_more name files [] ns a b = b
-about_more name files (m ∷ ms) ns a b =
-    (a.0, about_more name (files_left m.call m.answer files) ms ns a.1 b)
-
-ends_more : (before : List FailedCall) (ms ns : List Made) → EndsAtFailure before ms
-    → EndsAtFailure (before ++ failures ms) ns → EndsAtFailure before (ms ++ ns)
-ends_more before [] ns a b = subst (λ v. EndsAtFailure v ns) (append-nil before) b
-ends_more before (m ∷ ms) ns a b =
-    let f = failure m.call m.answer in
-    let later = subst (λ v. EndsAtFailure v ns) (sym (append_assoc before f (failures ms))) b in
-    (a.0, ends_more (before ++ f) ms ns a.1 later)
-
-due_more : (b : Behind) (ms ns : List Made) → AreDue b ms → AreDue (behind_after b ms) ns
-    → AreDue b (ms ++ ns)
-due_more b [] ns a c = c
-due_more b (m ∷ ms) ns a c = (a.0, due_more (behind_more b m) ms ns a.1 c)
-
--- calls
-
--- Calls of a part of the name, where these files are open and those calls stand before them: the files that are open then, the faults
--- among them, the writes, and how many there are at most.
-record CallsOf (name : List ℕ) (files : List OpenFile) (b : Behind) (ms : List Made)
-    (after : List OpenFile) (faults : List Fault) (ps : List PutMade) (n : ℕ) : Type 0 where
-  about : AreAbout name files ms
-  ends : EndsAtFailure [] ms
-  due : AreDue b ms
-  left : files_after files ms ≡ after
-  failed : failures ms ≡ failed_by faults
-  short : has_want ms ≡ are_short faults
-  puts : puts_of ms ≡ ps
-  few : count_calls ms ≤ n
-
-calls_are : {name : List ℕ} {files after : List OpenFile} {b : Behind} {ms : List Made}
-    {faults : List Fault} {ps : List PutMade} {n : ℕ} → AreAbout name files ms → EndsAtFailure [] ms
-    → AreDue b ms → files_after files ms ≡ after → failures ms ≡ failed_by faults
-    → has_want ms ≡ are_short faults → puts_of ms ≡ ps → count_calls ms ≤ n
-    → CallsOf name files b ms after faults ps n
-calls_are a e d l f s p n =
-    record { about = a; ends = e; due = d; left = l; failed = f; short = s; puts = p; few = n }
-
-calls_more : {name : List ℕ} {files mid after : List OpenFile} {b : Behind} {ms ns : List Made}
-    {faults : List Fault} {ps qs : List PutMade} {n m : ℕ} → CallsOf name files b ms mid [] ps n
-    → CallsOf name mid (behind_after b ms) ns after faults qs m
-    → CallsOf name files b (ms ++ ns) after faults (ps ++ qs) (n + m)
-calls_more {name} {files} {b = b} {ms = ms} {ns = ns} {ps = ps} h k =
-    let about = subst (λ v. AreAbout name v ns) (sym h.left) k.about in
-    let ends = subst (λ v. EndsAtFailure v ns) (sym h.failed) k.ends in
-    let few = h.few in
-    let more = k.few in
-    let sum = count_more ms ns in
-    record {
-      about = about_more name files ms ns h.about about;
-      ends = ends_more [] ms ns h.ends ends;
-      due = due_more b ms ns h.due k.due;
-      left = files_join files ms ns ∙ ap (λ v. files_after v ns) h.left ∙ k.left;
-      failed = failures_more ms ns ∙ ap (λ v. v ++ failures ns) h.failed ∙ k.failed;
-      short = want_more ms ns ∙ ap (λ v. v || has_want ns) h.short ∙ k.short;
-      puts = puts_more ms ns ∙ ap (λ v. v ++ puts_of ns) h.puts ∙ ap (λ v. ps ++ v) k.puts;
-      few = omega (arith, few, more, sum);
-    }
-
-calls_fewer : {name : List ℕ} {files after : List OpenFile} {b : Behind} {ms : List Made}
-    {faults : List Fault} {ps : List PutMade} {n m : ℕ} → n ≤ m
-    → CallsOf name files b ms after faults ps n → CallsOf name files b ms after faults ps m
-calls_fewer le h =
-    let few = h.few in
-    calls_are h.about h.ends h.due h.left h.failed h.short h.puts (omega (arith, few, le))
-
-calls_left : {name : List ℕ} {files after other : List OpenFile} {b : Behind} {ms : List Made}
-    {faults : List Fault} {ps : List PutMade} {n : ℕ} → after ≡ other
-    → CallsOf name files b ms after faults ps n → CallsOf name files b ms other faults ps n
-calls_left e h = calls_are h.about h.ends h.due (h.left ∙ e) h.failed h.short h.puts h.few
-
--- what was opened last is closed
-closed_first : (held : ℕ) (control : Control) (files : List OpenFile)
-    → close_file held (open_file held control ∷ files) ≡ files
-closed_first held control files =
-    let same : nat_eq held held ≡ true = grind arith in
-    ap (λ (b : Bool). cond b files (open_file held control ∷ close_file held files)) same
-
--- a binding
-
-came_well : (r : ReadOut) → Came r → (failed_read r ≡ false) × (short_read r ≡ false)
-came_well out.Failed c = absurd c
-came_well out.Memory c = absurd c
-came_well x c = (refl, refl)
-
-reads_calls : {name : List ℕ} {ms : List Made} (files : List OpenFile) (b : Behind) → Reads name ms
-    → CallsOf name files b ms files [] [] (count_calls ms)
-reads_calls files b No_more = calls_are tt tt tt refl refl refl refl (omega arith)
-reads_calls {name} files b (Then_read of at t ms may came r) =
-    let m : Made = answered (Read of at) t in
-    let well = came_well t.answer came in
-    let f : FailedCall = record { call = t.number; count = t.count } in
-    let failed : failures (m ∷ []) ≡ [] = ap (λ (v : Bool). (if v then f ∷ [] else []) ++ []) well.0 in
-    let short : has_want (m ∷ []) ≡ false = ap (λ (v : Bool). v || false) well.1 in
-    let one : CallsOf name files b (m ∷ []) files [] [] 1 =
-    calls_are (may, tt) (inl refl, tt) (tt, tt) refl failed short refl (omega arith) in
-    calls_more one (reads_calls files (behind_more b m) r)
-
-abbrev binding_faults : Binding → List Fault
-binding_faults (bound.Failed failed) = fault.Call failed ∷ []
-binding_faults bound.Memory = fault.Memory ∷ []
-binding_faults r = []
-
--- a binding holds the file of the device that it bound
-abbrev binding_files : Binding → List OpenFile → List OpenFile
-binding_files (bound.Bound b) files = open_file b.held.0 Authorized ∷ files
-binding_files r files = files
-
--- an opening, readings, and an end
-open_calls : {name : List ℕ} {ms ns : List Made} {after : List OpenFile} {faults : List Fault}
-    (files : List OpenFile) (b : Behind) (file : Held) (call count : ℕ) → Reads name ms
-    → count_calls ms ≤ 7
-    → ((c : Behind) → CallsOf name (open_file file.0 Authorized ∷ files) c ns after faults [] 1)
-    → let start = answered (Open name Authorized) (told (opened.Token file) call count) in
-    CallsOf name files b (start ∷ (ms ++ ns)) after faults [] 9
-open_calls {name} {ms} files b file call count r few k =
-    let start : Made = answered (Open name Authorized) (told (opened.Token file) call count) in
-    let own : List OpenFile = open_file file.0 Authorized ∷ files in
-    let c : Behind = behind_more b start in
-    let one : CallsOf name files b (start ∷ []) own [] [] 1 =
-    calls_are (refl, tt) (inl refl, tt) (tt, tt) refl refl refl refl (omega arith) in
-    calls_fewer (omega (arith, few)) (calls_more one (calls_more (reads_calls own c r) (k (behind_after c ms))))
-
-stop_calls : {name : List ℕ} {at : Attr} {t : Told ReadOut} {why : Stop} (files : List OpenFile)
-    (c : Behind) (of : List ℕ) (file : ℕ) (shut : Closing) → IsReadable name of → Stops at t why
-    → CallsOf name (open_file file Authorized ∷ files) c
-        (answered (Read of at) t ∷ answered (Close file) shut ∷ []) files
-        (binding_faults (binding_of why)) [] 1
-stop_calls files c of file shut may (No_descriptors call count) =
-    calls_are (may, ((Authorized, inl refl), tt)) (inl refl, (inr tt, tt)) (tt, (tt, tt))
-    (closed_first file Authorized files) refl refl refl (omega arith)
-stop_calls files c of file shut may x =
-    calls_are (may, ((Authorized, inl refl), tt)) (inl refl, (inr tt, tt)) (tt, (tt, tt))
-    (closed_first file Authorized files) refl refl refl (omega arith)
-
-stop_files : (why : Stop) (files : List OpenFile) → files ≡ binding_files (binding_of why) files
-stop_files stop.Vanished files = refl
-stop_files x files = refl
-
-binds_calls : {name : List ℕ} {ms : List Made} {r : Binding} (files : List OpenFile) (b : Behind)
-    → Binds_by name ms r → CallsOf name files b ms (binding_files r files) (binding_faults r) [] 9
-binds_calls {name} {ms} files b (Cut file call count ns of at t shut why r a few may stops e) =
-    let all = open_calls files b file call count a few
-    (λ c. stop_calls files c of file.0 shut may stops) in
-    subst (λ v. CallsOf name files b ms (binding_files v files) (binding_faults v) [] 9) (sym e)
-    (calls_left (stop_files why files) all)
-binds_calls files b (Probed_gone file call count number total ms shut a few) =
-    open_calls files b file call count a few
-    (λ c. calls_are (inl refl, ((Authorized, inl refl), tt)) (inl refl, (inr tt, tt)) (tt, (tt, tt))
-        (closed_first file.0 Authorized files) refl refl refl (omega arith))
-binds_calls files b (Probe_failed file call count number total ms shut a few) =
-    open_calls files b file call count a few
-    (λ c. calls_are (inl refl, ((Authorized, inl refl), tt)) (inl refl, (inr tt, tt)) (tt, (tt, tt))
-        (closed_first file.0 Authorized files) refl refl refl (omega arith))
-binds_calls files b (Bound_by call count number total ms x a few are) =
-    open_calls files b x.held call count a few
-    (λ c. calls_are (inl refl, tt) (inl refl, tt) (tt, tt) refl refl refl refl (omega arith))
-binds_calls files b x = calls_are (refl, tt) (inl refl, tt) (tt, tt) refl refl refl refl (omega arith)
-
--- the device of that open file was found alive last
-abbrev IsFound : Behind → ℕ → Bool → Type 0
-IsFound b held on = (t : Told Probe) × (b.last ≡ Some (answered (Ask_alive held) t)) × (t.answer ≡ probe.Alive on)
-
-stop_unbound : (why : Stop) (x : Bound) → bound.Bound x ≡ binding_of why → ⊥
-stop_unbound stop.Vanished x e = let none : ⊥ = cc in none
-stop_unbound y x e = let none : ⊥ = cc in none
-
-bound_found : {name : List ℕ} {ms : List Made} {x : Bound} (b : Behind) → Binds_by name ms (bound.Bound x)
-    → IsFound (behind_after b ms) x.held.0 x.on
-bound_found {x = x} b (Cut file call count ms of at t shut why r a few may stops e) =
-    absurd (stop_unbound why x e)
-bound_found {name} b (Bound_by call count number total ms x a few are) =
-    let start : Made = answered (Open name Authorized) (told (opened.Token x.held) call count) in
-    let end : Made = answered (Ask_alive x.held.0) (told (probe.Alive x.on) number total) in
-    let last = ap (λ (v : Behind). v.last) (behind_join (behind_more b start) ms (end ∷ [])) in
-    (told (probe.Alive x.on) number total, last, refl)
-
--- the opening of a `remove` file
-
-abbrev hold_faults : RemoveHold → List Fault
-hold_faults (hold.Failed failed) = fault.Call failed ∷ []
-hold_faults hold.Memory = fault.Memory ∷ []
-hold_faults r = []
-
--- it is held where it is ready
-abbrev hold_files : RemoveHold → List OpenFile → List OpenFile
-hold_files (hold.Ready file) files = open_file file.0 Remove ∷ files
-hold_files r files = files
-
-holds_calls : {name : List ℕ} {held : ℕ} {ms : List Made} {r : RemoveHold} (files : List OpenFile)
-    (b : Behind) → Has files (open_file held Authorized) → Holds_by name held ms r
-    → CallsOf name files b ms (hold_files r files) (hold_faults r) [] 2
-holds_calls files b has (Held_on file on call count number total) =
-    calls_are (refl, (inr has, tt)) (inl refl, (inl refl, tt)) (tt, (tt, tt)) refl refl refl refl (omega arith)
-holds_calls files b has (Died file call count number total shut) =
-    calls_are (refl, (inr has, ((Remove, inl refl), tt))) (inl refl, (inl refl, (inr tt, tt))) (tt, (tt, (tt, tt)))
-    (closed_first file.0 Remove files) refl refl refl (omega arith)
-holds_calls files b has (Unasked file call count number total shut) =
-    calls_are (refl, (inr has, ((Remove, inl refl), tt))) (inl refl, (inl refl, (inr tt, tt))) (tt, (tt, (tt, tt)))
-    (closed_first file.0 Remove files) refl refl refl (omega arith)
-holds_calls files b has x =
-    calls_are (refl, tt) (inl refl, tt) (tt, tt) refl refl refl refl (omega arith)
-
-ready_due : {name : List ℕ} {held : ℕ} {ms : List Made} {file : Held} (b : Behind)
-    → Holds_by name held ms (hold.Ready file) → IsWriteDue (behind_after b ms) file.0 write.Remove
-ready_due {name} {held} b (Held_on file on call count number total) =
-    ((on, (held, told (probe.Alive on) number total, refl, refl)),
-    (name, told (opened.Token file) call count, file, refl, refl, refl))
-
--- an opening that was short of memory is among the calls
-abbrev IsShort : List Made → Type 0
-IsShort ms =
-    (name : List ℕ) × (t : Told Opened) × Has ms (answered (Open name Remove) t) × (t.answer ≡ opened.Memory)
-
-hold_short : {name : List ℕ} {held : ℕ} {ms : List Made} → Holds_by name held ms hold.Memory → IsShort ms
-hold_short {name} (No_memory call count) = (name, told opened.Memory call count, inl refl, refl)
-
--- entries
 
 -- Entries of the name: they begin and end with the numbers of its standings; the faults that they tell, the last of them; the writes;
 -- and the numbers that they give out.
@@ -478,6 +163,13 @@ record Goes (P : List PutMade → Type 0) (Q : Type 0) (name : List ℕ) (known 
   single : P ps
   short : how ≡ settled.Memory → Q
 
+goes_are : {P : List PutMade → Type 0} {Q : Type 0} {name : List ℕ} {known : Known}
+    {files after : List OpenFile} {b : Behind} {ms : List Made} {es : List Entry} {how : Settled} {n : ℕ}
+    {ps : List PutMade} → CallsOf name files b ms after (why_of how) ps n
+    → EntriesOf name (Some known.number) es (ended_number how known.number) (why_of how) ps []
+    → P ps → (how ≡ settled.Memory → Q) → Goes P Q name known files b ms es how after n
+goes_are {ps = ps} c e p q = record { ps = ps; calls = c; entries = e; single = p; short = q }
+
 written_entries : {name : List ℕ} {number : ℕ} {what : Write} {t : Told Wrote} {es : List Entry}
     {how : Settled} → Written name number what t es how
     → EntriesOf name (Some number) es (ended_number how number) (why_of how)
@@ -520,26 +212,17 @@ valued_goes : {name : List ℕ} {known : Known} {on : Bool} {ms : List Made} {es
     {how : Settled} (b : Behind) → IsFound b known.held.0 on → Valued name known on ms es how
     → let own = open_file known.held.0 Authorized ∷ [] in
     Goes AreValue ⊥ name known own b ms es how own 1
-valued_goes b f (Same e) = record {
-  ps = [];
-  calls = calls_are tt tt tt refl refl refl refl (omega arith);
-  entries = entries_are refl refl refl tt tt refl;
-  single = inl refl;
-  short = λ e. let none : ⊥ = cc in none;
-}
+valued_goes b f (Same e) =
+    goes_are (calls_are tt tt tt refl refl refl refl (omega arith)) (entries_are refl refl refl tt tt refl)
+    (inl refl) (λ e. let none : ⊥ = cc in none)
 valued_goes {known = known} {on = on} b f (Set t es how ne w) =
     let v = known.verdict in
     let held = known.held.0 in
     let due = value_due v on held b f ne in
     let faults = written_faults held w in
-    record {
-      ps = record { write = write_of v; outcome = t.answer } ∷ [];
-      calls = calls_are (value_file v held (open_file held Authorized ∷ []) (inl refl), tt) (inl refl, tt)
-          (due, tt) refl faults.0 faults.1 refl (omega arith);
-      entries = written_entries w;
-      single = inr (record { write = write_of v; outcome = t.answer }, refl, no_removal v);
-      short = faults.2;
-    }
+    let file = value_file v held (open_file held Authorized ∷ []) (inl refl) in
+    goes_are (calls_are (file, tt) (inl refl, tt) (due, tt) refl faults.0 faults.1 refl (omega arith))
+    (written_entries w) (inr (record { write = write_of v; outcome = t.answer }, refl, no_removal v)) faults.2
 
 unheld_calls : {name : List ℕ} {number : ℕ} {r : RemoveHold} {es : List Entry} {how : Settled}
     {files : List OpenFile} {b : Behind} {ms : List Made} → Unheld name number r es how
@@ -567,26 +250,18 @@ removal_goes : {name : List ℕ} {known : Known} {ms : List Made} {es : List Ent
 removal_goes {name} {known} b (Not_held ms r es how way u) =
     let by = way_holds name known.held.0 ms r way in
     let own : List OpenFile = open_file known.held.0 Authorized ∷ [] in
-    record {
-      ps = [];
-      calls = calls_fewer (omega arith) (unheld_calls u (holds_calls own b (inl refl) by));
-      entries = unheld_entries u;
-      single = inl refl;
-      short = unheld_short by u;
-    }
+    goes_are (calls_as refl (omega arith) (unheld_calls u (holds_calls own b (inl refl) by)))
+    (unheld_entries u) (inl refl) (unheld_short by u)
 removal_goes {name} {known} b (Put_on ms file t shut es how way w) =
     let by = way_holds name known.held.0 ms (hold.Ready file) way in
     let own : List OpenFile = open_file known.held.0 Authorized ∷ [] in
     let faults = written_faults file.0 w in
-    record {
-      ps = record { write = write.Remove; outcome = t.answer } ∷ [];
-      calls = calls_more {m = 1} (holds_calls own b (inl refl) by)
-          (calls_are (inl refl, ((Remove, inl refl), tt)) (inl refl, (inr tt, tt)) (ready_due b by, (tt, tt))
-              (closed_first file.0 Remove own) faults.0 faults.1 refl (omega arith));
-      entries = written_entries w;
-      single = inr (record { write = write.Remove; outcome = t.answer }, refl, refl);
-      short = λ e. absurd (faults.2 e);
-    }
+    goes_are
+    (calls_more {m = 1} (holds_calls own b (inl refl) by)
+        (calls_are (inl refl, ((Remove, inl refl), tt)) (inl refl, (inr tt, tt)) (ready_due b by, (tt, tt))
+            (closed_first file.0 Remove own) faults.0 faults.1 refl (omega arith)))
+    (written_entries w) (inr (record { write = write.Remove; outcome = t.answer }, refl, refl))
+    (λ e. absurd (faults.2 e))
 
 -- both
 
@@ -599,25 +274,16 @@ carried_goes : {name : List ℕ} {known : Known} {on : Bool} {ms : List Made} {e
     Goes AtMostOneEach (ToGo known ms) name known own b ms es how own 4
 carried_goes b f (By_value ms es how v k) =
     let h = valued_goes b f v in
-    record {
-      ps = h.ps;
-      calls = calls_fewer (omega arith) h.calls;
-      entries = h.entries;
-      single = single_value h.ps h.single;
-      short = λ e. absurd (h.short e);
-    }
+    goes_are (calls_as refl (omega arith) h.calls) h.entries (single_value h.ps h.single)
+    (λ e. absurd (h.short e))
 carried_goes b f (And_removal ms ns es fs how go v r) =
     let h = valued_goes b f v in
     let k = removal_goes (behind_after b ms) r in
-    record {
-      ps = h.ps ++ k.ps;
-      calls = calls_more h.calls k.calls;
-      entries = entries_more h.entries k.entries;
-      single = single_both h.ps k.ps h.single k.single;
-      short = λ e.
-          let y = k.short e in
-          (go, (y.0, y.1, has_right ms ns (answered (Open y.0 Remove) y.1) y.2, y.3));
-    }
+    goes_are (calls_more h.calls k.calls) (entries_more h.entries k.entries)
+    (single_both h.ps k.ps h.single k.single)
+    (λ e.
+    let y = k.short e in
+    (go, (y.0, y.1, has_right ms ns (answered (Open y.0 Remove) y.1) y.2, y.3)))
 
 still_open : (how : Settled) (held : ℕ) → (how ≡ settled.Nobody → ⊥)
     → open_file held Authorized ∷ [] ≡ ended_files how held
@@ -630,13 +296,7 @@ brought_goes : {name : List ℕ} {known : Known} {on : Bool} {ms : List Made} {e
     Goes AtMostOneEach (ToGo known ms) name known own b ms es how (ended_files how known.held.0) 4
 brought_goes {known = known} b f (Left_open ms es how c n) =
     let h = carried_goes b f c in
-    record {
-      ps = h.ps;
-      calls = calls_left (still_open how known.held.0 n) h.calls;
-      entries = h.entries;
-      single = h.single;
-      short = h.short;
-    }
+    goes_are (calls_as (still_open how known.held.0 n) (omega arith) h.calls) h.entries h.single h.short
 brought_goes {name} {known} b f (Let_go ms es shut c) =
     let h = carried_goes b f c in
     let own : List OpenFile = open_file known.held.0 Authorized ∷ [] in
@@ -644,13 +304,9 @@ brought_goes {name} {known} b f (Let_go ms es shut c) =
     let end : CallsOf name own (behind_after b ms) last [] [] [] 0 =
     calls_are ((Authorized, inl refl), tt) (inl refl, tt) (tt, tt) (closed_first known.held.0 Authorized [])
     refl refl refl (omega arith) in
-    record {
-      ps = h.ps;
-      calls = subst (λ v. CallsOf name own b (ms ++ last) [] [] v 4) (append-nil h.ps) (calls_more h.calls end);
-      entries = h.entries;
-      single = h.single;
-      short = λ e. let none : ⊥ = cc in absurd none;
-    }
+    let all = calls_more h.calls end in
+    goes_are (subst (λ v. CallsOf name own b (ms ++ last) [] [] v 4) (append-nil h.ps) all) h.entries h.single
+    (λ e. let none : ⊥ = cc in absurd none)
 
 -- a name
 
@@ -744,6 +400,26 @@ record FlatGoes (binds : Bool) (name : List ℕ) (o p : Option Known) (ok : Bool
   memory : how ≡ settled.Memory → ((binds ≡ true) × IsBoundAnew o ms) ⊎ LacksRoom o ms
   count : length ns ≡ given
 
+flat_are : {binds : Bool} {name : List ℕ} {o p : Option Known} {ok : Bool} {ms : List Made}
+    {es : List Entry} {how : Settled} {given : ℕ} {faults : List Fault} {ps : List PutMade} {ns : List ℕ}
+    → CallsOf name (known_files o) start ms (known_files p) faults ps 14
+    → EntriesOf name (number_of o) es (number_of p) (why_of how) ps ns → AtMostOneEach ps
+    → failed_by faults ≡ failed_by (why_of how) → (not ok || are_short faults) ≡ are_short (why_of how)
+    → (how ≡ settled.Memory → ((binds ≡ true) × IsBoundAnew o ms) ⊎ LacksRoom o ms) → length ns ≡ given
+    → FlatGoes binds name o p ok ms es how given
+flat_are {faults = faults} {ps = ps} {ns = ns} c e a f s m n = record {
+  faults = faults;
+  ps = ps;
+  ns = ns;
+  calls = c;
+  entries = e;
+  single = a;
+  failed = f;
+  short = s;
+  memory = m;
+  count = n;
+}
+
 flat_goes : {binds : Bool} {given : List Standing → Bound → Standing → Type 0} {name : List ℕ}
     {ss : List Standing} {ok : Bool} {ms : List Made} {rest : List Entry} {how : Settled}
     {rs : List Standing} {o : Option (List Standing × Bound)}
@@ -757,18 +433,9 @@ flat_goes {binds} {name = name} {ss = ss} {how = how} {rs = rs} (Unprobed known 
     let one : CallsOf name own start (m ∷ []) own (fault.Call failed ∷ []) [] 14 =
     calls_are (inl refl, tt) (inl refl, tt) (tt, tt) refl refl refl refl (omega arith) in
     subst (λ o. FlatGoes binds name o (standing_of name rs) true (m ∷ []) (e ∷ []) how 0) (sym at)
-    (record {
-      faults = fault.Call failed ∷ [];
-      ps = [];
-      ns = [];
-      calls = calls_left so.0 one;
-      entries = entries_to so.1 (entries_are refl refl refl ((refl, refl), tt) (refl, tt) refl);
-      single = tt;
-      failed = refl;
-      short = refl;
-      memory = λ e. let none : ⊥ = cc in absurd none;
-      count = refl;
-    })
+    (flat_are (calls_as so.0 (omega arith) one)
+    (entries_to so.1 (entries_are refl refl refl ((refl, refl), tt) (refl, tt) refl))
+    tt refl refl (λ e. let none : ⊥ = cc in absurd none) refl)
 flat_goes {binds} {name = name} {ss = ss} {rs = rs} (Tried known on failed ms es how at brought) =
     let t : Told Probe = told_at (probe.Alive on) failed in
     let m : Made = answered (Ask_alive known.held.0) t in
@@ -778,49 +445,23 @@ flat_goes {binds} {name = name} {ss = ss} {rs = rs} (Tried known on failed ms es
     let one : CallsOf name own start (m ∷ []) own [] [] 1 =
     calls_are (inl refl, tt) (inl refl, tt) (tt, tt) refl refl refl refl (omega arith) in
     subst (λ o. FlatGoes binds name o (standing_of name rs) true (m ∷ ms) es how 0) (sym at)
-    (record {
-      faults = why_of how;
-      ps = h.ps;
-      ns = [];
-      calls = calls_left so.0 (calls_fewer (omega arith) (calls_more one h.calls));
-      entries = entries_to so.1 h.entries;
-      single = h.single;
-      failed = refl;
-      short = refl;
-      memory = λ e. let x = h.short e in inr ((known, refl, x.0), (x.1.0, x.1.1, inr x.1.2, x.1.3));
-      count = refl;
-    })
+    (flat_are (calls_as so.0 (omega arith) (calls_more one h.calls))
+    (entries_to so.1 h.entries)
+    h.single refl refl
+    (λ e. let x = h.short e in inr ((known, refl, x.0), (x.1.0, x.1.1, inr x.1.2, x.1.3))) refl)
 flat_goes (Stopped ms es rs f opening) =
     let h = opening_goes start opening in
     let none = sym (opening_none opening) in
-    record {
-      faults = [];
-      ps = [];
-      ns = [];
-      calls = calls_left (ap known_files none) (calls_fewer (omega arith) h.calls);
-      entries = entries_to (ap number_of none) h.entries;
-      single = tt;
-      failed = refl;
-      short = refl;
-      memory = λ e. let none : ⊥ = cc in absurd none;
-      count = refl;
-    }
+    flat_are (calls_as (ap known_files none) (omega arith) h.calls)
+    (entries_to (ap number_of none) h.entries)
+    tt refl refl (λ e. let none : ⊥ = cc in absurd none) refl
 flat_goes {name = name} (Unbound ms ns es fs rs r how t opening way end) =
     let h = opening_goes start opening in
     let none = sym (opening_none opening) in
     let x = unbound_calls end (binds_calls [] (behind_after start ms) (way_binds name ns r way)) in
-    record {
-      faults = why_of how;
-      ps = [];
-      ns = [];
-      calls = calls_left (ap known_files none) (calls_fewer (omega arith) (calls_more h.calls x));
-      entries = entries_to (ap number_of none) (entries_more h.entries (unbound_entries end));
-      single = tt;
-      failed = refl;
-      short = refl;
-      memory = λ e. inl (t, h.anew ns);
-      count = refl;
-    }
+    flat_are (calls_as (ap known_files none) (omega arith) (calls_more h.calls x))
+    (entries_to (ap number_of none) (entries_more h.entries (unbound_entries end)))
+    tt refl refl (λ e. inl (t, h.anew ns)) refl
 flat_goes {name = name} (No_place ms ns es rs v shut t opening way) =
     let h = opening_goes start opening in
     let none = sym (opening_none opening) in
@@ -830,20 +471,10 @@ flat_goes {name = name} (No_place ms ns es rs v shut t opening way) =
     let end : CallsOf name own (behind_after (behind_after start ms) ns) last [] [] [] 0 =
     calls_are ((Authorized, inl refl), tt) (inl refl, tt) (tt, tt) (closed_first v.held.0 Authorized [])
     refl refl refl (omega arith) in
-    record {
-      faults = [];
-      ps = [];
-      ns = [];
-      calls = calls_left (ap known_files none)
-          (calls_fewer (omega arith) (calls_more h.calls (calls_more x end)));
-      entries = entries_to (ap number_of none)
-          (entries_more h.entries (entries_are refl refl refl ((refl, refl), tt) (refl, tt) refl));
-      single = tt;
-      failed = refl;
-      short = refl;
-      memory = λ e. inl (t, h.anew (ns ++ last));
-      count = refl;
-    }
+    flat_are (calls_as (ap known_files none) (omega arith) (calls_more h.calls (calls_more x end)))
+    (entries_to (ap number_of none)
+        (entries_more h.entries (entries_are refl refl refl ((refl, refl), tt) (refl, tt) refl)))
+    tt refl refl (λ e. inl (t, h.anew (ns ++ last))) refl
 flat_goes {name = name} (Judged_so ms ns os es fs rs v x how t opening way given new brought) =
     let h = opening_goes start opening in
     let c : Behind = behind_after start ms in
@@ -856,18 +487,10 @@ flat_goes {name = name} (Judged_so ms ns os es fs rs v x how t opening way given
     let e : List Entry = entry.Judged x.number name x.held x.verdict x.cause ∷ [] in
     let given : EntriesOf name None e (Some x.number) [] [] (x.number ∷ []) =
     entries_are (refl, refl) refl refl (tt, tt) (refl, tt) refl in
-    record {
-      faults = why_of how;
-      ps = k.ps;
-      ns = x.number ∷ [];
-      calls = calls_left so.0 (calls_more h.calls (calls_more (calls_left held (binds_calls [] c by)) k.calls));
-      entries = entries_to so.1 (entries_more h.entries (entries_more given k.entries));
-      single = k.single;
-      failed = refl;
-      short = refl;
-      memory = λ e. inl (t, h.anew (ns ++ os));
-      count = refl;
-    }
+    let bound = calls_as {m = 9} held (omega arith) (binds_calls [] c by) in
+    flat_are (calls_as so.0 (omega arith) (calls_more h.calls (calls_more bound k.calls)))
+    (entries_to so.1 (entries_more h.entries (entries_more given k.entries)))
+    k.single refl refl (λ e. inl (t, h.anew (ns ++ os))) refl
 
 -- and the standings of other names stay
 
