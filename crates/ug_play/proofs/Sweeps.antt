@@ -2,7 +2,8 @@
 use Rattle.std.proofs.Common.{◌≡◌, ℕ, Bool, true, false, not, cond, ◌&&◌, ◌||◌, List, [], ◌∷◌, ◌++◌, refl, sym, ◌∙◌, ap, subst}
 use Rattle.std.specs.List.{list_any}
 use Rattle.std.proofs.lemmas.List.Folds.{list_any-append}
-use Rattle.ug_table.proofs.Common.{in_sweep_order, Held, Made, failures, Entry, State, Answers, Laters, lists, farewells, AreClosings, unlisted_files, failures_told, Standing}
+use Rattle.ug_table.proofs.Common.{in_sweep_order, Held, Made, failures, Entry, State, Answers, Laters, lists, farewells, AreClosings, unlisted_files, failures_told}
+use Rattle.ug_table.specs.declared.standing.Standing.{Standing}
 use Rattle.ug_kernel.specs.Tree.{Prog, Return, Runs, then}
 use Rattle.ug_kernel.proofs.Ways.{Ways, ways_more, ways_last}
 use Rattle.ug_sysfs.specs.World.{World, Gives}

@@ -1,7 +1,9 @@
 -- What a name's part tells of want of memory: it tells it just where memory was refused in it.
 use Rattle.std.proofs.Common.{◌≡◌, ℕ, Bool, true, false, ◌||◌, List, [], ◌∷◌, ◌++◌, Option, refl, sym, ◌∙◌, ap}
 use Rattle.std.proofs.lemmas.List.Folds.{list_any-append}
-use Rattle.ug_table.proofs.Common.{Made, Bound, Entry, EndsUnsettled, Standing, Settled}
+use Rattle.ug_table.proofs.Common.{Made, Bound, Entry, EndsUnsettled}
+use Rattle.ug_table.specs.declared.standing.Standing.{Standing}
+use Rattle.ug_table.specs.declared.standing.Settled.{Settled}
 use Rattle.ug_audit.specs.declared.entry.Entry.TheVariants as entry
 use Rattle.ug_audit.specs.declared.entry.Fault.TheVariants as fault
 use Rattle.ug_table.specs.One.{whys}
