@@ -55,7 +55,8 @@ play_then (Return value) f s = refl
 play_then (Ask call next) f s = play_then (next (answer_of s call).0) f (answer_of s call).1
 play_then (Room next) f s = play_then (next true) f s
 
--- What the simulated kernel answers: never want of memory, and no failure where no call is to fail. So a script fixes a whole run, unless memory was refused.
+-- What the simulated kernel answers: never want of memory, and no failure where no call is to fail.
+-- So a script fixes a whole run, unless memory was refused.
 
 -- memory was refused on a way
 abbrev pub refused : Bool → List Made → Bool

@@ -1,5 +1,6 @@
 -- What a sweep tells of failed calls and of want of memory: it tells each, and no other.
 use Rattle.std.proofs.Common.{◌≡◌, ℕ, Bool, true, false, not, cond, ◌&&◌, ◌||◌, List, [], ◌∷◌, ◌++◌, refl, sym, ◌∙◌, ap, subst}
+use Rattle.std.proofs.lemmas.Bool.{or_left, or_right}
 use Rattle.std.specs.List.{list_any}
 use Rattle.std.proofs.lemmas.List.Folds.{list_any-append}
 use Rattle.ug_table.proofs.Common.{in_sweep_order, Held, Made, failures, Entry, State, Answers, Laters, lists, farewells, AreClosings, unlisted_files, failures_told}
@@ -51,32 +52,33 @@ closings_sure : (files : List Held) (ms : List Made) → AreClosings files ms �
 closings_sure [] ms h = ap has_want h
 closings_sure (file ∷ files) ms h = ap has_want h.2 ∙ closings_sure files h.1 h.3
 
-farewells_calm : (names : List (List ℕ)) (ss : List Standing) → tells_memory (farewells names ss) ≡ false
+farewells_calm : (names : List (List ℕ)) (ss : List Standing)
+    → tells_memory (farewells names ss) ≡ false
 farewells_calm names ss =
     farewells_by (λ es. tells_memory es ≡ false) refl (λ number name es h. h) names ss
 
-or_true : (b : Bool) → (b || true) ≡ true
-or_true true = refl
-or_true false = refl
-
 -- a sweep
 goes_wants : {J : Type 0} {answer : Answers J} {later : Laters J} {w v : State J} {ok : Bool}
-    {ms : List Made} {es : List Entry} → Goes answer later w ok ms es v → tells_memory es ≡ refused ok ms
+    {ms : List Made} {es : List Entry} → Goes answer later w ok ms es v
+    → tells_memory es ≡ refused ok ms
 goes_wants {w = w} (Listed found failed ok shut made es v closings c) =
     let names = in_sweep_order found in
     let sure = closings_sure (unlisted_files names w.standings) shut closings in
     memory_more (farewells names w.standings) es
     ∙ ap (λ (b : Bool). b || tells_memory es) (farewells_calm names w.standings)
     ∙ chain_wants c
-    ∙ sym (ap (λ (b : Bool). not ok || b) (want_more shut made ∙ ap (λ (b : Bool). b || has_want made) sure))
+    ∙ sym (ap (λ (b : Bool). not ok || b)
+    (want_more shut made ∙ ap (λ (b : Bool). b || has_want made) sure))
 goes_wants (Unlisted list failed room why ok made es v (List_failed last) c) = chain_wants c
-goes_wants (Unlisted list failed room why ok made es v (List_short last) c) = sym (or_true (not ok))
+goes_wants (Unlisted list failed room why ok made es v (List_short last) c) = sym
+    (or_right (not ok) true refl)
 goes_wants (Unlisted list failed room why ok made es v (No_room found last) c) = refl
 
 pub sweeping_sums : {J : Type 0} (answer : Answers J) (later : Laters J) (w : State J)
     → Ways (sweeping answer later w) (λ ok ms v. Sums w.entries ok ms v.entries)
 sweeping_sums answer later w =
-    ways_more (Comes answer later w) (λ ok ms v. Sums w.entries ok ms v.entries) (sweeping answer later w)
+    ways_more (Comes answer later w) (λ ok ms v. Sums w.entries ok ms v.entries)
+    (sweeping answer later w)
     (λ ok ms v x. record {
       rest = x.0;
       entries = goes_entries x.1;
@@ -92,15 +94,15 @@ sweeping_played {J} answer later w s v t h =
     let T : State J → Type 0 = λ x. TellsMemory w.entries x.entries in
     played T (sweeping answer later w) s v t (ways_more (λ ok ms x. Sums w.entries ok ms x.entries) (TellsWant T) (sweeping answer later w) (λ ok ms x b e. (b.rest, b.entries, b.wants ∙ e)) (sweeping_sums answer later w)) h
 
-or_left : (a b : Bool) → a ≡ true → (a || b) ≡ true
-or_left a b e = ap (λ (v : Bool). v || b) e
-
 -- a sweep, and then some entries: one of them all tells want of memory
 pub event_played : {J D : Type 0} (answer : Answers J) (later : Laters J) (w : State J) (f : State J → Prog D) (g : State J → D) (of : D → List Entry) (end : List Entry) (s : World) (r : D) (t : World) → ((v : State J) → f v ≡ Return (g v)) → ((v : State J) → of (g v) ≡ v.entries ++ end) → Runs Gives s (then (sweeping answer later w) f) r t → IsPlayed (λ (x : D). tells_memory (of x) ≡ true) (then (sweeping answer later w) f) s r t
 event_played {J} {D} answer later w f g of end s r t ends adds h =
     let T : D → Type 0 = λ x. tells_memory (of x) ≡ true in
     let tells : (ok : Bool) (ms : List Made) (v : State J) → Sums w.entries ok ms v.entries → TellsWant T ok ms (g v) = λ ok ms v b e.
-    ap tells_memory (adds v) ∙ memory_more v.entries end ∙ or_left (tells_memory v.entries) (tells_memory end) (ap tells_memory b.entries ∙ memory_more w.entries b.rest ∙ ap (λ (x : Bool). tells_memory w.entries || x) (b.wants ∙ e) ∙ or_true (tells_memory w.entries)) in
+    ap tells_memory (adds v) ∙ memory_more v.entries end ∙ or_left (tells_memory v.entries)
+    (tells_memory end) (ap tells_memory b.entries ∙ memory_more w.entries b.rest ∙ ap
+    (λ (x : Bool). tells_memory w.entries || x) (b.wants ∙ e) ∙ or_right
+    (tells_memory w.entries) true refl) in
     played T (then (sweeping answer later w) f) s r t (ways_last (λ ok ms v. Sums w.entries ok ms v.entries) (TellsWant T) (sweeping answer later w) f g ends (sweeping_sums answer later w) tells) h
 
 -- it tells no want of memory

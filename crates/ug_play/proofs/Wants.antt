@@ -16,7 +16,8 @@ use Rattle.ug_play.proofs.Plays.{refused}
 pub memory_more : (es fs : List Entry) → tells_memory (es ++ fs) ≡ (tells_memory es || tells_memory fs)
 memory_more es fs = list_any-append entry_tells_memory es fs
 
-memory_told : (name : List ℕ) (es : List Entry) → EndsUnsettled name es → tells_memory es ≡ are_short (whys es)
+memory_told : (name : List ℕ) (es : List Entry) → EndsUnsettled name es
+    → tells_memory es ≡ are_short (whys es)
 memory_told name [] h = refl
 memory_told name (entry.Unsettled other (fault.Call failed) ∷ es) h = memory_told name es h.1
 memory_told name (entry.Unsettled other fault.Memory ∷ es) h = refl

@@ -33,7 +33,8 @@ later_id : (p : Judging) (records : List DeviceRecord) (dev : Judged) (controlle
 later_id p records (judged.Malformed kind place) controller was = refl
 later_id p records (judged.Good dev) controller was = refl
 
-judged_id : (present : Bool) (name : List ℕ) (w : State Judging) (o : Option (List Standing × Bound))
+judged_id : (present : Bool) (name : List ℕ) (w : State Judging)
+    (o : Option (List Standing × Bound))
     → (judge_after policy_later present name w o).next ≡ w.judge.next
 judged_id present name w None = refl
 judged_id present name w (Some x) =
@@ -41,7 +42,8 @@ judged_id present name w (Some x) =
     later_id w.judge (allowed_records x.0) dev (is_none (parent_of name)) present
 
 chain_id : {binds present : Bool} {names : List (List ℕ)} {w v : State Judging} {ok : Bool}
-    {ms : List Made} {es : List Entry} → Chain policy_answer policy_later binds present names w ok ms es v
+    {ms : List Made} {es : List Entry}
+    → Chain policy_answer policy_later binds present names w ok ms es v
     → v.judge.next ≡ w.judge.next
 chain_id (Over w) = refl
 chain_id {present = present} (First name names how w x v ok more ms ns es p c) =
@@ -50,7 +52,8 @@ chain_id {present = present} (First name names how w x v ok more ms ns es p c) =
 -- calls
 
 chain_calls : {binds present : Bool} {names : List (List ℕ)} {w v : State Judging} {ok : Bool}
-    {ms : List Made} {es : List Entry} → Chain policy_answer policy_later binds present names w ok ms es v
+    {ms : List Made} {es : List Entry}
+    → Chain policy_answer policy_later binds present names w ok ms es v
     → count_calls ms ≤ 14 * length names
 chain_calls (Over w) = omega arith
 chain_calls (First name names how w x v ok more ms ns es p c) =
@@ -59,7 +62,8 @@ chain_calls (First name names how w x v ok more ms ns es p c) =
     let sum = count_more ms ns in
     omega (arith, few, rest, sum)
 
-closings_uncounted : (files : List Held) (ms : List Made) → AreClosings files ms → count_calls ms ≡ 0
+closings_uncounted : (files : List Held) (ms : List Made) → AreClosings files ms
+    → count_calls ms ≡ 0
 closings_uncounted [] ms h = ap count_calls h
 closings_uncounted (file ∷ files) ms h = ap count_calls h.2 ∙ closings_uncounted files h.1 h.3
 
@@ -82,7 +86,8 @@ goes_calls : {w v : State Judging} {ok : Bool} {ms : List Made} {es : List Entry
 goes_calls {w = w} (Listed names failed ok shut made es v closings c) =
     let few = chain_calls c in
     let same = length-sweep_order names in
-    let none = closings_uncounted (unlisted_files (in_sweep_order names) w.standings) shut closings in
+    let none = closings_uncounted (unlisted_files (in_sweep_order names) w.standings) shut closings
+    in
     let sum = count_more shut made in
     omega (arith, few, same, none, sum)
 goes_calls {w = w} (Unlisted list failed room why ok made es v by c) =
@@ -118,7 +123,7 @@ pub record Spends (numbers calls : ℕ) (w : State Judging) (ms : List Made) (v 
 
 pub sweeping_spends : (w : State Judging)
     → Ways (sweeping policy_answer policy_later w)
-        (λ ok ms v. Spends (found ms) (1 + (14 * found ms + 14 * length w.standings)) w ms v)
+    (λ ok ms v. Spends (found ms) (1 + (14 * found ms + 14 * length w.standings)) w ms v)
 sweeping_spends w =
     ways_more (Comes policy_answer policy_later w)
     (λ ok ms v. Spends (found ms) (1 + (14 * found ms + 14 * length w.standings)) w ms v)

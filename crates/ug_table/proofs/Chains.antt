@@ -37,8 +37,10 @@ closings_unwritten : (files : List Held) (ms : List Made) → AreClosings files 
 closings_unwritten [] ms h = subst (λ v. Unwritten v) (sym h) tt
 closings_unwritten (file ∷ files) ms h = subst (λ v. Unwritten v) (sym h.2) (tt, closings_unwritten files h.1 h.3)
 
-pub closings_quiet : (files : List Held) (ms : List Made) (k l : Kernel) → IsKernel k → AreClosings files ms → Along calls k ms l → IsKernel l × Quiet k l
-closings_quiet files ms k l sound c a = (along_sound ms k l sound a, along_quiet ms k l (closings_unwritten files ms c) a)
+pub closings_quiet : (files : List Held) (ms : List Made) (k l : Kernel) → IsKernel k
+    → AreClosings files ms → Along calls k ms l → IsKernel l × Quiet k l
+closings_quiet files ms k l sound c a =
+    (along_sound ms k l sound a, along_quiet ms k l (closings_unwritten files ms c) a)
 
 -- one for each name, in this order
 pub data Chain {J : Type 0} (answer : Answers J) (later : Laters J) (binds present : Bool)
@@ -64,16 +66,17 @@ pub data Goes {J : Type 0} (answer : Answers J) (later : Laters J) (w : State J)
       (es : List Entry) (v : State J)
       → AreClosings (unlisted_files (in_sweep_order found) w.standings) shut
       → Chain answer later true (not w.listed) (in_sweep_order found)
-          (marked_listed (parted (in_sweep_order found) w)) ok made es v
-      → Goes answer later w ok (answered Names (told_at (listing.Names found) failed) ∷ (shut ++ made))
-          (farewells (in_sweep_order found) w.standings ++ es) v
+      (marked_listed (parted (in_sweep_order found) w)) ok made es v
+      → Goes answer later w ok
+      (answered Names (told_at (listing.Names found) failed) ∷ (shut ++ made))
+      (farewells (in_sweep_order found) w.standings ++ es) v
   Unlisted : (list : Listing) (failed : FailedCall) (room : Bool) (why : Fault) (ok : Bool)
       (made : List Made) (es : List Entry) (v : State J)
       → Without list failed room why
       → Chain answer later false (not w.listed) (names_of w.standings)
-          (noted w (entry.UnsettledAll why)) ok made es v
+      (noted w (entry.UnsettledAll why)) ok made es v
       → Goes answer later w (room && ok) (answered Names (told_at list failed) ∷ made)
-          (entry.UnsettledAll why ∷ es) v
+      (entry.UnsettledAll why ∷ es) v
 
 -- the walk
 
@@ -102,14 +105,15 @@ module _ {J : Type 0} (answer : Answers J) (later : Laters J) where
       ways_next (Settles answer later name present w) Q (settling answer later name present w)
       (λ (p : Settled × State J). settling_all answer later names present p.1)
       (settles answer later name present w)
-      (λ ok ms p a. ways_more (Linked true present names p.1) (λ more ns v. Q (ok && more) (ms ++ ns) v)
-          (settling_all answer later names present p.1)
-          (λ more ns v c. linked true present name names w p.1 v ok more ms ns p.0 a c)
-          (settling_chain names present p.1))
+      (λ ok ms p a. ways_more (Linked true present names p.1)
+      (λ more ns v. Q (ok && more) (ms ++ ns) v)
+      (settling_all answer later names present p.1)
+      (λ more ns v c. linked true present name names w p.1 v ok more ms ns p.0 a c)
+      (settling_chain names present p.1))
 
   resettling_chain : (names : List (List ℕ)) (present : Bool) (w : State J) (k : Kept)
       → Ways (resettling_all names k)
-          (λ ok ms j. Linked false present names (with_kept w k) ok ms (with_kept w j))
+      (λ ok ms j. Linked false present names (with_kept w k) ok ms (with_kept w j))
   resettling_chain [] present w k = ([], Over (with_kept w k))
   resettling_chain (name ∷ names) present w k =
       let all : List (List ℕ) = name ∷ names in
@@ -120,7 +124,8 @@ module _ {J : Type 0} (answer : Answers J) (later : Laters J) where
       (λ (p : Settled × Kept). resettling_all names p.1) (resettles answer later name present w k)
       (λ ok ms p a.
       let x : State J = with_kept w p.1 in
-      ways_more (L names x) (λ more ns j. L all u (ok && more) (ms ++ ns) j) (resettling_all names p.1)
+      ways_more (L names x) (λ more ns j. L all u (ok && more) (ms ++ ns) j)
+      (resettling_all names p.1)
       (λ more ns j c. linked false present name names u x (with_kept w j) ok more ms ns p.0 a c)
       (resettling_chain names present w p.1))
 
@@ -138,14 +143,16 @@ module _ {J : Type 0} (answer : Answers J) (later : Laters J) where
       without list failed room why by =
           let names = names_of w.standings in
           let k = kept_of w.standings (w.entries ++ entry.UnsettledAll why ∷ []) in
-          ways_last (λ ok ms j. Linked false (not w.listed) names (with_kept w k) ok ms (with_kept w j))
+          ways_last (λ ok ms j. Linked false (not w.listed) names (with_kept w k) ok ms
+          (with_kept w j))
           (λ ok ms v. Behind list failed (room && ok) ms v) (resettling_all names k) (resumed w)
           (λ j. with_kept w j) (λ j. refl) (resettling_chain names (not w.listed) w k)
-          (λ ok ms j c. let v : State J = with_kept w j in (entry.UnsettledAll why ∷ c.0, Unlisted list failed room why ok ms c.0 v by c.1))
+          (λ ok ms j c. let v : State J = with_kept w j in
+          (entry.UnsettledAll why ∷ c.0, Unlisted list failed room why ok ms c.0 v by c.1))
 
       with_room : (found : List (List ℕ)) (failed : FailedCall) (room : Bool)
           → Ways (if_room answer later (in_sweep_order found) w room)
-              (λ ok ms v. Behind (listing.Names found) failed (room && ok) ms v)
+          (λ ok ms v. Behind (listing.Names found) failed (room && ok) ms v)
       with_room found failed true =
           let names = in_sweep_order found in
           let u : State J = marked_listed (parted names w) in
@@ -155,10 +162,14 @@ module _ {J : Type 0} (answer : Answers J) (later : Laters J) where
           (λ (r : Unit {0}). settling_all answer later names (not w.listed) u)
           (closes names w.standings)
           (λ shut r closings. ways_more (Linked true (not w.listed) names u)
-              (λ ok ms v. Behind list failed ok (shut ++ ms) v)
-              (settling_all answer later names (not w.listed) u)
-              (λ ok ms v c. (farewells names w.standings ++ c.0, Listed found failed ok shut ms c.0 v closings c.1))
-              (settling_chain names (not w.listed) u))
+          (λ ok ms v. Behind list failed ok (shut ++ ms) v)
+          (settling_all answer later names (not w.listed) u)
+          (λ ok ms v c. (
+            farewells names w.standings ++ c.0,
+            Listed found failed ok shut ms c.0
+                v closings c.1,
+          ))
+          (settling_chain names (not w.listed) u))
       with_room found failed false =
           without (listing.Names found) failed false fault.Memory (No_room found failed)
 
@@ -180,7 +191,8 @@ chain_entries (First name names how w x v ok more ms ns es p c) =
     chain_entries c ∙ ap (λ (y : List Entry). y ++ es) p.entries ∙ append_assoc w.entries p.rest es
 
 pub goes_entries : {J : Type 0} {answer : Answers J} {later : Laters J} {w v : State J} {ok : Bool}
-    {ms : List Made} {es : List Entry} → Goes answer later w ok ms es v → v.entries ≡ w.entries ++ es
+    {ms : List Made} {es : List Entry} → Goes answer later w ok ms es v
+    → v.entries ≡ w.entries ++ es
 goes_entries {w = w} (Listed found failed ok shut made es v closings c) =
     chain_entries c ∙ append_assoc w.entries (farewells (in_sweep_order found) w.standings) es
 goes_entries {w = w} (Unlisted list failed room why ok made es v by c) =
@@ -194,7 +206,8 @@ module _ {S J : Type 0} (gives : S → (call : Call) → Answer call → S → T
       (t : S) → Runs gives s (settling answer later name present w) p t
       → Went gives (Settles answer later name present w) s p t
   settling_run name present w s p t h =
-      ways_run gives (Settles answer later name present w) (settling answer later name present w) s p t
+      ways_run gives (Settles answer later name present w) (settling answer later name present w) s
+      p t
       (settles answer later name present w) h
 
   pub resettling_run : (name : List ℕ) (present : Bool) (w : State J) (k : Kept) (s : S)
@@ -207,7 +220,8 @@ module _ {S J : Type 0} (gives : S → (call : Call) → Answer call → S → T
   pub sweeping_run : (s : S) (w : State J) (t : S) (v : State J)
       → Runs gives s (sweeping answer later w) v t → Went gives (Comes answer later w) s v t
   sweeping_run s w t v h =
-      ways_run gives (Comes answer later w) (sweeping answer later w) s v t (sweeping_by answer later w) h
+      ways_run gives (Comes answer later w) (sweeping answer later w) s v t
+      (sweeping_by answer later w) h
 
 -- the standing of a number is settled by its name
 pub run_numbered : {S : Type 0} (gives : S → (call : Call) → Answer call → S → Type 0) (number : ℕ)
@@ -227,7 +241,14 @@ pub no_later : Laters (Unit {0})
 no_later judge dev controller present on ss = tt
 
 abbrev pub unjudged : Kept → State (Unit {0})
-unjudged k = record { standings = k.standings; next = 0; listed = false; judge = tt; entries = k.entries }
+unjudged k = record {
+  standings = k.standings;
+  next = 0;
+  listed = false;
+  judge = tt;
+  entries =
+      k.entries;
+}
 
 pub numbered_run : {S : Type 0} (gives : S → (call : Call) → Answer call → S → Type 0) (number : ℕ)
     (k : Kept) (x : Standing) (s : S) (p : Settled × Kept) (t : S)

@@ -1,5 +1,6 @@
 -- A part is fair, and so is a sweep.
 use Rattle.std.proofs.Common.{◌≡◌, ℕ, Bool, true, false, not, ◌&&◌, List, [], ◌∷◌, ◌++◌, ◌⊎◌, Some, slice_get, inl, inr, refl, sym, ◌∙◌, ap, subst, append_assoc, append-nil, ◌+◌, ◌<◌, ◌||◌, is_none, Option, arith, cond, true≢false}
+use Rattle.std.proofs.lemmas.Bool.{and_parts, not-true, or_right}
 use Rattle.ug_table.proofs.Common.{Has, AllDistinct, Target, Control, Authorized, Remove, Write, Wrote, Put, Close, Told, Closing, Ask_alive, Names, Kernel, Moves, IsKernel, Live, IsWritten, IsGoneAt, says_put, Called, says_listing, Grows, Quiet, calls, Runs, RemoveHold, Entry, State, Answers, Laters, known_of, standing_of, without, with_standing, place_for, settled_standing, lists, farewells, Tries, IsDevice, MayHave, MayHaveNot, wrote_entries, HasRemoval, IsFirst, Account, Start, Had, Had_not, AreInOrder, none_before, IsProbed, Stand, numbers_of, Judge, IsOne, IsTold, HasStanding, IsFair, IsRemoveMarked, swept_before, IsGone, Went as WentAway, gone_of, Standing, Settled, Made, answered, Along, failure_of, FailedCall, parent_of, Judged, Held, Cause, Device, Bound, Binding, Known, in_sweep_order, Listing, unlisted_files}
 use Rattle.ug_types.specs.declared.verdict.Target.TheVariants as target
 use Rattle.ug_kernel.specs.declared.device.HeldFile.{HeldFile}
@@ -15,7 +16,7 @@ use Rattle.ug_audit.specs.declared.entry.Fault.TheVariants as fault
 use Rattle.ug_table.specs.Bring.{write_of, is_reject, CallsFor, is_to_go}
 use Rattle.ug_table.specs.declared.standing.Settled.TheVariants as settled
 use Rattle.ug_types.proofs.Elements.{has_right, distinct_one, map_has, has_map, insert_has, has_new, has_old, distinct_insert, filter_has, has_filter, distinct_filter}
-use Rattle.ug_table.proofs.Standings.{IsHeldAs, file_same, file_later, IsFileOf, found, missing, missing_without, or_all, or_by, listed_is}
+use Rattle.ug_table.proofs.Standings.{IsHeldAs, file_same, file_later, IsFileOf, found, missing, missing_without, or_by, listed_is}
 use Rattle.ug_table.proofs.Devices.{device_stays, stand_stays, probed_from}
 use Rattle.ug_table.proofs.Steps.{NoRemoval, keeps_itself, removal_marks, removal_removed, marks_keep, Keeps, keep_one, Marks, keep_marks, FairFrom, fair_trans, StepFrom, fair_by, After, same_refl, plain_fair, keep_fair, fair_end, then_quiet, then_called, then_note, then_same, then_went, Same as AreSame, one_itself, without_less, tried_after, left_all, stand_of, fair_refl, gone_device, account_stays}
 use Rattle.ug_table.proofs.Says.{plain_wrote, gone_has}
@@ -142,15 +143,6 @@ reject_calls : (verdict : Target) → is_reject verdict ≡ true → CallsFor ve
 reject_calls target.Reject e = tt
 reject_calls x e = let none : ⊥ = cc in absurd none
 
-and_first : (a b : Bool) → (a && b) ≡ true → a ≡ true
-and_first true b e = refl
-and_first false b e = e
-
-and_second : (a b : Bool) → (a && not b) ≡ true → b ≡ false
-and_second true true e = sym e
-and_second true false e = refl
-and_second false b e = let none : ⊥ = cc in absurd none
-
 removed_if : (a b : Bool) → (a && not b) ≡ false → a ≡ true → b ≡ true
 removed_if true true e r = refl
 removed_if true false e r = sym e
@@ -229,7 +221,11 @@ removal_fair l s after (Not_held ms r es how way v) go has a h along =
 removal_fair {m = m} {u = u} l s after (Put_on ms file t shut es how way v) go has a h along =
     let cut = along_split calls ms (answered (Put file.0 write.Remove) t ∷ answered (Close file.0) shut ∷ []) m l along in
     let x = held_fair cut.0 s ms (hold.Ready file) has way cut.1 h in
-    fair_end l (more u (after how) es) refl cut.2.2.2 (put_on_fair cut.2.0 cut.2.2.0 s x.0 file.0 after shut v (has, x.1) x.2 (and_first (is_reject s.verdict) (not s.removed) go) (and_second (is_reject s.verdict) s.removed go) a cut.2.1 cut.2.2.1 x.3)
+    fair_end l (more u (after how) es) refl cut.2.2.2
+    (put_on_fair cut.2.0 cut.2.2.0 s x.0 file.0 after shut v (has, x.1) x.2
+    (and_parts (is_reject s.verdict) (not s.removed) go).0
+    (not-true s.removed (and_parts (is_reject s.verdict) (not s.removed) go).1) a cut.2.1
+    cut.2.2.1 x.3)
 
 -- both
 
@@ -371,7 +367,10 @@ judged_fair answer later present n m u name held i judged on sound q d probed ab
     record { stood = stand; fair = fair }
 
 -- it is there, and nothing else changed
-new_same : (ss : List Standing) (next : ℕ) (s : Standing) → s.number ≡ next → (Has (names_of ss) s.name → ⊥) → AllDistinct (names_of ss) → AreInOrder (names_of ss) → AllDistinct (numbers_of ss) → ((t : Standing) → Has ss t → t.number < next) → AreSame (with_standing s ss) (with_standing s ss)
+new_same : (ss : List Standing) (next : ℕ) (s : Standing) → s.number ≡ next
+    → (Has (names_of ss) s.name → ⊥) → AllDistinct (names_of ss) → AreInOrder (names_of ss)
+    → AllDistinct (numbers_of ss) → ((t : Standing) → Has ss t → t.number < next)
+    → AreSame (with_standing s ss) (with_standing s ss)
 new_same ss next s number absent names order distinct numbers = record {
   there = one_itself (with_standing s ss);
   kept = one_itself (with_standing s ss);
@@ -420,7 +419,8 @@ kept_after k ss next s settled.Stands number absent stand =
         | inr old ↦ inl (keeps_itself whole t (has_old ss (place_for s.name ss) s t old))
       ];
       own = λ t a e r. elim (insert_has ss (place_for s.name ss) new t a) [
-        | inl is ↦ subst (λ (v : Standing). v.removed ≡ true) is (ap (λ (b : Bool). s.removed || b) r ∙ or_all s.removed)
+        | inl is ↦ subst (λ (v : Standing). v.removed ≡ true) is
+            (ap (λ (b : Bool). s.removed || b) r ∙ or_right s.removed true refl)
         | inr old ↦
             let n = stand.numbers t old in
             let none : ⊥ = omega (arith, n, e, number) in absurd none
@@ -553,11 +553,13 @@ pub piece_fair : {J : Type 0} {answer : Answers J} {later : Laters J} {binds pre
     → FairFrom answer later present tried k w m u
     → Piece answer later binds present name u ok ms how v → Along calls m ms l
     → FairFrom answer later present tried k w l v
-piece_fair {J} {answer} {later} {present = present} {tried = tried} {name = name} {k = k} {l = l} {w = w}
+piece_fair {J} {answer} {later} {present = present} {tried = tried} {name = name} {k = k} {l = l}
+    {w = w}
     {u = u} {v = v} so h p a =
     let next = next_after u p.judged in
     let judge = judge_after later present name u p.judged in
-    let is = state_is v next u.listed judge (u.entries ++ p.rest) p.next p.listed p.judge p.entries in
+    let is = state_is v next u.listed judge (u.entries ++ p.rest) p.next p.listed p.judge p.entries
+    in
     subst (λ (x : State J). FairFrom answer later present tried k w l x) (sym is)
     (flat_fair l p.flat (λ ss b z g. g) so h a)
 
@@ -568,8 +570,8 @@ abbrev Awaits : {J : Type 0} → List (List ℕ) → State J → State J → Typ
 Awaits names w u = AllDistinct names × AreInOrder names × AreSplit names w u × AreFresh names w u
 
 chain_fair : {J : Type 0} {answer : Answers J} {later : Laters J} {binds present : Bool}
-    {names : List (List ℕ)} {k m : Kernel} {w u v : State J} {ok : Bool} {ms : List Made} {es : List Entry}
-    (l : Kernel) → (binds ≡ true → Awaits names w u)
+    {names : List (List ℕ)} {k m : Kernel} {w u v : State J} {ok : Bool} {ms : List Made}
+    {es : List Entry} (l : Kernel) → (binds ≡ true → Awaits names w u)
     → FairFrom answer later present swept_before k w m u
     → Chain answer later binds present names u ok ms es v → Along calls m ms l
     → FairFrom answer later present swept_before k w l v
@@ -635,7 +637,9 @@ farewell_account {J} answer later present tried m names before log judge next (s
     let d = stand.devices s has in
     (elim (lists names s.name) as (λ (b : Bool). lists names s.name ≡ b → A (es ++ cond b (farewells names ss) (e ∷ farewells names ss))) [
       | true ↦ λ q. rec es a
-      | false ↦ λ q. subst (λ (v : List Entry). A v) (append_assoc es (e ∷ []) (farewells names ss)) (rec (es ++ e ∷ []) (WentAway es log judge next d.0 s.number s.name s.held s.judged s.verdict d.1 (gone s d.0 has d.1 q) (inl (s, has, refl, refl, refl, refl)) a))
+      | false ↦ λ q. subst (λ (v : List Entry). A v) (append_assoc es (e ∷ []) (farewells names ss))
+          (rec (es ++ e ∷ []) (WentAway es log judge next d.0 s.number s.name s.held s.judged
+          s.verdict d.1 (gone s d.0 has d.1 q) (inl (s, has, refl, refl, refl, refl)) a))
     ]) refl
 
 parted_fair : {J : Type 0} (answer : Answers J) (later : Laters J) (present : Bool) (tried : Tries) (m : Kernel) (u : State J) (names : List (List ℕ)) → IsKernel m → Stand m u.standings u.next → AreGone m names u.standings → StepFrom answer later present tried m u m (parted names u)
@@ -698,21 +702,36 @@ then_listed {J} {answer} {later} {present} {tried} {k} {m} {w} {u} h =
     let fair : IsFair answer later present tried k w m (marked_listed u) = record { sound = x.sound; grows = x.grows; rest = x.rest; entries = x.entries; stand = x.stand; account = x.account; left = x.left; gone = x.gone; once = x.once; unjudged = x.unjudged } in
     record { stood = h.stood; fair = fair }
 
-goes_fair : {J : Type 0} {answer : Answers J} {later : Laters J} {k l : Kernel} {w v : State J} {ok : Bool}
-    {ms : List Made} {es : List Entry} → IsKernel k → Stand k w.standings w.next
+goes_fair : {J : Type 0} {answer : Answers J} {later : Laters J} {k l : Kernel} {w v : State J}
+    {ok : Bool} {ms : List Made} {es : List Entry} → IsKernel k → Stand k w.standings w.next
     → Goes answer later w ok ms es v → Along calls k ms l
     → FairFrom answer later (not w.listed) swept_before k w l v
-goes_fair {answer = answer} {later = later} {k = k} {l = l} {w = w} sound stand (Listed found failed ok shut made es v closings chain) b =
+goes_fair {answer = answer} {later = later} {k = k} {l = l} {w = w} sound stand
+    (Listed found failed ok shut made es v closings chain) b =
     let names = in_sweep_order found in
     let a = told_at (listing.Names found) failed in
     let m = b.0 in
     let cut = along_split calls shut made m l b.2 in
-    let gone = listing_gone k m found w.standings w.next (called_grows Names a k m b.1) b.1.says stand in
-    let q = closings_quiet (unlisted_files names w.standings) shut m cut.0 b.1.sound closings cut.1 in
-    let h = then_parted names gone (then_called Names a m tt b.1 (fair_refl answer later (not w.listed) swept_before k w sound stand)) in
-    chain_fair l (λ e. (order_distinct found b.1.says.1, sweep_in_order found b.1.says.1, parted_split names w, parted_fresh names w)) (then_quiet cut.0 q.0 q.1 (then_listed h)) chain cut.2
-goes_fair {answer = answer} {later = later} {k = k} {l = l} {w = w} sound stand (Unlisted list failed room why ok made es v by chain) b =
-    chain_fair l (λ e. let none : ⊥ = cc in absurd none) (then_note (entry.UnsettledAll why) tt (then_called Names (told_at list failed) b.0 tt b.1 (fair_refl answer later (not w.listed) swept_before k w sound stand))) chain b.2
+    let gone = listing_gone k m found w.standings w.next (called_grows Names a k m b.1) b.1.says
+    stand in
+    let q = closings_quiet (unlisted_files names w.standings) shut m cut.0 b.1.sound closings cut.1
+    in
+    let h = then_parted names gone
+    (then_called Names a m tt b.1
+    (fair_refl answer later (not w.listed) swept_before k w sound stand)) in
+    chain_fair l (λ e. (
+      order_distinct found b.1.says.1,
+      sweep_in_order found b.1.says.1,
+      parted_split names w,
+      parted_fresh names w,
+    )) (then_quiet cut.0 q.0 q.1 (then_listed h))
+    chain cut.2
+goes_fair {answer = answer} {later = later} {k = k} {l = l} {w = w} sound stand
+    (Unlisted list failed room why ok made es v by chain) b =
+    chain_fair l (λ e. let none : ⊥ = cc in absurd none)
+    (then_note (entry.UnsettledAll why) tt
+    (then_called Names (told_at list failed) b.0 tt b.1
+    (fair_refl answer later (not w.listed) swept_before k w sound stand))) chain b.2
 
 pub sweeping_fair : {J : Type 0} (answer : Answers J) (later : Laters J) (w : State J) (k l : Kernel) (v : State J) → IsKernel k → Stand k w.standings w.next → Runs calls k (sweeping answer later w) v l → IsFair answer later (not w.listed) swept_before k w l v
 sweeping_fair answer later w k l v sound stand r =

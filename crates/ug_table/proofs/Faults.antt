@@ -17,33 +17,37 @@ use Rattle.ug_table.proofs.Chains.{closings_calm, Chain, Over, First, Without, L
 
 chain_parts : {J : Type 0} {answer : Answers J} {later : Laters J} {binds present : Bool}
     {names : List (List ℕ)} {w v : State J} {ok : Bool} {ms : List Made} {es : List Entry}
-    → Chain answer later binds present names w ok ms es v → InParts names w.standings v.standings ms es
+    → Chain answer later binds present names w ok ms es v
+    → InParts names w.standings v.standings ms es
 chain_parts (Over w) = (refl, refl, refl)
 chain_parts (First name names how w x v ok more ms ns es p c) =
     (x.standings, ms, ns, p.rest, es, refl, refl, flat_is_part p.flat, chain_parts c)
 
-unlisted_begins : {list : Listing} {failed : FailedCall} {room : Bool} {why : Fault} (ss : List Standing)
-    → Without list failed room why
+unlisted_begins : {list : Listing} {failed : FailedCall} {room : Bool} {why : Fault}
+    (ss : List Standing) → Without list failed room why
     → AfterListing list failed ss (entry.UnsettledAll why ∷ []) ss (names_of ss) []
 unlisted_begins ss (No_room found failed) = inr (refl, refl, refl, refl)
 unlisted_begins ss x = (refl, refl, refl, refl)
 
 -- the numbers that are given out
 
-next_is : {J : Type 0} (w : State J) (o : Option (List Standing × Bound)) → next_after w o ≡ w.next + given_count o
+next_is : {J : Type 0} (w : State J) (o : Option (List Standing × Bound))
+    → next_after w o ≡ w.next + given_count o
 next_is w None = omega arith
 next_is w (Some judged) = refl
 
 pub chain_next : {J : Type 0} {answer : Answers J} {later : Laters J} {binds present : Bool}
     {names : List (List ℕ)} {w v : State J} {ok : Bool} {ms : List Made} {es : List Entry}
-    → Chain answer later binds present names w ok ms es v → v.next ≡ w.next + length (numbers_given es)
+    → Chain answer later binds present names w ok ms es v
+    → v.next ≡ w.next + length (numbers_given es)
 chain_next (Over w) = omega arith
 chain_next (First name names how w x v ok more ms ns es p c) =
     let rest = chain_next c in
     let here = p.next in
     let is = next_is w p.judged in
     let given = flat_given p.flat in
-    let sum = ap length (given_more p.rest es) ∙ length-append (numbers_given p.rest) (numbers_given es) in
+    let sum = ap length (given_more p.rest es) ∙ length-append (numbers_given p.rest)
+    (numbers_given es) in
     omega (arith, rest, here, is, given, sum)
 
 -- one a name at most, and none where nothing is bound
@@ -54,7 +58,8 @@ chain_given (Over w) = omega arith
 chain_given (First name names how w x v ok more ms ns es p c) =
     let rest = chain_given c in
     let one = (flat_is_part p.flat).given in
-    let sum = ap length (given_more p.rest es) ∙ length-append (numbers_given p.rest) (numbers_given es) in
+    let sum = ap length (given_more p.rest es) ∙ length-append (numbers_given p.rest)
+    (numbers_given es) in
     omega (arith, rest, one, sum)
 
 pub chain_none : {J : Type 0} {answer : Answers J} {later : Laters J} {present : Bool}
@@ -65,13 +70,15 @@ chain_none (First name names how w x v ok more ms ns es p c) =
     let rest = chain_none c in
     let given = flat_given p.flat in
     let none = flat_none refl p.flat in
-    let sum = ap length (given_more p.rest es) ∙ length-append (numbers_given p.rest) (numbers_given es) in
+    let sum = ap length (given_more p.rest es) ∙ length-append (numbers_given p.rest)
+    (numbers_given es) in
     omega (arith, rest, given, none, sum)
 
 -- the parts of a sweep
-pub in_parts : {S J : Type 0} {gives : S → (call : Call) → Answer call → S → Type 0} {answer : Answers J}
-    {later : Laters J} {s t : S} {w v : State J} {ok : Bool} {ms : List Made} {es : List Entry}
-    → Along gives s ms t → Goes answer later w ok ms es v → GoesInParts gives s w t v
+pub in_parts : {S J : Type 0} {gives : S → (call : Call) → Answer call → S → Type 0}
+    {answer : Answers J} {later : Laters J} {s t : S} {w v : State J} {ok : Bool} {ms : List Made}
+    {es : List Entry} → Along gives s ms t → Goes answer later w ok ms es v
+    → GoesInParts gives s w t v
 in_parts {w = w} a (Listed found failed ok shut made es v closings c) =
     let names = in_sweep_order found in
     let few = chain_given c in
@@ -94,24 +101,24 @@ in_parts {w = w} a (Listed found failed ok shut made es v closings c) =
       given = omega (arith, few, same);
     }
 in_parts {w = w} a (Unlisted list failed room why ok made es v by c) =
-  let none = chain_none c in
-  record {
-  listed = told_at list failed;
-  later = made;
-  along = a;
-  head = entry.UnsettledAll why ∷ [];
-  rest = es;
-  entries = goes_entries (Unlisted list failed room why ok made es v by c);
-  left = w.standings;
-  names = names_of w.standings;
-  shut = [];
-  made = made;
-  cut = refl;
-  begins = unlisted_begins w.standings by;
-  parts = chain_parts c;
-  next = chain_next c;
-  given = omega (arith, none);
-}
+    let none = chain_none c in
+    record {
+      listed = told_at list failed;
+      later = made;
+      along = a;
+      head = entry.UnsettledAll why ∷ [];
+      rest = es;
+      entries = goes_entries (Unlisted list failed room why ok made es v by c);
+      left = w.standings;
+      names = names_of w.standings;
+      shut = [];
+      made = made;
+      cut = refl;
+      begins = unlisted_begins w.standings by;
+      parts = chain_parts c;
+      next = chain_next c;
+      given = omega (arith, none);
+    }
 
 -- each failed call is told in its part
 chain_tells : {J : Type 0} {answer : Answers J} {later : Laters J} {binds present : Bool}
@@ -136,15 +143,16 @@ why_told (List_failed failed) = refl
 why_told x = refl
 
 pub goes_tells : {J : Type 0} {answer : Answers J} {later : Laters J} {w v : State J} {ok : Bool}
-    {ms : List Made} {es : List Entry} → Goes answer later w ok ms es v → failures_told es ≡ failures ms
+    {ms : List Made} {es : List Entry} → Goes answer later w ok ms es v
+    → failures_told es ≡ failures ms
 goes_tells {w = w} (Listed found failed ok shut made es v closings c) =
     let names = in_sweep_order found in
     told_more (farewells names w.standings) es
     ∙ ap (λ (y : List FailedCall). y ++ failures_told es) (farewells_tell_none names w.standings)
     ∙ chain_tells c
     ∙ sym (failures_more shut made
-          ∙ ap (λ (y : List FailedCall). y ++ failures made)
-              (closings_calm (unlisted_files names w.standings) shut closings))
+    ∙ ap (λ (y : List FailedCall). y ++ failures made)
+    (closings_calm (unlisted_files names w.standings) shut closings))
 goes_tells (Unlisted list failed room why ok made es v by c) =
     ap (λ (y : List FailedCall). told_by why ++ y) (chain_tells c)
     ∙ ap (λ (y : List FailedCall). y ++ failures made) (why_told by)

@@ -314,7 +314,8 @@ Ended binds l rs rest i name = (StandsSo l rs i ⊎ IsNamed rest name) ⊎ ((bin
 unbound_own : {name : List ℕ} {r : Binding} {es : List Entry} {how : Settled} (k m : Kernel) (i : ℕ) → Unbound_end name r es how → BindSays name k m r → LiveAs k i name → LiveAs m i name → IsNamed es name
 unbound_own k m i (Failed_so failed) says first mid = (fault.Call failed, inl refl)
 unbound_own k m i Short_so says first mid = (fault.Memory, inl refl)
-unbound_own {name} k m i x says first mid = absurd (says i first.d (lived k m i name first mid) first.named)
+unbound_own {name} k m i x says first mid = absurd
+    (says i first.d (lived k m i name first mid) first.named)
 
 -- behind the entries of an opening
 named_later : (es fs : List Entry) (name : List ℕ) → IsNamed fs name → IsNamed (es ++ fs) name
@@ -355,8 +356,8 @@ flat_own {name = name} i k l sound f first live (Judged_so ms ns os es fs rs b x
 
 -- the device of that name is as judged, or the name is told; or it has no standing where nothing is bound
 pub piece_own : {J : Type 0} {answer : Answers J} {later : Laters J} {binds present : Bool}
-    {name : List ℕ} {how : Settled} {ok : Bool} {ms : List Made} {k l : Kernel} {w v : State J} (i : ℕ)
-    → IsKernel k → Files k w.standings → LiveAs k i name → LiveAs l i name
+    {name : List ℕ} {how : Settled} {ok : Bool} {ms : List Made} {k l : Kernel} {w v : State J}
+    (i : ℕ) → IsKernel k → Files k w.standings → LiveAs k i name → LiveAs l i name
     → Piece answer later binds present name w ok ms how v → Along calls k ms l
     → Good w.entries l v.standings v.entries i name
     ⊎ ((binds ≡ false) × (Has (names_of v.standings) name → ⊥))
@@ -390,8 +391,8 @@ stood k l ss rs i f g was h =
     record { s = t.0; has = t.1; file = subst (λ j. IsFileOf k t.0.held.0 j) is o.file }
 
 pub piece_well : {J : Type 0} {answer : Answers J} {later : Laters J} {binds present : Bool}
-    {name : List ℕ} {how : Settled} {ok : Bool} {ms : List Made} {k l : Kernel} {w v : State J} (i : ℕ)
-    → IsKernel k → Files k w.standings → LiveAs k i name → LiveAs l i name
+    {name : List ℕ} {how : Settled} {ok : Bool} {ms : List Made} {k l : Kernel} {w v : State J}
+    (i : ℕ) → IsKernel k → Files k w.standings → LiveAs k i name → LiveAs l i name
     → Piece answer later binds present name w ok ms how v → Along calls k ms l
     → Well binds w.entries l v.standings v.entries i name
 piece_well {name = name} {l = l} {v = v} i sound f first live p a =
@@ -436,15 +437,16 @@ step P Q n name names false e own other (inr p) = inr (other (λ is. let same = 
 
 chain_well : {J : Type 0} {answer : Answers J} {later : Laters J} {binds present : Bool}
     {names : List (List ℕ)} {k l : Kernel} {w v : State J} {ok : Bool} {ms : List Made}
-    {added : List Entry} (name : List ℕ) (i : ℕ) (es : List Entry) → IsKernel k → Files k w.standings
-    → LiveAs k i name → LiveAs l i name → Appends es w.entries
+    {added : List Entry} (name : List ℕ) (i : ℕ) (es : List Entry) → IsKernel k
+    → Files k w.standings → LiveAs k i name → LiveAs l i name → Appends es w.entries
     → Has names name ⊎ Well binds es k w.standings w.entries i name
     → Chain answer later binds present names w ok ms added v → Along calls k ms l
     → Appends es v.entries × Well binds es l v.standings v.entries i name
 chain_well name i es sound f first live a (inl c) (Over w) b = absurd c
 chain_well {binds = binds} name i es sound f first live a (inr c) (Over w) b =
     (a, subst (λ (m : Kernel). Well binds es m w.standings w.entries i name) (sym b) c)
-chain_well {answer = answer} {later = later} {binds = binds} {present = present} {k = k} {l = l} name i es sound f first live a c (First n names how w x v ok more ms ns added p rest) b =
+chain_well {answer = answer} {later = later} {binds = binds} {present = present} {k = k} {l = l}
+    name i es sound f first live a c (First n names how w x v ok more ms ns added p rest) b =
     let cut = along_split calls ms ns k l b in
     let u = cut.0 in
     let g = along_grows ms k u cut.1 in
@@ -452,20 +454,31 @@ chain_well {answer = answer} {later = later} {binds = binds} {present = present}
     let apart = piece_apart sound f p cut.1 in
     let P = Well binds es k w.standings w.entries i name in
     let Q = Well binds es u x.standings x.entries i name in
-    let own : n ≡ name → Q = λ e. well_before binds es w.entries x.entries u x.standings i name a (piece_well i sound f first mid (subst (λ (y : List ℕ). Piece answer later binds present y w ok ms how x) e p) cut.1) in
+    let own : n ≡ name → Q = λ e. well_before binds es w.entries x.entries u x.standings i name a
+    (piece_well i sound f first mid
+    (subst (λ (y : List ℕ). Piece answer later binds present y w ok ms how x) e p) cut.1) in
     let back : binds ≡ false → HasStanding u x.standings i → HasStanding k w.standings i = λ e. stood k u w.standings x.standings i f g (flat_was e p.flat) in
-    chain_well name i es (along_sound ms k u sound cut.1) apart.files mid live (appends_trans es w.entries x.entries a apart.entries)
-    (step P Q n name names (same_name n name) refl own (λ ne h. well_apart binds n name i es k w.standings w.entries u x.standings x.entries ne f first g apart back h) c) rest cut.2
+    chain_well name i es (along_sound ms k u sound cut.1) apart.files mid live
+    (appends_trans es w.entries x.entries a apart.entries)
+    (step P Q n name names (same_name n name) refl own
+    (λ ne h. well_apart binds n name i es k w.standings w.entries u x.standings x.entries ne f
+    first g apart back h) c) rest cut.2
 
 -- what is said of a device at the end of a sweep
 abbrev EndsSo : Kernel → List Standing → List Entry → ℕ → List ℕ → Type 0
-EndsSo l ss rest i name = StandsSo l ss i ⊎ (IsNamed rest name ⊎ (((why : Fault) × Has rest (entry.UnsettledAll why)) × (HasStanding l ss i → ⊥)))
+EndsSo l ss rest i name = StandsSo l ss i ⊎
+    (IsNamed rest name ⊎ (((why : Fault) × Has rest (entry.UnsettledAll why)) ×
+    (HasStanding l ss i → ⊥)))
 
-good_ended : (es : List Entry) (l : Kernel) (ss : List Standing) (fs rest : List Entry) (i : ℕ) (name : List ℕ) → fs ≡ es ++ rest → Good es l ss fs i name → EndsSo l ss rest i name
+good_ended : (es : List Entry) (l : Kernel) (ss : List Standing) (fs rest : List Entry) (i : ℕ)
+    (name : List ℕ) → fs ≡ es ++ rest → Good es l ss fs i name → EndsSo l ss rest i name
 good_ended es l ss fs rest i name e (inl h) = inl h
 good_ended es l ss fs rest i name e (inr h) = inr (inl (subst (λ v. IsNamed v name) (cancel es h.0 rest (sym h.1 ∙ e)) h.2))
 
-well_ended : (binds : Bool) (es : List Entry) (why : Fault) (l : Kernel) (ss : List Standing) (fs rest : List Entry) (i : ℕ) (name : List ℕ) → fs ≡ es ++ rest → Appends (es ++ entry.UnsettledAll why ∷ []) fs → Well binds (es ++ entry.UnsettledAll why ∷ []) l ss fs i name → EndsSo l ss rest i name
+well_ended : (binds : Bool) (es : List Entry) (why : Fault) (l : Kernel) (ss : List Standing)
+    (fs rest : List Entry) (i : ℕ) (name : List ℕ) → fs ≡ es ++ rest
+    → Appends (es ++ entry.UnsettledAll why ∷ []) fs
+    → Well binds (es ++ entry.UnsettledAll why ∷ []) l ss fs i name → EndsSo l ss rest i name
 well_ended binds es why l ss fs rest i name e a (inl h) = good_ended es l ss fs rest i name e (good_before es (es ++ entry.UnsettledAll why ∷ []) fs l ss i name (entry.UnsettledAll why ∷ [], refl) h)
 well_ended binds es why l ss fs rest i name e a (inr h) =
     let all = entry.UnsettledAll why in
@@ -486,11 +499,12 @@ well_good : (es : List Entry) (l : Kernel) (ss : List Standing) (fs : List Entry
 well_good es l ss fs i name (inl h) = h
 well_good es l ss fs i name (inr h) = let e = h.0 in absurd (let none : ⊥ = cc in none)
 
-goes_ended : {J : Type 0} {answer : Answers J} {later : Laters J} {k l : Kernel} {w v : State J} {ok : Bool}
-    {ms : List Made} {es : List Entry} (rest : List Entry) (i : ℕ) (name : List ℕ)
+goes_ended : {J : Type 0} {answer : Answers J} {later : Laters J} {k l : Kernel} {w v : State J}
+    {ok : Bool} {ms : List Made} {es : List Entry} (rest : List Entry) (i : ℕ) (name : List ℕ)
     → Files k w.standings → v.entries ≡ w.entries ++ rest → LiveAs k i name → LiveAs l i name
     → Goes answer later w ok ms es v → Along calls k ms l → EndsSo l v.standings rest i name
-goes_ended {k = k} {l = l} {w = w} {v = v} rest i name f e first live (Listed found failed ok shut made es _ closings chain) b =
+goes_ended {k = k} {l = l} {w = w} {v = v} rest i name f e first live
+    (Listed found failed ok shut made es _ closings chain) b =
     let names = in_sweep_order found in
     let m = b.0 in
     let cut = along_split calls shut made m l b.2 in
@@ -498,18 +512,26 @@ goes_ended {k = k} {l = l} {w = w} {v = v} rest i name f e first live (Listed fo
     let q = closings_quiet (unlisted_files names w.standings) shut m u b.1.sound closings cut.1 in
     let h = called_grows Names (told_at (listing.Names found) failed) k m b.1 in
     let j = quiet_grows m u q.1 in
-    let late = lives_between k u l i name (grows_trans k m u h j) (along_grows made u l cut.2) first live in
+    let late = lives_between k u l i name (grows_trans k m u h j) (along_grows made u l cut.2) first
+    live in
     let mid = lives_between k m u i name h j first late in
-    let has : Has names name = to_sweep_order found name (subst (λ (n : List ℕ). Has found n) first.named (b.1.says.0 i first.d (lived k m i name first mid))) in
+    let has : Has names name = to_sweep_order found name
+    (subst (λ (n : List ℕ). Has found n) first.named
+    (b.1.says.0 i first.d (lived k m i name first mid))) in
     good_ended w.entries l v.standings v.entries rest i name e
-    (well_good w.entries l v.standings v.entries i name (chain_well name i w.entries q.0 (parted_files u names w (files_later k u w.standings (grows_trans k m u h j) f)) late live (farewells names w.standings, refl) (inl has) chain cut.2).1)
-goes_ended {k = k} {l = l} {w = w} {v = v} rest i name f e first live (Unlisted list failed room why ok made added _ by chain) b =
+    (well_good w.entries l v.standings v.entries i name
+    (chain_well name i w.entries q.0
+    (parted_files u names w (files_later k u w.standings (grows_trans k m u h j) f)) late live
+    (farewells names w.standings, refl) (inl has) chain cut.2).1)
+goes_ended {k = k} {l = l} {w = w} {v = v} rest i name f e first live
+    (Unlisted list failed room why ok made added _ by chain) b =
     let m = b.0 in
     let h = called_grows Names (told_at list failed) k m b.1 in
     let files = files_later k m w.standings h f in
     let mid = lives_between k m l i name h (along_grows made m l b.2) first live in
     let es = w.entries ++ entry.UnsettledAll why ∷ [] in
-    let at = chain_well name i es b.1.sound files mid live (appends_refl es) (begins name i es m w.standings (standing_of name w.standings) refl files mid) chain b.2 in
+    let at = chain_well name i es b.1.sound files mid live (appends_refl es)
+    (begins name i es m w.standings (standing_of name w.standings) refl files mid) chain b.2 in
     well_ended false w.entries why l v.standings v.entries rest i name e at.0 at.1
 
 pub lives_first : (k l : Kernel) (i : ℕ) (d : Device) → Lived k.devices l.devices i d → LiveAs k i d.name

@@ -180,7 +180,8 @@ piece_part {w = w} {v = v} p = (flat_part w.entries v.entries p.entries p.flat, 
 
 -- the answer says whether the name has a standing
 
-pub known_has : (name : List ℕ) (ss : List Standing) (known : Known) → standing_of name ss ≡ Some known → Has (names_of ss) name
+pub known_has : (name : List ℕ) (ss : List Standing) (known : Known)
+    → standing_of name ss ≡ Some known → Has (names_of ss) name
 known_has name ss known e =
     let s = found name ss known e in
     subst (λ (v : List ℕ). Has (names_of ss) v) s.named (has_map (λ (v : Standing). v.name) ss s.s s.has)
@@ -331,9 +332,10 @@ stands_known ss rs others s a = elim (either_listed (names_of ss) s.name) [
   | inr ne ↦ has_map (λ (v : Standing). v.name) ss s (others s a ne)
 ]
 
-listed_ends : {J : Type 0} {answer : Answers J} {later : Laters J} {present : Bool} {v : State J} {ok : Bool}
-    {ms : List Made} {es : List Entry} (names : List (List ℕ)) (w : State J) (rest : List Entry)
-    → AllDistinct names → Chain answer later true present names (marked_listed (parted names w)) ok ms es v
+listed_ends : {J : Type 0} {answer : Answers J} {later : Laters J} {present : Bool} {v : State J}
+    {ok : Bool} {ms : List Made} {es : List Entry} (names : List (List ℕ)) (w : State J)
+    (rest : List Entry) → AllDistinct names
+    → Chain answer later true present names (marked_listed (parted names w)) ok ms es v
     → v.entries ≡ w.entries ++ rest → Ends w v rest
 listed_ends {v = v} names w rest distinct chain e =
     let bye = farewells names w.standings in
@@ -344,11 +346,11 @@ listed_ends {v = v} names w rest distinct chain e =
     let marks : (s : Standing) → Has v.standings s → IsMarked (bye ++ h.0.rest) s = λ s a. marked_left bye h.0.rest s (none_named bye s.name none) (h.0.mark s a (stands_listed names w.standings v.standings h.0.others s a)) in
     subst (λ (y : List Entry). Ends w v y) same (inl (listed, h.1), marks)
 
-unlisted_ends : {J : Type 0} {answer : Answers J} {later : Laters J} {present : Bool} {v : State J} {ok : Bool}
-    {ms : List Made} {es : List Entry} (why : Fault) (w : State J) (rest : List Entry)
+unlisted_ends : {J : Type 0} {answer : Answers J} {later : Laters J} {present : Bool} {v : State J}
+    {ok : Bool} {ms : List Made} {es : List Entry} (why : Fault) (w : State J) (rest : List Entry)
     → AllDistinct (names_of w.standings)
-    → Chain answer later false present (names_of w.standings) (noted w (entry.UnsettledAll why)) ok ms es v
-    → v.entries ≡ w.entries ++ rest → Ends w v rest
+    → Chain answer later false present (names_of w.standings) (noted w (entry.UnsettledAll why)) ok
+    ms es v → v.entries ≡ w.entries ++ rest → Ends w v rest
 unlisted_ends {v = v} why w rest distinct chain e =
     let all = entry.UnsettledAll why in
     let names = names_of w.standings in
@@ -358,16 +360,17 @@ unlisted_ends {v = v} why w rest distinct chain e =
     subst (λ (y : List Entry). Ends w v y) same (inr ((why, inl refl), h.1), marks)
 
 goes_ends : {J : Type 0} {answer : Answers J} {later : Laters J} {w v : State J} {ok : Bool}
-    {ms : List Made} {es : List Entry} (k l : Kernel) (rest : List Entry) → AllDistinct (names_of w.standings)
-    → v.entries ≡ w.entries ++ rest → Goes answer later w ok ms es v → Along calls k ms l → Ends w v rest
+    {ms : List Made} {es : List Entry} (k l : Kernel) (rest : List Entry)
+    → AllDistinct (names_of w.standings) → v.entries ≡ w.entries ++ rest
+    → Goes answer later w ok ms es v → Along calls k ms l → Ends w v rest
 goes_ends {w = w} k l rest known e (Listed found failed ok shut made es v closings chain) a =
     listed_ends (in_sweep_order found) w rest (order_distinct found a.1.says.1) chain e
 goes_ends {w = w} k l rest known e (Unlisted list failed room why ok made es v by chain) a =
     unlisted_ends why w rest known chain e
 
 -- whatever the entries that were added
-pub sweeping_marks : {J : Type 0} (answer : Answers J) (later : Laters J) (w : State J) (k l : Kernel)
-    (v : State J) (rest : List Entry) → AllDistinct (names_of w.standings)
+pub sweeping_marks : {J : Type 0} (answer : Answers J) (later : Laters J) (w : State J)
+    (k l : Kernel) (v : State J) (rest : List Entry) → AllDistinct (names_of w.standings)
     → Runs calls k (sweeping answer later w) v l → v.entries ≡ w.entries ++ rest → Ends w v rest
 sweeping_marks answer later w k l v rest known r e =
     let x = sweeping_run calls answer later k w l v r in

@@ -31,8 +31,9 @@ part_name name (entry.UnsettledAll why ∷ es) h = absurd h.0
 part_name name (e ∷ es) h = part_name name es h.1
 
 chain_names : {J : Type 0} {answer : Answers J} {later : Laters J} {binds present : Bool}
-    {names : List (List ℕ)} {w v : State J} {ok : Bool} {ms : List Made} {es : List Entry} (name : List ℕ)
-    → Chain answer later binds present names w ok ms es v → Has (unsettled_names es) name → Has names name
+    {names : List (List ℕ)} {w v : State J} {ok : Bool} {ms : List Made} {es : List Entry}
+    (name : List ℕ) → Chain answer later binds present names w ok ms es v
+    → Has (unsettled_names es) name → Has names name
 chain_names name (Over w) a = a
 chain_names name (First n names how w x v ok more ms ns es p c) a =
     let b = subst (λ (y : List (List ℕ)). Has y name) (names_more p.rest es) a in
@@ -100,9 +101,9 @@ record Lives (name : List ℕ) (known : Known) (i : ℕ) (ss : List Standing) (k
   last : LiveAs l i name
 
 -- and still does from a kernel between them
-lives_on : {name : List ℕ} {known : Known} {i : ℕ} {ss rs : List Standing} {k l : Kernel} (u : Kernel)
-    → standing_of name rs ≡ standing_of name ss → Grows k u → Grows u l → Lives name known i ss k l
-    → Lives name known i rs u l
+lives_on : {name : List ℕ} {known : Known} {i : ℕ} {ss rs : List Standing} {k l : Kernel}
+    (u : Kernel) → standing_of name rs ≡ standing_of name ss → Grows k u → Grows u l
+    → Lives name known i ss k l → Lives name known i rs u l
 lives_on {name} {known} {i} {k = k} {l = l} u same g h x = record {
   at = same ∙ x.at;
   file = file_later k u known.held.0 i g x.file;
@@ -148,12 +149,13 @@ name_told (e ∷ es) name why (inr a) = has_right (name_in e) (unsettled_names e
 -- the chain
 
 chain_spared : {J : Type 0} {answer : Answers J} {later : Laters J} {binds present : Bool}
-    {names : List (List ℕ)} {w v : State J} {ok : Bool} {ms : List Made} {es : List Entry} {name : List ℕ}
-    {known : Known} {i : ℕ} {k l : Kernel} → AllDistinct names
+    {names : List (List ℕ)} {w v : State J} {ok : Bool} {ms : List Made} {es : List Entry}
+    {name : List ℕ} {known : Known} {i : ℕ} {k l : Kernel} → AllDistinct names
     → Chain answer later binds present names w ok ms es v → Lives name known i w.standings k l
     → Along calls k ms l → Has es (entry.Unsettled name fault.Memory) → is_to_go known ≡ true
 chain_spared d (Over w) lives a told = absurd told
-chain_spared {name = name} {known = known} {i = i} {k = k} {l = l} d (First n names how w x v ok more ms ns es p c) lives a told =
+chain_spared {name = name} {known = known} {i = i} {k = k} {l = l} d
+    (First n names how w x v ok more ms ns es p c) lives a told =
     let memory = entry.Unsettled name fault.Memory in
     let cut = along_split calls ms ns k l a in
     let u = cut.0 in
@@ -163,7 +165,8 @@ chain_spared {name = name} {known = known} {i = i} {k = k} {l = l} d (First n na
     elim (has_cases p.rest es memory told) [
       | inl y ↦
           let is : name ≡ n = last_named n p.rest name fault.Memory part.last y in
-          let own = subst (λ (z : List ℕ). Part z w.standings x.standings ms p.rest) (sym is) part in
+          let own = subst (λ (z : List ℕ). Part z w.standings x.standings ms p.rest) (sym is) part
+          in
           let mid = lives_between k u l i name g h lives.first lives.last in
           part_spared name known i k u w.standings x.standings ms p.rest own
           (record { at = lives.at; file = lives.file; first = lives.first; last = mid }) cut.1 y
@@ -180,7 +183,8 @@ goes_spared : {J : Type 0} {answer : Answers J} {later : Laters J} {w v : State 
     → AllDistinct (names_of w.standings) → Goes answer later w ok ms es v
     → Lives name known i w.standings k l → Along calls k ms l
     → Has es (entry.Unsettled name fault.Memory) → is_to_go known ≡ true
-goes_spared {w = w} {name = name} {k = k} {l = l} d (Listed found failed ok shut made es v closings c) lives a told =
+goes_spared {w = w} {name = name} {k = k} {l = l} d
+    (Listed found failed ok shut made es v closings c) lives a told =
     let memory = entry.Unsettled name fault.Memory in
     let names = in_sweep_order found in
     let bye = farewells names w.standings in
@@ -207,8 +211,8 @@ goes_spared {k = k} {l = l} d (Unlisted list failed room why ok made es v by c) 
     chain_spared d c (lives_on a.0 refl g (along_grows made a.0 l a.2) lives) a.2 told
 
 -- whatever the entries that were added
-pub sweeping_spared : {J : Type 0} (answer : Answers J) (later : Laters J) (w : State J) (k l : Kernel)
-    (v : State J) (rest : List Entry) → Stand k w.standings w.next
+pub sweeping_spared : {J : Type 0} (answer : Answers J) (later : Laters J) (w : State J)
+    (k l : Kernel) (v : State J) (rest : List Entry) → Stand k w.standings w.next
     → Runs calls k (sweeping answer later w) v l → v.entries ≡ w.entries ++ rest
     → IsSpared k l w.standings rest
 sweeping_spared answer later w k l v rest stand r e i d lives stood told =

@@ -203,7 +203,9 @@ flat_leaves {name = name} {ss = ss} next order numbered (Judged_so ms ns os es f
     kept_leaves name ss rs x how new.named new.fresh new.stays (ap (λ (v : ℕ). stood_removed v ss) (numbered rs b x given) ∙ next_stood next ss order) (opening_rest opening) (opens opening).absent
 
 pub run_leaves : {S J : Type 0} (gives : S → (call : Call) → Answer call → S → Type 0) (answer : Answers J) (later : Laters J) (name : List ℕ) (present : Bool) (w : State J) (s : S) (p : Settled × State J) (t : S) → StandInOrder w.next w.standings → Runs gives s (settling answer later name present w) p t → LeavesMarks (has_name name) w.standings p.1.standings p.0
-run_leaves gives answer later name present w s p t order r = flat_leaves w.next order (λ rs b x e. ap (λ (v : Standing). v.number) e) (settling_run gives answer later name present w s p t r).so.flat
+run_leaves gives answer later name present w s p t order r = flat_leaves w.next order
+    (λ rs b x e. ap (λ (v : Standing). v.number) e)
+    (settling_run gives answer later name present w s p t r).so.flat
 
 -- a number
 
@@ -263,10 +265,11 @@ told_of : (how : Settled) → failed_by (why_of how) ≡ failed_of how
 told_of settled.Stands = refl
 told_of how = refl
 
-as_part : {S J : Type 0} (gives : S → (call : Call) → Answer call → S → Type 0) (calls faults : S → ℕ)
-    (counted : Counting gives calls faults) {answer : Answers J} {later : Laters J} {binds present : Bool}
-    {name : List ℕ} {how : Settled} {ok : Bool} {ms : List Made} {s t : S} {w v : State J}
-    → Piece answer later binds present name w ok ms how v → Along gives s ms t
+as_part : {S J : Type 0} (gives : S → (call : Call) → Answer call → S → Type 0)
+    (calls faults : S → ℕ) (counted : Counting gives calls faults) {answer : Answers J}
+    {later : Laters J} {binds present : Bool} {name : List ℕ} {how : Settled} {ok : Bool}
+    {ms : List Made} {s t : S} {w v : State J} → Piece answer later binds present name w ok ms how v
+    → Along gives s ms t
     → GoesAsPart gives calls faults name s w.standings w.entries t v.standings v.entries how
 as_part gives calls faults counted {name = name} {how = how} {ms = ms} {s = s} {t = t} p a =
     let part = flat_is_part p.flat in
@@ -303,7 +306,8 @@ settling_one {J} answer later name present w k l p sound stand r =
     let x = settling_run calls answer later name present w k p l r in
     let piece = x.so in
     let along = x.along in
-    let a = piece_fair (λ e. first_in w name) (fair_refl answer later present none_before k w sound stand) piece x.along in
+    let a = piece_fair (λ e. first_in w name)
+    (fair_refl answer later present none_before k w sound stand) piece x.along in
     let last : (i : ℕ) → LivedAs k l name i → LiveAs l i name = λ i x. subst (λ (v : List ℕ). LiveAs l i v) x.2 (lives_last k l i x.0 a.fair.grows x.1) in
     let ended : (i : ℕ) → LivedAs k l name i → IsAsJudged l p.1.standings i ⊎ IsNamed a.fair.rest name = λ i x.
     let first = subst (λ (v : List ℕ). LiveAs k i v) x.2 (lives_first k l i x.0 x.1) in
@@ -351,7 +355,11 @@ dead l i name gone live =
 resettling_one : (w : State (Unit {0})) (k l : Kernel) (p : Settled × Kept) (x : Standing) → IsKernel k → Stand k w.standings w.next → Has w.standings x → Runs calls k (resettling x.name (kept_of w.standings w.entries)) p l → ResettledOne x k w l (with_kept w p.1) p.0
 resettling_one w k l p x sound stand has r =
     let kept = kept_of w.standings w.entries in
-    let fair : (answer : Answers (Unit {0})) (later : Laters (Unit {0})) (present : Bool) (tried : Tries) → FairFrom answer later present tried k w l (with_kept w p.1) = λ answer later present tried. let y = resettling_run calls answer later x.name present w kept k p l r in piece_fair (λ e. let none : ⊥ = cc in absurd none) (fair_refl answer later present tried k w sound stand) y.so y.along in
+    let fair : (answer : Answers (Unit {0})) (later : Laters (Unit {0})) (present : Bool)
+    (tried : Tries) → FairFrom answer later present tried k w l (with_kept w p.1) = λ answer
+    later present tried. let y = resettling_run calls answer later x.name present w kept k p l r
+    in piece_fair (λ e. let none : ⊥ = cc in absurd none)
+    (fair_refl answer later present tried k w sound stand) y.so y.along in
     let y = resettling_run calls no_verdict no_later x.name false w kept k p l r in
     let piece = y.so in
     let a = fair no_verdict no_later false none_before in

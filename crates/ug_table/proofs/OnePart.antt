@@ -55,7 +55,8 @@ entries_are : {name : List ℕ} {from to : Option ℕ} {es : List Entry} {faults
     {ps : List PutMade} {ns : List ℕ} → AreOfNumber from es to → whys es ≡ faults
     → TellsWrites name ps (writes_in es) → EndsUnsettled name es → AllBear name es
     → numbers_given es ≡ ns → EntriesOf name from es to faults ps ns
-entries_are n y w l b g = record { numbers = n; why = y; writes = w; last = l; bears = b; given = g }
+entries_are n y w l b g = record
+    { numbers = n; why = y; writes = w; last = l; bears = b; given = g }
 
 numbers_more : (a b c : Option ℕ) (es fs : List Entry) → AreOfNumber a es b → AreOfNumber b fs c
     → AreOfNumber a (es ++ fs) c
@@ -80,7 +81,8 @@ last_more name (entry.Unsettled other why ∷ es) fs w a h = let none : ⊥ = cc
 last_more name (entry.UnsettledAll why ∷ es) fs w a h = absurd a.0
 last_more name (e ∷ es) fs w a h = (tt, last_more name es fs w a.1 h)
 
-pub given_more : (es fs : List Entry) → numbers_given (es ++ fs) ≡ numbers_given es ++ numbers_given fs
+pub given_more : (es fs : List Entry)
+    → numbers_given (es ++ fs) ≡ numbers_given es ++ numbers_given fs
 given_more [] fs = refl
 given_more (entry.Judged number name held verdict cause ∷ es) fs =
     ap (λ (v : List ℕ). number ∷ v) (given_more es fs)
@@ -108,7 +110,8 @@ entries_more {name} {from} {mid} {to} {es} {fs} {ps = ps} {qs = qs} {ns = ns} h 
       writes = subst (λ v. TellsWrites name (ps ++ qs) v) (sym (writes_more es fs)) writes;
       last = last_more name es fs h.why h.last k.last;
       bears = bears_more name es fs h.bears k.bears;
-      given = given_more es fs ∙ ap (λ v. v ++ numbers_given fs) h.given ∙ ap (λ v. ns ++ v) k.given;
+      given = given_more es fs ∙ ap (λ v. v ++ numbers_given fs) h.given ∙ ap (λ v. ns ++ v)
+          k.given;
     }
 
 entries_to : {name : List ℕ} {from to other : Option ℕ} {es : List Entry} {faults : List Fault}
@@ -146,7 +149,8 @@ single_both ps qs h (inl e) =
     subst (λ v. AtMostOneEach (ps ++ v)) (sym e)
     (subst (λ v. AtMostOneEach v) (sym (append-nil ps)) (single_value ps h))
 single_both ps qs (inl e) (inr k) =
-    subst (λ v. AtMostOneEach (v ++ qs)) (sym e) (subst (λ v. AtMostOneEach v) (sym k.1) (λ a. a, tt))
+    subst (λ v. AtMostOneEach (v ++ qs)) (sym e)
+    (subst (λ v. AtMostOneEach v) (sym k.1) (λ a. a, tt))
 single_both ps qs (inr h) (inr k) =
     let apart : Has (k.0.write ∷ []) h.0.write → ⊥ =
     λ a. elim a [ inl e ↦ h.2 (sym e ∙ k.2) | inr n ↦ n ] in
@@ -154,7 +158,8 @@ single_both ps qs (inr h) (inr k) =
     (subst (λ v. AtMostOneEach (h.0 ∷ v)) (sym k.1) (apart, (λ a. a, tt)))
 
 -- Calls and entries of what is brought about for it, with P of the writes, and with Q where it ends for want of memory.
-record Goes (P : List PutMade → Type 0) (Q : Type 0) (name : List ℕ) (known : Known) (files : List OpenFile)
+record Goes (P : List PutMade → Type 0) (Q : Type 0) (name : List ℕ) (known : Known)
+    (files : List OpenFile)
     (b : Behind) (ms : List Made) (es : List Entry) (how : Settled) (after : List OpenFile) (n : ℕ)
     : Type 0 where
   ps : List PutMade
@@ -164,8 +169,8 @@ record Goes (P : List PutMade → Type 0) (Q : Type 0) (name : List ℕ) (known 
   short : how ≡ settled.Memory → Q
 
 goes_are : {P : List PutMade → Type 0} {Q : Type 0} {name : List ℕ} {known : Known}
-    {files after : List OpenFile} {b : Behind} {ms : List Made} {es : List Entry} {how : Settled} {n : ℕ}
-    {ps : List PutMade} → CallsOf name files b ms after (why_of how) ps n
+    {files after : List OpenFile} {b : Behind} {ms : List Made} {es : List Entry} {how : Settled}
+    {n : ℕ} {ps : List PutMade} → CallsOf name files b ms after (why_of how) ps n
     → EntriesOf name (Some known.number) es (ended_number how known.number) (why_of how) ps []
     → P ps → (how ≡ settled.Memory → Q) → Goes P Q name known files b ms es how after n
 goes_are {ps = ps} c e p q = record { ps = ps; calls = c; entries = e; single = p; short = q }
@@ -173,7 +178,7 @@ goes_are {ps = ps} c e p q = record { ps = ps; calls = c; entries = e; single = 
 written_entries : {name : List ℕ} {number : ℕ} {what : Write} {t : Told Wrote} {es : List Entry}
     {how : Settled} → Written name number what t es how
     → EntriesOf name (Some number) es (ended_number how number) (why_of how)
-        (record { write = what; outcome = t.answer } ∷ []) []
+    (record { write = what; outcome = t.answer } ∷ []) []
 written_entries {number = n} (Went failed) =
     entries_are (refl, (refl, (refl, refl))) refl (n, [], refl, refl) (tt, (tt, (tt, tt)))
     (refl, (refl, (refl, tt))) refl
@@ -199,7 +204,8 @@ value_due target.Block false held b f ne = absurd (ne refl)
 value_due target.Reject false held b f ne = absurd (ne refl)
 value_due x true held b f ne = f
 
-value_file : (verdict : Target) (held : ℕ) (files : List OpenFile) → Has files (open_file held Authorized)
+value_file : (verdict : Target) (held : ℕ) (files : List OpenFile)
+    → Has files (open_file held Authorized)
     → Has files (open_file held (control_of (write_of verdict)))
 value_file target.Allow held files h = h
 value_file x held files h = h
@@ -213,7 +219,8 @@ valued_goes : {name : List ℕ} {known : Known} {on : Bool} {ms : List Made} {es
     → let own = open_file known.held.0 Authorized ∷ [] in
     Goes AreValue ⊥ name known own b ms es how own 1
 valued_goes b f (Same e) =
-    goes_are (calls_are tt tt tt refl refl refl refl (omega arith)) (entries_are refl refl refl tt tt refl)
+    goes_are (calls_are tt tt tt refl refl refl refl (omega arith))
+    (entries_are refl refl refl tt tt refl)
     (inl refl) (λ e. let none : ⊥ = cc in none)
 valued_goes {known = known} {on = on} b f (Set t es how ne w) =
     let v = known.verdict in
@@ -221,8 +228,10 @@ valued_goes {known = known} {on = on} b f (Set t es how ne w) =
     let due = value_due v on held b f ne in
     let faults = written_faults held w in
     let file = value_file v held (open_file held Authorized ∷ []) (inl refl) in
-    goes_are (calls_are (file, tt) (inl refl, tt) (due, tt) refl faults.0 faults.1 refl (omega arith))
-    (written_entries w) (inr (record { write = write_of v; outcome = t.answer }, refl, no_removal v)) faults.2
+    goes_are (calls_are (file, tt) (inl refl, tt) (due, tt) refl faults.0 faults.1 refl
+    (omega arith))
+    (written_entries w) (inr
+    (record { write = write_of v; outcome = t.answer }, refl, no_removal v)) faults.2
 
 unheld_calls : {name : List ℕ} {number : ℕ} {r : RemoveHold} {es : List Entry} {how : Settled}
     {files : List OpenFile} {b : Behind} {ms : List Made} → Unheld name number r es how
@@ -258,8 +267,9 @@ removal_goes {name} {known} b (Put_on ms file t shut es how way w) =
     let faults = written_faults file.0 w in
     goes_are
     (calls_more {m = 1} (holds_calls own b (inl refl) by)
-        (calls_are (inl refl, ((Remove, inl refl), tt)) (inl refl, (inr tt, tt)) (ready_due b by, (tt, tt))
-            (closed_first file.0 Remove own) faults.0 faults.1 refl (omega arith)))
+    (calls_are (inl refl, ((Remove, inl refl), tt)) (inl refl, (inr tt, tt))
+    (ready_due b by, (tt, tt))
+    (closed_first file.0 Remove own) faults.0 faults.1 refl (omega arith)))
     (written_entries w) (inr (record { write = write.Remove; outcome = t.answer }, refl, refl))
     (λ e. absurd (faults.2 e))
 
@@ -296,22 +306,26 @@ brought_goes : {name : List ℕ} {known : Known} {on : Bool} {ms : List Made} {e
     Goes AtMostOneEach (ToGo known ms) name known own b ms es how (ended_files how known.held.0) 4
 brought_goes {known = known} b f (Left_open ms es how c n) =
     let h = carried_goes b f c in
-    goes_are (calls_as (still_open how known.held.0 n) (omega arith) h.calls) h.entries h.single h.short
+    goes_are (calls_as (still_open how known.held.0 n) (omega arith) h.calls) h.entries h.single
+    h.short
 brought_goes {name} {known} b f (Let_go ms es shut c) =
     let h = carried_goes b f c in
     let own : List OpenFile = open_file known.held.0 Authorized ∷ [] in
     let last : List Made = answered (Close known.held.0) shut ∷ [] in
     let end : CallsOf name own (behind_after b ms) last [] [] [] 0 =
-    calls_are ((Authorized, inl refl), tt) (inl refl, tt) (tt, tt) (closed_first known.held.0 Authorized [])
+    calls_are ((Authorized, inl refl), tt) (inl refl, tt) (tt, tt)
+    (closed_first known.held.0 Authorized [])
     refl refl refl (omega arith) in
     let all = calls_more h.calls end in
-    goes_are (subst (λ v. CallsOf name own b (ms ++ last) [] [] v 4) (append-nil h.ps) all) h.entries h.single
+    goes_are (subst (λ v. CallsOf name own b (ms ++ last) [] [] v 4) (append-nil h.ps) all)
+    h.entries h.single
     (λ e. let none : ⊥ = cc in absurd none)
 
 -- a name
 
 -- before a binding
-record OpeningGoes (name : List ℕ) (o : Option Known) (b : Behind) (ms : List Made) (es : List Entry)
+record OpeningGoes (name : List ℕ) (o : Option Known) (b : Behind) (ms : List Made)
+    (es : List Entry)
     : Type 0 where
   calls : CallsOf name (known_files o) b ms [] [] [] 1
   entries : EntriesOf name (number_of o) es None [] [] []
@@ -333,7 +347,8 @@ opening_goes {name} b (Lost known failed shut e) =
     let n : Made = answered (Close known.held.0) shut in
     subst (λ o. OpeningGoes name o b (m ∷ n ∷ []) (entry.Gone known.number name ∷ [])) (sym e)
     (record {
-      calls = calls_are (inl refl, ((Authorized, inl refl), tt)) (inl refl, (inl refl, tt)) (tt, (tt, tt))
+      calls = calls_are (inl refl, ((Authorized, inl refl), tt)) (inl refl, (inl refl, tt))
+          (tt, (tt, tt))
           (closed_first known.held.0 Authorized []) refl refl refl (omega arith);
       entries = entries_are (refl, refl) refl refl (tt, tt) (refl, tt) refl;
       anew = λ ns. inr (m, n ∷ ns, refl, (known, t, refl, refl, refl));
@@ -366,8 +381,11 @@ tried_so : (name : List ℕ) (ss : List Standing) (how : Settled) (known : Known
 tried_so name ss settled.Nobody known e =
     (sym (ap known_files (without_own name ss)), sym (ap number_of (without_own name ss)))
 tried_so name ss how known e =
-    let own = tried_own name ss how known e (λ s. let none : ⊥ = cc in none) in
-    (sym (stands_file _ known.number known.held own), sym (stands_number _ known.number known.held own))
+    let own = tried_own name ss how known e (λ s. let none : ⊥ = cc in none) in (
+      sym (stands_file _ known.number known.held own),
+      sym
+          (stands_number _ known.number known.held own),
+    )
 
 kept_so : (name : List ℕ) (ss : List Standing) (x : Standing) (how : Settled) → x.name ≡ name
     → standing_of name ss ≡ None
@@ -401,12 +419,13 @@ record FlatGoes (binds : Bool) (name : List ℕ) (o p : Option Known) (ok : Bool
   count : length ns ≡ given
 
 flat_are : {binds : Bool} {name : List ℕ} {o p : Option Known} {ok : Bool} {ms : List Made}
-    {es : List Entry} {how : Settled} {given : ℕ} {faults : List Fault} {ps : List PutMade} {ns : List ℕ}
-    → CallsOf name (known_files o) start ms (known_files p) faults ps 14
+    {es : List Entry} {how : Settled} {given : ℕ} {faults : List Fault} {ps : List PutMade}
+    {ns : List ℕ} → CallsOf name (known_files o) start ms (known_files p) faults ps 14
     → EntriesOf name (number_of o) es (number_of p) (why_of how) ps ns → AtMostOneEach ps
-    → failed_by faults ≡ failed_by (why_of how) → (not ok || are_short faults) ≡ are_short (why_of how)
-    → (how ≡ settled.Memory → ((binds ≡ true) × IsBoundAnew o ms) ⊎ LacksRoom o ms) → length ns ≡ given
-    → FlatGoes binds name o p ok ms es how given
+    → failed_by faults ≡ failed_by (why_of how)
+    → (not ok || are_short faults) ≡ are_short (why_of how)
+    → (how ≡ settled.Memory → ((binds ≡ true) × IsBoundAnew o ms) ⊎ LacksRoom o ms)
+    → length ns ≡ given → FlatGoes binds name o p ok ms es how given
 flat_are {faults = faults} {ps = ps} {ns = ns} c e a f s m n = record {
   faults = faults;
   ps = ps;
@@ -469,11 +488,12 @@ flat_goes {name = name} (No_place ms ns es rs v shut t opening way) =
     let last : List Made = answered (Close v.held.0) shut ∷ [] in
     let own : List OpenFile = open_file v.held.0 Authorized ∷ [] in
     let end : CallsOf name own (behind_after (behind_after start ms) ns) last [] [] [] 0 =
-    calls_are ((Authorized, inl refl), tt) (inl refl, tt) (tt, tt) (closed_first v.held.0 Authorized [])
+    calls_are ((Authorized, inl refl), tt) (inl refl, tt) (tt, tt)
+    (closed_first v.held.0 Authorized [])
     refl refl refl (omega arith) in
     flat_are (calls_as (ap known_files none) (omega arith) (calls_more h.calls (calls_more x end)))
     (entries_to (ap number_of none)
-        (entries_more h.entries (entries_are refl refl refl ((refl, refl), tt) (refl, tt) refl)))
+    (entries_more h.entries (entries_are refl refl refl ((refl, refl), tt) (refl, tt) refl)))
     tt refl refl (λ e. inl (t, h.anew (ns ++ last))) refl
 flat_goes {name = name} (Judged_so ms ns os es fs rs v x how t opening way given new brought) =
     let h = opening_goes start opening in
@@ -522,7 +542,8 @@ flat_none f x = refl
 
 -- what entries tell of failed calls and of want of memory, by why
 
-pub tells_why : (name : List ℕ) (es : List Entry) → EndsUnsettled name es → failures_told es ≡ failed_by (whys es)
+pub tells_why : (name : List ℕ) (es : List Entry) → EndsUnsettled name es
+    → failures_told es ≡ failed_by (whys es)
 tells_why name [] last = refl
 tells_why name (entry.Unsettled other why ∷ es) last =
     ap (λ (v : List FailedCall). told_by why ++ v) (tells_why name es last.1)
@@ -532,9 +553,11 @@ tells_why name (e ∷ es) last = tells_why name es last.1
 -- so want of memory is told where it ended so
 tells_memory : (es : List Entry) (name : List ℕ) (how : Settled) → whys es ≡ why_of how
     → Has es (entry.Unsettled name fault.Memory) → how ≡ settled.Memory
-tells_memory es name how e a = by how (subst (λ (v : List Fault). Has v fault.Memory) e (told_in es a))
+tells_memory es name how e a = by how
+    (subst (λ (v : List Fault). Has v fault.Memory) e (told_in es a))
   where
-    told_in : (fs : List Entry) → Has fs (entry.Unsettled name fault.Memory) → Has (whys fs) fault.Memory
+    told_in : (fs : List Entry) → Has fs (entry.Unsettled name fault.Memory)
+        → Has (whys fs) fault.Memory
     told_in [] b = b
     told_in (f ∷ fs) (inl is) =
         subst (λ (v : Entry). Has (why_in v ++ whys fs) fault.Memory) (sym is) (inl refl)

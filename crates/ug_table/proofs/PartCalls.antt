@@ -174,7 +174,8 @@ reads_calls {name} files b (Then_read of at t ms may came r) =
     let m : Made = answered (Read of at) t in
     let well = came_well t.answer came in
     let f : FailedCall = record { call = t.number; count = t.count } in
-    let failed : failures (m ∷ []) ≡ [] = ap (λ (v : Bool). (if v then f ∷ [] else []) ++ []) well.0 in
+    let failed : failures (m ∷ []) ≡ [] = ap (λ (v : Bool). (if v then f ∷ [] else []) ++ []) well.0
+    in
     let short : has_want (m ∷ []) ≡ false = ap (λ (v : Bool). v || false) well.1 in
     let one : CallsOf name files b (m ∷ []) files [] [] 1 =
     calls_are (may, tt) (inl refl, tt) (tt, tt) refl failed short refl (omega arith) in
@@ -209,8 +210,8 @@ open_calls {name} {ms} files b file call count r few k =
 stop_calls : {name : List ℕ} {at : Attr} {t : Told ReadOut} {why : Stop} (files : List OpenFile)
     (c : Behind) (of : List ℕ) (file : ℕ) (shut : Closing) → IsReadable name of → Stops at t why
     → CallsOf name (open_file file Authorized ∷ files) c
-        (answered (Read of at) t ∷ answered (Close file) shut ∷ []) files
-        (binding_faults (binding_of why)) [] 1
+    (answered (Read of at) t ∷ answered (Close file) shut ∷ []) files
+    (binding_faults (binding_of why)) [] 1
 stop_calls files c of file shut may (No_descriptors call count) =
     calls_are (may, ((Authorized, inl refl), tt)) (inl refl, (inr tt, tt)) (tt, (tt, tt))
     (closed_first file Authorized files) refl refl refl (omega arith)
@@ -222,8 +223,9 @@ stop_files : (why : Stop) (files : List OpenFile) → files ≡ binding_files (b
 stop_files stop.Vanished files = refl
 stop_files x files = refl
 
-pub binds_calls : {name : List ℕ} {ms : List Made} {r : Binding} (files : List OpenFile) (b : Behind)
-    → Binds_by name ms r → CallsOf name files b ms (binding_files r files) (binding_faults r) [] 9
+pub binds_calls : {name : List ℕ} {ms : List Made} {r : Binding} (files : List OpenFile)
+    (b : Behind) → Binds_by name ms r
+    → CallsOf name files b ms (binding_files r files) (binding_faults r) [] 9
 binds_calls {name} {ms} files b (Cut file call count ns of at t shut why r a few may stops e) =
     let all = open_calls files b file call count a few
     (λ c. stop_calls files c of file.0 shut may stops) in
@@ -232,26 +234,28 @@ binds_calls {name} {ms} files b (Cut file call count ns of at t shut why r a few
 binds_calls files b (Probed_gone file call count number total ms shut a few) =
     open_calls files b file call count a few
     (λ c. calls_are (inl refl, ((Authorized, inl refl), tt)) (inl refl, (inr tt, tt)) (tt, (tt, tt))
-        (closed_first file.0 Authorized files) refl refl refl (omega arith))
+    (closed_first file.0 Authorized files) refl refl refl (omega arith))
 binds_calls files b (Probe_failed file call count number total ms shut a few) =
     open_calls files b file call count a few
     (λ c. calls_are (inl refl, ((Authorized, inl refl), tt)) (inl refl, (inr tt, tt)) (tt, (tt, tt))
-        (closed_first file.0 Authorized files) refl refl refl (omega arith))
+    (closed_first file.0 Authorized files) refl refl refl (omega arith))
 binds_calls files b (Bound_by call count number total ms x a few are) =
     open_calls files b x.held call count a few
     (λ c. calls_are (inl refl, tt) (inl refl, tt) (tt, tt) refl refl refl refl (omega arith))
-binds_calls files b x = calls_are (refl, tt) (inl refl, tt) (tt, tt) refl refl refl refl (omega arith)
+binds_calls files b x = calls_are (refl, tt) (inl refl, tt) (tt, tt) refl refl refl refl
+    (omega arith)
 
 -- the device of that open file was found alive last
 abbrev pub IsFound : Behind → ℕ → Bool → Type 0
-IsFound b held on = (t : Told Probe) × (b.last ≡ Some (answered (Ask_alive held) t)) × (t.answer ≡ probe.Alive on)
+IsFound b held on = (t : Told Probe) × (b.last ≡ Some (answered (Ask_alive held) t)) ×
+    (t.answer ≡ probe.Alive on)
 
 stop_unbound : (why : Stop) (x : Bound) → bound.Bound x ≡ binding_of why → ⊥
 stop_unbound stop.Vanished x e = let none : ⊥ = cc in none
 stop_unbound y x e = let none : ⊥ = cc in none
 
-pub bound_found : {name : List ℕ} {ms : List Made} {x : Bound} (b : Behind) → Binds_by name ms (bound.Bound x)
-    → IsFound (behind_after b ms) x.held.0 x.on
+pub bound_found : {name : List ℕ} {ms : List Made} {x : Bound} (b : Behind)
+    → Binds_by name ms (bound.Bound x) → IsFound (behind_after b ms) x.held.0 x.on
 bound_found {x = x} b (Cut file call count ms of at t shut why r a few may stops e) =
     absurd (stop_unbound why x e)
 bound_found {name} b (Bound_by call count number total ms x a few are) =
@@ -272,30 +276,36 @@ abbrev pub hold_files : RemoveHold → List OpenFile → List OpenFile
 hold_files (hold.Ready file) files = open_file file.0 Remove ∷ files
 hold_files r files = files
 
-pub holds_calls : {name : List ℕ} {held : ℕ} {ms : List Made} {r : RemoveHold} (files : List OpenFile)
-    (b : Behind) → Has files (open_file held Authorized) → Holds_by name held ms r
-    → CallsOf name files b ms (hold_files r files) (hold_faults r) [] 2
+pub holds_calls : {name : List ℕ} {held : ℕ} {ms : List Made} {r : RemoveHold}
+    (files : List OpenFile) (b : Behind) → Has files (open_file held Authorized)
+    → Holds_by name held ms r → CallsOf name files b ms (hold_files r files) (hold_faults r) [] 2
 holds_calls files b has (Held_on file on call count number total) =
-    calls_are (refl, (inr has, tt)) (inl refl, (inl refl, tt)) (tt, (tt, tt)) refl refl refl refl (omega arith)
+    calls_are (refl, (inr has, tt)) (inl refl, (inl refl, tt)) (tt, (tt, tt)) refl refl refl refl
+    (omega arith)
 holds_calls files b has (Died file call count number total shut) =
-    calls_are (refl, (inr has, ((Remove, inl refl), tt))) (inl refl, (inl refl, (inr tt, tt))) (tt, (tt, (tt, tt)))
+    calls_are (refl, (inr has, ((Remove, inl refl), tt))) (inl refl, (inl refl, (inr tt, tt)))
+    (tt, (tt, (tt, tt)))
     (closed_first file.0 Remove files) refl refl refl (omega arith)
 holds_calls files b has (Unasked file call count number total shut) =
-    calls_are (refl, (inr has, ((Remove, inl refl), tt))) (inl refl, (inl refl, (inr tt, tt))) (tt, (tt, (tt, tt)))
+    calls_are (refl, (inr has, ((Remove, inl refl), tt))) (inl refl, (inl refl, (inr tt, tt)))
+    (tt, (tt, (tt, tt)))
     (closed_first file.0 Remove files) refl refl refl (omega arith)
 holds_calls files b has x =
     calls_are (refl, tt) (inl refl, tt) (tt, tt) refl refl refl refl (omega arith)
 
 pub ready_due : {name : List ℕ} {held : ℕ} {ms : List Made} {file : Held} (b : Behind)
     → Holds_by name held ms (hold.Ready file) → IsWriteDue (behind_after b ms) file.0 write.Remove
-ready_due {name} {held} b (Held_on file on call count number total) =
-    ((on, (held, told (probe.Alive on) number total, refl, refl)),
-    (name, told (opened.Token file) call count, file, refl, refl, refl))
+ready_due {name} {held} b (Held_on file on call count number total) = (
+  (on, (held, told (probe.Alive on) number total, refl, refl)),
+  (name, told (opened.Token file) call count, file, refl, refl, refl),
+)
 
 -- an opening that was short of memory is among the calls
 abbrev pub IsShort : List Made → Type 0
 IsShort ms =
-    (name : List ℕ) × (t : Told Opened) × Has ms (answered (Open name Remove) t) × (t.answer ≡ opened.Memory)
+    (name : List ℕ) × (t : Told Opened) × Has ms (answered (Open name Remove) t) ×
+    (t.answer ≡ opened.Memory)
 
-pub hold_short : {name : List ℕ} {held : ℕ} {ms : List Made} → Holds_by name held ms hold.Memory → IsShort ms
+pub hold_short : {name : List ℕ} {held : ℕ} {ms : List Made} → Holds_by name held ms hold.Memory
+    → IsShort ms
 hold_short {name} (No_memory call count) = (name, told opened.Memory call count, inl refl, refl)

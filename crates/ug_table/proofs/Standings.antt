@@ -1,5 +1,6 @@
 -- Standings, and the devices of their held files.
 use Rattle.std.proofs.Common.{◌≡◌, ◌↔◌, ℕ, nat_eq, Option, option_copied, IsNone, Bor, sym, Bool, true, false, not, ◌∙◌, ◌||◌, List, [], ◌∷◌, Some, None, map, cond, ◌⊎◌, inl, inr, refl, ap, subst, arith, slice_get, ◌&&◌, ◌++◌, take, drop, true≢false}
+use Rattle.std.proofs.lemmas.Bool.{or_right}
 use Rattle.std.specs.Cmp.Lexicographic.{bytes_decides}
 use Rattle.ug_table.proofs.Common.{Has, AllDistinct, same_name, known_of, standing_of, numbered, without, marked, lists, removed_of, place_for, with_standing, settled_standing, numbers_of, Standing, Known, Target, Device, Control, Authorized, Remove, Write, Wrote, Told, Put, Kernel, Live, IsKernel, Lived, value_after, does_put, IsWritten, IsGoneAt, IsAlive, Called, Quiet, Grows, FailedCall, Settled, Held, open_file, known_files, number_of, Entry, farewells}
 use Rattle.ug_table.specs.Sweep.{names_of}
@@ -25,7 +26,8 @@ pub farewells_by : (P : List Entry → Type 0) → P []
     → ((number : ℕ) (name : List ℕ) (es : List Entry) → P es → P (entry.Gone number name ∷ es))
     → (names : List (List ℕ)) (ss : List Standing) → P (farewells names ss)
 farewells_by P none more names [] = none
-farewells_by P none more names (s ∷ ss) = by (lists names s.name) (farewells_by P none more names ss)
+farewells_by P none more names (s ∷ ss) = by (lists names s.name)
+    (farewells_by P none more names ss)
   where
     rest : List Entry
     rest = farewells names ss
@@ -124,10 +126,6 @@ or_none : (b : Bool) → (b || false) ≡ b
 or_none true = refl
 or_none false = refl
 
-pub or_all : (b : Bool) → (b || true) ≡ true
-or_all true = refl
-or_all false = refl
-
 pub or_by : (a b : Bool) → ((a || b) ≡ a) ⊎ (((a || b) ≡ true) × (b ≡ true))
 or_by true b = inl refl
 or_by false true = inr (refl, refl)
@@ -147,7 +145,8 @@ settled_removed name s true e =
 settled_removed name s false e = inl (ap (λ (t : Bool). cond t (s.removed || is_reject s.verdict) s.removed) e)
 
 pub reject_removed : (name : List ℕ) (s : Standing) → same_name s.name name ≡ true → is_reject s.verdict ≡ true → removed_of name true s ≡ true
-reject_removed name s e r = ap (λ (t : Bool). cond t (s.removed || is_reject s.verdict) s.removed) e ∙ ap (λ (t : Bool). s.removed || t) r ∙ or_all s.removed
+reject_removed name s e r = ap (λ (t : Bool). cond t (s.removed || is_reject s.verdict) s.removed) e
+    ∙ ap (λ (t : Bool). s.removed || t) r ∙ or_right s.removed true refl
 
 -- names of a list
 
@@ -355,7 +354,16 @@ abbrev pub IsRemovedIf : Standing → Type 0
 IsRemovedIf s = is_reject s.verdict ≡ true → s.removed ≡ true
 
 pub kept_new : (ss : List Standing) (x : Standing) (how : Settled) → how ≡ settled.Stands → (s : Standing) × Has (kept_standings ss x how) s × (s.held ≡ x.held) × (s.verdict ≡ x.verdict) × IsRemovedIf s
-kept_new ss x how e = subst (λ (v : Settled). (s : Standing) × Has (kept_standings ss x v) s × (s.held ≡ x.held) × (s.verdict ≡ x.verdict) × IsRemovedIf s) (sym e) (settled_standing x, has_new ss (place_for x.name ss) (settled_standing x), refl, refl, λ r. ap (λ (t : Bool). x.removed || t) r ∙ or_all x.removed)
+kept_new ss x how e = subst
+    (λ (v : Settled). (s : Standing) × Has (kept_standings ss x v) s × (s.held ≡ x.held) ×
+    (s.verdict ≡ x.verdict) × IsRemovedIf s) (sym e) (
+      settled_standing x,
+      has_new ss (place_for x.name ss) (settled_standing x),
+      refl,
+      refl,
+      λ r. ap
+          (λ (t : Bool). x.removed || t) r ∙ or_right x.removed true refl,
+    )
 
 -- a standing that is tried again
 
