@@ -114,12 +114,10 @@ Breaks_off of at held f P = (t : Told ReadOut) (why : Stop) (shut : Closing) →
 read_by : {X : Type 0} (of : List ℕ) (at : Attr) (held : ℕ) (f : Result File Stop → Prog X) (P : Bool → List Made → X → Type 0) → Goes_on of at f P → Breaks_off of at held f P → (r : ReadOut) (call count : ℕ) → Ways (then (after_read at held r (record { call = call; count = count })) f) (λ ok ms x. P ok (answered (Read of at) (told r call count) ∷ ms) x)
 read_by of at held f P goes stops (out.Bytes bytes) call count = goes (told (out.Bytes bytes) call count) tt
 read_by of attr.Descriptors held f P goes stops out.Absent call count = λ shut. stops (told out.Absent call count) stop.Vanished shut (No_descriptors call count)
-read_by of attr.Product held f P goes stops out.Absent call count = goes (told out.Absent call count) tt
-read_by of attr.Serial held f P goes stops out.Absent call count = goes (told out.Absent call count) tt
-read_by of attr.Connect held f P goes stops out.Absent call count = goes (told out.Absent call count) tt
 read_by of at held f P goes stops out.TooLong call count = goes (told out.TooLong call count) tt
 read_by of at held f P goes stops out.Failed call count = λ shut. stops (told out.Failed call count) (stop.Fault (record { call = call; count = count })) shut (Read_failed at call count)
 read_by of at held f P goes stops out.Memory call count = λ shut. stops (told out.Memory call count) stop.Memory shut (Read_short at call count)
+read_by of x held f P goes stops out.Absent call count = goes (told out.Absent call count) tt
 
 then_read : {X : Type 0} (of : List ℕ) (at : Attr) (held : ℕ) (f : Result File Stop → Prog X) (P : Bool → List Made → X → Type 0) → Goes_on of at f P → Breaks_off of at held f P → Ways (then (reading of at held) f) P
 unfolding reading

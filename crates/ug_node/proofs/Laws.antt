@@ -1,4 +1,4 @@
--- The law of a binding, over kernels, and the numbers of a failed answer, by cases on the calls.
+-- What a binding and the opening of a `remove` file do to kernels.
 use Rattle.std.proofs.Common.{◌≡◌, ℕ, nat_le, Bool, true, false, cond, ◌≤◌, List, [], ◌∷◌, length, Option, Some, None, slice_get, inl, inr, refl, sym, ◌∙◌, ap, subst, arith, ◌++◌}
 use Rattle.std.proofs.lemmas.Option.{slice_get_past}
 use Rattle.ug_types.specs.Names.{parent_of}
@@ -17,11 +17,11 @@ use Rattle.ug_kernel.specs.declared.calls.Probe.TheVariants as probe
 use Rattle.ug_kernel.specs.Calls.{Call, Answer, Open, Read, Ask_alive, Close, Told, Closing, failed_open, failed_read, failed_probe, Counted}
 use Rattle.ug_kernel.specs.Along.{Made, answered, Along, failure_of}
 use Rattle.ug_kernel.specs.Kernel.{Kernel, Live, Stays, IsSound, IsKernel, Moves}
-use Rattle.ug_kernel.specs.Called.{Lived, NoneLived, IsOpened, IsGoneAt, IsAlive, IsFile, within, text_within, read_of, says_read, Called, Follows}
+use Rattle.ug_kernel.specs.Called.{Lived, NoneLived, IsOpened, IsGoneAt, IsAlive, IsFile, within, text_within, read_of, says_read, Called, Follows, Holds}
 use Rattle.ug_kernel.specs.Quiet.{Quiet, Grows}
 use Rattle.ug_kernel.specs.Tree.{Runs, calls}
 use Rattle.ug_kernel.proofs.Quiet.{stays_trans, quiet_refl, quiet_trans, moves_quiet, opened_quiet, called_quiet, get_end}
-use Rattle.ug_kernel.proofs.Grow.{some_same, quiet_grows, grows_trans, called_grows}
+use Rattle.ug_kernel.proofs.Grow.{some_same, quiet_grows, grows_trans, called_grows, grows_refl}
 use Rattle.ug_kernel.proofs.Held.{live_before, lived_cut}
 use Rattle.ug_kernel.proofs.Told.{told_run}
 use Rattle.ug_kernel.proofs.Ways.{Sure, ways_run, along_split, along_sound, along_grows, Unwritten, unwritten_more, along_quiet}
@@ -35,7 +35,9 @@ use Rattle.ug_kernel.specs.declared.calls.FailedCall.{FailedCall}
 use Rattle.ug_kernel.proofs.Rises.{Counting}
 use Rattle.ug_kernel.proofs.Counted.{Tally, tally, counts, along_counted, counts_never_fall, along_never_falls}
 use Rattle.ug_node.specs.declared.removal.RemoveHold.{RemoveHold}
-use Rattle.ug_node.specs.Removal.{holding_remove, TellsRemoveFault}
+use Rattle.ug_node.specs.Removal.{holding_remove, TellsRemoveFault, IsAuthorizedFile, RemoveSays, IsRemoveHold, HoldsRemove}
+
+-- The law of a binding, over kernels, and the numbers of a failed answer, by cases on the calls.
 
 -- nothing is written
 
@@ -44,13 +46,11 @@ reads_unwritten No_more = tt
 reads_unwritten (Then_read of at t ms may came r) = (tt, reads_unwritten r)
 
 binds_unwritten : {name : List ℕ} {ms : List Made} {r : Binding} → Binds_by name ms r → Unwritten ms
-binds_unwritten (No_such call count) = (tt, tt)
-binds_unwritten (Open_failed call count) = (tt, tt)
-binds_unwritten (Open_short call count) = (tt, tt)
 binds_unwritten (Cut file call count ms of at t shut why r n few may stops e) = (tt, unwritten_more ms _ (reads_unwritten n) (tt, (tt, tt)))
 binds_unwritten (Probed_gone file call count number total ms shut n few) = (tt, unwritten_more ms _ (reads_unwritten n) (tt, (tt, tt)))
 binds_unwritten (Probe_failed file call count number total ms shut n few) = (tt, unwritten_more ms _ (reads_unwritten n) (tt, (tt, tt)))
 binds_unwritten (Bound_by call count number total ms b n few are) = (tt, unwritten_more ms _ (reads_unwritten n) (tt, tt))
+binds_unwritten x = (tt, tt)
 
 -- what a reading tells
 
@@ -61,11 +61,9 @@ read_kept attr.Serial d e h = ap (λ (x : Option (List ℕ)). text_within x) (sy
 read_kept attr.Connect d e h = ap (λ (x : Option (List ℕ)). text_within x) (sym h.connect)
 
 came_says : (of : List ℕ) (a : Attr) (r : ReadOut) (k l : Kernel) → Came r → says_read of a r k l → IsFile of a r k l
-came_says of a (out.Bytes bytes) k l c h = h
-came_says of a out.Absent k l c h = h
-came_says of a out.TooLong k l c h = h
 came_says of a out.Failed k l c h = absurd c
 came_says of a out.Memory k l c h = absurd c
+came_says of a x k l c h = h
 
 -- each reading of a device's name tells that device's file
 abbrev TellsOf : Device → (call : Call) → Answer call → Type 0
@@ -234,8 +232,6 @@ stop_says k u w l may (Read_short at call count) s c g j = tt
 
 binds_say : {name : List ℕ} {ms : List Made} {r : Binding} (k l : Kernel) → Binds_by name ms r → Along calls k ms l → BindSays name k l r
 binds_say {name} k l (No_such call count) a = subst (λ v. NoneLived name k v) (sym a.2) a.1.says
-binds_say k l (Open_failed call count) a = tt
-binds_say k l (Open_short call count) a = tt
 binds_say {name} k l (Cut file call count ms of at t shut why r n few may stops e) a =
     let cut = along_split calls ms (answered (Read of at) t ∷ answered (Close file.0) shut ∷ []) a.0 l a.2 in
     let g = grows_trans k a.0 cut.0 (called_grows (Open name Authorized) (told (opened.Token file) call count) k a.0 a.1) (along_grows ms a.0 cut.0 cut.1) in
@@ -245,11 +241,11 @@ binds_say {name} k l (Probed_gone file call count number total ms shut n few) a 
     let cut = along_split calls ms (gone ∷ answered (Close file.0) shut ∷ []) a.0 l a.2 in
     let q = quiet_trans a.0 cut.0 cut.2.0 (along_quiet ms a.0 cut.0 (reads_unwritten n) cut.1) (called_quiet (Ask_alive file.0) (told probe.Gone number total) cut.0 cut.2.0 tt cut.2.1) in
     gone_law name k file.0 cut.2.0 l (open_since name file call count k a.0 cut.2.0 a.1 q) (along_grows (answered (Close file.0) shut ∷ []) cut.2.0 l cut.2.2) cut.2.1.says
-binds_say k l (Probe_failed file call count number total ms shut n few) a = tt
 binds_say {name} k l (Bound_by call count number total ms b n few are) a =
     let last = answered (Ask_alive b.held.0) (told (probe.Alive b.on) number total) ∷ [] in
     let cut = along_split calls ms last a.0 l a.2 in
     bound_law k a.0 cut.0 l b (open_since name b.held call count k a.0 a.0 a.1 (quiet_refl a.0)) n are a.1.sound cut.1 cut.2.1.says (along_quiet last cut.0 l (tt, tt) cut.2)
+binds_say k l x a = tt
 
 pub binding_law : (name : List ℕ) (parent : Option (List ℕ)) (r : Binding) (k l : Kernel) → parent ≡ parent_of name → IsKernel k → Runs calls k (binding name parent) r l → IsBinding name k l r
 binding_law name parent r k l above sound runs =
@@ -288,26 +284,19 @@ ends_closed front m held shut failed v w fails a =
     record { number = h.number ∙ sym calls; total = h.total ∙ sym faults; rises = λ few. grind (arith, h.rises, few, low, first, faults) }
 
 stop_tells : {at : Attr} {t : Told ReadOut} {why : Stop} (front : List Made) (of : List ℕ) (held : ℕ) (shut : Closing) (v w : Tally) → Stops at t why → Along counts v (front ++ answered (Read of at) t ∷ answered (Close held) shut ∷ []) w → TellsFault v.faults w.calls w.faults (binding_of why)
-stop_tells front of held shut v w (No_descriptors call count) a = tt
 stop_tells front of held shut v w (Read_failed at call count) a = ends_closed front (answered (Read of at) (told out.Failed call count)) held shut (record { call = call; count = count }) v w (λ x y c. fault_so failed_read (told out.Failed call count) x y refl c) a
-stop_tells front of held shut v w (Read_short at call count) a = tt
+stop_tells front of held shut v w x a = tt
 
 binds_tell : {name : List ℕ} {ms : List Made} {r : Binding} (v w : Tally) → Binds_by name ms r → Along counts v ms w → TellsFault v.faults w.calls w.faults r
-binds_tell v w (No_such call count) a = tt
 binds_tell v w (Open_failed call count) a = subst (λ (x : Tally). IsFault v.faults x.calls x.faults (record { call = call; count = count })) (sym a.2) (fault_so failed_open (told opened.Failed call count) v a.0 refl a.1)
-binds_tell v w (Open_short call count) a = tt
 binds_tell {name} v w (Cut file call count ms of at t shut why r n few may stops e) a = subst (λ (x : Binding). TellsFault v.faults w.calls w.faults x) (sym e) (stop_tells (answered (Open name Authorized) (told (opened.Token file) call count) ∷ ms) of file.0 shut v w stops a)
-binds_tell v w (Probed_gone file call count number total ms shut n few) a = tt
 binds_tell {name} v w (Probe_failed file call count number total ms shut n few) a = ends_closed (answered (Open name Authorized) (told (opened.Token file) call count) ∷ ms) (answered (Ask_alive file.0) (told probe.Failed number total)) file.0 shut (record { call = number; count = total }) v w (λ x y c. fault_so failed_probe (told probe.Failed number total) x y refl c) a
-binds_tell v w (Bound_by call count number total ms b n few are) a = tt
+binds_tell v w x a = tt
 
 holds_tell : {name : List ℕ} {held : ℕ} {ms : List Made} {r : RemoveHold} (v w : Tally) → Holds_by name held ms r → Along counts v ms w → TellsRemoveFault v.faults w.calls w.faults r
-holds_tell v w (Not_there call count) a = tt
 holds_tell v w (Not_opened call count) a = subst (λ (x : Tally). IsFault v.faults x.calls x.faults (record { call = call; count = count })) (sym a.2) (fault_so failed_open (told opened.Failed call count) v a.0 refl a.1)
-holds_tell v w (No_memory call count) a = tt
-holds_tell v w (Held_on file on call count number total) a = tt
-holds_tell v w (Died file call count number total shut) a = tt
 holds_tell {name} {held} v w (Unasked file call count number total shut) a = ends_closed (answered (Open name Remove) (told (opened.Token file) call count) ∷ []) (answered (Ask_alive held) (told probe.Failed number total)) file.0 shut (record { call = number; count = total }) v w (λ x y c. fault_so failed_probe (told probe.Failed number total) x y refl c) a
+holds_tell v w x a = tt
 
 -- of the states of a run
 
@@ -320,3 +309,76 @@ pub remove_fault : {S : Type 0} (gives : S → (call : Call) → Answer call →
 remove_fault gives calls faults counted name held s r t h =
     let x = ways_run gives (Sure (Holds_by name held)) (holding_remove name held) s r t (holds_by name held) h in
     holds_tell (tally (calls s) (faults s)) (tally (calls t) (faults t)) x.so.1 (along_counted gives calls faults counted x.made s t x.along)
+
+-- The law of opening a device's `remove` file, over kernels, by cases on its calls.
+
+holds_unwritten : {name : List ℕ} {held : ℕ} {ms : List Made} {r : RemoveHold} → Holds_by name held ms r → Unwritten ms
+holds_unwritten (Held_on file on call count number total) = (tt, (tt, tt))
+holds_unwritten (Died file call count number total shut) = (tt, (tt, (tt, tt)))
+holds_unwritten (Unasked file call count number total shut) = (tt, (tt, (tt, tt)))
+holds_unwritten x = (tt, tt)
+
+-- the device of the held file
+
+file_later : (k l : Kernel) (name : List ℕ) (held i : ℕ) → Grows k l → IsAuthorizedFile k name held i → IsAuthorizedFile l name held i
+file_later k l name held i g f =
+    let x = g.devices i f.d f.device in
+    record { d = x.0; file = g.held held (record { device = i; control = Authorized }) f.file; device = x.1; named = x.2.name ∙ f.named }
+
+holds_is : (k : Kernel) (name : List ℕ) (held i j : ℕ) (d : Device) → IsAuthorizedFile k name held i → Holds k held j d → j ≡ i
+holds_is k name held i j d f h =
+    let own : HeldFile = record { device = i; control = Authorized } in
+    sym h.is ∙ ap (λ (v : HeldFile). v.device) (some_same (slice_get k.held held) h.file own h.at f.file)
+
+-- what isn't live isn't so later
+pub gone_later : (k l : Kernel) (name : List ℕ) (held i : ℕ) → Grows k l → IsAuthorizedFile k name held i → ((d : Device) → Live k.devices i d → ⊥) → IsGoneAt held l
+gone_later k l name held i g f dead j e h live =
+    let is = holds_is l name held i j e (file_later k l name held i g f) h in
+    dead f.d (live_before k l i f.d e g f.device (subst (λ (v : ℕ). Live l.devices v e) is live)).0
+
+gone_dead : (k : Kernel) (name : List ℕ) (held i : ℕ) → IsAuthorizedFile k name held i → IsGoneAt held k → (d : Device) → Live k.devices i d → ⊥
+gone_dead k name held i f gone d live = gone i d (record { file = record { device = i; control = Authorized }; at = f.file; is = refl; device = live.at }) live
+
+-- by cases
+
+holds_say : {name : List ℕ} {held : ℕ} {ms : List Made} {r : RemoveHold} (i : ℕ) (k l : Kernel) → Holds_by name held ms r → IsAuthorizedFile k name held i → Along calls k ms l → RemoveSays held i l r
+holds_say {name} {held} i k l (Not_there call count) f a =
+    let g = along_grows (answered (Open name Remove) (told opened.Absent call count) ∷ []) k l a in
+    let none = subst (λ v. NoneLived name k v) (sym a.2) a.1.says in
+    gone_later l l name held i (grows_refl l) (file_later k l name held i g f) (λ d live. none i f.d (record { entry = (live_before k l i f.d d g f.device live).0; exit = (d, live) }) f.named)
+holds_say i k l (Not_opened call count) f a = tt
+holds_say i k l (No_memory call count) f a = tt
+holds_say {name} {held} i k l (Held_on file on call count number total) f a =
+    let c = a.1 in
+    let before = quiet_grows k c.before (moves_quiet k c.before c.moves_before) in
+    let own = quiet_grows c.before c.after (opened_quiet name Remove file.0 c.before c.after c.effect) in
+    let last = answered (Ask_alive held) (told (probe.Alive on) number total) ∷ [] in
+    let alive = a.2.1.says in
+    let g = grows_trans c.before c.after a.0 own (quiet_grows c.after a.0 (moves_quiet c.after a.0 c.moves_after)) in
+    let now = file_later k a.0 name held i (called_grows (Open name Remove) (told (opened.Token file) call count) k a.0 c) f in
+    let live : Live a.0.devices i alive.d = subst (λ v. Live a.0.devices v alive.d) (holds_is a.0 name held i alive.i alive.d now alive.holds) alive.live in
+    let d = before.devices i f.d f.device in
+    let first = (live_before c.before a.0 i d.0 alive.d g d.1 live).0 in
+    let same = c.sound_before.devices.names c.effect.i i c.effect.d d.0 c.effect.live first (c.effect.named ∙ sym (d.2.name ∙ f.named)) in
+    let at = subst (λ v. slice_get c.after.held file.0 ≡ Some (record { device = v; control = Remove })) same (opened_file name Remove file.0 c.before c.after c.effect) in
+    (quiet_trans c.after a.0 l (moves_quiet c.after a.0 c.moves_after) (along_quiet last a.0 l (tt, tt) a.2)).held file.0 (record { device = i; control = Remove }) at
+holds_say {name} {held} i k l (Died file call count number total shut) f a =
+    let to = grows_trans k a.0 a.2.0 (called_grows (Open name Remove) (told (opened.Token file) call count) k a.0 a.1) (called_grows (Ask_alive held) (told probe.Gone number total) a.0 a.2.0 a.2.1) in
+    let now = file_later k a.2.0 name held i to f in
+    gone_later a.2.0 l name held i (along_grows (answered (Close file.0) shut ∷ []) a.2.0 l a.2.2) now (gone_dead a.2.0 name held i now a.2.1.says)
+holds_say i k l (Unasked file call count number total shut) f a = tt
+
+pub holding_law : (name : List ℕ) (held i : ℕ) (r : RemoveHold) (k l : Kernel) → IsKernel k → IsAuthorizedFile k name held i → Runs calls k (holding_remove name held) r l → IsRemoveHold held i k l r
+holding_law name held i r k l sound f runs =
+    let x = ways_run calls (Sure (Holds_by name held)) (holding_remove name held) k r l (holds_by name held) runs in
+    record {
+      sound = along_sound x.made k l sound x.along;
+      quiet = along_quiet x.made k l (holds_unwritten x.so.1) x.along;
+      says = holds_say i k l x.so.1 f x.along;
+    }
+
+-- and over the states of a run
+pub told_holds : {S : Type 0} (gives : S → (call : Call) → Answer call → S → Type 0) (told : S → Option Kernel) (did : (s : S) (call : Call) (answer : Answer call) (t : S) (l : Kernel) → gives s call answer t → told t ≡ Some l → Follows call answer (told s) l) (name : List ℕ) (held : ℕ) (s : S) (r : RemoveHold) (t : S) → Runs gives s (holding_remove name held) r t → HoldsRemove told s name held r t
+told_holds gives told did name held s r t runs = λ l e.
+    let m = told_run gives told did (holding_remove name held) s r t l runs e in
+    (m.kernel, m.was, λ k i f. holding_law name held i r m.kernel l k f (m.run k).0)

@@ -1,3 +1,2 @@
 pub mod BindShapes
 pub mod Laws
-pub mod Removing

@@ -3,13 +3,7 @@ use Rattle.std.proofs.Common.{◌≡◌, ℕ, ◌<◌, Bool, true, false, List, 
 use Rattle.std.specs.List.{slice_get}
 use Rattle.std.proofs.lemmas.List.{length-set}
 use Rattle.std.proofs.lemmas.Option.{slice_get_within, slice_get_cases, same_Some}
-use Rattle.ug_kernel.specs.declared.device.Device.{Device}
-use Rattle.ug_types.specs.declared.control.Control.{Control}
-use Rattle.ug_types.specs.declared.control.Write.{Write}
-use Rattle.ug_kernel.specs.Calls.{Call, Answer, Names, Open, Read, Ask_alive, Put, Close}
-use Rattle.ug_kernel.specs.Kernel.{Kernel, Live}
-use Rattle.ug_kernel.specs.Called.{Lived}
-use Rattle.ug_kernel.specs.Quiet.{Grows}
+use Rattle.ug_table.proofs.Common.{Device, Control, Write, Call, Answer, Names, Open, Read, Ask_alive, Put, Close, Kernel, Live, Lived, Grows}
 use Rattle.ug_kernel.specs.Tree.{Prog, Return, Ask, Room}
 use Rattle.ug_sysfs.specs.Devices.{find}
 use Rattle.ug_sysfs.specs.declared.script.Scheduled.{Scheduled}
@@ -42,20 +36,13 @@ length_put write None k = refl
 length_put write (Some i) k = length_switched write i (slice_get k.devices i) k.devices
 
 length_act : (call : Call) (k : Kernel) → length (act call k).1.devices ≡ length k.devices
-length_act Names k = refl
 length_act (Open name control) k = length_opened control (find name 0 k.devices) k
-length_act (Read name at) k = refl
-length_act (Ask_alive held) k = refl
 length_act (Put held write) k = length_put write (live_held held k.held k.devices) k
-length_act (Close held) k = refl
+length_act x k = refl
 
 length_hidden : (call : Call) (k : Kernel) → length (hidden call k).devices ≡ length k.devices
-length_hidden Names k = refl
-length_hidden (Open name control) k = refl
-length_hidden (Read name at) k = refl
-length_hidden (Ask_alive held) k = refl
 length_hidden (Put held write) k = length_put write (live_held held k.held k.devices) k
-length_hidden (Close held) k = refl
+length_hidden x k = refl
 
 length_effect : (o : Option Bool) (call : Call) (k : Kernel) → length (effect o call k).1.devices ≡ length k.devices
 length_effect None call k = length_act call k

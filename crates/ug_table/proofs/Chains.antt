@@ -1,116 +1,259 @@
--- A sweep, flat: the listing, and a chain of parts, one for each name, each with its shape.
-use Rattle.std.proofs.Common.{◌≡◌, ℕ, Bool, true, false, not, List, [], ◌∷◌, ◌++◌, Option, Some, None, inr, refl, sym, subst}
-use Rattle.ug_types.specs.Sweep.{in_sweep_order}
-use Rattle.ug_kernel.specs.declared.calls.Listing.{Listing}
+-- A sweep, flat: the listing, the closings of what isn't listed, and a chain of parts, one for each name, each with its shape.
+use Rattle.std.proofs.Common.{◌≡◌, ℕ, Bool, true, false, not, cond, map, List, [], ◌∷◌, refl, sym, ◌∙◌, ap, subst, ◌&&◌, ◌++◌, Option, Some, inl, inr, append_assoc, append-nil}
+use Rattle.std.specs.List.{filter}
+use Rattle.ug_table.proofs.Common.{Held, Close, Call, Answer, Names, Kernel, IsKernel, Quiet, Ask, calls, Runs, Made, answered, Along, failures, failure_of, lists, numbered, farewells, AreClosings, unlisted_files, Standing, in_sweep_order, FailedCall, Listing, Entry, Fault, State, Kept, kept_of, with_kept, noted, Answers, Laters, Settled}
+use Rattle.ug_kernel.proofs.Ways.{Ways, Sure, ways_more, along_sound, Unwritten, along_quiet, Went, ways_next, ways_last, behind_sure, ways_run}
+use Rattle.ug_table.specs.Sweep.{closing_unlisted, settling_all, resettling_all, parted, names_of, resumed, unlisted, marked_listed, if_room, after_list, sweeping}
+use Rattle.ug_types.specs.declared.verdict.Target.TheVariants as target
+use Rattle.ug_types.specs.declared.verdict.Cause.TheVariants as cause
 use Rattle.ug_kernel.specs.declared.calls.Listing.TheVariants as listing
-use Rattle.ug_kernel.specs.Calls.{Call, Answer, Names, Told}
-use Rattle.ug_kernel.specs.Kernel.{Kernel}
-use Rattle.ug_kernel.specs.Quiet.{Grows}
-use Rattle.ug_kernel.specs.Tree.{Runs, calls}
-use Rattle.ug_kernel.specs.Along.{Made, Along, failure_of}
-use Rattle.ug_kernel.proofs.Grow.{grows_refl, grows_trans}
-use Rattle.ug_kernel.proofs.Runs.{runs_split}
-use Rattle.ug_kernel.proofs.Ways.{ways_run, along_grows}
-use Rattle.ug_node.specs.declared.identity.Bound.{Bound}
-use Rattle.ug_audit.specs.declared.entry.Entry.{Entry}
 use Rattle.ug_audit.specs.declared.entry.Entry.TheVariants as entry
-use Rattle.ug_audit.specs.declared.entry.Fault.{Fault}
 use Rattle.ug_audit.specs.declared.entry.Fault.TheVariants as fault
-use Rattle.ug_table.specs.State.{State, Kept, kept_of, with_kept, noted, Answers, Laters}
 use Rattle.ug_table.specs.Settle.{settling, resettling}
-use Rattle.ug_table.specs.Sweep.{settling_all, resettling_all, parted, closing_unlisted, names_of, resumed, unlisted, marked_listed, if_room, after_list, sweeping}
-use Rattle.ug_table.specs.Standings.{numbered}
 use Rattle.ug_table.specs.One.{again_numbered, resettling_numbered}
-use Rattle.ug_table.specs.Parts.{AfterListing}
-use Rattle.ug_table.specs.declared.standing.Standing.{Standing}
-use Rattle.ug_table.specs.declared.standing.Settled.{Settled}
-use Rattle.ug_table.proofs.Shapes.{Flat, Unprobed, Tried, Stopped, Unbound, No_place, Judged_so, IsGiven, next_after, judge_after, Settles, settles, Nothing_given, Resettles, resettles}
+use Rattle.ug_table.proofs.Shapes.{Piece, Settles, settles, Resettles, resettles, told_at}
 
--- a run of one name's part, from one state to another; only one of a settling binds
-pub record Piece {S J : Type 0} (gives : S → (call : Call) → Answer call → S → Type 0) (answer : Answers J) (later : Laters J) (binds present : Bool) (name : List ℕ) (how : Settled) (s : S) (w : State J) (t : S) (v : State J) : Type 0 where
-  pub granted : Bool
-  pub made : List Made
-  pub along : Along gives s made t
-  pub rest : List Entry
-  pub judged : Option (List Standing × Bound)
-  pub flat : Flat binds (IsGiven answer present name w) name w.standings granted made rest how v.standings judged
-  pub entries : v.entries ≡ w.entries ++ rest
-  pub listed : v.listed ≡ w.listed
-  pub next : v.next ≡ next_after w judged
-  pub judge : v.judge ≡ judge_after later present name w judged
+-- The closing of the files of what isn't listed.
 
--- where nothing is bound, any may be given
-given_any : {given : List Standing → Bound → Standing → Type 0} {name : List ℕ} {ss : List Standing} {ok : Bool} {ms : List Made} {rest : List Entry} {how : Settled} {rs : List Standing} {o : Option (List Standing × Bound)} → Flat false Nothing_given name ss ok ms rest how rs o → Flat false given name ss ok ms rest how rs o
-given_any (Unprobed known failed at) = Unprobed known failed at
-given_any (Tried known on failed ms es how at b) = Tried known on failed ms es how at b
-given_any (Stopped ms es rs f opening) = Stopped ms es rs f opening
-given_any (Unbound ms ns es fs rs r how t opening way end) = Unbound ms ns es fs rs r how t opening way end
-given_any (No_place ms ns es rs b shut t opening way) = No_place ms ns es rs b shut t opening way
-given_any (Judged_so ms ns os es fs rs b x how t opening way given new brought) = absurd given
+-- each file is closed, in order
+pub closes : (names : List (List ℕ)) (ss : List Standing) → Ways (closing_unlisted names ss) (Sure (λ ms (r : Unit {0}). AreClosings (unlisted_files names ss) ms))
+closes names [] = (refl, refl)
+closes names (x ∷ ss) = by (lists names x.name) (closes names ss)
+  where
+    files : Bool → List Held
+    files b = map (λ (y : Standing). y.held) (cond (not b) (x ∷ filter (λ (y : Standing). not (lists names y.name)) ss) (filter (λ (y : Standing). not (lists names y.name)) ss))
 
-pub settling_piece : {S J : Type 0} (gives : S → (call : Call) → Answer call → S → Type 0) (answer : Answers J) (later : Laters J) (name : List ℕ) (present : Bool) (w : State J) (s : S) (p : Settled × State J) (t : S) → Runs gives s (settling answer later name present w) p t → Piece gives answer later true present name p.0 s w t p.1
-settling_piece gives answer later name present w s p t h =
-    let x = ways_run gives (Settles answer later name present w) (settling answer later name present w) s p t (settles answer later name present w) h in
-    record { granted = x.granted; made = x.made; along = x.along; rest = x.so.rest; judged = x.so.judged; flat = x.so.flat; entries = x.so.entries; listed = x.so.listed; next = x.so.next; judge = x.so.judge }
+    by : (b : Bool) → Ways (closing_unlisted names ss) (Sure (λ ms (r : Unit {0}). AreClosings (unlisted_files names ss) ms)) → Ways (cond b (closing_unlisted names ss) (Ask (Close x.held.0) (λ closed. closing_unlisted names ss))) (Sure (λ ms (r : Unit {0}). AreClosings (files b) ms))
+    by true more = more
+    by false more = λ shut. ways_more (Sure (λ ms (r : Unit {0}). AreClosings (unlisted_files names ss) ms)) (Sure (λ ms (r : Unit {0}). AreClosings (files false) (answered (Close x.held.0) shut ∷ ms))) (closing_unlisted names ss) (λ ok ms r h. (h.0, (shut, ms, refl, h.1))) more
 
-pub resettling_piece : {S J : Type 0} (gives : S → (call : Call) → Answer call → S → Type 0) (answer : Answers J) (later : Laters J) (name : List ℕ) (present : Bool) (w : State J) (k : Kept) (s : S) (p : Settled × Kept) (t : S) → Runs gives s (resettling name k) p t → Piece gives answer later false present name p.0 s (with_kept w k) t (with_kept w p.1)
-resettling_piece gives answer later name present w k s p t h =
-    let x = ways_run gives (Resettles name k) (resettling name k) s p t (resettles name k) h in
-    record { granted = x.granted; made = x.made; along = x.along; rest = x.so.rest; judged = None; flat = given_any x.so.flat; entries = x.so.entries; listed = refl; next = refl; judge = refl }
+pub closings_calm : (files : List Held) (ms : List Made) → AreClosings files ms → failures ms ≡ []
+closings_calm [] ms h = ap failures h
+closings_calm (file ∷ files) ms h = ap failures h.2 ∙ closings_calm files h.1 h.3
 
--- the standing of a number is settled by its name
-pub run_numbered : {S : Type 0} (gives : S → (call : Call) → Answer call → S → Type 0) (number : ℕ) (k : Kept) (x : Standing) (s : S) (p : Settled × Kept) (t : S) → numbered number k.standings ≡ Some x → Runs gives s (resettling_numbered number k) p t → Runs gives s (resettling x.name k) p t
-unfolding resettling_numbered
-run_numbered gives number k x s p t e r = subst (λ (o : Option Standing). Runs gives s (again_numbered k o) p t) e r
+-- it writes nothing
+
+closings_unwritten : (files : List Held) (ms : List Made) → AreClosings files ms → Unwritten ms
+closings_unwritten [] ms h = subst (λ v. Unwritten v) (sym h) tt
+closings_unwritten (file ∷ files) ms h = subst (λ v. Unwritten v) (sym h.2) (tt, closings_unwritten files h.1 h.3)
+
+pub closings_quiet : (files : List Held) (ms : List Made) (k l : Kernel) → IsKernel k
+    → AreClosings files ms → Along calls k ms l → IsKernel l × Quiet k l
+closings_quiet files ms k l sound c a =
+    (along_sound ms k l sound a, along_quiet ms k l (closings_unwritten files ms c) a)
 
 -- one for each name, in this order
-pub data Chain {S J : Type 0} (gives : S → (call : Call) → Answer call → S → Type 0) (answer : Answers J) (later : Laters J) (binds present : Bool) : List (List ℕ) → S → State J → S → State J → Type 0 where
-  Over : (s : S) (w : State J) → Chain gives answer later binds present [] s w s w
-  First : (name : List ℕ) (names : List (List ℕ)) (how : Settled) (s u t : S) (w x v : State J) → Piece gives answer later binds present name how s w u x → Chain gives answer later binds present names u x t v → Chain gives answer later binds present (name ∷ names) s w t v
+pub data Chain {J : Type 0} (answer : Answers J) (later : Laters J) (binds present : Bool)
+    : List (List ℕ) → State J → Bool → List Made → List Entry → State J → Type 0 where
+  Over : (w : State J) → Chain answer later binds present [] w true [] [] w
+  First : (name : List ℕ) (names : List (List ℕ)) (how : Settled) (w x v : State J) (ok more : Bool)
+      (ms ns : List Made) (es : List Entry)
+      → (p : Piece answer later binds present name w ok ms how x)
+      → Chain answer later binds present names x more ns es v
+      → Chain answer later binds present (name ∷ names) w (ok && more) (ms ++ ns) (p.rest ++ es) v
 
-settling_chain : {S J : Type 0} (gives : S → (call : Call) → Answer call → S → Type 0) (answer : Answers J) (later : Laters J) (names : List (List ℕ)) (present : Bool) (w : State J) (s : S) (v : State J) (t : S) → Runs gives s (settling_all answer later names present w) v t → Chain gives answer later true present names s w t v
-settling_chain gives answer later [] present w s v t h = subst (λ x. Chain gives answer later true present [] s w x v) (sym h.1) (subst (λ x. Chain gives answer later true present [] s w s x) (sym h.0) (Over s w))
-settling_chain {S} {J} gives answer later (name ∷ names) present w s v t h =
-    let cut = runs_split gives s (settling answer later name present w) (λ (p : Settled × State J). settling_all answer later names present p.1) v t h in
-    First name names cut.0.0 s cut.1 t w cut.0.1 v (settling_piece gives answer later name present w s cut.0 cut.1 cut.2) (settling_chain gives answer later names present cut.0.1 cut.1 v t cut.3)
-
-resettling_chain : {S J : Type 0} (gives : S → (call : Call) → Answer call → S → Type 0) (answer : Answers J) (later : Laters J) (names : List (List ℕ)) (present : Bool) (w : State J) (k : Kept) (s : S) (y : Kept) (t : S) → Runs gives s (resettling_all names k) y t → Chain gives answer later false present names s (with_kept w k) t (with_kept w y)
-resettling_chain gives answer later [] present w k s y t h = subst (λ x. Chain gives answer later false present [] s (with_kept w k) x (with_kept w y)) (sym h.1) (subst (λ (x : Kept). Chain gives answer later false present [] s (with_kept w k) s (with_kept w x)) (sym h.0) (Over s (with_kept w k)))
-resettling_chain {S} gives answer later (name ∷ names) present w k s y t h =
-    let cut = runs_split gives s (resettling name k) (λ (p : Settled × Kept). resettling_all names p.1) y t h in
-    First name names cut.0.0 s cut.1 t (with_kept w k) (with_kept w cut.0.1) (with_kept w y) (resettling_piece gives answer later name present w k s cut.0 cut.1 cut.2) (resettling_chain gives answer later names present w cut.0.1 cut.1 y t cut.3)
+-- why names aren't bound: the listing failed, or memory was short for it, or for what is noted of it
+pub data Without : Listing → FailedCall → Bool → Fault → Type 0 where
+  List_failed : (failed : FailedCall) → Without listing.Failed failed true (fault.Call failed)
+  List_short : (failed : FailedCall) → Without listing.Memory failed true fault.Memory
+  No_room : (found : List (List ℕ)) (failed : FailedCall)
+      → Without (listing.Names found) failed false fault.Memory
 
 -- the listed names have parts, and else the names that stand
-pub data Goes {S J : Type 0} (gives : S → (call : Call) → Answer call → S → Type 0) (answer : Answers J) (later : Laters J) (s : S) (w : State J) (t : S) (v : State J) : Type 0 where
-  Listed : (found : List (List ℕ)) (number count : ℕ) (m u : S) (r : Unit {0}) → gives s Names (record { answer = listing.Names found; number = number; count = count }) m → Runs gives m (closing_unlisted (in_sweep_order found) w.standings) r u → Chain gives answer later true (not w.listed) (in_sweep_order found) u (marked_listed (parted (in_sweep_order found) w)) t v → Goes gives answer later s w t v
-  Unlisted : (a : Told Listing) (why : Fault) (m : S) → gives s Names a m → AfterListing a.answer (failure_of a) w.standings (entry.UnsettledAll why ∷ []) w.standings (names_of w.standings) [] → Chain gives answer later false (not w.listed) (names_of w.standings) m (noted w (entry.UnsettledAll why)) t v → Goes gives answer later s w t v
+pub data Goes {J : Type 0} (answer : Answers J) (later : Laters J) (w : State J)
+    : Bool → List Made → List Entry → State J → Type 0 where
+  Listed : (found : List (List ℕ)) (failed : FailedCall) (ok : Bool) (shut made : List Made)
+      (es : List Entry) (v : State J)
+      → AreClosings (unlisted_files (in_sweep_order found) w.standings) shut
+      → Chain answer later true (not w.listed) (in_sweep_order found)
+      (marked_listed (parted (in_sweep_order found) w)) ok made es v
+      → Goes answer later w ok
+      (answered Names (told_at (listing.Names found) failed) ∷ (shut ++ made))
+      (farewells (in_sweep_order found) w.standings ++ es) v
+  Unlisted : (list : Listing) (failed : FailedCall) (room : Bool) (why : Fault) (ok : Bool)
+      (made : List Made) (es : List Entry) (v : State J)
+      → Without list failed room why
+      → Chain answer later false (not w.listed) (names_of w.standings)
+      (noted w (entry.UnsettledAll why)) ok made es v
+      → Goes answer later w (room && ok) (answered Names (told_at list failed) ∷ made)
+      (entry.UnsettledAll why ∷ es) v
 
-pub sweeping_by : {S J : Type 0} (gives : S → (call : Call) → Answer call → S → Type 0) (answer : Answers J) (later : Laters J) (s : S) (w : State J) (t : S) (v : State J) → Runs gives s (sweeping answer later w) v t → Goes gives answer later s w t v
-unfolding sweeping
-sweeping_by {S} {J} gives answer later s w t v h = by h.0.answer h.0.number h.0.count h.1 h.2 h.3
-  where
-    without_list : (a : Told Listing) (why : Fault) (m : S) → gives s Names a m → AfterListing a.answer (failure_of a) w.standings (entry.UnsettledAll why ∷ []) w.standings (names_of w.standings) [] → Runs gives m (unlisted why w) v t → Goes gives answer later s w t v
-    without_list a why m g is r =
-        let k = kept_of w.standings (w.entries ++ entry.UnsettledAll why ∷ []) in
-        let cut = runs_split gives m (resettling_all (names_of w.standings) k) (resumed w) v t r in
-        let chain = resettling_chain gives answer later (names_of w.standings) (not w.listed) w k m cut.0 cut.1 cut.2 in
-        let C : S → State J → Type 0 = λ x y. Chain gives answer later false (not w.listed) (names_of w.standings) m (noted w (entry.UnsettledAll why)) x y in
-        Unlisted a why m g is (subst (λ x. C x v) (sym cut.3.1) (subst (λ y. C cut.1 y) (sym cut.3.0) chain))
+-- the walk
 
-    with_room : (found : List (List ℕ)) (number count : ℕ) (room : Bool) (m : S) → gives s Names (record { answer = listing.Names found; number = number; count = count }) m → Runs gives m (if_room answer later (in_sweep_order found) w room) v t → Goes gives answer later s w t v
-    with_room found number count true m g r =
-        let names = in_sweep_order found in
-        let cut = runs_split gives m (closing_unlisted names w.standings) (λ (x : Unit {0}). settling_all answer later names (not w.listed) (marked_listed (parted names w))) v t r in
-        Listed found number count m cut.1 cut.0 g cut.2 (settling_chain gives answer later names (not w.listed) (marked_listed (parted names w)) cut.1 v t cut.3)
-    with_room found number count false m g r = without_list (record { answer = listing.Names found; number = number; count = count }) fault.Memory m g (inr (refl, refl, refl, refl)) r
+module _ {J : Type 0} (answer : Answers J) (later : Laters J) where
+  -- whatever its entries
+  abbrev pub Linked : Bool → Bool → List (List ℕ) → State J → Bool → List Made → State J → Type 0
+  Linked binds present names w ok ms v =
+      (es : List Entry) × Chain answer later binds present names w ok ms es v
 
-    by : (list : Listing) (number count : ℕ) (m : S) → gives s Names (record { answer = list; number = number; count = count }) m → Runs gives m (after_list answer later w list (record { call = number; count = count })) v t → Goes gives answer later s w t v
-    by (listing.Names found) number count m g r = with_room found number count r.0 m g r.1
-    by listing.Failed number count m g r = without_list (record { answer = listing.Failed; number = number; count = count }) (fault.Call (record { call = number; count = count })) m g (refl, refl, refl, refl) r
-    by listing.Memory number count m g r = without_list (record { answer = listing.Memory; number = number; count = count }) fault.Memory m g (refl, refl, refl, refl) r
+  abbrev pub Comes : State J → Bool → List Made → State J → Type 0
+  Comes w ok ms v = (es : List Entry) × Goes answer later w ok ms es v
 
--- over kernels
+  linked : (binds present : Bool) (name : List ℕ) (names : List (List ℕ)) (w x v : State J)
+      (ok more : Bool) (ms ns : List Made) (how : Settled)
+      → Piece answer later binds present name w ok ms how x → Linked binds present names x more ns v
+      → Linked binds present (name ∷ names) w (ok && more) (ms ++ ns) v
+  linked binds present name names w x v ok more ms ns how p c =
+      (p.rest ++ c.0, First name names how w x v ok more ms ns c.0 p c.1)
 
-pub chain_grows : {J : Type 0} {answer : Answers J} {later : Laters J} {binds present : Bool} {names : List (List ℕ)} {k l : Kernel} {w v : State J} → Chain calls answer later binds present names k w l v → Grows k l
-chain_grows (Over s w) = grows_refl s
-chain_grows (First name names how s u t w x v p c) = grows_trans s u t (along_grows p.made s u p.along) (chain_grows c)
+  settling_chain : (names : List (List ℕ)) (present : Bool) (w : State J)
+      → Ways (settling_all answer later names present w) (Linked true present names w)
+  settling_chain [] present w = ([], Over w)
+  settling_chain (name ∷ names) present w =
+      let all : List (List ℕ) = name ∷ names in
+      let Q = Linked true present all w in
+      ways_next (Settles answer later name present w) Q (settling answer later name present w)
+      (λ (p : Settled × State J). settling_all answer later names present p.1)
+      (settles answer later name present w)
+      (λ ok ms p a. ways_more (Linked true present names p.1)
+      (λ more ns v. Q (ok && more) (ms ++ ns) v)
+      (settling_all answer later names present p.1)
+      (λ more ns v c. linked true present name names w p.1 v ok more ms ns p.0 a c)
+      (settling_chain names present p.1))
+
+  resettling_chain : (names : List (List ℕ)) (present : Bool) (w : State J) (k : Kept)
+      → Ways (resettling_all names k)
+      (λ ok ms j. Linked false present names (with_kept w k) ok ms (with_kept w j))
+  resettling_chain [] present w k = ([], Over (with_kept w k))
+  resettling_chain (name ∷ names) present w k =
+      let all : List (List ℕ) = name ∷ names in
+      let u : State J = with_kept w k in
+      let L : List (List ℕ) → State J → Bool → List Made → Kept → Type 0 =
+      λ ns x ok ms j. Linked false present ns x ok ms (with_kept w j) in
+      ways_next (Resettles answer later name present w k) (L all u) (resettling name k)
+      (λ (p : Settled × Kept). resettling_all names p.1) (resettles answer later name present w k)
+      (λ ok ms p a.
+      let x : State J = with_kept w p.1 in
+      ways_more (L names x) (λ more ns j. L all u (ok && more) (ms ++ ns) j)
+      (resettling_all names p.1)
+      (λ more ns j c. linked false present name names u x (with_kept w j) ok more ms ns p.0 a c)
+      (resettling_chain names present w p.1))
+
+  pub sweeping_by : (w : State J) → Ways (sweeping answer later w) (Comes w)
+  unfolding sweeping
+  sweeping_by w = λ t. by t.answer (failure_of t)
+    where
+      -- behind that answer to the listing
+      Behind : Listing → FailedCall → Bool → List Made → State J → Type 0
+      Behind list failed ok ms v = Comes w ok (answered Names (told_at list failed) ∷ ms) v
+
+      without : (list : Listing) (failed : FailedCall) (room : Bool) (why : Fault)
+          → Without list failed room why
+          → Ways (unlisted why w) (λ ok ms v. Behind list failed (room && ok) ms v)
+      without list failed room why by =
+          let names = names_of w.standings in
+          let k = kept_of w.standings (w.entries ++ entry.UnsettledAll why ∷ []) in
+          ways_last (λ ok ms j. Linked false (not w.listed) names (with_kept w k) ok ms
+          (with_kept w j))
+          (λ ok ms v. Behind list failed (room && ok) ms v) (resettling_all names k) (resumed w)
+          (λ j. with_kept w j) (λ j. refl) (resettling_chain names (not w.listed) w k)
+          (λ ok ms j c. let v : State J = with_kept w j in
+          (entry.UnsettledAll why ∷ c.0, Unlisted list failed room why ok ms c.0 v by c.1))
+
+      with_room : (found : List (List ℕ)) (failed : FailedCall) (room : Bool)
+          → Ways (if_room answer later (in_sweep_order found) w room)
+          (λ ok ms v. Behind (listing.Names found) failed (room && ok) ms v)
+      with_room found failed true =
+          let names = in_sweep_order found in
+          let u : State J = marked_listed (parted names w) in
+          let list = listing.Names found in
+          behind_sure (λ ms (r : Unit {0}). AreClosings (unlisted_files names w.standings) ms)
+          (Behind list failed) (closing_unlisted names w.standings)
+          (λ (r : Unit {0}). settling_all answer later names (not w.listed) u)
+          (closes names w.standings)
+          (λ shut r closings. ways_more (Linked true (not w.listed) names u)
+          (λ ok ms v. Behind list failed ok (shut ++ ms) v)
+          (settling_all answer later names (not w.listed) u)
+          (λ ok ms v c. (
+            farewells names w.standings ++ c.0,
+            Listed found failed ok shut ms c.0
+                v closings c.1,
+          ))
+          (settling_chain names (not w.listed) u))
+      with_room found failed false =
+          without (listing.Names found) failed false fault.Memory (No_room found failed)
+
+      by : (list : Listing) (failed : FailedCall)
+          → Ways (after_list answer later w list failed) (Behind list failed)
+      by (listing.Names found) failed = λ room. with_room found failed room
+      by listing.Failed failed =
+          without listing.Failed failed true (fault.Call failed) (List_failed failed)
+      by listing.Memory failed =
+          without listing.Memory failed true fault.Memory (List_short failed)
+
+-- the entries that are added
+
+chain_entries : {J : Type 0} {answer : Answers J} {later : Laters J} {binds present : Bool}
+    {names : List (List ℕ)} {w v : State J} {ok : Bool} {ms : List Made} {es : List Entry}
+    → Chain answer later binds present names w ok ms es v → v.entries ≡ w.entries ++ es
+chain_entries (Over w) = sym (append-nil w.entries)
+chain_entries (First name names how w x v ok more ms ns es p c) =
+    chain_entries c ∙ ap (λ (y : List Entry). y ++ es) p.entries ∙ append_assoc w.entries p.rest es
+
+pub goes_entries : {J : Type 0} {answer : Answers J} {later : Laters J} {w v : State J} {ok : Bool}
+    {ms : List Made} {es : List Entry} → Goes answer later w ok ms es v
+    → v.entries ≡ w.entries ++ es
+goes_entries {w = w} (Listed found failed ok shut made es v closings c) =
+    chain_entries c ∙ append_assoc w.entries (farewells (in_sweep_order found) w.standings) es
+goes_entries {w = w} (Unlisted list failed room why ok made es v by c) =
+    chain_entries c ∙ append_assoc w.entries (entry.UnsettledAll why ∷ []) es
+
+-- over the states of a run
+
+module _ {S J : Type 0} (gives : S → (call : Call) → Answer call → S → Type 0) (answer : Answers J)
+    (later : Laters J) where
+  pub settling_run : (name : List ℕ) (present : Bool) (w : State J) (s : S) (p : Settled × State J)
+      (t : S) → Runs gives s (settling answer later name present w) p t
+      → Went gives (Settles answer later name present w) s p t
+  settling_run name present w s p t h =
+      ways_run gives (Settles answer later name present w) (settling answer later name present w) s
+      p t
+      (settles answer later name present w) h
+
+  pub resettling_run : (name : List ℕ) (present : Bool) (w : State J) (k : Kept) (s : S)
+      (p : Settled × Kept) (t : S) → Runs gives s (resettling name k) p t
+      → Went gives (Resettles answer later name present w k) s p t
+  resettling_run name present w k s p t h =
+      ways_run gives (Resettles answer later name present w k) (resettling name k) s p t
+      (resettles answer later name present w k) h
+
+  pub sweeping_run : (s : S) (w : State J) (t : S) (v : State J)
+      → Runs gives s (sweeping answer later w) v t → Went gives (Comes answer later w) s v t
+  sweeping_run s w t v h =
+      ways_run gives (Comes answer later w) (sweeping answer later w) s v t
+      (sweeping_by answer later w) h
+
+-- the standing of a number is settled by its name
+pub run_numbered : {S : Type 0} (gives : S → (call : Call) → Answer call → S → Type 0) (number : ℕ)
+    (k : Kept) (x : Standing) (s : S) (p : Settled × Kept) (t : S)
+    → numbered number k.standings ≡ Some x → Runs gives s (resettling_numbered number k) p t
+    → Runs gives s (resettling x.name k) p t
+unfolding resettling_numbered
+run_numbered gives number k x s p t e r =
+    subst (λ (o : Option Standing). Runs gives s (again_numbered k o) p t) e r
+
+-- whatever the judge is
+
+pub no_verdict : Answers (Unit {0})
+no_verdict judge dev controller present on ss = (target.Block, cause.Implicit)
+
+pub no_later : Laters (Unit {0})
+no_later judge dev controller present on ss = tt
+
+abbrev pub unjudged : Kept → State (Unit {0})
+unjudged k = record {
+  standings = k.standings;
+  next = 0;
+  listed = false;
+  judge = tt;
+  entries =
+      k.entries;
+}
+
+pub numbered_run : {S : Type 0} (gives : S → (call : Call) → Answer call → S → Type 0) (number : ℕ)
+    (k : Kept) (x : Standing) (s : S) (p : Settled × Kept) (t : S)
+    → numbered number k.standings ≡ Some x → Runs gives s (resettling_numbered number k) p t
+    → Went gives (Resettles no_verdict no_later x.name false (unjudged k) k) s p t
+numbered_run gives number k x s p t e r =
+    resettling_run gives no_verdict no_later x.name false (unjudged k) k s p t
+    (run_numbered gives number k x s p t e r)

@@ -1,19 +1,11 @@
 -- What is known of a device stays, whatever the kernel does.
 use Rattle.std.proofs.Common.{◌≡◌, ℕ, Bool, List, Option, Some, None, sym, ◌∙◌, ap, subst}
 use Rattle.ug_types.specs.declared.record.Attrs.{Attrs}
-use Rattle.ug_types.specs.declared.record.Judged.{Judged}
-use Rattle.ug_types.specs.declared.verdict.Held.{Held}
-use Rattle.ug_kernel.specs.declared.device.Device.{Device}
-use Rattle.ug_types.specs.declared.control.Control.TheVariants.{Authorized}
-use Rattle.ug_kernel.specs.Kernel.{Kernel, Stays}
-use Rattle.ug_kernel.specs.Quiet.{Grows}
+use Rattle.ug_table.proofs.Common.{Judged, Held, Device, Authorized, Kernel, Stays, Grows, IsRecordOf, IsDevice, IsGone, IsProbed, Stand, Standing, Has}
 use Rattle.ug_kernel.proofs.Grow.{grows_trans}
 use Rattle.ug_record.specs.Records.{judged_of}
 use Rattle.ug_node.specs.Bound.{attrs_of, parent_attrs_of, IsParentRead}
-use Rattle.ug_table.specs.Laws.{IsRecordOf, IsDevice, IsGone, IsProbed, Stand}
-use Rattle.ug_table.specs.declared.standing.Standing.{Standing}
-use Rattle.ug_types.specs.Elements.{Has}
-use Rattle.ug_table.proofs.Values.{file_same, file_later}
+use Rattle.ug_table.proofs.Standings.{file_same, file_later}
 use Rattle.ug_types.specs.declared.control.Write.TheVariants as write
 
 attrs_stay : (d e : Device) → Stays d e → attrs_of d ≡ attrs_of e

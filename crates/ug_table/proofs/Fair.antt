@@ -1,59 +1,252 @@
--- The settling of one name is fair.
-use Rattle.std.proofs.Common.{◌≡◌, ℕ, ◌+◌, ◌<◌, Bool, true, false, ◌||◌, ◌⊎◌, is_none, List, [], ◌∷◌, ◌++◌, Option, Some, slice_get, inl, inr, refl, sym, ◌∙◌, ap, subst, append_assoc, append-nil, arith}
-use Rattle.ug_types.specs.Elements.{Has, AllDistinct}
-use Rattle.ug_types.specs.Names.{parent_of}
-use Rattle.ug_types.specs.declared.record.Attrs.{Attrs}
-use Rattle.ug_types.specs.declared.record.Judged.{Judged}
-use Rattle.ug_types.specs.declared.verdict.Held.{Held}
-use Rattle.ug_types.specs.declared.verdict.Target.{Target}
-use Rattle.ug_types.specs.declared.verdict.Cause.{Cause}
-use Rattle.ug_kernel.specs.declared.device.Device.{Device}
+-- A part is fair, and so is a sweep.
+use Rattle.std.proofs.Common.{◌≡◌, ℕ, Bool, true, false, not, ◌&&◌, List, [], ◌∷◌, ◌++◌, ◌⊎◌, Some, slice_get, inl, inr, refl, sym, ◌∙◌, ap, subst, append_assoc, append-nil, ◌+◌, ◌<◌, ◌||◌, is_none, Option, arith, cond, true≢false}
+use Rattle.std.proofs.lemmas.Bool.{and_parts, not-true, or_right}
+use Rattle.ug_table.proofs.Common.{Has, AllDistinct, Target, Control, Authorized, Remove, Write, Wrote, Put, Close, Told, Closing, Ask_alive, Names, Kernel, Moves, IsKernel, Live, IsWritten, IsGoneAt, says_put, Called, says_listing, Grows, Quiet, calls, Runs, RemoveHold, Entry, State, Answers, Laters, known_of, standing_of, without, with_standing, place_for, settled_standing, lists, farewells, Tries, IsDevice, MayHave, MayHaveNot, wrote_entries, HasRemoval, IsFirst, Account, Start, Had, Had_not, AreInOrder, none_before, IsProbed, Stand, numbers_of, Judge, IsOne, IsTold, HasStanding, IsFair, IsRemoveMarked, swept_before, IsGone, Went as WentAway, gone_of, Standing, Settled, Made, answered, Along, failure_of, FailedCall, parent_of, Judged, Held, Cause, Device, Bound, Binding, Known, in_sweep_order, Listing, unlisted_files}
+use Rattle.ug_types.specs.declared.verdict.Target.TheVariants as target
+use Rattle.ug_kernel.specs.declared.device.HeldFile.{HeldFile}
 use Rattle.ug_kernel.specs.declared.device.Effect.{Effect}
+use Rattle.ug_types.specs.declared.control.Write.TheVariants as write
+use Rattle.ug_kernel.specs.declared.calls.Wrote.TheVariants as wrote
+use Rattle.ug_kernel.proofs.Grow.{some_same, called_grows, quiet_grows, grows_refl}
+use Rattle.ug_node.specs.Removal.{holding_remove, RemoveSays}
+use Rattle.ug_node.specs.declared.removal.RemoveHold.TheVariants as hold
+use Rattle.ug_node.proofs.Laws.{holding_law, gone_later, binding_law}
+use Rattle.ug_audit.specs.declared.entry.Entry.TheVariants as entry
+use Rattle.ug_audit.specs.declared.entry.Fault.TheVariants as fault
+use Rattle.ug_table.specs.Bring.{write_of, is_reject, CallsFor, is_to_go}
+use Rattle.ug_table.specs.declared.standing.Settled.TheVariants as settled
+use Rattle.ug_types.proofs.Elements.{has_right, distinct_one, map_has, has_map, insert_has, has_new, has_old, distinct_insert, filter_has, has_filter, distinct_filter}
+use Rattle.ug_table.proofs.Standings.{IsHeldAs, file_same, file_later, IsFileOf, found, missing, missing_without, or_by, listed_is}
+use Rattle.ug_table.proofs.Devices.{device_stays, stand_stays, probed_from}
+use Rattle.ug_table.proofs.Steps.{NoRemoval, keeps_itself, removal_marks, removal_removed, marks_keep, Keeps, keep_one, Marks, keep_marks, FairFrom, fair_trans, StepFrom, fair_by, After, same_refl, plain_fair, keep_fair, fair_end, then_quiet, then_called, then_note, then_same, then_went, Same as AreSame, one_itself, without_less, tried_after, left_all, stand_of, fair_refl, gone_device, account_stays}
+use Rattle.ug_table.proofs.Says.{plain_wrote, gone_has}
+use Rattle.ug_kernel.proofs.Ways.{Way, way_runs, along_split}
+use Rattle.ug_table.proofs.Shapes.{Written, Done, Went, Broke, Valued, Same, Set, Unheld, Gone_by, Failed_by, Short_by, Removal, Not_held, Put_on, Carried, By_value, And_removal, Brought, Left_open, Let_go, told_at, Piece, Opening, Fresh, Lost, Unbound_end, Absent_so, Vanished_so, Failed_so, Short_so, Flat, Unprobed, Tried, Stopped, Unbound, No_place, Judged_so, IsGiven, next_after, judge_after}
+use Rattle.ug_types.specs.declared.record.Attrs.{Attrs}
 use Rattle.ug_kernel.specs.declared.calls.Probe.TheVariants as probe
-use Rattle.ug_kernel.specs.Calls.{Ask_alive, Close}
-use Rattle.ug_kernel.specs.Kernel.{Kernel, IsKernel}
-use Rattle.ug_kernel.specs.Called.{IsGoneAt}
-use Rattle.ug_kernel.specs.Quiet.{Quiet}
-use Rattle.ug_kernel.proofs.Grow.{some_same, quiet_grows, grows_refl}
-use Rattle.ug_kernel.specs.Tree.{calls}
 use Rattle.ug_record.specs.Records.{judged_of}
 use Rattle.ug_node.specs.Bind.{binding}
 use Rattle.ug_node.specs.Bound.{attrs_of, IsBound, BindSays}
-use Rattle.ug_node.specs.declared.identity.Bound.{Bound}
-use Rattle.ug_node.specs.declared.identity.Binding.{Binding}
 use Rattle.ug_node.specs.declared.identity.Binding.TheVariants as bound
-use Rattle.ug_node.proofs.Laws.{binding_law}
-use Rattle.ug_audit.specs.declared.entry.Entry.{Entry}
-use Rattle.ug_audit.specs.declared.entry.Entry.TheVariants as entry
-use Rattle.ug_audit.specs.declared.entry.Fault.TheVariants as fault
-use Rattle.ug_types.specs.declared.control.Write.TheVariants as write
-use Rattle.ug_kernel.specs.declared.calls.Wrote.TheVariants as wrote
-use Rattle.ug_table.specs.State.{State, Answers, Laters}
-use Rattle.ug_table.specs.Standings.{known_of, standing_of, without, with_standing, place_for, settled_standing}
-use Rattle.ug_table.specs.Bring.{is_reject}
 use Rattle.ug_table.specs.Settle.{kept_standings, standing_for, judged_entry, tried_standings, dropped}
-use Rattle.ug_table.specs.Sweep.{names_of}
-use Rattle.ug_table.specs.Laws.{Tries, AreInOrder, none_before, IsDevice, IsProbed, Stand, numbers_of, Account, Judge, Start, IsOne, IsTold, HasStanding, IsFair, IsRemoveMarked}
-use Rattle.ug_table.specs.declared.standing.Standing.{Standing}
-use Rattle.ug_table.specs.declared.standing.Known.{Known}
-use Rattle.ug_table.specs.declared.standing.Settled.{Settled}
-use Rattle.ug_table.specs.declared.standing.Settled.TheVariants as settled
-use Rattle.ug_types.proofs.Elements.{map_has, has_map, insert_has, has_new, has_old, distinct_insert}
-use Rattle.ug_table.proofs.Values.{IsFileOf, file_same}
-use Rattle.ug_table.proofs.Devices.{stand_stays, probed_from}
-use Rattle.ug_table.proofs.Standings.{found, missing, missing_without, or_all, or_by}
-use Rattle.ug_table.proofs.Joined.{FairFrom, fair_by}
-use Rattle.ug_table.proofs.Steps.{Same, After, one_itself, fair_end, then_quiet, then_called, then_note, then_same, then_went, without_less, tried_after, left_all}
-use Rattle.ug_table.proofs.Written.{brought_fair}
-use Rattle.ug_table.proofs.Orders.{order_with}
-use Rattle.ug_kernel.specs.Along.{Made, answered, Along}
-use Rattle.ug_kernel.proofs.Ways.{Way, way_runs, along_split}
-use Rattle.ug_kernel.specs.declared.calls.FailedCall.{FailedCall}
-use Rattle.ug_table.proofs.Shapes.{Brought, Opening, Fresh, Lost, Unbound_end, Absent_so, Vanished_so, Failed_so, Short_so, Flat, Unprobed, Tried, Stopped, Unbound, No_place, Judged_so, IsGiven, next_after, judge_after, told_at}
-use Rattle.ug_table.proofs.RemoveMarks.{Keeps, keeps_itself, keep_one, Marks}
-use Rattle.ug_table.proofs.SoFar.{AreIn, dropped_in}
-use Rattle.ug_table.proofs.Account.{account_stays}
-use Rattle.ug_table.proofs.Chains.{Piece}
+use Rattle.ug_table.specs.Sweep.{names_of, parted, marked_listed, sweeping}
+use Rattle.ug_table.proofs.Marks.{order_with, order_filter, sweep_in_order, AreIn, dropped_in, AreSplit, AreFresh, split_in, parted_split, parted_fresh, part_split, part_fresh, piece_part, order_distinct}
+use Rattle.std.specs.List.{filter}
+use Rattle.ug_types.proofs.Sorting.{to_sweep_order}
+use Rattle.ug_kernel.specs.declared.calls.Listing.TheVariants as listing
+use Rattle.ug_kernel.proofs.Held.{live_before}
+use Rattle.ug_table.proofs.Chains.{closings_quiet, Chain, Over, First, Goes, Listed, Unlisted, sweeping_run}
+
+-- The writes to the device of a standing, with their entries, and what becomes of the standing.
+
+-- the log after a write
+
+one_more : (held i : ℕ) (control : Control) (what : Write) (k before after l : Kernel) → IsHeldAs k held i control → Moves k before → IsWritten held what before after → Moves after l → l.log ≡ k.log ++ record { device = i; write = what } ∷ []
+one_more held i control what k before after l file b w a =
+    let f : HeldFile = record { device = i; control = control } in
+    let same : w.holds.file ≡ f = some_same (slice_get before.held held) w.holds.file f w.holds.at (subst (λ v. slice_get v held ≡ Some f) (sym b.held) file) in
+    let is : w.i ≡ i = sym w.holds.is ∙ ap (λ (v : HeldFile). v.device) same in
+    a.log ∙ w.log ∙ ap (λ (v : List Effect). v ++ record { device = w.i; write = what } ∷ []) b.log ∙ ap (λ (v : ℕ). let e : Effect = record { device = v; write = what } in k.log ++ e ∷ []) is
+
+-- the log after a write through a file of that device
+abbrev PutLogs : ℕ → Write → Wrote → Kernel → Kernel → Type 0
+PutLogs i what outcome k l = (MayHave outcome × (l.log ≡ k.log ++ record { device = i; write = what } ∷ [])) ⊎ (MayHaveNot outcome × (l.log ≡ k.log))
+
+put_logs : (held i : ℕ) (control : Control) (what : Write) (outcome : Wrote) (failed : FailedCall) (k l : Kernel) → IsHeldAs k held i control → Called (Put held what) (told_at outcome failed) k l → PutLogs i what outcome k l
+put_logs held i control what wrote.Done failed k l file c = inl (tt, one_more held i control what k c.before c.after l file c.moves_before c.effect c.moves_after)
+put_logs held i control what wrote.Gone failed k l file c = inr (tt, c.moves_after.log ∙ ap (λ (v : Kernel). v.log) c.effect ∙ c.moves_before.log)
+put_logs held i control what wrote.Failed failed k l file c = elim c.effect [
+  | inl e ↦ inr (tt, c.moves_after.log ∙ ap (λ (v : Kernel). v.log) e ∙ c.moves_before.log)
+  | inr w ↦ inl (tt, one_more held i control what k c.before c.after l file c.moves_before w c.moves_after)
+]
+
+-- the entries of a write
+
+abbrev with_write : {J : Type 0} → State J → Standing → Write → Wrote → State J
+with_write w s what outcome = record w { entries = (w.entries ++ entry.Intent s.number s.name what ∷ []) ++ entry.Wrote s.number s.name what outcome ∷ [] }
+
+-- the device of a standing, with its place
+abbrev StandsAs : {J : Type 0} → Kernel → State J → Standing → ℕ → Type 0
+StandsAs m u s i = Has u.standings s × IsDevice m i s.name s.held s.judged
+
+put_account : {J : Type 0} {answer : Answers J} {later : Laters J} {present : Bool} {tried : Tries} (m l : Kernel) (u : State J) (s : Standing) (i held : ℕ) (control : Control) (what : Write) (outcome : Wrote) (failed : FailedCall) → StandsAs m u s i → IsHeldAs m held i control → CallsFor s.verdict what → IsFirst u.standings [] s.number what → Called (Put held what) (told_at outcome failed) m l → Account answer later present tried m l u.standings m.log u.judge u.next (wrote_entries s.number s.name what outcome) l.log u.judge u.next
+put_account {J} {answer} {later} {present} {tried} m l u s i held control what outcome failed at file due first c =
+    let g = called_grows (Put held what) (told_at outcome failed) m l c in
+    let here = device_stays m l i s.name s.held s.judged g at.1 in
+    let es = wrote_entries s.number s.name what outcome in
+    elim (put_logs held i control what outcome failed m l file c) [
+      | inl e ↦ subst (λ (v : List Effect). Account answer later present tried m l u.standings m.log u.judge u.next es v u.judge u.next) (sym e.1) (Had [] m.log u.judge u.next i s.number s.name s.held s.judged s.verdict what outcome here (inl (s, at.0, refl, refl, refl, refl)) due first e.0 Start)
+      | inr e ↦ subst (λ (v : List Effect). Account answer later present tried m l u.standings m.log u.judge u.next es v u.judge u.next) (sym e.1) (Had_not [] m.log u.judge u.next i s.number s.name s.held s.judged s.verdict what outcome here (inl (s, at.0, refl, refl, refl, refl)) due first e.0 Start)
+    ]
+
+-- a write that leaves the marks
+put_fair : {J : Type 0} {answer : Answers J} {later : Laters J} {present : Bool} {tried : Tries} {k m : Kernel} {w u : State J} (l : Kernel) (s : Standing) (i held : ℕ) (control : Control) (what : Write) (outcome : Wrote) (failed : FailedCall) → StandsAs m u s i → IsHeldAs m held i control → CallsFor s.verdict what → IsFirst u.standings [] s.number what → NoRemoval (wrote_entries s.number s.name what outcome) → Called (Put held what) (told_at outcome failed) m l → FairFrom answer later present tried k w m u → FairFrom answer later present tried k w l (with_write u s what outcome)
+put_fair {J} {answer} {later} {present} {tried} {k} {m} {w} {u} l s i held control what outcome failed at file due first none c h =
+    let g = called_grows (Put held what) (told_at outcome failed) m l c in
+    let es = wrote_entries s.number s.name what outcome in
+    let step = keep_fair answer later present tried m l u u.standings es c.sound g h.fair.stand (same_refl m u.standings u.next h.fair.stand) (keeps_itself u.standings) none (plain_wrote s.number s.name what outcome) (put_account m l u s i held control what outcome failed at file due first c) in
+    fair_trans h (subst (λ (v : List Entry). StepFrom answer later present tried m u l (record u { entries = v })) (sym (append_assoc u.entries (entry.Intent s.number s.name what ∷ []) (entry.Wrote s.number s.name what outcome ∷ []))) step)
+
+-- the standings after it, by how it was settled
+abbrev Afters : List Standing → Standing → (Settled → List Standing) → Type 0
+Afters ss s after = (how : Settled) → After s ss how (after how)
+
+-- the value: where it stands the standings aren't marked yet
+
+abbrev mid : {J : Type 0} → State J → (Settled → List Standing) → Settled → List Standing
+mid w after settled.Stands = w.standings
+mid w after how = after how
+
+abbrev more : {J : Type 0} → State J → List Standing → List Entry → State J
+more w ss es = record w { standings = ss; entries = w.entries ++ es }
+
+value_called : (verdict : Target) → CallsFor verdict (write_of verdict)
+value_called target.Allow = tt
+value_called x = tt
+
+value_first : (ss : List Standing) (es : List Entry) (number : ℕ) (verdict : Target) → IsFirst ss es number (write_of verdict)
+value_first ss es number target.Allow = tt
+value_first ss es number x = tt
+
+value_no_removal : (s : Standing) (verdict : Target) (outcome : Wrote) → NoRemoval (wrote_entries s.number s.name (write_of verdict) outcome)
+value_no_removal s verdict outcome number name (inl e) = let none : ⊥ = cc in none
+value_no_removal s target.Allow outcome number name (inr (inl e)) = let none : ⊥ = cc in none
+value_no_removal s target.Block outcome number name (inr (inl e)) = let none : ⊥ = cc in none
+value_no_removal s target.Reject outcome number name (inr (inl e)) = let none : ⊥ = cc in none
+value_no_removal s verdict outcome number name (inr (inr none)) = none
+
+-- the entries of a write, and of what it leads to
+two_more : {J : Type 0} {answer : Answers J} {later : Laters J} {present : Bool} {tried : Tries} {k l : Kernel} {w : State J} (u : State J) (ss : List Standing) (a b : Entry) → FairFrom answer later present tried k w l (record u { standings = ss; entries = (u.entries ++ a ∷ []) ++ b ∷ [] }) → FairFrom answer later present tried k w l (more u ss (a ∷ b ∷ []))
+two_more {answer = answer} {later = later} {present = present} {tried = tried} {k = k} {l = l} {w = w} u ss a b h = subst (λ (v : List Entry). FairFrom answer later present tried k w l (record u { standings = ss; entries = v })) (append_assoc u.entries (a ∷ []) (b ∷ [])) h
+
+three_more : {J : Type 0} {answer : Answers J} {later : Laters J} {present : Bool} {tried : Tries} {k l : Kernel} {w : State J} (u : State J) (ss : List Standing) (a b c : Entry) → FairFrom answer later present tried k w l (record u { standings = ss; entries = ((u.entries ++ a ∷ []) ++ b ∷ []) ++ c ∷ [] }) → FairFrom answer later present tried k w l (more u ss (a ∷ b ∷ c ∷ []))
+three_more {answer = answer} {later = later} {present = present} {tried = tried} {k = k} {l = l} {w = w} u ss a b c h = subst (λ (v : List Entry). FairFrom answer later present tried k w l (record u { standings = ss; entries = v })) (append_assoc (u.entries ++ a ∷ []) (b ∷ []) (c ∷ []) ∙ append_assoc u.entries (a ∷ []) (b ∷ c ∷ [])) h
+
+value_fair : {J : Type 0} {answer : Answers J} {later : Laters J} {present : Bool} {tried : Tries} {k m : Kernel} {w : State J} {t : Told Wrote} {es : List Entry} {how : Settled} (u : State J) (n : Kernel) (s : Standing) (after : Settled → List Standing) (what : Write) → Written s.name s.number what t es how → Has u.standings s → Afters u.standings s after → says_put s.held.0 t.answer n m → FairFrom answer later present tried k w m (with_write u s what t.answer) → FairFrom answer later present tried k w m (more u (mid u after how) es)
+value_fair u n s after what (Done failed) has a says h = two_more u u.standings _ _ h
+value_fair u n s after what (Went failed) has a says h = three_more u (after settled.Nobody) _ _ _ (then_went s (after settled.Nobody) has (a settled.Nobody) says h)
+value_fair u n s after what (Broke failed) has a says h = three_more u (after (settled.Fault failed)) _ _ _ (let after_fault = a (settled.Fault failed) in then_same (after (settled.Fault failed)) after_fault.0 after_fault.1 (then_note (entry.Unsettled s.name (fault.Call failed)) tt h))
+
+none_more : {J : Type 0} {answer : Answers J} {later : Laters J} {present : Bool} {tried : Tries} {k l : Kernel} {w : State J} (u : State J) → FairFrom answer later present tried k w l u → FairFrom answer later present tried k w l (more u u.standings [])
+none_more {answer = answer} {later = later} {present = present} {tried = tried} {k = k} {l = l} {w = w} u h = subst (λ (v : List Entry). FairFrom answer later present tried k w l (record u { entries = v })) (sym (append-nil u.entries)) h
+
+valued_fair : {J : Type 0} {answer : Answers J} {later : Laters J} {present : Bool} {tried : Tries} {k m : Kernel} {w u : State J} {on : Bool} {ms : List Made} {es : List Entry} {how : Settled} (l : Kernel) (s : Standing) (after : Settled → List Standing) → Valued s.name (known_of s) on ms es how → Has u.standings s → Afters u.standings s after → FairFrom answer later present tried k w m u → Along calls m ms l → FairFrom answer later present tried k w l (more u (mid u after how) es)
+valued_fair {u = u} l s after (Same e) has a h r = fair_end l (more u u.standings []) refl r (none_more u h)
+valued_fair {m = m} {u = u} l s after (Set t es how e v) has a h r =
+    let x = h.fair.stand.devices s has in
+    let put = put_fair r.0 s x.0 s.held.0 Authorized (write_of s.verdict) t.answer (failure_of t) (has, x.1) x.1.file (value_called s.verdict) (value_first u.standings [] s.number s.verdict) (value_no_removal s s.verdict t.answer) r.1 h in
+    fair_end l (more u (mid u after how) es) refl r.2 (value_fair u m s after (write_of s.verdict) v has a r.1.says put)
+
+-- the removal
+
+reject_calls : (verdict : Target) → is_reject verdict ≡ true → CallsFor verdict write.Remove
+reject_calls target.Reject e = tt
+reject_calls x e = let none : ⊥ = cc in absurd none
+
+removed_if : (a b : Bool) → (a && not b) ≡ false → a ≡ true → b ≡ true
+removed_if true true e r = refl
+removed_if true false e r = sym e
+removed_if false b e r = let none : ⊥ = cc in absurd none
+
+remove_first : {J : Type 0} (m : Kernel) (u : State J) (s : Standing) → Has u.standings s → s.removed ≡ false → (distinct : (t : Standing) → Has u.standings t → t.number ≡ s.number → t ≡ s) → IsFirst u.standings [] s.number write.Remove
+remove_first m u s has e one (inl b) =
+    let same : b.0 ≡ s = one b.0 b.1 b.2 in
+    let was : true ≡ false = sym b.3 ∙ ap (λ (v : Standing). v.removed) same ∙ e in
+    let none : ⊥ = cc in none
+remove_first m u s has e one (inr b) = b.1
+
+-- the log has it
+done_removal : (m l : Kernel) (s : Standing) (i file : ℕ) (failed : FailedCall) → IsDevice m i s.name s.held s.judged → IsHeldAs m file i Remove → Called (Put file write.Remove) (told_at wrote.Done failed) m l → HasRemoval l s.held
+done_removal m l s i file failed d of c j at =
+    let g = called_grows (Put file write.Remove) (told_at wrote.Done failed) m l c in
+    let is : i ≡ j = file_same l s.held.0 i j (file_later m l s.held.0 i g d.file) at in
+    let e : Effect = record { device = i; write = write.Remove } in
+    let logged : Has l.log e = subst (λ (v : List Effect). Has v e) (sym (one_more file i Remove write.Remove m c.before c.after l of c.moves_before c.effect c.moves_after)) (has_right m.log (e ∷ []) e (inl refl)) in
+    subst (λ (v : ℕ). Has l.log (record { device = v; write = write.Remove })) is logged
+
+-- a removal that was done marks the standing
+removed_fair : {J : Type 0} {answer : Answers J} {later : Laters J} {present : Bool} {tried : Tries} {k m : Kernel} {w u : State J} (l : Kernel) (s : Standing) (i file : ℕ) (failed : FailedCall) (rs : List Standing) → StandsAs m u s i → IsHeldAs m file i Remove → is_reject s.verdict ≡ true → s.removed ≡ false → After s u.standings settled.Stands rs → Called (Put file write.Remove) (told_at wrote.Done failed) m l → FairFrom answer later present tried k w m u → FairFrom answer later present tried k w l (record u { standings = rs; entries = (u.entries ++ entry.Intent s.number s.name write.Remove ∷ []) ++ entry.Wrote s.number s.name write.Remove wrote.Done ∷ [] })
+removed_fair {J} {answer} {later} {present} {tried} {k} {m} {w} {u} l s i file failed rs at of reject fresh a c h =
+    let g = called_grows (Put file write.Remove) (told_at wrote.Done failed) m l c in
+    let stand = h.fair.stand in
+    let es = wrote_entries s.number s.name write.Remove wrote.Done in
+    let first = remove_first m u s at.0 fresh (λ t b e. distinct_one (λ (v : Standing). v.number) u.standings t s stand.distinct b at.0 e) in
+    let account = put_account m l u s i file Remove write.Remove wrote.Done failed at of (reject_calls s.verdict reject) first c in
+    let removed = removal_removed l u.standings rs s (stand_stays m l u.standings u.next g stand).removed (done_removal m l s i file failed at.1 of c) a.1 in
+    let step = plain_fair answer later present tried m l u rs es c.sound g stand a.0 (removal_marks u.standings rs s stand.distinct reject a.1) removed (plain_wrote s.number s.name write.Remove wrote.Done) account in
+    fair_trans h (subst (λ (v : List Entry). StepFrom answer later present tried m u l (record u { standings = rs; entries = v })) (sym (append_assoc u.entries (entry.Intent s.number s.name write.Remove ∷ []) (entry.Wrote s.number s.name write.Remove wrote.Done ∷ []))) step)
+
+undone_no_removal : (s : Standing) (outcome : Wrote) → (outcome ≡ wrote.Done → ⊥) → NoRemoval (wrote_entries s.number s.name write.Remove outcome)
+undone_no_removal s outcome ne number name (inl e) = let none : ⊥ = cc in none
+undone_no_removal s outcome ne number name (inr (inl e)) = ne (let is : outcome ≡ wrote.Done = cc in is)
+undone_no_removal s outcome ne number name (inr (inr none)) = none
+
+-- where the `remove` file's device is gone, that of the `authorized` file is so
+gone_through : (k l : Kernel) (s : Standing) (i file : ℕ) (d : IsDevice k i s.name s.held s.judged) → IsHeldAs k file i Remove → IsGoneAt file k → Grows k l → IsGoneAt s.held.0 l
+gone_through k l s i file d of gone g =
+    gone_later k l s.name s.held.0 i g (record { d = d.d; file = d.file; device = d.device; named = d.named }) (λ e live. gone i e (record { file = record { device = i; control = Remove }; at = of; is = refl; device = live.at }) live)
+
+put_on_fair : {J : Type 0} {answer : Answers J} {later : Laters J} {present : Bool} {tried : Tries} {k m : Kernel} {w u : State J} {t : Told Wrote} {es : List Entry} {how : Settled} (x y : Kernel) (s : Standing) (i file : ℕ) (after : Settled → List Standing) (shut : Closing) → Written s.name s.number write.Remove t es how → StandsAs m u s i → IsHeldAs m file i Remove → is_reject s.verdict ≡ true → s.removed ≡ false → Afters u.standings s after → Called (Put file write.Remove) t m x → Called (Close file) shut x y → FairFrom answer later present tried k w m u → FairFrom answer later present tried k w y (more u (after how) es)
+put_on_fair {u = u} x y s i file after shut (Done failed) at of reject fresh a c d h =
+    two_more u (after settled.Stands) _ _ (then_called (Close file) shut y tt d (removed_fair x s i file failed (after settled.Stands) at of reject fresh (a settled.Stands) c h))
+put_on_fair {m = m} {u = u} x y s i file after shut (Went failed) at of reject fresh a c d h =
+    let first = remove_first m u s at.0 fresh (λ t b e. distinct_one (λ (v : Standing). v.number) u.standings t s h.fair.stand.distinct b at.0 e) in
+    let put = put_fair x s i file Remove write.Remove wrote.Gone failed at of (reject_calls s.verdict reject) first (undone_no_removal s wrote.Gone (λ e. let none : ⊥ = cc in none)) c h in
+    let g = called_grows (Put file write.Remove) (told_at wrote.Gone failed) m x c in
+    let gone = gone_through x y s i file (device_stays m x i s.name s.held s.judged g at.1) (g.held file (record { device = i; control = Remove }) of) c.says (called_grows (Close file) shut x y d) in
+    three_more u (after settled.Nobody) _ _ _ (then_went s (after settled.Nobody) at.0 (a settled.Nobody) gone (then_called (Close file) shut y tt d put))
+put_on_fair {m = m} {u = u} x y s i file after shut (Broke failed) at of reject fresh a c d h =
+    let first = remove_first m u s at.0 fresh (λ t b e. distinct_one (λ (v : Standing). v.number) u.standings t s h.fair.stand.distinct b at.0 e) in
+    let put = put_fair x s i file Remove write.Remove wrote.Failed failed at of (reject_calls s.verdict reject) first (undone_no_removal s wrote.Failed (λ e. let none : ⊥ = cc in none)) c h in
+    let mark = a (settled.Fault failed) in
+    three_more u (after (settled.Fault failed)) _ _ _ (then_same (after (settled.Fault failed)) mark.0 mark.1 (then_note (entry.Unsettled s.name (fault.Call failed)) tt (then_called (Close file) shut y tt d put)))
+
+unheld_fair : {J : Type 0} {answer : Answers J} {later : Laters J} {present : Bool} {tried : Tries} {k m : Kernel} {w u : State J} {r : RemoveHold} {es : List Entry} {how : Settled} (s : Standing) (i : ℕ) (after : Settled → List Standing) → Unheld s.name s.number r es how → Has u.standings s → RemoveSays s.held.0 i m r → Afters u.standings s after → FairFrom answer later present tried k w m u → FairFrom answer later present tried k w m (more u (after how) es)
+unheld_fair s i after Gone_by has says a h = then_went s (after settled.Nobody) has (a settled.Nobody) says h
+unheld_fair s i after (Failed_by failed) has says a h = let mark = a (settled.Fault failed) in then_same (after (settled.Fault failed)) mark.0 mark.1 (then_note (entry.Unsettled s.name (fault.Call failed)) tt h)
+unheld_fair s i after Short_by has says a h = let short = a settled.Memory in then_same (after settled.Memory) short.0 short.1 (then_note (entry.Unsettled s.name fault.Memory) tt h)
+
+-- the `remove` file of the standing's device
+held_fair : {J : Type 0} {answer : Answers J} {later : Laters J} {present : Bool} {tried : Tries} {k m : Kernel} {w u : State J} (l : Kernel) (s : Standing) (ms : List Made) (r : RemoveHold) → Has u.standings s → Way (holding_remove s.name s.held.0) ms r → Along calls m ms l → FairFrom answer later present tried k w m u → (i : ℕ) × IsDevice l i s.name s.held s.judged × RemoveSays s.held.0 i l r × FairFrom answer later present tried k w l u
+held_fair {J} {answer} {later} {present} {tried} {k} {m} {w} {u} l s ms r has way a h =
+    let x = h.fair.stand.devices s has in
+    let law = holding_law s.name s.held.0 x.0 r m l h.fair.sound (record { d = x.1.d; file = x.1.file; device = x.1.device; named = x.1.named }) (way_runs calls (holding_remove s.name s.held.0) ms m r l way a) in
+    let later_h : FairFrom answer later present tried k w l u = then_quiet l law.sound law.quiet h in
+    (x.0, device_stays m l x.0 s.name s.held s.judged (quiet_grows m l law.quiet) x.1, law.says, later_h)
+
+removal_fair : {J : Type 0} {answer : Answers J} {later : Laters J} {present : Bool} {tried : Tries} {k m : Kernel} {w u : State J} {ms : List Made} {es : List Entry} {how : Settled} (l : Kernel) (s : Standing) (after : Settled → List Standing) → Removal s.name (known_of s) ms es how → is_to_go (known_of s) ≡ true → Has u.standings s → Afters u.standings s after → FairFrom answer later present tried k w m u → Along calls m ms l → FairFrom answer later present tried k w l (more u (after how) es)
+removal_fair l s after (Not_held ms r es how way v) go has a h along =
+    let x = held_fair l s ms r has way along h in
+    unheld_fair s x.0 after v has x.2 a x.3
+removal_fair {m = m} {u = u} l s after (Put_on ms file t shut es how way v) go has a h along =
+    let cut = along_split calls ms (answered (Put file.0 write.Remove) t ∷ answered (Close file.0) shut ∷ []) m l along in
+    let x = held_fair cut.0 s ms (hold.Ready file) has way cut.1 h in
+    fair_end l (more u (after how) es) refl cut.2.2.2
+    (put_on_fair cut.2.0 cut.2.2.0 s x.0 file.0 after shut v (has, x.1) x.2
+    (and_parts (is_reject s.verdict) (not s.removed) go).0
+    (not-true s.removed (and_parts (is_reject s.verdict) (not s.removed) go).1) a cut.2.1
+    cut.2.2.1 x.3)
+
+-- both
+
+only_value : {J : Type 0} {answer : Answers J} {later : Laters J} {present : Bool} {tried : Tries} {k l : Kernel} {w : State J} (u : State J) (s : Standing) (after : Settled → List Standing) (how : Settled) (es : List Entry) → (how ≡ settled.Stands → is_to_go (known_of s) ≡ false) → Has u.standings s → Afters u.standings s after → FairFrom answer later present tried k w l (more u (mid u after how) es) → FairFrom answer later present tried k w l (more u (after how) es)
+only_value u s after settled.Stands es f has a h = let stands = a settled.Stands in then_same (after settled.Stands) stands.0 (marks_keep u.standings (after settled.Stands) s has (removed_if (is_reject s.verdict) s.removed (f refl)) stands.1) h
+only_value u s after how es f has a h = h
+
+carried_fair : {J : Type 0} {answer : Answers J} {later : Laters J} {present : Bool} {tried : Tries} {k m : Kernel} {w u : State J} {on : Bool} {ms : List Made} {es : List Entry} {how : Settled} (l : Kernel) (s : Standing) (after : Settled → List Standing) → Carried s.name (known_of s) on ms es how → Has u.standings s → ((how : Settled) → After s u.standings how (after how)) → FairFrom answer later present tried k w m u → Along calls m ms l → FairFrom answer later present tried k w l (record u { standings = after how; entries = u.entries ++ es })
+carried_fair {u = u} l s after (By_value ms es how v f) has a h along = only_value u s after how es f has a (valued_fair l s after v has a h along)
+carried_fair {J} {answer} {later} {present} {tried} {k} {m} {w} {u} l s after (And_removal ms ns es fs how go v r) has a h along =
+    let cut = along_split calls ms ns m l along in
+    subst (λ (x : List Entry). FairFrom answer later present tried k w l (record u { standings = after how; entries = x })) (append_assoc u.entries es fs)
+    (removal_fair l s after r go has a (valued_fair cut.0 s after v has a h cut.1) cut.2)
+
+pub brought_fair : {J : Type 0} {answer : Answers J} {later : Laters J} {present : Bool} {tried : Tries} {k m : Kernel} {w u : State J} {on : Bool} {ms : List Made} {es : List Entry} {how : Settled} (l : Kernel) (s : Standing) (after : Settled → List Standing) → Brought s.name (known_of s) on ms es how → Has u.standings s → ((how : Settled) → After s u.standings how (after how)) → FairFrom answer later present tried k w m u → Along calls m ms l → FairFrom answer later present tried k w l (record u { standings = after how; entries = u.entries ++ es })
+brought_fair l s after (Left_open ms es how c n) has a h along = carried_fair l s after c has a h along
+brought_fair {m = m} l s after (Let_go ms es shut c) has a h along =
+    let cut = along_split calls ms (answered (Close s.held.0) shut ∷ []) m l along in
+    fair_end l _ refl cut.2.2 (then_called (Close s.held.0) shut cut.2.0 tt cut.2.1 (carried_fair cut.0 s after c has a h cut.1))
+
+-- The settling of one name is fair.
 
 second : {A B : Type 0} (p q : A × B) → p ≡ q → p.1 ≡ q.1
 second p q e = ap (λ (x : _). x.1) e
@@ -174,7 +367,10 @@ judged_fair answer later present n m u name held i judged on sound q d probed ab
     record { stood = stand; fair = fair }
 
 -- it is there, and nothing else changed
-new_same : (ss : List Standing) (next : ℕ) (s : Standing) → s.number ≡ next → (Has (names_of ss) s.name → ⊥) → AllDistinct (names_of ss) → AreInOrder (names_of ss) → AllDistinct (numbers_of ss) → ((t : Standing) → Has ss t → t.number < next) → Same (with_standing s ss) (with_standing s ss)
+new_same : (ss : List Standing) (next : ℕ) (s : Standing) → s.number ≡ next
+    → (Has (names_of ss) s.name → ⊥) → AllDistinct (names_of ss) → AreInOrder (names_of ss)
+    → AllDistinct (numbers_of ss) → ((t : Standing) → Has ss t → t.number < next)
+    → AreSame (with_standing s ss) (with_standing s ss)
 new_same ss next s number absent names order distinct numbers = record {
   there = one_itself (with_standing s ss);
   kept = one_itself (with_standing s ss);
@@ -199,7 +395,7 @@ kept_after k ss next s settled.Nobody number absent stand = record {
 }
 kept_after k ss next s settled.Stands number absent stand =
     let new : Standing = settled_standing s in
-    let same : Same (with_standing s ss) (with_standing new ss) = record {
+    let same : AreSame (with_standing s ss) (with_standing new ss) = record {
       there = λ t a. elim (insert_has ss (place_for s.name ss) new t a) [
         | inl e ↦ subst (λ (v : Standing). IsOne (with_standing s ss) v) e (s, has_new ss (place_for s.name ss) s, refl, refl, refl, refl, refl, refl)
         | inr old ↦ one_itself (with_standing s ss) t (has_old ss (place_for s.name ss) s t old)
@@ -223,7 +419,8 @@ kept_after k ss next s settled.Stands number absent stand =
         | inr old ↦ inl (keeps_itself whole t (has_old ss (place_for s.name ss) s t old))
       ];
       own = λ t a e r. elim (insert_has ss (place_for s.name ss) new t a) [
-        | inl is ↦ subst (λ (v : Standing). v.removed ≡ true) is (ap (λ (b : Bool). s.removed || b) r ∙ or_all s.removed)
+        | inl is ↦ subst (λ (v : Standing). v.removed ≡ true) is
+            (ap (λ (b : Bool). s.removed || b) r ∙ or_right s.removed true refl)
         | inr old ↦
             let n = stand.numbers t old in
             let none : ⊥ = omega (arith, n, e, number) in absurd none
@@ -304,10 +501,9 @@ unbound_fair {J} {answer} {later} {present} {tried} {k} {l} {w} {name} {r} {fs} 
     same h = subst (λ (x : List Entry). FairFrom answer later present tried k w l (record v { entries = x })) (sym (append-nil v.entries)) h
 
     by : {r : Binding} {fs : List Entry} {how : Settled} → Unbound_end name r fs how → FairFrom answer later present tried k w l v → FairFrom answer later present tried k w l (record v { entries = v.entries ++ fs })
-    by Absent_so h = same h
-    by Vanished_so h = same h
     by (Failed_so failed) h = then_note (entry.Unsettled name (fault.Call failed)) tt h
     by Short_so h = then_note (entry.Unsettled name fault.Memory) tt h
+    by x h = same h
 
 -- a binding leads to what it says
 binds_fair : {J : Type 0} {answer : Answers J} {later : Laters J} {present : Bool} {tried : Tries} {k n : Kernel} {w u : State J} (m : Kernel) (name : List ℕ) (ns : List Made) (r : Binding) → Way (binding name (parent_of name)) ns r → FairFrom answer later present tried k w n u → Along calls n ns m → IsKernel m × Quiet n m × BindSays name n m r × FairFrom answer later present tried k w m u
@@ -351,7 +547,193 @@ flat_fair {J} {answer} {later} {present} {tried} {k = k} {m = m} {w = w} {u = u}
 state_is : {J : Type 0} (v : State J) (next : ℕ) (listed : Bool) (judge : J) (es : List Entry) → v.next ≡ next → v.listed ≡ listed → v.judge ≡ judge → v.entries ≡ es → let made : State J = record { standings = v.standings; next = next; listed = listed; judge = judge; entries = es } in v ≡ made
 state_is v next listed judge es a b c d = λ i. record { standings = v.standings; next = a i; listed = b i; judge = c i; entries = d i }
 
-pub piece_fair : {J : Type 0} {answer : Answers J} {later : Laters J} {binds present : Bool} {tried : Tries} {name : List ℕ} {how : Settled} {k m l : Kernel} {w u v : State J} → (binds ≡ true → AreIn tried name w u) → FairFrom answer later present tried k w m u → Piece calls answer later binds present name how m u l v → FairFrom answer later present tried k w l v
-piece_fair {J} {answer} {later} {present = present} {tried = tried} {name = name} {k = k} {l = l} {w = w} {u = u} {v = v} so h p =
-    subst (λ (x : State J). FairFrom answer later present tried k w l x) (sym (state_is v (next_after u p.judged) u.listed (judge_after later present name u p.judged) (u.entries ++ p.rest) p.next p.listed p.judge p.entries))
-    (flat_fair l p.flat (λ ss b z g. g) so h p.along)
+pub piece_fair : {J : Type 0} {answer : Answers J} {later : Laters J} {binds present : Bool}
+    {tried : Tries} {name : List ℕ} {how : Settled} {ok : Bool} {ms : List Made} {k m l : Kernel}
+    {w u v : State J} → (binds ≡ true → AreIn tried name w u)
+    → FairFrom answer later present tried k w m u
+    → Piece answer later binds present name u ok ms how v → Along calls m ms l
+    → FairFrom answer later present tried k w l v
+piece_fair {J} {answer} {later} {present = present} {tried = tried} {name = name} {k = k} {l = l}
+    {w = w}
+    {u = u} {v = v} so h p a =
+    let next = next_after u p.judged in
+    let judge = judge_after later present name u p.judged in
+    let is = state_is v next u.listed judge (u.entries ++ p.rest) p.next p.listed p.judge p.entries
+    in
+    subst (λ (x : State J). FairFrom answer later present tried k w l x) (sym is)
+    (flat_fair l p.flat (λ ss b z g. g) so h a)
+
+-- The sweep is fair.
+
+-- what is so of the names still to come, where they are bound
+abbrev Awaits : {J : Type 0} → List (List ℕ) → State J → State J → Type 0
+Awaits names w u = AllDistinct names × AreInOrder names × AreSplit names w u × AreFresh names w u
+
+chain_fair : {J : Type 0} {answer : Answers J} {later : Laters J} {binds present : Bool}
+    {names : List (List ℕ)} {k m : Kernel} {w u v : State J} {ok : Bool} {ms : List Made}
+    {es : List Entry} (l : Kernel) → (binds ≡ true → Awaits names w u)
+    → FairFrom answer later present swept_before k w m u
+    → Chain answer later binds present names u ok ms es v → Along calls m ms l
+    → FairFrom answer later present swept_before k w l v
+chain_fair {answer = answer} {later = later} {present = present} {k = k} {w = w} l so h (Over x) a =
+    subst (λ (n : Kernel). FairFrom answer later present swept_before k w n x) (sym a) h
+chain_fair {m = m} {w = w} l so h (First name names how u x v ok more ms ns es p c) a =
+    let rest = h.fair.rest in
+    let e = h.fair.entries in
+    let cut = along_split calls ms ns m l a in
+    chain_fair l
+    (λ b.
+    let q = so b in
+    (q.0.1, q.1.1, part_split w u name names rest x e q.1 q.2 (q.3 rest e name (inl refl)) (piece_part p), part_fresh w u name names rest x e q.0 q.3 (piece_part p)))
+    (piece_fair (λ b. let q = so b in split_in name names w u q.1 q.2) h p cut.1) c cut.2
+
+-- an entry for each standing that isn't listed
+farewell_has : (names : List (List ℕ)) (ss : List Standing) (e : Entry) → Has (farewells names ss) e → (t : Standing) × Has ss t × (lists names t.name ≡ false) × (entry.Gone t.number t.name ≡ e)
+farewell_has names [] e a = absurd a
+farewell_has names (s ∷ ss) e a =
+    let more : Has (farewells names ss) e → (t : Standing) × Has (s ∷ ss) t × (lists names t.name ≡ false) × (entry.Gone t.number t.name ≡ e) = λ b. let t = farewell_has names ss e b in (t.0, inr t.1, t.2, t.3) in
+    (elim (lists names s.name) as (λ (b : Bool). lists names s.name ≡ b → Has (cond b (farewells names ss) (entry.Gone s.number s.name ∷ farewells names ss)) e → (t : Standing) × Has (s ∷ ss) t × (lists names t.name ≡ false) × (entry.Gone t.number t.name ≡ e)) [
+      | true ↦ λ q h. more h
+      | false ↦ λ q h. elim h [ inl is ↦ (s, inl refl, q, is) | inr b ↦ more b ]
+    ]) refl a
+
+has_farewell : (names : List (List ℕ)) (ss : List Standing) (t : Standing) → Has ss t → lists names t.name ≡ false → Has (farewells names ss) (entry.Gone t.number t.name)
+has_farewell names [] t a f = absurd a
+has_farewell names (s ∷ ss) t (inl e) f =
+    let same : s.name ≡ t.name = ap (λ (v : Standing). v.name) e in
+    let out : lists names s.name ≡ false = ap (λ (v : List ℕ). lists names v) same ∙ f in
+    let told : entry.Gone s.number s.name ≡ entry.Gone t.number t.name = ap (λ (v : Standing). entry.Gone v.number v.name) e in
+    subst (λ (b : Bool). Has (cond b (farewells names ss) (entry.Gone s.number s.name ∷ farewells names ss)) (entry.Gone t.number t.name)) (sym out) (inl told)
+has_farewell names (s ∷ ss) t (inr a) f =
+    let rest = has_farewell names ss t a f in
+    elim (lists names s.name) as (λ (b : Bool). Has (cond b (farewells names ss) (entry.Gone s.number s.name ∷ farewells names ss)) (entry.Gone t.number t.name)) [ true ↦ rest | false ↦ inr rest ]
+
+farewell_number : (names : List (List ℕ)) (ss : List Standing) (number : ℕ) → Has (gone_of (farewells names ss)) number → Has (numbers_of ss) number
+farewell_number names ss number a =
+    let h = gone_has (farewells names ss) number a in
+    let t = farewell_has names ss (entry.Gone number h.0) h.1 in
+    let e = t.3 in
+    let same : t.0.number ≡ number = cc in
+    subst (λ (v : ℕ). Has (numbers_of ss) v) same (has_map (λ (s : Standing). s.number) ss t.0 t.1)
+
+farewell_distinct : (names : List (List ℕ)) (ss : List Standing) → AllDistinct (numbers_of ss) → AllDistinct (gone_of (farewells names ss))
+farewell_distinct names [] d = tt
+farewell_distinct names (s ∷ ss) d =
+    let rest = farewell_distinct names ss d.1 in
+    let apart : Has (gone_of (farewells names ss)) s.number → ⊥ = λ a. d.0 (farewell_number names ss s.number a) in
+    elim (lists names s.name) as (λ (b : Bool). AllDistinct (gone_of (cond b (farewells names ss) (entry.Gone s.number s.name ∷ farewells names ss)))) [ true ↦ rest | false ↦ (apart, rest) ]
+
+-- the device of each standing that isn't listed is gone
+abbrev AreGone : Kernel → List (List ℕ) → List Standing → Type 0
+AreGone m names ss = (s : Standing) (i : ℕ) → Has ss s → IsDevice m i s.name s.held s.judged → lists names s.name ≡ false → IsGone m i
+
+farewell_account : {J : Type 0} (answer : Answers J) (later : Laters J) (present : Bool) (tried : Tries) (m : Kernel) (names : List (List ℕ)) (before : List Standing) (log : List Effect) (judge : J) (next : ℕ) (ss : List Standing) (es : List Entry) → Stand m before next → AreGone m names before → ((s : Standing) → Has ss s → Has before s) → Account answer later present tried m m before log judge next es log judge next → Account answer later present tried m m before log judge next (es ++ farewells names ss) log judge next
+farewell_account answer later present tried m names before log judge next [] es stand gone sub a = subst (λ (v : List Entry). Account answer later present tried m m before log judge next v log judge next) (sym (append-nil es)) a
+farewell_account {J} answer later present tried m names before log judge next (s ∷ ss) es stand gone sub a =
+    let e = entry.Gone s.number s.name in
+    let A : List Entry → Type 0 = λ v. Account answer later present tried m m before log judge next v log judge next in
+    let rec : (fs : List Entry) → A fs → A (fs ++ farewells names ss) = λ fs b. farewell_account answer later present tried m names before log judge next ss fs stand gone (λ t h. sub t (inr h)) b in
+    let has = sub s (inl refl) in
+    let d = stand.devices s has in
+    (elim (lists names s.name) as (λ (b : Bool). lists names s.name ≡ b → A (es ++ cond b (farewells names ss) (e ∷ farewells names ss))) [
+      | true ↦ λ q. rec es a
+      | false ↦ λ q. subst (λ (v : List Entry). A v) (append_assoc es (e ∷ []) (farewells names ss))
+          (rec (es ++ e ∷ []) (WentAway es log judge next d.0 s.number s.name s.held s.judged
+          s.verdict d.1 (gone s d.0 has d.1 q) (inl (s, has, refl, refl, refl, refl)) a))
+    ]) refl
+
+parted_fair : {J : Type 0} (answer : Answers J) (later : Laters J) (present : Bool) (tried : Tries) (m : Kernel) (u : State J) (names : List (List ℕ)) → IsKernel m → Stand m u.standings u.next → AreGone m names u.standings → StepFrom answer later present tried m u m (parted names u)
+parted_fair answer later present tried m u names sound stand gone =
+    let ss = u.standings in
+    let listed : Standing → Bool = λ s. lists names s.name in
+    let rs = filter listed ss in
+    let there : (s : Standing) → Has rs s → IsOne ss s = λ s a. one_itself ss s (filter_has listed ss s a).0 in
+    let none : (number : ℕ) (name : List ℕ) (held : Held) (verdict : Target) (cause : Cause) → Has (farewells names ss) (entry.Judged number name held verdict cause) → ⊥ = λ number name held verdict cause a. let t = farewell_has names ss (entry.Judged number name held verdict cause) a in let e = t.3 in let none : ⊥ = cc in none in
+    let fair : IsFair answer later present tried m u m (parted names u) = record {
+      sound = sound;
+      grows = grows_refl m;
+      rest = farewells names ss;
+      entries = refl;
+      stand = stand_of m ss rs u.next there (distinct_filter (λ (s : Standing). s.name) listed ss stand.names) (order_filter listed ss stand.order) (distinct_filter (λ (s : Standing). s.number) listed ss stand.distinct) (λ s a. stand.removed s (filter_has listed ss s a).0) stand;
+      account = farewell_account answer later present tried m names ss m.log u.judge u.next ss [] stand gone (λ s a. a) Start;
+      left = record {
+        told = λ s a. inl (there s a);
+        kept = λ s a.
+            (elim (lists names s.name) as (λ (b : Bool). lists names s.name ≡ b → IsOne rs s ⊎ Has (farewells names ss) (entry.Gone s.number s.name)) [
+              | true ↦ λ q. inl (one_itself rs s (has_filter listed ss s a q))
+              | false ↦ λ q. inr (has_farewell names ss s a q)
+            ]) refl;
+        judged = λ number name held verdict cause a. absurd (none number name held verdict cause a);
+        ended = λ s name a g.
+            let t = farewell_has names ss (entry.Gone s.number name) g in
+            let e = t.3 in
+            let number : t.0.number ≡ s.number = cc in
+            let f = filter_has listed ss s a in
+            let same : t.0 ≡ s = distinct_one (λ (v : Standing). v.number) ss t.0 s stand.distinct t.1 f.0 number in
+            let was : true ≡ false = sym f.1 ∙ sym (ap (λ (v : Standing). lists names v.name) same) ∙ t.2 in
+            true≢false was;
+        removed = keep_marks ss rs (farewells names ss) stand.distinct (λ s a. keeps_itself ss s (filter_has listed ss s a).0) (λ number name a. let t = farewell_has names ss (entry.Wrote number name write.Remove wrote.Done) a in let e = t.3 in let none : ⊥ = cc in none);
+      };
+      gone = farewell_distinct names ss stand.distinct;
+      once = λ i a b p q. absurd (none a p.name p.held p.verdict p.cause p.has);
+      unjudged = λ i a h p. none a p.name p.held p.verdict p.cause p.has;
+    } in
+    record { step = record { stood = stand; fair = fair }; none = none }
+
+then_parted : {J : Type 0} {answer : Answers J} {later : Laters J} {present : Bool} {tried : Tries} {k m : Kernel} {w u : State J} (names : List (List ℕ)) → AreGone m names u.standings → FairFrom answer later present tried k w m u → FairFrom answer later present tried k w m (parted names u)
+then_parted {J} {answer} {later} {present} {tried} {k} {m} {w} {u} names gone h = fair_trans h (parted_fair answer later present tried m u names h.fair.sound h.fair.stand gone)
+
+-- what isn't listed is gone
+
+listing_gone : (k m : Kernel) (names : List (List ℕ)) (ss : List Standing) (next : ℕ) → Grows k m → says_listing (listing.Names names) k m → Stand k ss next → AreGone m (in_sweep_order names) ss
+listing_gone k m names ss next g says stand s i a d out =
+    let dead : Live m.devices i d.d → ⊥ = λ live.
+    let x = stand.devices s a in
+    let is : x.0 ≡ i = file_same m s.held.0 x.0 i (file_later k m s.held.0 x.0 g x.1.file) d.file in
+    let first = live_before k m i x.1.d d.d g (subst (λ (v : ℕ). slice_get k.devices v ≡ Some x.1.d) is x.1.device) live in
+    let has : Has names s.name = subst (λ (v : List ℕ). Has names v) x.1.named (says.0 i x.1.d (record { entry = first.0; exit = (d.d, live) })) in
+    true≢false (sym (listed_is (in_sweep_order names) s.name (to_sweep_order names s.name has)) ∙ out) in
+    gone_device m i s.name s.held s.judged d dead
+
+-- a listing succeeded
+then_listed : {J : Type 0} {answer : Answers J} {later : Laters J} {present : Bool} {tried : Tries} {k m : Kernel} {w u : State J} → FairFrom answer later present tried k w m u → FairFrom answer later present tried k w m (marked_listed u)
+then_listed {J} {answer} {later} {present} {tried} {k} {m} {w} {u} h =
+    let x = h.fair in
+    let fair : IsFair answer later present tried k w m (marked_listed u) = record { sound = x.sound; grows = x.grows; rest = x.rest; entries = x.entries; stand = x.stand; account = x.account; left = x.left; gone = x.gone; once = x.once; unjudged = x.unjudged } in
+    record { stood = h.stood; fair = fair }
+
+goes_fair : {J : Type 0} {answer : Answers J} {later : Laters J} {k l : Kernel} {w v : State J}
+    {ok : Bool} {ms : List Made} {es : List Entry} → IsKernel k → Stand k w.standings w.next
+    → Goes answer later w ok ms es v → Along calls k ms l
+    → FairFrom answer later (not w.listed) swept_before k w l v
+goes_fair {answer = answer} {later = later} {k = k} {l = l} {w = w} sound stand
+    (Listed found failed ok shut made es v closings chain) b =
+    let names = in_sweep_order found in
+    let a = told_at (listing.Names found) failed in
+    let m = b.0 in
+    let cut = along_split calls shut made m l b.2 in
+    let gone = listing_gone k m found w.standings w.next (called_grows Names a k m b.1) b.1.says
+    stand in
+    let q = closings_quiet (unlisted_files names w.standings) shut m cut.0 b.1.sound closings cut.1
+    in
+    let h = then_parted names gone
+    (then_called Names a m tt b.1
+    (fair_refl answer later (not w.listed) swept_before k w sound stand)) in
+    chain_fair l (λ e. (
+      order_distinct found b.1.says.1,
+      sweep_in_order found b.1.says.1,
+      parted_split names w,
+      parted_fresh names w,
+    )) (then_quiet cut.0 q.0 q.1 (then_listed h))
+    chain cut.2
+goes_fair {answer = answer} {later = later} {k = k} {l = l} {w = w} sound stand
+    (Unlisted list failed room why ok made es v by chain) b =
+    chain_fair l (λ e. let none : ⊥ = cc in absurd none)
+    (then_note (entry.UnsettledAll why) tt
+    (then_called Names (told_at list failed) b.0 tt b.1
+    (fair_refl answer later (not w.listed) swept_before k w sound stand))) chain b.2
+
+pub sweeping_fair : {J : Type 0} (answer : Answers J) (later : Laters J) (w : State J) (k l : Kernel) (v : State J) → IsKernel k → Stand k w.standings w.next → Runs calls k (sweeping answer later w) v l → IsFair answer later (not w.listed) swept_before k w l v
+sweeping_fair answer later w k l v sound stand r =
+    let x = sweeping_run calls answer later k w l v r in
+    (goes_fair sound stand x.so.1 x.along).fair

@@ -1,74 +1,185 @@
--- Which failed calls a sweep tells.
-use Rattle.std.proofs.Common.{◌≡◌, ℕ, Bool, true, false, cond, List, [], ◌∷◌, ◌++◌, inl, inr, refl, sym, ◌∙◌, ap, subst}
-use Rattle.ug_kernel.specs.declared.calls.Listing.{Listing}
+-- A run of a sweep goes along its parts, and tells each failed call.
+use Rattle.std.proofs.Common.{◌≡◌, ℕ, ◌+◌, ◌≤◌, length, Option, Some, None, arith, Bool, true, false, cond, List, [], ◌∷◌, ◌++◌, inl, inr, refl, sym, ◌∙◌, ap, subst}
+use Rattle.std.specs.List.{filter}
+use Rattle.std.proofs.lemmas.List.{length-append}
+use Rattle.ug_types.proofs.Sorting.{length-sweep_order}
+use Rattle.ug_table.proofs.Common.{Bound, in_sweep_order, FailedCall, Listing, Call, Names, Told, Answer, Runs, Made, answered, Along, failure, failures, Rises, Entry, Fault, State, Answers, Laters, lists, farewells, told_by, failures_told, numbers_given, InParts, unlisted_files, AfterListing, GoesInParts, TellsFaults, Standing}
 use Rattle.ug_kernel.specs.declared.calls.Listing.TheVariants as listing
-use Rattle.ug_kernel.specs.Calls.{Call, Names, Told, Answer}
-use Rattle.ug_kernel.specs.Tree.{Runs}
-use Rattle.ug_kernel.specs.declared.calls.FailedCall.{FailedCall}
-use Rattle.ug_kernel.specs.Along.{Made, answered, failure, failures, Rises, failure_of}
 use Rattle.ug_kernel.proofs.Ways.{failures_more}
 use Rattle.ug_kernel.proofs.Rises.{Counting, along_numbered, along_rises}
-use Rattle.ug_audit.specs.declared.entry.Entry.{Entry}
 use Rattle.ug_audit.specs.declared.entry.Entry.TheVariants as entry
-use Rattle.ug_table.specs.State.{State, Answers, Laters}
-use Rattle.ug_table.specs.Standings.{lists, farewells}
-use Rattle.ug_table.specs.Sweep.{sweeping}
-use Rattle.ug_table.specs.Parts.{failure_in, failures_told, InParts, unlisted_files, AfterListing, TellsFaults}
-use Rattle.ug_table.specs.declared.standing.Standing.{Standing}
-use Rattle.ug_table.proofs.Closings.{closings_calm}
-use Rattle.ug_table.proofs.OnePart.{told_more}
-use Rattle.ug_table.proofs.Parted.{sweeping_goes}
-use Rattle.ug_table.proofs.Shapes.{told_at}
+use Rattle.ug_audit.specs.declared.entry.Fault.TheVariants as fault
+use Rattle.ug_table.specs.Sweep.{names_of, sweeping}
+use Rattle.ug_table.proofs.Shapes.{told_at, next_after}
+use Rattle.ug_table.proofs.OnePart.{told_more, given_count, given_more, flat_given, flat_none, flat_is_part}
+use Rattle.ug_table.proofs.Standings.{farewells_by}
+use Rattle.ug_table.proofs.Chains.{closings_calm, Chain, Over, First, Without, List_failed, List_short, No_room, Goes, Listed, Unlisted, goes_entries, sweeping_run}
+
+chain_parts : {J : Type 0} {answer : Answers J} {later : Laters J} {binds present : Bool}
+    {names : List (List ℕ)} {w v : State J} {ok : Bool} {ms : List Made} {es : List Entry}
+    → Chain answer later binds present names w ok ms es v
+    → InParts names w.standings v.standings ms es
+chain_parts (Over w) = (refl, refl, refl)
+chain_parts (First name names how w x v ok more ms ns es p c) =
+    (x.standings, ms, ns, p.rest, es, refl, refl, flat_is_part p.flat, chain_parts c)
+
+unlisted_begins : {list : Listing} {failed : FailedCall} {room : Bool} {why : Fault}
+    (ss : List Standing) → Without list failed room why
+    → AfterListing list failed ss (entry.UnsettledAll why ∷ []) ss (names_of ss) []
+unlisted_begins ss (No_room found failed) = inr (refl, refl, refl, refl)
+unlisted_begins ss x = (refl, refl, refl, refl)
+
+-- the numbers that are given out
+
+next_is : {J : Type 0} (w : State J) (o : Option (List Standing × Bound))
+    → next_after w o ≡ w.next + given_count o
+next_is w None = omega arith
+next_is w (Some judged) = refl
+
+pub chain_next : {J : Type 0} {answer : Answers J} {later : Laters J} {binds present : Bool}
+    {names : List (List ℕ)} {w v : State J} {ok : Bool} {ms : List Made} {es : List Entry}
+    → Chain answer later binds present names w ok ms es v
+    → v.next ≡ w.next + length (numbers_given es)
+chain_next (Over w) = omega arith
+chain_next (First name names how w x v ok more ms ns es p c) =
+    let rest = chain_next c in
+    let here = p.next in
+    let is = next_is w p.judged in
+    let given = flat_given p.flat in
+    let sum = ap length (given_more p.rest es) ∙ length-append (numbers_given p.rest)
+    (numbers_given es) in
+    omega (arith, rest, here, is, given, sum)
+
+-- one a name at most, and none where nothing is bound
+pub chain_given : {J : Type 0} {answer : Answers J} {later : Laters J} {present : Bool}
+    {names : List (List ℕ)} {w v : State J} {ok : Bool} {ms : List Made} {es : List Entry}
+    → Chain answer later true present names w ok ms es v → length (numbers_given es) ≤ length names
+chain_given (Over w) = omega arith
+chain_given (First name names how w x v ok more ms ns es p c) =
+    let rest = chain_given c in
+    let one = (flat_is_part p.flat).given in
+    let sum = ap length (given_more p.rest es) ∙ length-append (numbers_given p.rest)
+    (numbers_given es) in
+    omega (arith, rest, one, sum)
+
+pub chain_none : {J : Type 0} {answer : Answers J} {later : Laters J} {present : Bool}
+    {names : List (List ℕ)} {w v : State J} {ok : Bool} {ms : List Made} {es : List Entry}
+    → Chain answer later false present names w ok ms es v → length (numbers_given es) ≡ 0
+chain_none (Over w) = refl
+chain_none (First name names how w x v ok more ms ns es p c) =
+    let rest = chain_none c in
+    let given = flat_given p.flat in
+    let none = flat_none refl p.flat in
+    let sum = ap length (given_more p.rest es) ∙ length-append (numbers_given p.rest)
+    (numbers_given es) in
+    omega (arith, rest, given, none, sum)
+
+-- the parts of a sweep
+pub in_parts : {S J : Type 0} {gives : S → (call : Call) → Answer call → S → Type 0}
+    {answer : Answers J} {later : Laters J} {s t : S} {w v : State J} {ok : Bool} {ms : List Made}
+    {es : List Entry} → Along gives s ms t → Goes answer later w ok ms es v
+    → GoesInParts gives s w t v
+in_parts {w = w} a (Listed found failed ok shut made es v closings c) =
+    let names = in_sweep_order found in
+    let few = chain_given c in
+    let same = length-sweep_order found in
+    record {
+      listed = told_at (listing.Names found) failed;
+      later = shut ++ made;
+      along = a;
+      head = farewells names w.standings;
+      rest = es;
+      entries = goes_entries (Listed found failed ok shut made es v closings c);
+      left = filter (λ (x : Standing). lists names x.name) w.standings;
+      names = names;
+      shut = shut;
+      made = made;
+      cut = refl;
+      begins = inl (refl, refl, refl, closings);
+      parts = chain_parts c;
+      next = chain_next c;
+      given = omega (arith, few, same);
+    }
+in_parts {w = w} a (Unlisted list failed room why ok made es v by c) =
+    let none = chain_none c in
+    record {
+      listed = told_at list failed;
+      later = made;
+      along = a;
+      head = entry.UnsettledAll why ∷ [];
+      rest = es;
+      entries = goes_entries (Unlisted list failed room why ok made es v by c);
+      left = w.standings;
+      names = names_of w.standings;
+      shut = [];
+      made = made;
+      cut = refl;
+      begins = unlisted_begins w.standings by;
+      parts = chain_parts c;
+      next = chain_next c;
+      given = omega (arith, none);
+    }
 
 -- each failed call is told in its part
-exact_parts : (names : List (List ℕ)) (ss rs : List Standing) (ms : List Made) (es : List Entry) → InParts names ss rs ms es → failures_told es ≡ failures ms
-exact_parts [] ss rs ms es h = ap failures_told h.2 ∙ sym (ap failures h.1)
-exact_parts (name ∷ names) ss rs ms es h =
-    let rest = exact_parts names h.0 rs h.2 h.4 h.8 in
-    ap failures_told h.6
-    ∙ told_more h.3 h.4
-    ∙ ap (λ (v : List FailedCall). v ++ failures_told h.4) h.7.told
-    ∙ ap (λ (v : List FailedCall). failures h.1 ++ v) rest
-    ∙ sym (failures_more h.1 h.2)
-    ∙ sym (ap failures h.5)
+chain_tells : {J : Type 0} {answer : Answers J} {later : Laters J} {binds present : Bool}
+    {names : List (List ℕ)} {w v : State J} {ok : Bool} {ms : List Made} {es : List Entry}
+    → Chain answer later binds present names w ok ms es v → failures_told es ≡ failures ms
+chain_tells (Over w) = refl
+chain_tells (First name names how w x v ok more ms ns es p c) =
+    told_more p.rest es
+    ∙ ap (λ (y : List FailedCall). y ++ failures_told es) (flat_is_part p.flat).told
+    ∙ ap (λ (y : List FailedCall). failures ms ++ y) (chain_tells c)
+    ∙ sym (failures_more ms ns)
 
 -- `gone` tells no failure
-farewell_by : (b : Bool) (e : Entry) (es : List Entry) → failure_in e ≡ [] → failures_told es ≡ [] → failures_told (cond b es (e ∷ es)) ≡ []
-farewell_by true e es f h = h
-farewell_by false e es f h = ap (λ (v : List FailedCall). v ++ failures_told es) f ∙ h
+farewells_tell_none : (names : List (List ℕ)) (ss : List Standing)
+    → failures_told (farewells names ss) ≡ []
+farewells_tell_none names ss =
+    farewells_by (λ es. failures_told es ≡ []) refl (λ number name es h. h) names ss
 
-farewells_tell_none : (names : List (List ℕ)) (ss : List Standing) → failures_told (farewells names ss) ≡ []
-farewells_tell_none names [] = refl
-farewells_tell_none names (s ∷ ss) = farewell_by (lists names s.name) (entry.Gone s.number s.name) (farewells names ss) refl (farewells_tell_none names ss)
+why_told : {list : Listing} {failed : FailedCall} {room : Bool} {why : Fault}
+    → Without list failed room why → told_by why ≡ failure Names (told_at list failed)
+why_told (List_failed failed) = refl
+why_told x = refl
 
-begins_tell : (r : Listing) (failed : FailedCall) (ss : List Standing) (head : List Entry) (left : List Standing) (names : List (List ℕ)) (shut : List Made) → AfterListing r failed ss head left names shut → failures_told head ≡ failure Names (told_at r failed)
-begins_tell (listing.Names found) failed ss head left names shut (inl b) = ap failures_told b.1 ∙ farewells_tell_none names ss
-begins_tell (listing.Names found) failed ss head left names shut (inr b) = ap failures_told b.1
-begins_tell listing.Failed failed ss head left names shut b = ap failures_told b.1
-begins_tell listing.Memory failed ss head left names shut b = ap failures_told b.1
+pub goes_tells : {J : Type 0} {answer : Answers J} {later : Laters J} {w v : State J} {ok : Bool}
+    {ms : List Made} {es : List Entry} → Goes answer later w ok ms es v
+    → failures_told es ≡ failures ms
+goes_tells {w = w} (Listed found failed ok shut made es v closings c) =
+    let names = in_sweep_order found in
+    told_more (farewells names w.standings) es
+    ∙ ap (λ (y : List FailedCall). y ++ failures_told es) (farewells_tell_none names w.standings)
+    ∙ chain_tells c
+    ∙ sym (failures_more shut made
+    ∙ ap (λ (y : List FailedCall). y ++ failures made)
+    (closings_calm (unlisted_files names w.standings) shut closings))
+goes_tells (Unlisted list failed room why ok made es v by c) =
+    ap (λ (y : List FailedCall). told_by why ++ y) (chain_tells c)
+    ∙ ap (λ (y : List FailedCall). y ++ failures made) (why_told by)
 
--- and what is closed behind the listing fails nowhere
-begins_calm : (r : Listing) (failed : FailedCall) (ss : List Standing) (head : List Entry) (left : List Standing) (names : List (List ℕ)) (shut : List Made) → AfterListing r failed ss head left names shut → failures shut ≡ []
-begins_calm (listing.Names found) failed ss head left names shut (inl b) = closings_calm (unlisted_files names ss) shut b.3
-begins_calm (listing.Names found) failed ss head left names shut (inr b) = ap failures b.3
-begins_calm listing.Failed failed ss head left names shut b = ap failures b.3
-begins_calm listing.Memory failed ss head left names shut b = ap failures b.3
-
--- a sweep tells each call that failed, and no other
-pub sweeping_tells : {S J : Type 0} (gives : S → (call : Call) → Answer call → S → Type 0) (calls faults : S → ℕ) (counted : Counting gives calls faults) (answer : Answers J) (later : Laters J) (s : S) (w : State J) (t : S) (v : State J) → Runs gives s (sweeping answer later w) v t → TellsFaults gives calls faults s w t v
+-- and a sweep tells no other
+pub sweeping_tells : {S J : Type 0} (gives : S → (call : Call) → Answer call → S → Type 0)
+    (calls faults : S → ℕ) (counted : Counting gives calls faults) (answer : Answers J)
+    (later : Laters J) (s : S) (w : State J) (t : S) (v : State J)
+    → Runs gives s (sweeping answer later w) v t → TellsFaults gives calls faults s w t v
+unfolding in_parts
 sweeping_tells {S} {J} gives calls faults counted answer later s w t v h =
-    let g = sweeping_goes gives answer later s w t v h in
-    let a : Told Listing = g.listed in
-    let ms : List Made = answered Names a ∷ g.later in
-    let closed : failures g.later ≡ failures g.made =
-    ap failures g.cut ∙ failures_more g.shut g.made ∙ ap (λ (x : List FailedCall). x ++ failures g.made) (begins_calm a.answer (failure_of a) w.standings g.head g.left g.names g.shut g.begins) in
-    let exact : failures_told (g.head ++ g.rest) ≡ failures ms =
-    told_more g.head g.rest
-    ∙ ap (λ (x : List FailedCall). x ++ failures_told g.rest) (begins_tell a.answer (failure_of a) w.standings g.head g.left g.names g.shut g.begins)
-    ∙ ap (λ (x : List FailedCall). failure Names a ++ x) (exact_parts g.names g.left v.standings g.made g.rest g.parts ∙ sym closed) in
+    let x = sweeping_run gives answer later s w t v h in
+    let exact = exact_in x.along x.so.1 in
+    let g = in_parts x.along x.so.1 in
+    let ms : List Made = answered Names g.listed ∷ g.later in
     record {
       goes = g;
       exact = exact;
       numbered = along_numbered gives calls faults counted ms s t g.along;
-      rises = λ low. subst (λ (x : List FailedCall). Rises (calls s) (faults s) x) (sym exact) (along_rises gives calls faults counted ms s t low g.along);
+      rises = λ low. subst (λ (y : List FailedCall). Rises (calls s) (faults s) y) (sym exact)
+          (along_rises gives calls faults counted ms s t low g.along);
     }
+  where
+    exact_in : {ok : Bool} {ms : List Made} {es : List Entry} (a : Along gives s ms t)
+        → (g : Goes answer later w ok ms es v) → let p = in_parts {gives = gives} a g in
+        failures_told (p.head ++ p.rest) ≡ failures (answered Names p.listed ∷ p.later)
+    exact_in a (Listed found failed ok shut made es v closings c) =
+        goes_tells (Listed found failed ok shut made es v closings c)
+    exact_in a (Unlisted list failed room why ok made es v by c) =
+        goes_tells (Unlisted list failed room why ok made es v by c)

@@ -1,15 +1,12 @@
 -- One name more.
 use Rattle.std.proofs.Common.{◌≡◌, ℕ, ◌+◌, ◌*◌, ◌<◌, Bool, List, ◌∷◌, length, get_or, drop, sym, ap, ◌∙◌, subst, arith}
 use Rattle.std.proofs.lemmas.List.{drop_more}
-use Rattle.ug_kernel.specs.Calls.{Call, Answer}
-use Rattle.ug_kernel.specs.Tree.{Runs}
+use Rattle.ug_table.proofs.Common.{Call, Answer, Runs, State, Kept, Answers, Laters, Settled}
 use Rattle.ug_kernel.proofs.Runs.{runs_then}
 use Rattle.ug_audit.specs.declared.journal.Journal.{Journal}
 use Rattle.ug_audit.specs.Journal.{Notes}
-use Rattle.ug_table.specs.State.{State, Kept, Answers, Laters}
 use Rattle.ug_table.specs.Settle.{settling, resettling}
 use Rattle.ug_table.specs.Sweep.{settling_all, resettling_all}
-use Rattle.ug_table.specs.declared.standing.Settled.{Settled}
 
 next_of : {X : Type 0} (xs : List X) (i : ℕ) (x : X) → i < length xs → x ≡ get_or xs i x → drop i xs ≡ x ∷ drop (i + 1) xs
 next_of {X} xs i x lt e = drop_more xs i x lt ∙ ap (λ (y : X). y ∷ drop (i + 1) xs) (sym e)

@@ -1,26 +1,225 @@
--- The marks at the end of a sweep, and whether a listing has succeeded.
-use Rattle.std.proofs.Common.{◌≡◌, ℕ, Bool, true, false, List, [], ◌∷◌, ◌++◌, cond, ◌⊎◌, inl, inr, refl, sym, ◌∙◌, ap, subst, append_assoc, append-nil}
-use Rattle.std.specs.List.{filter}
-use Rattle.std.specs.Ordering.{is_gt}
-use Rattle.ug_types.specs.Elements.{Has, AllDistinct}
-use Rattle.ug_types.specs.Names.{sweep_cmp}
-use Rattle.ug_types.specs.Sweep.{in_place, in_sweep_order}
-use Rattle.ug_kernel.specs.Calls.{Call, Answer}
-use Rattle.ug_kernel.specs.Kernel.{Kernel}
-use Rattle.ug_kernel.specs.Tree.{Runs, calls}
-use Rattle.ug_audit.specs.declared.entry.Entry.{Entry}
+-- Marks and the order of standings.
+use Rattle.std.proofs.Common.{◌≡◌, ℕ, Bool, true, false, not, cond, List, [], ◌∷◌, ◌++◌, map, Option, inl, inr, refl, sym, ◌∙◌, ap, subst, Some, append_assoc, ◌⊎◌, append-nil, ◌+◌, add-one, true≢false, ◌<◌, ◌≤◌, None, length, min, take, get_or, arith}
+use Rattle.ug_table.proofs.Common.{Has, AllDistinct, Write, Wrote, Call, Answer, Told, Bound, Binding, Entry, State, Answers, Laters, noted, same_name, without, marked, place_for, with_standing, settled_standing, standing_of, lists, farewells, IsNamed, IsMarked, IsUnlisted, IsListed, swept_before, AreInOrder, Tries, IsMarkedIn, AreMarkedIn, numbers_of, Standing, Known, Settled, Made, Along, Fault, EndsUnsettled, sweep_cmp, in_place, in_sweep_order, sweep_total, sweep_exact, Kernel, Runs, calls}
 use Rattle.ug_audit.specs.declared.entry.Entry.TheVariants as entry
-use Rattle.ug_audit.specs.declared.entry.Fault.{Fault}
-use Rattle.ug_table.specs.State.{State, noted, Answers, Laters}
-use Rattle.ug_table.specs.Standings.{lists, farewells}
-use Rattle.ug_table.specs.Sweep.{parted, names_of, marked_listed, sweeping}
-use Rattle.ug_table.specs.Laws.{IsNamed, IsUnlisted, IsListed, IsMarked}
-use Rattle.ug_table.specs.declared.standing.Standing.{Standing}
-use Rattle.ug_types.proofs.Elements.{cancel, has_cases, has_map, filter_has}
-use Rattle.ug_table.proofs.Standings.{lists_has, either_listed}
-use Rattle.ug_table.proofs.Says.{Each, each_has, each_append, each_map, NamesOnly, NamesNone, none_named}
-use Rattle.ug_table.proofs.Told.{Part, piece_part, marked_left, marked_right}
-use Rattle.ug_table.proofs.Chains.{Chain, Over, First, Goes, Listed, Unlisted, sweeping_by}
+use Rattle.ug_audit.specs.declared.entry.Fault.TheVariants as fault
+use Rattle.ug_table.specs.Settle.{kept_standings, tried_standings, dropped}
+use Rattle.ug_table.specs.Sweep.{names_of, parted, marked_listed, sweeping}
+use Rattle.ug_table.specs.declared.standing.Settled.TheVariants as settled
+use Rattle.ug_types.proofs.Elements.{has_left, has_right, has_cases, filter_has, map_has, has_map, insert_has, has_new, cancel, last_is, distinct_filter, distinct_insert}
+use Rattle.ug_table.proofs.Shapes.{Piece, Written, Done, Went, Broke, Valued, Same, Set, Gone_by, Failed_by, Short_by, Removal, Not_held, Put_on, Carried, By_value, And_removal, Brought, Left_open, Let_go, Opening, Fresh, Lost, Unbound_end, Absent_so, Vanished_so, Failed_so, Short_so, Flat, Unprobed, Tried, Stopped, Unbound, No_place, Judged_so, brought}
+use Rattle.ug_table.proofs.Standings.{farewells_by, is_same, missing, missing_without, found, marked_other, tried_own, lists_has, either_listed, same_is, names_marked, numbers_marked}
+use Rattle.ug_table.specs.Bring.{is_to_go}
+use Rattle.ug_table.specs.One.{why_in, whys, why_of}
+use Rattle.ug_table.proofs.OnePart.{flat_is_part, flat_whys}
+use Rattle.ug_table.proofs.Says.{Each, NamesOnly, each_has, each_append, each_map, NamesNone, none_named}
+use Rattle.std.specs.List.{filter, insert}
+use Rattle.std.specs.Ordering.{is_gt, is_lt, ordering_reverse}
+use Rattle.ug_table.proofs.Chains.{Chain, Over, First, Goes, Listed, Unlisted, sweeping_run}
+use Rattle.std.specs.declared.cmp.Ordering.{Ordering}
+use Rattle.std.specs.declared.cmp.Ordering.TheVariants.{Less, Equal, Greater}
+use Rattle.std.proofs.lemmas.Cmp.{tied_itself}
+use Rattle.std.proofs.Math.Nat.{min-le_right}
+use Rattle.std.proofs.lemmas.List.{take_more}
+use Rattle.ug_table.specs.Order.{StandInOrder, KeepsOrder, IsNextNumbered, is_nearer}
+
+-- What settling a name tells as unsettled, and how it leaves the marks, whatever the kernel answers.
+
+-- nothing that is told is unsettled
+right_none : (xs ys : List Fault) → xs ++ ys ≡ [] → ys ≡ []
+right_none [] ys e = e
+right_none (x ∷ xs) ys e = let none : ⊥ = cc in absurd none
+
+told_why : (es : List Entry) (name : List ℕ) (why : Fault) → whys es ≡ [] → Has es (entry.Unsettled name why) → ⊥
+told_why [] name why e a = a
+told_why (x ∷ es) name why e (inl is) =
+    let here : why ∷ whys es ≡ [] = subst (λ (v : Entry). why_in v ++ whys es ≡ []) is e in
+    let none : ⊥ = cc in none
+told_why (x ∷ es) name why e (inr a) = told_why es name why (right_none (why_in x) (whys es) e) a
+
+pub unnamed : (es : List Entry) (name : List ℕ) → whys es ≡ [] → IsNamed es name → ⊥
+unnamed es name e a = told_why es name a.0 e a.1
+
+-- an entry that tells it unsettled is the last, and names it
+ends_only : (name : List ℕ) (es : List Entry) → EndsUnsettled name es → Each (NamesOnly name) es
+ends_only name [] h = tt
+ends_only name (entry.Unsettled n why ∷ es) h = (h.0.0, ends_only name es h.1)
+ends_only name (entry.UnsettledAll why ∷ es) h = absurd h.0
+ends_only name (e ∷ es) h = (tt, ends_only name es h.1)
+
+why_named : (name : List ℕ) (es : List Entry) (why : Fault) → EndsUnsettled name es → whys es ≡ why ∷ [] → IsNamed es name
+why_named name [] why h e = let none : ⊥ = cc in absurd none
+why_named name (entry.Unsettled n x ∷ es) why h e = (x, inl (ap (λ (v : List ℕ). entry.Unsettled v x) h.0.0))
+why_named name (entry.UnsettledAll x ∷ es) why h e = absurd h.0
+why_named name (x ∷ es) why h e = let k = why_named name es why h.1 e in (k.0, inr k.1)
+
+-- what the entries say of a name, by how it was settled
+abbrev Tells : Settled → List ℕ → List Entry → Type 0
+Tells settled.Stands name rest = IsNamed rest name → ⊥
+Tells settled.Nobody name rest = Unit {0}
+Tells how name rest = IsNamed rest name
+
+tells_how : (how : Settled) (name : List ℕ) (es : List Entry) → EndsUnsettled name es → whys es ≡ why_of how → Tells how name es
+tells_how settled.Stands name es h e = unnamed es name e
+tells_how settled.Nobody name es h e = tt
+tells_how (settled.Fault failed) name es h e = why_named name es (fault.Call failed) h e
+tells_how settled.Memory name es h e = why_named name es fault.Memory h e
+
+-- the standings
+
+-- other names' standings are as they were; its own is marked by what is told
+pub record Part (name : List ℕ) (ss : List Standing) (es : List Entry) (rs : List Standing) (fs : List Entry) : Type 0 where
+  pub rest : List Entry
+  pub entries : fs ≡ es ++ rest
+  pub only : Each (NamesOnly name) rest
+  pub others : (s : Standing) → Has rs s → (s.name ≡ name → ⊥) → Has ss s
+  pub mark : (s : Standing) → Has rs s → s.name ≡ name → IsMarked rest s
+
+pub marked_left : (es fs : List Entry) (s : Standing) → (IsNamed es s.name → ⊥) → IsMarked fs s → IsMarked (es ++ fs) s
+marked_left es fs s none (inl h) = inl (h.0, λ a. elim (has_cases es fs (entry.Unsettled s.name a.0) a.1) [ inl b ↦ none (a.0, b) | inr b ↦ h.1 (a.0, b) ])
+marked_left es fs s none (inr h) = inr (h.0, (h.1.0, has_right es fs (entry.Unsettled s.name h.1.0) h.1.1))
+
+pub marked_right : (es fs : List Entry) (s : Standing) → (IsNamed fs s.name → ⊥) → IsMarked es s → IsMarked (es ++ fs) s
+marked_right es fs s none (inl h) = inl (h.0, λ a. elim (has_cases es fs (entry.Unsettled s.name a.0) a.1) [ inl b ↦ h.1 (a.0, b) | inr b ↦ none (a.0, b) ])
+marked_right es fs s none (inr h) = inr (h.0, (h.1.0, has_left es fs (entry.Unsettled s.name h.1.0) h.1.1))
+
+-- a new standing
+
+new_others : (ss : List Standing) (x s : Standing) → Has (with_standing x ss) s → (s.name ≡ x.name → ⊥) → Has ss s
+new_others ss x s a ne = elim (insert_has ss (place_for x.name ss) x s a) [
+  | inl e ↦ absurd (ne (ap (λ (v : Standing). v.name) (sym e)))
+  | inr b ↦ b
+]
+
+kept_others : (ss : List Standing) (x : Standing) (how : Settled) (s : Standing) → Has (kept_standings ss x how) s → (s.name ≡ x.name → ⊥) → Has ss s
+kept_others ss x settled.Nobody s a ne = a
+kept_others ss x settled.Stands s a ne = new_others ss (settled_standing x) s a ne
+kept_others ss x how s a ne = new_others ss x s a ne
+
+new_mark : (ss : List Standing) (x s : Standing) (rest : List Entry) → (Has (names_of ss) x.name → ⊥) → IsMarked rest x → Has (with_standing x ss) s → s.name ≡ x.name → IsMarked rest s
+new_mark ss x s rest absent m a e = elim (insert_has ss (place_for x.name ss) x s a) [
+  | inl is ↦ subst (λ (v : Standing). IsMarked rest v) is m
+  | inr b ↦ absurd (absent (subst (λ (v : List ℕ). Has (names_of ss) v) e (has_map (λ (v : Standing). v.name) ss s b)))
+]
+
+kept_mark : (ss : List Standing) (x : Standing) (how : Settled) (rest : List Entry) (s : Standing) → (Has (names_of ss) x.name → ⊥) → x.settled ≡ false → Tells how x.name rest → Has (kept_standings ss x how) s → s.name ≡ x.name → IsMarked rest s
+kept_mark ss x settled.Nobody rest s absent f t a e = absurd (absent (subst (λ (v : List ℕ). Has (names_of ss) v) e (has_map (λ (v : Standing). v.name) ss s a)))
+kept_mark ss x settled.Stands rest s absent f t a e = new_mark ss (settled_standing x) s rest absent (inl (refl, t)) a e
+kept_mark ss x how rest s absent f t a e = new_mark ss x s rest absent (inr (f, t)) a e
+
+-- a standing that is tried again
+
+marked_others : (ss : List Standing) (name : List ℕ) (b : Bool) (s : Standing) → Has (map (marked name b) ss) s → (s.name ≡ name → ⊥) → Has ss s
+marked_others ss name b s a ne =
+    let m = map_has (marked name b) ss s a in
+    let same : m.0 ≡ s = sym (marked_other name b m.0 (λ e. ne (sym (ap (λ (v : Standing). v.name) m.2) ∙ e))) ∙ m.2 in
+    subst (λ (v : Standing). Has ss v) same m.1
+
+tried_others : (ss : List Standing) (name : List ℕ) (how : Settled) (s : Standing) → Has (tried_standings ss name how) s → (s.name ≡ name → ⊥) → Has ss s
+tried_others ss name settled.Nobody s a ne = (filter_has (λ (v : Standing). not (same_name v.name name)) ss s a).0
+tried_others ss name settled.Stands s a ne = marked_others ss name true s a ne
+tried_others ss name how s a ne = marked_others ss name false s a ne
+
+marked_mark : (ss : List Standing) (name : List ℕ) (b : Bool) (s : Standing) → Has (map (marked name b) ss) s → s.name ≡ name → s.settled ≡ b
+marked_mark ss name b s a e =
+    let m = map_has (marked name b) ss s a in
+    let test : same_name m.0.name name ≡ true = is_same m.0.name name (ap (λ (v : Standing). v.name) m.2 ∙ e) in
+    sym (ap (λ (v : Standing). v.settled) m.2) ∙ ap (λ (t : Bool). cond t b m.0.settled) test
+
+tried_mark : (ss : List Standing) (name : List ℕ) (how : Settled) (rest : List Entry) (s : Standing) → Tells how name rest → Has (tried_standings ss name how) s → s.name ≡ name → IsMarked rest s
+tried_mark ss name settled.Nobody rest s t a e = absurd (missing_without name ss (subst (λ (v : List ℕ). Has (names_of (without name ss)) v) e (has_map (λ (v : Standing). v.name) (without name ss) s a)))
+tried_mark ss name settled.Stands rest s t a e = inl (marked_mark ss name true s a e, subst (λ (v : List ℕ). IsNamed rest v → ⊥) (sym e) t)
+tried_mark ss name how rest s t a e = inr (marked_mark ss name false s a e, subst (λ (v : List ℕ). IsNamed rest v) (sym e) t)
+
+-- before a binding, no standing of the name is left
+pub record Opens (name : List ℕ) (ss : List Standing) (rs : List Standing) : Type 0 where
+  pub less : (s : Standing) → Has rs s → Has ss s
+  pub absent : Has (names_of rs) name → ⊥
+
+pub opens : {name : List ℕ} {ss : List Standing} {ms : List Made} {es : List Entry} {rs : List Standing} → Opening name ss ms es rs → Opens name ss rs
+opens {name} {ss} (Fresh e) = record { less = λ s a. a; absent = missing name ss e }
+opens {name} {ss} (Lost known failed shut e) = record { less = λ s a. tried_others_less s a; absent = missing_without name ss }
+  where
+    tried_others_less : (s : Standing) → Has (without name ss) s → Has ss s
+    tried_others_less s a = (filter_has (λ (v : Standing). not (same_name v.name name)) ss s a).0
+
+-- a standing of the name
+own_name : (ss : List Standing) (name : List ℕ) (s : Standing) → Has ss s → s.name ≡ name → Has (names_of ss) name
+own_name ss name s a e = subst (λ (v : List ℕ). Has (names_of ss) v) e (has_map (λ (v : Standing). v.name) ss s a)
+
+flat_others : {binds : Bool} {given : List Standing → Bound → Standing → Type 0} {name : List ℕ} {ss : List Standing} {ok : Bool} {ms : List Made} {rest : List Entry} {how : Settled} {rs : List Standing} {o : Option (List Standing × Bound)} → Flat binds given name ss ok ms rest how rs o → (s : Standing) → Has rs s → (s.name ≡ name → ⊥) → Has ss s
+flat_others {name = name} {ss = ss} (Unprobed known failed at) s a ne = tried_others ss name (settled.Fault failed) s a ne
+flat_others {name = name} {ss = ss} (Tried known on failed ms es how at b) s a ne = tried_others ss name how s a ne
+flat_others (Stopped ms es rs f opening) s a ne = (opens opening).less s a
+flat_others (Unbound ms ns es fs rs r how t opening way end) s a ne = (opens opening).less s a
+flat_others (No_place ms ns es rs b shut t opening way) s a ne = (opens opening).less s a
+flat_others (Judged_so ms ns os es fs rs b x how t opening way given new brought) s a ne = (opens opening).less s (kept_others rs x how s a (λ f. ne (f ∙ new.named)))
+
+flat_mark : {binds : Bool} {given : List Standing → Bound → Standing → Type 0} {name : List ℕ} {ss : List Standing} {ok : Bool} {ms : List Made} {rest : List Entry} {how : Settled} {rs : List Standing} {o : Option (List Standing × Bound)} → Tells how name rest → Flat binds given name ss ok ms rest how rs o → (s : Standing) → Has rs s → s.name ≡ name → IsMarked rest s
+flat_mark {name = name} {ss = ss} t (Unprobed known failed at) s a is = tried_mark ss name (settled.Fault failed) (entry.Unsettled name (fault.Call failed) ∷ []) s t a is
+flat_mark {name = name} {ss = ss} t (Tried known on failed ms es how at b) s a is = tried_mark ss name how es s t a is
+flat_mark {name = name} t (Stopped ms es rs f opening) s a is = absurd ((opens opening).absent (own_name rs name s a is))
+flat_mark {name = name} t (Unbound ms ns es fs rs r how f opening way end) s a is = absurd ((opens opening).absent (own_name rs name s a is))
+flat_mark {name = name} t (No_place ms ns es rs b shut f opening way) s a is = absurd ((opens opening).absent (own_name rs name s a is))
+flat_mark {rest = rest} t (Judged_so ms ns os es fs rs b x how f opening way given new brought) s a is =
+    kept_mark rs x how rest s (subst (λ v. Has (names_of rs) v → ⊥) (sym new.named) (opens opening).absent) new.fresh (subst (λ v. Tells how v rest) (sym new.named) t) a (is ∙ sym new.named)
+
+flat_part : {binds : Bool} {given : List Standing → Bound → Standing → Type 0} {name : List ℕ} {ss : List Standing} {ok : Bool} {ms : List Made} {rest : List Entry} {how : Settled} {rs : List Standing} {o : Option (List Standing × Bound)} (es fs : List Entry) → fs ≡ es ++ rest → Flat binds given name ss ok ms rest how rs o → Part name ss es rs fs
+flat_part {name = name} {rest = rest} {how = how} xs ys e f =
+    let last = (flat_is_part f).last in
+    record { rest = rest; entries = e; only = ends_only name rest last; others = flat_others f; mark = flat_mark (tells_how how name rest last (flat_whys f)) f }
+
+-- of states, which keep whether a listing has succeeded
+abbrev pub PartOf : {J : Type 0} → List ℕ → State J → State J → Type 0
+PartOf name w v = Part name w.standings w.entries v.standings v.entries × (v.listed ≡ w.listed)
+
+pub piece_part : {J : Type 0} {answer : Answers J} {later : Laters J} {binds present : Bool}
+    {name : List ℕ} {how : Settled} {ok : Bool} {ms : List Made} {w v : State J}
+    → Piece answer later binds present name w ok ms how v → PartOf name w v
+piece_part {w = w} {v = v} p = (flat_part w.entries v.entries p.entries p.flat, p.listed)
+
+-- the answer says whether the name has a standing
+
+pub known_has : (name : List ℕ) (ss : List Standing) (known : Known)
+    → standing_of name ss ≡ Some known → Has (names_of ss) name
+known_has name ss known e =
+    let s = found name ss known e in
+    subst (λ (v : List ℕ). Has (names_of ss) v) s.named (has_map (λ (v : Standing). v.name) ss s.s s.has)
+
+kept_stands : (ss : List Standing) (x : Standing) (how : Settled) → how ≡ settled.Stands → Has (names_of (kept_standings ss x how)) x.name
+kept_stands ss x settled.Stands e = has_map (λ (v : Standing). v.name) (with_standing (settled_standing x) ss) (settled_standing x) (has_new ss (place_for x.name ss) (settled_standing x))
+kept_stands ss x how e = let none : ⊥ = cc in absurd none
+
+kept_nobody : (ss : List Standing) (x : Standing) (how : Settled) (name : List ℕ) → (Has (names_of ss) name → ⊥) → how ≡ settled.Nobody → Has (names_of (kept_standings ss x how)) name → ⊥
+kept_nobody ss x settled.Nobody name absent e = absent
+kept_nobody ss x how name absent e = let none : ⊥ = cc in absurd none
+
+tried_nobody : (ss : List Standing) (name : List ℕ) (how : Settled) → how ≡ settled.Nobody → Has (names_of (tried_standings ss name how)) name → ⊥
+tried_nobody ss name settled.Nobody e = missing_without name ss
+tried_nobody ss name how e = let none : ⊥ = cc in absurd none
+
+unbound_stands : {name : List ℕ} {r : Binding} {es : List Entry} {how : Settled}
+    → Unbound_end name r es how → how ≡ settled.Stands → ⊥
+unbound_stands Absent_so e = let none : ⊥ = cc in none
+unbound_stands x e = let none : ⊥ = cc in none
+
+pub flat_stands : {binds : Bool} {given : List Standing → Bound → Standing → Type 0} {name : List ℕ} {ss : List Standing} {ok : Bool} {ms : List Made} {rest : List Entry} {how : Settled} {rs : List Standing} {o : Option (List Standing × Bound)} → Flat binds given name ss ok ms rest how rs o → how ≡ settled.Stands → Has (names_of rs) name
+flat_stands {name = name} {ss = ss} (Tried known on failed ms es how at b) e =
+    let k = tried_own name ss how known at (λ n. let none : ⊥ = cc in none) in
+    known_has name (tried_standings ss name how) k.0 k.1
+flat_stands (Unbound ms ns es fs rs r how t opening way end) e = absurd (unbound_stands end e)
+flat_stands (Judged_so ms ns os es fs rs b x how t opening way given new brought) e = subst (λ v. Has (names_of (kept_standings rs x how)) v) new.named (kept_stands rs x how e)
+flat_stands x e = let none : ⊥ = cc in absurd none
+
+pub flat_nobody : {binds : Bool} {given : List Standing → Bound → Standing → Type 0} {name : List ℕ} {ss : List Standing} {ok : Bool} {ms : List Made} {rest : List Entry} {how : Settled} {rs : List Standing} {o : Option (List Standing × Bound)} → Flat binds given name ss ok ms rest how rs o → how ≡ settled.Nobody → Has (names_of rs) name → ⊥
+flat_nobody (Unprobed known failed at) e = let none : ⊥ = cc in absurd none
+flat_nobody {name = name} {ss = ss} (Tried known on failed ms es how at b) e = tried_nobody ss name how e
+flat_nobody (Stopped ms es rs f opening) e = (opens opening).absent
+flat_nobody (Unbound ms ns es fs rs r how t opening way end) e = (opens opening).absent
+flat_nobody (No_place ms ns es rs b shut t opening way) e = (opens opening).absent
+flat_nobody {name = name} (Judged_so ms ns os es fs rs b x how t opening way given new brought) e = kept_nobody rs x how name (opens opening).absent e
+
+-- The marks at the end of a sweep, and whether a listing has succeeded.
 
 -- it names none but these as unsettled, and no listing
 abbrev NamesIn : List (List ℕ) → Entry → Type 0
@@ -44,8 +243,7 @@ named_only n name es h a = each_has (NamesOnly n) es (entry.Unsettled name a.0) 
 
 only_first : (n : List ℕ) (names : List (List ℕ)) (e : Entry) → NamesOnly n e → NamesIn (n ∷ names) e
 only_first n names (entry.Unsettled m why) h = inl (sym h)
-only_first n names (entry.UnsettledAll why) h = h
-only_first n names e h = h
+only_first n names x h = h
 
 only_later : (n : List ℕ) (names : List (List ℕ)) (e : Entry) → NamesIn names e → NamesIn (n ∷ names) e
 only_later n names (entry.Unsettled m why) h = inr h
@@ -71,9 +269,12 @@ parts_more n names ss ms rs es gs fs distinct a b =
       mark = λ s h c. mark s h c;
     }
 
-chain_parts : {S J : Type 0} {gives : S → (call : Call) → Answer call → S → Type 0} {answer : Answers J} {later : Laters J} {binds present : Bool} {names : List (List ℕ)} {s t : S} {w v : State J} → AllDistinct names → Chain gives answer later binds present names s w t v → Parts names w.standings w.entries v.standings v.entries × (v.listed ≡ w.listed)
-chain_parts distinct (Over s w) = (none_parts w.standings w.entries, refl)
-chain_parts distinct (First n names how s u t w x v p c) =
+chain_parts : {J : Type 0} {answer : Answers J} {later : Laters J} {binds present : Bool}
+    {names : List (List ℕ)} {w v : State J} {ok : Bool} {ms : List Made} {es : List Entry}
+    → AllDistinct names → Chain answer later binds present names w ok ms es v
+    → Parts names w.standings w.entries v.standings v.entries × (v.listed ≡ w.listed)
+chain_parts distinct (Over w) = (none_parts w.standings w.entries, refl)
+chain_parts distinct (First n names how w x v ok more ms ns es p c) =
     let a = piece_part p in
     let b = chain_parts distinct.1 c in
     (parts_more n names w.standings x.standings v.standings w.entries x.entries v.entries distinct a.0 b.0, b.1 ∙ a.1)
@@ -110,10 +311,7 @@ abbrev Ends : {J : Type 0} → State J → State J → List Entry → Type 0
 Ends w v rest = IsListed rest w.listed v.listed × ((s : Standing) → Has v.standings s → IsMarked rest s)
 
 pub farewell_none : (names : List (List ℕ)) (ss : List Standing) → Each NamesNone (farewells names ss)
-farewell_none names [] = tt
-farewell_none names (s ∷ ss) =
-    let rest = farewell_none names ss in
-    elim (lists names s.name) as (λ (b : Bool). Each NamesNone (cond b (farewells names ss) (entry.Gone s.number s.name ∷ farewells names ss))) [ true ↦ rest | false ↦ (tt, rest) ]
+farewell_none names ss = farewells_by (Each NamesNone) tt (λ number name es h. (tt, h)) names ss
 
 none_unlisted : (es : List Entry) → Each NamesNone es → IsUnlisted es → ⊥
 none_unlisted es h a = each_has NamesNone es (entry.UnsettledAll a.0) h a.1
@@ -134,7 +332,11 @@ stands_known ss rs others s a = elim (either_listed (names_of ss) s.name) [
   | inr ne ↦ has_map (λ (v : Standing). v.name) ss s (others s a ne)
 ]
 
-listed_ends : {J : Type 0} {answer : Answers J} {later : Laters J} {present : Bool} {k l : Kernel} {v : State J} (names : List (List ℕ)) (w : State J) (rest : List Entry) → AllDistinct names → Chain calls answer later true present names k (marked_listed (parted names w)) l v → v.entries ≡ w.entries ++ rest → Ends w v rest
+listed_ends : {J : Type 0} {answer : Answers J} {later : Laters J} {present : Bool} {v : State J}
+    {ok : Bool} {ms : List Made} {es : List Entry} (names : List (List ℕ)) (w : State J)
+    (rest : List Entry) → AllDistinct names
+    → Chain answer later true present names (marked_listed (parted names w)) ok ms es v
+    → v.entries ≡ w.entries ++ rest → Ends w v rest
 listed_ends {v = v} names w rest distinct chain e =
     let bye = farewells names w.standings in
     let h = chain_parts distinct chain in
@@ -144,7 +346,11 @@ listed_ends {v = v} names w rest distinct chain e =
     let marks : (s : Standing) → Has v.standings s → IsMarked (bye ++ h.0.rest) s = λ s a. marked_left bye h.0.rest s (none_named bye s.name none) (h.0.mark s a (stands_listed names w.standings v.standings h.0.others s a)) in
     subst (λ (y : List Entry). Ends w v y) same (inl (listed, h.1), marks)
 
-unlisted_ends : {J : Type 0} {answer : Answers J} {later : Laters J} {present : Bool} {k l : Kernel} {v : State J} (why : Fault) (w : State J) (rest : List Entry) → AllDistinct (names_of w.standings) → Chain calls answer later false present (names_of w.standings) k (noted w (entry.UnsettledAll why)) l v → v.entries ≡ w.entries ++ rest → Ends w v rest
+unlisted_ends : {J : Type 0} {answer : Answers J} {later : Laters J} {present : Bool} {v : State J}
+    {ok : Bool} {ms : List Made} {es : List Entry} (why : Fault) (w : State J) (rest : List Entry)
+    → AllDistinct (names_of w.standings)
+    → Chain answer later false present (names_of w.standings) (noted w (entry.UnsettledAll why)) ok
+    ms es v → v.entries ≡ w.entries ++ rest → Ends w v rest
 unlisted_ends {v = v} why w rest distinct chain e =
     let all = entry.UnsettledAll why in
     let names = names_of w.standings in
@@ -153,10 +359,269 @@ unlisted_ends {v = v} why w rest distinct chain e =
     let marks : (s : Standing) → Has v.standings s → IsMarked (all ∷ h.0.rest) s = λ s a. marked_left (all ∷ []) h.0.rest s (λ n. elim n.1 [ inl q ↦ let none : ⊥ = cc in none | inr none ↦ none ]) (h.0.mark s a (stands_known w.standings v.standings h.0.others s a)) in
     subst (λ (y : List Entry). Ends w v y) same (inr ((why, inl refl), h.1), marks)
 
-goes_ends : {J : Type 0} {answer : Answers J} {later : Laters J} {k l : Kernel} {w v : State J} (rest : List Entry) → AllDistinct (names_of w.standings) → v.entries ≡ w.entries ++ rest → Goes calls answer later k w l v → Ends w v rest
-goes_ends {w = w} rest known e (Listed found number count m u r g closes chain) = listed_ends (in_sweep_order found) w rest (order_distinct found g.says.1) chain e
-goes_ends {w = w} rest known e (Unlisted a why m g begins chain) = unlisted_ends why w rest known chain e
+goes_ends : {J : Type 0} {answer : Answers J} {later : Laters J} {w v : State J} {ok : Bool}
+    {ms : List Made} {es : List Entry} (k l : Kernel) (rest : List Entry)
+    → AllDistinct (names_of w.standings) → v.entries ≡ w.entries ++ rest
+    → Goes answer later w ok ms es v → Along calls k ms l → Ends w v rest
+goes_ends {w = w} k l rest known e (Listed found failed ok shut made es v closings chain) a =
+    listed_ends (in_sweep_order found) w rest (order_distinct found a.1.says.1) chain e
+goes_ends {w = w} k l rest known e (Unlisted list failed room why ok made es v by chain) a =
+    unlisted_ends why w rest known chain e
 
 -- whatever the entries that were added
-pub sweeping_marks : {J : Type 0} (answer : Answers J) (later : Laters J) (w : State J) (k l : Kernel) (v : State J) (rest : List Entry) → AllDistinct (names_of w.standings) → Runs calls k (sweeping answer later w) v l → v.entries ≡ w.entries ++ rest → Ends w v rest
-sweeping_marks answer later w k l v rest known r e = goes_ends rest known e (sweeping_by calls answer later k w l v r)
+pub sweeping_marks : {J : Type 0} (answer : Answers J) (later : Laters J) (w : State J)
+    (k l : Kernel) (v : State J) (rest : List Entry) → AllDistinct (names_of w.standings)
+    → Runs calls k (sweeping answer later w) v l → v.entries ≡ w.entries ++ rest → Ends w v rest
+sweeping_marks answer later w k l v rest known r e =
+    let x = sweeping_run calls answer later k w l v r in
+    goes_ends k l rest known e x.so.1 x.along
+
+-- Lists in sweep order.
+
+less_is : (r : Ordering) → is_lt r ≡ true → r ≡ Less
+less_is Less e = refl
+less_is x e = absurd (true≢false (sym e))
+
+turned_less : (r : Ordering) → is_lt r ≡ true → is_lt (ordering_reverse r) ≡ false
+turned_less Greater e = absurd (true≢false (sym e))
+turned_less x e = refl
+
+pub not_behind : (x y : List ℕ) → swept_before x y ≡ true → swept_before y x ≡ false
+not_behind x y h = ap is_lt (sweep_total.antisymm y x) ∙ turned_less (sweep_cmp x y) h
+
+pub not_itself : (x : List ℕ) → swept_before x x ≡ false
+not_itself x = ap is_lt (tied_itself sweep_total x)
+
+further : (x y z : List ℕ) → swept_before x y ≡ true → swept_before y z ≡ true → swept_before x z ≡ true
+further x y z a b = ap is_lt (sweep_total.trans x y z (less_is (sweep_cmp x y) a) (less_is (sweep_cmp y z) b))
+
+greater_turned : (r : Ordering) → is_gt r ≡ true → is_lt (ordering_reverse r) ≡ true
+greater_turned Greater e = refl
+greater_turned x e = absurd (true≢false (sym e))
+
+greater_before : (x y : List ℕ) → is_gt (sweep_cmp x y) ≡ true → swept_before y x ≡ true
+greater_before x y h = ap is_lt (sweep_total.antisymm y x) ∙ greater_turned (sweep_cmp x y) h
+
+less_or : (r : Ordering) → is_gt r ≡ false → (r ≡ Equal → ⊥) → is_lt r ≡ true
+less_or Less e ne = refl
+less_or Equal e ne = absurd (ne refl)
+less_or Greater e ne = absurd (true≢false e)
+
+placed_by : (x y : List ℕ) (ys : List (List ℕ)) (b : Bool) → is_gt (sweep_cmp x y) ≡ b → (Has (y ∷ ys) x → ⊥) → AreInOrder (y ∷ ys) → AreInOrder (in_place x ys) → AreInOrder (cond b (y ∷ in_place x ys) (x ∷ y ∷ ys))
+placed_by x y ys true e none o rest = (λ z h. elim (place_has x ys z h) [ inl is ↦ subst (λ (v : List ℕ). swept_before y v ≡ true) is (greater_before x y e) | inr a ↦ o.0 z a ], rest)
+placed_by x y ys false e none o rest =
+    let first : swept_before x y ≡ true = less_or (sweep_cmp x y) e (λ f. none (inl (sym (sweep_exact x y f)))) in
+    (λ z h. elim h [ inl is ↦ subst (λ (v : List ℕ). swept_before x v ≡ true) is first | inr a ↦ further x y z first (o.0 z a) ], o)
+
+placed_order : (x : List ℕ) (ys : List (List ℕ)) → (Has ys x → ⊥) → AreInOrder ys → AreInOrder (in_place x ys)
+placed_order x [] none o = (λ z h. absurd h, tt)
+placed_order x (y ∷ ys) none o = placed_by x y ys (is_gt (sweep_cmp x y)) refl none o (placed_order x ys (λ h. none (inr h)) o.1)
+
+pub sweep_in_order : (names : List (List ℕ)) → AllDistinct names → AreInOrder (in_sweep_order names)
+sweep_in_order [] d = tt
+sweep_in_order (x ∷ names) d = placed_order x (in_sweep_order names) (λ a. d.0 (order_has names x a)) (sweep_in_order names d.1)
+
+-- of standings
+
+-- those that a test leaves
+pub order_filter : (test : Standing → Bool) (ss : List Standing) → AreInOrder (names_of ss) → AreInOrder (names_of (filter test ss))
+order_filter test [] o = tt
+order_filter test (s ∷ ss) o =
+    let rest = order_filter test ss o.1 in
+    let below : (n : List ℕ) → Has (names_of (filter test ss)) n → swept_before s.name n ≡ true = λ n a.
+    let m = map_has (λ (v : Standing). v.name) (filter test ss) n a in
+    subst (λ (v : List ℕ). swept_before s.name v ≡ true) m.2 (o.0 m.0.name (has_map (λ (v : Standing). v.name) ss m.0 (filter_has test ss m.0 m.1).0)) in
+    elim (test s) as (λ (b : Bool). AreInOrder (names_of (cond b (s ∷ filter test ss) (filter test ss)))) [ true ↦ (below, rest) | false ↦ rest ]
+
+with_by : (s x : Standing) (ss : List Standing) (b : Bool) → names_of (insert ss (place_for s.name ss) s) ≡ in_place s.name (names_of ss) → names_of (insert (x ∷ ss) (cond b (place_for s.name ss + 1) 0) s) ≡ cond b (x.name ∷ in_place s.name (names_of ss)) (s.name ∷ x.name ∷ names_of ss)
+with_by s x ss true e = ap (λ (k : ℕ). names_of (insert (x ∷ ss) k s)) (add-one (place_for s.name ss)) ∙ ap (λ (v : List (List ℕ)). x.name ∷ v) e
+with_by s x ss false e = refl
+
+-- the names with a new standing
+names_with : (s : Standing) (ss : List Standing) → names_of (with_standing s ss) ≡ in_place s.name (names_of ss)
+names_with s [] = refl
+names_with s (x ∷ ss) = with_by s x ss (is_gt (sweep_cmp s.name x.name)) (names_with s ss)
+
+pub order_with : (s : Standing) (ss : List Standing) → AreInOrder (names_of ss) → (Has (names_of ss) s.name → ⊥) → AreInOrder (names_of (with_standing s ss))
+order_with s ss o absent = subst (λ (v : List (List ℕ)). AreInOrder v) (sym (names_with s ss)) (placed_order s.name (names_of ss) absent o)
+
+-- The marks of standings within a sweep.
+
+-- the state's standings are marked as they are in the part of that name, since the state w
+abbrev pub AreIn : {J : Type 0} → Tries → List ℕ → State J → State J → Type 0
+AreIn tried name w u = (rest : List Entry) → u.entries ≡ w.entries ++ rest → AreMarkedIn tried name w.standings rest u.standings
+
+-- where these names are still to come: each standing is of a name that comes before them, marked as is told, or of one of them, and as it was
+abbrev pub IsSplit : List (List ℕ) → List Standing → List Entry → Standing → Type 0
+IsSplit names before rest s = (((n : List ℕ) → Has names n → swept_before s.name n ≡ true) × IsMarked rest s) ⊎ (Has names s.name × Has before s)
+
+abbrev pub AreSplit : {J : Type 0} → List (List ℕ) → State J → State J → Type 0
+AreSplit names w u = (rest : List Entry) → u.entries ≡ w.entries ++ rest → (s : Standing) → Has u.standings s → IsSplit names w.standings rest s
+
+-- and none of these names was told
+abbrev pub AreFresh : {J : Type 0} → List (List ℕ) → State J → State J → Type 0
+AreFresh names w u = (rest : List Entry) → u.entries ≡ w.entries ++ rest → (n : List ℕ) → Has names n → IsNamed rest n → ⊥
+
+not_first : (name : List ℕ) (names : List (List ℕ)) (n : List ℕ) → AreInOrder (name ∷ names) → Has (name ∷ names) n → swept_before n name ≡ false
+not_first name names n o (inl e) = subst (λ (v : List ℕ). swept_before v name ≡ false) e (not_itself name)
+not_first name names n o (inr a) = not_behind name n (o.0 n a)
+
+-- at the first of them
+pub split_in : {J : Type 0} (name : List ℕ) (names : List (List ℕ)) (w u : State J) → AreInOrder (name ∷ names) → AreSplit (name ∷ names) w u → AreIn swept_before name w u
+split_in name names w u o split rest e s a = elim (split rest e s a) [
+  | inl h ↦ inl (h.0 name (inl refl), h.1)
+  | inr h ↦ inr (not_first name names s.name o h.0, h.1)
+]
+
+added_rest : (es fs gs rest : List Entry) (more : List Entry) → fs ≡ es ++ gs → fs ++ more ≡ es ++ rest → gs ++ more ≡ rest
+added_rest es fs gs rest more e f = cancel es (gs ++ more) rest (sym (append_assoc es gs more) ∙ ap (λ (v : List Entry). v ++ more) (sym e) ∙ f)
+
+-- a standing is dropped
+pub dropped_in : {J : Type 0} (tried : Tries) (w u : State J) (name : List ℕ) (number : ℕ) (gs : List Entry) → u.entries ≡ w.entries ++ gs → AreIn tried name w u → AreIn tried name w (dropped u name number)
+dropped_in tried w u name number gs e so rest f s a =
+    let e1 = entry.Gone number name ∷ [] in
+    let was = so gs e s (filter_has (λ (v : Standing). not (same_name v.name name)) u.standings s a).0 in
+    subst (λ (v : List Entry). IsMarkedIn tried name w.standings v s) (added_rest w.entries u.entries gs rest e1 e f) (elim was [
+      | inl h ↦ inl (h.0, marked_right gs e1 s (none_named e1 s.name (tt, tt)) h.1)
+      | inr h ↦ inr h
+    ])
+
+-- the standings that are listed
+pub parted_split : {J : Type 0} (names : List (List ℕ)) (w : State J) → AreSplit names w (parted names w)
+parted_split names w rest e s a =
+    let f = filter_has (λ (v : Standing). lists names v.name) w.standings s a in
+    inr (lists_has names s.name f.1, f.0)
+
+pub parted_fresh : {J : Type 0} (names : List (List ℕ)) (w : State J) → AreFresh names w (parted names w)
+parted_fresh names w rest e n a named =
+    let bye = farewells names w.standings in
+    let same : bye ≡ rest = cancel w.entries bye rest e in
+    none_named bye n (farewell_none names w.standings) (subst (λ (v : List Entry). IsNamed v n) (sym same) named)
+
+-- one name's part
+part_mark : {J : Type 0} (w u : State J) (name : List ℕ) (names : List (List ℕ)) (gs : List Entry) (z : State J) (s : Standing) (b : Bool) → same_name s.name name ≡ b → AreInOrder (name ∷ names) → ((s : Standing) → Has u.standings s → IsSplit (name ∷ names) w.standings gs s) → (IsNamed gs name → ⊥) → (x : Part name u.standings u.entries z.standings z.entries) → Has z.standings s → IsSplit names w.standings (gs ++ x.rest) s
+part_mark w u name names gs z s true is o split fresh x a =
+    let e = same_is s.name name is in
+    inl (λ n h. subst (λ (v : List ℕ). swept_before v n ≡ true) (sym e) (o.0 n h), marked_left gs x.rest s (λ n. fresh (subst (λ (v : List ℕ). IsNamed gs v) e n)) (x.mark s a e))
+part_mark w u name names gs z s false is o split fresh x a =
+    let ne : s.name ≡ name → ⊥ = λ e. let same = is_same s.name name e in let none : ⊥ = cc in none in
+    elim (split s (x.others s a ne)) [
+      | inl h ↦ inl (λ n b. h.0 n (inr b), marked_right gs x.rest s (λ n. ne (named_only name s.name x.rest x.only n)) h.1)
+      | inr h ↦ elim h.0 [ inl e ↦ absurd (ne (sym e)) | inr b ↦ inr (b, h.1) ]
+    ]
+
+pub part_split : {J : Type 0} (w u : State J) (name : List ℕ) (names : List (List ℕ)) (gs : List Entry) (z : State J) → u.entries ≡ w.entries ++ gs → AreInOrder (name ∷ names) → AreSplit (name ∷ names) w u → (IsNamed gs name → ⊥) → PartOf name u z → AreSplit names w z
+part_split w u name names gs z e o split fresh part rest f s a =
+    let x = part.0 in
+    subst (λ (v : List Entry). IsSplit names w.standings v s) (added_rest w.entries u.entries gs rest x.rest e (sym x.entries ∙ f)) (part_mark w u name names gs z s (same_name s.name name) refl o (split gs e) fresh x a)
+
+pub part_fresh : {J : Type 0} (w u : State J) (name : List ℕ) (names : List (List ℕ)) (gs : List Entry) (z : State J) → u.entries ≡ w.entries ++ gs → AllDistinct (name ∷ names) → AreFresh (name ∷ names) w u → PartOf name u z → AreFresh names w z
+part_fresh w u name names gs z e distinct fresh part rest f n a named =
+    let x = part.0 in
+    let same = added_rest w.entries u.entries gs rest x.rest e (sym x.entries ∙ f) in
+    let told = subst (λ (v : List Entry). IsNamed v n) (sym same) named in
+    elim (has_cases gs x.rest (entry.Unsettled n told.0) told.1) [
+      | inl b ↦ fresh gs e n (inr a) (told.0, b)
+      | inr b ↦ distinct.0 (subst (λ (v : List ℕ). Has names v) (named_only name n x.rest x.only (told.0, b)) a)
+    ]
+
+-- What is done to a table's standings keeps them in order.
+
+pub keeps_filter : (test : Standing → Bool) (ss : List Standing) → KeepsOrder ss (filter test ss)
+keeps_filter test ss next o = record {
+  order = order_filter test ss o.order;
+  distinct = distinct_filter (λ (s : Standing). s.number) test ss o.distinct;
+  numbers = λ s a. o.numbers s (filter_has test ss s a).0;
+}
+
+keeps_marked : (name : List ℕ) (mark : Bool) (ss : List Standing) → KeepsOrder ss (map (marked name mark) ss)
+keeps_marked name mark ss next o = record {
+  order = subst (λ (v : List (List ℕ)). AreInOrder v) (sym (names_marked name mark ss)) o.order;
+  distinct = subst (λ (v : List ℕ). AllDistinct v) (sym (numbers_marked name mark ss)) o.distinct;
+  numbers = λ s a. let m = map_has (marked name mark) ss s a in subst (λ (v : ℕ). v < next) (ap (λ (v : Standing). v.number) m.2) (o.numbers m.0 m.1);
+}
+
+-- one that is tried again
+pub keeps_tried : (name : List ℕ) (how : Settled) (ss : List Standing) → KeepsOrder ss (tried_standings ss name how)
+keeps_tried name settled.Nobody ss = keeps_filter (λ (s : Standing). not (same_name s.name name)) ss
+keeps_tried name settled.Stands ss = keeps_marked name true ss
+keeps_tried name how ss = keeps_marked name false ss
+
+-- a new one
+order_new : (next : ℕ) (ss : List Standing) (s : Standing) → s.number ≡ next → (Has (names_of ss) s.name → ⊥) → StandInOrder next ss → StandInOrder (next + 1) (with_standing s ss)
+order_new next ss s is absent o =
+    let none : Has (numbers_of ss) s.number → ⊥ = λ a.
+    let m = map_has (λ (v : Standing). v.number) ss s.number a in
+    let below = o.numbers m.0 m.1 in
+    omega (arith, below, m.2, is) in
+    record {
+      order = order_with s ss o.order absent;
+      distinct = distinct_insert (λ (v : Standing). v.number) ss (place_for s.name ss) s o.distinct none;
+      numbers = λ t a. elim (insert_has ss (place_for s.name ss) s t a) [
+        | inl e ↦ let same = ap (λ (v : Standing). v.number) e in omega (arith, same, is)
+        | inr b ↦ let below = o.numbers t b in omega (arith, below)
+      ];
+    }
+
+order_kept : (next : ℕ) (ss : List Standing) (s : Standing) (how : Settled) → s.number ≡ next → standing_of s.name ss ≡ None → StandInOrder next ss → StandInOrder (next + 1) (kept_standings ss s how)
+order_kept next ss s settled.Nobody is none o = record { order = o.order; distinct = o.distinct; numbers = λ t a. let below = o.numbers t a in omega (arith, below) }
+order_kept next ss s settled.Stands is none o = order_new next ss (settled_standing s) is (missing s.name ss none) o
+order_kept next ss s how is none o = order_new next ss s is (missing s.name ss none) o
+
+pub kept_as : (before made after : List Standing) → after ≡ made → KeepsOrder before made → KeepsOrder before after
+kept_as before made after e k = subst (λ (v : List Standing). KeepsOrder before v) (sym e) k
+
+-- what a table's fields are after its list was changed
+pub kept_fields : (next cap : ℕ) (before after : List Standing) → KeepsOrder before after → length after ≤ length before → StandInOrder next before × (length before ≤ cap) → StandInOrder next after × (length after ≤ cap)
+kept_fields next cap before after keeps len h = (keeps next h.0, let most = h.1 in omega (arith, len, most))
+
+pub kept_more : (next cap other room : ℕ) (ss rs after : List Standing) (s : Standing) (how : Settled) → s.number ≡ next → ss ≡ rs → standing_of s.name rs ≡ None → min other cap ≡ room → length rs < room → after ≡ kept_standings ss s how → length after ≤ length ss + 1 → StandInOrder next ss → StandInOrder (next + 1) after × (length after ≤ cap)
+kept_more next cap other room ss rs after s how is same none e place made len o = (
+  subst (λ (v : List Standing). StandInOrder (next + 1) v) (sym made) (order_kept next ss s how is (ap (λ (v : List Standing). standing_of s.name v) same ∙ none) o),
+  let as_long = ap length same in omega (arith, min-le_right other cap, e, place, len, as_long),
+)
+
+-- the standing with the next number, as one more is looked at
+
+nearer_found : (ss : List Standing) (number : ℕ) (found : Option Standing) (x : Standing) → is_nearer number found x ≡ true → IsNextNumbered ss number found → IsNextNumbered (ss ++ x ∷ []) number (Some x)
+nearer_found ss number None x e h = (
+  has_right ss (x ∷ []) x (inl refl),
+  grind (arith, e),
+  λ s a above. elim (last_is ss x s a) [
+    | inl b ↦ let most = h s b in let none : ⊥ = omega (arith, most, above) in absurd none
+    | inr is ↦ let same = ap (λ (v : Standing). v.number) is in omega (arith, same)
+  ],
+)
+nearer_found ss number (Some found) x e h = (
+  has_right ss (x ∷ []) x (inl refl),
+  grind (arith, e),
+  λ s a above. elim (last_is ss x s a) [
+    | inl b ↦ let least = h.2 s b above in let less : x.number < found.number = grind (arith, e) in omega (arith, least, less)
+    | inr is ↦ let same = ap (λ (v : Standing). v.number) is in omega (arith, same)
+  ],
+)
+
+no_nearer_found : (ss : List Standing) (number : ℕ) (found : Option Standing) (x : Standing) → is_nearer number found x ≡ false → IsNextNumbered ss number found → IsNextNumbered (ss ++ x ∷ []) number found
+no_nearer_found ss number None x e h = λ s a. elim (last_is ss x s a) [
+  | inl b ↦ h s b
+  | inr is ↦ let same = ap (λ (v : Standing). v.number) is in let most : x.number ≤ number = grind (arith, e) in omega (arith, same, most)
+]
+no_nearer_found ss number (Some found) x e h = (
+  has_left ss (x ∷ []) found h.0,
+  h.1,
+  λ s a above. elim (last_is ss x s a) [
+    | inl b ↦ h.2 s b above
+    | inr is ↦
+        let same = ap (λ (v : Standing). v.number) is in
+        let over : number < x.number = omega (arith, same, above) in
+        let least : found.number ≤ x.number = grind (arith, e, over) in omega (arith, same, least)
+  ],
+)
+
+-- the first of them, and one more
+passed_more : (ss : List Standing) (i : ℕ) (x : Standing) → i < length ss → x ≡ get_or ss i x → take (i + 1) ss ≡ take i ss ++ x ∷ []
+passed_more ss i x lt e = take_more ss i x lt ∙ ap (λ (v : Standing). take i ss ++ v ∷ []) (sym e)
+
+pub found_more : (ss : List Standing) (i number : ℕ) (found now : Option Standing) (x : Standing) (b : Bool) → i < length ss → x ≡ get_or ss i x → is_nearer number found x ≡ b → now ≡ cond b (Some x) found → IsNextNumbered (take i ss) number found → IsNextNumbered (take (i + 1) ss) number now
+found_more ss i number found now x true lt at e is h = subst (λ (v : List Standing). IsNextNumbered v number now) (sym (passed_more ss i x lt at)) (subst (λ (v : Option Standing). IsNextNumbered (take i ss ++ x ∷ []) number v) (sym is) (nearer_found (take i ss) number found x e h))
+found_more ss i number found now x false lt at e is h = subst (λ (v : List Standing). IsNextNumbered v number now) (sym (passed_more ss i x lt at)) (subst (λ (v : Option Standing). IsNextNumbered (take i ss ++ x ∷ []) number v) (sym is) (no_nearer_found (take i ss) number found x e h))

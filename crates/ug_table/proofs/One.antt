@@ -1,92 +1,297 @@
 -- What the settling of one name does, over the states of a run.
-use Rattle.std.proofs.Common.{◌≡◌, ℕ, Bool, true, false, List, [], ◌∷◌, ◌++◌, ◌⊎◌, Option, Some, inl, inr, refl, sym, ◌∙◌, ap, subst, append-nil, append_assoc, slice_get, true≢false}
-use Rattle.ug_types.specs.Elements.{Has}
-use Rattle.ug_kernel.specs.declared.device.Device.{Device}
+use Rattle.std.proofs.Common.{◌≡◌, ℕ, Bool, true, false, not, nat_eq, ◌&&◌, ◌||◌, List, [], ◌∷◌, ◌++◌, Option, Some, map, cond, take, drop, inl, inr, refl, sym, ◌∙◌, ap, subst, arith, true≢false, ◌⊎◌, append-nil, append_assoc, slice_get}
+use Rattle.std.specs.List.{filter}
+use Rattle.std.proofs.lemmas.List.{take-append-drop}
+use Rattle.ug_table.proofs.Common.{Has, AllDistinct, Call, Answer, Runs, calls, Made, Along, Bound, Entry, State, Kept, Answers, Laters, kept_of, with_kept, same_name, known_of, numbered, without, marked, removed_of, place_for, with_standing, settled_standing, AreInOrder, numbers_of, Tries, none_before, Stand, IsGone, IsNamed, HasStanding, IsAsJudged, Standing, Settled, Device, Kernel, IsKernel, Follows, FailedCall, Fault, told_by, failure_in, failures_told, IsLast, EndsUnsettled}
+use Rattle.ug_table.specs.Bring.{is_reject, is_to_go}
+use Rattle.ug_table.specs.Settle.{stands, kept_standings, tried_standings, settling, resettling}
+use Rattle.ug_table.specs.Sweep.{names_of}
+use Rattle.ug_table.specs.Order.{StandInOrder}
+use Rattle.ug_table.specs.Marks.{has_name, has_number, stood_removed, LeavesMarks}
+use Rattle.ug_table.specs.One.{resettling_numbered, NeedsRoom, failed_of, why_in, whys, why_of, GoesAsPart, LivedAs, SettledOne, SettlesOne, IsOf, ResettledOne, ResettlesOne}
+use Rattle.ug_table.specs.declared.standing.Settled.TheVariants as settled
+use Rattle.ug_types.proofs.Elements.{filter_has, map_has, has_map, insert_has, distinct_one, cancel}
+use Rattle.ug_table.proofs.Marks.{not_itself, opens, AreIn, unnamed, flat_stands, flat_nobody}
+use Rattle.ug_table.proofs.Standings.{marked_other, same_is, is_same, found, missing, numbered_has, IsFileOf, file_same, file_later, LiveAs, IsOpen, open_later, open_named}
+use Rattle.ug_table.proofs.Shapes.{Opening, Fresh, Lost, Flat, Unprobed, Tried, Stopped, Unbound, No_place, Judged_so, Piece}
+use Rattle.ug_table.proofs.PartCalls.{failed_by}
+use Rattle.ug_table.proofs.OnePart.{flat_room, tells_why, flat_whys, flat_is_part}
+use Rattle.ug_table.proofs.Chains.{settling_run, numbered_run, resettling_run, run_numbered, no_verdict, no_later}
 use Rattle.ug_types.specs.declared.verdict.Target.TheVariants as target
 use Rattle.ug_types.specs.declared.verdict.Cause.TheVariants as cause
-use Rattle.ug_kernel.specs.Calls.{Call, Answer}
-use Rattle.ug_kernel.specs.Kernel.{Kernel, IsKernel}
-use Rattle.ug_kernel.specs.Called.{Follows}
 use Rattle.ug_kernel.proofs.Grow.{grows_refl, some_same}
-use Rattle.ug_kernel.specs.Tree.{Runs, calls}
-use Rattle.ug_kernel.specs.declared.calls.FailedCall.{FailedCall}
 use Rattle.ug_kernel.proofs.Rises.{Counting, along_numbered, along_rises}
 use Rattle.ug_kernel.proofs.Told.{told_run}
-use Rattle.ug_audit.specs.declared.entry.Entry.{Entry}
 use Rattle.ug_audit.specs.declared.entry.Entry.TheVariants as entry
-use Rattle.ug_audit.specs.declared.entry.Fault.{Fault}
-use Rattle.ug_table.specs.State.{State, Kept, kept_of, with_kept, Answers, Laters}
-use Rattle.ug_table.specs.Standings.{numbered}
-use Rattle.ug_table.specs.Settle.{settling, resettling}
-use Rattle.ug_table.specs.Sweep.{names_of}
-use Rattle.ug_table.specs.Laws.{Tries, none_before, Stand, IsGone, IsNamed, HasStanding, IsAsJudged}
-use Rattle.ug_table.specs.Parts.{told_by, failure_in, failures_told, IsLast, EndsUnsettled}
-use Rattle.ug_table.specs.One.{failed_of, resettling_numbered, why_in, whys, why_of, GoesAsPart, LivedAs, SettledOne, SettlesOne, IsOf, ResettledOne, ResettlesOne}
-use Rattle.ug_table.specs.declared.standing.Standing.{Standing}
-use Rattle.ug_table.specs.declared.standing.Settled.{Settled}
-use Rattle.ug_table.specs.declared.standing.Settled.TheVariants as settled
-use Rattle.ug_types.proofs.Elements.{cancel, has_map}
-use Rattle.ug_table.proofs.Values.{IsFileOf, file_same, file_later, LiveAs, IsOpen, open_later, open_named}
-use Rattle.ug_table.proofs.Joined.{FairFrom, had_before}
-use Rattle.ug_table.proofs.Steps.{fair_refl}
-use Rattle.ug_table.proofs.SoFar.{AreIn}
-use Rattle.ug_table.proofs.Lived.{lives_first, lives_last, stand_files, judged_at, piece_well}
-use Rattle.ug_table.proofs.Standings.{numbered_has}
-use Rattle.ug_table.proofs.Told.{flat_whys, unnamed, flat_stands, flat_nobody}
-use Rattle.ug_table.proofs.Chains.{Piece, resettling_piece, run_numbered, settling_piece}
+use Rattle.ug_table.proofs.Steps.{FairFrom, had_before, fair_refl}
+use Rattle.ug_table.proofs.Lived.{lives_first, lives_last, stand_files, judged_at, piece_well, piece_own}
 use Rattle.ug_table.proofs.Fair.{piece_fair}
-use Rattle.ug_table.proofs.OnePart.{flat_is_part}
-use Rattle.ug_table.proofs.Own.{piece_own}
+
+-- How the settling of a name leaves the marks, whatever the kernel answers.
+
+-- names in order are distinct
+names_distinct : (names : List (List ℕ)) → AreInOrder names → AllDistinct names
+names_distinct [] o = tt
+names_distinct (name ∷ names) o = (λ a. true≢false (sym (o.0 name a) ∙ not_itself name), names_distinct names o.1)
+
+-- which numbers were marked as removed
+
+none_stood : (number : ℕ) (ss : List Standing) → (Has (numbers_of ss) number → ⊥) → stood_removed number ss ≡ false
+none_stood number [] n = refl
+none_stood number (s ∷ ss) n = by (nat_eq s.number number) refl (none_stood number ss (λ a. n (inr a)))
+  where
+    by : (b : Bool) → nat_eq s.number number ≡ b → stood_removed number ss ≡ false → ((b && s.removed) || stood_removed number ss) ≡ false
+    by true e h = absurd (n (inl (let is : s.number ≡ number = grind (arith, e) in is)))
+    by false e h = h
+
+flag_alone : (a b : Bool) → b ≡ false → (a || b) ≡ a
+flag_alone true b e = refl
+flag_alone false b e = e
+
+stood_at : (ss : List Standing) (s : Standing) → AllDistinct (numbers_of ss) → Has ss s → stood_removed s.number ss ≡ s.removed
+stood_at [] s d a = absurd a
+stood_at (t ∷ ss) s d (inl e) =
+    let same : nat_eq t.number s.number ≡ true = let is = ap (λ (v : Standing). v.number) e in grind (arith, is) in
+    let rest : stood_removed s.number ss ≡ false = none_stood s.number ss (λ a. d.0 (subst (λ (v : ℕ). Has (numbers_of ss) v) (sym (ap (λ (v : Standing). v.number) e)) a)) in
+    ap (λ (b : Bool). (b && t.removed) || stood_removed s.number ss) same ∙ flag_alone t.removed (stood_removed s.number ss) rest ∙ ap (λ (v : Standing). v.removed) e
+stood_at (t ∷ ss) s d (inr a) =
+    let other : nat_eq t.number s.number ≡ false = by (nat_eq t.number s.number) refl in
+    ap (λ (b : Bool). (b && t.removed) || stood_removed s.number ss) other ∙ stood_at ss s d.1 a
+  where
+    by : (b : Bool) → nat_eq t.number s.number ≡ b → b ≡ false
+    by true e = let is : t.number ≡ s.number = grind (arith, e) in absurd (d.0 (subst (λ (v : ℕ). Has (numbers_of ss) v) (sym is) (has_map (λ (v : Standing). v.number) ss s a)))
+    by false e = refl
+
+-- those that are meant, by name and number
+abbrev Test : Type 0
+Test = List ℕ → ℕ → Bool
+
+abbrev own : Test → Standing → Bool
+own test s = test s.name s.number
+
+abbrev rest_of : Test → List Standing → List Standing
+rest_of test ss = filter (λ (s : Standing). not (own test s)) ss
+
+-- among these standings, they are those of that name
+abbrev AreNamed : Test → List ℕ → List Standing → Type 0
+AreNamed test name ss = (s : Standing) → Has ss s → own test s ≡ same_name s.name name
+
+marked_rest : (test : Test) (name : List ℕ) (mark : Bool) (ss : List Standing) → AreNamed test name ss → rest_of test (map (marked name mark) ss) ≡ rest_of test ss
+marked_rest test name mark [] named = refl
+marked_rest test name mark (s ∷ ss) named = by (own test s) refl (marked_rest test name mark ss (λ t a. named t (inr a)))
+  where
+    by : (b : Bool) → own test s ≡ b → rest_of test (map (marked name mark) ss) ≡ rest_of test ss → cond (not b) (marked name mark s ∷ rest_of test (map (marked name mark) ss)) (rest_of test (map (marked name mark) ss)) ≡ cond (not b) (s ∷ rest_of test ss) (rest_of test ss)
+    by true e h = h
+    by false e h =
+        let other : s.name ≡ name → ⊥ = λ f. true≢false (sym (is_same s.name name f) ∙ sym (named s (inl refl)) ∙ e) in
+        ap (λ (v : Standing). v ∷ rest_of test (map (marked name mark) ss)) (marked_other name mark s other) ∙ ap (λ (v : List Standing). s ∷ v) h
+
+without_rest : (test : Test) (name : List ℕ) (ss : List Standing) → AreNamed test name ss → rest_of test (without name ss) ≡ rest_of test ss
+without_rest test name [] named = refl
+without_rest test name (s ∷ ss) named = by (own test s) refl (same_name s.name name) (sym (named s (inl refl))) (without_rest test name ss (λ t a. named t (inr a)))
+  where
+    by : (b : Bool) → own test s ≡ b → (c : Bool) → c ≡ own test s → rest_of test (without name ss) ≡ rest_of test ss → rest_of test (cond (not c) (s ∷ without name ss) (without name ss)) ≡ cond (not b) (s ∷ rest_of test ss) (rest_of test ss)
+    by true e true f h = h
+    by false e false f h = ap (λ (v : Bool). cond (not v) (s ∷ rest_of test (without name ss)) (rest_of test (without name ss))) e ∙ ap (λ (v : List Standing). s ∷ v) h
+    by true e false f h = absurd (true≢false (sym e ∙ sym f))
+    by false e true f h = absurd (true≢false (f ∙ e))
+
+between_rest : (test : Test) (x : Standing) (ss rs : List Standing) → own test x ≡ true → rest_of test (ss ++ x ∷ rs) ≡ rest_of test (ss ++ rs)
+between_rest test x [] rs e = ap (λ (v : Bool). cond (not v) (x ∷ rest_of test rs) (rest_of test rs)) e
+between_rest test x (s ∷ ss) rs e = ap (λ (v : List Standing). cond (not (own test s)) (s ∷ v) v) (between_rest test x ss rs e)
+
+with_rest : (test : Test) (x : Standing) (ss : List Standing) → own test x ≡ true → rest_of test (with_standing x ss) ≡ rest_of test ss
+with_rest test x ss e =
+    let p : ℕ = place_for x.name ss in
+    between_rest test x (take p ss) (drop p ss) e ∙ ap (λ (v : List Standing). rest_of test v) (take-append-drop p ss)
+
+-- standings that are tried again
+
+marked_leaves : (test : Test) (name : List ℕ) (ss : List Standing) (mark : Bool) (how : Settled) → mark ≡ stands how → AllDistinct (numbers_of ss) → AreNamed test name ss → LeavesMarks (own test) ss (map (marked name mark) ss) how
+marked_leaves test name ss mark how is distinct named = record {
+  others = marked_rest test name mark ss named;
+  settled = λ s a o.
+      let m = map_has (marked name mark) ss s a in
+      let flag = own_named m.0 m.1 s m.2 o in
+      sym (ap (λ (v : Standing). v.settled) m.2) ∙ ap (λ (t : Bool). cond t mark m.0.settled) flag ∙ is;
+  removed = λ s a o.
+      let m = map_has (marked name mark) ss s a in
+      let flag = own_named m.0 m.1 s m.2 o in
+      let to : removed_of name mark m.0 ≡ (stood_removed m.0.number ss || (stands how && is_reject m.0.verdict)) =
+      ap (λ (t : Bool). cond t (m.0.removed || (mark && is_reject m.0.verdict)) m.0.removed) flag
+      ∙ ap (λ (t : Bool). t || (mark && is_reject m.0.verdict)) (sym (stood_at ss m.0 distinct m.1))
+      ∙ ap (λ (t : Bool). stood_removed m.0.number ss || (t && is_reject m.0.verdict)) is in
+      subst (λ (v : Standing). v.removed ≡ (stood_removed v.number ss || (stands how && is_reject v.verdict))) m.2 to;
+}
+  where
+    own_named : (b : Standing) → Has ss b → (s : Standing) → marked name mark b ≡ s → own test s ≡ true → same_name b.name name ≡ true
+    own_named b a s e o = sym (named b a) ∙ ap (λ (v : Standing). own test v) e ∙ o
+
+without_leaves : (test : Test) (name : List ℕ) (ss : List Standing) (how : Settled) → AreNamed test name ss → LeavesMarks (own test) ss (without name ss) how
+without_leaves test name ss how named = record {
+  others = without_rest test name ss named;
+  settled = λ s a o. absurd (none s a o);
+  removed = λ s a o. absurd (none s a o);
+}
+  where
+    none : (s : Standing) → Has (without name ss) s → own test s ≡ true → ⊥
+    none s a o =
+        let f = filter_has (λ (v : Standing). not (same_name v.name name)) ss s a in
+        true≢false (sym f.1 ∙ ap not (sym (named s f.0) ∙ o))
+
+tried_leaves : (test : Test) (name : List ℕ) (ss : List Standing) (how : Settled) → AllDistinct (numbers_of ss) → AreNamed test name ss → LeavesMarks (own test) ss (tried_standings ss name how) how
+tried_leaves test name ss settled.Nobody distinct named = without_leaves test name ss settled.Nobody named
+tried_leaves test name ss settled.Stands distinct named = marked_leaves test name ss true settled.Stands refl distinct named
+tried_leaves test name ss how distinct named = marked_leaves test name ss false how refl distinct named
+
+-- a name
+
+abbrev of_name : List ℕ → Test
+of_name name = λ other number. same_name other name
+
+own_missing : (name : List ℕ) (ss : List Standing) (s : Standing) → (Has (names_of ss) name → ⊥) → Has ss s → same_name s.name name ≡ true → ⊥
+own_missing name ss s n a o = n (subst (λ (v : List ℕ). Has (names_of ss) v) (same_is s.name name o) (has_map (λ (v : Standing). v.name) ss s a))
+
+opening_rest : {name : List ℕ} {ss : List Standing} {ms : List Made} {es : List Entry} {rs : List Standing} → Opening name ss ms es rs → rest_of (of_name name) rs ≡ rest_of (of_name name) ss
+opening_rest (Fresh e) = refl
+opening_rest {name = name} {ss = ss} (Lost known failed shut e) = without_rest (of_name name) name ss (λ s a. refl)
+
+-- none stands for it
+opening_leaves : {name : List ℕ} {ss : List Standing} {ms : List Made} {es : List Entry} {rs : List Standing} (how : Settled) → Opening name ss ms es rs → LeavesMarks (has_name name) ss rs how
+opening_leaves {name = name} {rs = rs} how opening = record {
+  others = opening_rest opening;
+  settled = λ s a o. absurd (own_missing name rs s (opens opening).absent a o);
+  removed = λ s a o. absurd (own_missing name rs s (opens opening).absent a o);
+}
+
+with_leaves : (name : List ℕ) (ss rs : List Standing) (x : Standing) (how : Settled) → x.name ≡ name → rest_of (of_name name) rs ≡ rest_of (of_name name) ss → (Has (names_of rs) name → ⊥) → x.settled ≡ stands how → x.removed ≡ (stood_removed x.number ss || (stands how && is_reject x.verdict)) → LeavesMarks (has_name name) ss (with_standing x rs) how
+with_leaves name ss rs x how named rest absent mark gone = record {
+  others = with_rest (of_name name) x rs (is_same x.name name named) ∙ rest;
+  settled = λ s a o. elim (insert_has rs (place_for x.name rs) x s a) [
+    | inl e ↦ sym (ap (λ (v : Standing). v.settled) e) ∙ mark
+    | inr b ↦ absurd (own_missing name rs s absent b o)
+  ];
+  removed = λ s a o. elim (insert_has rs (place_for x.name rs) x s a) [
+    | inl e ↦ subst (λ (v : Standing). v.removed ≡ (stood_removed v.number ss || (stands how && is_reject v.verdict))) e gone
+    | inr b ↦ absurd (own_missing name rs s absent b o)
+  ];
+}
+
+kept_leaves : (name : List ℕ) (ss rs : List Standing) (x : Standing) (how : Settled) → x.name ≡ name → x.settled ≡ false → x.removed ≡ false → stood_removed x.number ss ≡ false → rest_of (of_name name) rs ≡ rest_of (of_name name) ss → (Has (names_of rs) name → ⊥) → LeavesMarks (has_name name) ss (kept_standings rs x how) how
+kept_leaves name ss rs x settled.Nobody named fresh stays none rest absent = record {
+  others = rest;
+  settled = λ s a o. absurd (own_missing name rs s absent a o);
+  removed = λ s a o. absurd (own_missing name rs s absent a o);
+}
+kept_leaves name ss rs x settled.Stands named fresh stays none rest absent = with_leaves name ss rs (settled_standing x) settled.Stands named rest absent refl (ap (λ (v : Bool). v || is_reject x.verdict) (stays ∙ sym none))
+kept_leaves name ss rs x how named fresh stays none rest absent = with_leaves name ss rs x how named rest absent fresh (stays ∙ sym (ap (λ (v : Bool). v || false) none))
+
+next_stood : (next : ℕ) (ss : List Standing) → StandInOrder next ss → stood_removed next ss ≡ false
+next_stood next ss o = none_stood next ss (λ a.
+    let m = map_has (λ (v : Standing). v.number) ss next a in
+    let below = o.numbers m.0 m.1 in
+    let is = m.2 in
+    omega (arith, below, is))
+
+flat_leaves : {binds : Bool} {given : List Standing → Bound → Standing → Type 0} {name : List ℕ} {ss : List Standing} {ok : Bool} {ms : List Made} {rest : List Entry} {how : Settled} {rs : List Standing} {o : Option (List Standing × Bound)} (next : ℕ) → StandInOrder next ss → ((rs : List Standing) (b : Bound) (x : Standing) → given rs b x → x.number ≡ next) → Flat binds given name ss ok ms rest how rs o → LeavesMarks (has_name name) ss rs how
+flat_leaves {name = name} {ss = ss} next order numbered (Unprobed known failed at) = tried_leaves (of_name name) name ss (settled.Fault failed) order.distinct (λ s a. refl)
+flat_leaves {name = name} {ss = ss} next order numbered (Tried known on failed ms es how at b) = tried_leaves (of_name name) name ss how order.distinct (λ s a. refl)
+flat_leaves next order numbered (Stopped ms es rs f opening) = opening_leaves settled.Nobody opening
+flat_leaves next order numbered (Unbound ms ns es fs rs r how t opening way end) = opening_leaves how opening
+flat_leaves next order numbered (No_place ms ns es rs b shut t opening way) = opening_leaves settled.Memory opening
+flat_leaves {name = name} {ss = ss} next order numbered (Judged_so ms ns os es fs rs b x how t opening way given new brought) =
+    kept_leaves name ss rs x how new.named new.fresh new.stays (ap (λ (v : ℕ). stood_removed v ss) (numbered rs b x given) ∙ next_stood next ss order) (opening_rest opening) (opens opening).absent
+
+pub run_leaves : {S J : Type 0} (gives : S → (call : Call) → Answer call → S → Type 0) (answer : Answers J) (later : Laters J) (name : List ℕ) (present : Bool) (w : State J) (s : S) (p : Settled × State J) (t : S) → StandInOrder w.next w.standings → Runs gives s (settling answer later name present w) p t → LeavesMarks (has_name name) w.standings p.1.standings p.0
+run_leaves gives answer later name present w s p t order r = flat_leaves w.next order
+    (λ rs b x e. ap (λ (v : Standing). v.number) e)
+    (settling_run gives answer later name present w s p t r).so.flat
+
+-- a number
+
+abbrev of_number : ℕ → Test
+of_number number = λ name other. nat_eq other number
+
+numbered_named : (next number : ℕ) (ss : List Standing) (x : Standing) → StandInOrder next ss → numbered number ss ≡ Some x → AreNamed (of_number number) x.name ss
+numbered_named next number ss x order at s a = by (nat_eq s.number number) refl (same_name s.name x.name) refl
+  where
+    has : Has ss x
+    has = (numbered_has number ss x at).0
+
+    is : x.number ≡ number
+    is = (numbered_has number ss x at).1
+
+    by : (b : Bool) → nat_eq s.number number ≡ b → (c : Bool) → same_name s.name x.name ≡ c → b ≡ c
+    by true e true f = refl
+    by false e false f = refl
+    by true e false f =
+        let n : s.number ≡ number = grind (arith, e) in
+        let same : s ≡ x = distinct_one (λ (v : Standing). v.number) ss s x order.distinct a has (n ∙ sym is) in
+        sym (is_same s.name x.name (ap (λ (v : Standing). v.name) same)) ∙ f
+    by false e true f =
+        let same : s ≡ x = distinct_one (λ (v : Standing). v.name) ss s x (names_distinct (names_of ss) order.order) a has (same_is s.name x.name f) in
+        let n : s.number ≡ number = ap (λ (v : Standing). v.number) same ∙ is in
+        let was : nat_eq s.number number ≡ true = grind (arith, n) in
+        sym e ∙ was
+
+flat_tried : {given : List Standing → Bound → Standing → Type 0} {binds : Bool} {name : List ℕ} {ss : List Standing} {ok : Bool} {ms : List Made} {rest : List Entry} {how : Settled} {rs : List Standing} {o : Option (List Standing × Bound)} → Flat binds given name ss ok ms rest how rs o → binds ≡ false → Has (names_of ss) name → rs ≡ tried_standings ss name how
+flat_tried (Unprobed known failed at) f a = refl
+flat_tried (Tried known on failed ms es how at b) f a = refl
+flat_tried {name = name} {ss = ss} (Stopped ms es rs f (Fresh e)) g a = absurd (missing name ss e a)
+flat_tried (Stopped ms es rs f (Lost known failed shut e)) g a = refl
+flat_tried (Unbound ms ns es fs rs r how t opening way end) f a = absurd (true≢false (sym t ∙ f))
+flat_tried (No_place ms ns es rs b shut t opening way) f a = absurd (true≢false (sym t ∙ f))
+flat_tried (Judged_so ms ns os es fs rs b x how t opening way given new brought) f a = absurd (true≢false (sym t ∙ f))
+
+pub numbered_leaves : {S : Type 0} (gives : S → (call : Call) → Answer call → S → Type 0) (next number : ℕ) (k : Kept) (x : Standing) (s : S) (p : Settled × Kept) (t : S) → StandInOrder next k.standings → numbered number k.standings ≡ Some x → Runs gives s (resettling_numbered number k) p t → LeavesMarks (has_number number) k.standings p.1.standings p.0
+numbered_leaves gives next number k x s p t order at r =
+    let has = has_map (λ (v : Standing). v.name) k.standings x (numbered_has number k.standings x at).0 in
+    let tried = flat_tried (numbered_run gives number k x s p t at r).so.flat refl has in
+    subst (λ (v : List Standing). LeavesMarks (has_number number) k.standings v p.0) (sym tried) (tried_leaves (of_number number) x.name k.standings p.0 order.distinct (numbered_named next number k.standings x order at))
+
+-- want of memory
+pub needs_room : {S : Type 0} (gives : S → (call : Call) → Answer call → S → Type 0) (next number : ℕ) (k : Kept) (x : Standing) (s : S) (p : Settled × Kept) (t : S) → StandInOrder next k.standings → numbered number k.standings ≡ Some x → Runs gives s (resettling_numbered number k) p t → p.0 ≡ settled.Memory → NeedsRoom number k.standings
+needs_room gives next number k x s p t order at r e =
+    let room = flat_room (numbered_run gives number k x s p t at r).so.flat refl e in
+    let f = found x.name k.standings room.0 room.1 in
+    let same : f.s ≡ x = distinct_one (λ (v : Standing). v.name) k.standings f.s x (names_distinct (names_of k.standings) order.order) f.has (numbered_has number k.standings x at).0 f.named in
+    (x, at, ap (λ (v : Standing). is_to_go (known_of v)) (sym same) ∙ ap is_to_go f.known ∙ room.2)
 
 -- what was added is one list
 added : (es fs xs ys : List Entry) → fs ≡ es ++ xs → fs ≡ es ++ ys → ys ≡ xs
 added es fs xs ys e f = cancel es ys xs (sym f ∙ e)
 
--- what was told of failed calls, by why
-abbrev told_all : List Fault → List FailedCall
-told_all [] = []
-told_all (f ∷ fs) = told_by f ++ told_all fs
-
-told_more : (fs gs : List Fault) → told_all (fs ++ gs) ≡ told_all fs ++ told_all gs
-told_more [] gs = refl
-told_more (f ∷ fs) gs = ap (λ (v : List FailedCall). told_by f ++ v) (told_more fs gs) ∙ sym (append_assoc (told_by f) (told_all fs) (told_all gs))
-
-tells_one : (name : List ℕ) (e : Entry) (es : List Entry) → IsLast name e es → failure_in e ≡ told_all (why_in e)
-tells_one name (entry.Unsettled other why) es last = sym (append-nil (told_by why))
-tells_one name (entry.UnsettledAll why) es last = absurd last
-tells_one name e es last = refl
-
-tells_why : (name : List ℕ) (es : List Entry) → EndsUnsettled name es → failures_told es ≡ told_all (whys es)
-tells_why name [] last = refl
-tells_why name (e ∷ es) last =
-    ap (λ (v : List FailedCall). failure_in e ++ v) (tells_why name es last.1)
-    ∙ ap (λ (v : List FailedCall). v ++ told_all (whys es)) (tells_one name e es last.0)
-    ∙ sym (told_more (why_in e) (whys es))
-
-told_of : (how : Settled) → told_all (why_of how) ≡ failed_of how
+told_of : (how : Settled) → failed_by (why_of how) ≡ failed_of how
 told_of settled.Stands = refl
 told_of how = refl
 
-as_part : {S J : Type 0} (gives : S → (call : Call) → Answer call → S → Type 0) (calls faults : S → ℕ) (counted : Counting gives calls faults) {answer : Answers J} {later : Laters J} {binds present : Bool} {name : List ℕ} {how : Settled} {s t : S} {w v : State J} → Piece gives answer later binds present name how s w t v → GoesAsPart gives calls faults name s w.standings w.entries t v.standings v.entries how
-as_part gives calls faults counted {name = name} {how = how} {s = s} {t = t} {w = w} {v = v} p =
+as_part : {S J : Type 0} (gives : S → (call : Call) → Answer call → S → Type 0)
+    (calls faults : S → ℕ) (counted : Counting gives calls faults) {answer : Answers J}
+    {later : Laters J} {binds present : Bool} {name : List ℕ} {how : Settled} {ok : Bool}
+    {ms : List Made} {s t : S} {w v : State J} → Piece answer later binds present name w ok ms how v
+    → Along gives s ms t
+    → GoesAsPart gives calls faults name s w.standings w.entries t v.standings v.entries how
+as_part gives calls faults counted {name = name} {how = how} {ms = ms} {s = s} {t = t} p a =
     let part = flat_is_part p.flat in
     let why : whys p.rest ≡ why_of how = flat_whys p.flat in
     record {
-      made = p.made;
-      along = p.along;
+      made = ms;
+      along = a;
       rest = p.rest;
       entries = p.entries;
       part = part;
       why = why;
-      failed = sym part.told ∙ tells_why name p.rest part.last ∙ ap told_all why ∙ told_of how;
+      failed = sym part.told ∙ tells_why name p.rest part.last ∙ ap failed_by why ∙ told_of how;
       stands = flat_stands p.flat;
       nobody = flat_nobody p.flat;
-      numbered = along_numbered gives calls faults counted p.made s t p.along;
-      rises = λ low. along_rises gives calls faults counted p.made s t low p.along;
+      numbered = along_numbered gives calls faults counted ms s t a;
+      rises = λ low. along_rises gives calls faults counted ms s t low a;
     }
 
 pub settling_part : {S J : Type 0} (gives : S → (call : Call) → Answer call → S → Type 0) (calls faults : S → ℕ) (counted : Counting gives calls faults) (answer : Answers J) (later : Laters J) (name : List ℕ) (present : Bool) (w : State J) (s : S) (p : Settled × State J) (t : S) → Runs gives s (settling answer later name present w) p t → GoesAsPart gives calls faults name s w.standings w.entries t p.1.standings p.1.entries p.0
-settling_part gives calls faults counted answer later name present w s p t h = as_part gives calls faults counted (settling_piece gives answer later name present w s p t h)
+settling_part gives calls faults counted answer later name present w s p t h =
+    let x = settling_run gives answer later name present w s p t h in
+    as_part gives calls faults counted x.so x.along
 
 first_in : {J : Type 0} (w : State J) (name : List ℕ) → AreIn none_before name w w
 first_in w name rest e s a = inr (refl, a)
@@ -98,12 +303,15 @@ standing_named l ss next i name stand live h =
 
 settling_one : {J : Type 0} (answer : Answers J) (later : Laters J) (name : List ℕ) (present : Bool) (w : State J) (k l : Kernel) (p : Settled × State J) → IsKernel k → Stand k w.standings w.next → Runs calls k (settling answer later name present w) p l → SettledOne answer later present name k w l p.1 p.0
 settling_one {J} answer later name present w k l p sound stand r =
-    let piece = settling_piece calls answer later name present w k p l r in
-    let a = piece_fair (λ e. first_in w name) (fair_refl answer later present none_before k w sound stand) piece in
+    let x = settling_run calls answer later name present w k p l r in
+    let piece = x.so in
+    let along = x.along in
+    let a = piece_fair (λ e. first_in w name)
+    (fair_refl answer later present none_before k w sound stand) piece x.along in
     let last : (i : ℕ) → LivedAs k l name i → LiveAs l i name = λ i x. subst (λ (v : List ℕ). LiveAs l i v) x.2 (lives_last k l i x.0 a.fair.grows x.1) in
     let ended : (i : ℕ) → LivedAs k l name i → IsAsJudged l p.1.standings i ⊎ IsNamed a.fair.rest name = λ i x.
     let first = subst (λ (v : List ℕ). LiveAs k i v) x.2 (lives_first k l i x.0 x.1) in
-    elim (piece_own i sound (stand_files k w.standings w.next stand) first (last i x) piece) [
+    elim (piece_own i sound (stand_files k w.standings w.next stand) first (last i x) piece along) [
       | inl (inl g) ↦ inl (judged_at l p.1.standings p.1.next i a.fair.stand g)
       | inl (inr n) ↦ inr (subst (λ (v : List Entry). IsNamed v name) (added w.entries p.1.entries a.fair.rest n.0 a.fair.entries n.1) n.2)
       | inr e ↦ let same = e.0 in absurd (let none : ⊥ = cc in none)
@@ -124,16 +332,10 @@ told_settles gives told did answer later name present s w t p r = λ l e.
 
 -- the standing of a number
 
-no_verdict : Answers (Unit {0})
-no_verdict judge dev controller present on ss = (target.Block, cause.Implicit)
-
-no_later : Laters (Unit {0})
-no_later judge dev controller present on ss = tt
-
 pub numbered_part : {S : Type 0} (gives : S → (call : Call) → Answer call → S → Type 0) (calls faults : S → ℕ) (counted : Counting gives calls faults) (number : ℕ) (k : Kept) (x : Standing) (s : S) (p : Settled × Kept) (t : S) → numbered number k.standings ≡ Some x → Runs gives s (resettling_numbered number k) p t → GoesAsPart gives calls faults x.name s k.standings k.entries t p.1.standings p.1.entries p.0
 numbered_part gives calls faults counted number k x s p t e r =
-    let w : State (Unit {0}) = record { standings = k.standings; next = 0; listed = false; judge = tt; entries = k.entries } in
-    as_part gives calls faults counted (resettling_piece gives no_verdict no_later x.name false w k s p t (run_numbered gives number k x s p t e r))
+    let y = numbered_run gives number k x s p t e r in
+    as_part gives calls faults counted y.so y.along
 
 -- two open files of one device are of one name
 one_name : (k : Kernel) (a b : List ℕ) (held other i : ℕ) → IsOpen k a held → IsOpen k b other → IsFileOf k held i → IsFileOf k other i → a ≡ b
@@ -153,8 +355,13 @@ dead l i name gone live =
 resettling_one : (w : State (Unit {0})) (k l : Kernel) (p : Settled × Kept) (x : Standing) → IsKernel k → Stand k w.standings w.next → Has w.standings x → Runs calls k (resettling x.name (kept_of w.standings w.entries)) p l → ResettledOne x k w l (with_kept w p.1) p.0
 resettling_one w k l p x sound stand has r =
     let kept = kept_of w.standings w.entries in
-    let fair : (answer : Answers (Unit {0})) (later : Laters (Unit {0})) (present : Bool) (tried : Tries) → FairFrom answer later present tried k w l (with_kept w p.1) = λ answer later present tried. piece_fair (λ e. let none : ⊥ = cc in absurd none) (fair_refl answer later present tried k w sound stand) (resettling_piece calls answer later x.name present w kept k p l r) in
-    let piece = resettling_piece calls no_verdict no_later x.name false w kept k p l r in
+    let fair : (answer : Answers (Unit {0})) (later : Laters (Unit {0})) (present : Bool)
+    (tried : Tries) → FairFrom answer later present tried k w l (with_kept w p.1) = λ answer
+    later present tried. let y = resettling_run calls answer later x.name present w kept k p l r
+    in piece_fair (λ e. let none : ⊥ = cc in absurd none)
+    (fair_refl answer later present tried k w sound stand) y.so y.along in
+    let y = resettling_run calls no_verdict no_later x.name false w kept k p l r in
+    let piece = y.so in
     let a = fair no_verdict no_later false none_before in
     let g = a.fair.grows in
     let files = stand_files k w.standings w.next stand in
@@ -165,7 +372,7 @@ resettling_one w k l p x sound stand has r =
           let named : x.name ≡ d.name = open_named k x.name d.name x.held.0 i (files x has) file (lives_first k l i d lives) in
           let first = subst (λ (v : List ℕ). LiveAs k i v) (sym named) (lives_first k l i d lives) in
           let last = subst (λ (v : List ℕ). LiveAs l i v) (sym named) (lives_last k l i d g lives) in
-          elim (piece_well i sound files first last piece) [
+          elim (piece_well i sound files first last piece y.along) [
             | inl (inl good) ↦ inl (judged_at l p.1.standings w.next i a.fair.stand good)
             | inl (inr n) ↦ inr n
             | inr none ↦ elim (stood i file) [

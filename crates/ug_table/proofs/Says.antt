@@ -1,20 +1,9 @@
 -- What an account says of the numbers that it tells.
 use Rattle.std.proofs.Common.{◌≡◌, ℕ, ◌+◌, ◌<◌, ◌≤◌, Bool, ◌⊎◌, List, [], ◌∷◌, ◌++◌, inl, inr, refl, sym, ◌∙◌, ap, subst, arith}
-use Rattle.ug_types.specs.Elements.{Has, AllDistinct}
-use Rattle.ug_types.specs.declared.record.Judged.{Judged}
-use Rattle.ug_types.specs.declared.verdict.Held.{Held}
-use Rattle.ug_types.specs.declared.verdict.Target.{Target}
-use Rattle.ug_types.specs.declared.verdict.Cause.{Cause}
+use Rattle.ug_table.proofs.Common.{Has, AllDistinct, Judged, Held, Target, Cause, Write, Wrote, Kernel, Entry, IsNamed, Tries, IsDevice, IsGone, IsProbed, TellsNeither, HasVerdict, wrote_entries, Account, Start, Note, Judge, Had, Had_not, Went, numbers_of, gone_of, Standing, Answers, Laters}
 use Rattle.ug_kernel.specs.declared.device.Effect.{Effect}
-use Rattle.ug_types.specs.declared.control.Write.{Write}
-use Rattle.ug_kernel.specs.declared.calls.Wrote.{Wrote}
-use Rattle.ug_kernel.specs.Kernel.{Kernel}
-use Rattle.ug_audit.specs.declared.entry.Entry.{Entry}
 use Rattle.ug_audit.specs.declared.entry.Entry.TheVariants as entry
-use Rattle.ug_table.specs.Laws.{IsNamed, Tries, IsDevice, IsGone, IsProbed, TellsNeither, HasVerdict, wrote_entries, Account, Start, Note, Judge, Had, Had_not, Went, numbers_of, gone_of}
-use Rattle.ug_table.specs.declared.standing.Standing.{Standing}
 use Rattle.ug_types.proofs.Elements.{has_left, only_left, last_is, distinct_one, has_cases}
-use Rattle.ug_table.specs.State.{Answers, Laters}
 
 -- entries that tell no verdict and no end of a standing
 pub record Plain (es : List Entry) : Type 0 where
@@ -26,24 +15,12 @@ pub gone_has : (es : List Entry) (number : ℕ) → Has (gone_of es) number → 
 gone_has [] number a = absurd a
 gone_has (entry.Gone n name ∷ es) number (inl e) = (name, inl (ap (λ (v : ℕ). entry.Gone v name) e))
 gone_has (entry.Gone n name ∷ es) number (inr a) = let h = gone_has es number a in (h.0, inr h.1)
-gone_has (entry.Event n moment ∷ es) number a = let h = gone_has es number a in (h.0, inr h.1)
-gone_has (entry.Judged n name held verdict cause ∷ es) number a = let h = gone_has es number a in (h.0, inr h.1)
-gone_has (entry.Intent n name write ∷ es) number a = let h = gone_has es number a in (h.0, inr h.1)
-gone_has (entry.Wrote n name write outcome ∷ es) number a = let h = gone_has es number a in (h.0, inr h.1)
-gone_has (entry.Unsettled name why ∷ es) number a = let h = gone_has es number a in (h.0, inr h.1)
-gone_has (entry.UnsettledAll why ∷ es) number a = let h = gone_has es number a in (h.0, inr h.1)
-gone_has (entry.End n ∷ es) number a = let h = gone_has es number a in (h.0, inr h.1)
+gone_has (e ∷ es) number a = let h = gone_has es number a in (h.0, inr h.1)
 
 pub gone_append : (es fs : List Entry) → gone_of (es ++ fs) ≡ gone_of es ++ gone_of fs
 gone_append [] fs = refl
 gone_append (entry.Gone n name ∷ es) fs = ap (λ (v : List ℕ). n ∷ v) (gone_append es fs)
-gone_append (entry.Event n moment ∷ es) fs = gone_append es fs
-gone_append (entry.Judged n name held verdict cause ∷ es) fs = gone_append es fs
-gone_append (entry.Intent n name write ∷ es) fs = gone_append es fs
-gone_append (entry.Wrote n name write outcome ∷ es) fs = gone_append es fs
-gone_append (entry.Unsettled name why ∷ es) fs = gone_append es fs
-gone_append (entry.UnsettledAll why ∷ es) fs = gone_append es fs
-gone_append (entry.End n ∷ es) fs = gone_append es fs
+gone_append (e ∷ es) fs = gone_append es fs
 
 distinct_none : (ns : List ℕ) → ((n : ℕ) → Has ns n → ⊥) → AllDistinct ns
 distinct_none [] none = tt

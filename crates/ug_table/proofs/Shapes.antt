@@ -1,39 +1,20 @@
 -- One name's part, flat: each way through the trees of a settling and a resettling has one of these shapes.
 use Rattle.std.proofs.Common.{◌≡◌, ℕ, ◌+◌, Bool, true, false, ◌&&◌, is_none, List, [], ◌∷◌, ◌++◌, Option, Some, None, refl, sym, ◌∙◌, ap, subst, append_assoc, append-nil}
-use Rattle.ug_types.specs.Names.{parent_of}
-use Rattle.ug_types.specs.declared.record.Judged.{Judged}
-use Rattle.ug_types.specs.declared.verdict.Held.{Held}
-use Rattle.ug_types.specs.declared.verdict.Target.{Target}
-use Rattle.ug_types.specs.declared.verdict.Cause.{Cause}
-use Rattle.ug_kernel.specs.declared.calls.Probe.{Probe}
+use Rattle.ug_table.proofs.Common.{parent_of, Judged, Held, Target, Cause, Probe, Write, Wrote, Ask_alive, Put, Close, Closing, Told, Made, answered, failure_of, Bound, Binding, RemoveHold, Entry, State, Kept, with_kept, Answers, Laters, known_of, standing_of, without, Standing, Known, Settled, FailedCall}
 use Rattle.ug_kernel.specs.declared.calls.Probe.TheVariants as probe
-use Rattle.ug_types.specs.declared.control.Write.{Write}
 use Rattle.ug_types.specs.declared.control.Write.TheVariants as write
-use Rattle.ug_kernel.specs.declared.calls.Wrote.{Wrote}
 use Rattle.ug_kernel.specs.declared.calls.Wrote.TheVariants as wrote
-use Rattle.ug_kernel.specs.Calls.{Ask_alive, Put, Close, Closing, Told}
-use Rattle.ug_kernel.specs.Along.{Made, answered, failure_of}
 use Rattle.ug_record.specs.Records.{judged_of}
 use Rattle.ug_node.specs.Bind.{binding}
-use Rattle.ug_node.specs.declared.identity.Bound.{Bound}
-use Rattle.ug_node.specs.declared.identity.Binding.{Binding}
 use Rattle.ug_node.specs.declared.identity.Binding.TheVariants as bound
 use Rattle.ug_node.specs.Removal.{holding_remove}
-use Rattle.ug_node.specs.declared.removal.RemoveHold.{RemoveHold}
 use Rattle.ug_node.specs.declared.removal.RemoveHold.TheVariants as hold
-use Rattle.ug_audit.specs.declared.entry.Entry.{Entry}
 use Rattle.ug_audit.specs.declared.entry.Entry.TheVariants as entry
 use Rattle.ug_audit.specs.declared.entry.Fault.TheVariants as fault
-use Rattle.ug_table.specs.State.{State, Kept, Answers, Laters}
 use Rattle.ug_table.specs.Bring.{wants, write_of, after_write, to_value, valuing, after_hold, removing, is_to_go, if_to_go, after_value, writing, close_gone, bringing}
-use Rattle.ug_table.specs.Standings.{known_of, standing_of, without}
 use Rattle.ug_table.specs.Settle.{kept_standings, to_keep, no_room, standing_for, known_in, judged_entry, if_place, if_record, admitting, after_bind, entering, tried_standings, to_mark, after_known, from_standing, settling, to_keep_mark, after_again, again, resettling}
-use Rattle.ug_table.specs.declared.standing.Standing.{Standing}
-use Rattle.ug_table.specs.declared.standing.Known.{Known}
-use Rattle.ug_table.specs.declared.standing.Settled.{Settled}
 use Rattle.ug_table.specs.declared.standing.Settled.TheVariants as settled
 use Rattle.ug_kernel.proofs.Ways.{Ways, Sure, Way, ways_more, behind_sure, sure_last}
-use Rattle.ug_kernel.specs.declared.calls.FailedCall.{FailedCall}
 use Rattle.ug_node.proofs.BindShapes.{sure_binding, sure_hold, told}
 
 -- what a call was answered, with its number and the count of failed calls after it
@@ -191,14 +172,18 @@ abbrev pub judge_after : {J : Type 0} → Laters J → Bool → List ℕ → Sta
 judge_after later present name w None = w.judge
 judge_after later present name w (Some x) = later w.judge (judged_of name x.1.attrs x.1.parent) (is_none (parent_of name)) present x.1.on x.0
 
-pub record Settles {J : Type 0} (answer : Answers J) (later : Laters J) (name : List ℕ) (present : Bool) (w : State J) (granted : Bool) (calls : List Made) (p : Settled × State J) : Type 0 where
+-- A run of one name's part from one state to another: whether room was granted, its calls, and how it ended.
+pub record Piece {J : Type 0} (answer : Answers J) (later : Laters J) (binds present : Bool) (name : List ℕ) (w : State J) (granted : Bool) (made : List Made) (how : Settled) (v : State J) : Type 0 where
   pub rest : List Entry
   pub judged : Option (List Standing × Bound)
-  pub flat : Flat true (IsGiven answer present name w) name w.standings granted calls rest p.0 p.1.standings judged
-  pub entries : p.1.entries ≡ w.entries ++ rest
-  pub listed : p.1.listed ≡ w.listed
-  pub next : p.1.next ≡ next_after w judged
-  pub judge : p.1.judge ≡ judge_after later present name w judged
+  pub flat : Flat binds (IsGiven answer present name w) name w.standings granted made rest how v.standings judged
+  pub entries : v.entries ≡ w.entries ++ rest
+  pub listed : v.listed ≡ w.listed
+  pub next : v.next ≡ next_after w judged
+  pub judge : v.judge ≡ judge_after later present name w judged
+
+abbrev pub Settles : {J : Type 0} → Answers J → Laters J → List ℕ → Bool → State J → Bool → List Made → Settled × State J → Type 0
+Settles answer later name present w granted made p = Piece answer later true present name w granted made p.0 p.1
 
 entered : {J : Type 0} (answer : Answers J) (later : Laters J) (name : List ℕ) (present : Bool) (w : State J) (ms : List Made) (es fs : List Entry) (rs : List Standing) → fs ≡ w.entries ++ es → Opening name w.standings ms es rs → Ways (entering answer later name present (record w { standings = rs; entries = fs })) (λ ok ns p. Settles answer later name present w ok (ms ++ ns) p)
 unfolding entering admitting
@@ -266,25 +251,24 @@ settles {J} answer later name present w = from (standing_of name w.standings) re
 
 -- a resettling
 
-abbrev pub Nothing_given : List Standing → Bound → Standing → Type 0
-Nothing_given rs b x = ⊥
+-- whatever the judge is, as nothing is bound
+abbrev pub Resettles : {J : Type 0} → Answers J → Laters J → List ℕ → Bool → State J → Kept → Bool → List Made → Settled × Kept → Type 0
+Resettles answer later name present w k granted made p = Piece answer later false present name (with_kept w k) granted made p.0 (with_kept w p.1)
 
-pub record Resettles (name : List ℕ) (k : Kept) (granted : Bool) (calls : List Made) (p : Settled × Kept) : Type 0 where
-  pub rest : List Entry
-  pub flat : Flat false Nothing_given name k.standings granted calls rest p.0 p.1.standings None
-  pub entries : p.1.entries ≡ k.entries ++ rest
-
-pub resettles : (name : List ℕ) (k : Kept) → Ways (resettling name k) (Resettles name k)
+pub resettles : {J : Type 0} (answer : Answers J) (later : Laters J) (name : List ℕ) (present : Bool) (w : State J) (k : Kept) → Ways (resettling name k) (Resettles answer later name present w k)
 unfolding resettling
-resettles name k = from (standing_of name k.standings) refl
+resettles {J} answer later name present w k = from (standing_of name k.standings) refl
   where
-    known_by : (known : Known) → standing_of name k.standings ≡ Some known → (r : Probe) (failed : FailedCall) → Ways (after_again name k known r failed) (λ ok ms p. Resettles name k ok (answered (Ask_alive known.held.0) (told_at r failed) ∷ ms) p)
-    known_by known e (probe.Alive on) failed =
-        sure_last (Adds k.entries (Brought name known on)) (λ ok ms p. Resettles name k ok (answered (Ask_alive known.held.0) (told_at (probe.Alive on) failed) ∷ ms) p) (bringing name known on k.entries) (to_keep_mark k name) (λ (q : Settled × List Entry). (q.0, record { standings = tried_standings k.standings name q.0; entries = q.1 })) (λ q. refl) (brought name known on k.entries)
-        (λ ms q h. record { rest = h.0; flat = Tried known on failed ms h.0 q.0 e h.2; entries = h.1 })
-    known_by known e probe.Gone failed = λ shut. record { rest = _; flat = Stopped _ _ _ refl (Lost known failed shut e); entries = refl }
-    known_by known e probe.Failed failed = record { rest = _; flat = Unprobed known failed e; entries = refl }
+    R : Bool → List Made → Settled × Kept → Type 0
+    R = Resettles answer later name present w k
 
-    from : (o : Option Known) → standing_of name k.standings ≡ o → Ways (again name k o) (Resettles name k)
+    known_by : (known : Known) → standing_of name k.standings ≡ Some known → (r : Probe) (failed : FailedCall) → Ways (after_again name k known r failed) (λ ok ms p. R ok (answered (Ask_alive known.held.0) (told_at r failed) ∷ ms) p)
+    known_by known e (probe.Alive on) failed =
+        sure_last (Adds k.entries (Brought name known on)) (λ ok ms p. R ok (answered (Ask_alive known.held.0) (told_at (probe.Alive on) failed) ∷ ms) p) (bringing name known on k.entries) (to_keep_mark k name) (λ (q : Settled × List Entry). (q.0, record { standings = tried_standings k.standings name q.0; entries = q.1 })) (λ q. refl) (brought name known on k.entries)
+        (λ ms q h. record { rest = h.0; judged = None; flat = Tried known on failed ms h.0 q.0 e h.2; entries = h.1; listed = refl; next = refl; judge = refl })
+    known_by known e probe.Gone failed = λ shut. record { rest = _; judged = None; flat = Stopped _ _ _ refl (Lost known failed shut e); entries = refl; listed = refl; next = refl; judge = refl }
+    known_by known e probe.Failed failed = record { rest = _; judged = None; flat = Unprobed known failed e; entries = refl; listed = refl; next = refl; judge = refl }
+
+    from : (o : Option Known) → standing_of name k.standings ≡ o → Ways (again name k o) R
     from (Some known) e = λ t. known_by known e t.answer (failure_of t)
-    from None e = record { rest = []; flat = Stopped [] [] k.standings refl (Fresh e); entries = sym (append-nil k.entries) }
+    from None e = record { rest = []; judged = None; flat = Stopped [] [] k.standings refl (Fresh e); entries = sym (append-nil k.entries); listed = refl; next = refl; judge = refl }

@@ -1,14 +1,42 @@
--- The standings of names.
-use Rattle.std.proofs.Common.{◌≡◌, ◌↔◌, ℕ, nat_eq, Option, option_copied, IsNone, Bor, sym, Bool, true, false, not, ◌∙◌, ◌||◌, List, [], ◌∷◌, Some, None, map, cond, ◌⊎◌, inl, inr, refl, ap, subst, arith}
+-- Standings, and the devices of their held files.
+use Rattle.std.proofs.Common.{◌≡◌, ◌↔◌, ℕ, nat_eq, Option, option_copied, IsNone, Bor, sym, Bool, true, false, not, ◌∙◌, ◌||◌, List, [], ◌∷◌, Some, None, map, cond, ◌⊎◌, inl, inr, refl, ap, subst, arith, slice_get, ◌&&◌, ◌++◌, take, drop, true≢false}
+use Rattle.std.proofs.lemmas.Bool.{or_right}
 use Rattle.std.specs.Cmp.Lexicographic.{bytes_decides}
-use Rattle.ug_types.specs.Elements.{Has, AllDistinct}
-use Rattle.ug_table.specs.Standings.{same_name, known_of, standing_of, numbered, without, marked, lists, removed_of}
+use Rattle.ug_table.proofs.Common.{Has, AllDistinct, same_name, known_of, standing_of, numbered, without, marked, lists, removed_of, place_for, with_standing, settled_standing, numbers_of, Standing, Known, Target, Device, Control, Authorized, Remove, Write, Wrote, Told, Put, Kernel, Live, IsKernel, Lived, value_after, does_put, IsWritten, IsGoneAt, IsAlive, Called, Quiet, Grows, FailedCall, Settled, Held, open_file, known_files, number_of, Entry, farewells}
 use Rattle.ug_table.specs.Sweep.{names_of}
-use Rattle.ug_table.specs.Laws.{numbers_of}
-use Rattle.ug_table.specs.declared.standing.Standing.{Standing}
-use Rattle.ug_table.specs.declared.standing.Known.{Known}
-use Rattle.ug_types.proofs.Elements.{filter_has, map_has, has_map, distinct_one}
-use Rattle.ug_table.specs.Bring.{is_reject}
+use Rattle.ug_types.proofs.Elements.{filter_has, map_has, has_map, distinct_one, has_filter, insert_has, has_new, has_old}
+use Rattle.ug_table.specs.Bring.{is_reject, wants, write_of}
+use Rattle.ug_types.specs.declared.verdict.Target.TheVariants as target
+use Rattle.ug_kernel.specs.declared.device.HeldFile.{HeldFile}
+use Rattle.ug_types.specs.declared.control.Write.TheVariants as write
+use Rattle.ug_kernel.specs.declared.calls.Wrote.TheVariants as wrote
+use Rattle.ug_kernel.proofs.Grow.{some_same}
+use Rattle.ug_kernel.proofs.Quiet.{moves_quiet}
+use Rattle.ug_kernel.proofs.Held.{live_before}
+use Rattle.ug_table.proofs.Shapes.{told_at}
+use Rattle.std.specs.Prelude.{if◌then◌else◌}
+use Rattle.ug_table.specs.Settle.{kept_standings, tried_standings}
+use Rattle.ug_table.specs.declared.standing.Settled.TheVariants as settled
+use Rattle.std.proofs.lemmas.List.{take-append-drop}
+use Rattle.std.specs.List.{filter}
+use Rattle.ug_audit.specs.declared.entry.Entry.TheVariants as entry
+
+-- what holds of no entry, and stays with one that tells a standing gone, holds of those that tell what isn't listed
+pub farewells_by : (P : List Entry → Type 0) → P []
+    → ((number : ℕ) (name : List ℕ) (es : List Entry) → P es → P (entry.Gone number name ∷ es))
+    → (names : List (List ℕ)) (ss : List Standing) → P (farewells names ss)
+farewells_by P none more names [] = none
+farewells_by P none more names (s ∷ ss) = by (lists names s.name)
+    (farewells_by P none more names ss)
+  where
+    rest : List Entry
+    rest = farewells names ss
+
+    by : (b : Bool) → P rest → P (cond b rest (entry.Gone s.number s.name ∷ rest))
+    by true h = h
+    by false h = more s.number s.name rest h
+
+-- The standings of names.
 
 pub same_is : (a b : List ℕ) → same_name a b ≡ true → a ≡ b
 same_is a b e = (bytes_decides a b).0 e
@@ -98,10 +126,6 @@ or_none : (b : Bool) → (b || false) ≡ b
 or_none true = refl
 or_none false = refl
 
-pub or_all : (b : Bool) → (b || true) ≡ true
-or_all true = refl
-or_all false = refl
-
 pub or_by : (a b : Bool) → ((a || b) ≡ a) ⊎ (((a || b) ≡ true) × (b ≡ true))
 or_by true b = inl refl
 or_by false true = inr (refl, refl)
@@ -121,7 +145,8 @@ settled_removed name s true e =
 settled_removed name s false e = inl (ap (λ (t : Bool). cond t (s.removed || is_reject s.verdict) s.removed) e)
 
 pub reject_removed : (name : List ℕ) (s : Standing) → same_name s.name name ≡ true → is_reject s.verdict ≡ true → removed_of name true s ≡ true
-reject_removed name s e r = ap (λ (t : Bool). cond t (s.removed || is_reject s.verdict) s.removed) e ∙ ap (λ (t : Bool). s.removed || t) r ∙ or_all s.removed
+reject_removed name s e r = ap (λ (t : Bool). cond t (s.removed || is_reject s.verdict) s.removed) e
+    ∙ ap (λ (t : Bool). s.removed || t) r ∙ or_right s.removed true refl
 
 -- names of a list
 
@@ -144,3 +169,351 @@ either_by names name false e = inr (λ h. let same = listed_is names name h in l
 
 pub either_listed : (names : List (List ℕ)) (name : List ℕ) → Has names name ⊎ (Has names name → ⊥)
 either_listed names name = either_by names name (lists names name) refl
+
+-- What calls do to the devices' values.
+
+-- the held file is that device's `authorized`
+abbrev pub IsFileOf : Kernel → ℕ → ℕ → Type 0
+IsFileOf k held i = slice_get k.held held ≡ Some (record { device = i; control = Authorized })
+
+pub file_same : (k : Kernel) (held i j : ℕ) → IsFileOf k held i → IsFileOf k held j → i ≡ j
+file_same k held i j a b = ap (λ (v : HeldFile). v.device) (some_same (slice_get k.held held) (record { device = i; control = Authorized }) (record { device = j; control = Authorized }) a b)
+
+pub file_later : (k l : Kernel) (held i : ℕ) → Grows k l → IsFileOf k held i → IsFileOf l held i
+file_later k l held i g h = g.held held (record { device = i; control = Authorized }) h
+
+-- the device of that identity is live and has that name
+pub record LiveAs (k : Kernel) (i : ℕ) (name : List ℕ) : Type 0 where
+  pub d : Device
+  pub live : Live k.devices i d
+  pub named : d.name ≡ name
+
+pub lives_between : (k m l : Kernel) (i : ℕ) (name : List ℕ) → Grows k m → Grows m l → LiveAs k i name → LiveAs l i name → LiveAs m i name
+lives_between k m l i name g j first last =
+    let x = g.devices i first.d first.live.at in
+    let b = live_before m l i x.0 last.d j x.1 last.live in
+    record { d = x.0; live = b.0; named = x.2.name ∙ first.named }
+
+pub lived : (k l : Kernel) (i : ℕ) (name : List ℕ) (first : LiveAs k i name) → LiveAs l i name → Lived k.devices l.devices i first.d
+lived k l i name first last = record { entry = first.live; exit = (last.d, last.live) }
+
+pub live_same : (k : Kernel) (i j : ℕ) (name : List ℕ) → IsKernel k → LiveAs k i name → LiveAs k j name → i ≡ j
+live_same k i j name s a b = s.devices.names i j a.d b.d a.live b.live (a.named ∙ sym b.named)
+
+-- the held file of a live device isn't gone
+pub gone_no : (k : Kernel) (held i : ℕ) (name : List ℕ) → IsGoneAt held k → IsFileOf k held i → LiveAs k i name → ⊥
+gone_no k held i name gone file live = gone i live.d (record { file = record { device = i; control = Authorized }; at = file; is = refl; device = live.live.at }) live.live
+
+-- the device's value
+abbrev pub Value : Kernel → ℕ → Bool → Type 0
+Value k i on = (d : Device) × (slice_get k.devices i ≡ Some d) × (d.on ≡ on)
+
+pub quiet_value : (k l : Kernel) (i : ℕ) (on : Bool) → Quiet k l → Value k i on → Value l i on
+quiet_value k l i on q v = let a = q.devices i v.0 v.1 in (a.0, a.1, a.2.on ∙ v.2)
+
+-- the held file is that device's, of that control
+abbrev pub IsHeldAs : Kernel → ℕ → ℕ → Control → Type 0
+IsHeldAs k held i control = slice_get k.held held ≡ Some (record { device = i; control = control })
+
+written_device : (held i : ℕ) (control : Control) (write : Write) (k l : Kernel) (w : IsWritten held write k l) → IsHeldAs k held i control → w.i ≡ i
+written_device held i control write k l w file =
+    let same : w.holds.file ≡ record { device = i; control = control } = some_same (slice_get k.held held) w.holds.file (record { device = i; control = control }) w.holds.at file in
+    sym w.holds.is ∙ ap (λ (v : HeldFile). v.device) same
+
+written_other : (held i : ℕ) (write : Write) (on : Bool) (k l : Kernel) (w : IsWritten held write k l) → (w.i ≡ i → ⊥) → Value k i on → Value l i on
+written_other held i write on k l w ne v = (v.0, w.others i (λ e. ne (sym e)) ∙ v.1, v.2)
+
+does_put_other : (held i : ℕ) (write : Write) (answer : Wrote) (on : Bool) (k l : Kernel) → ((w : IsWritten held write k l) → w.i ≡ i → ⊥) → does_put held write answer k l → Value k i on → Value l i on
+does_put_other held i write wrote.Done on k l ne w v = written_other held i write on k l w (ne w) v
+does_put_other held i write wrote.Gone on k l ne e v = subst (λ x. Value x i on) (sym e) v
+does_put_other held i write wrote.Failed on k l ne (inl e) v = subst (λ x. Value x i on) (sym e) v
+does_put_other held i write wrote.Failed on k l ne (inr w) v = written_other held i write on k l w (ne w) v
+
+-- a write to another device
+put_other : (held i j : ℕ) (control : Control) (write : Write) (answer : Told Wrote) (on : Bool) (k l : Kernel) → IsHeldAs k held j control → (j ≡ i → ⊥) → Called (Put held write) answer k l → Value k i on → Value l i on
+put_other held i j control write answer on k l file ne c v =
+    let before = moves_quiet k c.before c.moves_before in
+    let at = before.held held (record { device = j; control = control }) file in
+    quiet_value c.after l i on (moves_quiet c.after l c.moves_after)
+    (does_put_other held i write answer.answer on c.before c.after (λ w e. ne (sym (written_device held j control write c.before c.after w at) ∙ e)) c.effect (quiet_value k c.before i on before v))
+
+verdict_value : (verdict : Target) (was : Bool) → value_after (write_of verdict) was ≡ wants verdict
+verdict_value target.Allow was = refl
+verdict_value x was = refl
+
+-- a write that is done leaves what the verdict wants
+pub done_value : (held i : ℕ) (verdict : Target) (failed : FailedCall) (k l : Kernel) → IsFileOf k held i → Called (Put held (write_of verdict)) (told_at wrote.Done failed) k l → Value l i (wants verdict)
+done_value held i verdict failed k l file c =
+    let w : IsWritten held (write_of verdict) c.before c.after = c.effect in
+    let at = (moves_quiet k c.before c.moves_before).held held (record { device = i; control = Authorized }) file in
+    let is = written_device held i Authorized (write_of verdict) c.before c.after w at in
+    let d : Device = record w.d { on = value_after (write_of verdict) w.d.on } in
+    let now : slice_get c.after.devices i ≡ Some d = subst (λ x. slice_get c.after.devices x ≡ Some d) is w.now in
+    quiet_value c.after l i (wants verdict) (moves_quiet c.after l c.moves_after) (d, now, verdict_value verdict w.d.on)
+
+-- a removal leaves the value
+pub removal_value : (file i : ℕ) (on : Bool) (failed : FailedCall) (k l : Kernel) → IsHeldAs k file i Remove → Called (Put file write.Remove) (told_at wrote.Done failed) k l → Value k i on → Value l i on
+removal_value file i on failed k l of c v =
+    let w : IsWritten file write.Remove c.before c.after = c.effect in
+    let moved = moves_quiet k c.before c.moves_before in
+    let is = written_device file i Remove write.Remove c.before c.after w (moved.held file (record { device = i; control = Remove }) of) in
+    let was = quiet_value k c.before i on moved v in
+    let same : w.d ≡ was.0 = some_same (slice_get c.before.devices i) w.d was.0 (subst (λ x. slice_get c.before.devices x ≡ Some w.d) is w.live.at) was.1 in
+    let now : slice_get c.after.devices i ≡ Some w.d = subst (λ x. slice_get c.after.devices x ≡ Some w.d) is w.now in
+    quiet_value c.after l i on (moves_quiet c.after l c.moves_after) (w.d, now, ap (λ (x : Device). x.on) same ∙ was.2)
+
+-- devices of other names keep their values
+abbrev pub Others : List ℕ → Kernel → Kernel → Type 0
+Others name k l = (i : ℕ) (on : Bool) (d : Device) → slice_get k.devices i ≡ Some d → (d.name ≡ name → ⊥) → Value k i on → Value l i on
+
+pub others_refl : (name : List ℕ) (k : Kernel) → Others name k k
+others_refl name k i on d e ne v = v
+
+pub others_trans : (name : List ℕ) (k m l : Kernel) → Grows k m → Others name k m → Others name m l → Others name k l
+others_trans name k m l g a b i on d e ne v =
+    let x = g.devices i d e in
+    b i on x.0 x.1 (λ same. ne (sym x.2.name ∙ same)) (a i on d e ne v)
+
+pub others_quiet : (name : List ℕ) (k l : Kernel) → Quiet k l → Others name k l
+others_quiet name k l q i on d e ne v = quiet_value k l i on q v
+
+-- the held file is of a device of that name
+pub record IsOpen (k : Kernel) (name : List ℕ) (held : ℕ) : Type 0 where
+  pub i : ℕ
+  pub d : Device
+  pub file : IsFileOf k held i
+  pub device : slice_get k.devices i ≡ Some d
+  pub named : d.name ≡ name
+
+pub open_later : (k l : Kernel) (name : List ℕ) (held : ℕ) → Grows k l → IsOpen k name held → IsOpen l name held
+open_later k l name held g o =
+    let x = g.devices o.i o.d o.device in
+    record { i = o.i; d = x.0; file = file_later k l held o.i g o.file; device = x.1; named = x.2.name ∙ o.named }
+
+-- where it is that live device's, the names are one
+pub open_named : (k : Kernel) (name other : List ℕ) (held i : ℕ) → IsOpen k name held → IsFileOf k held i → LiveAs k i other → name ≡ other
+open_named k name other held i o file live =
+    let is : o.i ≡ i = file_same k held o.i i o.file file in
+    let same : o.d ≡ live.d = some_same (slice_get k.devices i) o.d live.d (subst (λ v. slice_get k.devices v ≡ Some o.d) is o.device) live.live.at in
+    sym o.named ∙ ap (λ (v : Device). v.name) same ∙ live.named
+
+-- a write through a file of a device of that name
+pub others_put : (name : List ℕ) (held file : ℕ) (control : Control) (write : Write) (answer : Told Wrote) (k l : Kernel) (o : IsOpen k name held) → IsHeldAs k file o.i control → Called (Put file write) answer k l → Others name k l
+others_put name held file control write answer k l o of c i on d e ne v =
+    let other : o.i ≡ i → ⊥ = λ is.
+    let same : o.d ≡ d = some_same (slice_get k.devices i) o.d d (subst (λ x. slice_get k.devices x ≡ Some o.d) is o.device) e in
+    ne (ap (λ (x : Device). x.name) (sym same) ∙ o.named) in
+    put_other file i o.i control write answer on k l of other c v
+
+-- what is alive behind the file of a device is that device
+pub alive_open : (k : Kernel) (name : List ℕ) (held : ℕ) (on : Bool) → IsOpen k name held → IsAlive held on k → (i : ℕ) × IsFileOf k held i × LiveAs k i name × Value k i on
+alive_open k name held on o alive =
+    let same : alive.holds.file ≡ record { device = o.i; control = Authorized } = some_same (slice_get k.held held) alive.holds.file (record { device = o.i; control = Authorized }) alive.holds.at o.file in
+    let is : alive.i ≡ o.i = sym alive.holds.is ∙ ap (λ (v : HeldFile). v.device) same in
+    let live : Live k.devices o.i alive.d = subst (λ v. Live k.devices v alive.d) is alive.live in
+    let named : alive.d.name ≡ name = ap (λ (v : Device). v.name) (some_same (slice_get k.devices o.i) alive.d o.d live.at o.device) ∙ o.named in
+    (o.i, o.file, record { d = alive.d; live = live; named = named }, (alive.d, live.at, alive.value))
+
+-- What settling a name leaves of the standings.
+
+other_by : (a b : List ℕ) (t : Bool) → same_name a b ≡ t → (a ≡ b → ⊥) → same_name a b ≡ false
+other_by a b true e ne = absurd (ne (same_is a b e))
+other_by a b false e ne = e
+
+pub other_test : (a b : List ℕ) → (a ≡ b → ⊥) → same_name a b ≡ false
+other_test a b ne = other_by a b (same_name a b) refl ne
+
+-- each standing's held file is of a device of its name
+
+abbrev pub Files : Kernel → List Standing → Type 0
+Files k ss = (s : Standing) → Has ss s → IsOpen k s.name s.held.0
+
+pub files_later : (k l : Kernel) (ss : List Standing) → Grows k l → Files k ss → Files l ss
+files_later k l ss g f s a = open_later k l s.name s.held.0 g (f s a)
+
+-- a new standing that is kept
+
+pub kept_has : (ss : List Standing) (x : Standing) (how : Settled) (s : Standing) → Has ss s → Has (kept_standings ss x how) s
+kept_has ss x settled.Nobody s h = h
+kept_has ss x settled.Stands s h = has_old ss (place_for x.name ss) (settled_standing x) s h
+kept_has ss x how s h = has_old ss (place_for x.name ss) x s h
+
+with_files : (k : Kernel) (ss : List Standing) (x : Standing) → Files k ss → IsOpen k x.name x.held.0 → Files k (with_standing x ss)
+with_files k ss x f o s a = elim (insert_has ss (place_for x.name ss) x s a) [
+  | inl e ↦ subst (λ (v : Standing). IsOpen k v.name v.held.0) e o
+  | inr b ↦ f s b
+]
+
+pub kept_files : (k : Kernel) (ss : List Standing) (x : Standing) (how : Settled) → Files k ss → IsOpen k x.name x.held.0 → Files k (kept_standings ss x how)
+kept_files k ss x settled.Nobody f o = f
+kept_files k ss x settled.Stands f o = with_files k ss (settled_standing x) f o
+kept_files k ss x how f o = with_files k ss x f o
+
+-- a rejected one is marked as removed
+abbrev pub IsRemovedIf : Standing → Type 0
+IsRemovedIf s = is_reject s.verdict ≡ true → s.removed ≡ true
+
+pub kept_new : (ss : List Standing) (x : Standing) (how : Settled) → how ≡ settled.Stands → (s : Standing) × Has (kept_standings ss x how) s × (s.held ≡ x.held) × (s.verdict ≡ x.verdict) × IsRemovedIf s
+kept_new ss x how e = subst
+    (λ (v : Settled). (s : Standing) × Has (kept_standings ss x v) s × (s.held ≡ x.held) ×
+    (s.verdict ≡ x.verdict) × IsRemovedIf s) (sym e) (
+      settled_standing x,
+      has_new ss (place_for x.name ss) (settled_standing x),
+      refl,
+      refl,
+      λ r. ap
+          (λ (t : Bool). x.removed || t) r ∙ or_right x.removed true refl,
+    )
+
+-- a standing that is tried again
+
+pub marked_other : (name : List ℕ) (b : Bool) (s : Standing) → (s.name ≡ name → ⊥) → marked name b s ≡ s
+marked_other name b s ne = ap (λ (t : Bool). let v : Standing = record s { settled = if t then b else s.settled; removed = if t then s.removed || (b && is_reject s.verdict) else s.removed } in v) (other_test s.name name ne)
+
+marked_has : (ss : List Standing) (name : List ℕ) (b : Bool) (s : Standing) → Has ss s → (s.name ≡ name → ⊥) → Has (map (marked name b) ss) s
+marked_has ss name b s h ne = subst (λ (v : Standing). Has (map (marked name b) ss) v) (marked_other name b s ne) (has_map (marked name b) ss s h)
+
+pub tried_has : (ss : List Standing) (name : List ℕ) (how : Settled) (s : Standing) → Has ss s → (s.name ≡ name → ⊥) → Has (tried_standings ss name how) s
+tried_has ss name settled.Nobody s h ne = has_filter (λ (v : Standing). not (same_name v.name name)) ss s h (ap not (other_test s.name name ne))
+tried_has ss name settled.Stands s h ne = marked_has ss name true s h ne
+tried_has ss name how s h ne = marked_has ss name false s h ne
+
+-- each was there
+abbrev pub Was : List Standing → Standing → Type 0
+Was ss s = (t : Standing) × Has ss t × (t.name ≡ s.name) × (t.held ≡ s.held)
+
+marked_was : (ss : List Standing) (name : List ℕ) (b : Bool) (s : Standing) → Has (map (marked name b) ss) s → Was ss s
+marked_was ss name b s h = let m = map_has (marked name b) ss s h in (m.0, m.1, ap (λ (v : Standing). v.name) m.2, ap (λ (v : Standing). v.held) m.2)
+
+pub tried_was : (ss : List Standing) (name : List ℕ) (how : Settled) (s : Standing) → Has (tried_standings ss name how) s → Was ss s
+tried_was ss name settled.Nobody s h = (s, (filter_has (λ (v : Standing). not (same_name v.name name)) ss s h).0, refl, refl)
+tried_was ss name settled.Stands s h = marked_was ss name true s h
+tried_was ss name how s h = marked_was ss name false s h
+
+pub tried_files : (k : Kernel) (ss : List Standing) (name : List ℕ) (how : Settled) → Files k ss → Files k (tried_standings ss name how)
+tried_files k ss name how f s a =
+    let t = tried_was ss name how s a in
+    subst (λ v. IsOpen k v s.held.0) t.2 (subst (λ v. IsOpen k t.0.name v.0) t.3 (f t.0 t.1))
+
+pub tried_new : (ss : List Standing) (name : List ℕ) (how : Settled) (s : Standing) → how ≡ settled.Stands → s.name ≡ name → Has ss s → (t : Standing) × Has (tried_standings ss name how) t × (t.held ≡ s.held) × (t.verdict ≡ s.verdict) × IsRemovedIf t
+tried_new ss name how s e named h = subst (λ (v : Settled). (t : Standing) × Has (tried_standings ss name v) t × (t.held ≡ s.held) × (t.verdict ≡ s.verdict) × IsRemovedIf t) (sym e) (marked name true s, has_map (marked name true) ss s h, refl, refl, λ r. reject_removed name s (is_same s.name name named) r)
+
+-- The standing of a name once another name was settled, and once it was itself.
+
+-- a standing of that number and that held file
+abbrev pub StandsAs : ℕ → Held → Option Known → Type 0
+StandsAs number held o = (k : Known) × (o ≡ Some k) × (k.number ≡ number) × (k.held ≡ held)
+
+pub stands_file : (o : Option Known) (number : ℕ) (held : Held) → StandsAs number held o → known_files o ≡ open_file held.0 Authorized ∷ []
+stands_file o number held h = ap known_files h.1 ∙ ap (λ (v : Held). open_file v.0 Authorized ∷ []) h.3
+
+pub stands_number : (o : Option Known) (number : ℕ) (held : Held) → StandsAs number held o → number_of o ≡ Some number
+stands_number o number held h = ap number_of h.1 ∙ ap (λ (v : ℕ). Some v) h.2
+
+-- one that is tried again
+
+marked_by : (name : List ℕ) (mark : Bool) (s : Standing) (ss : List Standing) (known : Known) (b : Bool) → same_name s.name name ≡ b → (standing_of name ss ≡ Some known → StandsAs known.number known.held (standing_of name (map (marked name mark) ss))) → cond b (Some (known_of s)) (standing_of name ss) ≡ Some known → StandsAs known.number known.held (cond b (Some (known_of (marked name mark s))) (standing_of name (map (marked name mark) ss)))
+marked_by name mark s ss known true e h f =
+    let same : known_of s ≡ known = cc in
+    (known_of (marked name mark s), refl, ap (λ (v : Known). v.number) same, ap (λ (v : Known). v.held) same)
+marked_by name mark s ss known false e h f = h f
+
+marked_own : (name : List ℕ) (mark : Bool) (ss : List Standing) (known : Known) → standing_of name ss ≡ Some known → StandsAs known.number known.held (standing_of name (map (marked name mark) ss))
+marked_own name mark [] known e = let none : ⊥ = cc in absurd none
+marked_own name mark (s ∷ ss) known e = marked_by name mark s ss known (same_name s.name name) refl (λ f. marked_own name mark ss known f) e
+
+without_by : (name : List ℕ) (s : Standing) (ss : List Standing) (b : Bool) → same_name s.name name ≡ b → standing_of name (without name ss) ≡ None → standing_of name (cond (not b) (s ∷ without name ss) (without name ss)) ≡ None
+without_by name s ss true e h = h
+without_by name s ss false e h = ap (λ (v : Bool). cond v (Some (known_of s)) (standing_of name (without name ss))) e ∙ h
+
+pub without_own : (name : List ℕ) (ss : List Standing) → standing_of name (without name ss) ≡ None
+without_own name [] = refl
+without_own name (s ∷ ss) = without_by name s ss (same_name s.name name) refl (without_own name ss)
+
+pub tried_own : (name : List ℕ) (ss : List Standing) (how : Settled) (known : Known) → standing_of name ss ≡ Some known → (how ≡ settled.Nobody → ⊥) → StandsAs known.number known.held (standing_of name (tried_standings ss name how))
+tried_own name ss settled.Nobody known e n = absurd (n refl)
+tried_own name ss settled.Stands known e n = marked_own name true ss known e
+tried_own name ss how known e n = marked_own name false ss known e
+
+-- a new one
+
+between_by : (name : List ℕ) (x t : Standing) (ts ds : List Standing) (b : Bool) → same_name t.name name ≡ b → cond b (Some (known_of t)) (standing_of name (ts ++ ds)) ≡ None → (standing_of name (ts ++ ds) ≡ None → standing_of name (ts ++ x ∷ ds) ≡ Some (known_of x)) → standing_of name ((t ∷ ts) ++ x ∷ ds) ≡ Some (known_of x)
+between_by name x t ts ds true e n h = let none : ⊥ = cc in absurd none
+between_by name x t ts ds false e n h = ap (λ (v : Bool). cond v (Some (known_of t)) (standing_of name (ts ++ x ∷ ds))) e ∙ h n
+
+between_own : (name : List ℕ) (x : Standing) (ts ds : List Standing) → same_name x.name name ≡ true → standing_of name (ts ++ ds) ≡ None → standing_of name (ts ++ x ∷ ds) ≡ Some (known_of x)
+between_own name x [] ds e n = ap (λ (v : Bool). cond v (Some (known_of x)) (standing_of name ds)) e
+between_own name x (t ∷ ts) ds e n = between_by name x t ts ds (same_name t.name name) refl n (λ m. between_own name x ts ds e m)
+
+with_own : (name : List ℕ) (x : Standing) (ss : List Standing) → x.name ≡ name → standing_of name ss ≡ None → standing_of name (with_standing x ss) ≡ Some (known_of x)
+with_own name x ss e n =
+    let p : ℕ = place_for x.name ss in
+    between_own name x (take p ss) (drop p ss) (is_same x.name name e) (ap (λ (v : List Standing). standing_of name v) (take-append-drop p ss) ∙ n)
+
+pub kept_own : (name : List ℕ) (ss : List Standing) (x : Standing) (how : Settled) → x.name ≡ name → standing_of name ss ≡ None → (how ≡ settled.Nobody → ⊥) → StandsAs x.number x.held (standing_of name (kept_standings ss x how))
+kept_own name ss x settled.Nobody e none n = absurd (n refl)
+kept_own name ss x settled.Stands e none n = (known_of (settled_standing x), with_own name (settled_standing x) ss e none, refl, refl)
+kept_own name ss x how e none n = (known_of x, with_own name x ss e none, refl, refl)
+
+-- another name has the standing that it had
+abbrev pub OthersStand : List ℕ → List Standing → List Standing → Type 0
+OthersStand name before after = (other : List ℕ) → (other ≡ name → ⊥) → standing_of other after ≡ standing_of other before
+
+pub others_stand : (name : List ℕ) (ss : List Standing) → OthersStand name ss ss
+others_stand name ss = λ other n. refl
+
+-- a standing of another name is passed over
+passed : (other : List ℕ) (s : Standing) (ss : List Standing) → same_name s.name other ≡ false → standing_of other (s ∷ ss) ≡ standing_of other ss
+passed other s ss e = ap (λ (v : Bool). cond v (Some (known_of s)) (standing_of other ss)) e
+
+not_named : (name other : List ℕ) (s : Standing) → s.name ≡ name → (other ≡ name → ⊥) → same_name s.name other ≡ false
+not_named name other s e n = other_test s.name other (λ f. n (sym f ∙ e))
+
+other_without_by : (name other : List ℕ) (s : Standing) (ss : List Standing) (b : Bool) → same_name s.name name ≡ b → (other ≡ name → ⊥) → standing_of other (without name ss) ≡ standing_of other ss → standing_of other (cond (not b) (s ∷ without name ss) (without name ss)) ≡ standing_of other (s ∷ ss)
+other_without_by name other s ss true e n h = h ∙ sym (passed other s ss (not_named name other s (same_is s.name name e) n))
+other_without_by name other s ss false e n h = ap (λ (v : Option Known). cond (same_name s.name other) (Some (known_of s)) v) h
+
+other_marked_by : (name other : List ℕ) (mark : Bool) (s : Standing) (ss : List Standing) (b : Bool) → same_name s.name name ≡ b → (other ≡ name → ⊥) → standing_of other (map (marked name mark) ss) ≡ standing_of other ss → standing_of other (map (marked name mark) (s ∷ ss)) ≡ standing_of other (s ∷ ss)
+other_marked_by name other mark s ss true e n h =
+    let out : same_name s.name other ≡ false = not_named name other s (same_is s.name name e) n in
+    passed other (marked name mark s) (map (marked name mark) ss) out ∙ h ∙ sym (passed other s ss out)
+other_marked_by name other mark s ss false e n h =
+    let flag : removed_of name mark s ≡ s.removed = ap (λ (t : Bool). cond t (s.removed || (mark && is_reject s.verdict)) s.removed) e in
+    ap (λ (f : Bool). let k : Known = record { number = s.number; held = s.held; verdict = s.verdict; removed = f } in cond (same_name s.name other) (Some k) (standing_of other (map (marked name mark) ss))) flag
+    ∙ ap (λ (v : Option Known). cond (same_name s.name other) (Some (known_of s)) v) h
+
+marked_stand : (name other : List ℕ) (mark : Bool) (ss : List Standing) → (other ≡ name → ⊥) → standing_of other (map (marked name mark) ss) ≡ standing_of other ss
+marked_stand name other mark [] n = refl
+marked_stand name other mark (s ∷ ss) n = other_marked_by name other mark s ss (same_name s.name name) refl n (marked_stand name other mark ss n)
+
+pub without_stand : (name other : List ℕ) (ss : List Standing) → (other ≡ name → ⊥) → standing_of other (without name ss) ≡ standing_of other ss
+without_stand name other [] n = refl
+without_stand name other (s ∷ ss) n = other_without_by name other s ss (same_name s.name name) refl n (without_stand name other ss n)
+
+-- the standings of the names that are listed
+listed_by : (names : List (List ℕ)) (name : List ℕ) (s : Standing) (ss rs : List Standing) (b : Bool) → lists names s.name ≡ b → lists names name ≡ true → standing_of name rs ≡ standing_of name ss → standing_of name (cond b (s ∷ rs) rs) ≡ standing_of name (s ∷ ss)
+listed_by names name s ss rs true e has h = ap (λ (v : Option Known). cond (same_name s.name name) (Some (known_of s)) v) h
+listed_by names name s ss rs false e has h = h ∙ sym (passed name s ss (other_test s.name name (λ f. true≢false (sym has ∙ sym (ap (λ (v : List ℕ). lists names v) f) ∙ e))))
+
+pub listed_stand : (names : List (List ℕ)) (name : List ℕ) (ss : List Standing) → lists names name ≡ true → standing_of name (filter (λ s. lists names s.name) ss) ≡ standing_of name ss
+listed_stand names name [] has = refl
+listed_stand names name (s ∷ ss) has = listed_by names name s ss (filter (λ (v : Standing). lists names v.name) ss) (lists names s.name) refl has (listed_stand names name ss has)
+
+between_stand : (other : List ℕ) (x : Standing) (ss rs : List Standing) → same_name x.name other ≡ false → standing_of other (ss ++ x ∷ rs) ≡ standing_of other (ss ++ rs)
+between_stand other x [] rs e = passed other x rs e
+between_stand other x (s ∷ ss) rs e = ap (λ (v : Option Known). cond (same_name s.name other) (Some (known_of s)) v) (between_stand other x ss rs e)
+
+with_stand : (other : List ℕ) (x : Standing) (ss : List Standing) → same_name x.name other ≡ false → standing_of other (with_standing x ss) ≡ standing_of other ss
+with_stand other x ss e =
+    between_stand other x (take (place_for x.name ss) ss) (drop (place_for x.name ss) ss) e
+    ∙ ap (λ (v : List Standing). standing_of other v) (take-append-drop (place_for x.name ss) ss)
+
+pub kept_stand : (name : List ℕ) (ss : List Standing) (x : Standing) (how : Settled) → x.name ≡ name → OthersStand name ss (kept_standings ss x how)
+kept_stand name ss x settled.Nobody e = λ other n. refl
+kept_stand name ss x settled.Stands e = λ other n. with_stand other (settled_standing x) ss (not_named name other x e n)
+kept_stand name ss x how e = λ other n. with_stand other x ss (not_named name other x e n)
+
+pub tried_stand : (name : List ℕ) (ss : List Standing) (how : Settled) → OthersStand name ss (tried_standings ss name how)
+tried_stand name ss settled.Nobody = λ other n. without_stand name other ss n
+tried_stand name ss settled.Stands = λ other n. marked_stand name other true ss n
+tried_stand name ss how = λ other n. marked_stand name other false ss n

@@ -1,14 +1,9 @@
 -- The law of a sweep, over the states of a run.
 use Rattle.std.proofs.Common.{◌≡◌, Option, Some}
-use Rattle.ug_kernel.specs.Calls.{Call, Answer}
-use Rattle.ug_kernel.specs.Kernel.{Kernel, IsKernel}
-use Rattle.ug_kernel.specs.Called.{Follows}
-use Rattle.ug_kernel.specs.Tree.{Runs, calls}
+use Rattle.ug_table.proofs.Common.{Call, Answer, Kernel, IsKernel, Follows, Runs, calls, State, Answers, Laters, Stand, Swept, Sweeps}
 use Rattle.ug_kernel.proofs.Told.{told_run}
-use Rattle.ug_table.specs.State.{State, Answers, Laters}
 use Rattle.ug_table.specs.Sweep.{sweeping}
-use Rattle.ug_table.specs.Laws.{Stand, Swept, Sweeps}
-use Rattle.ug_table.proofs.FairSweep.{sweeping_fair}
+use Rattle.ug_table.proofs.Fair.{sweeping_fair}
 use Rattle.ug_table.proofs.Lived.{sweeping_settled}
 use Rattle.ug_table.proofs.Marks.{sweeping_marks}
 use Rattle.ug_table.proofs.Once.{sweeping_spared}

@@ -1,5 +1,5 @@
 -- A sweep's calls, in parts: the listing, and a part for each name; and which failed calls its `unsettled` entries tell.
-use Rattle.std.specs.Prelude.{◌≡◌, ℕ, ◌^◌, ◌<◌, ◌≤◌, Bool, true, false, not, map, List, [], ◌∷◌, ◌++◌, Option, Some, None, ◌⊎◌, if◌then◌else◌, nat_eq}
+use Rattle.std.specs.Prelude.{◌≡◌, ℕ, ◌+◌, length, ◌^◌, ◌<◌, ◌≤◌, Bool, true, false, not, map, List, [], ◌∷◌, ◌++◌, Option, Some, None, ◌⊎◌, if◌then◌else◌, nat_eq}
 use Rattle.std.specs.List.{filter}
 use Rattle.ug_types.specs.Elements.{Has, AllDistinct}
 use Rattle.ug_types.specs.Names.{parent_of}
@@ -236,6 +236,12 @@ AreOfNumber now (entry.Wrote number name what outcome ∷ es) end = (now ≡ Som
 AreOfNumber now (entry.Gone number name ∷ es) end = (now ≡ Some number) × AreOfNumber None es end
 AreOfNumber now (e ∷ es) end = AreOfNumber now es end
 
+-- the numbers that verdicts give out
+abbrev pub numbers_given : List Entry → List ℕ
+numbers_given [] = []
+numbers_given (entry.Judged number name held verdict cause ∷ es) = number ∷ numbers_given es
+numbers_given (e ∷ es) = numbers_given es
+
 -- a call that found the device of a standing gone
 abbrev pub FoundGone : Option Known → Made → Type 0
 FoundGone stands m = (known : Known) × (t : Told Probe) × (stands ≡ Some known) × (m ≡ answered (Ask_alive known.held.0) t) × (t.answer ≡ probe.Gone)
@@ -255,8 +261,8 @@ LacksRoom stands calls = ((known : Known) × (stands ≡ Some known) × (is_to_g
 -- One name's part of a sweep, from the standings before it to those after it: its calls are about the name, and are over with
 -- one that fails; the files that are open after them are those that the name's standing holds; its entries tell that failure, and no
 -- other; what is told of want of memory is of a new device, or of one that is still to be removed; each write is due and told, and
--- there is one of each kind at most; there are few calls; each entry bears the name, and the number of its standing; and the standings
--- of other names stay.
+-- there is one of each kind at most; there are few calls; each entry bears the name, and the number of its standing; one number at
+-- most is given out; and the standings of other names stay.
 pub record Part (name : List ℕ) (before after : List Standing) (calls : List Made) (entries : List Entry) : Type 0 where
   pub about : AreAbout name (known_files (standing_of name before)) calls
   pub leaves : files_after (known_files (standing_of name before)) calls ≡ known_files (standing_of name after)
@@ -270,6 +276,7 @@ pub record Part (name : List ℕ) (before after : List Standing) (calls : List M
   pub few : count_calls calls ≤ 14
   pub bears : AllBear name entries
   pub numbers : AreOfNumber (number_of (standing_of name before)) entries (number_of (standing_of name after))
+  pub given : length (numbers_given entries) ≤ 1
   pub others : (other : List ℕ) → (other ≡ name → ⊥) → standing_of other after ≡ standing_of other before
 
 -- a part for each name, in this order
@@ -303,7 +310,13 @@ AfterListing (listing.Names listed) failed ss entries left names shut = BeginsLi
 AfterListing listing.Failed failed ss entries left names shut = BeginsUnlisted (fault.Call failed) ss entries left names shut
 AfterListing listing.Memory failed ss entries left names shut = BeginsUnlisted fault.Memory ss entries left names shut
 
--- A sweep's calls are the listing, the closing of what isn't listed, and then the names' parts; and so are its entries.
+-- how many names a listing brought
+abbrev pub count_listed : Listing → ℕ
+count_listed (listing.Names listed) = length listed
+count_listed answer = 0
+
+-- A sweep's calls are the listing, the closing of what isn't listed, and then the names' parts; and so are its entries. The next
+-- number rises by those that are given out, which are no more than the names that were listed.
 pub record GoesInParts {S J : Type 0} (gives : S → (call : Call) → Answer call → S → Type 0) (s : S) (w : State J) (t : S) (v : State J) : Type 0 where
   pub listed : Told Listing
   pub later : List Made
@@ -318,6 +331,8 @@ pub record GoesInParts {S J : Type 0} (gives : S → (call : Call) → Answer ca
   pub cut : later ≡ shut ++ made
   pub begins : AfterListing listed.answer (failure_of listed) w.standings head left names shut
   pub parts : InParts names left v.standings made rest
+  pub next : v.next ≡ w.next + length (numbers_given rest)
+  pub given : length (numbers_given rest) ≤ count_listed listed.answer
 
 -- In a sweep in parts each call that failed is told with its number and the count of faults after it, and no other is; and calls
 -- are numbered on, so that both numbers rise.

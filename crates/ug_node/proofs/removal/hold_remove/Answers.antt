@@ -1,5 +1,4 @@
-use Rattle.ug_node.proofs.Removing.{told_holds}
-use Rattle.ug_node.proofs.Laws.{remove_fault}
+use Rattle.ug_node.proofs.Laws.{told_holds, remove_fault}
 use Rattle.ug_node.proofs.removal.hold_remove.Goals as goal
 
 pub returns-clause-law : goal.returns-clause-law

@@ -1,4 +1,4 @@
-use Rattle.ug_table.proofs.KeptOrder.{keeps_tried, kept_as}
+use Rattle.ug_table.proofs.Marks.{keeps_tried, kept_as}
 use Rattle.ug_table.proofs.settle.settle_known.Goals as goal
 
 pub returns-clause-keeps : goal.returns-clause-keeps

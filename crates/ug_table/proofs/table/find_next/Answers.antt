@@ -1,6 +1,6 @@
 use Rattle.std.proofs.Common.{sym, ◌∙◌, ap, true, false, Option, Bor, option_copied}
 use Rattle.ug_table.specs.declared.standing.Standing.{Standing}
-use Rattle.ug_table.proofs.KeptOrder.{found_more}
+use Rattle.ug_table.proofs.Marks.{found_more}
 use Rattle.ug_table.proofs.table.find_next.Goals.{then-is_nearer, else-is_nearer}
 use Rattle.ug_table.proofs.table.find_next.Goals as goal
 

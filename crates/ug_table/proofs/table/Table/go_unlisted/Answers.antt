@@ -1,5 +1,5 @@
 use Rattle.std.proofs.Common.{arith}
-use Rattle.ug_table.proofs.KeptOrder.{kept_fields}
+use Rattle.ug_table.proofs.Marks.{kept_fields}
 use Rattle.ug_table.proofs.table.Table.go_unlisted.Goals as goal
 
 pub invariant_of-self : goal.invariant_of-self

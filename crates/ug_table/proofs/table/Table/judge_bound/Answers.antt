@@ -1,7 +1,7 @@
 use Rattle.std.proofs.Common.{false, refl, ap}
 use Rattle.ug_table.specs.Table.{TableState}
 use Rattle.ug_table.specs.declared.standing.Standing.{Standing}
-use Rattle.ug_table.proofs.KeptOrder.{kept_more}
+use Rattle.ug_table.proofs.Marks.{kept_more}
 use Rattle.ug_table.proofs.table.Table.judge_bound.Goals as goal
 
 pub invariant_of-self : goal.invariant_of-self

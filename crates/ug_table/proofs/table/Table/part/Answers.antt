@@ -1,6 +1,6 @@
 use Rattle.ug_table.specs.Standings.{lists}
 use Rattle.ug_table.specs.declared.standing.Standing.{Standing}
-use Rattle.ug_table.proofs.KeptOrder.{keeps_filter, kept_as, kept_fields}
+use Rattle.ug_table.proofs.Marks.{keeps_filter, kept_as, kept_fields}
 use Rattle.ug_table.proofs.table.Table.part.Goals as goal
 
 pub invariant_of-self : goal.invariant_of-self

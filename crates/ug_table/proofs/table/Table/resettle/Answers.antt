@@ -4,8 +4,7 @@ use Rattle.ug_table.specs.declared.standing.Standing.{Standing}
 use Rattle.ug_audit.specs.Journal.{noted_in}
 use Rattle.ug_table.specs.State.{State, state_of}
 use Rattle.ug_table.specs.One.{ResettlesOne}
-use Rattle.ug_table.proofs.One.{numbered_part, told_resettles}
-use Rattle.ug_table.proofs.Remarked.{numbered_leaves, needs_room}
+use Rattle.ug_table.proofs.One.{numbered_part, told_resettles, numbered_leaves, needs_room}
 use Rattle.ug_table.specs.Standings.{numbered}
 use Rattle.ug_table.specs.Table.{TableState}
 use Rattle.ug_table.specs.Order.{StandInOrder}

@@ -1,8 +1,7 @@
 use Rattle.std.proofs.Common.{subst}
 use Rattle.ug_table.specs.Table.{TableState}
 use Rattle.ug_table.specs.Order.{StandInOrder}
-use Rattle.ug_table.proofs.Remarked.{run_leaves}
-use Rattle.ug_table.proofs.One.{settling_part, told_settles}
+use Rattle.ug_table.proofs.One.{run_leaves, settling_part, told_settles}
 use Rattle.ug_table.proofs.table.Table.settle.Goals as goal
 
 pub returns-clause-part : goal.returns-clause-part

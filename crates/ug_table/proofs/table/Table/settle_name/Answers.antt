@@ -1,8 +1,8 @@
 use Rattle.std.proofs.Common.{List, not, ◌∙◌, ap}
 use Rattle.ug_table.specs.Standings.{same_name, standing_of}
 use Rattle.ug_table.specs.declared.standing.Standing.{Standing}
-use Rattle.ug_table.proofs.KeptOrder.{keeps_filter, keeps_tried, kept_as, kept_fields}
-use Rattle.ug_table.proofs.OwnStanding.{without_own}
+use Rattle.ug_table.proofs.Marks.{keeps_filter, keeps_tried, kept_as, kept_fields}
+use Rattle.ug_table.proofs.Standings.{without_own}
 use Rattle.ug_table.proofs.table.Table.settle_name.Goals as goal
 
 pub invariant_of-self-2 : goal.invariant_of-self-2

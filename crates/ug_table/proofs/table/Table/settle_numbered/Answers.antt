@@ -1,4 +1,4 @@
-use Rattle.ug_table.proofs.KeptOrder.{kept_fields}
+use Rattle.ug_table.proofs.Marks.{kept_fields}
 use Rattle.ug_table.proofs.table.Table.settle_numbered.Goals as goal
 
 pub invariant_of-self : goal.invariant_of-self

@@ -1,0 +1,34 @@
+-- What these proofs speak of, passed on from one place. Declares nothing.
+pub use Rattle.ug_audit.specs.declared.entry.Entry.{Entry}
+pub use Rattle.ug_audit.specs.declared.entry.Fault.{Fault}
+pub use Rattle.ug_kernel.specs.Along.{Made, answered, Along, failure_of, failures, count_calls, failure, Rises}
+pub use Rattle.ug_kernel.specs.Called.{Follows, says_probe, IsWritten, IsGoneAt, says_put, Called, says_listing, Lived, value_after, does_put, IsAlive}
+pub use Rattle.ug_kernel.specs.Calls.{Call, Answer, Names, Ask_alive, Put, Close, Told, Closing, Open, Read, failed_read}
+pub use Rattle.ug_kernel.specs.Kernel.{Kernel, Moves, IsKernel, Live, Stays}
+pub use Rattle.ug_kernel.specs.Quiet.{Grows, Quiet}
+pub use Rattle.ug_kernel.specs.Tree.{Runs, calls, Ask}
+pub use Rattle.ug_kernel.specs.declared.calls.FailedCall.{FailedCall}
+pub use Rattle.ug_kernel.specs.declared.calls.Listing.{Listing}
+pub use Rattle.ug_kernel.specs.declared.calls.Probe.{Probe}
+pub use Rattle.ug_kernel.specs.declared.calls.Wrote.{Wrote}
+pub use Rattle.ug_kernel.specs.declared.device.Device.{Device}
+pub use Rattle.ug_node.specs.declared.identity.Binding.{Binding}
+pub use Rattle.ug_node.specs.declared.identity.Bound.{Bound}
+pub use Rattle.ug_node.specs.declared.removal.RemoveHold.{RemoveHold}
+pub use Rattle.ug_table.specs.Laws.{Stand, IsSpared, Tries, IsDevice, MayHave, MayHaveNot, wrote_entries, HasRemoval, IsFirst, Account, Start, Had, Had_not, AreInOrder, none_before, IsProbed, numbers_of, Judge, IsOne, IsTold, HasStanding, IsFair, IsRemoveMarked, swept_before, IsGone, Went, gone_of, IsRecordOf, IsNamed, IsAsJudged, IsSettled, TellsNeither, HasVerdict, Note, Swept, Sweeps, IsMarked, IsUnlisted, IsListed, IsMarkedIn, AreMarkedIn, Stands, IsJudged, AreLeft, WasRemoved}
+pub use Rattle.ug_table.specs.Parts.{name_in, unsettled_names, EndsUnsettled, NamesOnce, Part, IsLast, unlisted_files, OpenFile, open_file, Behind, behind_more, IsWriteDue, PutMade, AtMostOneEach, told_by, failure_in, failures_told, write_in, writes_in, TellsWrites, IsBoundAnew, LacksRoom, control_of, known_files, AllBear, number_of, AreOfNumber, numbers_given, AreClosings, close_file, files_left, files_after, AreAbout, EndsAtFailure, AreDue, put_of, puts_of, InParts, AfterListing, GoesInParts, TellsFaults}
+pub use Rattle.ug_table.specs.Standings.{lists, farewells, known_of, standing_of, without, with_standing, place_for, settled_standing, same_name, marked, numbered, removed_of}
+pub use Rattle.ug_table.specs.State.{State, Answers, Laters, Kept, noted, kept_of, with_kept}
+pub use Rattle.ug_table.specs.declared.standing.Known.{Known}
+pub use Rattle.ug_table.specs.declared.standing.Settled.{Settled}
+pub use Rattle.ug_table.specs.declared.standing.Standing.{Standing}
+pub use Rattle.ug_types.specs.Elements.{Has, AllDistinct}
+pub use Rattle.ug_types.specs.Names.{parent_of, sweep_cmp}
+pub use Rattle.ug_types.specs.Sweep.{in_sweep_order, in_place, sweep_total, sweep_exact}
+pub use Rattle.ug_types.specs.declared.control.Control.{Control}
+pub use Rattle.ug_types.specs.declared.control.Control.TheVariants.{Authorized, Remove}
+pub use Rattle.ug_types.specs.declared.control.Write.{Write}
+pub use Rattle.ug_types.specs.declared.record.Judged.{Judged}
+pub use Rattle.ug_types.specs.declared.verdict.Cause.{Cause}
+pub use Rattle.ug_types.specs.declared.verdict.Held.{Held}
+pub use Rattle.ug_types.specs.declared.verdict.Target.{Target}
