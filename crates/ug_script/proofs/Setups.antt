@@ -1,0 +1,140 @@
+-- The policy of setup lines, a line at a time.
+use Rattle.std.proofs.Common.{◌≡◌, ℕ, ◌+◌, ℤ, pos, false, List, [], ◌∷◌, ◌++◌, length, flat_map, Option, Some, Result, Ok, Err, refl, sym, ◌∙◌, ap, subst, arith, append_assoc, append-nil, length-append}
+use Rattle.ug_types.specs.declared.rule.Rule as types
+use Rattle.ug_types.specs.declared.text_fault.TextFault.{TextFault}
+use Rattle.ug_policy.specs.declared.entry.RuleEntry.{RuleEntry}
+use Rattle.ug_policy.specs.Edits.{new_entry}
+use Rattle.ug_conf.specs.declared.fault.Fault.{Fault}
+use Rattle.ug_conf.specs.Draft.{Draft, draft_of, line_read}
+use Rattle.ug_conf.specs.Faults.{on_ok}
+use Rattle.ug_conf.specs.Settings.{defaults}
+use Rattle.ug_conf.specs.Texts.{in_line, lines_read}
+use Rattle.ug_core.specs.Settings.{classes_of}
+use Rattle.ug_core.specs.Policy.{Judging}
+use Rattle.ug_script.specs.declared.step.Step.{Step}
+use Rattle.ug_script.specs.declared.step.Step.TheVariants.{Rule, Conf, Seed, Zone}
+use Rattle.ug_script.specs.Replay.{fresh, clock_ahead, seeded, no_seed}
+use Rattle.ug_script.specs.Setup.{rule_in, conf_in, seed_in, zone_in, entries_from, first_or, IsSetup}
+
+pub flat_more : {X : Type 0} (f : Option Step → List X) (steps : List (Option Step)) (step : Option Step) → flat_map f (steps ++ step ∷ []) ≡ flat_map f steps ++ f step
+flat_more f [] step = append-nil (f step)
+flat_more {X} f (x ∷ steps) step = ap (λ (l : List X). f x ++ l) (flat_more f steps step) ∙ sym (append_assoc (f x) (flat_map f steps) (f step))
+
+-- a step that gives none
+pub flat_none : {X : Type 0} (f : Option Step → List X) (steps : List (Option Step)) (step : Option Step) → f step ≡ [] → flat_map f (steps ++ step ∷ []) ≡ flat_map f steps
+flat_none {X} f steps step none = flat_more f steps step ∙ ap (λ (l : List X). flat_map f steps ++ l) none ∙ append-nil (flat_map f steps)
+
+-- one line of settings more
+settings_by : (number : ℕ) (lines : List (List ℕ)) (line : List ℕ) (mid last : Draft) (r : Result Draft Fault) → on_ok (in_line number r) (λ (more : Draft). lines_read (number + 1) more lines) ≡ Ok mid
+    → ((more : Draft) → lines_read (number + 1) more lines ≡ Ok mid → lines_read (number + 1) more (lines ++ line ∷ []) ≡ Ok last) → on_ok (in_line number r) (λ (more : Draft). lines_read (number + 1) more (lines ++ line ∷ [])) ≡ Ok last
+settings_by number lines line mid last (Ok more) h again = again more h
+settings_by number lines line mid last (Err fault) h again = let none : ⊥ = cc in absurd none
+
+settings_more : (number : ℕ) (draft : Draft) (lines : List (List ℕ)) (line : List ℕ) (mid last : Draft) → lines_read number draft lines ≡ Ok mid → line_read (number + length lines) mid line ≡ Ok last → lines_read number draft (lines ++ line ∷ []) ≡ Ok last
+unfolding lines_read
+settings_more number draft [] line mid last h g =
+    let same : draft ≡ mid = cc in
+    let none : number + 0 ≡ number = omega arith in
+    let read : line_read number draft line ≡ Ok last = subst (λ (n : ℕ). line_read n draft line ≡ Ok last) none (subst (λ (d : Draft). line_read (number + 0) d line ≡ Ok last) (sym same) g) in
+    ap (λ (r : Result Draft Fault). on_ok (in_line number r) (λ (more : Draft). lines_read (number + 1) more [])) read
+settings_more number draft (x ∷ lines) line mid last h g = settings_by number lines line mid last (line_read number draft x) h (λ more k. settings_more (number + 1) more lines line mid last k (let next : number + length (x ∷ lines) ≡ (number + 1) + length lines = omega arith in subst (λ (n : ℕ). line_read n mid line ≡ Ok last) next g))
+
+-- one rule more
+entries_more : (id : ℕ) (rules : List types.Rule) (rule : types.Rule) → entries_from id (rules ++ rule ∷ []) ≡ entries_from id rules ++ new_entry (id + length rules) rule false ∷ []
+entries_more id [] rule = let none : id ≡ id + 0 = omega arith in ap (λ (n : ℕ). new_entry n rule false ∷ []) none
+entries_more id (r ∷ rules) rule =
+    let next : (id + 1) + length rules ≡ id + length (r ∷ rules) = omega arith in
+    ap (λ (l : List RuleEntry). new_entry id r false ∷ l) (entries_more (id + 1) rules rule) ∙ ap (λ (n : ℕ). new_entry id r false ∷ (entries_from (id + 1) rules ++ new_entry n rule false ∷ [])) next
+
+pub settings_then : (steps : List (Option Step)) (text : List ℕ) (mid draft : Draft) → lines_read 1 (draft_of defaults []) (flat_map conf_in steps) ≡ Ok mid → line_read (1 + length (flat_map conf_in steps)) mid text ≡ Ok draft → lines_read 1 (draft_of defaults []) (flat_map conf_in (steps ++ Some (Conf text) ∷ [])) ≡ Ok draft
+settings_then steps text mid draft h read = ap (λ (l : List (List ℕ)). lines_read 1 (draft_of defaults []) l) (flat_more conf_in steps (Some (Conf text))) ∙ settings_more 1 (draft_of defaults []) (flat_map conf_in steps) text mid draft h read
+
+pub settings_still : (steps : List (Option Step)) (step : Option Step) (draft : Draft) → conf_in step ≡ [] → lines_read 1 (draft_of defaults []) (flat_map conf_in steps) ≡ Ok draft → lines_read 1 (draft_of defaults []) (flat_map conf_in (steps ++ step ∷ [])) ≡ Ok draft
+settings_still steps step draft none h = ap (λ (l : List (List ℕ)). lines_read 1 (draft_of defaults []) l) (flat_none conf_in steps step none) ∙ h
+
+-- a step that isn't one of setup
+pub setup_still : (steps : List (Option Step)) (step : Option Step) (p : Judging) → conf_in step ≡ [] → rule_in step ≡ [] → zone_in step ≡ [] → seed_in step ≡ [] → IsSetup steps p → IsSetup (steps ++ step ∷ []) p
+setup_still steps step p conf rule zone seed h = record {
+  draft = h.draft;
+  settings = settings_still steps step h.draft conf h.settings;
+  classes = h.classes;
+  rules = h.rules ∙ ap (λ (l : List types.Rule). entries_from 1 l) (sym (flat_none rule_in steps step rule));
+  next = h.next ∙ ap (λ (l : List types.Rule). length l + 1) (sym (flat_none rule_in steps step rule));
+  clock = h.clock ∙ ap (λ (l : List ℤ). clock_ahead (first_or (pos 0) l)) (sym (flat_none zone_in steps step zone));
+  ctx = h.ctx;
+  words = h.words ∙ ap (λ (l : List (List ℕ)). seeded (first_or no_seed l)) (sym (flat_none seed_in steps step seed));
+}
+
+abbrev pub ruled_by : types.Rule → Judging → Judging
+ruled_by rule p = record p { rules = p.rules ++ new_entry p.next rule false ∷ []; next = p.next + 1 }
+
+pub setup_rule : (steps : List (Option Step)) (rule : types.Rule) (p : Judging) → IsSetup steps p → IsSetup (steps ++ Some (Rule rule) ∷ []) (ruled_by rule p)
+setup_rule steps rule p h =
+    let step : Option Step = Some (Rule rule) in
+    let rs : List types.Rule = flat_map rule_in steps in
+    let all : flat_map rule_in (steps ++ step ∷ []) ≡ rs ++ rule ∷ [] = flat_more rule_in steps step in
+    let more : length (rs ++ rule ∷ []) ≡ length rs + 1 = length-append rs (rule ∷ []) in
+    let id : length rs + 1 ≡ 1 + length rs = omega arith in
+    record {
+      draft = h.draft;
+      settings = settings_still steps step h.draft refl h.settings;
+      classes = h.classes;
+      rules = ap (λ (l : List RuleEntry). l ++ new_entry p.next rule false ∷ []) h.rules ∙ ap (λ (n : ℕ). entries_from 1 rs ++ new_entry n rule false ∷ []) (h.next ∙ id) ∙ sym (entries_more 1 rs rule) ∙ ap (λ (l : List types.Rule). entries_from 1 l) (sym all);
+      next = ap (λ (n : ℕ). n + 1) (h.next ∙ sym more ∙ ap (λ (l : List types.Rule). length l) (sym all));
+      clock = h.clock ∙ ap (λ (l : List ℤ). clock_ahead (first_or (pos 0) l)) (sym (flat_none zone_in steps step refl));
+      ctx = h.ctx;
+      words = h.words ∙ ap (λ (l : List (List ℕ)). seeded (first_or no_seed l)) (sym (flat_none seed_in steps step refl));
+    }
+
+pub setup_conf : (steps : List (Option Step)) (text : List ℕ) (draft : Draft) (p : Judging) → IsSetup steps p → lines_read 1 (draft_of defaults []) (flat_map conf_in (steps ++ Some (Conf text) ∷ [])) ≡ Ok draft → IsSetup (steps ++ Some (Conf text) ∷ []) (record p { classes = classes_of draft.settings })
+setup_conf steps text draft p h read =
+    let step : Option Step = Some (Conf text) in
+    record {
+      draft = draft;
+      settings = read;
+      classes = refl;
+      rules = h.rules ∙ ap (λ (l : List types.Rule). entries_from 1 l) (sym (flat_none rule_in steps step refl));
+      next = h.next ∙ ap (λ (l : List types.Rule). length l + 1) (sym (flat_none rule_in steps step refl));
+      clock = h.clock ∙ ap (λ (l : List ℤ). clock_ahead (first_or (pos 0) l)) (sym (flat_none zone_in steps step refl));
+      ctx = h.ctx;
+      words = h.words ∙ ap (λ (l : List (List ℕ)). seeded (first_or no_seed l)) (sym (flat_none seed_in steps step refl));
+    }
+
+pub setup_seed : (steps : List (Option Step)) (seed : List ℕ) (p : Judging) → flat_map seed_in steps ≡ [] → IsSetup steps p → IsSetup (steps ++ Some (Seed seed) ∷ []) (record p { stream = seeded seed })
+setup_seed steps seed p none h =
+    let step : Option Step = Some (Seed seed) in
+    let all : flat_map seed_in (steps ++ step ∷ []) ≡ seed ∷ [] = flat_more seed_in steps step ∙ ap (λ (l : List (List ℕ)). l ++ seed ∷ []) none in
+    record {
+      draft = h.draft;
+      settings = settings_still steps step h.draft refl h.settings;
+      classes = h.classes;
+      rules = h.rules ∙ ap (λ (l : List types.Rule). entries_from 1 l) (sym (flat_none rule_in steps step refl));
+      next = h.next ∙ ap (λ (l : List types.Rule). length l + 1) (sym (flat_none rule_in steps step refl));
+      clock = h.clock ∙ ap (λ (l : List ℤ). clock_ahead (first_or (pos 0) l)) (sym (flat_none zone_in steps step refl));
+      ctx = h.ctx;
+      words = ap (λ (l : List (List ℕ)). seeded (first_or no_seed l)) (sym all);
+    }
+
+pub setup_zone : (steps : List (Option Step)) (offset : ℤ) (p : Judging) → flat_map zone_in steps ≡ [] → IsSetup steps p → IsSetup (steps ++ Some (Zone offset) ∷ []) (record p { clock = clock_ahead offset })
+setup_zone steps offset p none h =
+    let step : Option Step = Some (Zone offset) in
+    let all : flat_map zone_in (steps ++ step ∷ []) ≡ offset ∷ [] = flat_more zone_in steps step ∙ ap (λ (l : List ℤ). l ++ offset ∷ []) none in
+    record {
+      draft = h.draft;
+      settings = settings_still steps step h.draft refl h.settings;
+      classes = h.classes;
+      rules = h.rules ∙ ap (λ (l : List types.Rule). entries_from 1 l) (sym (flat_none rule_in steps step refl));
+      next = h.next ∙ ap (λ (l : List types.Rule). length l + 1) (sym (flat_none rule_in steps step refl));
+      clock = ap (λ (l : List ℤ). clock_ahead (first_or (pos 0) l)) (sym all);
+      ctx = h.ctx;
+      words = h.words ∙ ap (λ (l : List (List ℕ)). seeded (first_or no_seed l)) (sym (flat_none seed_in steps step refl));
+    }
+
+-- what no line gives
+
+pub fresh_read : lines_read 1 (draft_of defaults []) [] ≡ Ok (draft_of defaults [])
+unfolding lines_read
+fresh_read = refl
+
+pub fresh_setup : IsSetup [] fresh.daemon.sweep.judge
+fresh_setup = record { draft = draft_of defaults []; settings = fresh_read; classes = refl; rules = refl; next = refl; clock = refl; ctx = refl; words = refl }
