@@ -34,6 +34,7 @@ use Rattle.ug_core.specs.Policy.{Judging, policy_answer, policy_later}
 use Rattle.ug_core.specs.Event.{DaemonState, IsStarted, handling, has_numbers, with_rule, has_place, with_classes}
 use Rattle.ug_core.specs.Laws.{Handled}
 use Rattle.ug_core.specs.Chain.{Happened, Chain, journal}
+use Rattle.ug_core.proofs.Verdicts.{rulings_later}
 use Rattle.ug_core.proofs.Chained.{journal_append, is_run, chain_more, chain_moves}
 use Rattle.ug_lines.specs.Fold.{Fault, BadLine, Outcome, Writes, Refused, Stage, Going, Halted, is_within, stage_after, plays}
 use Rattle.ug_script.specs.declared.step.Step.{Step}
@@ -45,7 +46,7 @@ use Rattle.ug_script.specs.Laws.{event_of}
 use Rattle.ug_script.specs.Setup.{steps_of, conf_in, seed_in, zone_in, IsSetup, started}
 use Rattle.ug_script.specs.Journal.{happened_at, happens_by, left_by, happened, JudgesOnce, is_quiet, AreQuiet, Recorded, StaysRecorded}
 use Rattle.ug_script.proofs.Lawful.{Holds, arranged_holds, HoldsIn, HoldsAfter, plays_sweep, handled, swept_holds, taken_holds, no_standing}
-use Rattle.ug_script.proofs.Setups.{flat_more, flat_none, setup_still, ruled_by, setup_rule, setup_conf, setup_seed, setup_zone, settings_then, settings_still, fresh_read, fresh_setup}
+use Rattle.ug_script.proofs.Setups.{flat_more, flat_none, setup_still, ruled_by, setup_rule, setup_conf, setup_seed, setup_zone, settings_then, settings_still, IsNew, new_rule, new_still, fresh_new, fresh_read, fresh_setup}
 
 lines_more : (es fs : List Entry) → lines_text (es ++ fs) ≡ lines_text es ++ lines_text fs
 lines_more [] fs = refl
@@ -69,6 +70,7 @@ record Kept (first : World) (n : ℕ) (done : List (Option Step)) (hs : List Hap
   holds : HoldsIn (Some s, w)
   policy : Judging
   given : IsSetup done policy
+  new : IsNew policy
   chain : Chain first.kernel (started policy) hs w.kernel s.daemon
   opened : s.setup ≡ true → IsOpen n done hs s
   written : text ≡ lines_text (journal hs)
@@ -98,14 +100,21 @@ second false b e = let none : ⊥ = cc in absurd none
 unstarted : (first : World) (n : ℕ) (done : List (Option Step)) (hs : List Happened) (text : List ℕ) (s : Script) (w : World) (h : Kept first n done hs text s w) → s.setup ≡ true → Moves first.kernel w.kernel × (s.daemon ≡ started h.policy)
 unstarted first n done hs text s w h setup = subst (λ (x : List Happened). Chain first.kernel (started h.policy) x w.kernel s.daemon) (h.opened setup).none h.chain
 
+-- there is place for a rule
+few_rules : (d : DaemonState) (policy : Judging) → d ≡ started policy → has_place d ≡ true → length policy.rules < 65536
+few_rules d policy same e =
+    let t : nat_lt (length policy.rules) 65536 ≡ true = both (nat_lt (length policy.rules) 65536) (nat_lt policy.next (2 ^ 64 - 1)) (subst (λ (x : DaemonState). has_place x ≡ true) same e) in
+    grind (arith, nat_tests, t)
+
 -- what a setup line leaves: another policy, before any event
-kept_setup : (first : World) (n : ℕ) (done : List (Option Step)) (hs : List Happened) (text : List ℕ) (s t : Script) (w : World) (step : Option Step) (policy : Judging) (h : Kept first n done hs text s w) → s.setup ≡ true → IsSetup (done ++ step ∷ []) policy → t.daemon ≡ started policy → IsOpen (n + 1) (done ++ step ∷ []) hs t → t.moves ≡ s.moves → Kept first (n + 1) (done ++ step ∷ []) hs text t w
-kept_setup first n done hs text s t w step policy h setup given daemon opened moves =
+kept_setup : (first : World) (n : ℕ) (done : List (Option Step)) (hs : List Happened) (text : List ℕ) (s t : Script) (w : World) (step : Option Step) (policy : Judging) (h : Kept first n done hs text s w) → s.setup ≡ true → IsSetup (done ++ step ∷ []) policy → IsNew policy → t.daemon ≡ started policy → IsOpen (n + 1) (done ++ step ∷ []) hs t → t.moves ≡ s.moves → Kept first (n + 1) (done ++ step ∷ []) hs text t w
+kept_setup first n done hs text s t w step policy h setup given new daemon opened moves =
     let chain : Chain first.kernel (started policy) [] w.kernel t.daemon = ((unstarted first n done hs text s w h setup).0, daemon) in
     record {
       holds = subst (λ (d : DaemonState). Holds d.sweep.standings d.sweep.next w) (sym daemon) (record { told = h.holds.told; sound = h.holds.sound; stand = no_standing w.kernel });
       policy = policy;
       given = given;
+      new = new;
       chain = subst (λ (x : List Happened). Chain first.kernel (started policy) x w.kernel t.daemon) (sym (h.opened setup).none) chain;
       opened = λ e. opened;
       written = h.written;
@@ -138,7 +147,7 @@ kept_conf first n done hs text line (Ok draft) s w lt is setup h =
     let count : next_number s.settings.lines ≡ length (flat_map conf_in (done ++ step ∷ [])) = number ∙ sum ∙ sym longer ∙ ap (λ (l : List (List ℕ)). length l) (sym (flat_more conf_in done step)) in
     let within : next_number s.settings.lines ≤ n + 1 = omega (arith, few, lt) in
     kept_still first (n + 1) (done ++ step ∷ []) hs text t w
-    (kept_setup first n done hs text s t w step (record h.policy { classes = classes_of draft.settings }) h setup (setup_conf done line draft h.policy h.given read) (ap (λ (d : DaemonState). with_classes (classes_of draft.settings) d) (unstarted first n done hs text s w h setup).1)
+    (kept_setup first n done hs text s t w step (record h.policy { classes = classes_of draft.settings }) h setup (setup_conf done line draft h.policy h.given read) (new_still h.policy (record h.policy { classes = classes_of draft.settings }) refl refl h.new) (ap (λ (d : DaemonState). with_classes (classes_of draft.settings) d) (unstarted first n done hs text s w h setup).1)
     (record { none = so.none; read = read; lines = count; few = within; seeds = λ e. flat_none seed_in done step refl ∙ so.seeds e; zones = λ e. flat_none zone_in done step refl ∙ so.zones e })
     refl)
 kept_conf first n done hs text line (Err fault) s w lt is setup h = tt
@@ -163,6 +172,7 @@ kept_skip first n done hs text s w h =
     record {
       holds = h.holds;
       policy = h.policy;
+      new = h.new;
       given = setup_still done step h.policy refl refl refl refl h.given;
       chain = h.chain;
       opened = λ e. open_still n done step hs s refl refl refl (h.opened e);
@@ -182,6 +192,7 @@ kept_moves first n done hs text s w v step h given holds m fails moves = record 
   holds = record { told = holds.told; sound = holds.sound; stand = holds.stand };
   policy = h.policy;
   given = given;
+  new = h.new;
   chain = chain_moves first.kernel (started h.policy) hs w.kernel v.kernel s.daemon h.chain m;
   opened = λ e. closed e;
   written = h.written;
@@ -199,6 +210,7 @@ kept_scheduled first n done hs text s w step ms fs h given loud =
       holds = record { told = h.holds.told; sound = h.holds.sound; stand = h.holds.stand };
       policy = h.policy;
       given = given;
+      new = h.new;
       chain = h.chain;
       opened = λ e. closed e;
       written = h.written;
@@ -234,6 +246,7 @@ event_kept first n done hs text moment s w holds h =
     record {
       holds = holds;
       policy = h.policy;
+      new = h.new;
       given = setup_still done step h.policy refl refl refl refl h.given;
       chain = chain_moves first.kernel (started h.policy) (hs ++ this ∷ []) p.1.kernel (over p.1).kernel p.0 (event_chain first n done hs text moment s w h) (happened_moves p.1.moves p.1.kernel);
       opened = λ e. closed e;
@@ -297,6 +310,7 @@ recorded first lines n text s w h =
     record {
       policy = h.policy;
       setup = h.given;
+      later = λ rs. rulings_later h.policy rs h.new;
       chain = h.chain;
       run = is_run h.policy 1 first.kernel (started h.policy) (happened (None, first) lines) w.kernel s.daemon begins h.chain;
       written = h.written;
@@ -314,7 +328,7 @@ step_kept first n done hs text (Rule rule) s w lt h =
     kept_when first (n + 1) (done ++ step ∷ []) (hs ++ []) text (s.setup && has_place s.daemon) (quiet t w) (bad s w) (λ b.
     let setup : s.setup ≡ true = both s.setup (has_place s.daemon) b in
     let o = open_still n done step hs s refl refl refl (h.opened setup) in
-    kept_still first (n + 1) (done ++ step ∷ []) hs text t w (kept_setup first n done hs text s t w step (ruled_by rule h.policy) h setup (setup_rule done rule h.policy h.given) (ap (λ (d : DaemonState). with_rule rule d) (unstarted first n done hs text s w h setup).1) (record { none = o.none; read = o.read; lines = o.lines; few = o.few; seeds = o.seeds; zones = o.zones }) refl)) (λ b. tt)
+    kept_still first (n + 1) (done ++ step ∷ []) hs text t w (kept_setup first n done hs text s t w step (ruled_by rule h.policy) h setup (setup_rule done rule h.policy h.given) (new_rule rule h.policy (few_rules s.daemon h.policy (unstarted first n done hs text s w h setup).1 (second s.setup (has_place s.daemon) b)) h.new) (ap (λ (d : DaemonState). with_rule rule d) (unstarted first n done hs text s w h setup).1) (record { none = o.none; read = o.read; lines = o.lines; few = o.few; seeds = o.seeds; zones = o.zones }) refl)) (λ b. tt)
 step_kept first n done hs text (Conf line) s w lt h =
     kept_when first (n + 1) (done ++ Some (Conf line) ∷ []) (hs ++ []) text (s.setup && is_setting line) (conf_read (line_read (next_number s.settings.lines) s.settings.draft line) s w) (bad s w) (λ b. kept_conf first n done hs text line (line_read (next_number s.settings.lines) s.settings.draft line) s w lt refl (both s.setup (is_setting line) b) h) (λ b. tt)
 step_kept first n done hs text (Seed seed) s w lt h =
@@ -325,7 +339,7 @@ step_kept first n done hs text (Seed seed) s w lt h =
     let so = h.opened setup in
     let few : s.settings.lines ≤ n = so.few in
     kept_still first (n + 1) (done ++ step ∷ []) hs text t w
-    (kept_setup first n done hs text s t w step (record h.policy { stream = seeded seed }) h setup (setup_seed done seed h.policy (so.seeds (second s.setup (is_none s.seed) b)) h.given) (ap (λ (d : DaemonState). with_seed seed d) (unstarted first n done hs text s w h setup).1)
+    (kept_setup first n done hs text s t w step (record h.policy { stream = seeded seed }) h setup (setup_seed done seed h.policy (so.seeds (second s.setup (is_none s.seed) b)) h.given) (new_still h.policy (record h.policy { stream = seeded seed }) refl refl h.new) (ap (λ (d : DaemonState). with_seed seed d) (unstarted first n done hs text s w h setup).1)
     (record { none = so.none; read = settings_still done step s.settings.draft refl so.read; lines = so.lines ∙ ap (λ (l : List (List ℕ)). length l) (sym (flat_none conf_in done step refl)); few = omega (arith, few); seeds = λ e. closed e; zones = λ e. flat_none zone_in done step refl ∙ so.zones e }) refl)) (λ b. tt)
 step_kept first n done hs text (Zone offset) s w lt h =
     let step : Option Step = Some (Zone offset) in
@@ -335,7 +349,7 @@ step_kept first n done hs text (Zone offset) s w lt h =
     let so = h.opened setup in
     let few : s.settings.lines ≤ n = so.few in
     kept_still first (n + 1) (done ++ step ∷ []) hs text t w
-    (kept_setup first n done hs text s t w step (record h.policy { clock = clock_ahead offset }) h setup (setup_zone done offset h.policy (so.zones (unset s.zoned (both (not s.zoned) (is_offset offset) (second s.setup (not s.zoned && is_offset offset) b)))) h.given) (ap (λ (d : DaemonState). with_zone offset d) (unstarted first n done hs text s w h setup).1)
+    (kept_setup first n done hs text s t w step (record h.policy { clock = clock_ahead offset }) h setup (setup_zone done offset h.policy (so.zones (unset s.zoned (both (not s.zoned) (is_offset offset) (second s.setup (not s.zoned && is_offset offset) b)))) h.given) (new_still h.policy (record h.policy { clock = clock_ahead offset }) refl refl h.new) (ap (λ (d : DaemonState). with_zone offset d) (unstarted first n done hs text s w h setup).1)
     (record { none = so.none; read = settings_still done step s.settings.draft refl so.read; lines = so.lines ∙ ap (λ (l : List (List ℕ)). length l) (sym (flat_none conf_in done step refl)); few = omega (arith, few); seeds = λ e. flat_none seed_in done step refl ∙ so.seeds e; zones = λ e. closed (sym e) }) refl)) (λ b. tt)
   where
     unset : (b : Bool) → not b ≡ true → b ≡ false
@@ -367,6 +381,7 @@ kept_fresh first h = record {
   holds = h;
   policy = fresh.daemon.sweep.judge;
   given = fresh_setup;
+  new = fresh_new;
   chain = (unmoving first.kernel, refl);
   opened = λ e. record { none = refl; read = fresh_read; lines = refl; few = omega arith; seeds = λ x. refl; zones = λ x. refl };
   written = refl;

@@ -1,16 +1,24 @@
 -- The policy of setup lines, a line at a time.
-use Rattle.std.proofs.Common.{◌≡◌, ℕ, ◌+◌, ℤ, pos, false, List, [], ◌∷◌, ◌++◌, length, flat_map, Option, Some, Result, Ok, Err, refl, sym, ◌∙◌, ap, subst, arith, append_assoc, append-nil, length-append}
+use Rattle.std.proofs.Common.{◌≡◌, ℕ, ◌+◌, ◌<◌, ℤ, pos, false, List, [], ◌∷◌, ◌++◌, length, flat_map, Option, Some, Result, Ok, Err, refl, sym, ◌∙◌, ap, subst, arith, append_assoc, append-nil, length-append}
 use Rattle.ug_types.specs.declared.rule.Rule as types
 use Rattle.ug_types.specs.declared.text_fault.TextFault.{TextFault}
 use Rattle.ug_policy.specs.declared.entry.RuleEntry.{RuleEntry}
 use Rattle.ug_policy.specs.Edits.{new_entry}
+use Rattle.ug_policy.specs.Kept.{StandsFor}
+use Rattle.ug_policy.specs.Rules.{IsNumbered}
+use Rattle.ug_policy.proofs.Numbering.{numbered_insert}
+use Rattle.ug_policy.proofs.Stands.{stands_insert}
+use Rattle.ug_cond.specs.Words.{behind}
+use Rattle.rand_core.specs.Stream.{Stream}
+use Rattle.std.proofs.lemmas.List.Edits.{insert_end}
 use Rattle.ug_conf.specs.declared.fault.Fault.{Fault}
 use Rattle.ug_conf.specs.Draft.{Draft, draft_of, line_read}
 use Rattle.ug_conf.specs.Faults.{on_ok}
 use Rattle.ug_conf.specs.Settings.{defaults}
 use Rattle.ug_conf.specs.Texts.{in_line, lines_read}
 use Rattle.ug_core.specs.Settings.{classes_of}
-use Rattle.ug_core.specs.Policy.{Judging}
+use Rattle.ug_core.specs.Policy.{Judging, as_given}
+use Rattle.ug_core.specs.Verdicts.{IsLater}
 use Rattle.ug_script.specs.declared.step.Step.{Step}
 use Rattle.ug_script.specs.declared.step.Step.TheVariants.{Rule, Conf, Seed, Zone}
 use Rattle.ug_script.specs.Replay.{fresh, clock_ahead, seeded, no_seed}
@@ -67,6 +75,42 @@ setup_still steps step p conf rule zone seed h = record {
 
 abbrev pub ruled_by : types.Rule → Judging → Judging
 ruled_by rule p = record p { rules = p.rules ++ new_entry p.next rule false ∷ []; next = p.next + 1 }
+
+-- the policy has given no verdict yet
+abbrev pub IsNew : Judging → Type 0
+IsNew p = IsLater p 0 [] p
+
+pub new_rule : (rule : types.Rule) (p : Judging) → length p.rules < 65536 → IsNew p → IsNew (ruled_by rule p)
+new_rule rule p few h =
+    let new : RuleEntry = new_entry p.next rule false in
+    record {
+      classes = refl;
+      rules = given_more p.rules new ∙ ap (λ (l : List RuleEntry). l ++ new ∷ []) h.rules;
+      next = refl;
+      clock = refl;
+      stream = h.stream;
+      numbered = subst (λ (v : List RuleEntry). IsNumbered v (p.next + 1)) (insert_end p.rules new) (numbered_insert p.rules p.next (length p.rules) new h.numbered refl (omega arith) few);
+      histories = subst (λ (v : List RuleEntry). StandsFor v (p.next + 1) []) (insert_end p.rules new) (stands_insert p.rules p.next (length p.rules) rule false [] h.histories);
+    }
+  where
+    given_more : (es : List RuleEntry) (e : RuleEntry) → as_given (es ++ e ∷ []) ≡ as_given es ++ new_entry e.id e.rule e.temporary ∷ []
+    given_more [] e = refl
+    given_more (x ∷ es) e = ap (λ (l : List RuleEntry). new_entry x.id x.rule x.temporary ∷ l) (given_more es e)
+
+-- where the rules are the same
+pub new_still : (p q : Judging) → q.rules ≡ p.rules → q.next ≡ p.next → IsNew p → IsNew q
+new_still p q rules next h = record {
+  classes = refl;
+  rules = ap (λ (l : List RuleEntry). as_given l) rules ∙ h.rules ∙ sym rules;
+  next = refl;
+  clock = refl;
+  stream = stream_first q.stream;
+  numbered = subst (λ (l : List RuleEntry). IsNumbered l q.next) (sym rules) (subst (λ (n : ℕ). IsNumbered p.rules n) (sym next) h.numbered);
+  histories = subst (λ (l : List RuleEntry). StandsFor l q.next []) (sym rules) (subst (λ (n : ℕ). StandsFor p.rules n []) (sym next) h.histories);
+}
+  where
+    stream_first : (s : Stream) → s ≡ behind 0 s
+    stream_first s = refl
 
 pub setup_rule : (steps : List (Option Step)) (rule : types.Rule) (p : Judging) → IsSetup steps p → IsSetup (steps ++ Some (Rule rule) ∷ []) (ruled_by rule p)
 setup_rule steps rule p h =
@@ -135,6 +179,9 @@ setup_zone steps offset p none h =
 pub fresh_read : lines_read 1 (draft_of defaults []) [] ≡ Ok (draft_of defaults [])
 unfolding lines_read
 fresh_read = refl
+
+pub fresh_new : IsNew fresh.daemon.sweep.judge
+fresh_new = record { classes = refl; rules = refl; next = refl; clock = refl; stream = refl; numbered = record { distinct = tt; below = λ id a. absurd a; few = omega arith }; histories = record { evaluated = λ j id a. absurd a; applied = λ j id a. absurd a; histories = λ e a. absurd a } }
 
 pub fresh_setup : IsSetup [] fresh.daemon.sweep.judge
 fresh_setup = record { draft = draft_of defaults []; settings = fresh_read; classes = refl; rules = refl; next = refl; clock = refl; ctx = refl; words = refl }

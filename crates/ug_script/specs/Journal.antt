@@ -8,6 +8,8 @@ use Rattle.ug_play.specs.Play.{NameNobody}
 use Rattle.ug_core.specs.Chain.{Happened, Chain, journal, IsRun, IsJudgedOnce}
 use Rattle.ug_core.specs.Event.{has_numbers}
 use Rattle.ug_core.specs.Policy.{Judging}
+use Rattle.ug_core.specs.Rulings.{Ruling, after_rulings, judgements_for, words_for}
+use Rattle.ug_core.specs.Verdicts.{IsLater}
 use Rattle.ug_core.specs.declared.daemon.Event.TheVariants as event
 use Rattle.ug_lines.specs.Fold.{Outcome, Writes, Refused, Going, plays}
 use Rattle.ug_script.specs.declared.step.Step.{Step}
@@ -55,12 +57,14 @@ abbrev pub AreQuiet : List (Option Step) → Type 0
 AreQuiet [] = Unit {0}
 AreQuiet (step ∷ steps) = (is_quiet step ≡ true) × AreQuiet steps
 
--- Wherever lines have led: the setup lines gave a policy; the events of the lines are a chain from the daemon that started with it, with
--- all that this says of each write; and what was written is the text of their entries. Where no move was scheduled and no call was to
+-- Wherever lines have led: the setup lines gave a policy, of which rulings leave what has taken just their words, and whose histories
+-- stand for just their judgements; the events of the lines are a chain from the daemon that started with it, with all that this says of
+-- each write; and what was written is the text of their entries. Where no move was scheduled and no call was to
 -- fail, nobody is named as unsettled, and after an event that comes next each live device was judged just once and stands as judged.
 pub record Recorded (first : World) (lines : List (List ℕ)) (text : List ℕ) (s : Script) (w : World) : Type 0 where
   pub policy : Judging
   pub setup : IsSetup (steps_of lines) policy
+  pub later : (rulings : List Ruling) → IsLater policy (words_for policy rulings) (judgements_for policy rulings) (after_rulings policy rulings)
   pub chain : Chain first.kernel (started policy) (happened (None, first) lines) w.kernel s.daemon
   pub run : IsRun policy first.kernel (happened (None, first) lines) w.kernel s.daemon
   pub written : text ≡ lines_text (journal (happened (None, first) lines))
