@@ -30,7 +30,7 @@ use Rattle.ug_core.specs.Verdicts.{IsVerdict}
 use Rattle.ug_core.specs.Event.{DaemonState, begun, IsStarted, moment_of}
 use Rattle.ug_core.specs.InForce.{Decision, decision_of, decisions_in, or_else, last_decision, standing_decision, in_force, Agree, numbers_on, given_numbers, Follow}
 use Rattle.ug_core.specs.Laws.{Handled}
-use Rattle.ug_core.specs.Rulings.{Ruling, at_moment, ruled, after_ruling, after_rulings, decision_by, decisions_by}
+use Rattle.ug_core.specs.Rulings.{Ruling, at_moment, ruling_answer, after_ruling, after_rulings, decision_by, decisions_by}
 use Rattle.ug_core.specs.Chain.{Happened, Chain, journal, tells_unlisted, has_listed, IsPlaced, WasJudged, IsExplained, AllExplained, IsJudgedOnce, IsRun}
 use Rattle.ug_core.proofs.Verdicts.{is_verdict}
 use Rattle.ug_core.proofs.InForce.{decisions_append, decisions_more, has_decision, or_else_none, standing_found, fresh, numbers_append, follow_append, lift, lift_agree, last_has}
@@ -378,7 +378,7 @@ judged_on policy first k hs e so d i h file =
     let held : r.held ≡ d.held = ap (λ (y : Decision). y.held) x.is in
     let there : slice_get k.held r.held.0 ≡ Some (record { device = i; control = Authorized }) = subst (λ (y : Held). slice_get k.held y.0 ≡ Some (record { device = i; control = Authorized })) (sym held) file in
     let q : Judging = after_rulings policy x.before in
-    let said : ruled q r ≡ (d.verdict, d.cause) = ap (λ (y : Decision). (y.verdict, y.cause)) x.is in
+    let said : ruling_answer q r ≡ (d.verdict, d.cause) = ap (λ (y : Decision). (y.verdict, y.cause)) x.is in
     record {
       before = x.before;
       ruling = r;

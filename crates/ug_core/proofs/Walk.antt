@@ -21,7 +21,7 @@ use Rattle.ug_table.specs.Laws.{IsDevice, IsProbed, Stand, AreLeft, AreMarkedIn,
 use Rattle.ug_table.specs.declared.standing.Standing.{Standing}
 use Rattle.ug_core.specs.Policy.{Judging, verdict_of, later_of, policy_answer, policy_later}
 use Rattle.ug_core.specs.InForce.{Decision, decisions_in, decision_of, or_else, last_decision, standing_decision, in_force, numbers_on, given_numbers, Follow}
-use Rattle.ug_core.specs.Rulings.{Ruling, at_moment, ruled, after_ruling, after_rulings, decision_by, decisions_by}
+use Rattle.ug_core.specs.Rulings.{Ruling, at_moment, ruling_answer, after_ruling, after_rulings, decision_by, decisions_by}
 use Rattle.ug_core.proofs.InForce.{decisions_append, decisions_more, has_decision, neither_none, standing_found, Fresh, fresh, numbers_append, follow_append}
 
 -- the rulings of a list and one more
@@ -131,7 +131,7 @@ judged_more present moment start k before log0 policy next0 es log judge next i 
     let p : Judging = after_rulings policy h.rulings in
     let a : Target × Cause = policy_answer judge dev (is_none (parent_of name)) present on ss in
     let x : Entry = entry.Judged next name held a.0 a.1 in
-    let same : policy_answer judge dev (is_none (parent_of name)) present on ss ≡ ruled p r = ap (λ (j : Judging). policy_answer j dev (is_none (parent_of name)) present on ss) h.judge_is in
+    let same : policy_answer judge dev (is_none (parent_of name)) present on ss ≡ ruling_answer p r = ap (λ (j : Judging). policy_answer j dev (is_none (parent_of name)) present on ss) h.judge_is in
     let this : Decision = record { number = next; name = name; held = held; verdict = a.0; cause = a.1 } in
     let that : this ≡ decision_by p r = ap (λ (v : Target × Cause). record { number = next; name = name; held = held; verdict = v.0; cause = v.1 }) same in
     let whole : decisions_in (es ++ x ∷ []) ≡ decisions_in es ++ this ∷ [] = decisions_append es (x ∷ []) in

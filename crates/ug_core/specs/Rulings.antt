@@ -30,8 +30,8 @@ abbrev pub at_moment : Moment → Judging → Judging
 at_moment moment p = record p { ctx = context_at p.clock moment }
 
 -- what the policy says at the ruling's moment, beside the records of the allowed devices of its standings
-abbrev pub ruled : Judging → Ruling → Target × Cause
-ruled p r = verdict_of (at_moment r.moment p) (allowed_records r.standings) r.judged (is_none (parent_of r.name)) r.present r.on
+abbrev pub ruling_answer : Judging → Ruling → Target × Cause
+ruling_answer p r = verdict_of (at_moment r.moment p) (allowed_records r.standings) r.judged (is_none (parent_of r.name)) r.present r.on
 
 -- and what becomes of it: histories have the moment, and words are taken
 abbrev pub after_ruling : Judging → Ruling → Judging
@@ -42,7 +42,7 @@ after_rulings p [] = p
 after_rulings p (r ∷ rs) = after_rulings (after_ruling p r) rs
 
 abbrev pub decision_by : Judging → Ruling → Decision
-decision_by p r = record { number = r.number; name = r.name; held = r.held; verdict = (ruled p r).0; cause = (ruled p r).1 }
+decision_by p r = record { number = r.number; name = r.name; held = r.held; verdict = (ruling_answer p r).0; cause = (ruling_answer p r).1 }
 
 -- the decisions, each by the policy as those before it left it
 abbrev pub decisions_by : Judging → List Ruling → List Decision

@@ -26,7 +26,7 @@ use Rattle.ug_play.proofs.Still.{lived_in_play}
 use Rattle.ug_conf.specs.declared.fault.Fault as conf
 use Rattle.ug_conf.specs.Draft.{Draft, draft_of, line_read}
 use Rattle.ug_conf.specs.Settings.{defaults}
-use Rattle.ug_conf.specs.Texts.{lines_read}
+use Rattle.ug_conf.specs.Texts.{lines_read, settled}
 use Rattle.ug_conf.specs.Reader.{next_number}
 use Rattle.ug_core.specs.Event as event
 use Rattle.ug_core.specs.Settings.{classes_of}
@@ -43,7 +43,7 @@ use Rattle.ug_script.specs.Grammar.{step_of_line}
 use Rattle.ug_script.specs.Replay.{Script, header, fresh, clock_ahead, terminated, lines_text, quiet, bad, is_setting, conf_read, with_seed, with_zone, is_offset, with_devices, after_event, taken, taken_if, script_step, seeded}
 use Rattle.ug_script.specs.Schedule.{with_move, arranged}
 use Rattle.ug_script.specs.Laws.{event_of}
-use Rattle.ug_script.specs.Setup.{steps_of, conf_in, seed_in, zone_in, IsSetup, started}
+use Rattle.ug_script.specs.Setup.{steps_of, conf_asked, seed_asked, zone_asked, IsSetup, started}
 use Rattle.ug_script.specs.Journal.{happened_at, happens_by, left_by, happened, JudgesOnce, is_quiet, AreQuiet, Recorded, StaysRecorded}
 use Rattle.ug_script.proofs.Lawful.{Holds, arranged_holds, HoldsIn, HoldsAfter, plays_sweep, handled, swept_holds, taken_holds, no_standing}
 use Rattle.ug_script.proofs.Setups.{flat_more, flat_none, setup_still, ruled_by, setup_rule, setup_conf, setup_seed, setup_zone, settings_then, settings_still, IsNew, new_rule, new_still, fresh_new, fresh_read, fresh_setup}
@@ -59,11 +59,11 @@ quiet_front (x ∷ steps) step q = let k = quiet_front steps step q.1 in ((q.0, 
 -- while setup lines may come: no event came, and what they gave so far
 record IsOpen (n : ℕ) (done : List (Option Step)) (hs : List Happened) (s : Script) : Type 0 where
   none : hs ≡ []
-  read : lines_read 1 (draft_of defaults []) (flat_map conf_in done) ≡ Ok s.settings.draft
-  lines : s.settings.lines ≡ length (flat_map conf_in done)
+  read : lines_read 1 (draft_of defaults []) (flat_map conf_asked done) ≡ Ok s.settings.draft
+  lines : s.settings.lines ≡ length (flat_map conf_asked done)
   few : s.settings.lines ≤ n
-  seeds : is_none s.seed ≡ true → flat_map seed_in done ≡ []
-  zones : s.zoned ≡ false → flat_map zone_in done ≡ []
+  seeds : is_none s.seed ≡ true → flat_map seed_asked done ≡ []
+  zones : s.zoned ≡ false → flat_map zone_asked done ≡ []
 
 -- what holds after the header and so many lines, which asked for these steps
 record Kept (first : World) (n : ℕ) (done : List (Option Step)) (hs : List Happened) (text : List ℕ) (s : Script) (w : World) : Type 0 where
@@ -137,32 +137,32 @@ kept_conf : (first : World) (n : ℕ) (done : List (Option Step)) (hs : List Hap
 kept_conf first n done hs text line (Ok draft) s w lt is setup h =
     let so = h.opened setup in
     let few : s.settings.lines ≤ n = so.few in
-    let lines : s.settings.lines ≡ length (flat_map conf_in done) = so.lines in
+    let lines : s.settings.lines ≡ length (flat_map conf_asked done) = so.lines in
     let step : Option Step = Some (Conf line) in
-    let number : next_number s.settings.lines ≡ 1 + length (flat_map conf_in done) = omega (arith, few, lt, lines) in
-    let read : lines_read 1 (draft_of defaults []) (flat_map conf_in (done ++ step ∷ [])) ≡ Ok draft = settings_then done line s.settings.draft draft so.read (subst (λ (m : ℕ). line_read m s.settings.draft line ≡ Ok draft) number is) in
+    let number : next_number s.settings.lines ≡ 1 + length (flat_map conf_asked done) = omega (arith, few, lt, lines) in
+    let read : lines_read 1 (draft_of defaults []) (flat_map conf_asked (done ++ step ∷ [])) ≡ Ok draft = settings_then done line s.settings.draft draft so.read (subst (λ (m : ℕ). line_read m s.settings.draft line ≡ Ok draft) number is) in
     let t : Script = record s { settings = record { draft = draft; lines = next_number s.settings.lines }; daemon = with_classes (classes_of draft.settings) s.daemon } in
-    let longer : length (flat_map conf_in done ++ line ∷ []) ≡ length (flat_map conf_in done) + 1 = length-append (flat_map conf_in done) (line ∷ []) in
-    let sum : 1 + length (flat_map conf_in done) ≡ length (flat_map conf_in done) + 1 = omega arith in
-    let count : next_number s.settings.lines ≡ length (flat_map conf_in (done ++ step ∷ [])) = number ∙ sum ∙ sym longer ∙ ap (λ (l : List (List ℕ)). length l) (sym (flat_more conf_in done step)) in
+    let longer : length (flat_map conf_asked done ++ line ∷ []) ≡ length (flat_map conf_asked done) + 1 = length-append (flat_map conf_asked done) (line ∷ []) in
+    let sum : 1 + length (flat_map conf_asked done) ≡ length (flat_map conf_asked done) + 1 = omega arith in
+    let count : next_number s.settings.lines ≡ length (flat_map conf_asked (done ++ step ∷ [])) = number ∙ sum ∙ sym longer ∙ ap (λ (l : List (List ℕ)). length l) (sym (flat_more conf_asked done step)) in
     let within : next_number s.settings.lines ≤ n + 1 = omega (arith, few, lt) in
     kept_still first (n + 1) (done ++ step ∷ []) hs text t w
     (kept_setup first n done hs text s t w step (record h.policy { classes = classes_of draft.settings }) h setup (setup_conf done line draft h.policy h.given read) (new_still h.policy (record h.policy { classes = classes_of draft.settings }) refl refl h.new) (ap (λ (d : DaemonState). with_classes (classes_of draft.settings) d) (unstarted first n done hs text s w h setup).1)
-    (record { none = so.none; read = read; lines = count; few = within; seeds = λ e. flat_none seed_in done step refl ∙ so.seeds e; zones = λ e. flat_none zone_in done step refl ∙ so.zones e })
+    (record { none = so.none; read = read; lines = count; few = within; seeds = λ e. flat_none seed_asked done step refl ∙ so.seeds e; zones = λ e. flat_none zone_asked done step refl ∙ so.zones e })
     refl)
 kept_conf first n done hs text line (Err fault) s w lt is setup h = tt
 
 -- a line that changes neither the policy nor the world's moves
-open_still : (n : ℕ) (done : List (Option Step)) (step : Option Step) (hs : List Happened) (s : Script) → conf_in step ≡ [] → seed_in step ≡ [] → zone_in step ≡ [] → IsOpen n done hs s → IsOpen (n + 1) (done ++ step ∷ []) hs s
+open_still : (n : ℕ) (done : List (Option Step)) (step : Option Step) (hs : List Happened) (s : Script) → conf_asked step ≡ [] → seed_asked step ≡ [] → zone_asked step ≡ [] → IsOpen n done hs s → IsOpen (n + 1) (done ++ step ∷ []) hs s
 open_still n done step hs s conf seed zone o =
     let few : s.settings.lines ≤ n = o.few in
     record {
       none = o.none;
       read = settings_still done step s.settings.draft conf o.read;
-      lines = o.lines ∙ ap (λ (l : List (List ℕ)). length l) (sym (flat_none conf_in done step conf));
+      lines = o.lines ∙ ap (λ (l : List (List ℕ)). length l) (sym (flat_none conf_asked done step conf));
       few = omega (arith, few);
-      seeds = λ e. flat_none seed_in done step seed ∙ o.seeds e;
-      zones = λ e. flat_none zone_in done step zone ∙ o.zones e;
+      seeds = λ e. flat_none seed_asked done step seed ∙ o.seeds e;
+      zones = λ e. flat_none zone_asked done step zone ∙ o.zones e;
     }
 
 -- a line that gives no policy and changes nothing
@@ -310,6 +310,7 @@ recorded first lines n text s w h =
     record {
       policy = h.policy;
       setup = h.given;
+      settings = λ whole e. ap (λ (ls : List (List ℕ)). settled (lines_read 1 (draft_of defaults []) ls)) e ∙ ap settled h.given.settings;
       later = λ rs. rulings_later h.policy rs h.new;
       chain = h.chain;
       run = is_run h.policy 1 first.kernel (started h.policy) (happened (None, first) lines) w.kernel s.daemon begins h.chain;
@@ -340,7 +341,7 @@ step_kept first n done hs text (Seed seed) s w lt h =
     let few : s.settings.lines ≤ n = so.few in
     kept_still first (n + 1) (done ++ step ∷ []) hs text t w
     (kept_setup first n done hs text s t w step (record h.policy { stream = seeded seed }) h setup (setup_seed done seed h.policy (so.seeds (second s.setup (is_none s.seed) b)) h.given) (new_still h.policy (record h.policy { stream = seeded seed }) refl refl h.new) (ap (λ (d : DaemonState). with_seed seed d) (unstarted first n done hs text s w h setup).1)
-    (record { none = so.none; read = settings_still done step s.settings.draft refl so.read; lines = so.lines ∙ ap (λ (l : List (List ℕ)). length l) (sym (flat_none conf_in done step refl)); few = omega (arith, few); seeds = λ e. closed e; zones = λ e. flat_none zone_in done step refl ∙ so.zones e }) refl)) (λ b. tt)
+    (record { none = so.none; read = settings_still done step s.settings.draft refl so.read; lines = so.lines ∙ ap (λ (l : List (List ℕ)). length l) (sym (flat_none conf_asked done step refl)); few = omega (arith, few); seeds = λ e. closed e; zones = λ e. flat_none zone_asked done step refl ∙ so.zones e }) refl)) (λ b. tt)
 step_kept first n done hs text (Zone offset) s w lt h =
     let step : Option Step = Some (Zone offset) in
     let t : Script = record s { zoned = true; daemon = with_zone offset s.daemon } in
@@ -350,7 +351,7 @@ step_kept first n done hs text (Zone offset) s w lt h =
     let few : s.settings.lines ≤ n = so.few in
     kept_still first (n + 1) (done ++ step ∷ []) hs text t w
     (kept_setup first n done hs text s t w step (record h.policy { clock = clock_ahead offset }) h setup (setup_zone done offset h.policy (so.zones (unset s.zoned (both (not s.zoned) (is_offset offset) (second s.setup (not s.zoned && is_offset offset) b)))) h.given) (new_still h.policy (record h.policy { clock = clock_ahead offset }) refl refl h.new) (ap (λ (d : DaemonState). with_zone offset d) (unstarted first n done hs text s w h setup).1)
-    (record { none = so.none; read = settings_still done step s.settings.draft refl so.read; lines = so.lines ∙ ap (λ (l : List (List ℕ)). length l) (sym (flat_none conf_in done step refl)); few = omega (arith, few); seeds = λ e. flat_none seed_in done step refl ∙ so.seeds e; zones = λ e. closed (sym e) }) refl)) (λ b. tt)
+    (record { none = so.none; read = settings_still done step s.settings.draft refl so.read; lines = so.lines ∙ ap (λ (l : List (List ℕ)). length l) (sym (flat_none conf_asked done step refl)); few = omega (arith, few); seeds = λ e. flat_none seed_asked done step refl ∙ so.seeds e; zones = λ e. closed (sym e) }) refl)) (λ b. tt)
   where
     unset : (b : Bool) → not b ≡ true → b ≡ false
     unset false e = refl

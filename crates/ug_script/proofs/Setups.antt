@@ -22,7 +22,7 @@ use Rattle.ug_core.specs.Verdicts.{IsLater}
 use Rattle.ug_script.specs.declared.step.Step.{Step}
 use Rattle.ug_script.specs.declared.step.Step.TheVariants.{Rule, Conf, Seed, Zone}
 use Rattle.ug_script.specs.Replay.{fresh, clock_ahead, seeded, no_seed}
-use Rattle.ug_script.specs.Setup.{rule_in, conf_in, seed_in, zone_in, entries_from, first_or, IsSetup}
+use Rattle.ug_script.specs.Setup.{rule_asked, conf_asked, seed_asked, zone_asked, entries_from, first_or, IsSetup}
 
 pub flat_more : {X : Type 0} (f : Option Step → List X) (steps : List (Option Step)) (step : Option Step) → flat_map f (steps ++ step ∷ []) ≡ flat_map f steps ++ f step
 flat_more f [] step = append-nil (f step)
@@ -54,23 +54,23 @@ entries_more id (r ∷ rules) rule =
     let next : (id + 1) + length rules ≡ id + length (r ∷ rules) = omega arith in
     ap (λ (l : List RuleEntry). new_entry id r false ∷ l) (entries_more (id + 1) rules rule) ∙ ap (λ (n : ℕ). new_entry id r false ∷ (entries_from (id + 1) rules ++ new_entry n rule false ∷ [])) next
 
-pub settings_then : (steps : List (Option Step)) (text : List ℕ) (mid draft : Draft) → lines_read 1 (draft_of defaults []) (flat_map conf_in steps) ≡ Ok mid → line_read (1 + length (flat_map conf_in steps)) mid text ≡ Ok draft → lines_read 1 (draft_of defaults []) (flat_map conf_in (steps ++ Some (Conf text) ∷ [])) ≡ Ok draft
-settings_then steps text mid draft h read = ap (λ (l : List (List ℕ)). lines_read 1 (draft_of defaults []) l) (flat_more conf_in steps (Some (Conf text))) ∙ settings_more 1 (draft_of defaults []) (flat_map conf_in steps) text mid draft h read
+pub settings_then : (steps : List (Option Step)) (text : List ℕ) (mid draft : Draft) → lines_read 1 (draft_of defaults []) (flat_map conf_asked steps) ≡ Ok mid → line_read (1 + length (flat_map conf_asked steps)) mid text ≡ Ok draft → lines_read 1 (draft_of defaults []) (flat_map conf_asked (steps ++ Some (Conf text) ∷ [])) ≡ Ok draft
+settings_then steps text mid draft h read = ap (λ (l : List (List ℕ)). lines_read 1 (draft_of defaults []) l) (flat_more conf_asked steps (Some (Conf text))) ∙ settings_more 1 (draft_of defaults []) (flat_map conf_asked steps) text mid draft h read
 
-pub settings_still : (steps : List (Option Step)) (step : Option Step) (draft : Draft) → conf_in step ≡ [] → lines_read 1 (draft_of defaults []) (flat_map conf_in steps) ≡ Ok draft → lines_read 1 (draft_of defaults []) (flat_map conf_in (steps ++ step ∷ [])) ≡ Ok draft
-settings_still steps step draft none h = ap (λ (l : List (List ℕ)). lines_read 1 (draft_of defaults []) l) (flat_none conf_in steps step none) ∙ h
+pub settings_still : (steps : List (Option Step)) (step : Option Step) (draft : Draft) → conf_asked step ≡ [] → lines_read 1 (draft_of defaults []) (flat_map conf_asked steps) ≡ Ok draft → lines_read 1 (draft_of defaults []) (flat_map conf_asked (steps ++ step ∷ [])) ≡ Ok draft
+settings_still steps step draft none h = ap (λ (l : List (List ℕ)). lines_read 1 (draft_of defaults []) l) (flat_none conf_asked steps step none) ∙ h
 
 -- a step that isn't one of setup
-pub setup_still : (steps : List (Option Step)) (step : Option Step) (p : Judging) → conf_in step ≡ [] → rule_in step ≡ [] → zone_in step ≡ [] → seed_in step ≡ [] → IsSetup steps p → IsSetup (steps ++ step ∷ []) p
+pub setup_still : (steps : List (Option Step)) (step : Option Step) (p : Judging) → conf_asked step ≡ [] → rule_asked step ≡ [] → zone_asked step ≡ [] → seed_asked step ≡ [] → IsSetup steps p → IsSetup (steps ++ step ∷ []) p
 setup_still steps step p conf rule zone seed h = record {
   draft = h.draft;
   settings = settings_still steps step h.draft conf h.settings;
   classes = h.classes;
-  rules = h.rules ∙ ap (λ (l : List types.Rule). entries_from 1 l) (sym (flat_none rule_in steps step rule));
-  next = h.next ∙ ap (λ (l : List types.Rule). length l + 1) (sym (flat_none rule_in steps step rule));
-  clock = h.clock ∙ ap (λ (l : List ℤ). clock_ahead (first_or (pos 0) l)) (sym (flat_none zone_in steps step zone));
+  rules = h.rules ∙ ap (λ (l : List types.Rule). entries_from 1 l) (sym (flat_none rule_asked steps step rule));
+  next = h.next ∙ ap (λ (l : List types.Rule). length l + 1) (sym (flat_none rule_asked steps step rule));
+  clock = h.clock ∙ ap (λ (l : List ℤ). clock_ahead (first_or (pos 0) l)) (sym (flat_none zone_asked steps step zone));
   ctx = h.ctx;
-  words = h.words ∙ ap (λ (l : List (List ℕ)). seeded (first_or no_seed l)) (sym (flat_none seed_in steps step seed));
+  words = h.words ∙ ap (λ (l : List (List ℕ)). seeded (first_or no_seed l)) (sym (flat_none seed_asked steps step seed));
 }
 
 abbrev pub ruled_by : types.Rule → Judging → Judging
@@ -115,8 +115,8 @@ new_still p q rules next h = record {
 pub setup_rule : (steps : List (Option Step)) (rule : types.Rule) (p : Judging) → IsSetup steps p → IsSetup (steps ++ Some (Rule rule) ∷ []) (ruled_by rule p)
 setup_rule steps rule p h =
     let step : Option Step = Some (Rule rule) in
-    let rs : List types.Rule = flat_map rule_in steps in
-    let all : flat_map rule_in (steps ++ step ∷ []) ≡ rs ++ rule ∷ [] = flat_more rule_in steps step in
+    let rs : List types.Rule = flat_map rule_asked steps in
+    let all : flat_map rule_asked (steps ++ step ∷ []) ≡ rs ++ rule ∷ [] = flat_more rule_asked steps step in
     let more : length (rs ++ rule ∷ []) ≡ length rs + 1 = length-append rs (rule ∷ []) in
     let id : length rs + 1 ≡ 1 + length rs = omega arith in
     record {
@@ -125,53 +125,53 @@ setup_rule steps rule p h =
       classes = h.classes;
       rules = ap (λ (l : List RuleEntry). l ++ new_entry p.next rule false ∷ []) h.rules ∙ ap (λ (n : ℕ). entries_from 1 rs ++ new_entry n rule false ∷ []) (h.next ∙ id) ∙ sym (entries_more 1 rs rule) ∙ ap (λ (l : List types.Rule). entries_from 1 l) (sym all);
       next = ap (λ (n : ℕ). n + 1) (h.next ∙ sym more ∙ ap (λ (l : List types.Rule). length l) (sym all));
-      clock = h.clock ∙ ap (λ (l : List ℤ). clock_ahead (first_or (pos 0) l)) (sym (flat_none zone_in steps step refl));
+      clock = h.clock ∙ ap (λ (l : List ℤ). clock_ahead (first_or (pos 0) l)) (sym (flat_none zone_asked steps step refl));
       ctx = h.ctx;
-      words = h.words ∙ ap (λ (l : List (List ℕ)). seeded (first_or no_seed l)) (sym (flat_none seed_in steps step refl));
+      words = h.words ∙ ap (λ (l : List (List ℕ)). seeded (first_or no_seed l)) (sym (flat_none seed_asked steps step refl));
     }
 
-pub setup_conf : (steps : List (Option Step)) (text : List ℕ) (draft : Draft) (p : Judging) → IsSetup steps p → lines_read 1 (draft_of defaults []) (flat_map conf_in (steps ++ Some (Conf text) ∷ [])) ≡ Ok draft → IsSetup (steps ++ Some (Conf text) ∷ []) (record p { classes = classes_of draft.settings })
+pub setup_conf : (steps : List (Option Step)) (text : List ℕ) (draft : Draft) (p : Judging) → IsSetup steps p → lines_read 1 (draft_of defaults []) (flat_map conf_asked (steps ++ Some (Conf text) ∷ [])) ≡ Ok draft → IsSetup (steps ++ Some (Conf text) ∷ []) (record p { classes = classes_of draft.settings })
 setup_conf steps text draft p h read =
     let step : Option Step = Some (Conf text) in
     record {
       draft = draft;
       settings = read;
       classes = refl;
-      rules = h.rules ∙ ap (λ (l : List types.Rule). entries_from 1 l) (sym (flat_none rule_in steps step refl));
-      next = h.next ∙ ap (λ (l : List types.Rule). length l + 1) (sym (flat_none rule_in steps step refl));
-      clock = h.clock ∙ ap (λ (l : List ℤ). clock_ahead (first_or (pos 0) l)) (sym (flat_none zone_in steps step refl));
+      rules = h.rules ∙ ap (λ (l : List types.Rule). entries_from 1 l) (sym (flat_none rule_asked steps step refl));
+      next = h.next ∙ ap (λ (l : List types.Rule). length l + 1) (sym (flat_none rule_asked steps step refl));
+      clock = h.clock ∙ ap (λ (l : List ℤ). clock_ahead (first_or (pos 0) l)) (sym (flat_none zone_asked steps step refl));
       ctx = h.ctx;
-      words = h.words ∙ ap (λ (l : List (List ℕ)). seeded (first_or no_seed l)) (sym (flat_none seed_in steps step refl));
+      words = h.words ∙ ap (λ (l : List (List ℕ)). seeded (first_or no_seed l)) (sym (flat_none seed_asked steps step refl));
     }
 
-pub setup_seed : (steps : List (Option Step)) (seed : List ℕ) (p : Judging) → flat_map seed_in steps ≡ [] → IsSetup steps p → IsSetup (steps ++ Some (Seed seed) ∷ []) (record p { stream = seeded seed })
+pub setup_seed : (steps : List (Option Step)) (seed : List ℕ) (p : Judging) → flat_map seed_asked steps ≡ [] → IsSetup steps p → IsSetup (steps ++ Some (Seed seed) ∷ []) (record p { stream = seeded seed })
 setup_seed steps seed p none h =
     let step : Option Step = Some (Seed seed) in
-    let all : flat_map seed_in (steps ++ step ∷ []) ≡ seed ∷ [] = flat_more seed_in steps step ∙ ap (λ (l : List (List ℕ)). l ++ seed ∷ []) none in
+    let all : flat_map seed_asked (steps ++ step ∷ []) ≡ seed ∷ [] = flat_more seed_asked steps step ∙ ap (λ (l : List (List ℕ)). l ++ seed ∷ []) none in
     record {
       draft = h.draft;
       settings = settings_still steps step h.draft refl h.settings;
       classes = h.classes;
-      rules = h.rules ∙ ap (λ (l : List types.Rule). entries_from 1 l) (sym (flat_none rule_in steps step refl));
-      next = h.next ∙ ap (λ (l : List types.Rule). length l + 1) (sym (flat_none rule_in steps step refl));
-      clock = h.clock ∙ ap (λ (l : List ℤ). clock_ahead (first_or (pos 0) l)) (sym (flat_none zone_in steps step refl));
+      rules = h.rules ∙ ap (λ (l : List types.Rule). entries_from 1 l) (sym (flat_none rule_asked steps step refl));
+      next = h.next ∙ ap (λ (l : List types.Rule). length l + 1) (sym (flat_none rule_asked steps step refl));
+      clock = h.clock ∙ ap (λ (l : List ℤ). clock_ahead (first_or (pos 0) l)) (sym (flat_none zone_asked steps step refl));
       ctx = h.ctx;
       words = ap (λ (l : List (List ℕ)). seeded (first_or no_seed l)) (sym all);
     }
 
-pub setup_zone : (steps : List (Option Step)) (offset : ℤ) (p : Judging) → flat_map zone_in steps ≡ [] → IsSetup steps p → IsSetup (steps ++ Some (Zone offset) ∷ []) (record p { clock = clock_ahead offset })
+pub setup_zone : (steps : List (Option Step)) (offset : ℤ) (p : Judging) → flat_map zone_asked steps ≡ [] → IsSetup steps p → IsSetup (steps ++ Some (Zone offset) ∷ []) (record p { clock = clock_ahead offset })
 setup_zone steps offset p none h =
     let step : Option Step = Some (Zone offset) in
-    let all : flat_map zone_in (steps ++ step ∷ []) ≡ offset ∷ [] = flat_more zone_in steps step ∙ ap (λ (l : List ℤ). l ++ offset ∷ []) none in
+    let all : flat_map zone_asked (steps ++ step ∷ []) ≡ offset ∷ [] = flat_more zone_asked steps step ∙ ap (λ (l : List ℤ). l ++ offset ∷ []) none in
     record {
       draft = h.draft;
       settings = settings_still steps step h.draft refl h.settings;
       classes = h.classes;
-      rules = h.rules ∙ ap (λ (l : List types.Rule). entries_from 1 l) (sym (flat_none rule_in steps step refl));
-      next = h.next ∙ ap (λ (l : List types.Rule). length l + 1) (sym (flat_none rule_in steps step refl));
+      rules = h.rules ∙ ap (λ (l : List types.Rule). entries_from 1 l) (sym (flat_none rule_asked steps step refl));
+      next = h.next ∙ ap (λ (l : List types.Rule). length l + 1) (sym (flat_none rule_asked steps step refl));
       clock = ap (λ (l : List ℤ). clock_ahead (first_or (pos 0) l)) (sym all);
       ctx = h.ctx;
-      words = h.words ∙ ap (λ (l : List (List ℕ)). seeded (first_or no_seed l)) (sym (flat_none seed_in steps step refl));
+      words = h.words ∙ ap (λ (l : List (List ℕ)). seeded (first_or no_seed l)) (sym (flat_none seed_asked steps step refl));
     }
 
 -- what no line gives

@@ -1,23 +1,25 @@
 -- What happens in a script from its first line on, and what that says of each write and of each device.
-use Rattle.std.specs.Prelude.{◌≡◌, ℕ, Bool, true, false, if◌then◌else◌, List, [], ◌∷◌, ◌++◌, Option, Some, None}
+use Rattle.std.specs.Prelude.{◌≡◌, ℕ, Bool, true, false, if◌then◌else◌, List, [], ◌∷◌, ◌++◌, flat_map, Option, Some, None, Ok}
 use Rattle.ug_types.specs.declared.verdict.Moment.{Moment}
 use Rattle.ug_kernel.specs.declared.device.Device.{Device}
 use Rattle.ug_kernel.specs.Kernel.{Kernel, Live}
 use Rattle.ug_sysfs.specs.World.{World}
 use Rattle.ug_play.specs.Play.{NameNobody}
+use Rattle.ug_conf.specs.Texts.{conf_read}
 use Rattle.ug_core.specs.Chain.{Happened, Chain, journal, IsRun, IsJudgedOnce}
 use Rattle.ug_core.specs.Event.{has_numbers}
 use Rattle.ug_core.specs.Policy.{Judging}
 use Rattle.ug_core.specs.Rulings.{Ruling, after_rulings, judgements_for, words_for}
 use Rattle.ug_core.specs.Verdicts.{IsLater}
 use Rattle.ug_core.specs.declared.daemon.Event.TheVariants as event
+use Rattle.ug_lines.specs.Lines.{lines_of}
 use Rattle.ug_lines.specs.Fold.{Outcome, Writes, Refused, Going, plays}
 use Rattle.ug_script.specs.declared.step.Step.{Step}
 use Rattle.ug_script.specs.declared.step.Step.TheVariants.{Schedule, Fail, Sweep}
 use Rattle.ug_script.specs.Grammar.{step_of_line}
 use Rattle.ug_script.specs.Replay.{Script, lines_text, script_step}
 use Rattle.ug_script.specs.Laws.{event_of}
-use Rattle.ug_script.specs.Setup.{steps_of, IsSetup, started}
+use Rattle.ug_script.specs.Setup.{steps_of, conf_asked, IsSetup, started}
 
 -- an event of that moment, with what is scheduled for it
 abbrev pub happened_at : Moment → Script → World → Happened
@@ -58,12 +60,13 @@ AreQuiet [] = Unit {0}
 AreQuiet (step ∷ steps) = (is_quiet step ≡ true) × AreQuiet steps
 
 -- Wherever lines have led: the setup lines gave a policy, of which rulings leave what has taken just their words, and whose histories
--- stand for just their judgements; the events of the lines are a chain from the daemon that started with it, with all that this says of
+-- stand for just their judgements; its settings are those of each text whose lines are those of the `conf` lines; the events of the lines are a chain from the daemon that started with it, with all that this says of
 -- each write; and what was written is the text of their entries. Where no move was scheduled and no call was to
 -- fail, nobody is named as unsettled, and after an event that comes next each live device was judged just once and stands as judged.
 pub record Recorded (first : World) (lines : List (List ℕ)) (text : List ℕ) (s : Script) (w : World) : Type 0 where
   pub policy : Judging
   pub setup : IsSetup (steps_of lines) policy
+  pub settings : (whole : List ℕ) → lines_of whole ≡ flat_map conf_asked (steps_of lines) → conf_read whole ≡ Ok setup.draft.settings
   pub later : (rulings : List Ruling) → IsLater policy (words_for policy rulings) (judgements_for policy rulings) (after_rulings policy rulings)
   pub chain : Chain first.kernel (started policy) (happened (None, first) lines) w.kernel s.daemon
   pub run : IsRun policy first.kernel (happened (None, first) lines) w.kernel s.daemon

@@ -20,21 +20,21 @@ steps_of lines = map step_of_line (drop 1 lines)
 
 -- the rules, the lines of settings, the seeds and the zones among them, in order
 
-abbrev pub rule_in : Option Step → List types.Rule
-rule_in (Some (Rule rule)) = rule ∷ []
-rule_in step = []
+abbrev pub rule_asked : Option Step → List types.Rule
+rule_asked (Some (Rule rule)) = rule ∷ []
+rule_asked step = []
 
-abbrev pub conf_in : Option Step → List (List ℕ)
-conf_in (Some (Conf text)) = text ∷ []
-conf_in step = []
+abbrev pub conf_asked : Option Step → List (List ℕ)
+conf_asked (Some (Conf text)) = text ∷ []
+conf_asked step = []
 
-abbrev pub seed_in : Option Step → List (List ℕ)
-seed_in (Some (Seed seed)) = seed ∷ []
-seed_in step = []
+abbrev pub seed_asked : Option Step → List (List ℕ)
+seed_asked (Some (Seed seed)) = seed ∷ []
+seed_asked step = []
 
-abbrev pub zone_in : Option Step → List ℤ
-zone_in (Some (Zone offset)) = offset ∷ []
-zone_in step = []
+abbrev pub zone_asked : Option Step → List ℤ
+zone_asked (Some (Zone offset)) = offset ∷ []
+zone_asked step = []
 
 -- rules without histories, that bear ids from that one on
 abbrev pub entries_from : ℕ → List types.Rule → List RuleEntry
@@ -50,13 +50,13 @@ first_or other (x ∷ xs) = x
 -- `seed` line's seed, or of 32 bytes 0. No moment has come.
 pub record IsSetup (steps : List (Option Step)) (policy : Judging) : Type 0 where
   pub draft : Draft
-  pub settings : lines_read 1 (draft_of defaults []) (flat_map conf_in steps) ≡ Ok draft
+  pub settings : lines_read 1 (draft_of defaults []) (flat_map conf_asked steps) ≡ Ok draft
   pub classes : policy.classes ≡ classes_of draft.settings
-  pub rules : policy.rules ≡ entries_from 1 (flat_map rule_in steps)
-  pub next : policy.next ≡ length (flat_map rule_in steps) + 1
-  pub clock : policy.clock ≡ clock_ahead (first_or (pos 0) (flat_map zone_in steps))
+  pub rules : policy.rules ≡ entries_from 1 (flat_map rule_asked steps)
+  pub next : policy.next ≡ length (flat_map rule_asked steps) + 1
+  pub clock : policy.clock ≡ clock_ahead (first_or (pos 0) (flat_map zone_asked steps))
   pub ctx : policy.ctx ≡ record { moment = record { 0 = 0 }; second = 0 }
-  pub words : policy.stream ≡ seeded (first_or no_seed (flat_map seed_in steps))
+  pub words : policy.stream ≡ seeded (first_or no_seed (flat_map seed_asked steps))
 
 -- the daemon that judges by it, before its first event, which is number 1
 abbrev pub started : Judging → DaemonState
