@@ -1,5 +1,5 @@
 -- From the laws of events to those of a run.
-use Rattle.std.proofs.Common.{◌≡◌, ℕ, ◌+◌, ◌<◌, Bool, true, false, not, ◌||◌, is_none, List, [], ◌∷◌, ◌++◌, ◌⊎◌, Option, Some, slice_get, inl, inr, refl, sym, ◌∙◌, ap, subst, append_assoc, append-nil}
+use Rattle.std.proofs.Common.{◌≡◌, ℕ, ◌<◌, Bool, true, false, not, ◌||◌, is_none, List, [], ◌∷◌, ◌++◌, Option, Some, slice_get, inl, inr, refl, sym, ◌∙◌, ap, subst, append_assoc, append-nil}
 use Rattle.std.specs.List.{list_any}
 use Rattle.ug_types.specs.Elements.{Has}
 use Rattle.ug_types.specs.Names.{parent_of}
@@ -12,7 +12,7 @@ use Rattle.ug_types.specs.declared.control.Control.TheVariants.{Authorized}
 use Rattle.ug_types.proofs.Elements.{has_left, has_right, has_cases}
 use Rattle.ug_kernel.specs.declared.device.Device.{Device}
 use Rattle.ug_kernel.specs.declared.device.Effect.{Effect}
-use Rattle.ug_kernel.specs.Kernel.{Kernel, Live, Stays, Moved, Begins, Moves}
+use Rattle.ug_kernel.specs.Kernel.{Kernel, Live, Moved, Begins, Moves}
 use Rattle.ug_kernel.specs.Quiet.{Grows}
 use Rattle.ug_kernel.proofs.Grow.{quiet_grows}
 use Rattle.ug_kernel.proofs.Quiet.{moves_quiet, stays_trans}
@@ -21,21 +21,20 @@ use Rattle.ug_audit.specs.declared.entry.Entry.{Entry}
 use Rattle.ug_audit.specs.declared.entry.Entry.TheVariants as entry
 use Rattle.ug_table.specs.Allowed.{allowed_records}
 use Rattle.ug_table.specs.State.{State}
-use Rattle.ug_table.specs.Laws.{IsDevice, Stand, IsOne, IsTold, AreLeft, swept_before, wrote_entries, IsUnlisted, IsListed, IsJudged, IsAsJudged}
+use Rattle.ug_table.specs.Laws.{IsDevice, Stand, IsTold, swept_before, wrote_entries, IsUnlisted, IsListed, IsAsJudged}
 use Rattle.ug_table.specs.declared.standing.Standing.{Standing}
 use Rattle.ug_table.proofs.Devices.{device_stays, stand_stays}
 use Rattle.ug_table.proofs.Says.{account_says}
 use Rattle.ug_core.specs.Policy.{Judging, policy_answer, policy_later}
-use Rattle.ug_core.specs.Verdicts.{IsVerdict}
-use Rattle.ug_core.specs.Event.{DaemonState, begun, IsStarted, moment_of}
+use Rattle.ug_core.specs.Event.{DaemonState, IsStarted, moment_of}
 use Rattle.ug_core.specs.InForce.{Decision, decision_of, decisions_in, or_else, last_decision, standing_decision, in_force, Agree, numbers_on, given_numbers, Follow}
 use Rattle.ug_core.specs.Laws.{Handled}
 use Rattle.ug_core.specs.Rulings.{Ruling, at_moment, ruling_answer, after_ruling, after_rulings, decision_by, decisions_by}
-use Rattle.ug_core.specs.Chain.{Happened, Chain, journal, tells_unlisted, has_listed, IsPlaced, WasJudged, IsExplained, AllExplained, IsJudgedOnce, IsRun}
+use Rattle.ug_core.specs.Chain.{Happened, Chain, journal, tells_unlisted, has_listed, IsPlaced, WasJudged, IsExplained, IsJudgedOnce, IsRun}
 use Rattle.ug_core.proofs.Verdicts.{is_verdict}
 use Rattle.ug_core.proofs.InForce.{decisions_append, decisions_more, has_decision, or_else_none, standing_found, fresh, numbers_append, follow_append, lift, lift_agree, last_has}
-use Rattle.ug_core.proofs.Walk.{after_append, decisions_then, IsAt, WasWritten, written_more, Walked, walk}
-use Rattle.ug_core.proofs.Known.{decision_has, same_device, AreKnown, known_grow, known_still, known_new, only_number}
+use Rattle.ug_core.proofs.Walk.{after_append, decisions_then, IsAt, WasWritten, written_more, walk}
+use Rattle.ug_core.proofs.Known.{same_device, AreKnown, known_grow, known_still, known_new, only_number}
 
 -- what the kernel does by itself, one after another
 

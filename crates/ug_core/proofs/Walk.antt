@@ -1,5 +1,5 @@
 -- What the account of a sweep says of its verdicts and of its writes, where rules judge: one walk.
-use Rattle.std.proofs.Common.{◌≡◌, ℕ, ◌+◌, ◌<◌, Bool, is_none, List, [], ◌∷◌, ◌++◌, Option, Some, None, inl, inr, refl, sym, ◌∙◌, ap, subst, append_assoc, append-nil}
+use Rattle.std.proofs.Common.{◌≡◌, ℕ, ◌+◌, ◌<◌, Bool, is_none, List, [], ◌∷◌, ◌++◌, Option, Some, inl, inr, refl, sym, ◌∙◌, ap, subst, append_assoc, append-nil}
 use Rattle.ug_types.specs.Elements.{Has, AllDistinct}
 use Rattle.ug_types.specs.Names.{parent_of}
 use Rattle.ug_types.specs.declared.record.DeviceRecord.{DeviceRecord}
@@ -9,7 +9,7 @@ use Rattle.ug_types.specs.declared.verdict.Held.{Held}
 use Rattle.ug_types.specs.declared.verdict.Target.{Target}
 use Rattle.ug_types.specs.declared.verdict.Cause.{Cause}
 use Rattle.ug_types.specs.declared.verdict.Moment.{Moment}
-use Rattle.ug_types.proofs.Elements.{has_left, last_is}
+use Rattle.ug_types.proofs.Elements.{last_is}
 use Rattle.ug_kernel.specs.declared.device.Effect.{Effect}
 use Rattle.ug_kernel.specs.declared.calls.Wrote.{Wrote}
 use Rattle.ug_kernel.specs.Kernel.{Kernel}
@@ -19,10 +19,10 @@ use Rattle.ug_table.specs.Allowed.{allowed_records}
 use Rattle.ug_table.specs.Bring.{CallsFor}
 use Rattle.ug_table.specs.Laws.{IsDevice, IsProbed, Stand, AreLeft, AreMarkedIn, swept_before, MayHave, HasVerdict, wrote_entries, numbers_of, Account, Start, Note, Judge, Had, Had_not, Went}
 use Rattle.ug_table.specs.declared.standing.Standing.{Standing}
-use Rattle.ug_core.specs.Policy.{Judging, verdict_of, later_of, policy_answer, policy_later}
-use Rattle.ug_core.specs.InForce.{Decision, decisions_in, decision_of, or_else, last_decision, standing_decision, in_force, numbers_on, given_numbers, Follow}
+use Rattle.ug_core.specs.Policy.{Judging, later_of, policy_answer, policy_later}
+use Rattle.ug_core.specs.InForce.{Decision, decisions_in, decision_of, or_else, standing_decision, in_force, numbers_on, given_numbers, Follow}
 use Rattle.ug_core.specs.Rulings.{Ruling, at_moment, ruling_answer, after_ruling, after_rulings, decision_by, decisions_by}
-use Rattle.ug_core.proofs.InForce.{decisions_append, decisions_more, has_decision, neither_none, standing_found, Fresh, fresh, numbers_append, follow_append}
+use Rattle.ug_core.proofs.InForce.{decisions_append, decisions_more, has_decision, neither_none, standing_found, fresh, numbers_append, follow_append}
 
 -- the rulings of a list and one more
 
