@@ -1,5 +1,6 @@
 -- From what the rules come to, to the cases of a verdict and back; and what judging leaves.
-use Rattle.std.proofs.Common.{◌≡◌, ℕ, ◌+◌, Bool, true, false, cond, Some, List, [], ◌∷◌, ◌++◌, map, inl, inr, refl, sym, ◌∙◌, ap, subst, append-nil}
+use Rattle.std.proofs.Common.{◌≡◌, ℕ, ◌+◌, Bool, true, false, cond, is_none, Some, List, [], ◌∷◌, ◌++◌, map, inl, inr, refl, sym, ◌∙◌, ap, subst, arith, append_assoc, append-nil}
+use Rattle.ug_types.specs.Names.{parent_of}
 use Rattle.ug_types.specs.declared.record.DeviceRecord.{DeviceRecord}
 use Rattle.ug_types.specs.declared.record.Judged.{Judged}
 use Rattle.ug_types.specs.declared.record.Judged.TheVariants as judged
@@ -19,7 +20,9 @@ use Rattle.ug_policy.proofs.Finding.{behind_add, some_decider, outcome_at, outco
 use Rattle.ug_policy.proofs.Stands.{stands_found}
 use Rattle.ug_conf.specs.declared.settings.Present.{Present}
 use Rattle.ug_conf.specs.declared.settings.Present.TheVariants as present
-use Rattle.ug_core.specs.Policy.{Judging, as_given, found_for, kept, choice_for, by_choice, by_class, verdict_of, asks, rules_if, stream_if, judgements_if, judgements_of, later_of}
+use Rattle.ug_core.specs.Policy.{Judging, as_given, found_for, kept, choice_for, by_choice, by_class, verdict_of, asks, rules_if, stream_if, judgements_if, judgements_of, later_of, words_if, words_needed}
+use Rattle.ug_core.specs.Rulings.{Ruling, at_moment, after_ruling, after_rulings, words_for, judgements_for}
+use Rattle.ug_table.specs.Allowed.{allowed_records}
 use Rattle.ug_core.specs.Verdicts.{IsVerdict, IsLater, Unreadable, Allowed, Blocked, Rejected, KeptOn, KeptOff, ByRule, ByNone}
 
 -- the rules stay as they were given
@@ -134,22 +137,43 @@ verdict_is p records _ _ _ _ _ _ (ByNone dev controller was on same n) = chosen 
 
 -- what judges is later after a verdict
 
-words_on : (found : Found) (dev : DeviceRecord) (stream start : Stream) (words : ℕ) (asked : Bool) → stream ≡ behind words start → (n : ℕ) × (stream_if asked stream found dev ≡ behind n start)
-words_on found dev stream start words true e = (words + words_taken dev (reached found), ap (behind (words_taken dev (reached found))) e ∙ sym (behind_add words (words_taken dev (reached found)) start))
-words_on found dev stream start words false e = (words, e)
+words_on : (found : Found) (dev : DeviceRecord) (stream start : Stream) (words : ℕ) (asked : Bool) → stream ≡ behind words start → stream_if asked stream found dev ≡ behind (words + words_if asked found dev) start
+words_on found dev stream start words true e = ap (behind (words_taken dev (reached found))) e ∙ sym (behind_add words (words_taken dev (reached found)) start)
+words_on found dev stream start words false e = let none : words ≡ words + 0 = omega arith in e ∙ ap (λ (n : ℕ). behind n start) none
 
-pub later_verdict : (policy p : Judging) (records : List DeviceRecord) (dev : Judged) (controller was : Bool) → IsLater policy p → IsLater policy (later_of p records dev controller was)
-later_verdict policy p records (judged.Malformed kind place) controller was h = h
-later_verdict policy p records (judged.Good dev) controller was h =
-    let words = words_on (found_for p records dev) dev p.stream policy.stream h.words (asks p.classes controller was) h.stream in
-    record {
-      classes = h.classes;
-      rules = rules_stay p records (judged.Good dev) controller was ∙ h.rules;
-      next = h.next;
-      clock = h.clock;
-      words = words.0;
-      stream = words.1;
-      numbered = numbered_later p records (judged.Good dev) controller was h.numbered;
-      judgements = h.judgements ++ judgements_of p records (judged.Good dev) controller was;
-      histories = stands_later p records (judged.Good dev) controller was h.judgements h.numbered h.histories;
-    }
+more_none : (policy p : Judging) (words : ℕ) (judgements : List Judgement) → IsLater policy words judgements p → IsLater policy (words + 0) (judgements ++ []) p
+more_none policy p words judgements h =
+    let none : words ≡ words + 0 = omega arith in
+    subst (λ (n : ℕ). IsLater policy n (judgements ++ []) p) none (subst (λ (js : List Judgement). IsLater policy words js p) (sym (append-nil judgements)) h)
+
+pub later_verdict : (policy p : Judging) (words : ℕ) (judgements : List Judgement) (records : List DeviceRecord) (dev : Judged) (controller was : Bool) → IsLater policy words judgements p → IsLater policy (words + words_needed p records dev controller was) (judgements ++ judgements_of p records dev controller was) (later_of p records dev controller was)
+later_verdict policy p words judgements records (judged.Malformed kind place) controller was h = more_none policy p words judgements h
+later_verdict policy p words judgements records (judged.Good dev) controller was h = record {
+  classes = h.classes;
+  rules = rules_stay p records (judged.Good dev) controller was ∙ h.rules;
+  next = h.next;
+  clock = h.clock;
+  stream = words_on (found_for p records dev) dev p.stream policy.stream words (asks p.classes controller was) h.stream;
+  numbered = numbered_later p records (judged.Good dev) controller was h.numbered;
+  histories = stands_later p records (judged.Good dev) controller was judgements h.numbered h.histories;
+}
+
+-- and after several
+later_by : (policy p : Judging) (words : ℕ) (judgements : List Judgement) (rs : List Ruling) → IsLater policy words judgements p → IsLater policy (words + words_for p rs) (judgements ++ judgements_for p rs) (after_rulings p rs)
+later_by policy p words judgements [] h = more_none policy p words judgements h
+later_by policy p words judgements (r ∷ rs) h =
+    let q : Judging = at_moment r.moment p in
+    let records : List DeviceRecord = allowed_records r.standings in
+    let controller : Bool = is_none (parent_of r.name) in
+    let taken : ℕ = words_needed q records r.judged controller r.present in
+    let new : List Judgement = judgements_of q records r.judged controller r.present in
+    let at : IsLater policy words judgements q = record { classes = h.classes; rules = h.rules; next = h.next; clock = h.clock; stream = h.stream; numbered = h.numbered; histories = h.histories } in
+    let rest = later_by policy (after_ruling p r) (words + taken) (judgements ++ new) rs (later_verdict policy q words judgements records r.judged controller r.present at) in
+    let sum : (words + taken) + words_for (after_ruling p r) rs ≡ words + (taken + words_for (after_ruling p r) rs) = omega arith in
+    subst (λ (n : ℕ). IsLater policy n (judgements ++ (new ++ judgements_for (after_ruling p r) rs)) (after_rulings (after_ruling p r) rs)) sum
+    (subst (λ (js : List Judgement). IsLater policy ((words + taken) + words_for (after_ruling p r) rs) js (after_rulings (after_ruling p r) rs)) (append_assoc judgements new (judgements_for (after_ruling p r) rs)) rest)
+
+pub rulings_later : (policy : Judging) (rs : List Ruling) → IsLater policy 0 [] policy → IsLater policy (words_for policy rs) (judgements_for policy rs) (after_rulings policy rs)
+rulings_later policy rs h =
+    let sum : 0 + words_for policy rs ≡ words_for policy rs = omega arith in
+    subst (λ (n : ℕ). IsLater policy n (judgements_for policy rs) (after_rulings policy rs)) sum (later_by policy policy 0 [] rs h)

@@ -112,6 +112,14 @@ rules_if asked rules found dev moment = if asked then rules_judged dev moment fo
 abbrev pub stream_if : Bool → Stream → Found → DeviceRecord → Stream
 stream_if asked stream found dev = if asked then behind (words_taken dev (reached found)) stream else stream
 
+-- how many words a verdict takes
+abbrev pub words_if : Bool → Found → DeviceRecord → ℕ
+words_if asked found dev = if asked then words_taken dev (reached found) else 0
+
+abbrev pub words_needed : Judging → List DeviceRecord → Judged → Bool → Bool → ℕ
+words_needed p records (judged.Malformed kind place) controller was = 0
+words_needed p records (judged.Good dev) controller was = words_if (asks p.classes controller was) (found_for p records dev) dev
+
 abbrev pub later_of : Judging → List DeviceRecord → Judged → Bool → Bool → Judging
 later_of p records (judged.Malformed kind place) controller was = p
 later_of p records (judged.Good dev) controller was = record p {

@@ -33,16 +33,13 @@ pub data IsVerdict (p : Judging) (records : List DeviceRecord) : Judged → Bool
   -- and where none does, the implicit target
   ByNone : (dev : DeviceRecord) (controller was on : Bool) → choice_for p.classes controller was ≡ present.Apply → HasNoDecider dev p.ctx records p.rules p.stream → IsVerdict p records (judged.Good dev) controller was on p.classes.implicit cause.Implicit
 
--- What judges has given verdicts since: but for their histories the rules are the same, and so are the
--- settings, the next id and the clock; random
--- conditions have taken some words, and the histories stand for all judgements.
-pub record IsLater (policy p : Judging) : Type 0 where
+-- What judges has given verdicts since: but for their histories the rules are the same, and so are the settings, the next id and the
+-- clock; random conditions have taken so many words, and the histories stand for those judgements.
+pub record IsLater (policy : Judging) (words : ℕ) (judgements : List Judgement) (p : Judging) : Type 0 where
   pub classes : p.classes ≡ policy.classes
   pub rules : as_given p.rules ≡ policy.rules
   pub next : p.next ≡ policy.next
   pub clock : p.clock ≡ policy.clock
-  pub words : ℕ
   pub stream : p.stream ≡ behind words policy.stream
   pub numbered : IsNumbered p.rules p.next
-  pub judgements : List Judgement
   pub histories : StandsFor p.rules p.next judgements

@@ -1,5 +1,5 @@
 // What verdicts come to.
-ghost use Rattle.std.specs.Prelude.{◌≡◌, ◌↔◌, Bool, List, ◌++◌};
+ghost use Rattle.std.specs.Prelude.{◌≡◌, ◌↔◌, ℕ, ◌+◌, Bool, List, [], ◌++◌};
 ghost use Rattle.ug_types.specs.declared.record.DeviceRecord.{DeviceRecord};
 ghost use Rattle.ug_types.specs.declared.record.Judged.{Judged};
 ghost use Rattle.ug_types.specs.declared.verdict.Cause.{Cause};
@@ -7,7 +7,9 @@ ghost use Rattle.ug_types.specs.declared.verdict.Target.{Target};
 ghost use Rattle.ug_cond.specs.Judgements.{Judgement};
 ghost use Rattle.ug_policy.specs.Kept.{StandsFor};
 ghost use Rattle.ug_policy.specs.Rules.{IsNumbered};
-ghost use Rattle.ug_core.specs.Policy.{Judging, as_given, judgements_of, later_of, verdict_of};
+ghost use Rattle.ug_core.specs.Policy.{Judging, as_given, judgements_of, later_of, verdict_of, words_needed};
+ghost use Rattle.ug_core.specs.Chain.{AreRuns};
+ghost use Rattle.ug_core.specs.Rulings.{Ruling, after_rulings, judgements_for, words_for};
 ghost use Rattle.ug_core.specs.Verdicts.{IsLater, IsVerdict};
 
 /// A verdict is the one that its cases say. What judges keeps the rules as they were given; and the histories stand for the
@@ -15,6 +17,14 @@ ghost use Rattle.ug_core.specs.Verdicts.{IsLater, IsVerdict};
 pub fn verdict_law()
     ensures cases { (p : Judging) (records : List DeviceRecord) (dev : Judged) (controller present on : Bool) (verdict : Target) (cause : Cause) → (verdict_of p records dev controller present on ≡ (verdict, cause)) ↔ IsVerdict p records dev controller present on verdict cause }
     ensures given { (p : Judging) (records : List DeviceRecord) (dev : Judged) (controller present : Bool) → as_given (later_of p records dev controller present).rules ≡ as_given p.rules }
-    ensures later { (policy p : Judging) (records : List DeviceRecord) (dev : Judged) (controller present : Bool) → IsLater policy p → IsLater policy (later_of p records dev controller present) }
+    ensures later { (policy p : Judging) (words : ℕ) (judgements : List Judgement) (records : List DeviceRecord) (dev : Judged) (controller present : Bool) → IsLater policy words judgements p
+        → IsLater policy (words + words_needed p records dev controller present) (judgements ++ judgements_of p records dev controller present) (later_of p records dev controller present) }
     ensures history { (p : Judging) (records : List DeviceRecord) (dev : Judged) (controller present : Bool) (judgements : List Judgement) → IsNumbered p.rules p.next → StandsFor p.rules p.next judgements → StandsFor (later_of p records dev controller present).rules p.next (judgements ++ judgements_of p records dev controller present) }
+{}
+
+/// What holds of any run of the daemon from its start. And what is left of a policy after rulings has taken just their words, and its
+/// histories stand for just their judgements.
+pub fn run_law()
+    ensures runs { AreRuns }
+    ensures later { (policy : Judging) (rulings : List Ruling) → IsLater policy 0 [] policy → IsLater policy (words_for policy rulings) (judgements_for policy rulings) (after_rulings policy rulings) }
 {}

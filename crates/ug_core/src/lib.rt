@@ -12,7 +12,7 @@ mod tests;
 
 pub use classes::Classes;
 pub use daemon::{Daemon, Event};
-pub use laws::verdict_law;
+pub use laws::{run_law, verdict_law};
 pub use policy::Policy;
 pub use report::Report;
 pub use ug_audit::{Entries, Entry, Fault, line_of};

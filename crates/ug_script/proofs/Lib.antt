@@ -6,6 +6,5 @@ pub mod Lawful
 pub mod Spent
 pub mod Numbers
 pub mod Stays
-pub mod Accounts
-pub mod Recorded
+pub mod Setups
 pub mod Journals

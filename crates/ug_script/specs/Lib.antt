@@ -4,5 +4,6 @@ pub mod Schedule
 pub mod Words
 pub mod Replay
 pub mod Laws
+pub mod Setup
 pub mod Journal
 pub mod Example

@@ -18,7 +18,6 @@ use Rattle.ug_conf.specs.Settings.{defaults}
 use Rattle.ug_conf.specs.Draft.{Draft, draft_of, line_read}
 use Rattle.ug_conf.specs.Reader.{Progress, next_number}
 use Rattle.ug_core.specs.Settings.{classes_of}
-use Rattle.ug_core.specs.Policy.{Judging, as_given}
 use Rattle.ug_core.specs.Event.{DaemonState, daemon_of, handling, has_numbers, has_place, with_classes, with_clock, with_rule, with_words}
 use Rattle.ug_lines.specs.Fold.{Outcome, Writes, Refused, BadLine}
 use Rattle.ug_script.specs.declared.runner.Runner.{Runner}
@@ -94,21 +93,6 @@ quiet s w = Writes [] (Some s, w)
 -- a line that may not stand there
 abbrev pub bad : Script → World → Outcome (Option Script × World)
 bad s w = Refused BadLine (Some s, w)
-
-abbrev pub seed_given : Option (List ℕ) → List ℕ
-seed_given None = no_seed
-seed_given (Some seed) = seed
-
--- the policy that the setup lines gave: the settings, the rules without histories, the clock, and all words of the seed
-abbrev pub policy_of : Script → Judging
-policy_of s = record {
-  classes = s.daemon.sweep.judge.classes;
-  rules = as_given s.daemon.sweep.judge.rules;
-  next = s.daemon.sweep.judge.next;
-  clock = s.daemon.sweep.judge.clock;
-  ctx = record { moment = record { 0 = 0 }; second = 0 };
-  stream = seeded (seed_given s.seed);
-}
 
 -- one rule more, while rules may come
 abbrev pub rule_step : types.Rule → Script → World → Outcome (Option Script × World)

@@ -1,0 +1,128 @@
+-- A run of the daemon from its start: a chain of events, each from the state that the one before left.
+use Rattle.std.specs.Prelude.{◌≡◌, ℕ, Bool, true, false, not, is_none, ◌||◌, List, [], ◌∷◌, ◌++◌, Some}
+use Rattle.std.specs.List.{list_any}
+use Rattle.ug_types.specs.Elements.{Has}
+use Rattle.ug_types.specs.Names.{parent_of}
+use Rattle.ug_types.specs.declared.verdict.Target.{Target}
+use Rattle.ug_types.specs.declared.verdict.Cause.{Cause}
+use Rattle.ug_kernel.specs.declared.device.Device.{Device}
+use Rattle.ug_kernel.specs.declared.device.Effect.{Effect}
+use Rattle.ug_kernel.specs.declared.calls.Wrote.{Wrote}
+use Rattle.ug_kernel.specs.Kernel.{Kernel, Live, Moves}
+use Rattle.ug_audit.specs.declared.entry.Entry.{Entry}
+use Rattle.ug_audit.specs.declared.entry.Entry.TheVariants as entry
+use Rattle.ug_table.specs.Allowed.{allowed_records}
+use Rattle.ug_table.specs.Bring.{CallsFor}
+use Rattle.ug_table.specs.Laws.{IsDevice, IsProbed, Stand, AreLeft, AreMarkedIn, swept_before, MayHave, wrote_entries, IsJudged, IsAsJudged}
+use Rattle.ug_table.specs.declared.standing.Standing.{Standing}
+use Rattle.ug_core.specs.Policy.{Judging}
+use Rattle.ug_core.specs.Verdicts.{IsVerdict}
+use Rattle.ug_core.specs.Event.{DaemonState, IsStarted, moment_of}
+use Rattle.ug_core.specs.InForce.{Decision, decision_of, decisions_in, in_force, Agree, given_numbers, Follow}
+use Rattle.ug_core.specs.Laws.{Handled}
+use Rattle.ug_core.specs.Rulings.{Ruling, at_moment, after_rulings, decisions_by}
+use Rattle.ug_core.specs.declared.daemon.Event.{Event}
+
+-- an event that was handled, with the daemon and the kernel before it and after it
+pub record Happened : Type 0 where
+  pub event : Event
+  pub kernel : Kernel
+  pub before : DaemonState
+  pub kernel_after : Kernel
+  pub after : DaemonState
+
+-- between two events the kernel moves by itself, and the daemon stays as it is
+abbrev pub Chain : Kernel → DaemonState → List Happened → Kernel → DaemonState → Type 0
+Chain k d [] l e = Moves k l × (e ≡ d)
+Chain k d (h ∷ hs) l e = Moves k h.kernel × (h.before ≡ d) × Handled (moment_of h.event) h.kernel h.before h.kernel_after h.after × Chain h.kernel_after h.after hs l e
+
+-- all entries of a run
+abbrev pub journal : List Happened → List Entry
+journal [] = []
+journal (h ∷ hs) = h.after.sweep.entries ++ journal hs
+
+-- the entry tells that the listing didn't succeed
+abbrev pub tells_unlisted : Entry → Bool
+tells_unlisted (entry.UnsettledAll why) = true
+tells_unlisted e = false
+
+-- whether the listing of one of the events succeeded
+abbrev pub has_listed : List Happened → Bool
+has_listed [] = false
+has_listed (h ∷ hs) = not (list_any tells_unlisted h.after.sweep.entries) || has_listed hs
+
+-- The place of a ruling in a run: its event, and in that the `judged` entry of its number. The moment is the event's. Devices count as
+-- present where no listing of an earlier event had succeeded. The record is that of the very device of the held file, which in this
+-- event lived from the opening of that file to the probe that gave its value. The standings are those that are left there of the ones
+-- before the event, and each is marked as settled as is told there.
+pub record IsPlaced (hs : List Happened) (k : Kernel) (r : Ruling) : Type 0 where
+  pub earlier : List Happened
+  pub event : Happened
+  pub later : List Happened
+  pub in_run : hs ≡ earlier ++ event ∷ later
+  pub front : List Entry
+  pub back : List Entry
+  pub verdict : Target
+  pub cause : Cause
+  pub in_event : event.after.sweep.entries ≡ entry.Event event.before.event (moment_of event.event) ∷ (front ++ entry.Judged r.number r.name r.held verdict cause ∷ back)
+  pub moment : r.moment ≡ moment_of event.event
+  pub present : r.present ≡ not (has_listed earlier)
+  pub device : IsDevice k r.device r.name r.held r.judged
+  pub probed : IsProbed event.kernel event.kernel_after r.name r.held.0 r.device r.on
+  pub stand : Stand event.kernel_after r.standings r.number
+  pub left : AreLeft event.before.sweep.standings front r.standings
+  pub marked : AreMarkedIn swept_before r.name event.before.sweep.standings front r.standings
+
+-- The decision is that of a ruling on that device at its place in the run: it was given by the policy as all rulings before it left it,
+-- with the words that they didn't take, and with the histories of their judgements.
+pub record WasJudged (policy : Judging) (hs : List Happened) (rulings : List Ruling) (k : Kernel) (i : ℕ) (d : Decision) : Type 0 where
+  pub before : List Ruling
+  pub ruling : Ruling
+  pub after : List Ruling
+  pub at : rulings ≡ before ++ ruling ∷ after
+  pub number : ruling.number ≡ d.number
+  pub name : ruling.name ≡ d.name
+  pub held : ruling.held ≡ d.held
+  pub device : ruling.device ≡ i
+  pub placed : IsPlaced hs k ruling
+  pub given : IsVerdict (at_moment ruling.moment (after_rulings policy before)) (allowed_records ruling.standings) ruling.judged (is_none (parent_of ruling.name)) ruling.present ruling.on d.verdict d.cause
+
+-- The effect is that of a write that is told. The verdict in force before its intent calls for it, and was given on that device.
+pub record IsExplained (policy : Judging) (hs : List Happened) (rulings : List Ruling) (k : Kernel) (effect : Effect) : Type 0 where
+  pub decision : Decision
+  pub outcome : Wrote
+  pub front : List Entry
+  pub back : List Entry
+  pub at : journal hs ≡ front ++ (wrote_entries decision.number decision.name effect.write outcome ++ back)
+  pub may : MayHave outcome
+  pub force : in_force [] front decision.number ≡ Some decision
+  pub wanted : CallsFor decision.verdict effect.write
+  pub judged : WasJudged policy hs rulings k effect.device decision
+
+-- each effect since the first kernel is explained
+pub record AllExplained (policy : Judging) (hs : List Happened) (rulings : List Ruling) (first k : Kernel) : Type 0 where
+  pub added : List Effect
+  pub log : k.log ≡ first.log ++ added
+  pub each : (effect : Effect) → Has added effect → IsExplained policy hs rulings k effect
+
+-- the device was judged under the number of its standing and under no other, and stands as judged
+pub record IsJudgedOnce (policy : Judging) (hs : List Happened) (rulings : List Ruling) (k : Kernel) (standings : List Standing) (i : ℕ) : Type 0 where
+  pub stands : IsAsJudged k standings i
+  pub judged : WasJudged policy hs rulings k i (decision_of stands.standing.s)
+  pub once : (number : ℕ) → IsJudged k (journal hs) number i → number ≡ stands.standing.s.number
+
+-- What holds of any run from a start with that policy. Its `judged` entries tell the decisions of rulings, each at its place, and each
+-- by the policy as those before it left it. Each effect is explained. Each new device got the next number; each standing has the
+-- verdict in force; and a device that still lives and stands as judged was judged once.
+pub record IsRun (policy : Judging) (first : Kernel) (hs : List Happened) (k : Kernel) (e : DaemonState) : Type 0 where
+  pub rulings : List Ruling
+  pub told : decisions_in (journal hs) ≡ decisions_by policy rulings
+  pub placed : (r : Ruling) → Has rulings r → IsPlaced hs k r
+  pub explained : AllExplained policy hs rulings first k
+  pub numbers : Follow 1 (given_numbers (journal hs)) e.sweep.next
+  pub agree : Agree [] (journal hs) e.sweep.standings
+  pub listed : e.sweep.listed ≡ has_listed hs
+  pub once : (i : ℕ) (d : Device) → Live k.devices i d → IsAsJudged k e.sweep.standings i → IsJudgedOnce policy hs rulings k e.sweep.standings i
+
+abbrev pub AreRuns : Type 0
+AreRuns = (policy : Judging) (number : ℕ) (first : Kernel) (d : DaemonState) (hs : List Happened) (k : Kernel) (e : DaemonState) → IsStarted policy number d → Chain first d hs k e → IsRun policy first hs k e
