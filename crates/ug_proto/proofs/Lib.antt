@@ -1,4 +1,5 @@
 pub mod Again
+pub mod BadPlaces
 pub mod Numerals
 pub mod OneReply
 pub mod Pieces

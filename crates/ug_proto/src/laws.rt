@@ -1,5 +1,6 @@
 // What requests and replies mean.
 ghost use Rattle.std.specs.Prelude.{◌≡◌, ◌++◌, ◌↔◌, ◌≢◌, [], ℕ, List, Option, Result, Ok, Err};
+ghost use Rattle.ug_proto.specs.BadRequests.{IsBadRequest};
 ghost use Rattle.ug_proto.specs.Replies.{reply_text, IsReply};
 ghost use Rattle.ug_proto.specs.Lines.{Begun, Partial, Overlong, lines_ended_in, begun_after, stream_lines, IsCutInto, IsOverlong};
 ghost use Rattle.ug_proto.specs.ReplyReading.{ReadsReply};
@@ -10,10 +11,13 @@ ghost use Rattle.ug_proto.specs.Texts.{request_text, IsRequest};
 use crate::reply::{Reply, ReplyFault};
 use crate::request::Request;
 
-/// A line reads as a request exactly where it is that request's text, and the request is one that can be written.
+/// A line reads as a request exactly where it is that request's text, and the request is one that can be written. It is bad at a
+/// place exactly where the first word with which no request goes on begins there, or it ends there and a word is missing.
 pub fn requests_law()
-    ensures { (line : List ℕ) (r : Request) → (request_read line ≡ Ok r)
+    ensures good { (line : List ℕ) (r : Request) → (request_read line ≡ Ok r)
         ↔ ((line ≡ request_text r) × IsRequest r) }
+    ensures bad { (line : List ℕ) (place : ℕ) → (request_read line ≡ Err place)
+        ↔ IsBadRequest line place }
 {}
 
 /// No reply's text begins with that of another, so no two have one text, and a reader knows where each ends.
