@@ -10,6 +10,7 @@ mod read;
 mod reply;
 mod request;
 mod scan;
+mod spelled;
 mod split;
 #[cfg(test)]
 mod tests;
