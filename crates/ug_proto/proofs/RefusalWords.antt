@@ -1,5 +1,5 @@
 -- The words of a refusal are those of no other, and no newline is among them.
-use Rattle.std.proofs.Common.{◌≡◌, ℕ, ◌<◌, ◌^◌, inl, inr, Bool, true, false, cond, nat_eq, List, [], ◌∷◌, ◌++◌, get_or, Option, Some, None, refl, sym, ap, ◌∙◌, arith}
+use Rattle.std.proofs.Common.{◌≡◌, ℕ, ◌<◌, ◌^◌, inl, inr, Bool, true, false, cond, nat_eq, List, [], ◌∷◌, ◌++◌, Option, Some, None, refl, sym, ap, ◌∙◌, arith}
 use Rattle.std.specs.Prelude.{codes, decimal, if◌then◌else◌}
 use Rattle.std.specs.Cmp.Lexicographic.{pointwise}
 use Rattle.std.specs.Option.{option_map}
@@ -187,21 +187,3 @@ refusal_guessed (refusal.ProbeFault count) h = one_guessed refusal.ProbeFault co
 
 pub one_refusal : (a b : Refusal) → IsRefusal a → IsRefusal b → refusal_words a ≡ refusal_words b → a ≡ b
 one_refusal a b h k e = same_Some a b (sym (refusal_guessed a h) ∙ ap guessed e ∙ refusal_guessed b k)
-
--- a refusal begins with the letter r
-pub first_letter : (r : Refusal) (more : List ℕ) → get_or (refusal_words r ++ more) 0 0 ≡ 114
-unfolding refusal_words
-first_letter (refusal.BadRequest place) more = refl
-first_letter (refusal.Denied section p) more = refl
-first_letter (refusal.BadRule kind place) more = refl
-first_letter (refusal.NoDevice number) more = refl
-first_letter (refusal.NoRule id) more = refl
-first_letter refusal.BadParameter more = refl
-first_letter refusal.BadValue more = refl
-first_letter (refusal.MalformedDevice number) more = refl
-first_letter refusal.RulesFull more = refl
-first_letter (refusal.StoreFault count) more = refl
-first_letter (refusal.DeviceFault call count) more = refl
-first_letter (refusal.Memory false) more = refl
-first_letter (refusal.Memory true) more = refl
-first_letter (refusal.ProbeFault count) more = refl

@@ -28,7 +28,7 @@ pub fn replies_law()
         → reply_text a ++ more ≡ reply_text b → (a ≡ b) × (more ≡ []) }
 {}
 
-/// A line of the journal and a reply differ within the first word, so neither is the other or begins it.
+/// A line of the journal and a reply differ at a byte that both have, so neither is the other or begins it.
 pub fn entries_law()
     ensures { (entry : Entry) (reply : Reply) (more rest : List ℕ)
         → entry_line entry ++ more ≡ reply_text reply ++ rest → ⊥ }
