@@ -1,6 +1,7 @@
 -- What a sweep tells of failed calls and of want of memory: it tells each, and no other.
 use Rattle.std.proofs.Common.{◌≡◌, ℕ, Bool, true, false, not, cond, ◌&&◌, ◌||◌, List, [], ◌∷◌, ◌++◌, refl, sym, ◌∙◌, ap, subst, append_assoc, append-nil}
 use Rattle.std.specs.List.{list_any}
+use Rattle.std.proofs.lemmas.Bool.{or_parts}
 use Rattle.std.proofs.lemmas.List.Folds.{list_any-append}
 use Rattle.ug_types.specs.Sweep.{in_sweep_order}
 use Rattle.ug_types.specs.declared.verdict.Held.{Held}
@@ -20,13 +21,13 @@ use Rattle.ug_table.specs.State.{State, Kept, kept_of, with_kept, Answers, Later
 use Rattle.ug_table.specs.Standings.{lists, farewells}
 use Rattle.ug_table.specs.Settle.{settling, resettling}
 use Rattle.ug_table.specs.Sweep.{settling_all, resettling_all, parted, closing_unlisted, names_of, resumed, unlisted, marked_listed, if_room, after_list, sweeping}
-use Rattle.ug_table.specs.Parts.{AreClosings, unlisted_files, told_by, failures_told}
+use Rattle.ug_table.specs.Parts.{AreClosings, unlisted_files, told_by, failure_in, failures_told}
 use Rattle.ug_table.specs.declared.standing.Standing.{Standing}
 use Rattle.ug_table.specs.declared.standing.Settled.{Settled}
 use Rattle.ug_table.proofs.Closings.{closes, closings_calm}
 use Rattle.ug_table.proofs.OnePart.{told_more, flat_is_part}
 use Rattle.ug_table.proofs.Shapes.{told_at, Settles, settles, Resettles, resettles}
-use Rattle.ug_play.specs.Play.{play, is_memory, tells_memory, TellsMemory, IsPlayed, names_somebody, NameNobody}
+use Rattle.ug_play.specs.Play.{play, is_memory, entry_tells_memory, tells_memory, TellsMemory, IsPlayed, names_somebody, NameNobody}
 use Rattle.ug_play.proofs.Answers.{has_want, refused, play_way, TellsWant, played}
 use Rattle.ug_play.proofs.Wants.{want_more, memory_more, flat_want}
 
@@ -159,18 +160,17 @@ sure_sweep {J} answer later w s n =
 pub nobody_more : (es fs : List Entry) → NameNobody es → NameNobody fs → NameNobody (es ++ fs)
 nobody_more es fs a b = list_any-append names_somebody es fs ∙ ap (λ (v : Bool). v || list_any names_somebody fs) a ∙ b
 
+nothing_behind : (xs ys : List FailedCall) → xs ++ ys ≡ [] → ys ≡ []
+nothing_behind [] ys e = e
+nothing_behind (x ∷ xs) ys e = let none : ⊥ = cc in absurd none
+
 nobody_told : (es : List Entry) → tells_memory es ≡ false → failures_told es ≡ [] → NameNobody es
 nobody_told [] m f = refl
 nobody_told (entry.Unsettled name (fault.Call failed) ∷ es) m f = let none : ⊥ = cc in absurd none
 nobody_told (entry.Unsettled name fault.Memory ∷ es) m f = let none : ⊥ = cc in absurd none
 nobody_told (entry.UnsettledAll (fault.Call failed) ∷ es) m f = let none : ⊥ = cc in absurd none
 nobody_told (entry.UnsettledAll fault.Memory ∷ es) m f = let none : ⊥ = cc in absurd none
-nobody_told (entry.Event number moment ∷ es) m f = nobody_told es m f
-nobody_told (entry.Judged number name held verdict cause ∷ es) m f = nobody_told es m f
-nobody_told (entry.Intent number name what ∷ es) m f = nobody_told es m f
-nobody_told (entry.Wrote number name what outcome ∷ es) m f = nobody_told es m f
-nobody_told (entry.Gone number name ∷ es) m f = nobody_told es m f
-nobody_told (entry.End number ∷ es) m f = nobody_told es m f
+nobody_told (e ∷ es) m f = nobody_told es (or_parts (entry_tells_memory e) (tells_memory es) m).1 (nothing_behind (failure_in e) (failures_told es) f)
 
 pub quiet_sweep : {J : Type 0} (answer : Answers J) (later : Laters J) (w : State J) (s : World) → s.ran_out ≡ false → s.fails ≡ [] → NameNobody w.entries → NameNobody (play (sweeping answer later w) s).0.entries
 quiet_sweep {J} answer later w s o e n =

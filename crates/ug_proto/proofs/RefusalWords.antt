@@ -10,7 +10,7 @@ use Rattle.std.proofs.lemmas.Option.{same_Some}
 use Rattle.std.proofs.lemmas.Str.Parse.{digit_from_value}
 use Rattle.ug_types.specs.Access.{section_word, privilege_word, section_of, privilege_of}
 use Rattle.ug_types.specs.Elements.{Has}
-use Rattle.ug_types.specs.Refusals.{refusal_words}
+use Rattle.ug_types.specs.Refusals.{refusal_words, IsRefusal}
 use Rattle.ug_types.specs.declared.access.Section.{Section}
 use Rattle.ug_types.specs.declared.access.Section.TheVariants.{Devices, Policy, Exceptions, Parameters}
 use Rattle.ug_types.specs.declared.access.Privilege.{Privilege}
@@ -18,7 +18,6 @@ use Rattle.ug_types.specs.declared.access.Privilege.TheVariants as privilege
 use Rattle.ug_types.specs.declared.refusal.Refusal.{Refusal}
 use Rattle.ug_types.specs.declared.refusal.Refusal.TheVariants as refusal
 use Rattle.ug_proto.specs.Numbers.{number_in}
-use Rattle.ug_proto.specs.Replies.{IsRefusal}
 use Rattle.ug_proto.specs.Requests.{behind_next}
 use Rattle.ug_proto.specs.Splitting.{first_word, behind_word}
 use Rattle.ug_proto.proofs.Numerals.{is_number, decimal_plain, decimal_digits}

@@ -5,8 +5,7 @@ use Rattle.ug_types.specs.declared.access.Section.{Section}
 use Rattle.ug_types.specs.declared.access.Privilege.{Privilege}
 use Rattle.ug_types.specs.declared.refusal.Refusal.{Refusal}
 use Rattle.ug_types.specs.declared.refusal.Refusal.TheVariants as refusal
-use Rattle.ug_types.specs.Refusals.{refusal_words}
-use Rattle.ug_proto.specs.Replies.{IsRefusal}
+use Rattle.ug_types.specs.Refusals.{refusal_words, IsRefusal}
 
 -- a number, and the byte that ends it
 abbrev pub number_then : ℕ → ℕ → List ℕ

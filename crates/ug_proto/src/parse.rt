@@ -4,7 +4,8 @@ ghost use Rattle.ug_types.specs.Elements.{Has};
 ghost use Rattle.ug_proto.specs.Scanning.{IsTextThen, IsStop};
 ghost use Rattle.ug_proto.specs.RefusalParts.{IsNumberIn, named_number, named_numbers, IsPairIn, denial_text, refusal_rest, refusal_line, IsNumbered, Anything};
 ghost use Rattle.ug_proto.specs.AnswerParts.{IsUnended, AreLinesOf, answer_text, IsAnswer};
-ghost use Rattle.ug_proto.specs.Replies.{IsRefusal, ended_lines, reply_text, IsReply};
+ghost use Rattle.ug_proto.specs.Replies.{ended_lines, reply_text, IsReply};
+ghost use Rattle.ug_types.specs.Refusals.{IsRefusal};
 ghost use Rattle.ug_proto.specs.ReplyReading.{ReadsReply};
 
 use crate::reply::{Reply, ReplyFault};

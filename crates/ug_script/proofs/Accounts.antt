@@ -167,28 +167,16 @@ all_added present tried start k before log0 judge0 next0 es log judge next (Had 
 
 pub numbers_append : (es fs : List Entry) → told_numbers (es ++ fs) ≡ told_numbers es ++ told_numbers fs
 numbers_append [] fs = refl
-numbers_append (entry.Event number moment ∷ es) fs = numbers_append es fs
 numbers_append (entry.Judged number name held verdict cause ∷ es) fs = ap (λ (l : List ℕ). number ∷ l) (numbers_append es fs)
-numbers_append (entry.Intent number name write ∷ es) fs = numbers_append es fs
-numbers_append (entry.Wrote number name write outcome ∷ es) fs = numbers_append es fs
-numbers_append (entry.Gone number name ∷ es) fs = numbers_append es fs
-numbers_append (entry.Unsettled name why ∷ es) fs = numbers_append es fs
-numbers_append (entry.UnsettledAll why ∷ es) fs = numbers_append es fs
-numbers_append (entry.End number ∷ es) fs = numbers_append es fs
+numbers_append (e ∷ es) fs = numbers_append es fs
 
 pub follow_append : (a : ℕ) (xs ys : List ℕ) (b c : ℕ) → Follow a xs b → Follow b ys c → Follow a (xs ++ ys) c
 follow_append a [] ys b c f g = subst (λ (v : ℕ). Follow v ys c) f g
 follow_append a (x ∷ xs) ys b c f g = (f.0, follow_append (a + 1) xs ys b c f.1 g)
 
 numbers_none : (e : Entry) → TellsNeither e → told_numbers (e ∷ []) ≡ []
-numbers_none (entry.Event number moment) t = refl
 numbers_none (entry.Judged number name held verdict cause) t = absurd t
-numbers_none (entry.Intent number name write) t = refl
-numbers_none (entry.Wrote number name write outcome) t = refl
-numbers_none (entry.Gone number name) t = refl
-numbers_none (entry.Unsettled name why) t = refl
-numbers_none (entry.UnsettledAll why) t = refl
-numbers_none (entry.End number) t = refl
+numbers_none e t = refl
 
 -- entries that bear no number
 follow_none : (a b : ℕ) (es fs : List Entry) → told_numbers fs ≡ [] → Follow a (told_numbers es) b → Follow a (told_numbers (es ++ fs)) b

@@ -54,6 +54,7 @@ told_more (f ∷ fs) gs = ap (λ (v : List FailedCall). told_by f ++ v) (told_mo
 tells_one : (name : List ℕ) (e : Entry) (es : List Entry) → IsLast name e es → failure_in e ≡ told_all (why_in e)
 tells_one name (entry.Unsettled other why) es last = sym (append-nil (told_by why))
 tells_one name (entry.UnsettledAll why) es last = absurd last
+tells_one name (entry.Reply answered) es last = absurd last
 tells_one name e es last = refl
 
 tells_why : (name : List ℕ) (es : List Entry) → EndsUnsettled name es → failures_told es ≡ told_all (whys es)

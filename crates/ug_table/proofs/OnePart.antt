@@ -182,6 +182,7 @@ last_more : (name : List ℕ) (es fs : List Entry) → Each NamesNone es → End
 last_more name [] fs n h = h
 last_more name (entry.Unsettled other why ∷ es) fs n h = absurd n.0
 last_more name (entry.UnsettledAll why ∷ es) fs n h = absurd n.0
+last_more name (entry.Reply answered ∷ es) fs n h = absurd n.0
 last_more name (e ∷ es) fs n h = (tt, last_more name es fs n.1 h)
 
 tells_writes : (name : List ℕ) (ps qs : List PutMade) (xs ys : List Entry) → TellsWrites name ps xs → TellsWrites name qs ys → TellsWrites name (ps ++ qs) (xs ++ ys)

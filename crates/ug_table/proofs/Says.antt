@@ -26,24 +26,12 @@ pub gone_has : (es : List Entry) (number : ℕ) → Has (gone_of es) number → 
 gone_has [] number a = absurd a
 gone_has (entry.Gone n name ∷ es) number (inl e) = (name, inl (ap (λ (v : ℕ). entry.Gone v name) e))
 gone_has (entry.Gone n name ∷ es) number (inr a) = let h = gone_has es number a in (h.0, inr h.1)
-gone_has (entry.Event n moment ∷ es) number a = let h = gone_has es number a in (h.0, inr h.1)
-gone_has (entry.Judged n name held verdict cause ∷ es) number a = let h = gone_has es number a in (h.0, inr h.1)
-gone_has (entry.Intent n name write ∷ es) number a = let h = gone_has es number a in (h.0, inr h.1)
-gone_has (entry.Wrote n name write outcome ∷ es) number a = let h = gone_has es number a in (h.0, inr h.1)
-gone_has (entry.Unsettled name why ∷ es) number a = let h = gone_has es number a in (h.0, inr h.1)
-gone_has (entry.UnsettledAll why ∷ es) number a = let h = gone_has es number a in (h.0, inr h.1)
-gone_has (entry.End n ∷ es) number a = let h = gone_has es number a in (h.0, inr h.1)
+gone_has (e ∷ es) number a = let h = gone_has es number a in (h.0, inr h.1)
 
 pub gone_append : (es fs : List Entry) → gone_of (es ++ fs) ≡ gone_of es ++ gone_of fs
 gone_append [] fs = refl
 gone_append (entry.Gone n name ∷ es) fs = ap (λ (v : List ℕ). n ∷ v) (gone_append es fs)
-gone_append (entry.Event n moment ∷ es) fs = gone_append es fs
-gone_append (entry.Judged n name held verdict cause ∷ es) fs = gone_append es fs
-gone_append (entry.Intent n name write ∷ es) fs = gone_append es fs
-gone_append (entry.Wrote n name write outcome ∷ es) fs = gone_append es fs
-gone_append (entry.Unsettled name why ∷ es) fs = gone_append es fs
-gone_append (entry.UnsettledAll why ∷ es) fs = gone_append es fs
-gone_append (entry.End n ∷ es) fs = gone_append es fs
+gone_append (e ∷ es) fs = gone_append es fs
 
 distinct_none : (ns : List ℕ) → ((n : ℕ) → Has ns n → ⊥) → AllDistinct ns
 distinct_none [] none = tt
@@ -282,10 +270,11 @@ NamesOnly name (entry.Unsettled n why) = n ≡ name
 NamesOnly name (entry.UnsettledAll why) = ⊥
 NamesOnly name e = Unit {0}
 
--- it names none
+-- it names none, and is no reply
 abbrev pub NamesNone : Entry → Type 0
 NamesNone (entry.Unsettled n why) = ⊥
 NamesNone (entry.UnsettledAll why) = ⊥
+NamesNone (entry.Reply answered) = ⊥
 NamesNone e = Unit {0}
 
 pub none_named : (es : List Entry) (name : List ℕ) → Each NamesNone es → IsNamed es name → ⊥
