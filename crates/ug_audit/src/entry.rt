@@ -1,6 +1,6 @@
 // What the daemon notes of an event.
 use ug_kernel::{FailedCall, Write, Wrote};
-use ug_types::{Cause, Held, Moment, NodeName, Target};
+use ug_types::{Cause, Held, Moment, NodeName, Principal, Refusal, Saved, Target};
 
 /// Why a name is unsettled.
 #[derive(Clone, Copy, Debug, PartialEq, Eq)]
@@ -9,14 +9,38 @@ pub enum Fault {
     Memory,
 }
 
+/// What was done with a rule.
+#[derive(Clone, Copy, Debug, PartialEq, Eq)]
+pub enum RuleChange {
+    Added,
+    Removed,
+    Changed,
+}
+
+/// A part of the daemon's configuration: usbguard-daemon.conf(5), usbguard-rules.conf(5), and the files that grant access.
+#[derive(Clone, Copy, Debug, PartialEq, Eq)]
+pub enum ConfigPart {
+    Settings,
+    Rules,
+    Access,
+}
+
 /// One line of the journal.
 #[derive(Clone, Copy)]
 pub enum Entry {
-    /// The event begins.
+    /// A sweep begins.
     Event {
         number: u64,
         moment: Moment,
     },
+    /// An event with an order of that user or group begins.
+    Order {
+        number: u64,
+        moment: Moment,
+        who: Principal,
+    },
+    /// After a save. The count of faults isn't printed.
+    Save(Saved),
     /// A verdict was set. The held file isn't printed.
     Judged {
         number: u64,
@@ -52,8 +76,30 @@ pub enum Entry {
     UnsettledAll {
         fault: Fault,
     },
+    /// The rules changed.
+    Rules {
+        change: RuleChange,
+        id: u64,
+    },
+    /// What the order was answered, the lines of the answer aside.
+    Reply(Result<(), Refusal>),
+    /// That auditor is given no more lines.
+    Dropped {
+        member: u8,
+    },
     /// The event ends.
     End {
         number: u64,
+    },
+    /// At the start: that line of the settings has a key that isn't used.
+    UnusedKey {
+        line: u64,
+    },
+    /// At the start: that part wasn't taken, by its first bad line. All three are 0 where the part as a whole isn't taken.
+    StartRefused {
+        part: ConfigPart,
+        line: u64,
+        kind: u8,
+        place: u64,
     },
 }

@@ -1,12 +1,14 @@
 // The text of an entry.
 ghost use Rattle.std.specs.Prelude.{◌≡◌, ◌≤◌, ◌<◌, ◌+◌, ◌++◌, [], ◌∷◌, length, codes, decimal};
-ghost use Rattle.ug_audit.specs.Lines.{and_words, cause_words, entry_line, fault_words, target_word, wrote_word};
+ghost use Rattle.ug_audit.specs.Lines.{and_words, cause_words, change_word, entry_line, fault_words, part_word, saved_word, target_word, wrote_word};
 ghost use Rattle.ug_audit.specs.Lines as lines;
+ghost use Rattle.ug_types.specs.Principals.{principal_text};
+ghost use Rattle.ug_types.specs.Refusals.{refusal_words};
 
-use crate::entry::{Entry, Fault};
+use crate::entry::{ConfigPart, Entry, Fault, RuleChange};
 use itoa::Buffer;
 use ug_kernel::{Write, Wrote};
-use ug_types::{Cause, Line, Moment, NodeName, Target};
+use ug_types::{Cause, Line, Moment, NodeName, Principal, Refusal, Saved, Target};
 
 /// A line that is one word.
 fn first_word(word: &[u8]) -> Line
@@ -49,6 +51,15 @@ fn push_name(line: &mut Line, name: &NodeName)
     push_word(line, name.bytes());
 }
 
+/// Appends a space and a user, or `:` and a group.
+fn push_principal(line: &mut Line, who: &Principal)
+    requires { length line.old + 40 < 512 }
+    ensures { line.new ≡ line.old ++ 32 ∷ principal_text who.now }
+{
+    let text = who.text();
+    push_word(line, text.bytes());
+}
+
 #[tactic(auto, unfolding(crate::specs::Lines::target_word))]
 fn word_of_target(target: Target) -> &'static [u8]
     ensures text { result.now ≡ target_word target }
@@ -85,6 +96,42 @@ fn word_of_outcome(outcome: Wrote) -> &'static [u8]
     }
 }
 
+#[tactic(auto, unfolding(crate::specs::Lines::saved_word))]
+fn word_of_save(saved: Saved) -> &'static [u8]
+    ensures text { result.now ≡ saved_word saved }
+    ensures length { length result.now ≤ 6 }
+{
+    match saved {
+        Saved::Done => b"done",
+        Saved::Failed(_) => b"failed",
+        Saved::Memory => b"memory",
+    }
+}
+
+#[tactic(auto, unfolding(crate::specs::Lines::change_word))]
+fn word_of_change(change: RuleChange) -> &'static [u8]
+    ensures text { result.now ≡ change_word change }
+    ensures length { length result.now ≤ 7 }
+{
+    match change {
+        RuleChange::Added => b"added",
+        RuleChange::Removed => b"removed",
+        RuleChange::Changed => b"changed",
+    }
+}
+
+#[tactic(auto, unfolding(crate::specs::Lines::part_word))]
+fn word_of_part(part: ConfigPart) -> &'static [u8]
+    ensures text { result.now ≡ part_word part }
+    ensures length { length result.now ≤ 8 }
+{
+    match part {
+        ConfigPart::Settings => b"settings",
+        ConfigPart::Rules => b"rules",
+        ConfigPart::Access => b"access",
+    }
+}
+
 /// Appends a cause's words.
 #[tactic(auto, unfolding(crate::specs::Lines::cause_words))]
 fn push_cause(line: &mut Line, cause: Cause)
@@ -104,6 +151,10 @@ fn push_cause(line: &mut Line, cause: Cause)
             push_word(line, b"malformed");
             push_number(line, kind as u64);
             push_number(line, place);
+        }
+        Cause::Order(who) => {
+            push_word(line, b"order");
+            push_principal(line, &who);
         }
     }
 }
@@ -143,6 +194,28 @@ fn line_of_event(number: u64, moment: Moment) -> Line
     push_number(&mut line, number);
     push_word(&mut line, b"sweep");
     push_number(&mut line, moment.0);
+    line
+}
+
+fn line_of_order(number: u64, moment: Moment, who: &Principal) -> Line
+    ensures { result ≡ and_words (codes "event") (decimal number ∷ codes "order" ∷ decimal moment.0 ∷ principal_text who.now ∷ []) }
+{
+    let mut line = first_word(b"event");
+    push_number(&mut line, number);
+    push_word(&mut line, b"order");
+    push_number(&mut line, moment.0);
+    push_principal(&mut line, who);
+    line
+}
+
+/// A line that is two words.
+fn of_words(first: &[u8], second: &[u8]) -> Line
+    requires first { length first.now ≤ 10 }
+    requires second { length second.now ≤ 10 }
+    ensures { result ≡ and_words first.now (second.now ∷ []) }
+{
+    let mut line = first_word(first);
+    push_word(&mut line, second);
     line
 }
 
@@ -190,11 +263,51 @@ fn line_of_all_unsettled(fault: Fault) -> Line
     line
 }
 
-fn line_of_end(number: u64) -> Line
-    ensures { result ≡ and_words (codes "end") (decimal number ∷ []) }
+fn line_of_change(change: RuleChange, id: u64) -> Line
+    ensures { result ≡ and_words (codes "rules") (change_word change ∷ decimal id ∷ []) }
 {
-    let mut line = first_word(b"end");
+    let mut line = first_word(b"rules");
+    push_word(&mut line, word_of_change(change));
+    push_number(&mut line, id);
+    line
+}
+
+fn line_of_refusal(refusal: &Refusal) -> Line
+    ensures { result ≡ and_words (codes "reply") (refusal_words refusal.now ∷ []) }
+{
+    let words = refusal.words();
+    let mut line = first_word(b"reply");
+    push_word(&mut line, words.bytes());
+    line
+}
+
+/// A line that is a word and a number.
+fn of_number(word: &[u8], number: u64) -> Line
+    requires { length word.now ≤ 10 }
+    ensures { result ≡ and_words word.now (decimal number ∷ []) }
+{
+    let mut line = first_word(word);
     push_number(&mut line, number);
+    line
+}
+
+fn line_of_unused(number: u64) -> Line
+    ensures { result ≡ and_words (codes "note") (codes "unused-key" ∷ decimal number ∷ []) }
+{
+    let mut line = first_word(b"note");
+    push_word(&mut line, b"unused-key");
+    push_number(&mut line, number);
+    line
+}
+
+fn line_of_start_refused(part: ConfigPart, number: u64, kind: u8, place: u64) -> Line
+    ensures { result ≡ and_words (codes "start-refused") (part_word part ∷ decimal number ∷ decimal kind ∷ decimal place ∷ []) }
+{
+    let mut line = first_word(b"start-refused");
+    push_word(&mut line, word_of_part(part));
+    push_number(&mut line, number);
+    push_number(&mut line, kind as u64);
+    push_number(&mut line, place);
     line
 }
 
@@ -205,6 +318,12 @@ pub fn line_of(entry: &Entry) -> Line
 {
     match entry {
         Entry::Event { number, moment } => line_of_event(*number, *moment),
+        Entry::Order {
+            number,
+            moment,
+            who,
+        } => line_of_order(*number, *moment, who),
+        Entry::Save(saved) => of_words(b"save", word_of_save(*saved)),
         Entry::Judged {
             number,
             name,
@@ -226,6 +345,17 @@ pub fn line_of(entry: &Entry) -> Line
         Entry::Gone { number, name } => of_device(b"gone", *number, name),
         Entry::Unsettled { name, fault } => line_of_unsettled(name, *fault),
         Entry::UnsettledAll { fault } => line_of_all_unsettled(*fault),
-        Entry::End { number } => line_of_end(*number),
+        Entry::Rules { change, id } => line_of_change(*change, *id),
+        Entry::Reply(Ok(())) => of_words(b"reply", b"ok"),
+        Entry::Reply(Err(refusal)) => line_of_refusal(refusal),
+        Entry::Dropped { member } => of_number(b"dropped", *member as u64),
+        Entry::End { number } => of_number(b"end", *number),
+        Entry::UnusedKey { line } => line_of_unused(*line),
+        Entry::StartRefused {
+            part,
+            line,
+            kind,
+            place,
+        } => line_of_start_refused(*part, *line, *kind, *place),
     }
 }

@@ -2,6 +2,7 @@
 use Rattle.std.proofs.Common.{◌≡◌, ℕ, Bool, true, false, not, cond, ◌&&◌, ◌||◌, List, [], ◌∷◌, ◌++◌, refl, sym, ◌∙◌, ap, subst}
 use Rattle.std.proofs.lemmas.Bool.{or_left, or_right}
 use Rattle.std.specs.List.{list_any}
+use Rattle.std.proofs.lemmas.Bool.{or_parts}
 use Rattle.std.proofs.lemmas.List.Folds.{list_any-append}
 use Rattle.ug_table.proofs.Common.{in_sweep_order, Held, Made, failures, Entry, State, Answers, Laters, lists, farewells, AreClosings, unlisted_files, failures_told}
 use Rattle.ug_table.specs.declared.standing.Standing.{Standing}
@@ -116,13 +117,17 @@ sure_sweep {J} answer later w s n =
 pub nobody_more : (es fs : List Entry) → NameNobody es → NameNobody fs → NameNobody (es ++ fs)
 nobody_more es fs a b = list_any-append names_somebody es fs ∙ ap (λ (v : Bool). v || list_any names_somebody fs) a ∙ b
 
+nothing_behind : (xs ys : List FailedCall) → xs ++ ys ≡ [] → ys ≡ []
+nothing_behind [] ys e = e
+nothing_behind (x ∷ xs) ys e = let none : ⊥ = cc in absurd none
+
 nobody_told : (es : List Entry) → tells_memory es ≡ false → failures_told es ≡ [] → NameNobody es
 nobody_told [] m f = refl
 nobody_told (entry.Unsettled name (fault.Call failed) ∷ es) m f = let none : ⊥ = cc in absurd none
 nobody_told (entry.Unsettled name fault.Memory ∷ es) m f = let none : ⊥ = cc in absurd none
 nobody_told (entry.UnsettledAll (fault.Call failed) ∷ es) m f = let none : ⊥ = cc in absurd none
 nobody_told (entry.UnsettledAll fault.Memory ∷ es) m f = let none : ⊥ = cc in absurd none
-nobody_told (e ∷ es) m f = nobody_told es m f
+nobody_told (e ∷ es) m f = nobody_told es (or_parts (entry_tells_memory e) (tells_memory es) m).1 (nothing_behind (failure_in e) (failures_told es) f)
 
 pub quiet_sweep : {J : Type 0} (answer : Answers J) (later : Laters J) (w : State J) (s : World) → s.ran_out ≡ false → s.fails ≡ [] → NameNobody w.entries → NameNobody (play (sweeping answer later w) s).0.entries
 quiet_sweep {J} answer later w s o e n =

@@ -1,6 +1,10 @@
 -- What a script fixes.
-use Rattle.std.specs.Prelude.{◌≡◌, Bool, true, false, ◌⊎◌, List, ◌++◌}
+use Rattle.std.specs.Prelude.{◌≡◌, Bool, true, false, ◌⊎◌, List, ◌++◌, Result, Err}
 use Rattle.std.specs.List.{list_any}
+use Rattle.ug_types.specs.declared.refusal.Refusal.{Refusal}
+use Rattle.ug_types.specs.declared.refusal.Refusal.TheVariants as refusal
+use Rattle.ug_types.specs.declared.saved.Saved.{Saved}
+use Rattle.ug_types.specs.declared.saved.Saved.TheVariants as saved
 use Rattle.ug_kernel.specs.Tree.{Prog, Return, Ask, Room}
 use Rattle.ug_sysfs.specs.World.{World, answer_of}
 use Rattle.ug_audit.specs.declared.entry.Entry.{Entry}
@@ -18,10 +22,20 @@ abbrev pub is_memory : Fault → Bool
 is_memory (fault.Call failed) = false
 is_memory fault.Memory = true
 
--- an entry that tells want of memory, for a name or for the listing
+abbrev pub is_short_save : Saved → Bool
+is_short_save saved.Memory = true
+is_short_save became = false
+
+abbrev pub is_short_reply : Result (Unit {0}) Refusal → Bool
+is_short_reply (Err (refusal.Memory stands)) = true
+is_short_reply answered = false
+
+-- an entry that tells want of memory: for a name, for the listing, for a save that was pending, or for an order
 abbrev pub entry_tells_memory : Entry → Bool
 entry_tells_memory (entry.Unsettled name why) = is_memory why
 entry_tells_memory (entry.UnsettledAll why) = is_memory why
+entry_tells_memory (entry.Save became) = is_short_save became
+entry_tells_memory (entry.Reply answered) = is_short_reply answered
 entry_tells_memory e = false
 
 abbrev pub tells_memory : List Entry → Bool

@@ -12,16 +12,16 @@ use Rattle.ug_proto.specs.declared.request.Request.{Request}
 use Rattle.ug_proto.specs.declared.request.Request.TheVariants as request
 use Rattle.ug_proto.specs.Numbers.{number_in}
 use Rattle.ug_proto.specs.Requests.{then_take, or_wrong, behind_next, next_place, next_read, unless_empty, ended, after_number, after_in, kind_in, get_read, set_read, permanence_read, device_read, rule_read, append_read, remove_read, named_read, request_read}
-use Rattle.ug_proto.specs.Splitting.{first_word, behind_word, IsPlainWord}
+use Rattle.ug_proto.specs.Splitting.{first_word, behind_word, IsPlainWord, IsRest}
 use Rattle.ug_proto.specs.Texts.{permanence_words, kind_word, after_word, request_text, IsAfter, IsRequest}
 use Rattle.ug_proto.proofs.Numerals.{is_number, decimal_plain, decimal_no_end, zero_text}
 use Rattle.ug_proto.proofs.Reading.{read_written}
-use Rattle.ug_proto.proofs.Words.{IsRest, first_plain, behind_plain}
+use Rattle.ug_proto.proofs.Words.{first_plain, behind_plain}
 
 abbrev Reading : Type 0
 Reading = Result Request ℕ
 
-next_again : {X : Type 0} (total : ℕ) (word more : List ℕ) (meaning : List ℕ → Option X) (x : X) → ¬ Has word 32 → IsRest more → meaning word ≡ Some x → next_read total (32 ∷ (word ++ more)) meaning ≡ Ok x
+pub next_again : {X : Type 0} (total : ℕ) (word more : List ℕ) (meaning : List ℕ → Option X) (x : X) → ¬ Has word 32 → IsRest more → meaning word ≡ Some x → next_read total (32 ∷ (word ++ more)) meaning ≡ Ok x
 next_again {X} total word more meaning x n i h =
     ap (λ (w : List ℕ). or_wrong (next_place total (32 ∷ (word ++ more))) (meaning w)) (first_plain word more n i) ∙ ap (or_wrong (next_place total (32 ∷ (word ++ more)))) h
 

@@ -12,7 +12,8 @@ use Rattle.ug_proto.specs.declared.scan.Stop.{Stop}
 use Rattle.ug_proto.specs.declared.scan.Stop.TheVariants as stop
 use Rattle.ug_proto.specs.AnswerParts.{IsUnended, AreLinesOf, answer_text, IsAnswer}
 use Rattle.ug_proto.specs.RefusalParts.{number_then, IsNumberIn, refusal_line}
-use Rattle.ug_proto.specs.Replies.{ended_lines, reply_text, AreWholeLines, IsRefusal, IsReply}
+use Rattle.ug_proto.specs.Replies.{ended_lines, reply_text, AreWholeLines, IsReply}
+use Rattle.ug_types.specs.Refusals.{IsRefusal}
 use Rattle.ug_proto.specs.ReplyReading.{BeginsWithReply, IsReplyBegun, IsNoReply, ReadsReply}
 use Rattle.ug_proto.specs.Scanning.{IsTextBegun, NeverBecomes, IsTextThen, IsStop}
 use Rattle.ug_proto.proofs.OneReply.{one_reply, refused_first}

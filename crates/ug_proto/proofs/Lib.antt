@@ -1,4 +1,6 @@
 pub mod Again
+pub mod BadPlaces
+pub mod EntryLines
 pub mod Numerals
 pub mod OneReply
 pub mod Pieces

@@ -8,7 +8,8 @@ use Rattle.ug_proto.specs.declared.reply.Reply.{Reply}
 use Rattle.ug_proto.specs.declared.reply.Reply.TheVariants.{Lines, Refused}
 use Rattle.ug_proto.specs.Replies.{ended_lines, reply_text, AreWholeLines, IsReply}
 use Rattle.ug_proto.proofs.Scans.{cut}
-use Rattle.ug_proto.proofs.RefusalWords.{clean_so, number_clean, refusal_clean, one_refusal, first_letter}
+use Rattle.ug_proto.proofs.RefusalNumbers.{line_parts}
+use Rattle.ug_proto.proofs.RefusalWords.{clean_so, number_clean, refusal_clean, one_refusal}
 
 one_list : (ls ms : List (List ℕ)) (more : List ℕ) → AreWholeLines ls → AreWholeLines ms → length ls ≡ length ms → ended_lines ls ++ more ≡ ended_lines ms → (ls ≡ ms) × (more ≡ [])
 one_list [] [] more h k l e = (refl, e)
@@ -38,11 +39,11 @@ lines_first lines more = refl
 
 pub refused_first : (r : Refusal) (more : List ℕ) → get_or (reply_text (Refused r) ++ more) 0 0 ≡ 114
 unfolding reply_text
-refused_first r more = ap (λ (l : List ℕ). get_or l 0 0) (append_assoc (refusal_words r) (10 ∷ []) more) ∙ first_letter r (10 ∷ more)
+refused_first r more = ap (λ (l : List ℕ). get_or (l ++ more) 0 0) (line_parts r)
 
 refused_alone : (r : Refusal) → get_or (reply_text (Refused r)) 0 0 ≡ 114
 unfolding reply_text
-refused_alone r = first_letter r (10 ∷ [])
+refused_alone r = ap (λ (l : List ℕ). get_or l 0 0) (line_parts r)
 
 lines_alone : (lines : List (List ℕ)) → get_or (reply_text (Lines lines)) 0 0 ≡ 111
 unfolding reply_text

@@ -9,20 +9,22 @@ use Rattle.ug_types.specs.declared.access.Privilege.{Privilege}
 use Rattle.ug_types.specs.declared.access.Privilege.TheVariants.{Modify}
 use Rattle.ug_types.specs.declared.refusal.Refusal.{Refusal}
 use Rattle.ug_types.specs.declared.refusal.Refusal.TheVariants as refusal
-use Rattle.ug_types.specs.Refusals.{refusal_words}
+use Rattle.ug_types.specs.Refusals.{refusal_words, IsRefusal}
 use Rattle.ug_proto.specs.declared.scan.Stop.{Stop}
 use Rattle.ug_proto.specs.RefusalParts.{number_then, IsNumberIn, named_number, named_numbers, IsPairIn, denial_text, Anything, stands_number, refusal_number, refusal_rest, refusal_line, IsNumbered}
-use Rattle.ug_proto.specs.Replies.{IsRefusal}
 use Rattle.ug_proto.specs.Scanning.{IsTextThen, IsStop}
 use Rattle.ug_proto.proofs.RefusalScans.{one_number}
 use Rattle.ug_proto.proofs.Scans.{begins_with, goes_on}
 
--- the rest of a refusal of that number is such a text
-arm : {X : Type 0} (part : X → List ℕ) (Has_part : X → Type 0) (n : ℕ) (what : X → Refusal) (bytes : List ℕ) (s : Stop)
+-- what stops at a part stops at the rest of a refusal of that number
+abbrev pub StopsAt : {X : Type 0} → (X → List ℕ) → (X → Type 0) → ℕ → Type 0
+StopsAt part Has_part n = (bytes : List ℕ) (s : Stop) → IsStop part Has_part bytes s → IsStop refusal_rest (IsNumbered n) bytes s
+
+arm : {X : Type 0} (part : X → List ℕ) (Has_part : X → Type 0) (n : ℕ) (what : X → Refusal)
     → ((x : X) → Has_part x → IsNumbered n (what x)) → ((x : X) → Has_part x → refusal_rest (what x) ≡ part x)
     → ((r : Refusal) → IsNumbered n r → (x : X) × Has_part x × (what x ≡ r))
-    → IsStop part Has_part bytes s → IsStop refusal_rest (IsNumbered n) bytes s
-arm {X} part Has_part n what bytes s f g only h =
+    → StopsAt part Has_part n
+arm {X} part Has_part n what f g only bytes s h =
     goes_on refusal_rest (IsNumbered n) part Has_part bytes [] bytes s refl
     (λ r more rest c e. let k = only r c in (k.0, k.1, ap refusal_rest (sym k.2) ∙ g k.0 k.1))
     (λ x k. (what x, f x k, g x k)) h
@@ -36,115 +38,126 @@ up_to n h = (omega arith, omega (arith, h))
 below : (n : ℕ) → IsNumberIn 0 most n → n < 2 ^ 64
 below n h = omega (arith, h.1)
 
-only_bad_request : (r : Refusal) → IsNumbered 1 r → (x : ℕ) × IsNumberIn 0 most x × (refusal.BadRequest x ≡ r)
-only_bad_request (refusal.BadRequest x) h = (x, up_to x h.0, refl)
-only_bad_request r h = absurd (omega (arith, h.1))
+-- refusals with one number
+with_number : (name : List ℕ) (n : ℕ) (what : ℕ → Refusal) → ((x : ℕ) → x < 2 ^ 64 → IsNumbered n (what x)) → ((x : ℕ) → refusal_rest (what x) ≡ named_number name x)
+    → ((r : Refusal) → IsNumbered n r → (x : ℕ) × (x < 2 ^ 64) × (what x ≡ r)) → StopsAt (named_number name) (IsNumberIn 0 most) n
+with_number name n what f g only =
+    arm (named_number name) (IsNumberIn 0 most) n what (λ x k. f x (below x k)) (λ x k. g x) (λ r h. let k = only r h in (k.0, up_to k.0 k.1, k.2))
 
-pub bad_request : (bytes : List ℕ) (s : Stop) → IsStop (named_number (codes "bad-request ")) (IsNumberIn 0 18446744073709551615) bytes s → IsStop refusal_rest (IsNumbered 1) bytes s
+-- refusals without numbers
+alone : (word : List ℕ) (n : ℕ) (what : Refusal) → IsNumbered n what → refusal_rest what ≡ word → ((r : Refusal) → IsNumbered n r → what ≡ r)
+    → StopsAt {X = Unit {0}} (λ _. word) (λ _. Unit {0}) n
+alone word n what f g only = arm {X = Unit {0}} (λ _. word) (λ _. Unit {0}) n (λ _. what) (λ x k. f) (λ x k. g) (λ r h. (tt, tt, only r h))
+
+pub bad_request : StopsAt (named_number (codes "bad-request ")) (IsNumberIn 0 most) 1
 unfolding refusal_rest
-bad_request bytes s h = arm (named_number (codes "bad-request ")) (IsNumberIn 0 most) 1 refusal.BadRequest bytes s (λ x k. (below x k, refl)) (λ x k. refl) only_bad_request h
+bad_request = with_number (codes "bad-request ") 1 refusal.BadRequest (λ x k. (k, refl)) (λ x. refl) only
+  where
+    only : (r : Refusal) → IsNumbered 1 r → (x : ℕ) × (x < 2 ^ 64) × (refusal.BadRequest x ≡ r)
+    only (refusal.BadRequest x) h = (x, h.0, refl)
+    only r h = absurd (omega (arith, h.1))
 
-only_bad_rule : (r : Refusal) → IsNumbered 3 r → (x : ℕ × ℕ) × IsPairIn 255 x × (refusal.BadRule x.0 x.1 ≡ r)
-only_bad_rule (refusal.BadRule a b) h = ((a, b), ((omega arith, omega (arith, h.0.0)), up_to b h.0.1), refl)
-only_bad_rule r h = absurd (omega (arith, h.1))
-
-pub bad_rule : (bytes : List ℕ) (s : Stop) → IsStop (named_numbers (codes "bad-rule ")) (IsPairIn 255) bytes s → IsStop refusal_rest (IsNumbered 3) bytes s
+pub denied : StopsAt denial_text Anything 2
 unfolding refusal_rest
-bad_rule bytes s h = arm {X = ℕ × ℕ} (named_numbers (codes "bad-rule ")) (IsPairIn 255) 3 (λ x. refusal.BadRule x.0 x.1) bytes s (λ x k. ((omega (arith, k.0.1), below x.1 k.1), refl)) (λ x k. refl) only_bad_rule h
+denied = arm {X = Section × Privilege} denial_text Anything 2 (λ x. refusal.Denied x.0 x.1) (λ x k. (tt, refl)) (λ x k. refl) only
+  where
+    only : (r : Refusal) → IsNumbered 2 r → (x : Section × Privilege) × Unit {0} × (refusal.Denied x.0 x.1 ≡ r)
+    only (refusal.Denied section privilege) h = ((section, privilege), tt, refl)
+    only r h = absurd (omega (arith, h.1))
 
-only_no_device : (r : Refusal) → IsNumbered 4 r → (x : ℕ) × IsNumberIn 0 most x × (refusal.NoDevice x ≡ r)
-only_no_device (refusal.NoDevice x) h = (x, up_to x h.0, refl)
-only_no_device r h = absurd (omega (arith, h.1))
-
-pub no_device : (bytes : List ℕ) (s : Stop) → IsStop (named_number (codes "no-device ")) (IsNumberIn 0 18446744073709551615) bytes s → IsStop refusal_rest (IsNumbered 4) bytes s
+pub bad_rule : StopsAt (named_numbers (codes "bad-rule ")) (IsPairIn 255) 3
 unfolding refusal_rest
-no_device bytes s h = arm (named_number (codes "no-device ")) (IsNumberIn 0 most) 4 refusal.NoDevice bytes s (λ x k. (below x k, refl)) (λ x k. refl) only_no_device h
+bad_rule = arm {X = ℕ × ℕ} (named_numbers (codes "bad-rule ")) (IsPairIn 255) 3 (λ x. refusal.BadRule x.0 x.1) (λ x k. ((omega (arith, k.0.1), below x.1 k.1), refl)) (λ x k. refl) only
+  where
+    only : (r : Refusal) → IsNumbered 3 r → (x : ℕ × ℕ) × IsPairIn 255 x × (refusal.BadRule x.0 x.1 ≡ r)
+    only (refusal.BadRule a b) h = ((a, b), ((omega arith, omega (arith, h.0.0)), up_to b h.0.1), refl)
+    only r h = absurd (omega (arith, h.1))
 
-only_no_rule : (r : Refusal) → IsNumbered 5 r → (x : ℕ) × IsNumberIn 0 most x × (refusal.NoRule x ≡ r)
-only_no_rule (refusal.NoRule x) h = (x, up_to x h.0, refl)
-only_no_rule r h = absurd (omega (arith, h.1))
-
-pub no_rule : (bytes : List ℕ) (s : Stop) → IsStop (named_number (codes "no-rule ")) (IsNumberIn 0 18446744073709551615) bytes s → IsStop refusal_rest (IsNumbered 5) bytes s
+pub no_device : StopsAt (named_number (codes "no-device ")) (IsNumberIn 0 most) 4
 unfolding refusal_rest
-no_rule bytes s h = arm (named_number (codes "no-rule ")) (IsNumberIn 0 most) 5 refusal.NoRule bytes s (λ x k. (below x k, refl)) (λ x k. refl) only_no_rule h
+no_device = with_number (codes "no-device ") 4 refusal.NoDevice (λ x k. (k, refl)) (λ x. refl) only
+  where
+    only : (r : Refusal) → IsNumbered 4 r → (x : ℕ) × (x < 2 ^ 64) × (refusal.NoDevice x ≡ r)
+    only (refusal.NoDevice x) h = (x, h.0, refl)
+    only r h = absurd (omega (arith, h.1))
 
-only_bad_parameter : (r : Refusal) → IsNumbered 6 r → (x : Unit {0}) × Unit {0} × (refusal.BadParameter ≡ r)
-only_bad_parameter refusal.BadParameter h = (tt, tt, refl)
-only_bad_parameter r h = absurd (omega (arith, h.1))
-
-pub bad_parameter : (bytes : List ℕ) (s : Stop) → IsStop {X = Unit {0}} (λ _. codes "bad-parameter\n") (λ _. Unit {0}) bytes s → IsStop refusal_rest (IsNumbered 6) bytes s
+pub no_rule : StopsAt (named_number (codes "no-rule ")) (IsNumberIn 0 most) 5
 unfolding refusal_rest
-bad_parameter bytes s h = arm {X = Unit {0}} (λ _. codes "bad-parameter\n") (λ _. Unit {0}) 6 (λ _. refusal.BadParameter) bytes s (λ x k. (tt, refl)) (λ x k. refl) only_bad_parameter h
+no_rule = with_number (codes "no-rule ") 5 refusal.NoRule (λ x k. (k, refl)) (λ x. refl) only
+  where
+    only : (r : Refusal) → IsNumbered 5 r → (x : ℕ) × (x < 2 ^ 64) × (refusal.NoRule x ≡ r)
+    only (refusal.NoRule x) h = (x, h.0, refl)
+    only r h = absurd (omega (arith, h.1))
 
-only_bad_value : (r : Refusal) → IsNumbered 7 r → (x : Unit {0}) × Unit {0} × (refusal.BadValue ≡ r)
-only_bad_value refusal.BadValue h = (tt, tt, refl)
-only_bad_value r h = absurd (omega (arith, h.1))
-
-pub bad_value : (bytes : List ℕ) (s : Stop) → IsStop {X = Unit {0}} (λ _. codes "bad-value\n") (λ _. Unit {0}) bytes s → IsStop refusal_rest (IsNumbered 7) bytes s
+pub bad_parameter : StopsAt {X = Unit {0}} (λ _. codes "bad-parameter\n") (λ _. Unit {0}) 6
 unfolding refusal_rest
-bad_value bytes s h = arm {X = Unit {0}} (λ _. codes "bad-value\n") (λ _. Unit {0}) 7 (λ _. refusal.BadValue) bytes s (λ x k. (tt, refl)) (λ x k. refl) only_bad_value h
+bad_parameter = alone (codes "bad-parameter\n") 6 refusal.BadParameter (tt, refl) refl only
+  where
+    only : (r : Refusal) → IsNumbered 6 r → refusal.BadParameter ≡ r
+    only refusal.BadParameter h = refl
+    only r h = absurd (omega (arith, h.1))
 
-only_malformed_device : (r : Refusal) → IsNumbered 8 r → (x : ℕ) × IsNumberIn 0 most x × (refusal.MalformedDevice x ≡ r)
-only_malformed_device (refusal.MalformedDevice x) h = (x, up_to x h.0, refl)
-only_malformed_device r h = absurd (omega (arith, h.1))
-
-pub malformed_device : (bytes : List ℕ) (s : Stop) → IsStop (named_number (codes "malformed-device ")) (IsNumberIn 0 18446744073709551615) bytes s → IsStop refusal_rest (IsNumbered 8) bytes s
+pub bad_value : StopsAt {X = Unit {0}} (λ _. codes "bad-value\n") (λ _. Unit {0}) 7
 unfolding refusal_rest
-malformed_device bytes s h = arm (named_number (codes "malformed-device ")) (IsNumberIn 0 most) 8 refusal.MalformedDevice bytes s (λ x k. (below x k, refl)) (λ x k. refl) only_malformed_device h
+bad_value = alone (codes "bad-value\n") 7 refusal.BadValue (tt, refl) refl only
+  where
+    only : (r : Refusal) → IsNumbered 7 r → refusal.BadValue ≡ r
+    only refusal.BadValue h = refl
+    only r h = absurd (omega (arith, h.1))
 
-only_rules_full : (r : Refusal) → IsNumbered 9 r → (x : Unit {0}) × Unit {0} × (refusal.RulesFull ≡ r)
-only_rules_full refusal.RulesFull h = (tt, tt, refl)
-only_rules_full r h = absurd (omega (arith, h.1))
-
-pub rules_full : (bytes : List ℕ) (s : Stop) → IsStop {X = Unit {0}} (λ _. codes "rules-full\n") (λ _. Unit {0}) bytes s → IsStop refusal_rest (IsNumbered 9) bytes s
+pub malformed_device : StopsAt (named_number (codes "malformed-device ")) (IsNumberIn 0 most) 8
 unfolding refusal_rest
-rules_full bytes s h = arm {X = Unit {0}} (λ _. codes "rules-full\n") (λ _. Unit {0}) 9 (λ _. refusal.RulesFull) bytes s (λ x k. (tt, refl)) (λ x k. refl) only_rules_full h
+malformed_device = with_number (codes "malformed-device ") 8 refusal.MalformedDevice (λ x k. (k, refl)) (λ x. refl) only
+  where
+    only : (r : Refusal) → IsNumbered 8 r → (x : ℕ) × (x < 2 ^ 64) × (refusal.MalformedDevice x ≡ r)
+    only (refusal.MalformedDevice x) h = (x, h.0, refl)
+    only r h = absurd (omega (arith, h.1))
 
-only_store_fault : (r : Refusal) → IsNumbered 10 r → (x : ℕ) × IsNumberIn 0 most x × (refusal.StoreFault x ≡ r)
-only_store_fault (refusal.StoreFault x) h = (x, up_to x h.0, refl)
-only_store_fault r h = absurd (omega (arith, h.1))
-
-pub store_fault : (bytes : List ℕ) (s : Stop) → IsStop (named_number (codes "store-fault ")) (IsNumberIn 0 18446744073709551615) bytes s → IsStop refusal_rest (IsNumbered 10) bytes s
+pub rules_full : StopsAt {X = Unit {0}} (λ _. codes "rules-full\n") (λ _. Unit {0}) 9
 unfolding refusal_rest
-store_fault bytes s h = arm (named_number (codes "store-fault ")) (IsNumberIn 0 most) 10 refusal.StoreFault bytes s (λ x k. (below x k, refl)) (λ x k. refl) only_store_fault h
+rules_full = alone (codes "rules-full\n") 9 refusal.RulesFull (tt, refl) refl only
+  where
+    only : (r : Refusal) → IsNumbered 9 r → refusal.RulesFull ≡ r
+    only refusal.RulesFull h = refl
+    only r h = absurd (omega (arith, h.1))
 
-only_device_fault : (r : Refusal) → IsNumbered 11 r → (x : ℕ × ℕ) × IsPairIn most x × (refusal.DeviceFault x.0 x.1 ≡ r)
-only_device_fault (refusal.DeviceFault a b) h = ((a, b), (up_to a h.0.0, up_to b h.0.1), refl)
-only_device_fault r h = absurd (omega (arith, h.1))
-
-pub device_fault : (bytes : List ℕ) (s : Stop) → IsStop (named_numbers (codes "device-fault ")) (IsPairIn 18446744073709551615) bytes s → IsStop refusal_rest (IsNumbered 11) bytes s
+pub store_fault : StopsAt (named_number (codes "store-fault ")) (IsNumberIn 0 most) 10
 unfolding refusal_rest
-device_fault bytes s h = arm {X = ℕ × ℕ} (named_numbers (codes "device-fault ")) (IsPairIn most) 11 (λ x. refusal.DeviceFault x.0 x.1) bytes s (λ x k. ((below x.0 k.0, below x.1 k.1), refl)) (λ x k. refl) only_device_fault h
+store_fault = with_number (codes "store-fault ") 10 refusal.StoreFault (λ x k. (k, refl)) (λ x. refl) only
+  where
+    only : (r : Refusal) → IsNumbered 10 r → (x : ℕ) × (x < 2 ^ 64) × (refusal.StoreFault x ≡ r)
+    only (refusal.StoreFault x) h = (x, h.0, refl)
+    only r h = absurd (omega (arith, h.1))
 
-only_probe_fault : (r : Refusal) → IsNumbered 13 r → (x : ℕ) × IsNumberIn 0 most x × (refusal.ProbeFault x ≡ r)
-only_probe_fault (refusal.ProbeFault x) h = (x, up_to x h.0, refl)
-only_probe_fault r h = absurd (omega (arith, h.1))
-
-pub probe_fault : (bytes : List ℕ) (s : Stop) → IsStop (named_number (codes "probe-fault ")) (IsNumberIn 0 18446744073709551615) bytes s → IsStop refusal_rest (IsNumbered 13) bytes s
+pub device_fault : StopsAt (named_numbers (codes "device-fault ")) (IsPairIn most) 11
 unfolding refusal_rest
-probe_fault bytes s h = arm (named_number (codes "probe-fault ")) (IsNumberIn 0 most) 13 refusal.ProbeFault bytes s (λ x k. (below x k, refl)) (λ x k. refl) only_probe_fault h
-
-only_denied : (r : Refusal) → IsNumbered 2 r → (x : Section × Privilege) × Unit {0} × (refusal.Denied x.0 x.1 ≡ r)
-only_denied (refusal.Denied section privilege) h = ((section, privilege), tt, refl)
-only_denied r h = absurd (omega (arith, h.1))
-
-pub denied : (bytes : List ℕ) (s : Stop) → IsStop denial_text Anything bytes s → IsStop refusal_rest (IsNumbered 2) bytes s
-unfolding refusal_rest
-denied bytes s h = arm {X = Section × Privilege} denial_text Anything 2 (λ x. refusal.Denied x.0 x.1) bytes s (λ x k. (tt, refl)) (λ x k. refl) only_denied h
-
-only_memory : (r : Refusal) → IsNumbered 12 r → (x : ℕ) × IsNumberIn 0 1 x × (refusal.Memory (nat_eq x 1) ≡ r)
-only_memory (refusal.Memory false) h = (0, (omega arith, omega arith), refl)
-only_memory (refusal.Memory true) h = (1, (omega arith, omega arith), refl)
-only_memory r h = absurd (omega (arith, h.1))
+device_fault = arm {X = ℕ × ℕ} (named_numbers (codes "device-fault ")) (IsPairIn most) 11 (λ x. refusal.DeviceFault x.0 x.1) (λ x k. ((below x.0 k.0, below x.1 k.1), refl)) (λ x k. refl) only
+  where
+    only : (r : Refusal) → IsNumbered 11 r → (x : ℕ × ℕ) × IsPairIn most x × (refusal.DeviceFault x.0 x.1 ≡ r)
+    only (refusal.DeviceFault a b) h = ((a, b), (up_to a h.0.0, up_to b h.0.1), refl)
+    only r h = absurd (omega (arith, h.1))
 
 pub stands : (n : ℕ) → IsNumberIn 0 1 n → stands_number (nat_eq n 1) ≡ n
 stands zero h = refl
 stands (suc zero) h = refl
 stands (suc (suc n)) h = absurd (omega (arith, h.1))
 
-pub memory : (bytes : List ℕ) (s : Stop) → IsStop (named_number (codes "memory ")) (IsNumberIn 0 1) bytes s → IsStop refusal_rest (IsNumbered 12) bytes s
+pub memory : StopsAt (named_number (codes "memory ")) (IsNumberIn 0 1) 12
 unfolding refusal_rest
-memory bytes s h = arm (named_number (codes "memory ")) (IsNumberIn 0 1) 12 (λ x. refusal.Memory (nat_eq x 1)) bytes s (λ x k. (tt, refl)) (λ x k. ap (named_number (codes "memory ")) (stands x k)) only_memory h
+memory = arm (named_number (codes "memory ")) (IsNumberIn 0 1) 12 (λ x. refusal.Memory (nat_eq x 1)) (λ x k. (tt, refl)) (λ x k. ap (named_number (codes "memory ")) (stands x k)) only
+  where
+    only : (r : Refusal) → IsNumbered 12 r → (x : ℕ) × IsNumberIn 0 1 x × (refusal.Memory (nat_eq x 1) ≡ r)
+    only (refusal.Memory false) h = (0, (omega arith, omega arith), refl)
+    only (refusal.Memory true) h = (1, (omega arith, omega arith), refl)
+    only r h = absurd (omega (arith, h.1))
+
+pub probe_fault : StopsAt (named_number (codes "probe-fault ")) (IsNumberIn 0 most) 13
+unfolding refusal_rest
+probe_fault = with_number (codes "probe-fault ") 13 refusal.ProbeFault (λ x k. (k, refl)) (λ x. refl) only
+  where
+    only : (r : Refusal) → IsNumbered 13 r → (x : ℕ) × (x < 2 ^ 64) × (refusal.ProbeFault x ≡ r)
+    only (refusal.ProbeFault x) h = (x, h.0, refl)
+    only r h = absurd (omega (arith, h.1))
 
 pub at_number : (n m : ℕ) (bytes : List ℕ) (s : Stop) → n ≡ m → IsStop refusal_rest (IsNumbered m) bytes s → IsStop refusal_rest (IsNumbered n) bytes s
 at_number n m bytes s e h = subst (λ (k : ℕ). IsStop refusal_rest (IsNumbered k) bytes s) (sym e) h

@@ -1,55 +1,23 @@
 -- The parts of refusals, one behind another.
-use Rattle.std.proofs.Common.{◌≡◌, ◌≢◌, ℕ, ◌<◌, ◌^◌, inl, inr, Bool, true, false, cond, nat_eq, List, [], ◌∷◌, ◌++◌, length, take, drop, eq-eqb, refl, sym, ap, subst, ◌∙◌, append_assoc, arith, None}
+use Rattle.std.proofs.Common.{◌≡◌, ℕ, ◌<◌, ◌≤◌, ◌^◌, inl, inr, Bool, true, false, cond, nat_eq, List, [], ◌∷◌, ◌++◌, length, take, eq-eqb, refl, sym, ap, subst, ◌∙◌, append_assoc, arith}
 use Rattle.std.specs.Prelude.{decimal, codes}
-use Rattle.std.specs.Cmp.Lexicographic.{pointwise}
 use Rattle.std.proofs.lemmas.Bool.{false≢true}
 use Rattle.std.proofs.lemmas.Fmt.{decimal_injective}
-use Rattle.std.proofs.lemmas.Option.{none-some, same_Some}
-use Rattle.std.proofs.Math.Seq.{take-append_seam}
-use Rattle.ug_types.specs.Access.{section_word, privilege_word, section_of, privilege_of}
+use Rattle.std.proofs.lemmas.List.{take_all}
+use Rattle.std.proofs.lemmas.Option.{same_Some}
+use Rattle.ug_types.specs.Access.{section_word, section_of}
 use Rattle.ug_types.specs.Elements.{Has}
 use Rattle.ug_types.specs.declared.access.Section.{Section}
 use Rattle.ug_types.specs.declared.access.Section.TheVariants.{Devices, Policy, Exceptions, Parameters}
 use Rattle.ug_types.specs.declared.access.Privilege.{Privilege}
 use Rattle.ug_types.specs.declared.access.Privilege.TheVariants as privilege
-use Rattle.ug_types.proofs.AccessWords.{section_read, privilege_read}
+use Rattle.ug_types.proofs.AccessWords.{section_read}
+use Rattle.ug_types.proofs.Elements.{has_left, has_right, last_is}
 use Rattle.ug_proto.specs.declared.scan.Stop.{Stop}
-use Rattle.ug_proto.specs.RefusalParts.{number_then, IsNumberIn, section_then, privilege_then, denied_pair, begins_word, begins_section, begins_privilege, Anything}
-use Rattle.ug_proto.specs.Scanning.{IsTextBegun, NeverBecomes, IsStop}
-use Rattle.ug_proto.proofs.Numerals.{text_itself}
-use Rattle.ug_proto.proofs.Scans.{cut, front_of, word_then, begins_with, goes_on, number_has_no}
-
--- one of some words is to come
-word_to_come : {X : Type 0} (word_of : X → List ℕ) (e : ℕ) (text : List ℕ) (x : X) → begins_word text (word_of x) ≡ true → IsTextBegun (λ y. word_of y ++ e ∷ []) Anything text
-word_to_come word_of e text x h =
-    let whole = word_then (word_of x) text h in record {
-      it = x;
-      can = tt;
-      more = drop_word ++ e ∷ [];
-      some = some drop_word;
-      whole = sym (append_assoc text drop_word (e ∷ [])) ∙ ap (λ (l : List ℕ). l ++ e ∷ []) (sym whole);
-    }
-  where
-    drop_word : List ℕ
-    drop_word = drop (length text) (word_of x)
-
-    some : (a : List ℕ) → a ++ e ∷ [] ≢ []
-    some [] q = let none : ⊥ = cc in none
-    some (b ∷ a) q = let none : ⊥ = cc in none
-
--- a text that goes on to a word begins it
-begins_it : (text more word : List ℕ) → text ++ more ≡ word → begins_word text word ≡ true
-begins_it text more word e = subst (λ (w : List ℕ). pointwise nat_eq text (take (length text) w) ≡ true) e (ap (pointwise nat_eq text) (take-append_seam text more) ∙ text_itself text)
-
-none_to_come : {X : Type 0} (word_of : X → List ℕ) (e : ℕ) (text : List ℕ) → ¬ Has text e → ((x : X) → begins_word text (word_of x) ≡ false) → NeverBecomes (λ y. word_of y ++ e ∷ []) Anything text
-none_to_come word_of e text n h x more rest c q =
-    let f = front_of e text (word_of x) more rest n (q ∙ append_assoc (word_of x) (e ∷ []) rest) in
-    false≢true (sym (h x) ∙ begins_it text f.0 (word_of x) f.1)
-
-other_word : {X : Type 0} (word_of : X → List ℕ) (e : ℕ) (text word rest : List ℕ) → text ≡ word ++ e ∷ rest → ¬ Has word e → ((x : X) → ¬ Has (word_of x) e) → ((x : X) → word ≢ word_of x) → NeverBecomes (λ y. word_of y ++ e ∷ []) Anything text
-other_word word_of e text word rest w n plain other x more behind c q =
-    let at : word ++ e ∷ (rest ++ more) ≡ word_of x ++ e ∷ behind = sym (append_assoc word (e ∷ rest) more) ∙ ap (λ (l : List ℕ). l ++ more) (sym w) ∙ q ∙ append_assoc (word_of x) (e ∷ []) behind in
-    other x (cut e word (word_of x) (rest ++ more) behind n (plain x) at).0
+use Rattle.ug_proto.specs.declared.scan.Stop.TheVariants as stop
+use Rattle.ug_proto.specs.RefusalParts.{number_then, IsNumberIn, section_then, privilege_then, denied_pair, Anything}
+use Rattle.ug_proto.specs.Scanning.{IsStop, neither}
+use Rattle.ug_proto.proofs.Scans.{cut, begins_with, goes_on, number_has_no}
 
 -- no such byte stands in known bytes
 abbrev lacks : ℕ → List ℕ → Bool
@@ -72,60 +40,23 @@ section_plain Policy = lacks_so 32 (codes "Policy") refl
 section_plain Exceptions = lacks_so 32 (codes "Exceptions") refl
 section_plain Parameters = lacks_so 32 (codes "Parameters") refl
 
-privilege_plain : (p : Privilege) → ¬ Has (privilege_word p) 10
-unfolding privilege_word
-privilege_plain privilege.Modify = lacks_so 10 (codes "modify") refl
-privilege_plain privilege.List = lacks_so 10 (codes "list") refl
-privilege_plain privilege.Listen = lacks_so 10 (codes "listen") refl
+-- one text more doesn't stand in front
+pub one_more : {X : Type 0} (text_of : X → List ℕ) (tried : List X) (it : X) (bytes : List ℕ) (first second : Stop) → IsStop text_of (Has tried) bytes first
+    → IsStop {X = Unit {0}} (λ _. text_of it) (λ _. Unit {0}) bytes second → IsStop text_of (Has (tried ++ it ∷ [])) bytes (neither first second)
+one_more {X} text_of tried it bytes stop.Short stop.Bad f g = record { it = f.it; can = has_left tried (it ∷ []) f.it f.can; more = f.more; some = f.some; whole = f.whole }
+one_more {X} text_of tried it bytes stop.Bad stop.Bad f g = λ x more rest c e. elim (last_is tried it x c) [
+  | inl h ↦ f x more rest h e
+  | inr q ↦ g tt more rest tt (e ∙ ap (λ (y : X). text_of y ++ rest) (sym q))
+]
+one_more {X} text_of tried it bytes stop.Memory stop.Bad f g = tt
+one_more {X} text_of tried it bytes first stop.Short f g = record { it = it; can = has_right tried (it ∷ []) it (inl refl); more = g.more; some = g.some; whole = g.whole }
+one_more {X} text_of tried it bytes first stop.Memory f g = tt
 
-pub section_to_come : (text : List ℕ) → begins_section text ≡ true → IsTextBegun section_then Anything text
-section_to_come text h = by (begins_word text (section_word Devices)) (begins_word text (section_word Policy)) (begins_word text (section_word Exceptions)) refl refl refl h
-  where
-    by : (a b c : Bool) → begins_word text (section_word Devices) ≡ a → begins_word text (section_word Policy) ≡ b → begins_word text (section_word Exceptions) ≡ c → cond a true (cond b true (cond c true (begins_word text (section_word Parameters)))) ≡ true → IsTextBegun section_then Anything text
-    by true b c e f g h = word_to_come section_word 32 text Devices e
-    by false true c e f g h = word_to_come section_word 32 text Policy f
-    by false false true e f g h = word_to_come section_word 32 text Exceptions g
-    by false false false e f g h = word_to_come section_word 32 text Parameters h
-
-pub no_section_to_come : (text : List ℕ) → ¬ Has text 32 → begins_section text ≡ false → NeverBecomes section_then Anything text
-no_section_to_come text n h = none_to_come section_word 32 text n (by (begins_word text (section_word Devices)) (begins_word text (section_word Policy)) (begins_word text (section_word Exceptions)) refl refl refl h)
-  where
-    by : (a b c : Bool) → begins_word text (section_word Devices) ≡ a → begins_word text (section_word Policy) ≡ b → begins_word text (section_word Exceptions) ≡ c → cond a true (cond b true (cond c true (begins_word text (section_word Parameters)))) ≡ false → (s : Section) → begins_word text (section_word s) ≡ false
-    by true b c e f g h s = absurd (false≢true (sym h))
-    by false true c e f g h s = absurd (false≢true (sym h))
-    by false false true e f g h s = absurd (false≢true (sym h))
-    by false false false e f g h Devices = e
-    by false false false e f g h Policy = f
-    by false false false e f g h Exceptions = g
-    by false false false e f g h Parameters = h
-
-pub no_section : (text word rest : List ℕ) → text ≡ word ++ 32 ∷ rest → ¬ Has word 32 → section_of word ≡ None → NeverBecomes section_then Anything text
-no_section text word rest w n h = other_word section_word 32 text word rest w n section_plain (λ s e. none-some s (sym h ∙ ap section_of e ∙ section_read s))
-
-pub privilege_to_come : (text : List ℕ) → begins_privilege text ≡ true → IsTextBegun privilege_then Anything text
-privilege_to_come text h = by (begins_word text (privilege_word privilege.Modify)) (begins_word text (privilege_word privilege.List)) refl refl h
-  where
-    by : (a b : Bool) → begins_word text (privilege_word privilege.Modify) ≡ a → begins_word text (privilege_word privilege.List) ≡ b → cond a true (cond b true (begins_word text (privilege_word privilege.Listen))) ≡ true → IsTextBegun privilege_then Anything text
-    by true b e f h = word_to_come privilege_word 10 text privilege.Modify e
-    by false true e f h = word_to_come privilege_word 10 text privilege.List f
-    by false false e f h = word_to_come privilege_word 10 text privilege.Listen h
-
-pub no_privilege_to_come : (text : List ℕ) → ¬ Has text 10 → begins_privilege text ≡ false → NeverBecomes privilege_then Anything text
-no_privilege_to_come text n h = none_to_come privilege_word 10 text n (by (begins_word text (privilege_word privilege.Modify)) (begins_word text (privilege_word privilege.List)) refl refl h)
-  where
-    by : (a b : Bool) → begins_word text (privilege_word privilege.Modify) ≡ a → begins_word text (privilege_word privilege.List) ≡ b → cond a true (cond b true (begins_word text (privilege_word privilege.Listen))) ≡ false → (p : Privilege) → begins_word text (privilege_word p) ≡ false
-    by true b e f h p = absurd (false≢true (sym h))
-    by false true e f h p = absurd (false≢true (sym h))
-    by false false e f h privilege.Modify = e
-    by false false e f h privilege.List = f
-    by false false e f h privilege.Listen = h
-
-pub no_privilege : (text word rest : List ℕ) → text ≡ word ++ 10 ∷ rest → ¬ Has word 10 → privilege_of word ≡ None → NeverBecomes privilege_then Anything text
-no_privilege text word rest w n h = other_word privilege_word 10 text word rest w n privilege_plain (λ p e. none-some p (sym h ∙ ap privilege_of e ∙ privilege_read p))
-
--- a word, its end, and what stands behind
-pub word_ended : (text word rest spelt : List ℕ) (e : ℕ) → text ≡ word ++ e ∷ rest → word ≡ spelt → text ≡ (spelt ++ e ∷ []) ++ rest
-word_ended text word rest spelt e w q = w ∙ ap (λ (l : List ℕ). l ++ e ∷ rest) q ∙ sym (append_assoc spelt (e ∷ []) rest)
+-- none is left that was not tried
+pub all_tried : {X : Type 0} (text_of : X → List ℕ) (all : List X) (i : ℕ) (bytes : List ℕ) (s : Stop) → length all ≤ i → ((it : X) → Has all it) → IsStop text_of (Has (take i all)) bytes s → IsStop text_of Anything bytes s
+all_tried {X} text_of all i bytes stop.Short l h f = record { it = f.it; can = tt; more = f.more; some = f.some; whole = f.whole }
+all_tried {X} text_of all i bytes stop.Bad l h f = λ x more rest c e. f x more rest (subst (λ (xs : List X). Has xs x) (sym (take_all i all l)) (h x)) e
+all_tried {X} text_of all i bytes stop.Memory l h f = tt
 
 -- a word stands in front of each text
 pub front_stops : {X : Type 0} (front : List ℕ) (part : X → List ℕ) (Can : X → Type 0) (bytes : List ℕ) (s : Stop) (x : X) → Can x

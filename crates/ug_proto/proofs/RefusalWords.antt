@@ -1,5 +1,5 @@
 -- The words of a refusal are those of no other, and no newline is among them.
-use Rattle.std.proofs.Common.{◌≡◌, ℕ, ◌<◌, ◌^◌, inl, inr, Bool, true, false, cond, nat_eq, List, [], ◌∷◌, ◌++◌, get_or, Option, Some, None, refl, sym, ap, ◌∙◌, arith}
+use Rattle.std.proofs.Common.{◌≡◌, ℕ, ◌<◌, ◌^◌, inl, inr, Bool, true, false, cond, nat_eq, List, [], ◌∷◌, ◌++◌, Option, Some, None, refl, sym, ap, ◌∙◌, arith}
 use Rattle.std.specs.Prelude.{codes, decimal, if◌then◌else◌}
 use Rattle.std.specs.Cmp.Lexicographic.{pointwise}
 use Rattle.std.specs.Option.{option_map}
@@ -10,7 +10,7 @@ use Rattle.std.proofs.lemmas.Option.{same_Some}
 use Rattle.std.proofs.lemmas.Str.Parse.{digit_from_value}
 use Rattle.ug_types.specs.Access.{section_word, privilege_word, section_of, privilege_of}
 use Rattle.ug_types.specs.Elements.{Has}
-use Rattle.ug_types.specs.Refusals.{refusal_words}
+use Rattle.ug_types.specs.Refusals.{refusal_words, IsRefusal}
 use Rattle.ug_types.specs.declared.access.Section.{Section}
 use Rattle.ug_types.specs.declared.access.Section.TheVariants.{Devices, Policy, Exceptions, Parameters}
 use Rattle.ug_types.specs.declared.access.Privilege.{Privilege}
@@ -18,7 +18,6 @@ use Rattle.ug_types.specs.declared.access.Privilege.TheVariants as privilege
 use Rattle.ug_types.specs.declared.refusal.Refusal.{Refusal}
 use Rattle.ug_types.specs.declared.refusal.Refusal.TheVariants as refusal
 use Rattle.ug_proto.specs.Numbers.{number_in}
-use Rattle.ug_proto.specs.Replies.{IsRefusal}
 use Rattle.ug_proto.specs.Requests.{behind_next}
 use Rattle.ug_proto.specs.Splitting.{first_word, behind_word}
 use Rattle.ug_proto.proofs.Numerals.{is_number, decimal_plain, decimal_digits}
@@ -187,21 +186,3 @@ refusal_guessed (refusal.ProbeFault count) h = one_guessed refusal.ProbeFault co
 
 pub one_refusal : (a b : Refusal) → IsRefusal a → IsRefusal b → refusal_words a ≡ refusal_words b → a ≡ b
 one_refusal a b h k e = same_Some a b (sym (refusal_guessed a h) ∙ ap guessed e ∙ refusal_guessed b k)
-
--- a refusal begins with the letter r
-pub first_letter : (r : Refusal) (more : List ℕ) → get_or (refusal_words r ++ more) 0 0 ≡ 114
-unfolding refusal_words
-first_letter (refusal.BadRequest place) more = refl
-first_letter (refusal.Denied section p) more = refl
-first_letter (refusal.BadRule kind place) more = refl
-first_letter (refusal.NoDevice number) more = refl
-first_letter (refusal.NoRule id) more = refl
-first_letter refusal.BadParameter more = refl
-first_letter refusal.BadValue more = refl
-first_letter (refusal.MalformedDevice number) more = refl
-first_letter refusal.RulesFull more = refl
-first_letter (refusal.StoreFault count) more = refl
-first_letter (refusal.DeviceFault call count) more = refl
-first_letter (refusal.Memory false) more = refl
-first_letter (refusal.Memory true) more = refl
-first_letter (refusal.ProbeFault count) more = refl

@@ -1,12 +1,8 @@
 -- The first word of a text, and what stands behind.
-use Rattle.std.proofs.Common.{◌≡◌, ℕ, ◌⊎◌, inl, inr, Bool, true, false, nat_eq, List, [], ◌∷◌, ◌++◌, length, take, drop, refl, sym, ap, ◌∙◌, arith}
+use Rattle.std.proofs.Common.{◌≡◌, ℕ, inl, inr, Bool, true, false, nat_eq, List, [], ◌∷◌, ◌++◌, length, take, drop, refl, sym, ap, ◌∙◌, arith}
 use Rattle.std.proofs.lemmas.Bool.Decides.{nat_tests}
 use Rattle.ug_types.specs.Elements.{Has}
-use Rattle.ug_proto.specs.Splitting.{first_word, behind_word}
-
--- nothing, or a space and more
-abbrev pub IsRest : List ℕ → Type 0
-IsRest rest = (rest ≡ []) ⊎ ((text : List ℕ) × (rest ≡ 32 ∷ text))
+use Rattle.ug_proto.specs.Splitting.{first_word, behind_word, IsRest}
 
 pub tested : (b : ℕ) → ¬ (b ≡ 32) → nat_eq b 32 ≡ false
 tested b h = grind (arith, nat_tests)

@@ -1,4 +1,5 @@
 pub mod AnswerParts
+pub mod BadRequests
 pub mod Begun
 pub mod Frames
 pub mod Lines

@@ -1,15 +1,11 @@
 -- The words of a refusal behind `refused`: its number, and what stands behind.
-use Rattle.std.specs.Prelude.{◌≡◌, ℕ, ◌≤◌, Bool, true, false, nat_eq, if◌then◌else◌, List, [], ◌∷◌, ◌++◌, length, take, codes, decimal}
-use Rattle.std.specs.Cmp.Lexicographic.{pointwise}
+use Rattle.std.specs.Prelude.{◌≡◌, ℕ, ◌≤◌, Bool, true, false, List, [], ◌∷◌, ◌++◌, codes, decimal}
 use Rattle.ug_types.specs.Access.{section_word, privilege_word}
 use Rattle.ug_types.specs.declared.access.Section.{Section}
-use Rattle.ug_types.specs.declared.access.Section.TheVariants.{Devices, Policy, Exceptions, Parameters}
 use Rattle.ug_types.specs.declared.access.Privilege.{Privilege}
-use Rattle.ug_types.specs.declared.access.Privilege.TheVariants as privilege
 use Rattle.ug_types.specs.declared.refusal.Refusal.{Refusal}
 use Rattle.ug_types.specs.declared.refusal.Refusal.TheVariants as refusal
-use Rattle.ug_types.specs.Refusals.{refusal_words}
-use Rattle.ug_proto.specs.Replies.{IsRefusal}
+use Rattle.ug_types.specs.Refusals.{refusal_words, IsRefusal}
 
 -- a number, and the byte that ends it
 abbrev pub number_then : ℕ → ℕ → List ℕ
@@ -21,11 +17,15 @@ named_number name n = name ++ number_then 10 n
 abbrev pub named_numbers : List ℕ → ℕ × ℕ → List ℕ
 named_numbers name numbers = name ++ (number_then 32 numbers.0 ++ number_then 10 numbers.1)
 
+-- a word, and the byte that ends it
+abbrev pub spelled_then : {X : Type 0} → (X → List ℕ) → ℕ → X → List ℕ
+spelled_then word_of end it = word_of it ++ end ∷ []
+
 abbrev pub section_then : Section → List ℕ
-section_then section = section_word section ++ 32 ∷ []
+section_then = spelled_then section_word 32
 
 abbrev pub privilege_then : Privilege → List ℕ
-privilege_then privilege = privilege_word privilege ++ 10 ∷ []
+privilege_then = spelled_then privilege_word 10
 
 abbrev pub denied_pair : Section × Privilege → List ℕ
 denied_pair pair = section_then pair.0 ++ privilege_then pair.1
@@ -36,23 +36,6 @@ denial_text pair = codes "denied " ++ denied_pair pair
 -- what has no numbers
 abbrev pub Anything : {X : Type 0} → X → Type 0
 Anything x = Unit {0}
-
--- the word begins so
-abbrev pub begins_word : List ℕ → List ℕ → Bool
-begins_word text word = pointwise nat_eq text (take (length text) word)
-
-abbrev pub begins_section : List ℕ → Bool
-begins_section text =
-    if begins_word text (section_word Devices) then true else
-    if begins_word text (section_word Policy) then true else
-    if begins_word text (section_word Exceptions) then true else
-    begins_word text (section_word Parameters)
-
-abbrev pub begins_privilege : List ℕ → Bool
-begins_privilege text =
-    if begins_word text (privilege_word privilege.Modify) then true else
-    if begins_word text (privilege_word privilege.List) then true else
-    begins_word text (privilege_word privilege.Listen)
 
 abbrev pub IsNumberIn : ℕ → ℕ → ℕ → Type 0
 IsNumberIn least most n = (least ≤ n) × (n ≤ most)

@@ -1,9 +1,7 @@
 -- Replies as they are written.
 use Rattle.std.specs.Prelude.{ℕ, ◌<◌, ◌^◌, List, [], ◌∷◌, ◌++◌, length, codes, decimal}
 use Rattle.ug_types.specs.Elements.{Has}
-use Rattle.ug_types.specs.declared.refusal.Refusal.{Refusal}
-use Rattle.ug_types.specs.declared.refusal.Refusal.TheVariants as refusal
-use Rattle.ug_types.specs.Refusals.{refusal_words}
+use Rattle.ug_types.specs.Refusals.{refusal_words, IsRefusal}
 use Rattle.ug_proto.specs.declared.reply.Reply.{Reply}
 use Rattle.ug_proto.specs.declared.reply.Reply.TheVariants.{Lines, Refused}
 
@@ -20,22 +18,6 @@ reply_text (Refused refusal) = refusal_words refusal ++ 10 ∷ []
 abbrev pub AreWholeLines : List (List ℕ) → Type 0
 AreWholeLines [] = Unit {0}
 AreWholeLines (line ∷ lines) = (¬ Has line 10) × AreWholeLines lines
-
--- the numbers that a refusal can have
-abbrev pub IsRefusal : Refusal → Type 0
-IsRefusal (refusal.BadRequest place) = place < 2 ^ 64
-IsRefusal (refusal.Denied section privilege) = Unit {0}
-IsRefusal (refusal.BadRule kind place) = (kind < 256) × (place < 2 ^ 64)
-IsRefusal (refusal.NoDevice number) = number < 2 ^ 64
-IsRefusal (refusal.NoRule id) = id < 2 ^ 64
-IsRefusal refusal.BadParameter = Unit {0}
-IsRefusal refusal.BadValue = Unit {0}
-IsRefusal (refusal.MalformedDevice number) = number < 2 ^ 64
-IsRefusal refusal.RulesFull = Unit {0}
-IsRefusal (refusal.StoreFault count) = count < 2 ^ 64
-IsRefusal (refusal.DeviceFault call count) = (call < 2 ^ 64) × (count < 2 ^ 64)
-IsRefusal (refusal.Memory stands) = Unit {0}
-IsRefusal (refusal.ProbeFault count) = count < 2 ^ 64
 
 -- the values that a reply can have
 abbrev pub IsReply : Reply → Type 0

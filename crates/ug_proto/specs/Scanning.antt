@@ -24,3 +24,9 @@ abbrev pub IsStop : {X : Type 0} → (X → List ℕ) → (X → Type 0) → Lis
 IsStop text_of Can bytes stop.Short = IsTextBegun text_of Can bytes
 IsStop text_of Can bytes stop.Bad = NeverBecomes text_of Can bytes
 IsStop text_of Can bytes stop.Memory = Unit {0}
+
+-- why neither of two texts stands in front
+abbrev pub neither : Stop → Stop → Stop
+neither first stop.Bad = first
+neither first stop.Short = stop.Short
+neither first stop.Memory = stop.Memory

@@ -1,5 +1,5 @@
 -- Words with one space between.
-use Rattle.std.specs.Prelude.{◌≢◌, ℕ, nat_eq, if◌then◌else◌, List, [], ◌∷◌}
+use Rattle.std.specs.Prelude.{◌≡◌, ◌≢◌, ℕ, ◌⊎◌, nat_eq, if◌then◌else◌, List, [], ◌∷◌}
 use Rattle.ug_types.specs.Elements.{Has}
 
 -- the word that a text begins with, which may be empty
@@ -15,3 +15,7 @@ behind_word (b ∷ bytes) = if nat_eq b 32 then b ∷ bytes else behind_word byt
 -- at least one byte, and no space
 abbrev pub IsPlainWord : List ℕ → Type 0
 IsPlainWord word = (word ≢ []) × (¬ Has word 32)
+
+-- nothing, or a space and more
+abbrev pub IsRest : List ℕ → Type 0
+IsRest rest = (rest ≡ []) ⊎ ((text : List ℕ) × (rest ≡ 32 ∷ text))

@@ -1,5 +1,7 @@
 // What requests and replies mean.
 ghost use Rattle.std.specs.Prelude.{◌≡◌, ◌++◌, ◌↔◌, ◌≢◌, [], ℕ, List, Option, Result, Ok, Err};
+ghost use Rattle.ug_audit.specs.Lines.{entry_line};
+ghost use Rattle.ug_proto.specs.BadRequests.{IsBadRequest};
 ghost use Rattle.ug_proto.specs.Replies.{reply_text, IsReply};
 ghost use Rattle.ug_proto.specs.Lines.{Begun, Partial, Overlong, lines_ended_in, begun_after, stream_lines, IsCutInto, IsOverlong};
 ghost use Rattle.ug_proto.specs.ReplyReading.{ReadsReply};
@@ -9,17 +11,27 @@ ghost use Rattle.ug_proto.specs.Texts.{request_text, IsRequest};
 
 use crate::reply::{Reply, ReplyFault};
 use crate::request::Request;
+use ug_audit::Entry;
 
-/// A line reads as a request exactly where it is that request's text, and the request is one that can be written.
+/// A line reads as a request exactly where it is that request's text, and the request is one that can be written. It is bad at a
+/// place exactly where the first word with which no request goes on begins there, or it ends there and a word is missing.
 pub fn requests_law()
-    ensures { (line : List ℕ) (r : Request) → (request_read line ≡ Ok r)
+    ensures good { (line : List ℕ) (r : Request) → (request_read line ≡ Ok r)
         ↔ ((line ≡ request_text r) × IsRequest r) }
+    ensures bad { (line : List ℕ) (place : ℕ) → (request_read line ≡ Err place)
+        ↔ IsBadRequest line place }
 {}
 
 /// No reply's text begins with that of another, so no two have one text, and a reader knows where each ends.
 pub fn replies_law()
     ensures { (a b : Reply) (more : List ℕ) → IsReply a → IsReply b
         → reply_text a ++ more ≡ reply_text b → (a ≡ b) × (more ≡ []) }
+{}
+
+/// A line of the journal and a reply differ at a byte that both have, so neither is the other or begins it.
+pub fn entries_law()
+    ensures { (entry : Entry) (reply : Reply) (more rest : List ℕ)
+        → entry_line entry ++ more ≡ reply_text reply ++ rest → ⊥ }
 {}
 
 /// A text reads in one way: it begins with the text of that one reply, or more of a reply is to come, or neither.

@@ -10,12 +10,15 @@ mod read;
 mod reply;
 mod request;
 mod scan;
+mod spelled;
 mod split;
 #[cfg(test)]
 mod tests;
 
 pub use framer::{FrameFault, Framer};
-pub use laws::{in_any_pieces, lines_in_one_way, one_reading_law, replies_law, requests_law};
+pub use laws::{
+    entries_law, in_any_pieces, lines_in_one_way, one_reading_law, replies_law, requests_law,
+};
 pub use parse::parse_reply;
 pub use print::{print_reply, print_request};
 pub use read::parse_request;

@@ -1,90 +1,28 @@
 // Replies from their texts.
 ghost use Rattle.std.specs.Prelude.{◌≡◌, ◌++◌, ◌∷◌, [], ◌≤◌, ℕ, List, length, IfOk, IfErr, IfSome, IfNone, codes};
-ghost use Rattle.ug_types.specs.Access.{section_word, privilege_word};
 ghost use Rattle.ug_types.specs.Elements.{Has};
 ghost use Rattle.ug_proto.specs.Scanning.{IsTextThen, IsStop};
-ghost use Rattle.ug_proto.specs.RefusalParts.{IsNumberIn, named_number, named_numbers, IsPairIn, section_then, privilege_then, begins_section, begins_privilege, denial_text, refusal_rest, refusal_line, IsNumbered, Anything};
+ghost use Rattle.ug_proto.specs.RefusalParts.{IsNumberIn, named_number, named_numbers, IsPairIn, denial_text, refusal_rest, refusal_line, IsNumbered, Anything};
 ghost use Rattle.ug_proto.specs.AnswerParts.{IsUnended, AreLinesOf, answer_text, IsAnswer};
-ghost use Rattle.ug_proto.specs.Replies.{IsRefusal, ended_lines, reply_text, IsReply};
+ghost use Rattle.ug_proto.specs.Replies.{ended_lines, reply_text, IsReply};
+ghost use Rattle.ug_types.specs.Refusals.{IsRefusal};
 ghost use Rattle.ug_proto.specs.ReplyReading.{ReadsReply};
 
 use crate::reply::{Reply, ReplyFault};
 use crate::scan::{Stop, split_at, take_number, take_word};
+use crate::spelled::take_spelled;
 use std::alloc::Global;
 use ug_types::{List, Privilege, Refusal, Section, Text};
 
 const MAX: u64 = 18446744073709551615;
-
-fn begins_section(text: &[u8]) -> bool
-    ensures { result ≡ begins_section text.now }
-{
-    if Section::Devices.word().starts_with(text) {
-        return true;
-    }
-    if Section::Policy.word().starts_with(text) {
-        return true;
-    }
-    if Section::Exceptions.word().starts_with(text) {
-        return true;
-    }
-    Section::Parameters.word().starts_with(text)
-}
-
-fn take_section(text: &[u8]) -> Result<(Section, &[u8]), Stop>
-    ensures ok { IfOk result (λ p. IsTextThen section_then Anything text.now p.0 p.1.now) }
-    ensures err { IfErr result (λ stop. IsStop section_then Anything text.now stop) }
-{
-    match split_at(text, b' ') {
-        Some((word, rest)) => match Section::named(word) {
-            Some(section) => Ok((section, rest)),
-            None => Err(Stop::Bad),
-        },
-        None => {
-            if begins_section(text) {
-                return Err(Stop::Short);
-            }
-            Err(Stop::Bad)
-        }
-    }
-}
-
-fn begins_privilege(text: &[u8]) -> bool
-    ensures { result ≡ begins_privilege text.now }
-{
-    if Privilege::Modify.word().starts_with(text) {
-        return true;
-    }
-    if Privilege::List.word().starts_with(text) {
-        return true;
-    }
-    Privilege::Listen.word().starts_with(text)
-}
-
-fn take_privilege(text: &[u8]) -> Result<(Privilege, &[u8]), Stop>
-    ensures ok { IfOk result (λ p. IsTextThen privilege_then Anything text.now p.0 p.1.now) }
-    ensures err { IfErr result (λ stop. IsStop privilege_then Anything text.now stop) }
-{
-    match split_at(text, b'\n') {
-        Some((word, rest)) => match Privilege::named(word) {
-            Some(privilege) => Ok((privilege, rest)),
-            None => Err(Stop::Bad),
-        },
-        None => {
-            if begins_privilege(text) {
-                return Err(Stop::Short);
-            }
-            Err(Stop::Bad)
-        }
-    }
-}
 
 fn take_denial(text: &[u8]) -> Result<(Section, Privilege, &[u8]), Stop>
     ensures ok { IfOk result (λ p. IsTextThen denial_text Anything text.now (p.0, p.1) p.2.now) }
     ensures err { IfErr result (λ stop. IsStop denial_text Anything text.now stop) }
 {
     let rest = take_word(text, b"denied ")?;
-    let (section, rest) = take_section(rest)?;
-    let (privilege, rest) = take_privilege(rest)?;
+    let (section, rest) = take_spelled(rest, b' ')?;
+    let (privilege, rest) = take_spelled(rest, b'\n')?;
     Ok((section, privilege, rest))
 }
 

@@ -8,7 +8,7 @@ ghost use Rattle.ug_script.specs.Replay.{terminated, lines_text};
 use std::alloc::Global;
 use ug_core::{Entry, Fault, line_of};
 use ug_lines::Ran;
-use ug_types::{NoMemory, Put, Sink};
+use ug_types::{NoMemory, Put, Refusal, Saved, Sink};
 
 fn push_line(text: &mut Vec<u8>, entry: &Entry) -> Result<(), NoMemory>
     ensures { OnOk result (text.new.items ≡ text.old.items ++ terminated entry.now) }
@@ -36,6 +36,8 @@ fn entry_tells_memory(entry: &Entry) -> bool
         Entry::Unsettled { fault, .. } | Entry::UnsettledAll { fault } => {
             matches!(fault, Fault::Memory)
         }
+        Entry::Save(saved) => matches!(saved, Saved::Memory),
+        Entry::Reply(Err(refusal)) => matches!(refusal, Refusal::Memory { .. }),
         _ => false,
     }
 }

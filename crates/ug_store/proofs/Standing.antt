@@ -9,8 +9,8 @@ use Rattle.ug_store.specs.History.{StoreStep, Saves_text, Reads_text, StoreSteps
 use Rattle.ug_store.proofs.Saving.{write_keeps, sync_keeps}
 use Rattle.ug_store.specs.declared.disk.DiskAnswer.{DiskAnswer}
 use Rattle.ug_store.specs.declared.disk.DiskAnswer.TheVariants as answer
-use Rattle.ug_store.specs.declared.store.Saved.{Saved}
-use Rattle.ug_store.specs.declared.store.Saved.TheVariants as saved
+use Rattle.ug_types.specs.declared.saved.Saved.{Saved}
+use Rattle.ug_types.specs.declared.saved.Saved.TheVariants as saved
 
 none_more : (steps : List StoreStep) (step : StoreStep) → NoneDone steps → (IsDoneSaving step → ⊥) → NoneDone (steps ++ step ∷ [])
 none_more steps step none isnt s has done = elim (has_cases steps (step ∷ []) s has) [

@@ -4,8 +4,8 @@ use Rattle.ug_types.specs.Elements.{Has}
 use Rattle.ug_store.specs.DiskCalls.{DiskCall, DiskTold}
 use Rattle.ug_store.specs.Disk.{Disk, Images, Texts, IsImage, inside, DiskCalled}
 use Rattle.ug_store.specs.Store.{HasSaved, HasRecovered}
-use Rattle.ug_store.specs.declared.store.Saved.{Saved}
-use Rattle.ug_store.specs.declared.store.Saved.TheVariants as saved
+use Rattle.ug_types.specs.declared.saved.Saved.{Saved}
+use Rattle.ug_types.specs.declared.saved.Saved.TheVariants as saved
 use Rattle.ug_store.specs.declared.store.RecoverFault.{RecoverFault}
 
 -- what was done with the rule file, and how it went

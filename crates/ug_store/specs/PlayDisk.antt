@@ -2,8 +2,8 @@
 use Rattle.std.specs.Prelude.{◌≡◌, true, ◌⊎◌, ℕ, List, Result, Err}
 use Rattle.ug_store.specs.Store.{DiskProg, Ended, AskDisk, DiskRoom, RunsDisk, saving, recovering}
 use Rattle.ug_store.specs.Scripted.{DiskWorld, disk_answer, MemKeeps}
-use Rattle.ug_store.specs.declared.store.Saved.{Saved}
-use Rattle.ug_store.specs.declared.store.Saved.TheVariants as saved
+use Rattle.ug_types.specs.declared.saved.Saved.{Saved}
+use Rattle.ug_types.specs.declared.saved.Saved.TheVariants as saved
 use Rattle.ug_store.specs.declared.store.RecoverFault.{RecoverFault}
 use Rattle.ug_store.specs.declared.store.RecoverFault.TheVariants as fault
 

@@ -11,7 +11,8 @@ pub use disk::{DiskAnswer, Loaded, RuleDisk};
 pub use laws::{history_law, mishap_law, moment_law, play_disk_law, run_out_law};
 pub use mem_disk::MemDisk;
 pub use mishap::Mishap;
-pub use store::{RecoverFault, Saved, Store};
+pub use store::{RecoverFault, Store};
+pub use ug_types::Saved;
 
 #[cfg(test)]
 mod tests;

@@ -7,16 +7,7 @@ ghost use Rattle.ug_store.specs.Store.{RunsDisk, saving, Saves, TellsSaveFault, 
 use crate::disk::{DiskAnswer, Loaded, RuleDisk};
 use std::alloc::Global;
 use std::marker::Model;
-use ug_types::Text;
-
-/// What became of a save.
-#[derive(Clone, Copy, Debug, PartialEq, Eq)]
-pub enum Saved {
-    Done,
-    /// A call failed; the disk's count of faults after it.
-    Failed(u64),
-    Memory,
-}
+use ug_types::{Saved, Text};
 
 /// Why the rule file wasn't read.
 #[derive(Clone, Copy, Debug, PartialEq, Eq)]

@@ -3,7 +3,8 @@ use crate::disk::{Loaded, RuleDisk};
 use crate::laws::{history_law, moment_law};
 use crate::mem_disk::MemDisk;
 use crate::mishap::Mishap;
-use crate::store::{RecoverFault, Saved, Store};
+use crate::store::{RecoverFault, Store};
+use ug_types::Saved;
 
 #[test]
 fn a_save_stands(rt: HostRuntime) {

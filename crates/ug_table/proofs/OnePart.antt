@@ -79,6 +79,7 @@ last_more : (name : List ℕ) (es fs : List Entry) → whys es ≡ [] → EndsUn
 last_more name [] fs w a h = h
 last_more name (entry.Unsettled other why ∷ es) fs w a h = let none : ⊥ = cc in absurd none
 last_more name (entry.UnsettledAll why ∷ es) fs w a h = absurd a.0
+last_more name (entry.Reply answered ∷ es) fs w a h = absurd a.0
 last_more name (e ∷ es) fs w a h = (tt, last_more name es fs w a.1 h)
 
 pub given_more : (es fs : List Entry)

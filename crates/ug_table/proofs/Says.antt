@@ -259,10 +259,11 @@ NamesOnly name (entry.Unsettled n why) = n ≡ name
 NamesOnly name (entry.UnsettledAll why) = ⊥
 NamesOnly name e = Unit {0}
 
--- it names none
+-- it names none, and is no reply
 abbrev pub NamesNone : Entry → Type 0
 NamesNone (entry.Unsettled n why) = ⊥
 NamesNone (entry.UnsettledAll why) = ⊥
+NamesNone (entry.Reply answered) = ⊥
 NamesNone e = Unit {0}
 
 pub none_named : (es : List Entry) (name : List ℕ) → Each NamesNone es → IsNamed es name → ⊥

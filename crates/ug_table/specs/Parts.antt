@@ -1,11 +1,13 @@
 -- A sweep's calls, in parts: the listing, and a part for each name; and which failed calls its `unsettled` entries tell.
-use Rattle.std.specs.Prelude.{◌≡◌, ℕ, ◌+◌, length, ◌^◌, ◌<◌, ◌≤◌, Bool, true, false, not, map, List, [], ◌∷◌, ◌++◌, Option, Some, None, ◌⊎◌, if◌then◌else◌, nat_eq}
+use Rattle.std.specs.Prelude.{◌≡◌, ℕ, ◌+◌, length, ◌^◌, ◌<◌, ◌≤◌, Bool, true, false, not, map, List, [], ◌∷◌, ◌++◌, Option, Some, None, Result, Err, ◌⊎◌, if◌then◌else◌, nat_eq}
 use Rattle.std.specs.List.{filter}
 use Rattle.ug_types.specs.Elements.{Has, AllDistinct}
 use Rattle.ug_types.specs.Names.{parent_of}
 use Rattle.ug_types.specs.Sweep.{in_sweep_order}
 use Rattle.ug_types.specs.declared.control.Control.{Control}
 use Rattle.ug_types.specs.declared.control.Control.TheVariants.{Authorized, Remove}
+use Rattle.ug_types.specs.declared.refusal.Refusal.{Refusal}
+use Rattle.ug_types.specs.declared.refusal.Refusal.TheVariants as refusal
 use Rattle.ug_types.specs.declared.control.Write.{Write}
 use Rattle.ug_types.specs.declared.control.Write.TheVariants as write
 use Rattle.ug_kernel.specs.declared.calls.Listing.{Listing}
@@ -37,9 +39,16 @@ abbrev pub told_by : Fault → List FailedCall
 told_by (fault.Call failed) = failed ∷ []
 told_by fault.Memory = []
 
+-- The failed call that a reply tells: one behind the order's probe, or that probe, which is the first call of its event.
+abbrev pub told_in_reply : Result (Unit {0}) Refusal → List FailedCall
+told_in_reply (Err (refusal.DeviceFault call count)) = record { call = call; count = count } ∷ []
+told_in_reply (Err (refusal.ProbeFault count)) = record { call = 1; count = count } ∷ []
+told_in_reply answered = []
+
 abbrev pub failure_in : Entry → List FailedCall
 failure_in (entry.Unsettled name why) = told_by why
 failure_in (entry.UnsettledAll why) = told_by why
+failure_in (entry.Reply answered) = told_in_reply answered
 failure_in e = []
 
 -- the failed calls that entries tell, in their order
@@ -196,10 +205,11 @@ abbrev pub TellsWrites : List ℕ → List PutMade → List Entry → Type 0
 TellsWrites name [] es = es ≡ []
 TellsWrites name (p ∷ ps) es = (number : ℕ) × (rest : List Entry) × (es ≡ wrote_entries number name p.write p.outcome ++ rest) × TellsWrites name ps rest
 
--- an `unsettled` entry bears the name, and is the last
+-- an `unsettled` entry bears the name, and is the last; and none is a reply
 abbrev pub IsLast : List ℕ → Entry → List Entry → Type 0
 IsLast name (entry.Unsettled other why) rest = (other ≡ name) × (rest ≡ [])
 IsLast name (entry.UnsettledAll why) rest = ⊥
+IsLast name (entry.Reply answered) rest = ⊥
 IsLast name e rest = Unit {0}
 
 abbrev pub EndsUnsettled : List ℕ → List Entry → Type 0
@@ -213,9 +223,7 @@ Bears name (entry.Intent number other what) = other ≡ name
 Bears name (entry.Wrote number other what outcome) = other ≡ name
 Bears name (entry.Gone number other) = other ≡ name
 Bears name (entry.Unsettled other why) = other ≡ name
-Bears name (entry.UnsettledAll why) = ⊥
-Bears name (entry.Event number moment) = ⊥
-Bears name (entry.End number) = ⊥
+Bears name e = ⊥
 
 abbrev pub AllBear : List ℕ → List Entry → Type 0
 AllBear name [] = Unit {0}

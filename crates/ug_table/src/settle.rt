@@ -57,6 +57,18 @@ fn keep(standings: &mut Vec<Standing>, standing: Standing, settled: Settled)
     }
 }
 
+fn entry_of(s: &Standing) -> Entry
+    ensures { result ≡ Entry.Judged s.now.number s.now.name s.now.held s.now.verdict s.now.cause }
+{
+    Entry::Judged {
+        number: s.number,
+        name: s.name,
+        held: s.held,
+        verdict: s.verdict,
+        cause: s.cause,
+    }
+}
+
 /// Notes how a standing was settled.
 fn remember(standings: &mut Vec<Standing>, name: &NodeName, settled: Settled)
     ensures standings { standings.new.items ≡ tried_standings standings.old.items name.now settled }
@@ -139,13 +151,7 @@ impl Table {
             settled: false,
             removed: false,
         };
-        out.push(Entry::Judged {
-            number,
-            name: *name,
-            held,
-            verdict,
-            cause,
-        });
+        out.push(entry_of(&standing));
         let settled = bring(alloc, sysfs, name, known_of(&standing), bound.on, out);
         keep(&mut self.standings, standing, settled);
         settled

@@ -26,6 +26,10 @@ abbrev pub principal_of : List ℕ → Option Named
 principal_of [] = None
 principal_of (b ∷ bytes) = if nat_eq b 58 then principal_named true bytes else principal_named false (b ∷ bytes)
 
+-- as it is written
+abbrev pub principal_text : Named → List ℕ
+principal_text p = if p.group then 58 ∷ p.name else p.name
+
 -- of one kind, and by one name
 abbrev pub same_principal : Named → Named → Bool
 same_principal = eq_of_both (on (λ p. p.group) beq) (on (λ p. p.name) (pointwise nat_eq))

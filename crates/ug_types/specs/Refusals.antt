@@ -1,5 +1,5 @@
 -- The words of a refusal: usbguard's own wire text, behind the reply's first word.
-use Rattle.std.specs.Prelude.{ℕ, true, false, List, ◌∷◌, ◌++◌, codes, decimal}
+use Rattle.std.specs.Prelude.{ℕ, ◌<◌, ◌^◌, true, false, List, ◌∷◌, ◌++◌, codes, decimal}
 use Rattle.ug_types.specs.Access.{section_word, privilege_word}
 use Rattle.ug_types.specs.declared.refusal.Refusal.{Refusal}
 use Rattle.ug_types.specs.declared.refusal.Refusal.TheVariants as refusal
@@ -19,3 +19,19 @@ refusal_words (refusal.DeviceFault call count) = codes "refused 11 device-fault 
 refusal_words (refusal.Memory false) = codes "refused 12 memory 0"
 refusal_words (refusal.Memory true) = codes "refused 12 memory 1"
 refusal_words (refusal.ProbeFault count) = codes "refused 13 probe-fault " ++ decimal count
+
+-- the numbers that a refusal can have
+abbrev pub IsRefusal : Refusal → Type 0
+IsRefusal (refusal.BadRequest place) = place < 2 ^ 64
+IsRefusal (refusal.Denied section privilege) = Unit {0}
+IsRefusal (refusal.BadRule kind place) = (kind < 256) × (place < 2 ^ 64)
+IsRefusal (refusal.NoDevice number) = number < 2 ^ 64
+IsRefusal (refusal.NoRule id) = id < 2 ^ 64
+IsRefusal refusal.BadParameter = Unit {0}
+IsRefusal refusal.BadValue = Unit {0}
+IsRefusal (refusal.MalformedDevice number) = number < 2 ^ 64
+IsRefusal refusal.RulesFull = Unit {0}
+IsRefusal (refusal.StoreFault count) = count < 2 ^ 64
+IsRefusal (refusal.DeviceFault call count) = (call < 2 ^ 64) × (count < 2 ^ 64)
+IsRefusal (refusal.Memory stands) = Unit {0}
+IsRefusal (refusal.ProbeFault count) = count < 2 ^ 64

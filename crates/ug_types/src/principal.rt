@@ -2,11 +2,12 @@
 ghost use Rattle.std.specs.Prelude.{◌≡◌, ◌≤◌, IsTrue, length, true};
 ghost use Rattle.std.specs.List.{list_all};
 ghost use Rattle.ug_types.specs.Principals as principals;
-ghost use Rattle.ug_types.specs.Principals.{is_name, principal_of, principal_named, same_principal};
+ghost use Rattle.ug_types.specs.Principals.{is_name, principal_of, principal_named, principal_text, same_principal};
 ghost use Rattle.std.proofs.Common.{rules};
 ghost use Rattle.std.specs.Cmp as Cmp;
 ghost use Rattle.std.specs.Cmp.Rules.{comparing};
 
+use crate::line::Line;
 use std::marker::Model;
 
 /// A user or a group, by a name of 1 to 32 ASCII letters, digits, `_`, `-` and `.`.
@@ -104,9 +105,23 @@ impl Principal {
 
     /// The name, without the `:` of a group.
     pub fn name(&self) -> &[u8]
-        ensures { result.now ≡ self.now.name }
+        ensures name { result.now ≡ self.now.name }
+        ensures short { length result.now ≤ 32 }
     {
         &self.bytes[..self.len as usize]
+    }
+
+    /// The name, behind `:` where it is that of a group. It takes no memory.
+    pub fn text(&self) -> Line
+        ensures text { result ≡ principal_text self.now }
+        ensures length { length result ≤ 33 }
+    {
+        let mut line = Line::new();
+        if self.is_group() {
+            line.push(b":");
+        }
+        line.push(self.name());
+        line
     }
 }
 

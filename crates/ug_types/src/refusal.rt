@@ -78,7 +78,8 @@ fn with_number(words: &[u8], number: u64) -> Line
 // The same with one more number.
 fn with_numbers(words: &[u8], first: u64, second: u64) -> Line
     requires { length words.now ≤ 40 }
-    ensures { result ≡ words.now ++ (decimal first ++ 32 ∷ decimal second) }
+    ensures text { result ≡ words.now ++ (decimal first ++ 32 ∷ decimal second) }
+    ensures length { length result ≤ 81 }
 {
     let mut digits = Buffer::new();
     let mut line = with_number(words, first);
@@ -89,7 +90,8 @@ fn with_numbers(words: &[u8], first: u64, second: u64) -> Line
 
 fn alone(words: &[u8]) -> Line
     requires { length words.now ≤ 40 }
-    ensures { result ≡ words.now }
+    ensures text { result ≡ words.now }
+    ensures length { length result ≤ 40 }
 {
     let mut line = Line::new();
     line.push(words);
@@ -98,7 +100,8 @@ fn alone(words: &[u8]) -> Line
 
 #[tactic(auto, unfolding(crate::specs::Refusals::refusal_words))]
 fn denied(section: Section, privilege: Privilege) -> Line
-    ensures { result ≡ refusal_words (Refusal.Denied section privilege) }
+    ensures text { result ≡ refusal_words (Refusal.Denied section privilege) }
+    ensures length { length result ≤ 81 }
 {
     let mut line = alone(b"refused 2 denied ");
     line.push(section.word());
@@ -111,7 +114,8 @@ impl Refusal {
     /// The words from `refused` on, without a newline. It takes no memory.
     #[tactic(auto, unfolding(crate::specs::Refusals::refusal_words))]
     pub fn words(&self) -> Line
-        ensures { result ≡ refusal_words self.now }
+        ensures text { result ≡ refusal_words self.now }
+        ensures length { length result ≤ 81 }
     {
         match self {
             Refusal::BadRequest { place } => with_number(b"refused 1 bad-request ", *place),

@@ -1,4 +1,5 @@
 // Verdicts and their causes.
+use crate::principal::Principal;
 
 /// Seconds since 1970, from 0 to 250,000,000,000.
 #[derive(Clone, Copy, Debug, PartialEq, Eq)]
@@ -31,4 +32,6 @@ pub enum Cause {
     Inserted,
     /// Its descriptors could not be read as USB 2.0, chapter 9, says.
     Malformed { kind: u8, place: u64 },
+    /// An order of that user or group.
+    Order(Principal),
 }

@@ -1,0 +1,10 @@
+// What became of a save.
+
+/// What became of a save of the rule file.
+#[derive(Clone, Copy, Debug, PartialEq, Eq)]
+pub enum Saved {
+    Done,
+    /// A call failed; the disk's count of faults after it.
+    Failed(u64),
+    Memory,
+}
