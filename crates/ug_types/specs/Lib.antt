@@ -1,4 +1,5 @@
 pub mod Access
+pub mod Clocks
 pub mod Elements
 pub mod Ends
 pub mod Names
@@ -9,3 +10,6 @@ pub mod Principals
 pub mod Reading
 pub mod Refusals
 pub mod Sweep
+pub mod Telling
+pub mod Told
+pub mod Waits
