@@ -22,4 +22,6 @@ pub use sysfs::SysfsFolder;
 pub use waiter::SecondWaiter;
 
 #[cfg(test)]
+mod file_tests;
+#[cfg(test)]
 mod tests;
