@@ -8,3 +8,4 @@ pub mod SeenKeys
 pub mod Spacing
 pub mod Tables
 pub mod Words
+mod MemAnswers

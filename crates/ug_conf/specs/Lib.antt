@@ -1,8 +1,11 @@
+pub mod Distinct
 pub mod Draft
 pub mod Faults
+pub mod Files
 pub mod Grammar
 pub mod Keys
 pub mod Meaning
+pub mod MemFiles
 pub mod Names
 pub mod Reader
 pub mod Settings

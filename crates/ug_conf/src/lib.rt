@@ -4,18 +4,24 @@
 mod defaults;
 mod draft;
 mod fault;
+mod files;
 mod keys;
 mod laws;
+mod mem_files;
 mod names;
 mod reader;
 mod settings;
 mod texts;
+mod tree;
 mod values;
 
 pub use defaults::default_settings;
 pub use fault::{Fault, FaultKind, LineFault};
+pub use files::{ConfFiles, FileRead, FolderRead};
 pub use laws::{lines_law, one_meaning, reading_is_grammar};
+pub use mem_files::MemFiles;
 pub use reader::SettingsReader;
 pub use settings::{AuthDefault, Inserted, Present, Settings};
 pub use texts::parse_conf;
+pub use tree::{MemFile, MemFolder};
 pub use ug_types::Principal;

@@ -1,2 +1,3 @@
-pub mod Counting
+pub mod Added
 pub mod Apart
+pub mod Counting

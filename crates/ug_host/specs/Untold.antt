@@ -1,7 +1,6 @@
--- An object that tells no kernel.
+-- An object that tells nothing.
 use Rattle.std.proofs.Common.{◌≡◌, Some, None}
-use Rattle.ug_kernel.specs.Kernel.{Kernel}
 
--- whatever was said of a kernel that it tells
-pub untold : {X : Type 0} (l : Kernel) → None ≡ Some l → X
-untold l e = let none : ⊥ = cc in absurd none
+-- whatever was said of what it tells
+pub untold : {A X : Type 0} (a : A) → None ≡ Some a → X
+untold a e = let none : ⊥ = cc in absurd none

@@ -1,10 +1,13 @@
 // Files below a folder, and why one can't be had.
+ghost use Rattle.std.specs.Prelude.{IfOk};
+ghost use Rattle.ug_host.specs.Content.{Fits};
+
 use std::alloc::{AllocError, Global};
 use std::fs::OpenOptions;
 use std::io::{ErrorKind, Read, Seek, SeekFrom, Write};
 use std::rt::Files;
 use std::{fs, io, str};
-use ug_types::{NodeName, Text};
+use ug_types::{NoMemory, NodeName, Text};
 
 /// `ENODEV` of errno(3): what a file of sysfs answers whose device is gone.
 const NO_DEVICE: i32 = 19;
@@ -33,6 +36,12 @@ impl From<io::Error> for FileFault {
 
 impl From<AllocError> for FileFault {
     fn from(_error: AllocError) -> FileFault {
+        FileFault::Memory
+    }
+}
+
+impl From<NoMemory> for FileFault {
+    fn from(_error: NoMemory) -> FileFault {
         FileFault::Memory
     }
 }
@@ -67,7 +76,9 @@ pub fn read_content<F: Read>(
     alloc: Global,
     file: &mut F,
     limit: usize,
-) -> Result<Content, FileFault> {
+) -> Result<Content, FileFault>
+    ensures { IfOk result (Fits limit) }
+{
     let mut bytes = Vec::new(alloc);
     let mut piece = [0u8; 4096];
     for _ in 0..u64::MAX {

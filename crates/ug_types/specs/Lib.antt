@@ -1,4 +1,5 @@
 pub mod Access
+pub mod Clocks
 pub mod Elements
 pub mod Ends
 pub mod Failing
@@ -12,3 +13,6 @@ pub mod Refusals
 pub mod Sweep
 pub mod Targets
 pub mod TextFaults
+pub mod Telling
+pub mod Told
+pub mod Waits

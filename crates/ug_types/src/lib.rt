@@ -2,12 +2,15 @@
 #![tactic(auto)]
 
 mod access;
+mod clock;
 mod control;
 mod host;
 mod laws;
 mod line;
 mod link;
 mod list;
+mod list_clock;
+mod list_waiter;
 mod marks;
 mod mem_link;
 mod memory;
@@ -25,14 +28,18 @@ mod target;
 mod text;
 mod text_fault;
 mod verdict;
+mod waiter;
 
 pub use access::{Privilege, Section};
+pub use clock::Clock;
 pub use control::{Attr, Control, Write};
 pub use host::{ReaderSource, WriterSink};
 pub use laws::{parents_law, targets_law};
 pub use line::Line;
 pub use link::{Dialled, Link};
 pub use list::List;
+pub use list_clock::ListClock;
+pub use list_waiter::{ListWaiter, PlannedWait};
 pub use mem_link::MemLink;
 pub use memory::{MemSink, MemSource};
 pub use name::{NameFault, NodeName, sort_names, sweep_order};
@@ -47,3 +54,4 @@ pub use source::{Source, Taken};
 pub use text::Text;
 pub use text_fault::{Fault, FileFault, LineFault, Numbered, TextFault};
 pub use verdict::{Cause, Held, Moment, Target};
+pub use waiter::{LinkId, Ready, Waiter, Woken};

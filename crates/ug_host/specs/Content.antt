@@ -1,0 +1,13 @@
+-- How much of a file was read.
+use Rattle.std.specs.Prelude.{ℕ, ◌≤◌, length, Option, Some, None}
+use Rattle.ug_host.specs.declared.file.Content.{Content}
+use Rattle.ug_host.specs.declared.file.Content.TheVariants as content
+
+-- no more bytes than the limit
+abbrev pub Fits : ℕ → Content → Type 0
+Fits limit (content.Whole text) = length text ≤ limit
+Fits limit content.TooLong = Unit {0}
+
+abbrev pub FitsIfThere : Option Content → Type 0
+FitsIfThere None = Unit {0}
+FitsIfThere (Some content) = Fits 67108864 content

@@ -1,0 +1,100 @@
+// The files of settings on this machine.
+ghost use Rattle.std.specs.Prelude.{◌≡◌, ◌<◌, ◌+◌, ◌-◌, ◌^◌, true, None};
+ghost use Rattle.ug_types.specs.Ends.{IsCounted, Rose};
+ghost use Rattle.ug_conf.specs.Files.{FitsFolder, FitsText};
+ghost use Rattle.ug_host.specs.Untold.{untold};
+
+use crate::entries::list_entries;
+use crate::file::{Content, FileFault};
+use crate::plain::{read_at, text_of};
+use std::alloc::Global;
+use std::rt::Files;
+use ug_conf::{ConfFiles, FileRead, FolderRead};
+
+/// Files and folders of this machine. A link is followed. What it answers is told by the machine alone.
+#[derive(Drop)]
+pub struct ConfFolder<R> {
+    rt: R,
+    faults: u64,
+}
+
+impl<R: Files + AllocGlobal + Clone + Drop> ConfFolder<R> {
+    pub fn new(rt: R) -> ConfFolder<R>
+        ensures faults { result.faults ≡ 0 }
+    {
+        ConfFolder { rt, faults: 0 }
+    }
+
+    // A failure more, if it is one.
+    fn count(&mut self, failed: bool)
+        ensures counted { IsCounted self.old.faults self.new.faults }
+        ensures cause { failed ≡ true → Rose self.old.faults self.new.faults }
+    {
+        if failed {
+            self.faults = self.faults.saturating_add(1);
+        }
+    }
+
+    fn read(&self, alloc: Global, path: &[u8]) -> FileRead
+        ensures { FitsText result }
+    {
+        let path = match text_of(path) {
+            Ok(path) => path,
+            Err(_) => return FileRead::Failed,
+        };
+        match read_at(&self.rt, alloc, path) {
+            Ok(Some(Content::Whole(text))) => FileRead::Bytes(text),
+            Ok(Some(Content::TooLong)) => FileRead::TooLong,
+            Ok(None) => FileRead::Absent,
+            Err(FileFault::Memory) => FileRead::Memory,
+            Err(_) => FileRead::Failed,
+        }
+    }
+
+    fn list(&self, alloc: Global, path: &[u8]) -> FolderRead
+        ensures { FitsFolder result }
+    {
+        match text_of(path) {
+            Ok(path) => list_entries(&self.rt, alloc, path),
+            Err(_) => FolderRead::Failed,
+        }
+    }
+}
+
+fn is_failed_file(answer: &FileRead) -> bool
+    ensures { answer.now ≡ FileRead.Failed → result ≡ true }
+{
+    matches!(answer, FileRead::Failed)
+}
+
+fn is_failed_folder(answer: &FolderRead) -> bool
+    ensures { answer.now ≡ FolderRead.Failed → result ≡ true }
+{
+    matches!(answer, FolderRead::Failed)
+}
+
+impl<R: Files + AllocGlobal + Clone + Drop> ConfFiles for ConfFolder<R> {
+    ghost gives = { λ s step t. Unit {0} };
+
+    ghost told = { λ s. None };
+
+    ghost faults = { λ s. s.faults };
+
+    ghost tells = { λ s step t tree gives told. untold tree told };
+
+    fn read_file(&mut self, alloc: Global, path: &[u8]) -> FileRead {
+        let answer = self.read(alloc, path);
+        self.count(is_failed_file(&answer));
+        answer
+    }
+
+    fn list_folder(&mut self, alloc: Global, path: &[u8]) -> FolderRead {
+        let answer = self.list(alloc, path);
+        self.count(is_failed_folder(&answer));
+        answer
+    }
+
+    fn faults(&self) -> u64 {
+        self.faults
+    }
+}

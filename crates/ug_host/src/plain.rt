@@ -1,0 +1,36 @@
+// Ordinary files, whose paths are bytes.
+ghost use Rattle.std.specs.Prelude.{IfOk};
+ghost use Rattle.ug_host.specs.Content.{FitsIfThere};
+
+use crate::file::{Content, FileFault, read_content};
+use std::alloc::Global;
+use std::io::ErrorKind;
+use std::rt::Files;
+use std::{fs, str};
+
+/// The most bytes that are read of an ordinary file.
+pub const LIMIT: usize = 67_108_864;
+
+/// Reads the file at a path, and gives None where there is none.
+pub fn read_at<R: Files>(rt: &R, alloc: Global, path: &str) -> Result<Option<Content>, FileFault>
+    ensures { IfOk result FitsIfThere }
+{
+    let mut file = match fs::open(rt, path) {
+        Ok(file) => file,
+        Err(e) => {
+            return match e.kind() {
+                ErrorKind::NotFound => Ok(None),
+                _ => Err(FileFault::from(e)),
+            };
+        }
+    };
+    Ok(Some(read_content(alloc, &mut file, LIMIT)?))
+}
+
+/// A path as text. One that isn't UTF-8 is a failure, since the library can't open it.
+pub fn text_of(path: &[u8]) -> Result<&str, FileFault> {
+    match str::from_utf8(path) {
+        Ok(text) => Ok(text),
+        Err(_) => Err(FileFault::Failed),
+    }
+}
