@@ -13,9 +13,9 @@ mod texts;
 mod values;
 
 pub use defaults::default_settings;
-pub use fault::{Fault, FaultKind, LineFault};
+pub use fault::FaultKind;
 pub use laws::{lines_law, one_meaning, reading_is_grammar};
 pub use reader::SettingsReader;
 pub use settings::{AuthDefault, Inserted, Present, Settings};
 pub use texts::parse_conf;
-pub use ug_types::Principal;
+pub use ug_types::{Fault, LineFault, Principal};

@@ -28,10 +28,10 @@ use Rattle.ug_core.specs.Policy.{Judging, policy_answer, policy_later}
 use Rattle.ug_core.specs.Verdicts.{IsLater}
 use Rattle.ug_core.specs.Event.{DaemonState, handling, has_numbers, with_rule, has_place, with_classes}
 use Rattle.ug_core.specs.Laws.{Handled}
-use Rattle.ug_lines.specs.Fold.{Fault, BadLine, Outcome, Writes, Refused, Stage, Going, Halted, is_within, stage_after, plays}
+use Rattle.ug_console.specs.Fold.{Fault, BadLine, Outcome, Writes, Refused, Stage, Going, Halted, is_within, stage_after, plays}
 use Rattle.ug_script.specs.declared.step.Step.{Step}
 use Rattle.ug_script.specs.declared.step.Step.TheVariants.{Skip, Rule, Conf, Seed, Zone, Plug, Unplug, Schedule, Fail, Sweep}
-use Rattle.ug_conf.specs.declared.fault.Fault as conf
+use Rattle.ug_conf.specs.Faults.{SettingFault}
 use Rattle.ug_conf.specs.Draft.{Draft, line_read}
 use Rattle.ug_conf.specs.Reader.{next_number}
 use Rattle.ug_core.specs.Settings.{classes_of}
@@ -302,14 +302,14 @@ kept_if : (first : World) (q : Type 0) (es : List Entry) (text : List ℕ) (new 
 kept_if first q es text new other true o p x y = x refl
 kept_if first q es text new other false o p x y = y refl
 
-kept_conf : (first : World) (q : Type 0) (es : List Entry) (text : List ℕ) (r : Result Draft conf.Fault) (s : Script) (w : World) → s.setup ≡ true → Kept first q es text s w → KeptAfter first q es text [] (conf_read r s w)
+kept_conf : (first : World) (q : Type 0) (es : List Entry) (text : List ℕ) (r : Result Draft SettingFault) (s : Script) (w : World) → s.setup ≡ true → Kept first q es text s w → KeptAfter first q es text [] (conf_read r s w)
 kept_conf first q es text (Ok draft) s w setup h =
     let t : Script = record s { settings = record { draft = draft; lines = next_number s.settings.lines }; daemon = with_classes (classes_of draft.settings) s.daemon } in
     let p = past_of first q es text s w h in
     kept_still first q es text (Some t, w) (kept_setup first q es text s t w setup refl refl refl (h.untaken setup) (record { numbered = p.numbered; judgements = p.judgements; histories = p.histories }) h)
 kept_conf first q es text (Err fault) s w setup h = tt
 
-kept_conf_if : (first : World) (q : Type 0) (es : List Entry) (text : List ℕ) (r : Result Draft conf.Fault) (s : Script) (w : World) (b : Bool) → (b ≡ true → s.setup ≡ true) → Kept first q es text s w → KeptAfter first q es text [] (cond b (conf_read r s w) (bad s w))
+kept_conf_if : (first : World) (q : Type 0) (es : List Entry) (text : List ℕ) (r : Result Draft SettingFault) (s : Script) (w : World) (b : Bool) → (b ≡ true → s.setup ≡ true) → Kept first q es text s w → KeptAfter first q es text [] (cond b (conf_read r s w) (bad s w))
 kept_conf_if first q es text r s w true f h = kept_conf first q es text r s w (f refl) h
 kept_conf_if first q es text r s w false f h = tt
 

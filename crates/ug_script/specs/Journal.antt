@@ -22,7 +22,7 @@ use Rattle.ug_table.specs.Allowed.{allowed_records}
 use Rattle.ug_core.specs.Policy.{Judging}
 use Rattle.ug_core.specs.Verdicts.{IsLater, IsVerdict}
 use Rattle.ug_core.specs.Event.{DaemonState, has_numbers}
-use Rattle.ug_lines.specs.Fold.{Outcome, Writes, Refused, Going, plays}
+use Rattle.ug_console.specs.Fold.{Outcome, Writes, Refused, Going, plays}
 use Rattle.ug_script.specs.declared.step.Step.{Step}
 use Rattle.ug_script.specs.declared.step.Step.TheVariants.{Skip, Rule, Conf, Seed, Zone, Plug, Unplug, Schedule, Fail, Sweep}
 use Rattle.ug_script.specs.Grammar.{step_of_line}
