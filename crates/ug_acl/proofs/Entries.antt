@@ -6,12 +6,13 @@ use Rattle.ug_types.specs.Elements.{Has, AllDistinct}
 use Rattle.ug_types.specs.declared.access.Section.{Section}
 use Rattle.ug_types.specs.declared.text_fault.TextFault.{TextFault}
 use Rattle.ug_acl.specs.declared.draft.Given.{Given}
-use Rattle.ug_acl.specs.declared.fault.Fault.{Fault}
 use Rattle.ug_acl.specs.declared.fault.FaultKind.{FaultKind}
-use Rattle.ug_acl.specs.Faults.{wrong_at, wrong_in_line, then_read}
+use Rattle.ug_types.specs.TextFaults.{fault_in_line, fault_of_kind}
+use Rattle.ug_lines.specs.LineReading.{lines_read, on_line, then_on}
+use Rattle.ug_acl.specs.Faults.{GrantFault, number_of_kind}
 use Rattle.ug_acl.specs.Grammar.{IsGrant, IsBadGrantLine, IsAccessLine, Skipped, Grants, Wrong, AreGrants}
 use Rattle.ug_acl.specs.Lines.{sections_of, given_to, line_given}
-use Rattle.ug_acl.specs.Texts.{at_line, lines_given}
+use Rattle.ug_acl.specs.Texts.{granting_line}
 use Rattle.ug_acl.proofs.LineCases.{skipped_read, grant_read, bad_read, line_case}
 
 -- sections that are distinct with those before
@@ -24,9 +25,9 @@ apart (s ∷ seen) section more d (inl e) = d.0 (subst (λ (x : Section). Has (s
     last (x ∷ xs) = inr (last xs)
 apart (s ∷ seen) section more d (inr h) = apart seen section more d.1 h
 
-one_line : (number : ℕ) (given after : List Given) (line : List ℕ) (lines : List (List ℕ)) → line_given given line ≡ Ok after → lines_given number given (line ∷ lines) ≡ lines_given (number + 1) after lines
-unfolding lines_given
-one_line number given after line lines e = ap (λ (r : Result (List Given) Fault). then_read (at_line number r) (λ more. lines_given (number + 1) more lines)) e
+one_line : (number : ℕ) (given after : List Given) (line : List ℕ) (lines : List (List ℕ)) → line_given given line ≡ Ok after → lines_read granting_line number given (line ∷ lines) ≡ lines_read granting_line (number + 1) after lines
+unfolding lines_read
+one_line number given after line lines e = ap (λ (r : Result (List Given) GrantFault). then_on (on_line number_of_kind number r) (λ more. lines_read granting_line (number + 1) more lines)) e
 
 abbrev Distinct : List Given → Type 0
 Distinct given = AllDistinct (sections_of given)
@@ -40,16 +41,16 @@ regrouped given first more d = subst Distinct (sym (append_assoc given (first �
 
 -- good lines are read, and what is behind them goes on from there
 pub grants_read : (lines behind : List (List ℕ)) (number : ℕ) (more given : List Given) → AreGrants lines more → Distinct (given ++ more)
-    → lines_given number given (lines ++ behind) ≡ lines_given (number + length lines) (given ++ more) behind
+    → lines_read granting_line number given (lines ++ behind) ≡ lines_read granting_line (number + length lines) (given ++ more) behind
 grants_read [] behind number more given h d =
     let still : number ≡ number + 0 = omega arith in
     let none : given ≡ given ++ more = sym (ap (λ (gs : List Given). given ++ gs) h ∙ append-nil given) in
-    ap (λ (n : ℕ). lines_given n given behind) still ∙ ap (λ (gs : List Given). lines_given (number + 0) gs behind) none
+    ap (λ (n : ℕ). lines_read granting_line n given behind) still ∙ ap (λ (gs : List Given). lines_read granting_line (number + 0) gs behind) none
 grants_read (line ∷ lines) behind number more given (inl h) d =
     let next : number + 1 + length lines ≡ number + length (line ∷ lines) = omega arith in
     one_line number given given line (lines ++ behind) (skipped_read given line h.0)
     ∙ grants_read lines behind (number + 1) more given h.1 d
-    ∙ ap (λ (n : ℕ). lines_given n (given ++ more) behind) next
+    ∙ ap (λ (n : ℕ). lines_read granting_line n (given ++ more) behind) next
 grants_read (line ∷ lines) behind number more given (inr h) d =
     let g : Given = h.0 in
     let others : List Given = h.1 in
@@ -59,9 +60,9 @@ grants_read (line ∷ lines) behind number more given (inr h) d =
     let next : number + 1 + length lines ≡ number + length (line ∷ lines) = omega arith in
     one_line number given after line (lines ++ behind) (grant_read given line g.section g.privileges h.3 (new_one given g others distinct))
     ∙ grants_read lines behind (number + 1) others after h.4 (regrouped given g others distinct)
-    ∙ ap (λ (n : ℕ). lines_given n (after ++ others) behind) next
-    ∙ ap (λ (gs : List Given). lines_given (number + length (line ∷ lines)) gs behind) (append_assoc given (g ∷ []) others)
-    ∙ ap (λ (gs : List Given). lines_given (number + length (line ∷ lines)) (given ++ gs) behind) (sym same)
+    ∙ ap (λ (n : ℕ). lines_read granting_line n (after ++ others) behind) next
+    ∙ ap (λ (gs : List Given). lines_read granting_line (number + length (line ∷ lines)) gs behind) (append_assoc given (g ∷ []) others)
+    ∙ ap (λ (gs : List Given). lines_read granting_line (number + length (line ∷ lines)) (given ++ gs) behind) (sym same)
 
 -- a bad line behind good ones
 pub record FirstBad (given : List Given) (lines : List (List ℕ)) : Type 0 where
@@ -76,19 +77,19 @@ pub record FirstBad (given : List Given) (lines : List (List ℕ)) : Type 0 wher
   pub once : Distinct (given ++ more)
   pub bad : IsBadGrantLine (sections_of (given ++ more)) line kind place
 
-stopped : (number : ℕ) (given : List Given) (line : List ℕ) (lines : List (List ℕ)) (fault : Fault) → line_given given line ≡ Err fault → lines_given number given (line ∷ lines) ≡ Err (wrong_in_line number fault)
-unfolding lines_given
-stopped number given line lines fault e = ap (λ (r : Result (List Given) Fault). then_read (at_line number r) (λ more. lines_given (number + 1) more lines)) e
+stopped : (number : ℕ) (given : List Given) (line : List ℕ) (lines : List (List ℕ)) (fault : GrantFault) → line_given given line ≡ Err fault → lines_read granting_line number given (line ∷ lines) ≡ Err (fault_in_line number_of_kind number fault)
+unfolding lines_read
+stopped number given line lines fault e = ap (λ (r : Result (List Given) GrantFault). then_on (on_line number_of_kind number r) (λ more. lines_read granting_line (number + 1) more lines)) e
 
-pub bad_lines_read : (number : ℕ) (given : List Given) (lines : List (List ℕ)) → (b : FirstBad given lines) → lines_given number given lines ≡ Err (wrong_in_line (number + length b.before) (wrong_at b.kind b.place))
+pub bad_lines_read : (number : ℕ) (given : List Given) (lines : List (List ℕ)) → (b : FirstBad given lines) → lines_read granting_line number given lines ≡ Err (fault_in_line number_of_kind (number + length b.before) (fault_of_kind b.kind b.place))
 bad_lines_read number given lines b =
-    ap (lines_given number given) b.parts
+    ap (lines_read granting_line number given) b.parts
     ∙ grants_read b.before (b.line ∷ b.behind) number b.more given b.good b.once
-    ∙ stopped (number + length b.before) (given ++ b.more) b.line b.behind (wrong_at b.kind b.place) (bad_read (given ++ b.more) b.line b.kind b.place b.bad)
+    ∙ stopped (number + length b.before) (given ++ b.more) b.line b.behind (fault_of_kind b.kind b.place) (bad_read (given ++ b.more) b.line b.kind b.place b.bad)
 
-pub good_lines_read : (number : ℕ) (given : List Given) (lines : List (List ℕ)) (more : List Given) → AreGrants lines more → Distinct (given ++ more) → lines_given number given lines ≡ Ok (given ++ more)
-unfolding lines_given
-good_lines_read number given lines more h d = ap (lines_given number given) (sym (append-nil lines)) ∙ grants_read lines [] number more given h d
+pub good_lines_read : (number : ℕ) (given : List Given) (lines : List (List ℕ)) (more : List Given) → AreGrants lines more → Distinct (given ++ more) → lines_read granting_line number given lines ≡ Ok (given ++ more)
+unfolding lines_read
+good_lines_read number given lines more h d = ap (lines_read granting_line number given) (sym (append-nil lines)) ∙ grants_read lines [] number more given h d
 
 -- lines are good, or one of them is the first bad one
 abbrev pub Decided : List Given → List (List ℕ) → Type 0

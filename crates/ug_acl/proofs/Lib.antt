@@ -1,6 +1,5 @@
 pub mod Entries
 pub mod LineCases
-pub mod LineSteps
 pub mod Members
 pub mod PartSteps
 pub mod Parts

@@ -12,11 +12,12 @@ use Rattle.ug_lines.specs.Equations.{IsTextOf, IsSkipped, IsEquation}
 use Rattle.ug_lines.proofs.Signs.{sign, sign_missing, Parts, parts, equation, value_place}
 use Rattle.ug_lines.proofs.Trimming as trimming
 use Rattle.ug_acl.specs.declared.draft.Given.{Given}
-use Rattle.ug_acl.specs.declared.fault.Fault.{Fault}
 use Rattle.ug_acl.specs.declared.fault.FaultKind.{FaultKind}
 use Rattle.ug_acl.specs.declared.fault.FaultKind.TheVariants.{NoEquals, UnknownSection, BadPrivilege, Repeated, BadName}
 use Rattle.ug_acl.specs.declared.privileges.Privileges.{Privileges}
-use Rattle.ug_acl.specs.Faults.{wrong_at, then_read}
+use Rattle.ug_types.specs.TextFaults.{fault_of_kind}
+use Rattle.ug_lines.specs.LineReading.{then_on}
+use Rattle.ug_acl.specs.Faults.{GrantFault}
 use Rattle.ug_acl.specs.Grammar.{IsSkippedGrant, IsGrant, AreParts, ArePrivileges, width_of, IsBadList, IsBadGrantLine, IsAccessLine, Skipped, Grants, Wrong}
 use Rattle.ug_acl.specs.Lines.{parts_of, parts_read, trimmed, sections_of, has_section, unless_given, section_read, given_to, sides_read, sides_read_at, equation_given, text_given, line_given}
 use Rattle.ug_acl.specs.Words.{given_by_words}
@@ -25,7 +26,7 @@ use Rattle.ug_acl.proofs.PartsRead.{good_parts, bad_parts, FirstBadPart, part_ca
 use Rattle.ug_acl.proofs.SeenSections.{section_seen, seen_section, is_seen}
 
 abbrev Outcome : Type 0
-Outcome = Result (List Given) Fault
+Outcome = Result (List Given) GrantFault
 
 -- the text of a line decides
 on_text : (given : List Given) (line text : List ℕ) → IsTextOf line text → line_given given line ≡ text_given given text
@@ -58,21 +59,21 @@ sides_found given text word value e =
 line_sides : (given : List Given) (line text word value : List ℕ) → IsTextOf line text → ¬ IsSkipped text → IsEquation text word value → line_given given line ≡ sides_read given text word value
 line_sides given line text word value t s e = on_text given line text t ∙ shown_read given text s ∙ sides_found given text word value e
 
-abbrev after_section : List Given → List ℕ → ℕ → Result Section Fault → Outcome
-after_section given value place read = then_read read (λ section. then_read (parts_read section place (parts_of value)) (λ privileges. Ok (given ++ given_to section privileges ∷ [])))
+abbrev after_section : List Given → List ℕ → ℕ → Result Section GrantFault → Outcome
+after_section given value place read = then_on read (λ section. then_on (parts_read section place (parts_of value)) (λ privileges. Ok (given ++ given_to section privileges ∷ [])))
 
-abbrev after_parts : List Given → Section → Result Privileges Fault → Outcome
-after_parts given section read = then_read read (λ privileges. Ok (given ++ given_to section privileges ∷ []))
+abbrev after_parts : List Given → Section → Result Privileges GrantFault → Outcome
+after_parts given section read = then_on read (λ privileges. Ok (given ++ given_to section privileges ∷ []))
 
 new_section : (given : List Given) (section : Section) → ¬ Has (sections_of given) section → section_read given (section_word section) ≡ Ok section
 new_section given section h = ap (unless_given given) (word_read section) ∙ by (has_section given section) refl
   where
-    by : (v : Bool) → has_section given section ≡ v → cond v (Err (wrong_at Repeated 0)) (Ok section) ≡ Ok section
+    by : (v : Bool) → has_section given section ≡ v → cond v (Err (fault_of_kind Repeated 0)) (Ok section) ≡ Ok section
     by true e = absurd (h (section_seen given section e))
     by false e = refl
 
-old_section : (given : List Given) (section : Section) → Has (sections_of given) section → section_read given (section_word section) ≡ Err (wrong_at Repeated 0)
-old_section given section h = ap (unless_given given) (word_read section) ∙ ap (λ (v : Bool). cond v (Err (wrong_at Repeated 0)) (Ok section)) (seen_section given section h)
+old_section : (given : List Given) (section : Section) → Has (sections_of given) section → section_read given (section_word section) ≡ Err (fault_of_kind Repeated 0)
+old_section given section h = ap (unless_given given) (word_read section) ∙ ap (λ (v : Bool). cond v (Err (fault_of_kind Repeated 0)) (Ok section)) (seen_section given section h)
 
 pub grant_read : (given : List Given) (line : List ℕ) (section : Section) (privileges : Privileges) → IsGrant line section privileges → ¬ Has (sections_of given) section
     → line_given given line ≡ Ok (given ++ given_to section privileges ∷ [])
@@ -91,20 +92,20 @@ unknown word h = by (section_of word) refl
     by None e = e
     by (Some section) e = absurd (h section (section_written word section e))
 
-pub bad_read : (given : List Given) (line : List ℕ) (kind : FaultKind) (place : ℕ) → IsBadGrantLine (sections_of given) line kind place → line_given given line ≡ Err (wrong_at kind place)
+pub bad_read : (given : List Given) (line : List ℕ) (kind : FaultKind) (place : ℕ) → IsBadGrantLine (sections_of given) line kind place → line_given given line ≡ Err (fault_of_kind kind place)
 bad_read given line NoEquals place h =
     on_text given line h.0 h.1 ∙ shown_read given h.0 h.2
-    ∙ ap (sides_read_at given h.0) (sign_missing h.0 h.3.1) ∙ ap (λ (p : ℕ). Err (wrong_at NoEquals p)) (sym h.3.0)
+    ∙ ap (sides_read_at given h.0) (sign_missing h.0 h.3.1) ∙ ap (λ (p : ℕ). Err (fault_of_kind NoEquals p)) (sym h.3.0)
 bad_read given line UnknownSection place h =
     let b = h.3 in
     line_sides given line h.0 b.1 b.2 h.1 h.2 b.3
     ∙ ap (λ (o : Option Section). after_section given b.2 (length h.0 - length b.2) (unless_given given o)) (unknown b.1 b.4)
-    ∙ ap (λ (p : ℕ). Err (wrong_at UnknownSection p)) (sym b.0)
+    ∙ ap (λ (p : ℕ). Err (fault_of_kind UnknownSection p)) (sym b.0)
 bad_read given line Repeated place h =
     let b = h.3 in
     line_sides given line h.0 (section_word b.1) b.2 h.1 h.2 b.3
     ∙ ap (after_section given b.2 (length h.0 - length b.2)) (old_section given b.1 b.4)
-    ∙ ap (λ (p : ℕ). Err (wrong_at Repeated p)) (sym b.0)
+    ∙ ap (λ (p : ℕ). Err (fault_of_kind Repeated p)) (sym b.0)
 bad_read given line BadPrivilege place h =
     let b = h.3 in
     let l : IsBadList b.0 b.1 b.2 = b.5 in
@@ -115,7 +116,7 @@ bad_read given line BadPrivilege place h =
     ∙ ap (after_section given b.1 from) (new_section given b.0 b.4)
     ∙ ap (λ (ps : List (List ℕ)). after_parts given b.0 (parts_read b.0 from ps)) (parts_found b.1 (l.good ++ l.bad ∷ l.behind) l.are_parts)
     ∙ ap (after_parts given b.0) (bad_parts b.0 from l.good l.words l.bad l.behind l.word l.blanks l.rest l.are_privileges l.text_of l.no_privilege l.front l.front_blank l.begins)
-    ∙ ap (λ (p : ℕ). Err (wrong_at BadPrivilege p)) where_
+    ∙ ap (λ (p : ℕ). Err (fault_of_kind BadPrivilege p)) where_
 bad_read given line BadName place h = absurd h.3
 
 skip : (text : List ℕ) → IsSkipped text ⊎ (¬ IsSkipped text)

@@ -3,20 +3,20 @@ use Rattle.std.proofs.Common.{◌≡◌, ℕ, suc, ◌+◌, ◌<◌, Bool, List,
 use Rattle.std.specs.Prelude.{◌||◌}
 use Rattle.std.proofs.Math.Bool.{or-false, or_assoc}
 use Rattle.ug_types.specs.declared.access.Section.{Section}
-use Rattle.ug_acl.specs.declared.fault.Fault.{Fault}
-use Rattle.ug_acl.specs.declared.fault.LineFault.{LineFault}
-use Rattle.ug_acl.specs.declared.fault.LineFault.TheVariants.{Bad, Memory}
+use Rattle.ug_types.specs.declared.text_fault.LineFault.TheVariants.{Bad, Memory}
 use Rattle.ug_acl.specs.declared.privileges.Privileges.{Privileges}
-use Rattle.ug_acl.specs.Faults.{then_read, IsReadAs}
+use Rattle.ug_types.specs.TextFaults.{IsLineRead}
+use Rattle.ug_lines.specs.LineReading.{then_on}
+use Rattle.ug_acl.specs.Faults.{GrantFault, GrantLineFault}
 use Rattle.ug_acl.specs.Lines.{part_read, parts_read}
 use Rattle.ug_acl.specs.Words.{union, no_privileges}
 
 abbrev Reading : Type 0
-Reading = Result Privileges Fault
+Reading = Result Privileges GrantFault
 
 -- with what is held before
 abbrev pub with_held : Privileges → Reading → Reading
-with_held held read = then_read read (λ more. Ok (union held more))
+with_held held read = then_on read (λ more. Ok (union held more))
 
 pub nothing_before : (read : Reading) → with_held no_privileges read ≡ read
 nothing_before (Ok more) = refl
@@ -28,7 +28,7 @@ nothing_behind held = λ i. record { modify = or-false held.modify i; list = or-
 regrouped : (a b c : Privileges) → union (union a b) c ≡ union a (union b c)
 regrouped a b c = λ i. record { modify = or_assoc a.modify b.modify c.modify i; list = or_assoc a.list b.list c.list i; listen = or_assoc a.listen b.listen c.listen i }
 
-held_first : (held first : Privileges) (read : Reading) → with_held (union held first) read ≡ with_held held (then_read read (λ more. Ok (union first more)))
+held_first : (held first : Privileges) (read : Reading) → with_held (union held first) read ≡ with_held held (then_on read (λ more. Ok (union first more)))
 held_first held first (Ok more) = ap Ok (regrouped held first more)
 held_first held first (Err fault) = refl
 
@@ -38,15 +38,15 @@ unfolding parts_read
 goes_on section place next part parts held first read n e q =
     ap (λ (p : ℕ). with_held (union held first) (parts_read section p parts)) n
     ∙ held_first held first (parts_read section (place + length part + 1) parts)
-    ∙ sym (ap (λ (r : Reading). with_held held (then_read r (λ f. then_read (parts_read section (place + length part + 1) parts) (λ more. Ok (union f more))))) e)
+    ∙ sym (ap (λ (r : Reading). with_held held (then_on r (λ f. then_on (parts_read section (place + length part + 1) parts) (λ more. Ok (union f more))))) e)
     ∙ q
 
-pub stops : (section : Section) (place : ℕ) (part : List ℕ) (parts : List (List ℕ)) (held : Privileges) (fault : LineFault) (read : Reading)
-    → IsReadAs {X = Privileges} (Err fault) (part_read section place part) → with_held held (parts_read section place (part ∷ parts)) ≡ read → IsReadAs {X = Privileges} (Err fault) read
+pub stops : (section : Section) (place : ℕ) (part : List ℕ) (parts : List (List ℕ)) (held : Privileges) (fault : GrantLineFault) (read : Reading)
+    → IsLineRead {X = Privileges} (Err fault) (part_read section place part) → with_held held (parts_read section place (part ∷ parts)) ≡ read → IsLineRead {X = Privileges} (Err fault) read
 unfolding parts_read
 stops section place part parts held Memory read e q = tt
 stops section place part parts held (Bad fault) read e q =
-    sym q ∙ ap (λ (r : Reading). with_held held (then_read r (λ f. then_read (parts_read section (place + length part + 1) parts) (λ more. Ok (union f more))))) e
+    sym q ∙ ap (λ (r : Reading). with_held held (then_on r (λ f. then_on (parts_read section (place + length part + 1) parts) (λ more. Ok (union f more))))) e
 
 pub ends : (section : Section) (place : ℕ) (parts : List (List ℕ)) (held : Privileges) (read : Reading) → parts ≡ [] → with_held held (parts_read section place parts) ≡ read → read ≡ Ok held
 unfolding parts_read

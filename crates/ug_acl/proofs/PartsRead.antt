@@ -9,16 +9,17 @@ use Rattle.ug_types.specs.declared.access.Privilege.TheVariants as privilege
 use Rattle.ug_lines.specs.Blanks.{without_front}
 use Rattle.ug_lines.specs.Equations.{AreBlanks, BeginsBare, IsTextOf}
 use Rattle.ug_lines.proofs.Trimming as trimming
-use Rattle.ug_acl.specs.declared.fault.Fault.{Fault}
 use Rattle.ug_acl.specs.declared.fault.FaultKind.TheVariants.{BadPrivilege}
 use Rattle.ug_acl.specs.declared.privileges.Privileges.{Privileges}
-use Rattle.ug_acl.specs.Faults.{wrong_at, then_read}
+use Rattle.ug_types.specs.TextFaults.{fault_of_kind}
+use Rattle.ug_lines.specs.LineReading.{then_on}
+use Rattle.ug_acl.specs.Faults.{GrantFault}
 use Rattle.ug_acl.specs.Grammar.{ArePrivileges, width_of}
 use Rattle.ug_acl.specs.Lines.{trimmed, part_read, parts_read, begins_at}
 use Rattle.ug_acl.specs.Words.{gives, given_by_word, given_by_words, union, is_any, IsPrivilegeOf}
 
 abbrev Reading : Type 0
-Reading = Result Privileges Fault
+Reading = Result Privileges GrantFault
 
 -- a word gives something exactly where it is a privilege of the section
 any_of : (a b c : Bool) → (a || b || c ≡ true) → (a ≡ true) ⊎ ((b ≡ true) ⊎ (c ≡ true))
@@ -60,28 +61,28 @@ gives_none section word h = by (is_any (given_by_word section word)) refl
     by false e = e
 
 abbrev decided : Section → ℕ → List ℕ → Bool → Reading
-decided section place part v = cond v (Ok (given_by_word section (trimmed part))) (Err (wrong_at BadPrivilege (begins_at place part)))
+decided section place part v = cond v (Ok (given_by_word section (trimmed part))) (Err (fault_of_kind BadPrivilege (begins_at place part)))
 
 good_part : (section : Section) (place : ℕ) (part word : List ℕ) → trimmed part ≡ word → IsPrivilegeOf section word → part_read section place part ≡ Ok (given_by_word section word)
 good_part section place part word t h =
     ap (decided section place part) (ap (λ (w : List ℕ). is_any (given_by_word section w)) t ∙ gives_any section word h)
     ∙ ap (λ (w : List ℕ). Ok (given_by_word section w)) t
 
-bad_part : (section : Section) (place : ℕ) (part word : List ℕ) → trimmed part ≡ word → ¬ IsPrivilegeOf section word → part_read section place part ≡ Err (wrong_at BadPrivilege (begins_at place part))
+bad_part : (section : Section) (place : ℕ) (part word : List ℕ) → trimmed part ≡ word → ¬ IsPrivilegeOf section word → part_read section place part ≡ Err (fault_of_kind BadPrivilege (begins_at place part))
 bad_part section place part word t h = ap (decided section place part) (ap (λ (w : List ℕ). is_any (given_by_word section w)) t ∙ gives_none section word h)
 
 more_parts : (section : Section) (place : ℕ) (part word : List ℕ) (parts : List (List ℕ)) → trimmed part ≡ word → IsPrivilegeOf section word
-    → parts_read section place (part ∷ parts) ≡ then_read (parts_read section (place + length part + 1) parts) (λ more. Ok (union (given_by_word section word) more))
+    → parts_read section place (part ∷ parts) ≡ then_on (parts_read section (place + length part + 1) parts) (λ more. Ok (union (given_by_word section word) more))
 unfolding parts_read
 more_parts section place part word parts t h =
-    ap (λ (r : Reading). then_read r (λ first. then_read (parts_read section (place + length part + 1) parts) (λ more. Ok (union first more)))) (good_part section place part word t h)
+    ap (λ (r : Reading). then_on r (λ first. then_on (parts_read section (place + length part + 1) parts) (λ more. Ok (union first more)))) (good_part section place part word t h)
 
 pub good_parts : (section : Section) (place : ℕ) (parts words : List (List ℕ)) → ArePrivileges section parts words → parts_read section place parts ≡ Ok (given_by_words section words)
 unfolding parts_read
 good_parts section place [] words h = ap (λ (ws : List (List ℕ)). Ok (given_by_words section ws)) (sym h)
 good_parts section place (part ∷ parts) words h =
     more_parts section place part h.0 parts (trimming.text_read part h.0 h.3) h.4
-    ∙ ap (λ (r : Reading). then_read r (λ more. Ok (union (given_by_word section h.0) more))) (good_parts section (place + length part + 1) parts h.1 h.5)
+    ∙ ap (λ (r : Reading). then_on r (λ more. Ok (union (given_by_word section h.0) more))) (good_parts section (place + length part + 1) parts h.1 h.5)
     ∙ ap (λ (ws : List (List ℕ)). Ok (given_by_words section ws)) (sym h.2)
 
 -- where a part begins
@@ -92,17 +93,17 @@ begins place part blanks rest e b s =
 
 pub bad_parts : (section : Section) (place : ℕ) (good words : List (List ℕ)) (bad : List ℕ) (behind : List (List ℕ)) (word blanks rest : List ℕ)
     → ArePrivileges section good words → IsTextOf bad word → ¬ IsPrivilegeOf section word → bad ≡ blanks ++ rest → AreBlanks blanks → BeginsBare rest
-    → parts_read section place (good ++ bad ∷ behind) ≡ Err (wrong_at BadPrivilege (place + (width_of good + length blanks)))
+    → parts_read section place (good ++ bad ∷ behind) ≡ Err (fault_of_kind BadPrivilege (place + (width_of good + length blanks)))
 unfolding parts_read
 bad_parts section place [] words bad behind word blanks rest g t n e b s =
     let at : begins_at place bad ≡ place + (0 + length blanks) = omega (arith, begins place bad blanks rest e b s) in
-    ap (λ (r : Reading). then_read r (λ first. then_read (parts_read section (place + length bad + 1) behind) (λ more. Ok (union first more)))) (bad_part section place bad word (trimming.text_read bad word t) n)
-    ∙ ap (λ (p : ℕ). Err (wrong_at BadPrivilege p)) at
+    ap (λ (r : Reading). then_on r (λ first. then_on (parts_read section (place + length bad + 1) behind) (λ more. Ok (union first more)))) (bad_part section place bad word (trimming.text_read bad word t) n)
+    ∙ ap (λ (p : ℕ). Err (fault_of_kind BadPrivilege p)) at
 bad_parts section place (part ∷ good) words bad behind word blanks rest g t n e b s =
     let at : place + length part + 1 + (width_of good + length blanks) ≡ place + (width_of (part ∷ good) + length blanks) = omega arith in
     more_parts section place part g.0 (good ++ bad ∷ behind) (trimming.text_read part g.0 g.3) g.4
-    ∙ ap (λ (r : Reading). then_read r (λ more. Ok (union (given_by_word section g.0) more))) (bad_parts section (place + length part + 1) good g.1 bad behind word blanks rest g.5 t n e b s)
-    ∙ ap (λ (p : ℕ). Err (wrong_at BadPrivilege p)) at
+    ∙ ap (λ (r : Reading). then_on r (λ more. Ok (union (given_by_word section g.0) more))) (bad_parts section (place + length part + 1) good g.1 bad behind word blanks rest g.5 t n e b s)
+    ∙ ap (λ (p : ℕ). Err (fault_of_kind BadPrivilege p)) at
 
 -- some parts are privileges, and the next is none
 pub record FirstBadPart (section : Section) (parts : List (List ℕ)) : Type 0 where

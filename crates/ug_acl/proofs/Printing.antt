@@ -19,14 +19,15 @@ use Rattle.ug_lines.specs.Splitting.{IsLine}
 use Rattle.ug_lines.proofs.FirstLine.{lines_from-end, nothing}
 use Rattle.ug_lines.proofs.Splitting.{lines_from-run}
 use Rattle.ug_acl.specs.declared.draft.Given.{Given}
-use Rattle.ug_acl.specs.declared.fault.Fault.{Fault}
 use Rattle.ug_acl.specs.declared.fault.FaultKind.TheVariants.{Repeated}
 use Rattle.ug_acl.specs.declared.privileges.Privileges.{Privileges}
-use Rattle.ug_acl.specs.Faults.{wrong_at, then_read}
+use Rattle.ug_types.specs.TextFaults.{fault_of_kind}
+use Rattle.ug_lines.specs.LineReading.{lines_read, on_line, then_on}
+use Rattle.ug_acl.specs.Faults.{GrantFault, number_of_kind}
 use Rattle.ug_acl.specs.Lines.{parts_of, parts_read, given_to, has_section, unless_given, line_given}
 use Rattle.ug_acl.specs.Pairs.{Pair, all_pairs, same_section, holds}
 use Rattle.ug_acl.specs.Printed.{words_held, held_in, grant_line, printed}
-use Rattle.ug_acl.specs.Texts.{is_given, pairs_given, at_line, lines_given, as_pairs, access_read}
+use Rattle.ug_acl.specs.Texts.{is_given, pairs_given, granting_line, as_pairs, access_read}
 use Rattle.ug_acl.specs.Words.{has_privilege}
 use Rattle.ug_acl.proofs.Members.{kept_held}
 
@@ -52,11 +53,11 @@ Step given section words after =
     ((words ≡ []) × (after ≡ given))
     ⊎ ((words ≢ []) × IsLine (section_word section ++ 61 ∷ words) × (line_given given (section_word section ++ 61 ∷ words) ≡ Ok after))
 
-abbrev on_section : List Given → List ℕ → ℕ → Result Section Fault → Result (List Given) Fault
-on_section given value place read = then_read read (λ section. then_read (parts_read section place (parts_of value)) (λ privileges. Ok (given ++ given_to section privileges ∷ [])))
+abbrev on_section : List Given → List ℕ → ℕ → Result Section GrantFault → Result (List Given) GrantFault
+on_section given value place read = then_on read (λ section. then_on (parts_read section place (parts_of value)) (λ privileges. Ok (given ++ given_to section privileges ∷ [])))
 
 fresh : (given : List Given) (section : Section) → has_section given section ≡ false → unless_given given (Some section) ≡ Ok section
-fresh given section h = ap (λ (v : Bool). cond v (Err (wrong_at Repeated 0)) (Ok section)) h
+fresh given section h = ap (λ (v : Bool). cond v (Err (fault_of_kind Repeated 0)) (Ok section)) h
 
 some_byte : (b : ℕ) (words : List ℕ) → (b ∷ words) ≢ []
 some_byte b words = λ e. (let none : ⊥ = cc in none)
@@ -108,15 +109,15 @@ first_line section b words rest h =
 
 -- the text of a section is read, and the rest goes on from there
 section_read : (number : ℕ) (given after : List Given) (section : Section) (words rest : List ℕ) → Step given section words after
-    → (next : ℕ) × (lines_given number given (lines_of (grant_line section words ++ rest)) ≡ lines_given next after (lines_of rest))
-unfolding lines_given
-section_read number given after section [] rest (inl h) = (number, ap (λ (g : List Given). lines_given number g (lines_of rest)) (sym h.1))
+    → (next : ℕ) × (lines_read granting_line number given (lines_of (grant_line section words ++ rest)) ≡ lines_read granting_line next after (lines_of rest))
+unfolding lines_read
+section_read number given after section [] rest (inl h) = (number, ap (λ (g : List Given). lines_read granting_line number g (lines_of rest)) (sym h.1))
 section_read number given after section (b ∷ words) rest (inl h) = absurd (some_byte b words h.0)
 section_read number given after section [] rest (inr h) = absurd (h.0 refl)
 section_read number given after section (b ∷ words) rest (inr h) = (
   number + 1,
-  ap (lines_given number given) (first_line section b words rest h.1)
-      ∙ ap (λ (r : Result (List Given) Fault). then_read (at_line number r) (λ more. lines_given (number + 1) more (lines_of rest))) h.2,
+  ap (lines_read granting_line number given) (first_line section b words rest h.1)
+      ∙ ap (λ (r : Result (List Given) GrantFault). then_on (on_line number_of_kind number r) (λ more. lines_read granting_line (number + 1) more (lines_of rest))) h.2,
 )
 
 -- another section is still fresh
@@ -221,7 +222,7 @@ text_of dm dl dn pm pl xn rm rl rn =
     grant_line Devices (words_held dm dl dn) ++ (grant_line Policy (words_held pm pl false)
     ++ (grant_line Exceptions (words_held false false xn) ++ grant_line Parameters (words_held rm rl rn)))
 
-all_read : (dm dl dn pm pl xn rm rl rn : Bool) → (next : ℕ) × (lines_given 1 [] (lines_of (text_of dm dl dn pm pl xn rm rl rn)) ≡ lines_given next (all_given dm dl dn pm pl xn rm rl rn) (lines_of []))
+all_read : (dm dl dn pm pl xn rm rl rn : Bool) → (next : ℕ) × (lines_read granting_line 1 [] (lines_of (text_of dm dl dn pm pl xn rm rl rn)) ≡ lines_read granting_line next (all_given dm dl dn pm pl xn rm rl rn) (lines_of []))
 all_read dm dl dn pm pl xn rm rl rn =
     let one : List Given = with_section [] Devices dm dl dn in
     let two : List Given = with_section one Policy pm pl false in
@@ -237,13 +238,13 @@ all_read dm dl dn pm pl xn rm rl rn =
     let b = section_read a.0 one two Policy (words_held pm pl false) third (policy_step one pm pl (fresh-1 Policy refl)) in
     let c = section_read b.0 two three Exceptions (words_held false false xn) last (exceptions_step two xn (fresh-2 Exceptions refl refl)) in
     let d = section_read c.0 three four Parameters (words_held rm rl rn) [] (parameters_step three rm rl rn fresh-3) in
-    (d.0, a.1 ∙ b.1 ∙ c.1 ∙ ap (λ (l : List ℕ). lines_given c.0 three (lines_of l)) (sym (append-nil last)) ∙ d.1)
+    (d.0, a.1 ∙ b.1 ∙ c.1 ∙ ap (λ (l : List ℕ). lines_read granting_line c.0 three (lines_of l)) (sym (append-nil last)) ∙ d.1)
 
 text_read : (dm dl dn pm pl xn rm rl rn : Bool) → access_read (text_of dm dl dn pm pl xn rm rl rn) ≡ Ok (pairs_given (all_given dm dl dn pm pl xn rm rl rn))
-unfolding lines_given
+unfolding lines_read
 text_read dm dl dn pm pl xn rm rl rn =
     let r = all_read dm dl dn pm pl xn rm rl rn in
-    ap as_pairs (r.1 ∙ ap (lines_given r.0 (all_given dm dl dn pm pl xn rm rl rn)) (nothing [] refl))
+    ap as_pairs (r.1 ∙ ap (lines_read granting_line r.0 (all_given dm dl dn pm pl xn rm rl rn)) (nothing [] refl))
 
 pub reads_back : (kept : Pair → Bool) → access_read (printed (filter kept all_pairs)) ≡ Ok (filter kept all_pairs)
 unfolding printed

@@ -5,12 +5,12 @@ use Rattle.ug_types.specs.Access.{section_of}
 use Rattle.ug_types.specs.declared.access.Section.{Section}
 use Rattle.ug_lines.specs.Blanks.{without_front, without_end}
 use Rattle.ug_acl.specs.declared.draft.Given.{Given}
-use Rattle.ug_acl.specs.declared.fault.Fault.{Fault}
 use Rattle.ug_acl.specs.declared.fault.FaultKind.TheVariants.{NoEquals, UnknownSection, BadPrivilege, Repeated}
-use Rattle.ug_acl.specs.declared.fault.LineFault.{LineFault}
-use Rattle.ug_acl.specs.declared.fault.LineFault.TheVariants.{Bad, Memory}
+use Rattle.ug_types.specs.declared.text_fault.LineFault.TheVariants.{Bad, Memory}
 use Rattle.ug_acl.specs.declared.privileges.Privileges.{Privileges}
-use Rattle.ug_acl.specs.Faults.{wrong_at, then_read}
+use Rattle.ug_types.specs.TextFaults.{fault_of_kind}
+use Rattle.ug_lines.specs.LineReading.{then_on}
+use Rattle.ug_acl.specs.Faults.{GrantFault, GrantLineFault}
 use Rattle.ug_acl.specs.Pairs.{same_section}
 use Rattle.ug_acl.specs.Words.{given_by_word, union, no_privileges, is_any}
 
@@ -27,13 +27,13 @@ abbrev pub begins_at : ℕ → List ℕ → ℕ
 begins_at place part = place + (length part - length (without_front part))
 
 -- what a part gives that stands at a place
-abbrev pub part_read : Section → ℕ → List ℕ → Result Privileges Fault
-part_read section place part = if is_any (given_by_word section (trimmed part)) then Ok (given_by_word section (trimmed part)) else Err (wrong_at BadPrivilege (begins_at place part))
+abbrev pub part_read : Section → ℕ → List ℕ → Result Privileges GrantFault
+part_read section place part = if is_any (given_by_word section (trimmed part)) then Ok (given_by_word section (trimmed part)) else Err (fault_of_kind BadPrivilege (begins_at place part))
 
 -- what the parts give, the first of which stands at a place, or the first that is no privilege of the section
-unfoldable pub parts_read : Section → ℕ → List (List ℕ) → Result Privileges Fault
+unfoldable pub parts_read : Section → ℕ → List (List ℕ) → Result Privileges GrantFault
 parts_read section place [] = Ok no_privileges
-parts_read section place (part ∷ parts) = then_read (part_read section place part) (λ first. then_read (parts_read section (place + length part + 1) parts) (λ more. Ok (union first more)))
+parts_read section place (part ∷ parts) = then_on (part_read section place part) (λ first. then_on (parts_read section (place + length part + 1) parts) (λ more. Ok (union first more)))
 
 abbrev pub sections_of : List Given → List Section
 sections_of given = map (λ g. g.section) given
@@ -41,44 +41,44 @@ sections_of given = map (λ g. g.section) given
 abbrev pub has_section : List Given → Section → Bool
 has_section given section = list_any (λ g. same_section g.section section) given
 
-abbrev pub unless_given : List Given → Option Section → Result Section Fault
-unless_given given None = Err (wrong_at UnknownSection 0)
-unless_given given (Some section) = if has_section given section then Err (wrong_at Repeated 0) else Ok section
+abbrev pub unless_given : List Given → Option Section → Result Section GrantFault
+unless_given given None = Err (fault_of_kind UnknownSection 0)
+unless_given given (Some section) = if has_section given section then Err (fault_of_kind Repeated 0) else Ok section
 
 -- the section that a word is, unless an earlier line has it
-abbrev pub section_read : List Given → List ℕ → Result Section Fault
+abbrev pub section_read : List Given → List ℕ → Result Section GrantFault
 section_read given word = unless_given given (section_of word)
 
 abbrev pub given_to : Section → Privileges → Given
 given_to section privileges = record { section = section; privileges = privileges }
 
 -- a word, and a list at a place
-abbrev pub grant_read : List Given → List ℕ → List ℕ → ℕ → Result (List Given) Fault
+abbrev pub grant_read : List Given → List ℕ → List ℕ → ℕ → Result (List Given) GrantFault
 grant_read given word text place =
-    then_read (section_read given word) (λ section. then_read (parts_read section place (parts_of text)) (λ privileges. Ok (given ++ given_to section privileges ∷ [])))
+    then_on (section_read given word) (λ section. then_on (parts_read section place (parts_of text)) (λ privileges. Ok (given ++ given_to section privileges ∷ [])))
 
-abbrev pub sides_read : List Given → List ℕ → List ℕ → List ℕ → Result (List Given) Fault
+abbrev pub sides_read : List Given → List ℕ → List ℕ → List ℕ → Result (List Given) GrantFault
 sides_read given text word value = grant_read given word value (length text - length value)
 
-abbrev pub sides_read_at : List Given → List ℕ → Option ℕ → Result (List Given) Fault
-sides_read_at given text None = Err (wrong_at NoEquals 0)
+abbrev pub sides_read_at : List Given → List ℕ → Option ℕ → Result (List Given) GrantFault
+sides_read_at given text None = Err (fault_of_kind NoEquals 0)
 sides_read_at given text (Some at) = sides_read given text (without_end (take at text)) (without_front (drop (at + 1) text))
 
 -- a section, an equals sign, and a list that begins behind the blanks
-abbrev pub equation_given : List Given → List ℕ → Result (List Given) Fault
+abbrev pub equation_given : List Given → List ℕ → Result (List Given) GrantFault
 equation_given given text = sides_read_at given text (position (nat_eq 61) text)
 
 -- a line without its blanks
-abbrev pub text_given : List Given → List ℕ → Result (List Given) Fault
+abbrev pub text_given : List Given → List ℕ → Result (List Given) GrantFault
 text_given given [] = Ok given
 text_given given (b ∷ bytes) = if nat_eq b 35 then Ok given else equation_given given (b ∷ bytes)
 
 -- what was given before with what the line gives, or what is wrong with the line
-abbrev pub line_given : List Given → List ℕ → Result (List Given) Fault
+abbrev pub line_given : List Given → List ℕ → Result (List Given) GrantFault
 line_given given line = text_given given (trimmed line)
 
 -- a call's answer, and what it leaves; a refusal changes nothing
-abbrev pub Gives : Result (Unit {0}) LineFault → List Given → List Given → Result (List Given) Fault → Type 0
-Gives (Ok done) before after read = read ≡ Ok after
-Gives (Err (Bad fault)) before after read = (read ≡ Err fault) × (after ≡ before)
-Gives (Err Memory) before after read = after ≡ before
+abbrev pub LeavesGrants : Result (Unit {0}) GrantLineFault → List Given → List Given → Result (List Given) GrantFault → Type 0
+LeavesGrants (Ok done) before after read = read ≡ Ok after
+LeavesGrants (Err (Bad fault)) before after read = (read ≡ Err fault) × (after ≡ before)
+LeavesGrants (Err Memory) before after read = after ≡ before

@@ -1,15 +1,15 @@
 // What the lines so far give.
 ghost use Rattle.std.specs.Prelude.{◌≡◌, ◌+◌, ◌≤◌, ◌<◌, ◌^◌, IfOk, length, map, nat_eq};
 ghost use Rattle.std.specs.List.{position};
-ghost use Rattle.ug_acl.specs.Faults.{IsReadAs};
+ghost use Rattle.ug_types.specs.TextFaults.{IsLineRead};
 ghost use Rattle.ug_acl.specs.Lines as lines;
-ghost use Rattle.ug_acl.specs.Lines.{parts_of, parts_read, section_read, grant_read, equation_given, line_given, Gives};
+ghost use Rattle.ug_acl.specs.Lines.{parts_of, parts_read, section_read, grant_read, equation_given, line_given, LeavesGrants};
 
-use crate::fault::{FaultKind, LineFault};
+use crate::fault::FaultKind;
 use crate::privileges::Privileges;
 use std::alloc::{AllocError, Global};
 use ug_lines::{without_end, without_front};
-use ug_types::Section;
+use ug_types::{LineFault, Section};
 
 /// What a line gives.
 #[derive(Clone, Copy, Debug)]
@@ -25,8 +25,8 @@ fn has_section(given: &[Given], section: Section) -> bool
 }
 
 // The section that a word is, unless an earlier line has it.
-fn new_section(given: &[Given], word: &[u8]) -> Result<Section, LineFault>
-    ensures { IsReadAs result (section_read given.now word.now) }
+fn new_section(given: &[Given], word: &[u8]) -> Result<Section, LineFault<FaultKind>>
+    ensures { IsLineRead result (section_read given.now word.now) }
 {
     match Section::named(word) {
         Some(section) => {
@@ -46,9 +46,9 @@ fn split_at_commas(alloc: Global, text: &[u8]) -> Result<Vec<&[u8]>, AllocError>
 }
 
 // What one part gives, which stands at that place.
-fn read_part(section: Section, part: &[u8], place: u64) -> Result<Privileges, LineFault>
+fn read_part(section: Section, part: &[u8], place: u64) -> Result<Privileges, LineFault<FaultKind>>
     requires { place + length part.now < 2 ^ 64 }
-    ensures { IsReadAs result (lines.part_read section place part.now) }
+    ensures { IsLineRead result (lines.part_read section place part.now) }
 {
     let begin = without_front(part);
     let privileges = Privileges::of_word(section, without_end(begin));
@@ -65,9 +65,9 @@ fn read_list(
     section: Section,
     text: &[u8],
     place: u64,
-) -> Result<Privileges, LineFault>
+) -> Result<Privileges, LineFault<FaultKind>>
     requires { place + length text.now + 1 < 2 ^ 64 }
-    ensures { IsReadAs result (parts_read section place (parts_of text.now)) }
+    ensures { IsLineRead result (parts_read section place (parts_of text.now)) }
 {
     let parts = match split_at_commas(alloc, text) {
         Ok(parts) => parts,
@@ -93,9 +93,9 @@ fn add_grant(
     word: &[u8],
     text: &[u8],
     place: u64,
-) -> Result<(), LineFault>
+) -> Result<(), LineFault<FaultKind>>
     requires { place + length text.now + 1 < 2 ^ 64 }
-    ensures { Gives result given.old.items given.new.items (grant_read given.old.items word.now text.now place) }
+    ensures { LeavesGrants result given.old.items given.new.items (grant_read given.old.items word.now text.now place) }
 {
     let section = new_section(given.as_slice(), word)?;
     let privileges = read_list(alloc, section, text, place)?;
@@ -115,8 +115,8 @@ fn equals_in(text: &[u8]) -> Option<usize>
 }
 
 // Takes a line that is neither empty nor a comment, without its blanks.
-fn add_text(alloc: Global, given: &mut Vec<Given>, text: &[u8]) -> Result<(), LineFault>
-    ensures { Gives result given.old.items given.new.items (equation_given given.old.items text.now) }
+fn add_text(alloc: Global, given: &mut Vec<Given>, text: &[u8]) -> Result<(), LineFault<FaultKind>>
+    ensures { LeavesGrants result given.old.items given.new.items (equation_given given.old.items text.now) }
 {
     match equals_in(text) {
         Some(at) => {
@@ -130,8 +130,12 @@ fn add_text(alloc: Global, given: &mut Vec<Given>, text: &[u8]) -> Result<(), Li
 }
 
 /// Takes a line. A refusal changes nothing.
-pub fn add_line(alloc: Global, given: &mut Vec<Given>, line: &[u8]) -> Result<(), LineFault>
-    ensures { Gives result given.old.items given.new.items (line_given given.old.items line.now) }
+pub fn add_line(
+    alloc: Global,
+    given: &mut Vec<Given>,
+    line: &[u8],
+) -> Result<(), LineFault<FaultKind>>
+    ensures { LeavesGrants result given.old.items given.new.items (line_given given.old.items line.now) }
 {
     let text = without_end(without_front(line));
     if text.is_empty() {

@@ -3,11 +3,8 @@ use crate::cases::Case;
 use crate::reading::read_cases;
 use crate::report::Report;
 use std::alloc::Global;
-use ug_input::{InputFault, read_input};
+use ug_console::{INPUT_LIMIT, InputFault, read_input};
 use ug_types::{NoMemory, Put, Sink, Source};
-
-/// At most so many bytes of cases are read.
-const MOST: usize = 67_108_864;
 
 /// What gives the answer to a case.
 pub trait Teller {
@@ -42,7 +39,7 @@ pub fn run_cases<S: Source, K: Sink, T: Teller>(
     out: &mut K,
     teller: &T,
 ) -> u8 {
-    match read_input(alloc, input, MOST) {
+    match read_input(alloc, input, INPUT_LIMIT) {
         Ok(text) => match report(alloc, text.bytes(), teller) {
             Ok(lines) => put(out, &lines, 0),
             Err(_) => put(out, b"no memory\n", 6),

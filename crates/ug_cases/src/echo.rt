@@ -1,10 +1,10 @@
 // A machine whose lines are its text.
 ghost use Rattle.std.specs.Prelude.{◌≡◌, ◌≤◌, ℕ, List, Some, None, true, nat_eq, if◌then◌else◌, length, codes};
-ghost use Rattle.ug_lines.specs.Fold.{BadLine, InputTooLong, Writes, Refused};
+ghost use Rattle.ug_console.specs.Fold.{BadLine, InputTooLong, Writes, Refused};
 ghost use Rattle.ug_cases.specs.declared.echo.Echo.{Echo as Echoing};
 
 use std::alloc::Global;
-use ug_lines::{Machine, Ran};
+use ug_console::{Machine, Ran};
 use ug_types::{Put, Sink};
 
 /// Lines of three bytes are bad, and those of four start something too long. The world is the length of the last line.

@@ -1,7 +1,7 @@
 // Inputs that are read whole.
 use std::alloc::Global;
 use ug_casefile::{Case, number_of};
-use ug_input::{InputFault, read_input};
+use ug_console::{InputFault, read_input};
 use ug_types::{MemSource, NoMemory};
 
 fn limit(case: &Case) -> Option<usize> {

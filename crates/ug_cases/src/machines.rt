@@ -2,7 +2,7 @@
 use crate::echo::Echo;
 use std::alloc::Global;
 use ug_casefile::{Case, number_of, push_escaped};
-use ug_lines::run;
+use ug_console::run;
 use ug_types::{MemSink, MemSource, NoMemory};
 
 #[derive(Drop)]

@@ -1,5 +1,4 @@
 // A list of rules, the words of a generator, and the devices that are allowed.
-use crate::settings::target_word;
 use jiff::tz::TimeZone;
 use rand_chacha::ChaCha20Rng;
 use rand_core::{Rng, SeedableRng};
@@ -57,14 +56,6 @@ fn push_moment(text: &mut Vec<u8>, moment: Option<Moment>) -> Result<(), NoMemor
             text.push(b'-')?;
             Ok(())
         }
-    }
-}
-
-fn target_of(word: &[u8]) -> Target {
-    match str::from_utf8(word) {
-        Ok("allow") => Target::Allow,
-        Ok("block") => Target::Block,
-        _ => Target::Reject,
     }
 }
 
@@ -169,7 +160,7 @@ impl Session {
         let (id, target) = split_word(line);
         match self
             .list
-            .set_target(number_of(id).unwrap_or(0), target_of(target))
+            .set_target(number_of(id).unwrap_or(0), Target::named(target).unwrap_or(Target::Reject))
         {
             Ok(()) => self.say(b"done"),
             Err(_) => self.say(b"no rule"),
@@ -224,7 +215,7 @@ impl Session {
             Target::Block,
             &mut self.rng,
         );
-        let mut told = self.say(target_word(verdict))?;
+        let mut told = self.say(verdict.word())?;
         match cause {
             Cause::Rule(id) => {
                 told.extend_from_slice(b" by rule ")?;

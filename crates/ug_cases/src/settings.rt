@@ -5,15 +5,7 @@ use ug_conf::{
     AuthDefault, Inserted, LineFault, Present, Settings, SettingsReader, default_settings,
     parse_conf,
 };
-use ug_types::{FileFault, NoMemory, Target};
-
-pub fn target_word(target: Target) -> &'static [u8] {
-    match target {
-        Target::Allow => b"allow",
-        Target::Block => b"block",
-        Target::Reject => b"reject",
-    }
-}
+use ug_types::{FileFault, NoMemory, Numbered};
 
 fn present_word(present: Present) -> &'static [u8] {
     match present {
@@ -89,7 +81,7 @@ fn tell_settings(alloc: Global, settings: &Settings) -> Result<Vec<u8>, NoMemory
     push_word(
         &mut told,
         b"ImplicitPolicyTarget",
-        target_word(settings.implicit),
+        settings.implicit.word(),
     )?;
     push_word(
         &mut told,

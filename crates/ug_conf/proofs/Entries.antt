@@ -4,15 +4,17 @@ use Rattle.std.proofs.lemmas.List.{append-nil}
 use Rattle.ug_types.proofs.Elements.{distinct_append}
 use Rattle.ug_types.specs.Elements.{Has, AllDistinct}
 use Rattle.ug_types.specs.declared.text_fault.TextFault.{TextFault}
-use Rattle.ug_conf.specs.declared.fault.Fault.{Fault}
 use Rattle.ug_conf.specs.declared.fault.FaultKind.{FaultKind}
 use Rattle.ug_conf.specs.declared.keys.Key.{Key}
 use Rattle.ug_conf.specs.declared.settings.Settings.{Settings}
 use Rattle.ug_conf.specs.Draft.{Draft, draft_of, line_read, with_setting}
-use Rattle.ug_conf.specs.Faults.{fault_at, text_fault, on_ok}
-use Rattle.ug_conf.specs.Grammar.{IsSetting, IsBadLine, IsLine, Skipped, SetsKey, Bad}
+use Rattle.ug_types.specs.TextFaults.{fault_in_line, fault_of_kind}
+use Rattle.ug_lines.specs.LineReading.{then_on}
+use Rattle.ug_conf.specs.Faults.{SettingFault, kind_number}
+use Rattle.ug_conf.specs.Grammar.{IsSetting, IsBadSetting, IsSettingsLine, Skipped, SetsKey, Bad}
 use Rattle.ug_conf.specs.Meaning.{Entry, AreEntries, keys_of}
-use Rattle.ug_conf.specs.Texts.{in_line, lines_read}
+use Rattle.ug_lines.specs.LineReading.{lines_read, on_line}
+use Rattle.ug_conf.specs.Texts.{setting_line}
 use Rattle.ug_conf.proofs.Gathering.{applied, AreFit}
 use Rattle.ug_conf.proofs.LineCases.{skipped_read, setting_read, bad_read, line_case}
 
@@ -32,25 +34,25 @@ regrouped seen key more d = subst (λ (ks : List Key). AllDistinct ks) (sym (app
 abbrev Read : Type 0
 Read = Result Draft TextFault
 
-one_line : (number : ℕ) (draft after : Draft) (line : List ℕ) (lines : List (List ℕ)) → line_read number draft line ≡ Ok after → lines_read number draft (line ∷ lines) ≡ lines_read (number + 1) after lines
+one_line : (number : ℕ) (draft after : Draft) (line : List ℕ) (lines : List (List ℕ)) → line_read number draft line ≡ Ok after → lines_read setting_line number draft (line ∷ lines) ≡ lines_read setting_line (number + 1) after lines
 unfolding lines_read
-one_line number draft after line lines e = ap (λ (r : Result Draft Fault). on_ok (in_line number r) (λ more. lines_read (number + 1) more lines)) e
+one_line number draft after line lines e = ap (λ (r : Result Draft SettingFault). then_on (on_line kind_number number r) (λ more. lines_read setting_line (number + 1) more lines)) e
 
 -- good lines are read, and what is behind them goes on from there
 pub entries_read : (lines behind : List (List ℕ)) (number : ℕ) (entries : List Entry) (draft : Draft) → AreEntries number lines entries → AllDistinct (draft.seen ++ keys_of entries)
-    → lines_read number draft (lines ++ behind) ≡ lines_read (number + length lines) (draft_of (applied entries draft.settings) (draft.seen ++ keys_of entries)) behind
+    → lines_read setting_line number draft (lines ++ behind) ≡ lines_read setting_line (number + length lines) (draft_of (applied entries draft.settings) (draft.seen ++ keys_of entries)) behind
 entries_read [] behind number entries draft h d =
     let still : number ≡ number + 0 = omega arith in
     let none : draft.seen ≡ draft.seen ++ keys_of entries = sym (ap (λ (es : List Entry). draft.seen ++ keys_of es) h ∙ append-nil draft.seen) in
     let same : draft.settings ≡ applied entries draft.settings = sym (ap (λ (es : List Entry). applied es draft.settings) h) in
-    ap (λ (n : ℕ). lines_read n draft behind) still
-    ∙ ap (λ (s : Settings). lines_read (number + 0) (draft_of s draft.seen) behind) same
-    ∙ ap (λ (ks : List Key). lines_read (number + 0) (draft_of (applied entries draft.settings) ks) behind) none
+    ap (λ (n : ℕ). lines_read setting_line n draft behind) still
+    ∙ ap (λ (s : Settings). lines_read setting_line (number + 0) (draft_of s draft.seen) behind) same
+    ∙ ap (λ (ks : List Key). lines_read setting_line (number + 0) (draft_of (applied entries draft.settings) ks) behind) none
 entries_read (line ∷ lines) behind number entries draft (inl h) d =
     let next : number + 1 + length lines ≡ number + length (line ∷ lines) = omega arith in
     one_line number draft draft line (lines ++ behind) (skipped_read number draft line h.0)
     ∙ entries_read lines behind (number + 1) entries draft h.1 d
-    ∙ ap (λ (n : ℕ). lines_read n (draft_of (applied entries draft.settings) (draft.seen ++ keys_of entries)) behind) next
+    ∙ ap (λ (n : ℕ). lines_read setting_line n (draft_of (applied entries draft.settings) (draft.seen ++ keys_of entries)) behind) next
 entries_read (line ∷ lines) behind number entries draft (inr h) d =
     let e : Entry = h.0 in
     let others : List Entry = h.1 in
@@ -60,10 +62,10 @@ entries_read (line ∷ lines) behind number entries draft (inr h) d =
     let next : number + 1 + length lines ≡ number + length (line ∷ lines) = omega arith in
     one_line number draft after line (lines ++ behind) (setting_read number draft line e.key e.set h.4 (apart draft.seen e.key (keys_of others) distinct))
     ∙ entries_read lines behind (number + 1) others after h.5 (regrouped draft.seen e.key (keys_of others) distinct)
-    ∙ ap (λ (n : ℕ). lines_read n (draft_of (applied others after.settings) (after.seen ++ keys_of others)) behind) next
-    ∙ ap (λ (ks : List Key). lines_read (number + length (line ∷ lines)) (draft_of (applied others after.settings) ks) behind) (append_assoc draft.seen (e.key ∷ []) (keys_of others))
-    ∙ ap (λ (n : ℕ). lines_read (number + length (line ∷ lines)) (draft_of (applied others (with_setting n e.set draft.settings)) (draft.seen ++ keys_of (e ∷ others))) behind) (sym h.3)
-    ∙ ap (λ (es : List Entry). lines_read (number + length (line ∷ lines)) (draft_of (applied es draft.settings) (draft.seen ++ keys_of es)) behind) (sym same)
+    ∙ ap (λ (n : ℕ). lines_read setting_line n (draft_of (applied others after.settings) (after.seen ++ keys_of others)) behind) next
+    ∙ ap (λ (ks : List Key). lines_read setting_line (number + length (line ∷ lines)) (draft_of (applied others after.settings) ks) behind) (append_assoc draft.seen (e.key ∷ []) (keys_of others))
+    ∙ ap (λ (n : ℕ). lines_read setting_line (number + length (line ∷ lines)) (draft_of (applied others (with_setting n e.set draft.settings)) (draft.seen ++ keys_of (e ∷ others))) behind) (sym h.3)
+    ∙ ap (λ (es : List Entry). lines_read setting_line (number + length (line ∷ lines)) (draft_of (applied es draft.settings) (draft.seen ++ keys_of es)) behind) (sym same)
 
 -- a bad line behind good ones
 pub record FirstBad (number : ℕ) (seen : List Key) (lines : List (List ℕ)) : Type 0 where
@@ -76,22 +78,22 @@ pub record FirstBad (number : ℕ) (seen : List Key) (lines : List (List ℕ)) :
   pub parts : lines ≡ before ++ line ∷ behind
   pub good : AreEntries number before entries
   pub once : AllDistinct (seen ++ keys_of entries)
-  pub bad : IsBadLine (seen ++ keys_of entries) line kind place
+  pub bad : IsBadSetting (seen ++ keys_of entries) line kind place
 
-stopped : (number : ℕ) (draft : Draft) (line : List ℕ) (lines : List (List ℕ)) (fault : Fault) → line_read number draft line ≡ Err fault → lines_read number draft (line ∷ lines) ≡ Err (text_fault number fault)
+stopped : (number : ℕ) (draft : Draft) (line : List ℕ) (lines : List (List ℕ)) (fault : SettingFault) → line_read number draft line ≡ Err fault → lines_read setting_line number draft (line ∷ lines) ≡ Err (fault_in_line kind_number number fault)
 unfolding lines_read
-stopped number draft line lines fault e = ap (λ (r : Result Draft Fault). on_ok (in_line number r) (λ more. lines_read (number + 1) more lines)) e
+stopped number draft line lines fault e = ap (λ (r : Result Draft SettingFault). then_on (on_line kind_number number r) (λ more. lines_read setting_line (number + 1) more lines)) e
 
-pub bad_lines_read : (number : ℕ) (draft : Draft) (lines : List (List ℕ)) → (b : FirstBad number draft.seen lines) → lines_read number draft lines ≡ Err (text_fault (number + length b.before) (fault_at b.kind b.place))
+pub bad_lines_read : (number : ℕ) (draft : Draft) (lines : List (List ℕ)) → (b : FirstBad number draft.seen lines) → lines_read setting_line number draft lines ≡ Err (fault_in_line kind_number (number + length b.before) (fault_of_kind b.kind b.place))
 bad_lines_read number draft lines b =
     let after : Draft = draft_of (applied b.entries draft.settings) (draft.seen ++ keys_of b.entries) in
-    ap (lines_read number draft) b.parts
+    ap (lines_read setting_line number draft) b.parts
     ∙ entries_read b.before (b.line ∷ b.behind) number b.entries draft b.good b.once
-    ∙ stopped (number + length b.before) after b.line b.behind (fault_at b.kind b.place) (bad_read (number + length b.before) after b.line b.kind b.place b.bad)
+    ∙ stopped (number + length b.before) after b.line b.behind (fault_of_kind b.kind b.place) (bad_read (number + length b.before) after b.line b.kind b.place b.bad)
 
-pub good_lines_read : (number : ℕ) (draft : Draft) (lines : List (List ℕ)) (entries : List Entry) → AreEntries number lines entries → AllDistinct (draft.seen ++ keys_of entries) → lines_read number draft lines ≡ Ok (draft_of (applied entries draft.settings) (draft.seen ++ keys_of entries))
+pub good_lines_read : (number : ℕ) (draft : Draft) (lines : List (List ℕ)) (entries : List Entry) → AreEntries number lines entries → AllDistinct (draft.seen ++ keys_of entries) → lines_read setting_line number draft lines ≡ Ok (draft_of (applied entries draft.settings) (draft.seen ++ keys_of entries))
 unfolding lines_read
-good_lines_read number draft lines entries h d = ap (lines_read number draft) (sym (append-nil lines)) ∙ entries_read lines [] number entries draft h d
+good_lines_read number draft lines entries h d = ap (lines_read setting_line number draft) (sym (append-nil lines)) ∙ entries_read lines [] number entries draft h d
 
 -- lines are good, or one of them is the first bad one
 abbrev pub Decided : ℕ → List Key → List (List ℕ) → Type 0
@@ -104,7 +106,7 @@ pub decide : (lines : List (List ℕ)) (number : ℕ) (seen : List Key) → AllD
 decide [] number seen d = inl ([], refl, subst (λ (ks : List Key). AllDistinct ks) (sym (append-nil seen)) d)
 decide (line ∷ lines) number seen d = by (line_case seen line) (λ more e. decide lines (number + 1) more e)
   where
-    by : IsLine seen line → ((more : List Key) → AllDistinct more → Decided (number + 1) more lines) → Decided number seen (line ∷ lines)
+    by : IsSettingsLine seen line → ((more : List Key) → AllDistinct more → Decided (number + 1) more lines) → Decided number seen (line ∷ lines)
     by (Skipped h) f = elim (f seen d) [
       | inl g ↦ inl (g.0, inl (h, g.1), g.2)
       | inr b ↦ inr (record {
@@ -136,7 +138,7 @@ decide (line ∷ lines) number seen d = by (line_case seen line) (λ more e. dec
                 parts = ap (λ (ls : List (List ℕ)). line ∷ ls) b.parts;
                 good = inr (e, b.entries, refl, refl, s, b.good);
                 once = subst (λ (ks : List Key). AllDistinct ks) keys b.once;
-                bad = subst (λ (ks : List Key). IsBadLine ks b.line b.kind b.place) keys b.bad;
+                bad = subst (λ (ks : List Key). IsBadSetting ks b.line b.kind b.place) keys b.bad;
               })
         ]
     by (Bad kind place h) f = inr (record {
@@ -149,7 +151,7 @@ decide (line ∷ lines) number seen d = by (line_case seen line) (λ more e. dec
       parts = refl;
       good = refl;
       once = subst (λ (ks : List Key). AllDistinct ks) (sym (append-nil seen)) d;
-      bad = subst (λ (ks : List Key). IsBadLine ks line kind place) (sym (append-nil seen)) h;
+      bad = subst (λ (ks : List Key). IsBadSetting ks line kind place) (sym (append-nil seen)) h;
     })
 
 -- each entry is one of the table

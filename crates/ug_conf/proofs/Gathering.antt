@@ -11,7 +11,7 @@ use Rattle.ug_conf.specs.declared.values.Setting.{Setting}
 use Rattle.ug_conf.specs.declared.values.Setting.TheVariants as setting
 use Rattle.ug_conf.specs.Draft.{with_setting}
 use Rattle.ug_conf.specs.Grammar.{IsValue}
-use Rattle.ug_conf.specs.Meaning.{Entry, keys_of, is_noted, Sets, IsGiven, Gives}
+use Rattle.ug_conf.specs.Meaning.{Entry, keys_of, is_noted, Sets, IsGiven, AreSettingsOf}
 use Rattle.ug_types.specs.Principals.{Named}
 use Rattle.ug_conf.specs.Settings.{defaults}
 
@@ -218,7 +218,7 @@ no_unused : defaults.unused ≡ []
 unfolding defaults
 no_unused = refl
 
-pub gathered : (entries : List Entry) → AllDistinct (keys_of entries) → AreFit entries → Gives entries (applied entries defaults)
+pub gathered : (entries : List Entry) → AllDistinct (keys_of entries) → AreFit entries → AreSettingsOf entries (applied entries defaults)
 gathered entries d f =
     let u = all_users entries defaults d f in
     record {
@@ -256,7 +256,7 @@ given_one what it k same entries x y default d f (inl h) (inr g) = absurd (g.0 x
 given_one what it k same entries x y default d f (inr h) (inl g) = absurd (h.0 y g)
 given_one what it k same entries x y default d f (inr h) (inr g) = h.1 ∙ sym g.1
 
-pub one_gathering : (entries : List Entry) (s t : Settings) → AreFit entries → Gives entries s → Gives entries t → s ≡ t
+pub one_gathering : (entries : List Entry) (s t : Settings) → AreFit entries → AreSettingsOf entries s → AreSettingsOf entries t → s ≡ t
 one_gathering entries s t f g h =
     let rule_file : s.rule_file ≡ t.rule_file = given_one setting.RuleFile key.RuleFile (λ x. refl) (λ x y e. (let same : x ≡ y = cc in same)) entries s.rule_file t.rule_file defaults.rule_file g.once f g.rule_file h.rule_file in
     let rule_folder : s.rule_folder ≡ t.rule_folder = given_one setting.RuleFolder key.RuleFolder (λ x. refl) (λ x y e. (let same : x ≡ y = cc in same)) entries s.rule_folder t.rule_folder defaults.rule_folder g.once f g.rule_folder h.rule_folder in

@@ -2,7 +2,6 @@ pub mod Assigning
 pub mod Entries
 pub mod Gathering
 pub mod LineCases
-pub mod LineSteps
 pub mod Saying
 pub mod SeenKeys
 pub mod Spacing

@@ -4,17 +4,18 @@ use Rattle.std.proofs.lemmas.Bool.{false≢true}
 use Rattle.std.proofs.lemmas.Bool.Decides.{nat_tests}
 use Rattle.std.proofs.lemmas.Option.{none-some}
 use Rattle.ug_types.specs.Elements.{Has}
-use Rattle.ug_conf.specs.declared.fault.Fault.{Fault}
 use Rattle.ug_conf.specs.declared.fault.FaultKind.{FaultKind}
 use Rattle.ug_conf.specs.declared.fault.FaultKind.TheVariants.{NoEquals, UnknownKey, BadValue, Repeated}
 use Rattle.ug_conf.specs.declared.keys.Key.{Key}
 use Rattle.ug_conf.specs.declared.values.Setting.{Setting}
 use Rattle.ug_lines.specs.Blanks.{without_front, without_end}
-use Rattle.ug_conf.specs.Draft.{Draft, draft_of, with_setting, has_key, unless_seen, or_bad, key_read, value_read, parted, parted_at, equation_read, text_read, line_read}
-use Rattle.ug_conf.specs.Faults.{fault_at, on_ok}
+use Rattle.ug_conf.specs.Draft.{Draft, draft_of, with_setting, has_key, unless_seen, or_bad, key_read, value_read, set_by_sides, set_at_sign, equation_read, text_read, line_read}
+use Rattle.ug_types.specs.TextFaults.{fault_of_kind}
+use Rattle.ug_lines.specs.LineReading.{then_on}
+use Rattle.ug_conf.specs.Faults.{SettingFault}
 use Rattle.ug_conf.specs.Keys.{key_of}
 use Rattle.ug_conf.specs.Values.{setting_of}
-use Rattle.ug_conf.specs.Grammar.{word_of, IsValue, IsSkippedLine, IsSetting, IsBadLine, IsLine, Skipped, SetsKey, Bad}
+use Rattle.ug_conf.specs.Grammar.{word_of, IsValue, IsSkippedLine, IsSetting, IsBadSetting, IsSettingsLine, Skipped, SetsKey, Bad}
 use Rattle.ug_lines.specs.Equations.{IsTextOf, IsSkipped, IsEquation}
 use Rattle.ug_conf.proofs.Assigning as values
 use Rattle.ug_conf.proofs.SeenKeys.{key_seen, seen_key}
@@ -23,7 +24,7 @@ use Rattle.ug_conf.proofs.Tables.{key_written, key_read as word_read}
 use Rattle.ug_lines.proofs.Trimming as trimming
 
 abbrev Outcome : Type 0
-Outcome = Result Draft Fault
+Outcome = Result Draft SettingFault
 
 -- the text of a line decides
 on_text : (number : ℕ) (draft : Draft) (line text : List ℕ) → IsTextOf line text → line_read number draft line ≡ text_read number draft text
@@ -46,28 +47,28 @@ shown_read number draft (b ∷ bytes) h =
     rw t refl
 
 -- an equation is read by its word and its value
-parted_read : (number : ℕ) (draft : Draft) (text word value : List ℕ) → IsEquation text word value → equation_read number draft text ≡ parted number draft text word value
+parted_read : (number : ℕ) (draft : Draft) (text word value : List ℕ) → IsEquation text word value → equation_read number draft text ≡ set_by_sides number draft text word value
 parted_read number draft text word value e =
     let p : Parts text word value = parts text word value e in
-    ap (parted_at number draft text) p.found
-    ∙ ap (λ (w : List ℕ). parted number draft text w (without_front (drop (p.at + 1) text))) p.word_is
-    ∙ ap (parted number draft text word) p.value_is
+    ap (set_at_sign number draft text) p.found
+    ∙ ap (λ (w : List ℕ). set_by_sides number draft text w (without_front (drop (p.at + 1) text))) p.word_is
+    ∙ ap (set_by_sides number draft text word) p.value_is
 
-line_parted : (number : ℕ) (draft : Draft) (line text word value : List ℕ) → IsTextOf line text → ¬ IsSkipped text → IsEquation text word value → line_read number draft line ≡ parted number draft text word value
+line_parted : (number : ℕ) (draft : Draft) (line text word value : List ℕ) → IsTextOf line text → ¬ IsSkipped text → IsEquation text word value → line_read number draft line ≡ set_by_sides number draft text word value
 line_parted number draft line text word value t s e = on_text number draft line text t ∙ shown_read number draft text s ∙ parted_read number draft text word value e
 
-abbrev after_key : ℕ → Draft → List ℕ → ℕ → Result Key Fault → Outcome
-after_key number draft value place read = on_ok read (λ key. on_ok (value_read place key value) (λ set. Ok (draft_of (with_setting number set draft.settings) (draft.seen ++ key ∷ []))))
+abbrev after_key : ℕ → Draft → List ℕ → ℕ → Result Key SettingFault → Outcome
+after_key number draft value place read = then_on read (λ key. then_on (value_read place key value) (λ set. Ok (draft_of (with_setting number set draft.settings) (draft.seen ++ key ∷ []))))
 
 new_key : (seen : List Key) (key : Key) → ¬ Has seen key → key_read seen (word_of key) ≡ Ok key
 new_key seen key h = ap (unless_seen seen) (word_read key) ∙ by (has_key seen key) refl
   where
-    by : (v : Bool) → has_key seen key ≡ v → cond v (Err (fault_at Repeated 0)) (Ok key) ≡ Ok key
+    by : (v : Bool) → has_key seen key ≡ v → cond v (Err (fault_of_kind Repeated 0)) (Ok key) ≡ Ok key
     by true e = absurd (h (key_seen seen key e))
     by false e = refl
 
-old_key : (seen : List Key) (key : Key) → Has seen key → key_read seen (word_of key) ≡ Err (fault_at Repeated 0)
-old_key seen key h = ap (unless_seen seen) (word_read key) ∙ ap (λ (v : Bool). cond v (Err (fault_at Repeated 0)) (Ok key)) (seen_key seen key h)
+old_key : (seen : List Key) (key : Key) → Has seen key → key_read seen (word_of key) ≡ Err (fault_of_kind Repeated 0)
+old_key seen key h = ap (unless_seen seen) (word_read key) ∙ ap (λ (v : Bool). cond v (Err (fault_of_kind Repeated 0)) (Ok key)) (seen_key seen key h)
 
 pub setting_read : (number : ℕ) (draft : Draft) (line : List ℕ) (key : Key) (set : Setting) → IsSetting line key set → ¬ Has draft.seen key
     → line_read number draft line ≡ Ok (draft_of (with_setting number set draft.settings) (draft.seen ++ key ∷ []))
@@ -75,7 +76,7 @@ setting_read number draft line key set s n =
     let place : ℕ = length s.text - length s.value in
     line_parted number draft line s.text (word_of key) s.value s.text_of s.shown s.equation
     ∙ ap (after_key number draft s.value place) (new_key draft.seen key n)
-    ∙ ap (λ (o : Option Setting). on_ok (or_bad place o) (λ set. Ok (draft_of (with_setting number set draft.settings) (draft.seen ++ key ∷ [])))) (values.value_read key s.value set s.has_value)
+    ∙ ap (λ (o : Option Setting). then_on (or_bad place o) (λ set. Ok (draft_of (with_setting number set draft.settings) (draft.seen ++ key ∷ [])))) (values.value_read key s.value set s.has_value)
 
 unknown : (word : List ℕ) → ((key : Key) → ¬ (word ≡ word_of key)) → key_of word ≡ None
 unknown word h = by (key_of word) refl
@@ -91,27 +92,27 @@ valueless key value h = by (setting_of key value) refl
     by None e = e
     by (Some set) e = absurd (h set (values.value_found key value set e))
 
-pub bad_read : (number : ℕ) (draft : Draft) (line : List ℕ) (kind : FaultKind) (place : ℕ) → IsBadLine draft.seen line kind place → line_read number draft line ≡ Err (fault_at kind place)
+pub bad_read : (number : ℕ) (draft : Draft) (line : List ℕ) (kind : FaultKind) (place : ℕ) → IsBadSetting draft.seen line kind place → line_read number draft line ≡ Err (fault_of_kind kind place)
 bad_read number draft line NoEquals place h =
     on_text number draft line h.0 h.1 ∙ shown_read number draft h.0 h.2
-    ∙ ap (parted_at number draft h.0) (sign_missing h.0 h.3.1) ∙ ap (λ (p : ℕ). Err (fault_at NoEquals p)) (sym h.3.0)
+    ∙ ap (set_at_sign number draft h.0) (sign_missing h.0 h.3.1) ∙ ap (λ (p : ℕ). Err (fault_of_kind NoEquals p)) (sym h.3.0)
 bad_read number draft line UnknownKey place h =
     let b = h.3 in
     line_parted number draft line h.0 b.1 b.2 h.1 h.2 b.3
     ∙ ap (λ (o : Option Key). after_key number draft b.2 (length h.0 - length b.2) (unless_seen draft.seen o)) (unknown b.1 b.4)
-    ∙ ap (λ (p : ℕ). Err (fault_at UnknownKey p)) (sym b.0)
+    ∙ ap (λ (p : ℕ). Err (fault_of_kind UnknownKey p)) (sym b.0)
 bad_read number draft line Repeated place h =
     let b = h.3 in
     line_parted number draft line h.0 (word_of b.1) b.2 h.1 h.2 b.3
     ∙ ap (after_key number draft b.2 (length h.0 - length b.2)) (old_key draft.seen b.1 b.4)
-    ∙ ap (λ (p : ℕ). Err (fault_at Repeated p)) (sym b.0)
+    ∙ ap (λ (p : ℕ). Err (fault_of_kind Repeated p)) (sym b.0)
 bad_read number draft line BadValue place h =
     let b = h.3 in
     let where_ : length h.0 - length b.1 ≡ place = omega (arith, b.5) in
     line_parted number draft line h.0 (word_of b.0) b.1 h.1 h.2 b.2
     ∙ ap (after_key number draft b.1 (length h.0 - length b.1)) (new_key draft.seen b.0 b.3)
-    ∙ ap (λ (o : Option Setting). on_ok (or_bad (length h.0 - length b.1) o) (λ set. Ok (draft_of (with_setting number set draft.settings) (draft.seen ++ b.0 ∷ [])))) (valueless b.0 b.1 b.4)
-    ∙ ap (λ (p : ℕ). Err (fault_at BadValue p)) where_
+    ∙ ap (λ (o : Option Setting). then_on (or_bad (length h.0 - length b.1) o) (λ set. Ok (draft_of (with_setting number set draft.settings) (draft.seen ++ b.0 ∷ [])))) (valueless b.0 b.1 b.4)
+    ∙ ap (λ (p : ℕ). Err (fault_of_kind BadValue p)) where_
 
 skip : (text : List ℕ) → IsSkipped text ⊎ (¬ IsSkipped text)
 skip [] = inl tt
@@ -121,30 +122,30 @@ skip (b ∷ bytes) = by (nat_eq b 35) refl
     by true e = inl (grind (arith, nat_tests))
     by false e = inr (λ k. (let none : ⊥ = grind (arith, nat_tests) in none))
 
-of_value : (seen : List Key) (line text value : List ℕ) (key : Key) → IsTextOf line text → ¬ IsSkipped text → IsEquation text (word_of key) value → ¬ Has seen key → IsLine seen line
+of_value : (seen : List Key) (line text value : List ℕ) (key : Key) → IsTextOf line text → ¬ IsSkipped text → IsEquation text (word_of key) value → ¬ Has seen key → IsSettingsLine seen line
 of_value seen line text value key t s e n = by (setting_of key value) refl
   where
-    by : (o : Option Setting) → setting_of key value ≡ o → IsLine seen line
+    by : (o : Option Setting) → setting_of key value ≡ o → IsSettingsLine seen line
     by (Some set) f = SetsKey key set (record { text = text; value = value; text_of = t; shown = s; equation = e; has_value = values.value_found key value set f }) n
     by None f =
         let whole : length value ≤ length text = value_place text (word_of key) value e in
         Bad BadValue (length text - length value) (text, t, s, (key, value, e, n, λ set k. none-some set (sym f ∙ values.value_read key value set k), omega (arith, whole)))
 
-of_key : (seen : List Key) (line text value : List ℕ) (key : Key) → IsTextOf line text → ¬ IsSkipped text → IsEquation text (word_of key) value → IsLine seen line
+of_key : (seen : List Key) (line text value : List ℕ) (key : Key) → IsTextOf line text → ¬ IsSkipped text → IsEquation text (word_of key) value → IsSettingsLine seen line
 of_key seen line text value key t s e = by (has_key seen key) refl
   where
-    by : (v : Bool) → has_key seen key ≡ v → IsLine seen line
+    by : (v : Bool) → has_key seen key ≡ v → IsSettingsLine seen line
     by true f = Bad Repeated 0 (text, t, s, (refl, key, value, e, key_seen seen key f))
     by false f = of_value seen line text value key t s e (λ h. false≢true (sym f ∙ seen_key seen key h))
 
-of_word : (seen : List Key) (line text word value : List ℕ) → IsTextOf line text → ¬ IsSkipped text → IsEquation text word value → IsLine seen line
+of_word : (seen : List Key) (line text word value : List ℕ) → IsTextOf line text → ¬ IsSkipped text → IsEquation text word value → IsSettingsLine seen line
 of_word seen line text word value t s e = by (key_of word) refl
   where
-    by : (o : Option Key) → key_of word ≡ o → IsLine seen line
+    by : (o : Option Key) → key_of word ≡ o → IsSettingsLine seen line
     by (Some key) f = of_key seen line text value key t s (subst (λ (w : List ℕ). IsEquation text w value) (key_written word key f) e)
     by None f = Bad UnknownKey 0 (text, t, s, (refl, word, value, e, λ key k. none-some key (sym f ∙ ap key_of k ∙ word_read key)))
 
-pub line_case : (seen : List Key) (line : List ℕ) → IsLine seen line
+pub line_case : (seen : List Key) (line : List ℕ) → IsSettingsLine seen line
 line_case seen line =
     let text : List ℕ = without_end (without_front line) in
     let t : IsTextOf line text = trimming.text_of line in

@@ -3,8 +3,6 @@ use Rattle.std.proofs.Common.{◌≡◌, ℕ, Bool, true, false, cond, nat_eq, L
 use Rattle.std.specs.Prelude.{codes}
 use Rattle.std.specs.Cmp.Lexicographic.{pointwise, same_text}
 use Rattle.std.proofs.lemmas.Option.{none-some, same_Some}
-use Rattle.ug_types.specs.declared.verdict.Target.{Target}
-use Rattle.ug_types.specs.declared.verdict.Target.TheVariants as target
 use Rattle.ug_conf.specs.declared.keys.Key.{Key}
 use Rattle.ug_conf.specs.declared.keys.Key.TheVariants as key
 use Rattle.ug_conf.specs.declared.settings.AuthDefault.{AuthDefault}
@@ -14,8 +12,8 @@ use Rattle.ug_conf.specs.declared.settings.Inserted.TheVariants as inserted
 use Rattle.ug_conf.specs.declared.settings.Present.{Present}
 use Rattle.ug_conf.specs.declared.settings.Present.TheVariants as present
 use Rattle.ug_conf.specs.Keys.{key_of, unused_key_of}
-use Rattle.ug_conf.specs.Values.{target_of, present_of, inserted_of, default_of, flag_of}
-use Rattle.ug_conf.specs.Grammar.{word_of, target_word, present_word, inserted_word, default_word, flag_word}
+use Rattle.ug_conf.specs.Values.{present_of, inserted_of, default_of, flag_of}
+use Rattle.ug_conf.specs.Grammar.{word_of, present_word, inserted_word, default_word, flag_word}
 
 -- one row of a table
 named : {X : Type 0} (spell : X → List ℕ) (word text : List ℕ) (here it : X) (rest : Option X) → text ≡ spell here → (rest ≡ Some it → word ≡ spell it) → cond (pointwise nat_eq word text) (Some here) rest ≡ Some it → word ≡ spell it
@@ -51,16 +49,6 @@ key_read key.DeviceManagerBackend = refl
 key_read key.AuditBackend = refl
 key_read key.AuditFilePath = refl
 key_read key.HidePii = refl
-
-pub target_written : (word : List ℕ) (it : Target) → target_of word ≡ Some it → word ≡ target_word it
-unfolding target_of
-target_written word it h = named target_word word (codes "allow") target.Allow it _ refl (λ h. named target_word word (codes "block") target.Block it _ refl (λ h. named target_word word (codes "reject") target.Reject it _ refl (λ h. absurd (none-some it h)) h) h) h
-
-pub target_read : (it : Target) → target_of (target_word it) ≡ Some it
-unfolding target_of
-target_read target.Allow = refl
-target_read target.Block = refl
-target_read target.Reject = refl
 
 pub present_written : (word : List ℕ) (it : Present) → present_of word ≡ Some it → word ≡ present_word it
 unfolding present_of

@@ -1,16 +1,16 @@
 -- What lines of settings set, one after the other: usbguard-daemon.conf(5).
 use Rattle.std.specs.Prelude.{◌≡◌, ℕ, ◌+◌, ◌-◌, Bool, nat_eq, if◌then◌else◌, List, [], ◌∷◌, ◌++◌, length, take, drop, Option, Some, None, Result, Ok, Err}
 use Rattle.std.specs.List.{position, list_any}
-use Rattle.ug_conf.specs.declared.fault.Fault.{Fault}
 use Rattle.ug_conf.specs.declared.fault.FaultKind.TheVariants.{NoEquals, UnknownKey, BadValue, Repeated}
-use Rattle.ug_conf.specs.declared.fault.LineFault.{LineFault}
-use Rattle.ug_conf.specs.declared.fault.LineFault.TheVariants.{Bad, Memory}
+use Rattle.ug_types.specs.declared.text_fault.LineFault.TheVariants.{Bad, Memory}
 use Rattle.ug_conf.specs.declared.keys.Key.{Key}
 use Rattle.ug_conf.specs.declared.settings.Settings.{Settings}
 use Rattle.ug_conf.specs.declared.values.Setting.{Setting}
 use Rattle.ug_conf.specs.declared.values.Setting.TheVariants as setting
 use Rattle.ug_lines.specs.Blanks.{without_front, without_end}
-use Rattle.ug_conf.specs.Faults.{fault_at, on_ok}
+use Rattle.ug_types.specs.TextFaults.{fault_of_kind}
+use Rattle.ug_lines.specs.LineReading.{then_on}
+use Rattle.ug_conf.specs.Faults.{SettingFault, SettingLineFault}
 use Rattle.ug_conf.specs.Keys.{key_of, same_key}
 use Rattle.ug_conf.specs.Values.{setting_of}
 
@@ -40,48 +40,48 @@ with_setting number setting.Unused s = record s { unused = s.unused ++ number �
 abbrev pub has_key : List Key → Key → Bool
 has_key seen key = list_any (λ k. same_key k key) seen
 
-abbrev pub unless_seen : List Key → Option Key → Result Key Fault
-unless_seen seen None = Err (fault_at UnknownKey 0)
-unless_seen seen (Some key) = if has_key seen key then Err (fault_at Repeated 0) else Ok key
+abbrev pub unless_seen : List Key → Option Key → Result Key SettingFault
+unless_seen seen None = Err (fault_of_kind UnknownKey 0)
+unless_seen seen (Some key) = if has_key seen key then Err (fault_of_kind Repeated 0) else Ok key
 
 -- the key that a word is, unless it was set before
-abbrev pub key_read : List Key → List ℕ → Result Key Fault
+abbrev pub key_read : List Key → List ℕ → Result Key SettingFault
 key_read seen word = unless_seen seen (key_of word)
 
-abbrev pub or_bad : ℕ → Option Setting → Result Setting Fault
-or_bad place None = Err (fault_at BadValue place)
+abbrev pub or_bad : ℕ → Option Setting → Result Setting SettingFault
+or_bad place None = Err (fault_of_kind BadValue place)
 or_bad place (Some setting) = Ok setting
 
-abbrev pub value_read : ℕ → Key → List ℕ → Result Setting Fault
+abbrev pub value_read : ℕ → Key → List ℕ → Result Setting SettingFault
 value_read place key text = or_bad place (setting_of key text)
 
 -- a word, and a value at a place
-abbrev pub assigned : ℕ → Draft → List ℕ → List ℕ → ℕ → Result Draft Fault
+abbrev pub assigned : ℕ → Draft → List ℕ → List ℕ → ℕ → Result Draft SettingFault
 assigned number draft word text place =
-    on_ok (key_read draft.seen word) (λ key. on_ok (value_read place key text) (λ setting. Ok (draft_of (with_setting number setting draft.settings) (draft.seen ++ key ∷ []))))
+    then_on (key_read draft.seen word) (λ key. then_on (value_read place key text) (λ setting. Ok (draft_of (with_setting number setting draft.settings) (draft.seen ++ key ∷ []))))
 
-abbrev pub parted : ℕ → Draft → List ℕ → List ℕ → List ℕ → Result Draft Fault
-parted number draft text word value = assigned number draft word value (length text - length value)
+abbrev pub set_by_sides : ℕ → Draft → List ℕ → List ℕ → List ℕ → Result Draft SettingFault
+set_by_sides number draft text word value = assigned number draft word value (length text - length value)
 
-abbrev pub parted_at : ℕ → Draft → List ℕ → Option ℕ → Result Draft Fault
-parted_at number draft text None = Err (fault_at NoEquals 0)
-parted_at number draft text (Some at) = parted number draft text (without_end (take at text)) (without_front (drop (at + 1) text))
+abbrev pub set_at_sign : ℕ → Draft → List ℕ → Option ℕ → Result Draft SettingFault
+set_at_sign number draft text None = Err (fault_of_kind NoEquals 0)
+set_at_sign number draft text (Some at) = set_by_sides number draft text (without_end (take at text)) (without_front (drop (at + 1) text))
 
 -- a key, an equals sign, and a value that begins behind the blanks
-abbrev pub equation_read : ℕ → Draft → List ℕ → Result Draft Fault
-equation_read number draft text = parted_at number draft text (position (nat_eq 61) text)
+abbrev pub equation_read : ℕ → Draft → List ℕ → Result Draft SettingFault
+equation_read number draft text = set_at_sign number draft text (position (nat_eq 61) text)
 
 -- a line without its blanks
-abbrev pub text_read : ℕ → Draft → List ℕ → Result Draft Fault
+abbrev pub text_read : ℕ → Draft → List ℕ → Result Draft SettingFault
 text_read number draft [] = Ok draft
 text_read number draft (b ∷ bytes) = if nat_eq b 35 then Ok draft else equation_read number draft (b ∷ bytes)
 
 -- what was set before with what the line of that number sets, or what is wrong with the line
-abbrev pub line_read : ℕ → Draft → List ℕ → Result Draft Fault
+abbrev pub line_read : ℕ → Draft → List ℕ → Result Draft SettingFault
 line_read number draft line = text_read number draft (without_end (without_front line))
 
 -- a call's answer, and what it leaves; a refusal changes nothing
-abbrev pub Takes : Result (Unit {0}) LineFault → Draft → Draft → Result Draft Fault → Type 0
-Takes (Ok done) before after read = read ≡ Ok after
-Takes (Err (Bad fault)) before after read = (read ≡ Err fault) × (after ≡ before)
-Takes (Err Memory) before after read = after ≡ before
+abbrev pub LeavesDraft : Result (Unit {0}) SettingLineFault → Draft → Draft → Result Draft SettingFault → Type 0
+LeavesDraft (Ok done) before after read = read ≡ Ok after
+LeavesDraft (Err (Bad fault)) before after read = (read ≡ Err fault) × (after ≡ before)
+LeavesDraft (Err Memory) before after read = after ≡ before

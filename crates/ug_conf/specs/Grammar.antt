@@ -1,9 +1,9 @@
 -- Lines of settings as relations: usbguard-daemon.conf(5).
-use Rattle.std.specs.Prelude.{◌≡◌, ◌≢◌, ℕ, ◌+◌, ◌⊎◌, Bool, true, false, IsTrue, List, [], ◌∷◌, ◌++◌, length, map, codes}
+use Rattle.std.specs.Prelude.{◌≡◌, ◌≢◌, ℕ, ◌+◌, Bool, true, false, IsTrue, List, [], ◌∷◌, ◌++◌, length, map, codes}
 use Rattle.ug_lines.specs.Equations.{IsBlank, AreBlanks, IsTextOf, IsSkipped, IsEquation}
 use Rattle.ug_types.specs.Elements.{Has}
 use Rattle.ug_types.specs.declared.verdict.Target.{Target}
-use Rattle.ug_types.specs.declared.verdict.Target.TheVariants as target
+use Rattle.ug_types.specs.Targets.{target_word}
 use Rattle.ug_conf.specs.declared.fault.FaultKind.{FaultKind}
 use Rattle.ug_conf.specs.declared.fault.FaultKind.TheVariants.{NoEquals, UnknownKey, BadValue, Repeated}
 use Rattle.ug_conf.specs.declared.keys.Key.{Key}
@@ -38,11 +38,6 @@ word_of key.AuditFilePath = codes "AuditFilePath"
 word_of key.HidePii = codes "HidePII"
 
 -- how values are written
-abbrev pub target_word : Target → List ℕ
-target_word target.Allow = codes "allow"
-target_word target.Block = codes "block"
-target_word target.Reject = codes "reject"
-
 abbrev pub present_word : Present → List ℕ
 present_word present.Allow = codes "allow"
 present_word present.Block = codes "block"
@@ -129,11 +124,11 @@ IsBad seen text UnknownKey place = (place ≡ 0) × (word : List ℕ) × (value 
 IsBad seen text Repeated place = (place ≡ 0) × (key : Key) × (value : List ℕ) × IsEquation text (word_of key) value × Has seen key
 IsBad seen text BadValue place = (key : Key) × (value : List ℕ) × IsEquation text (word_of key) value × (¬ Has seen key) × ((set : Setting) → ¬ IsValue key value set) × (length text ≡ place + length value)
 
-abbrev pub IsBadLine : List Key → List ℕ → FaultKind → ℕ → Type 0
-IsBadLine seen line kind place = (text : List ℕ) × IsTextOf line text × (¬ IsSkipped text) × IsBad seen text kind place
+abbrev pub IsBadSetting : List Key → List ℕ → FaultKind → ℕ → Type 0
+IsBadSetting seen line kind place = (text : List ℕ) × IsTextOf line text × (¬ IsSkipped text) × IsBad seen text kind place
 
 -- what a line is behind lines that set some keys: skipped, a key that is set for the first time, or bad
-pub data IsLine (seen : List Key) (line : List ℕ) : Type 0 where
-  Skipped : IsSkippedLine line → IsLine seen line
-  SetsKey : (key : Key) (set : Setting) → IsSetting line key set → ¬ Has seen key → IsLine seen line
-  Bad : (kind : FaultKind) (place : ℕ) → IsBadLine seen line kind place → IsLine seen line
+pub data IsSettingsLine (seen : List Key) (line : List ℕ) : Type 0 where
+  Skipped : IsSkippedLine line → IsSettingsLine seen line
+  SetsKey : (key : Key) (set : Setting) → IsSetting line key set → ¬ Has seen key → IsSettingsLine seen line
+  Bad : (kind : FaultKind) (place : ℕ) → IsBadSetting seen line kind place → IsSettingsLine seen line

@@ -10,7 +10,7 @@ use Rattle.ug_conf.specs.declared.settings.Settings.{Settings}
 use Rattle.ug_conf.specs.declared.values.Setting.{Setting}
 use Rattle.ug_conf.specs.declared.values.Setting.TheVariants as setting
 use Rattle.ug_conf.specs.Faults.{kind_number}
-use Rattle.ug_conf.specs.Grammar.{IsSkippedLine, IsSetting, IsBadLine}
+use Rattle.ug_conf.specs.Grammar.{IsSkippedLine, IsSetting, IsBadSetting}
 use Rattle.ug_types.specs.Principals.{Named}
 use Rattle.ug_conf.specs.Settings.{defaults}
 
@@ -49,7 +49,7 @@ abbrev pub IsGiven : {X : Type 0} → List Entry → (X → Setting) → X → X
 IsGiven {X} entries what value default = Sets entries (what value) ⊎ (((other : X) → ¬ Sets entries (what other)) × (value ≡ default))
 
 -- the settings that lines give, each of which sets another key
-pub record Gives (entries : List Entry) (settings : Settings) : Type 0 where
+pub record AreSettingsOf (entries : List Entry) (settings : Settings) : Type 0 where
   pub once : AllDistinct (keys_of entries)
   pub users : List Named
   pub groups : List Named
@@ -68,11 +68,11 @@ pub record Gives (entries : List Entry) (settings : Settings) : Type 0 where
   pub unused : settings.unused ≡ map (λ entry. entry.number) (filter (λ entry. is_noted entry.key) entries)
 
 -- a text gives these settings
-abbrev pub Says : List ℕ → Settings → Type 0
-Says text settings = (entries : List Entry) × AreEntries 1 (lines_of text) entries × Gives entries settings
+abbrev pub GivesSettings : List ℕ → Settings → Type 0
+GivesSettings text settings = (entries : List Entry) × AreEntries 1 (lines_of text) entries × AreSettingsOf entries settings
 
 -- the lines before are good and set each another key, and this one is bad
-pub record IsFirstBad (text : List ℕ) (fault : TextFault) : Type 0 where
+pub record IsFirstBadSetting (text : List ℕ) (fault : TextFault) : Type 0 where
   pub before : List (List ℕ)
   pub line : List ℕ
   pub behind : List (List ℕ)
@@ -81,6 +81,6 @@ pub record IsFirstBad (text : List ℕ) (fault : TextFault) : Type 0 where
   pub lines : lines_of text ≡ before ++ line ∷ behind
   pub good : AreEntries 1 before entries
   pub once : AllDistinct (keys_of entries)
-  pub bad : IsBadLine (keys_of entries) line kind fault.place
+  pub bad : IsBadSetting (keys_of entries) line kind fault.place
   pub number : fault.line ≡ length before + 1
   pub kind_is : fault.kind ≡ kind_number kind

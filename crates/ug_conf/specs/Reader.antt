@@ -1,7 +1,7 @@
 -- Settings that come a line at a time.
 use Rattle.std.specs.Prelude.{◌≡◌, ℕ, ◌+◌, ◌-◌, ◌^◌, min, List, Result, Ok, Err}
-use Rattle.ug_conf.specs.declared.fault.LineFault.{LineFault}
-use Rattle.ug_conf.specs.declared.fault.LineFault.TheVariants.{Bad, Memory}
+use Rattle.ug_types.specs.declared.text_fault.LineFault.TheVariants.{Bad, Memory}
+use Rattle.ug_conf.specs.Faults.{SettingLineFault}
 use Rattle.ug_conf.specs.Draft.{Draft, line_read}
 
 pub record Progress : Type 0 where
@@ -14,7 +14,7 @@ abbrev pub next_number : ℕ → ℕ
 next_number lines = min (lines + 1) (2 ^ 64 - 1)
 
 -- a line that is taken is counted, and a refusal changes nothing
-abbrev pub TakesLine : Result (Unit {0}) LineFault → Progress → Progress → List ℕ → Type 0
+abbrev pub TakesLine : Result (Unit {0}) SettingLineFault → Progress → Progress → List ℕ → Type 0
 TakesLine (Ok done) before after line = (line_read (next_number before.lines) before.draft line ≡ Ok after.draft) × (after.lines ≡ next_number before.lines)
 TakesLine (Err (Bad fault)) before after line = (line_read (next_number before.lines) before.draft line ≡ Err fault) × (after ≡ before)
 TakesLine (Err Memory) before after line = after ≡ before

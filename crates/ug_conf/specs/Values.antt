@@ -2,8 +2,7 @@
 use Rattle.std.specs.Prelude.{ℕ, Bool, true, false, nat_eq, if◌then◌else◌, List, [], ◌∷◌, codes, Option, Some, None}
 use Rattle.std.specs.Cmp.Lexicographic.{pointwise}
 use Rattle.std.specs.Option.{option_map}
-use Rattle.ug_types.specs.declared.verdict.Target.{Target}
-use Rattle.ug_types.specs.declared.verdict.Target.TheVariants.{Allow, Block, Reject}
+use Rattle.ug_types.specs.Targets.{target_of}
 use Rattle.ug_conf.specs.declared.keys.Key.{Key}
 use Rattle.ug_conf.specs.declared.keys.Key.TheVariants as key
 use Rattle.ug_conf.specs.declared.settings.AuthDefault.{AuthDefault}
@@ -15,12 +14,6 @@ use Rattle.ug_conf.specs.declared.settings.Present.TheVariants as present
 use Rattle.ug_conf.specs.declared.values.Setting.{Setting}
 use Rattle.ug_conf.specs.declared.values.Setting.TheVariants as setting
 use Rattle.ug_conf.specs.Names.{words_of, all_named}
-
-unfoldable pub target_of : List ℕ → Option Target
-target_of word =
-    if pointwise nat_eq word (codes "allow") then Some Allow else
-    if pointwise nat_eq word (codes "block") then Some Block else
-    if pointwise nat_eq word (codes "reject") then Some Reject else None
 
 unfoldable pub present_of : List ℕ → Option Present
 present_of word =

@@ -1,17 +1,17 @@
 // What the lines so far set.
 ghost use Rattle.std.specs.Prelude.{◌≡◌, ◌++◌, IfOk, OnOk, OnErr, nat_eq};
 ghost use Rattle.std.specs.List.{position};
-ghost use Rattle.ug_conf.specs.Faults.{Answers};
+ghost use Rattle.ug_types.specs.TextFaults.{IsLineRead};
 ghost use Rattle.ug_conf.specs.Draft as drafts;
-ghost use Rattle.ug_conf.specs.Draft.{draft_of, with_setting, key_read, value_read, assigned, line_read, Takes};
+ghost use Rattle.ug_conf.specs.Draft.{draft_of, with_setting, key_read, value_read, assigned, line_read, LeavesDraft};
 
-use crate::fault::{FaultKind, LineFault};
+use crate::fault::FaultKind;
 use crate::keys::{Key, known_key};
 use crate::settings::Settings;
 use crate::values::{Setting, make_setting};
 use std::alloc::Global;
 use ug_lines::{without_end, without_front};
-use ug_types::{List, NoMemory, Principal};
+use ug_types::{LineFault, List, NoMemory, Principal};
 
 // Both, one behind the other.
 fn joined(
@@ -64,8 +64,8 @@ fn set(
 }
 
 // The key that a word is, unless it was set before.
-fn new_key(seen: &[Key], word: &[u8]) -> Result<Key, LineFault>
-    ensures { Answers result (key_read seen.now word.now) }
+fn new_key(seen: &[Key], word: &[u8]) -> Result<Key, LineFault<FaultKind>>
+    ensures { IsLineRead result (key_read seen.now word.now) }
 {
     match known_key(word) {
         Some(key) => {
@@ -78,8 +78,8 @@ fn new_key(seen: &[Key], word: &[u8]) -> Result<Key, LineFault>
     }
 }
 
-fn value(alloc: Global, key: Key, text: &[u8], place: u64) -> Result<Setting, LineFault>
-    ensures { Answers result (value_read place key text.now) }
+fn value(alloc: Global, key: Key, text: &[u8], place: u64) -> Result<Setting, LineFault<FaultKind>>
+    ensures { IsLineRead result (value_read place key text.now) }
 {
     match make_setting(alloc, key, text)? {
         Some(setting) => Ok(setting),
@@ -87,7 +87,7 @@ fn value(alloc: Global, key: Key, text: &[u8], place: u64) -> Result<Setting, Li
     }
 }
 
-// Takes what stands before and behind the first `=`. The value's place is given.
+// LeavesDraft what stands before and behind the first `=`. The value's place is given.
 fn add_assignment(
     alloc: Global,
     settings: &mut Settings,
@@ -96,8 +96,8 @@ fn add_assignment(
     word: &[u8],
     text: &[u8],
     place: u64,
-) -> Result<(), LineFault>
-    ensures { Takes result (draft_of settings.old seen.old.items) (draft_of settings.new seen.new.items) (assigned number (draft_of settings.old seen.old.items) word.now text.now place) }
+) -> Result<(), LineFault<FaultKind>>
+    ensures { LeavesDraft result (draft_of settings.old seen.old.items) (draft_of settings.new seen.new.items) (assigned number (draft_of settings.old seen.old.items) word.now text.now place) }
 {
     let key = new_key(seen.as_slice(), word)?;
     let setting = value(alloc, key, text, place)?;
@@ -116,15 +116,15 @@ fn equals_in(text: &[u8]) -> Option<usize>
     text.iter().position(|byte| b'=' == *byte)
 }
 
-// Takes a line that is neither empty nor a comment, without its blanks.
+// LeavesDraft a line that is neither empty nor a comment, without its blanks.
 fn add_text(
     alloc: Global,
     settings: &mut Settings,
     seen: &mut Vec<Key>,
     number: u64,
     text: &[u8],
-) -> Result<(), LineFault>
-    ensures { Takes result (draft_of settings.old seen.old.items) (draft_of settings.new seen.new.items) (drafts.equation_read number (draft_of settings.old seen.old.items) text.now) }
+) -> Result<(), LineFault<FaultKind>>
+    ensures { LeavesDraft result (draft_of settings.old seen.old.items) (draft_of settings.new seen.new.items) (drafts.equation_read number (draft_of settings.old seen.old.items) text.now) }
 {
     match equals_in(text) {
         Some(at) => {
@@ -137,15 +137,15 @@ fn add_text(
     }
 }
 
-/// Takes the line of that number. A refusal changes nothing.
+/// LeavesDraft the line of that number. A refusal changes nothing.
 pub fn add_line(
     alloc: Global,
     settings: &mut Settings,
     seen: &mut Vec<Key>,
     number: u64,
     line: &[u8],
-) -> Result<(), LineFault>
-    ensures { Takes result (draft_of settings.old seen.old.items) (draft_of settings.new seen.new.items) (line_read number (draft_of settings.old seen.old.items) line.now) }
+) -> Result<(), LineFault<FaultKind>>
+    ensures { LeavesDraft result (draft_of settings.old seen.old.items) (draft_of settings.new seen.new.items) (line_read number (draft_of settings.old seen.old.items) line.now) }
 {
     let text = without_end(without_front(line));
     if text.is_empty() {

@@ -16,7 +16,7 @@ mod tree;
 mod values;
 
 pub use defaults::default_settings;
-pub use fault::{Fault, FaultKind, LineFault};
+pub use fault::FaultKind;
 pub use files::{ConfFiles, FileRead, FolderRead};
 pub use laws::{lines_law, one_meaning, reading_is_grammar};
 pub use mem_files::MemFiles;
@@ -24,4 +24,4 @@ pub use reader::SettingsReader;
 pub use settings::{AuthDefault, Inserted, Present, Settings};
 pub use texts::parse_conf;
 pub use tree::{MemFile, MemFolder};
-pub use ug_types::Principal;
+pub use ug_types::{Fault, LineFault, Principal};

@@ -6,12 +6,12 @@ ghost use Rattle.ug_conf.specs.Reader.{TakesLine};
 
 use crate::defaults::default_settings;
 use crate::draft::add_line;
-use crate::fault::LineFault;
+use crate::fault::FaultKind;
 use crate::keys::Key;
 use crate::settings::Settings;
 use std::alloc::Global;
 use std::marker::Model;
-use ug_types::NoMemory;
+use ug_types::{LineFault, NoMemory};
 
 /// Settings so far, the keys that were set, and how many lines were taken.
 #[derive(Drop)]
@@ -44,9 +44,9 @@ impl SettingsReader {
         })
     }
 
-    /// Takes a line without its newline, as `parse_conf` does: it counts on, and no key stands twice in the lines taken so
+    /// LeavesDraft a line without its newline, as `parse_conf` does: it counts on, and no key stands twice in the lines taken so
     /// far. A refusal changes nothing.
-    pub fn line(&mut self, line: &[u8]) -> Result<(), LineFault>
+    pub fn line(&mut self, line: &[u8]) -> Result<(), LineFault<FaultKind>>
         ensures { TakesLine result self.old self.new line.now }
     {
         let number = self.lines.saturating_add(1);

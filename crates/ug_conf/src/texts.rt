@@ -1,13 +1,42 @@
 // Texts of settings, a line each.
 ghost use Rattle.std.specs.Prelude.{◌≡◌, IfOk, IfErr};
-ghost use Rattle.ug_conf.specs.Texts.{conf_read, IsFault};
+ghost use Rattle.ug_types.specs.TextFaults.{IsTextFault};
+ghost use Rattle.ug_conf.specs.Texts.{conf_read};
 
 use crate::defaults::default_settings;
 use crate::draft::add_line;
+use crate::keys::Key;
 use crate::settings::Settings;
 use std::alloc::Global;
-use ug_lines::next_line;
+use ug_lines::{LineReader, read_lines};
 use ug_types::FileFault;
+
+/// Settings so far, and the keys that were set.
+#[derive(Drop)]
+struct Drafting {
+    settings: Settings,
+    seen: Vec<Key>,
+}
+
+impl LineReader for Drafting {
+    ghost use Rattle.ug_conf.specs.Draft.{Draft, draft_of};
+    ghost use Rattle.ug_conf.specs.Texts.{setting_line};
+
+    ghost State = { Draft };
+
+    ghost state = { λ d. draft_of d.settings d.seen.items };
+
+    ghost reads = { setting_line };
+
+    ghost keeps = { λ _ _. Unit {0} };
+
+    fn read_line(&mut self, alloc: Global, number: u64, line: &[u8]) -> Result<(), FileFault> {
+        match add_line(alloc, &mut self.settings, &mut self.seen, number, line) {
+            Ok(()) => Ok(()),
+            Err(fault) => Err(fault.in_line(number)),
+        }
+    }
+}
 
 /// The settings of a text, or its first bad line: usbguard-daemon.conf(5). A line is empty, a comment that begins with `#`,
 /// or `Key=Value`. Blanks, space and tab, may stand at its ends and about the first `=`. Each key stands once at most; those
@@ -17,23 +46,18 @@ use ug_types::FileFault;
 /// number of bytes.
 pub fn parse_conf(alloc: Global, text: &[u8]) -> Result<Settings, FileFault>
     ensures good { IfOk result (λ settings. conf_read text.now ≡ Ok settings) }
-    ensures bad { IfErr result (λ fault. IsFault fault (conf_read text.now)) }
+    ensures bad { IfErr result (λ fault. IsTextFault fault (conf_read text.now)) }
 {
-    let mut settings = match default_settings(alloc) {
+    let settings = match default_settings(alloc) {
         Ok(settings) => settings,
         Err(_) => return Err(FileFault::Memory),
     };
-    let mut seen = Vec::new(alloc);
-    let mut number: u64 = 1;
-    let mut rest = text;
-    while !rest.is_empty() {
-        let (line, more) = next_line(rest);
-        match add_line(alloc, &mut settings, &mut seen, number, line) {
-            Ok(()) => {}
-            Err(fault) => return Err(fault.in_line(number)),
-        }
-        number += 1;
-        rest = more;
+    let mut draft = Drafting {
+        settings,
+        seen: Vec::new(alloc),
+    };
+    match read_lines(alloc, &mut draft, text) {
+        Ok(()) => Ok(draft.settings),
+        Err(fault) => Err(fault),
     }
-    Ok(settings)
 }

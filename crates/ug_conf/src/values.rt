@@ -1,6 +1,6 @@
 // The values of settings: usbguard-daemon.conf(5).
 ghost use Rattle.std.specs.Prelude.{◌≡◌, IfOk};
-ghost use Rattle.ug_conf.specs.Values.{target_of, present_of, inserted_of, default_of, flag_of, path_of, setting_of};
+ghost use Rattle.ug_conf.specs.Values.{present_of, inserted_of, default_of, flag_of, path_of, setting_of};
 
 use crate::keys::Key;
 use crate::names::named;
@@ -24,22 +24,6 @@ pub enum Setting {
     WithPort(bool),
     /// Any value of a key that sets nothing.
     Unused,
-}
-
-#[tactic(auto, unfolding(crate::specs::Values::target_of))]
-fn target(word: &[u8]) -> Option<Target>
-    ensures { result ≡ target_of word.now }
-{
-    if word == b"allow".as_slice() {
-        return Some(Target::Allow);
-    }
-    if word == b"block".as_slice() {
-        return Some(Target::Block);
-    }
-    if word == b"reject".as_slice() {
-        return Some(Target::Reject);
-    }
-    None
 }
 
 #[tactic(auto, unfolding(crate::specs::Values::present_of))]
@@ -128,7 +112,7 @@ pub fn make_setting(alloc: Global, key: Key, value: &[u8]) -> Result<Option<Sett
     match key {
         Key::RuleFile => Ok(path(alloc, value)?.map(Setting::RuleFile)),
         Key::RuleFolder => Ok(Some(Setting::RuleFolder(Text::of(alloc, value)?))),
-        Key::ImplicitPolicyTarget => Ok(target(value).map(Setting::Implicit)),
+        Key::ImplicitPolicyTarget => Ok(Target::named(value).map(Setting::Implicit)),
         Key::PresentDevicePolicy => Ok(present(value).map(Setting::PresentDevice)),
         Key::PresentControllerPolicy => Ok(present(value).map(Setting::PresentController)),
         Key::InsertedDevicePolicy => Ok(inserted(value).map(Setting::Inserted)),

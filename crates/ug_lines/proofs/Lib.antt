@@ -1,11 +1,9 @@
 pub mod Lines
-pub mod Stages
 pub mod Splitting
-pub mod Feeding
-pub mod Faults
-pub mod Ending
-pub mod Outputs
 pub mod BlankSteps
 pub mod FirstLine
 pub mod Signs
 pub mod Trimming
+pub mod LineReading
+pub mod Meanings
+pub mod TextLines

@@ -1,7 +1,5 @@
 pub mod Blanks
 pub mod Equations
+pub mod LineReading
 pub mod Lines
-pub mod Fold
-pub mod Runs
 pub mod Splitting
-pub mod Statuses

@@ -1,15 +1,12 @@
-// The lines of a text, a machine that takes them one by one, and the status of a call from source to sink.
+// The lines of a text, the blanks about them, and texts that are read line by line.
 #![tactic(auto)]
 
 mod blanks;
-mod call;
-mod feed;
 mod first_line;
 mod laws;
-mod machine;
+mod line_reading;
 
 pub use blanks::{is_blank, without_end, without_front};
-pub use call::{Ended, replay, run, status};
 pub use first_line::next_line;
-pub use laws::split_in_one_way;
-pub use machine::{Machine, Ran};
+pub use laws::{line_reading_law, split_in_one_way, text_lines_law};
+pub use line_reading::{LineReader, read_lines};

@@ -24,9 +24,15 @@ use Rattle.ug_policy.specs.Deciding.{conditions_take, rule_takes, words_taken, r
 use Rattle.ug_policy.specs.Kept.{StandsFor}
 use Rattle.ug_policy.specs.Matching.{matched, answer_by, answered, greatest, noted, judged}
 use Rattle.ug_policy.specs.Rules.{ids, IsNumbered}
-use Rattle.ug_policy.proofs.Judged.{not_true, true-not_false}
 use Rattle.ug_policy.proofs.Numbering.{numbered_same}
 use Rattle.ug_policy.proofs.Stands.{FirstMatches}
+
+not_true : (b : Bool) → ¬ IsTrue b → b ≡ false
+not_true true h = absurd (h refl)
+not_true false h = refl
+
+true-not_false : (b : Bool) → b ≡ false → ¬ IsTrue b
+true-not_false b e t = let none : ⊥ = cc in absurd none
 
 pub behind_add : (a b : ℕ) (stream : Stream) → behind (a + b) stream ≡ behind b (behind a stream)
 behind_add zero b stream = let none : 0 + b ≡ b = omega arith in ap (λ (n : ℕ). behind n stream) none

@@ -3,6 +3,5 @@ pub mod Changes
 pub mod Members
 pub mod Numbering
 pub mod Stands
-pub mod Judged
 pub mod Finding
 pub mod Lists

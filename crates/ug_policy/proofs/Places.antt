@@ -39,22 +39,3 @@ none_from {X} p (x ∷ xs) h =
 
 pub none_passes : {X : Type 0} (p : X → Bool) (xs : List X) → position p xs ≡ None → NonePasses p xs
 none_passes p xs e = none_from p xs (grind arith)
-
-pub first_or_none : {X : Type 0} (p : X → Bool) (xs : List X) → ((i : ℕ) × (x : X) × FirstAt p xs i x) ⊎ NonePasses p xs
-first_or_none p [] = inr tt
-first_or_none {X} p (y ∷ ys) =
-    let T : Bool → Type 0 = λ b. p y ≡ b → ((i : ℕ) × (x : X) × FirstAt p (y ∷ ys) i x) ⊎ NonePasses p (y ∷ ys) in
-    let f : (b : Bool) → T b = λ b. elim b as T [
-      | true ↦ λ e. inl (zero, y, (refl, e))
-      | false ↦ λ e. elim (first_or_none p ys) [ inl k ↦ inl (suc k.0, k.1, (e, k.2)) | inr none ↦ inr (e, none) ]
-    ] in
-    f (p y) refl
-
-pub find_first : {X : Type 0} (p : X → Bool) (xs : List X) (i : ℕ) (x : X) → FirstAt p xs i x → find p xs ≡ Some x
-find_first p [] i x h = absurd h
-find_first p (y ∷ ys) zero x h = cond-true (p y) (Some y) (find p ys) h.1 ∙ ap (λ v. Some v) h.0
-find_first p (y ∷ ys) (suc i) x h = cond-false (p y) (Some y) (find p ys) h.0 ∙ find_first p ys i x h.1
-
-pub find_none : {X : Type 0} (p : X → Bool) (xs : List X) → NonePasses p xs → find p xs ≡ None
-find_none p [] h = refl
-find_none p (y ∷ ys) h = cond-false (p y) (Some y) (find p ys) h.0 ∙ find_none p ys h.1

@@ -1,5 +1,5 @@
 -- The rule that decides.
-use Rattle.std.specs.Prelude.{◌≡◌, ℕ, ◌<◌, List, [], ◌∷◌, Bool, if◌then◌else◌, nat_le, IsTrue, Option, Some, None, find, slice_get}
+use Rattle.std.specs.Prelude.{List, [], ◌∷◌, Bool, if◌then◌else◌, nat_le, Option, Some, None, find}
 use Rattle.ug_types.specs.declared.record.DeviceRecord.{DeviceRecord}
 use Rattle.ug_types.specs.declared.verdict.Cause.{Cause}
 use Rattle.ug_types.specs.declared.verdict.Cause.TheVariants as cause
@@ -10,16 +10,6 @@ use Rattle.ug_policy.specs.declared.entry.RuleEntry.{RuleEntry}
 
 abbrev pub matched : DeviceRecord → RuleEntry → Bool
 matched dev e = query_matches e.rule.query dev
-
--- the rule at that place matches, and none before it does
-pub record IsDeciding (dev : DeviceRecord) (entries : List RuleEntry) (place : ℕ) (entry : RuleEntry) : Type 0 where
-  pub there : slice_get entries place ≡ Some entry
-  pub matching : IsTrue (matched dev entry)
-  pub first : (k : ℕ) (e : RuleEntry) → k < place → slice_get entries k ≡ Some e → ¬ IsTrue (matched dev e)
-
--- no rule matches
-abbrev pub NoneDecides : DeviceRecord → List RuleEntry → Type 0
-NoneDecides dev entries = (k : ℕ) (e : RuleEntry) → slice_get entries k ≡ Some e → ¬ IsTrue (matched dev e)
 
 -- the verdict of the rule that decides, if one does
 abbrev pub answer_by : Target → Option RuleEntry → Target × Cause

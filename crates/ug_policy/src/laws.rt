@@ -1,8 +1,7 @@
 // What the definitions of changes and of deciding come to.
-ghost use Rattle.std.specs.Prelude.{◌≡◌, ◌⊎◌, ◌↔◌, ℕ, ◌+◌, List, ◌∷◌, ◌++◌, Some, None, IsTrue, filter, take, slice_set};
+ghost use Rattle.std.specs.Prelude.{◌≡◌, ◌⊎◌, ◌↔◌, ℕ, ◌+◌, List, ◌∷◌, ◌++◌, Some, None, IsTrue, filter, take};
 ghost use Rattle.ug_types.specs.Elements.{Has, AllDistinct};
 ghost use Rattle.ug_types.specs.declared.record.DeviceRecord.{DeviceRecord};
-ghost use Rattle.ug_types.specs.declared.verdict.Moment.{Moment};
 ghost use Rattle.ug_types.specs.declared.verdict.Target.{Target};
 ghost use Rattle.rand_core.specs.Stream.{Stream};
 ghost use Rattle.ug_cond.specs.declared.context.Context as when;
@@ -12,9 +11,9 @@ ghost use Rattle.ug_policy.specs.Rules.{ids};
 ghost use Rattle.ug_policy.specs.Edits.{IsThere, aimed, inserted, removed, retargeted};
 ghost use Rattle.ug_policy.specs.Deciding.{HasNoDecider, IsDecider, RuleHolds, find_decider, judgement_found, rule_holds};
 ghost use Rattle.ug_policy.specs.Kept.{StandsFor};
-ghost use Rattle.ug_policy.specs.Matching.{IsDeciding, NoneDecides, answered, judged, matched, noted};
+ghost use Rattle.ug_policy.specs.Matching.{matched};
 
-use ug_types::{After, Cause};
+use ug_types::After;
 
 /// Where ids are distinct, a change by an id is one at that rule alone, wherever it stands.
 pub fn edits_law()
@@ -23,15 +22,6 @@ pub fn edits_law()
     ensures retargeted { (front back : List RuleEntry) (rule : RuleEntry) (target : Target) → AllDistinct (ids (front ++ rule ∷ back)) → retargeted rule.id target (front ++ rule ∷ back) ≡ front ++ aimed target rule ∷ back }
     ensures there { (rules : List RuleEntry) (id : ℕ) → IsThere (After.Rule id) rules → (front : List RuleEntry) × (rule : RuleEntry) × (back : List RuleEntry) × (rules ≡ front ++ rule ∷ back) × (rule.id ≡ id) }
     ensures not_there { (rules : List RuleEntry) (id : ℕ) → ¬ Has (ids rules) id → (removed id rules ≡ rules) × ((target : Target) → retargeted id target rules ≡ rules) }
-{}
-
-/// Where rules are matched by their attributes alone, one rule decides, the first that matches, or none does.
-pub fn deciding_law()
-    ensures some { (dev : DeviceRecord) (rules : List RuleEntry) → ((place : ℕ) × (entry : RuleEntry) × IsDeciding dev rules place entry) ⊎ NoneDecides dev rules }
-    ensures one { (dev : DeviceRecord) (rules : List RuleEntry) (place other : ℕ) (entry another : RuleEntry) → IsDeciding dev rules place entry → IsDeciding dev rules other another → (place ≡ other) × (entry ≡ another) }
-    ensures not_both { (dev : DeviceRecord) (rules : List RuleEntry) (place : ℕ) (entry : RuleEntry) → IsDeciding dev rules place entry → NoneDecides dev rules → ⊥ }
-    ensures rule { (dev : DeviceRecord) (moment : Moment) (implicit : Target) (rules : List RuleEntry) (place : ℕ) (entry : RuleEntry) → IsDeciding dev rules place entry → (answered dev implicit rules ≡ (entry.rule.target, Cause.Rule entry.id)) × (judged dev moment rules ≡ slice_set rules place (noted moment entry)) }
-    ensures implicit { (dev : DeviceRecord) (moment : Moment) (implicit : Target) (rules : List RuleEntry) → NoneDecides dev rules → (answered dev implicit rules ≡ (implicit, Cause.Implicit)) × (judged dev moment rules ≡ rules) }
 {}
 
 /// One rule decides by its attributes and its conditions, or none does; what is found is that rule, and what was

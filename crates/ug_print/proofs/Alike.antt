@@ -13,7 +13,7 @@ use Rattle.ug_match.specs.Covers.{covers_id, covers_interface, covers_text}
 use Rattle.ug_match.specs.Operators.{holds, IsMatched, MatchesSome}
 use Rattle.ug_match.specs.Queries.{attribute, query_matches}
 use Rattle.ug_match.proofs.Membership.{equals_decides}
-use Rattle.ug_rule.specs.WordGrammar.{id_with}
+use Rattle.ug_words.specs.WordGrammar.{id_with}
 use Rattle.ug_print.specs.Alike.{HasInterfaces, IsAlike}
 use Rattle.ug_print.specs.Generated.{equals, interface_of, interfaces_of, query_of}
 

@@ -6,11 +6,12 @@ use Rattle.std.specs.Cmp.Lexicographic.{pointwise}
 use Rattle.std.proofs.Math.Nat.{mul-le-mul_right, le-mul_of_pos_right}
 use Rattle.std.proofs.lemmas.List.{length-replicate}
 use Rattle.std.proofs.lemmas.Nat.{div_below, div-add-mod', div-mul-add, mod-mul-add, mod_below}
-use Rattle.ug_rule.specs.Words.{billionths_of, chance_of, digits_of, with_digit, zero_point}
-use Rattle.ug_rule.proofs.Cases.{by_test}
+use Rattle.ug_words.specs.Words.{billionths_of, chance_of, digits_of, with_digit, zero_point}
+use Rattle.ug_words.proofs.Tests.{by_test}
 use Rattle.ug_print.specs.Items.{billionths, probability_text}
 use Rattle.ug_print.proofs.ConditionsAgain.{WordFor}
-use Rattle.ug_print.proofs.Decimals.{IsDigit, below_tens, digit_more, digits_word, most_number, tens}
+use Rattle.ug_words.proofs.Decimals.{IsDigit, below_tens, digit_more, most_number, tens}
+use Rattle.ug_print.proofs.Decimals.{digits_word}
 
 abbrev billion : ℕ
 billion = 1000000000

@@ -10,15 +10,15 @@ use Rattle.ug_types.specs.declared.rule.CondKind.TheVariants as condition
 use Rattle.ug_types.specs.declared.rule.Op.{Op}
 use Rattle.ug_types.specs.declared.rule.Op.TheVariants.{AllOf, OneOf, NoneOf, Equals, EqualsOrdered}
 use Rattle.ug_types.specs.declared.rule.Query.{Query}
-use Rattle.ug_rule.specs.declared.keywords.CondName.{CondName}
-use Rattle.ug_rule.specs.declared.keywords.CondName.TheVariants as name
-use Rattle.ug_rule.specs.declared.words.DaySpan.{DaySpan}
+use Rattle.ug_words.specs.declared.keywords.CondName.{CondName}
+use Rattle.ug_words.specs.declared.keywords.CondName.TheVariants as name
+use Rattle.ug_words.specs.declared.words.DaySpan.{DaySpan}
 use Rattle.ug_rule.specs.Conditions.{joined}
 use Rattle.ug_rule.specs.Grammar.{IsArgument, Argues, HasQuery, IsNamed, IsCondition, AreConditions, IsCondSet, IsConditions}
-use Rattle.ug_rule.specs.Keywords.{condition_of}
+use Rattle.ug_words.specs.Keywords.{condition_of}
 use Rattle.ug_rule.specs.Queries.{has_colon, is_blank, no_query}
 use Rattle.ug_rule.specs.Tokens.{is_close, is_paren_open, is_paren_close, is_bang}
-use Rattle.ug_rule.specs.Words.{span_of, past_of, chance_of}
+use Rattle.ug_words.specs.Words.{span_of, past_of, chance_of}
 use Rattle.ug_print.specs.Items.{past_text, probability_text, time_text}
 use Rattle.ug_print.specs.Words.{cond_text, kind_text, query_words, set_words}
 use Rattle.ug_print.specs.Words as words

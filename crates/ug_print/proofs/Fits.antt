@@ -11,16 +11,16 @@ use Rattle.ug_types.specs.declared.rule.Conds.{Conds}
 use Rattle.ug_types.specs.declared.rule.Query.{Query}
 use Rattle.ug_types.specs.declared.rule.Rule.{Rule}
 use Rattle.ug_types.specs.declared.rule.Values.{Values}
-use Rattle.ug_rule.specs.declared.keywords.Attr.{Attr}
-use Rattle.ug_rule.specs.declared.keywords.Attr.TheVariants as attr
-use Rattle.ug_rule.specs.declared.keywords.CondName.{CondName}
-use Rattle.ug_rule.specs.declared.keywords.CondName.TheVariants as name
+use Rattle.ug_words.specs.declared.keywords.Attr.{Attr}
+use Rattle.ug_words.specs.declared.keywords.Attr.TheVariants as attr
+use Rattle.ug_words.specs.declared.keywords.CondName.{CondName}
+use Rattle.ug_words.specs.declared.keywords.CondName.TheVariants as name
 use Rattle.ug_rule.specs.Conditions.{chance_or_half}
 use Rattle.ug_rule.specs.Grammar.{AreItems, IsSet, IsValue, Tells, AreAttributes, Begins, IsQueryTo, MayHaveArgument, Argues, IsCondition, AreConditions, IsConditions, Part, Attribute, If, AreParts, IsRule, WellFormed}
 use Rattle.ug_rule.specs.Queries.{is_blank, no_query}
 use Rattle.ug_rule.specs.Tokens.{word_of}
 use Rattle.ug_rule.specs.Values.{id_in, interface_in, string_in}
-use Rattle.ug_rule.specs.Words.{span_of, past_of, chance_of}
+use Rattle.ug_words.specs.Words.{span_of, past_of, chance_of}
 use Rattle.ug_print.specs.Bytes.{AreBytes, CondOfBytes, CondsOfBytes, KindOfBytes, QueryOfBytes, RuleOfBytes, TextsOfBytes}
 use Rattle.ug_print.specs.Items.{id_text, interface_text, probability_text, string_text, time_text}
 use Rattle.ug_print.proofs.Chances.{chance_word, half}

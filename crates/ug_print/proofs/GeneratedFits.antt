@@ -8,14 +8,14 @@ use Rattle.ug_types.specs.declared.record.Triple.{Triple}
 use Rattle.ug_types.specs.declared.verdict.Target.{Target}
 use Rattle.ug_rule.specs.Grammar.{WellFormed}
 use Rattle.ug_rule.specs.Values.{id_in, interface_in, string_in}
-use Rattle.ug_rule.specs.WordGrammar.{Exact, OfProtocol, id_with}
-use Rattle.ug_rule.proofs.WordCuts.{id_reads, interface_reads}
+use Rattle.ug_words.specs.WordGrammar.{Exact, OfProtocol, id_with}
+use Rattle.ug_words.proofs.WordCuts.{id_reads, interface_reads}
 use Rattle.ug_print.specs.Bytes.{AreBytes, QueryOfBytes, RuleOfBytes, TextsOfBytes}
 use Rattle.ug_print.specs.Generated.{equals, generated_of, interface_of, interfaces_of, query_of}
 use Rattle.ug_print.specs.Items.{id_text, interface_text, string_text}
 use Rattle.ug_print.specs.Ranges.{RecordInRange, TripleInRange}
 use Rattle.ug_print.specs.Words.{rule_text}
-use Rattle.ug_print.proofs.Hexadecimal.{four_again, two_again}
+use Rattle.ug_words.proofs.Hexadecimal.{four_again, two_again}
 use Rattle.ug_print.proofs.IdWords.{id_piece, interface_piece}
 use Rattle.ug_print.proofs.QueryAgain.{QueryFits, ValuesFit}
 use Rattle.ug_print.proofs.RuleAgain.{rule_again}

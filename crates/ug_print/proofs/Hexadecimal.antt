@@ -1,49 +1,10 @@
--- Hexadecimal digits that are written and read.
-use Rattle.std.proofs.Common.{◌≡◌, ℕ, ◌/◌, ◌%◌, ◌<◌, true, List, Some, refl, arith}
+-- Hexadecimal digits that are cut into tokens.
+use Rattle.std.proofs.Common.{◌≡◌, ℕ, ◌<◌, true, Some, arith}
 use Rattle.std.specs.Char.{digit_char}
-use Rattle.hex.specs.Hex.{hex_digit_value}
 use Rattle.ug_lex.specs.Lexing.{digit_of, is_word_byte}
-use Rattle.ug_rule.specs.WordGrammar.{IsTwo, IsFour}
-use Rattle.ug_print.specs.Items.{hex_two, hex_four}
-
-pub digit_read : (n : ℕ) → n < 16 → hex_digit_value (digit_char n) ≡ Some n
-digit_read n h = grind arith
 
 pub digit_lexed : (n : ℕ) → n < 16 → digit_of (digit_char n) ≡ Some n
 digit_lexed n h = grind arith
 
 pub digit_word : (n : ℕ) → n < 16 → is_word_byte (digit_char n) ≡ true
 digit_word n h = grind arith
-
-digit_below : (c n : ℕ) → hex_digit_value c ≡ Some n → n < 16
-digit_below c n h = grind arith
-
-pub two_below : (n : ℕ) (text : List ℕ) → IsTwo n text → n < 256
-two_below n text t = omega (arith, t.is, digit_below t.first t.high t.says_high, digit_below t.second t.low t.says_low)
-
-pub four_below : (n : ℕ) (text : List ℕ) → IsFour n text → n < 65536
-four_below n text t = omega (arith, t.is, two_below t.high t.front t.says_high, two_below t.low t.back t.says_low)
-
-pub two_again : (n : ℕ) → n < 256 → IsTwo n (hex_two n)
-two_again n h = record {
-  first = digit_char (n / 16);
-  second = digit_char (n % 16);
-  high = n / 16;
-  low = n % 16;
-  cut = refl;
-  says_high = digit_read (n / 16) (omega (arith, h));
-  says_low = digit_read (n % 16) (omega arith);
-  is = omega arith;
-}
-
-pub four_again : (n : ℕ) → n < 65536 → IsFour n (hex_four n)
-four_again n h = record {
-  front = hex_two (n / 256);
-  back = hex_two (n % 256);
-  high = n / 256;
-  low = n % 256;
-  cut = refl;
-  says_high = two_again (n / 256) (omega (arith, h));
-  says_low = two_again (n % 256) (omega arith);
-  is = omega arith;
-}

@@ -3,12 +3,14 @@ use Rattle.std.proofs.Common.{◌≡◌, ℕ, ◌<◌, ◌^◌, List, [], ◌∷
 use Rattle.std.specs.Prelude.{decimal}
 use Rattle.std.proofs.lemmas.Fmt.{decimal_nonempty}
 use Rattle.ug_types.specs.declared.verdict.Target.{Target}
-use Rattle.ug_rule.specs.Texts.{IsLine}
+use Rattle.ug_lines.specs.Splitting.{IsLine}
 use Rattle.ug_print.specs.Bytes.{AreBytes}
 use Rattle.ug_print.specs.DeviceLines.{malformed_text}
 use Rattle.ug_print.specs.Items.{string_text}
-use Rattle.ug_print.specs.Words.{joined, target_word}
-use Rattle.ug_print.proofs.Decimals.{decimal_written, digits_word, word_of_bytes}
+use Rattle.ug_print.specs.Words.{joined}
+use Rattle.ug_types.specs.Targets.{target_word}
+use Rattle.ug_words.proofs.Decimals.{decimal_written}
+use Rattle.ug_print.proofs.Decimals.{digits_word, word_of_bytes}
 use Rattle.ug_print.proofs.OneLine.{cut_line}
 use Rattle.ug_print.proofs.Pieces.{Piece, CutAll, IsWord, cut_word, joined_cut, one_word, word_piece}
 use Rattle.ug_print.proofs.Readings.{known_word}

@@ -7,7 +7,7 @@ use Rattle.ug_types.specs.declared.no_memory.NoMemory.{NoMemory}
 use Rattle.ug_lex.specs.declared.token.TokenKind.{TokenKind}
 use Rattle.ug_lex.specs.Lexing.{digit_of, is_blank, is_word_byte, mark_of}
 use Rattle.ug_lex.specs.Grammar.{AllStand, IsWordByte, Part, Spells, Empty, Itself, Escaped, Coded, Stands, Blank, Mark, Word, String, joined}
-use Rattle.ug_rule.specs.Texts.{IsLine}
+use Rattle.ug_lines.specs.Splitting.{IsLine}
 use Rattle.ug_print.proofs.Pieces.{Piece, Cut}
 
 append_line : (a b : List ℕ) → IsLine a → IsLine b → IsLine (a ++ b)

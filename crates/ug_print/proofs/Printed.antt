@@ -6,7 +6,7 @@ use Rattle.ug_types.specs.declared.rule.Rule.{Rule}
 use Rattle.ug_types.specs.declared.verdict.Target.{Target}
 use Rattle.ug_rule.specs.Grammar.{Says, WellFormed}
 use Rattle.ug_rule.specs.Rules.{rule_read}
-use Rattle.ug_rule.specs.Texts.{IsLine}
+use Rattle.ug_lines.specs.Splitting.{IsLine}
 use Rattle.ug_rule.proofs.Cases.{one_outcome}
 use Rattle.ug_rule.proofs.RuleCuts.{says_line}
 use Rattle.ug_print.specs.Bytes.{RuleOfBytes}

@@ -6,10 +6,10 @@ use Rattle.ug_types.specs.declared.rule.Id.{Id}
 use Rattle.ug_types.specs.declared.rule.Iface.{Iface}
 use Rattle.ug_types.specs.declared.rule.Query.{Query}
 use Rattle.ug_types.specs.declared.rule.Values.{Values}
-use Rattle.ug_rule.specs.declared.keywords.Attr.{Attr}
-use Rattle.ug_rule.specs.declared.keywords.Attr.TheVariants as attr
+use Rattle.ug_words.specs.declared.keywords.Attr.{Attr}
+use Rattle.ug_words.specs.declared.keywords.Attr.TheVariants as attr
 use Rattle.ug_rule.specs.Grammar.{AreAttributes, IsText, IsValue, Tells}
-use Rattle.ug_rule.specs.Keywords.{attribute_of}
+use Rattle.ug_words.specs.Keywords.{attribute_of}
 use Rattle.ug_rule.specs.Queries.{has_colon, is_given, no_query}
 use Rattle.ug_rule.specs.Values.{id_in, interface_in, string_in}
 use Rattle.ug_print.specs.Items.{id_text, interface_text, string_text}

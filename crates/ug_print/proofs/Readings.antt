@@ -6,7 +6,7 @@ use Rattle.ug_lex.specs.declared.token.TokenKind.TheVariants as kind
 use Rattle.ug_lex.specs.Lexing.{is_word_byte}
 use Rattle.ug_lex.specs.Grammar.{IsWordByte}
 use Rattle.ug_types.specs.declared.rule.Op.{Op}
-use Rattle.ug_rule.specs.Keywords.{operator_of}
+use Rattle.ug_words.specs.Keywords.{operator_of}
 use Rattle.ug_rule.specs.Queries.{has_colon}
 use Rattle.ug_rule.specs.Tokens.{word_of, first_word, is_open, is_paren_open, starts_with_paren}
 use Rattle.ug_print.proofs.Pieces.{Piece, IsPiece, ArePieces, CutAll, IsWord, cut-append, cut_word, one_mark, one_word, word_piece}

@@ -9,12 +9,13 @@ use Rattle.ug_types.specs.declared.rule.Query.{Query}
 use Rattle.ug_types.specs.declared.rule.Rule.{Rule}
 use Rattle.ug_types.specs.declared.verdict.Target.{Target}
 use Rattle.ug_types.specs.declared.verdict.Target.TheVariants.{Allow, Block, Reject}
-use Rattle.ug_rule.specs.declared.keywords.Attr.{Attr}
+use Rattle.ug_words.specs.declared.keywords.Attr.{Attr}
 use Rattle.ug_rule.specs.Grammar.{AreAttributes, AreParts, IsConditions, Part, Attribute, If, Says}
-use Rattle.ug_rule.specs.Keywords.{target_of, is_if}
+use Rattle.ug_words.specs.Keywords.{is_if}
+use Rattle.ug_types.specs.Targets.{target_of, target_word}
 use Rattle.ug_rule.specs.Queries.{no_query}
-use Rattle.ug_rule.specs.Texts.{IsLine}
-use Rattle.ug_print.specs.Words.{cond_text, conds_words, query_words, rule_text, set_words, target_word}
+use Rattle.ug_lines.specs.Splitting.{IsLine}
+use Rattle.ug_print.specs.Words.{cond_text, conds_words, query_words, rule_text, set_words}
 use Rattle.ug_print.proofs.OneLine.{cut_line}
 use Rattle.ug_print.proofs.Pieces.{Piece, ArePieces, Cut, CutAll, IsWord, Whole, cut-append, cut_word, joined_cut, one_word, whole, word_piece}
 use Rattle.ug_print.proofs.Readings.{Leads, Taken, Reads, known_word, word_leads}

@@ -6,10 +6,12 @@ use Rattle.std.proofs.lemmas.List.{flat_map_more, take_all, take_more}
 use Rattle.std.proofs.lemmas.List.Elements.{recursion_from_All}
 use Rattle.std.proofs.lemmas.List.Folds.{length-flat_map-take}
 use Rattle.ug_types.specs.declared.rule.Rule.{Rule}
-use Rattle.ug_rule.specs.Files.{file_read, rules_from}
+use Rattle.ug_lines.specs.LineReading.{lines_read}
+use Rattle.ug_rule.specs.Files.{adding_line, file_read}
 use Rattle.ug_rule.specs.Grammar.{WellFormed}
-use Rattle.ug_rule.specs.Texts.{AreRules, NoLines, OneMore, Splits, Nothing, Closed}
-use Rattle.ug_rule.proofs.Splitting.{splits-only}
+use Rattle.ug_lines.specs.Splitting.{AreLinesOf, Nothing, Closed}
+use Rattle.ug_rule.specs.Texts.{AreRules, NoLines, OneMore}
+use Rattle.ug_lines.proofs.TextLines.{split_only}
 use Rattle.ug_rule.proofs.Texts.{read-rules}
 use Rattle.ug_print.specs.Bytes.{RuleOfBytes}
 use Rattle.ug_print.specs.RuleTexts.{rule_line, rules_text_of}
@@ -25,10 +27,10 @@ all_fit : (rules : List Rule) → AllByRecursion WellFormed rules → AllByRecur
 all_fit [] w b = tt
 all_fit (rule ∷ rules) w b = (record { well = w.0; bytes = b.0 }, all_fit rules w.1 b.1)
 
-split : (rules : List Rule) → AllByRecursion Fit rules → Splits (rules_text_of rules) (map rule_text rules)
+split : (rules : List Rule) → AllByRecursion Fit rules → AreLinesOf (rules_text_of rules) (map rule_text rules)
 split [] f = Nothing
 split (rule ∷ rules) f =
-    subst (λ (text : List ℕ). Splits text (rule_text rule ∷ map rule_text rules)) (sym (append_assoc (rule_text rule) (10 ∷ []) (rules_text_of rules)))
+    subst (λ (text : List ℕ). AreLinesOf text (rule_text rule ∷ map rule_text rules)) (sym (append_assoc (rule_text rule) (10 ∷ []) (rules_text_of rules)))
     (Closed (rule_text rule) (rules_text_of rules) (map rule_text rules) (on_line rule f.0.well f.0.bytes) (split rules f.1))
 
 are_rules : (rules : List Rule) → AllByRecursion Fit rules → AreRules (map rule_text rules) rules
@@ -38,12 +40,12 @@ are_rules (rule ∷ rules) f = OneMore (rule_text rule) rule (map rule_text rule
 fit : (rules : List Rule) → All WellFormed rules → All RuleOfBytes rules → AllByRecursion Fit rules
 fit rules w b = all_fit rules (recursion_from_All WellFormed rules w) (recursion_from_All RuleOfBytes rules b)
 
-pub text_lines : (rules : List Rule) → All WellFormed rules → All RuleOfBytes rules → Splits (rules_text_of rules) (map rule_text rules)
+pub text_lines : (rules : List Rule) → All WellFormed rules → All RuleOfBytes rules → AreLinesOf (rules_text_of rules) (map rule_text rules)
 text_lines rules w b = split rules (fit rules w b)
 
 pub text_read : (rules : List Rule) → All WellFormed rules → All RuleOfBytes rules → file_read (rules_text_of rules) ≡ Ok rules
 text_read rules w b =
-    ap (λ (lines : List (List ℕ)). rules_from 1 [] lines) (splits-only (rules_text_of rules) (map rule_text rules) (text_lines rules w b))
+    ap (λ (lines : List (List ℕ)). lines_read adding_line 1 [] lines) (split_only (rules_text_of rules) (map rule_text rules) (text_lines rules w b))
     ∙ read-rules (map rule_text rules) rules (are_rules rules (fit rules w b))
 
 -- ---- one rule behind another

@@ -6,14 +6,15 @@ use Rattle.std.proofs.Math.Bool.{and-false}
 use Rattle.std.proofs.Math.Seq.{take-append_seam}
 use Rattle.std.proofs.lemmas.Fmt.{decimal_digit, decimal_nonempty, decimal_step}
 use Rattle.ug_lex.specs.Grammar.{IsWordByte}
-use Rattle.ug_rule.specs.declared.words.Clock.{Clock}
-use Rattle.ug_rule.specs.declared.words.Clock.TheVariants.{Minute, Second}
-use Rattle.ug_rule.specs.declared.words.DaySpan.{DaySpan}
-use Rattle.ug_rule.specs.Words.{digits_of, first_second, has_colon, last_second, minute_from, minute_of, minute_of_hours, number_of, part_of, past_of, second_from, second_of_minute, seconds_of_time, span_at, span_by_dash, span_from, span_of, span_of_begin, time_at, time_of, up_to, with_digit}
-use Rattle.ug_rule.proofs.Cases.{by_test}
+use Rattle.ug_words.specs.declared.words.Clock.{Clock}
+use Rattle.ug_words.specs.declared.words.Clock.TheVariants.{Minute, Second}
+use Rattle.ug_words.specs.declared.words.DaySpan.{DaySpan}
+use Rattle.ug_words.specs.Words.{digits_of, first_second, has_colon_at, last_second, minute_from, minute_of, minute_of_hours, number_of, part_of, past_of, second_from, second_of_minute, seconds_of_time, span_at, span_by_dash, span_from, span_of, span_of_begin, time_at, time_of, up_to, with_digit}
+use Rattle.ug_words.proofs.Tests.{by_test}
 use Rattle.ug_print.specs.Items.{time_text, two_digits}
 use Rattle.ug_print.proofs.ConditionsAgain.{WordFor}
-use Rattle.ug_print.proofs.Decimals.{IsDigit, Written, all-append, decimal_read, decimal_written, digit_byte, digit_more, digits_word, most_number, number_fits, word_of_bytes}
+use Rattle.ug_words.proofs.Decimals.{IsDigit, Written, all-append, decimal_read, decimal_written, digit_more, most_number, number_fits}
+use Rattle.ug_print.proofs.Decimals.{digit_byte, digits_word, word_of_bytes}
 
 -- ---- times that are read are of a day, or of a hundred hours
 
@@ -33,7 +34,7 @@ part_fits most text n h = elim (by_test (nat_eq (length text) 2) (up_to most (di
 
 minute_fits : (most : ℕ) (text : List ℕ) (n : ℕ) → minute_of most text ≡ Some n → n + 59 < (most + 1) * 3600
 unfolding minute_of
-minute_fits most text n h = elim (by_test (has_colon 2 text) (minute_of_hours (part_of most (take 2 text)) (drop 3 text)) None (Some n) h) [
+minute_fits most text n h = elim (by_test (has_colon_at 2 text) (minute_of_hours (part_of most (take 2 text)) (drop 3 text)) None (Some n) h) [
   | inl p ↦ by (part_of most (take 2 text)) (drop 3 text) (λ hours e. part_fits most (take 2 text) hours e) p.1
   | inr p ↦ let none : ⊥ = cc in absurd none
 ]
@@ -52,7 +53,7 @@ record ClockFits (most : ℕ) (clock : Clock) : Type 0 where
 
 time_fits : (most : ℕ) (text : List ℕ) (clock : Clock) → time_of most text ≡ Some clock → ClockFits most clock
 unfolding time_of
-time_fits most text clock h = elim (by_test (has_colon 5 text) (second_of_minute (minute_of most (take 5 text)) (drop 6 text)) (time_at (minute_of most text)) (Some clock) h) [
+time_fits most text clock h = elim (by_test (has_colon_at 5 text) (second_of_minute (minute_of most (take 5 text)) (drop 6 text)) (time_at (minute_of most text)) (Some clock) h) [
   | inl p ↦ by_second (minute_of most (take 5 text)) (drop 6 text) (λ minute e. minute_fits most (take 5 text) minute e) p.1
   | inr p ↦ by_minute (minute_of most text) (λ minute e. minute_fits most text minute e) p.1
 ]
@@ -107,7 +108,7 @@ span_fits text span h = by_dash (position (nat_eq 45) text) h
 
 past_fits : (text : List ℕ) (n : ℕ) → past_of text ≡ Some n → n ≤ most_number
 unfolding past_of
-past_fits text n h = elim (by_test (has_colon 2 text) (seconds_of_time (time_of 99 text)) (number_of text) (Some n) h) [
+past_fits text n h = elim (by_test (has_colon_at 2 text) (seconds_of_time (time_of 99 text)) (number_of text) (Some n) h) [
   | inl p ↦ by (time_of 99 text) (λ c e. time_fits 99 text c e) p.1
   | inr p ↦ number_fits text n p.1
 ]
@@ -123,7 +124,7 @@ low_digits [] i h = omega arith
 low_digits (b ∷ ds) zero h = h.0.1
 low_digits (b ∷ ds) (suc i) h = low_digits ds i h.1
 
-no_colon : (n : ℕ) (ds : List ℕ) → AllByRecursion IsDigit ds → has_colon n ds ≡ false
+no_colon : (n : ℕ) (ds : List ℕ) → AllByRecursion IsDigit ds → has_colon_at n ds ≡ false
 no_colon n ds h =
     let b : get_or ds n 0 ≤ 57 = low_digits ds n h in
     let e : nat_eq (get_or ds n 0) 58 ≡ false = grind arith in

@@ -5,7 +5,7 @@ use Rattle.ug_lex.specs.declared.token.Token.{Token}
 use Rattle.ug_types.specs.declared.rule.Op.{Op}
 use Rattle.ug_types.specs.declared.rule.Op.TheVariants.{AllOf, OneOf, NoneOf, Equals, EqualsOrdered}
 use Rattle.ug_rule.specs.Grammar.{AreItems, IsSet, IsValue}
-use Rattle.ug_rule.specs.Keywords.{operator_of}
+use Rattle.ug_words.specs.Keywords.{operator_of}
 use Rattle.ug_rule.specs.Tokens.{is_open, is_close}
 use Rattle.ug_rule.specs.Values.{valued}
 use Rattle.ug_print.specs.Words.{is_alone, operator_words, set_words}

@@ -2,7 +2,8 @@
 use Rattle.std.specs.Prelude.{ℕ, List, [], ◌∷◌, codes, decimal}
 use Rattle.ug_types.specs.declared.verdict.Target.{Target}
 use Rattle.ug_print.specs.Items.{string_text}
-use Rattle.ug_print.specs.Words.{joined, target_word}
+use Rattle.ug_print.specs.Words.{joined}
+use Rattle.ug_types.specs.Targets.{target_word}
 
 -- the verdict on a device whose descriptors have a fault, its kind and its place, and the device's name
 unfoldable pub malformed_text : Target → ℕ → ℕ → List ℕ → List ℕ

@@ -1,15 +1,8 @@
 -- How the values and conditions of a rule are written: usbguard-rules.conf(5).
 use Rattle.std.specs.Prelude.{ℕ, zero, suc, ◌+◌, ◌*◌, ◌/◌, ◌%◌, ◌||◌, ◌&&◌, nat_eq, nat_le, nat_lt, if◌then◌else◌, List, [], ◌∷◌, ◌++◌, Option, None, Some, decimal, flat_map}
-use Rattle.std.specs.Char.{digit_char}
+use Rattle.ug_words.specs.Digits.{hex_two, hex_four}
 use Rattle.ug_types.specs.declared.rule.Id.{Id}
 use Rattle.ug_types.specs.declared.rule.Iface.{Iface}
-
--- two and four hexadecimal digits in lower case
-abbrev pub hex_two : ℕ → List ℕ
-hex_two n = digit_char (n / 16) ∷ digit_char (n % 16) ∷ []
-
-abbrev pub hex_four : ℕ → List ℕ
-hex_four n = hex_two (n / 256) ++ hex_two (n % 256)
 
 abbrev pub or_star : (ℕ → List ℕ) → Option ℕ → List ℕ
 or_star hex None = 42 ∷ []

@@ -9,8 +9,7 @@ use Rattle.ug_types.specs.declared.rule.Op.TheVariants.{AllOf, OneOf, NoneOf, Eq
 use Rattle.ug_types.specs.declared.rule.Query.{Query}
 use Rattle.ug_types.specs.declared.rule.Rule.{Rule}
 use Rattle.ug_types.specs.declared.rule.Values.{Values}
-use Rattle.ug_types.specs.declared.verdict.Target.{Target}
-use Rattle.ug_types.specs.declared.verdict.Target.TheVariants.{Allow, Block, Reject}
+use Rattle.ug_types.specs.Targets.{target_word}
 use Rattle.ug_print.specs.Items.{id_text, interface_text, past_text, probability_text, string_text, time_text}
 
 abbrev pub spaced : List ℕ → List ℕ
@@ -20,11 +19,6 @@ spaced word = 32 ∷ word
 abbrev pub joined : List (List ℕ) → List ℕ
 joined [] = []
 joined (word ∷ words) = word ++ flat_map spaced words
-
-abbrev pub target_word : Target → List ℕ
-target_word Allow = codes "allow"
-target_word Block = codes "block"
-target_word Reject = codes "reject"
 
 -- no operator is written for equals
 abbrev pub operator_words : Op → List (List ℕ)

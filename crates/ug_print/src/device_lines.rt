@@ -1,7 +1,7 @@
 // Lines of a list of devices.
 ghost use Rattle.std.specs.Prelude.{◌≡◌, IfOk, Ok, decimal, true};
 ghost use Rattle.ug_rule.specs.Rules.{rule_read};
-ghost use Rattle.ug_rule.specs.Texts.{IsLine};
+ghost use Rattle.ug_lines.specs.Splitting.{IsLine};
 ghost use Rattle.ug_print.specs.DeviceLines.{malformed_text};
 ghost use Rattle.ug_print.specs.Generated.{generated_of};
 ghost use Rattle.ug_print.specs.Words.{rule_text};

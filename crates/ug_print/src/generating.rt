@@ -4,7 +4,7 @@ ghost use Rattle.ug_types.specs.declared.record.DeviceRecord.{DeviceRecord};
 ghost use Rattle.ug_match.specs.Queries.{query_matches};
 ghost use Rattle.ug_rule.specs.Grammar.{WellFormed};
 ghost use Rattle.ug_print.specs.Alike.{IsAlike};
-ghost use Rattle.ug_rule.specs.WordGrammar.{id_with};
+ghost use Rattle.ug_words.specs.WordGrammar.{id_with};
 ghost use Rattle.ug_print.specs.Bytes.{AreBytes, RuleOfBytes};
 ghost use Rattle.ug_print.specs.Generated.{equals, generated_of, interface_of, interfaces_of, query_of};
 ghost use Rattle.ug_print.specs.Ranges.{RecordInRange, TripleInRange};

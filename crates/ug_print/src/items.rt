@@ -1,33 +1,12 @@
 // The values of rules as text.
-ghost use Rattle.std.specs.Prelude.{◌≡◌, ◌<◌, ◌++◌, ◌∷◌, [], IfOk, OnOk, flat_map};
-ghost use Rattle.std.specs.Char.{digit_char};
+ghost use Rattle.std.specs.Prelude.{◌≡◌, ◌++◌, ◌∷◌, [], IfOk, OnOk, flat_map};
+ghost use Rattle.ug_words.specs.Digits.{hex_four, hex_two};
 ghost use Rattle.ug_print.specs.Bytes.{AreBytes};
-ghost use Rattle.ug_print.specs.Items.{byte_text, hex_four, hex_two, id_text, interface_text, or_star, string_text};
+ghost use Rattle.ug_print.specs.Items.{byte_text, id_text, interface_text, or_star, string_text};
 
 use std::alloc::Global;
 use ug_types::{Id, Iface, NoMemory, Text};
-
-fn digit(n: u8) -> u8
-    requires { n < 16 }
-    ensures { result ≡ digit_char n }
-{
-    if n < 10 { b'0' + n } else { b'a' - 10 + n }
-}
-
-fn put_byte(out: &mut Vec<u8>, n: u8) -> Result<(), NoMemory>
-    ensures { OnOk result (out.new.items ≡ out.old.items ++ hex_two n) }
-{
-    out.push(digit(n / 16))?;
-    out.push(digit(n % 16))?;
-    Ok(())
-}
-
-fn put_number(out: &mut Vec<u8>, n: u16) -> Result<(), NoMemory>
-    ensures { OnOk result (out.new.items ≡ out.old.items ++ hex_four n) }
-{
-    put_byte(out, (n / 256) as u8)?;
-    put_byte(out, (n % 256) as u8)
-}
+use ug_words::{put_byte, put_number};
 
 fn put_number_or_star(out: &mut Vec<u8>, n: Option<u16>) -> Result<(), NoMemory>
     ensures { OnOk result (out.new.items ≡ out.old.items ++ or_star hex_four n) }

@@ -6,7 +6,7 @@ ghost use Rattle.ug_types.specs.declared.verdict.Target.{Target};
 ghost use Rattle.ug_match.specs.Queries.{query_matches};
 ghost use Rattle.ug_rule.specs.Files.{file_read};
 ghost use Rattle.ug_rule.specs.Grammar.{Says, WellFormed};
-ghost use Rattle.ug_rule.specs.Texts.{IsLine, Splits};
+ghost use Rattle.ug_lines.specs.Splitting.{IsLine, AreLinesOf};
 ghost use Rattle.ug_print.specs.Alike.{IsAlike};
 ghost use Rattle.ug_print.specs.Bytes.{RuleOfBytes};
 ghost use Rattle.ug_print.specs.Generated.{generated_of};
@@ -26,7 +26,7 @@ pub fn printed_law()
 /// Of the same rules: the text of a rule file with them has their canonical texts for its lines, and reads as them.
 pub fn rules_text_law()
     ensures lines { (rules : List Rule) → All WellFormed rules → All RuleOfBytes rules
-        → Splits (rules_text_of rules) (map rule_text rules) }
+        → AreLinesOf (rules_text_of rules) (map rule_text rules) }
     ensures reads { (rules : List Rule) → All WellFormed rules → All RuleOfBytes rules
         → file_read (rules_text_of rules) ≡ Ok rules }
 {}

@@ -3,7 +3,8 @@ ghost use Rattle.std.specs.Prelude.{◌≡◌, ◌++◌, ◌∷◌, [], IfOk, Ok
 ghost use Rattle.ug_rule.specs.Grammar.{WellFormed};
 ghost use Rattle.ug_rule.specs.Rules.{rule_read};
 ghost use Rattle.ug_print.specs.Bytes.{RuleOfBytes};
-ghost use Rattle.ug_print.specs.Words.{rule_text, target_word};
+ghost use Rattle.ug_print.specs.Words.{rule_text};
+ghost use Rattle.ug_types.specs.Targets.{target_word};
 
 use crate::conditions::put_conds;
 use crate::sets::{join, put_query, put_word};
@@ -13,11 +14,7 @@ use ug_types::{List, NoMemory, Rule, Target, Text};
 pub fn put_target(alloc: Global, words: &mut List<Text>, target: Target) -> Result<(), NoMemory>
     ensures { OnOk result (words.new ≡ words.old ++ target_word target ∷ []) }
 {
-    match target {
-        Target::Allow => put_word(alloc, words, b"allow"),
-        Target::Block => put_word(alloc, words, b"block"),
-        Target::Reject => put_word(alloc, words, b"reject"),
-    }
+    put_word(alloc, words, target.word())
 }
 
 /// The canonical text of a rule, on one line without its newline: words with one space between them, the attributes

@@ -5,17 +5,18 @@ use Rattle.ug_types.specs.declared.rule.Query.{Query}
 use Rattle.ug_types.specs.declared.rule.Values.{Values}
 use Rattle.ug_rule.specs.declared.fault.Ending.{Ending}
 use Rattle.ug_rule.specs.declared.fault.FaultKind.TheVariants.{BadValue, Repeated}
-use Rattle.ug_rule.specs.declared.keywords.Attr.{Attr}
-use Rattle.ug_rule.specs.declared.keywords.Attr.TheVariants as attr
+use Rattle.ug_words.specs.declared.keywords.Attr.{Attr}
+use Rattle.ug_words.specs.declared.keywords.Attr.TheVariants as attr
 use Rattle.ug_rule.specs.declared.queries.Named.{Named}
 use Rattle.ug_rule.specs.Faults.{fault_at, on_ok}
 use Rattle.ug_rule.specs.Grammar.{IsSet, IsValue, IsText, Tells, IsAttribute, AreAttributes, AllAttributes}
-use Rattle.ug_rule.specs.Keywords.{attribute_of}
+use Rattle.ug_words.specs.Keywords.{attribute_of}
 use Rattle.ug_rule.specs.Queries.{is_given, with_attribute, once, name_by, name_of, attributes_from, attributes_of}
 use Rattle.ug_rule.specs.Tokens.{word_of, first_word}
 use Rattle.ug_rule.specs.Values.{id_in, interface_in, string_in, item_of, value_of, text_of}
 use Rattle.ug_rule.proofs.Attributes.{named_first, ends}
-use Rattle.ug_rule.proofs.Cases.{by_test, by_step, same_ok, by_found}
+use Rattle.ug_rule.proofs.Cases.{by_step, same_ok, by_found}
+use Rattle.ug_words.proofs.Tests.{by_test}
 use Rattle.ug_rule.proofs.ValueCuts.{value_cut, value_reads}
 
 -- ---- one attribute

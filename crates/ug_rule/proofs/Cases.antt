@@ -3,10 +3,6 @@ use Rattle.std.proofs.Common.{◌≡◌, ℕ, ◌⊎◌, inl, inr, Bool, true, f
 use Rattle.ug_rule.specs.declared.fault.FaultKind.{FaultKind}
 use Rattle.ug_rule.specs.Faults.{on_ok, required}
 
-pub by_test : {X : Type 0} (b : Bool) (p q r : X) → (if b then p else q) ≡ r → ((b ≡ true) × (p ≡ r)) ⊎ ((b ≡ false) × (q ≡ r))
-by_test true p q r h = inl (refl, h)
-by_test false p q r h = inr (refl, h)
-
 pub by_step : {X Y E : Type 0} (r : Result X E) (next : X → Result Y E) (y : Y) → on_ok r next ≡ Ok y → (x : X) × (r ≡ Ok x) × (next x ≡ Ok y)
 by_step (Ok x) next y h = (x, refl, h)
 by_step (Err e) next y h = let none : ⊥ = cc in absurd none

@@ -4,10 +4,11 @@ use Rattle.hex.specs.Hex.{decode_pairs}
 use Rattle.ug_lex.specs.declared.token.Token.{Token}
 use Rattle.ug_lex.specs.declared.token.TokenKind.{TokenKind}
 use Rattle.ug_lex.specs.declared.token.TokenKind.TheVariants as kind
-use Rattle.ug_rule.specs.declared.keywords.Attr.TheVariants as attr
-use Rattle.ug_rule.specs.Keywords.{target_of, operator_of, attribute_of, condition_of}
+use Rattle.ug_words.specs.declared.keywords.Attr.TheVariants as attr
+use Rattle.ug_words.specs.Keywords.{operator_of, attribute_of, condition_of}
+use Rattle.ug_types.specs.Targets.{target_of}
 use Rattle.ug_rule.specs.Tokens.{word_of}
-use Rattle.ug_rule.specs.Words.{two_of, two_stars, id_of, interface_of, number_of, part_of, minute_of, time_of, span_of, past_of, zero_point, chance_of}
+use Rattle.ug_words.specs.Words.{two_of, two_stars, id_of, interface_of, number_of, part_of, minute_of, time_of, span_of, past_of, zero_point, chance_of}
 use Rattle.ug_rule.proofs.Machine.{Given, nothing, is_nothing, put, Shape, Ids, Interfaces, Strings, Argument, Time, Past, Chance, Where, BeforeIf, BehindIf, InQuery, Alone, State, End, Start, Front, Parts, Value, Brace, Items, Text, AfterIf, CondBrace, CondItems, Negated, Opening, Inner, Closing, May, Matches, step, onward, run}
 
 -- a token of an ending

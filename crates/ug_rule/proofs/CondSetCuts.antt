@@ -11,10 +11,11 @@ use Rattle.ug_rule.specs.declared.fault.FaultKind.TheVariants.{BadCondition}
 use Rattle.ug_rule.specs.Conditions.{condition_from, conds_from, joined, cond_set_of, set_behind, single_of, conditions_behind, conditions_of}
 use Rattle.ug_rule.specs.Faults.{fault_at, within, on_ok}
 use Rattle.ug_rule.specs.Grammar.{IsCondition, AreConditions, IsCondSet, IsOneCondition, IsOperatorConds, IsConditions}
-use Rattle.ug_rule.specs.Keywords.{operator_of}
+use Rattle.ug_words.specs.Keywords.{operator_of}
 use Rattle.ug_rule.specs.Tokens.{word_of, is_open, is_close}
 use Rattle.ug_rule.specs.Values.{filled, brace_of}
-use Rattle.ug_rule.proofs.Cases.{by_test, by_step, same_ok}
+use Rattle.ug_rule.proofs.Cases.{by_step, same_ok}
+use Rattle.ug_words.proofs.Tests.{by_test}
 use Rattle.ug_rule.proofs.CondSets.{behind}
 use Rattle.ug_rule.proofs.ConditionCuts.{Reads, condition_cut, condition_reads}
 use Rattle.ug_rule.proofs.Marks.{operator_word}

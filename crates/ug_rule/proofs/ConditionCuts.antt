@@ -8,16 +8,17 @@ use Rattle.ug_types.specs.declared.rule.Query.{Query}
 use Rattle.ug_rule.specs.declared.fault.Ending.{Ending}
 use Rattle.ug_rule.specs.declared.fault.Fault.{Fault}
 use Rattle.ug_rule.specs.declared.fault.FaultKind.TheVariants.{BadCondition, ConditionInQuery}
-use Rattle.ug_rule.specs.declared.keywords.CondName.{CondName}
-use Rattle.ug_rule.specs.declared.keywords.CondName.TheVariants as name
+use Rattle.ug_words.specs.declared.keywords.CondName.{CondName}
+use Rattle.ug_words.specs.declared.keywords.CondName.TheVariants as name
 use Rattle.ug_rule.specs.Conditions.{next_of, opened, closed, argument_of, perhaps_of, in_span, localtime_of, matches_closed, matches_of, chance_or_half, kind_of, named_of, condition_from}
 use Rattle.ug_rule.specs.Faults.{fault_at, on_ok, required}
 use Rattle.ug_rule.specs.Grammar.{IsArgument, MayHaveArgument, HasQuery, Argues, IsNamed, IsCondition, IsQueryTo}
-use Rattle.ug_rule.specs.Keywords.{operator_of, condition_of}
+use Rattle.ug_words.specs.Keywords.{operator_of, condition_of}
 use Rattle.ug_rule.specs.Queries.{is_blank, query_of, stray}
 use Rattle.ug_rule.specs.Tokens.{word_of, is_open, is_close, is_paren_open, is_paren_close, is_bang}
-use Rattle.ug_rule.specs.Words.{span_of, past_of, chance_of}
-use Rattle.ug_rule.proofs.Cases.{by_test, by_step, same_ok, by_found}
+use Rattle.ug_words.specs.Words.{span_of, past_of, chance_of}
+use Rattle.ug_rule.proofs.Cases.{by_step, same_ok, by_found}
+use Rattle.ug_words.proofs.Tests.{by_test}
 use Rattle.ug_rule.proofs.Marks.{condition_word, condition_no_operator, bang_mark, bang_no_operator, close_no_attribute}
 use Rattle.ug_rule.proofs.QueryCuts.{query_cut, query_reads, query_shorter}
 

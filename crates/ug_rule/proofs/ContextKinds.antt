@@ -7,15 +7,16 @@ use Rattle.ug_types.specs.declared.verdict.Target.{Target}
 use Rattle.ug_rule.specs.declared.fault.Fault.{Fault}
 use Rattle.ug_rule.specs.declared.fault.FaultKind.{FaultKind}
 use Rattle.ug_rule.specs.declared.fault.FaultKind.TheVariants.{NoTarget, Repeated, BadValue, EmptySet, OpenSet, BadCondition, ConditionInQuery}
-use Rattle.ug_rule.specs.declared.keywords.Attr.{Attr}
-use Rattle.ug_rule.specs.declared.keywords.CondName.{CondName}
+use Rattle.ug_words.specs.declared.keywords.Attr.{Attr}
+use Rattle.ug_words.specs.declared.keywords.CondName.{CondName}
 use Rattle.ug_rule.specs.FaultKinds as asked
 use Rattle.ug_rule.specs.FaultKinds.{Bracket, OfItems, OfConditions, OfQuery, OfArgument, Asked, Context, context_with, context_of, at_first, kind_at_part, kind_in_set, kind_asked, kind_within, rule_stray_kind, query_stray_kind, has_brace, lacking, lacking_within, lacking_in, kind_at_end, rule_early_kind, query_early_kind}
 use Rattle.ug_rule.specs.Faults.{missing, missing_by, outermost}
-use Rattle.ug_rule.specs.Keywords.{target_of, operator_of, attribute_of, condition_of, is_if}
+use Rattle.ug_words.specs.Keywords.{operator_of, attribute_of, condition_of, is_if}
+use Rattle.ug_types.specs.Targets.{target_of}
 use Rattle.ug_rule.specs.Queries.{has_colon}
 use Rattle.ug_rule.specs.Tokens.{word_by, word_of, is_open, is_close, is_paren_open, is_paren_close, is_bang}
-use Rattle.ug_rule.specs.Words.{id_of}
+use Rattle.ug_words.specs.Words.{id_of}
 use Rattle.ug_rule.proofs.Contexts.{asked_in, bracket_at, opens, Outer, IsNext, IsParts, Follows, reach_follows}
 use Rattle.ug_rule.proofs.Machine.{Given, nothing, is_nothing, has, Shape, fits, Strings, says, Where, BeforeIf, BehindIf, InQuery, Alone, State, End, Start, Front, Parts, Value, Brace, Items, Text, AfterIf, CondBrace, CondItems, Negated, Opening, Inner, Closing, May, Matches, Step, stray_kind, other_part, part, value, named, condition, conditions, targeted, step, braces, bottom, ending_in, parts_end, finish}
 use Rattle.ug_rule.proofs.MachineRuns.{to_next, reach}

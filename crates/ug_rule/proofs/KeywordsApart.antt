@@ -4,15 +4,15 @@ use Rattle.std.specs.Cmp.Lexicographic.{same_text}
 use Rattle.ug_types.specs.declared.rule.Id.{Id}
 use Rattle.ug_types.specs.declared.rule.Iface.{Iface}
 use Rattle.ug_types.specs.declared.rule.Op.{Op}
-use Rattle.ug_rule.specs.declared.keywords.Attr.{Attr}
-use Rattle.ug_rule.specs.declared.keywords.CondName.{CondName}
+use Rattle.ug_words.specs.declared.keywords.Attr.{Attr}
+use Rattle.ug_words.specs.declared.keywords.CondName.{CondName}
 use Rattle.ug_rule.specs.FaultKinds.{Asked, Part, Value, Condition, asked_by_name, asked_by}
-use Rattle.ug_rule.specs.Keywords.{operator_of, attribute_of, condition_of, is_if}
+use Rattle.ug_words.specs.Keywords.{operator_of, attribute_of, condition_of, is_if}
 use Rattle.ug_rule.specs.Queries.{has_colon}
-use Rattle.ug_rule.specs.WordGrammar.{IsId, Any, OfVendor, Exact, IsInterface, OfClass, OfSubclass, OfProtocol}
-use Rattle.ug_rule.specs.Words.{id_of, interface_of}
+use Rattle.ug_words.specs.WordGrammar.{IsId, Any, OfVendor, Exact, IsInterface, OfClass, OfSubclass, OfProtocol}
+use Rattle.ug_words.specs.Words.{id_of, interface_of}
 use Rattle.ug_rule.proofs.Marks.{chain, condition_no_operator, if_no_attribute}
-use Rattle.ug_rule.proofs.WordCuts.{id_cut, interface_cut}
+use Rattle.ug_words.proofs.WordCuts.{id_cut, interface_cut}
 
 -- ---- keywords
 

@@ -9,15 +9,16 @@ use Rattle.ug_rule.specs.declared.fault.Ending.{Ending}
 use Rattle.ug_rule.specs.declared.fault.Fault.{Fault}
 use Rattle.ug_rule.specs.declared.fault.FaultKind.{FaultKind}
 use Rattle.ug_rule.specs.declared.fault.FaultKind.TheVariants.{NoTarget, UnknownWord, Repeated, BadValue, EmptySet, OpenSet, BadCondition, ConditionInQuery, TrailingToken}
-use Rattle.ug_rule.specs.declared.keywords.Attr.{Attr}
-use Rattle.ug_rule.specs.declared.keywords.Attr.TheVariants as attr
-use Rattle.ug_rule.specs.declared.keywords.CondName.{CondName}
-use Rattle.ug_rule.specs.declared.keywords.CondName.TheVariants as name
+use Rattle.ug_words.specs.declared.keywords.Attr.{Attr}
+use Rattle.ug_words.specs.declared.keywords.Attr.TheVariants as attr
+use Rattle.ug_words.specs.declared.keywords.CondName.{CondName}
+use Rattle.ug_words.specs.declared.keywords.CondName.TheVariants as name
 use Rattle.ug_rule.specs.Faults.{fault_at, missing, outermost}
-use Rattle.ug_rule.specs.Keywords.{target_of, operator_of, attribute_of, condition_of, is_if}
+use Rattle.ug_words.specs.Keywords.{operator_of, attribute_of, condition_of, is_if}
+use Rattle.ug_types.specs.Targets.{target_of}
 use Rattle.ug_rule.specs.Queries.{has_colon}
 use Rattle.ug_rule.specs.Tokens.{word_of, is_word, is_open, is_close, is_paren_open, is_paren_close, is_bang, string_by}
-use Rattle.ug_rule.specs.Words.{id_of, interface_of, span_of, past_of, chance_of}
+use Rattle.ug_words.specs.Words.{id_of, interface_of, span_of, past_of, chance_of}
 
 -- ---- which attributes were given
 

@@ -7,10 +7,10 @@ use Rattle.ug_types.specs.declared.rule.Query.{Query}
 use Rattle.ug_types.specs.declared.rule.Values.{Values}
 use Rattle.ug_rule.specs.declared.fault.Fault.{Fault}
 use Rattle.ug_rule.specs.declared.fault.FaultKind.{FaultKind}
-use Rattle.ug_rule.specs.declared.keywords.Attr.{Attr}
-use Rattle.ug_rule.specs.declared.keywords.Attr.TheVariants as attr
+use Rattle.ug_words.specs.declared.keywords.Attr.{Attr}
+use Rattle.ug_words.specs.declared.keywords.Attr.TheVariants as attr
 use Rattle.ug_rule.specs.Faults.{fault_at, on_ok}
-use Rattle.ug_rule.specs.Keywords.{attribute_of, is_if}
+use Rattle.ug_words.specs.Keywords.{attribute_of, is_if}
 use Rattle.ug_rule.specs.Queries.{no_query, is_given, is_blank, with_attribute, attributes_from, attributes_of, has_colon, id_query, bare_of, query_of, stray}
 use Rattle.ug_rule.specs.Tokens.{word_of, is_word}
 use Rattle.ug_rule.specs.Values.{id_in, interface_in, string_in, valued, value_of, text_of}

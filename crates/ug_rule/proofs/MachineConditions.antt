@@ -8,14 +8,14 @@ use Rattle.ug_types.specs.declared.rule.Op.TheVariants.{Equals}
 use Rattle.ug_types.specs.declared.rule.Query.{Query}
 use Rattle.ug_rule.specs.declared.fault.Fault.{Fault}
 use Rattle.ug_rule.specs.declared.fault.FaultKind.TheVariants.{ConditionInQuery}
-use Rattle.ug_rule.specs.declared.keywords.CondName.{CondName}
-use Rattle.ug_rule.specs.declared.keywords.CondName.TheVariants as name
+use Rattle.ug_words.specs.declared.keywords.CondName.{CondName}
+use Rattle.ug_words.specs.declared.keywords.CondName.TheVariants as name
 use Rattle.ug_rule.specs.Conditions.{argument_of, perhaps_of, localtime_of, matches_closed, matches_of, chance_or_half, kind_of, named_of, condition_from, conds_from, joined, cond_set_of, set_behind, conditions_of}
 use Rattle.ug_rule.specs.Faults.{within, on_ok}
-use Rattle.ug_rule.specs.Keywords.{operator_of, attribute_of, condition_of}
+use Rattle.ug_words.specs.Keywords.{operator_of, attribute_of, condition_of}
 use Rattle.ug_rule.specs.Queries.{is_blank, query_of}
 use Rattle.ug_rule.specs.Tokens.{word_of, first_word, is_open, is_close, is_paren_open, is_paren_close, is_bang}
-use Rattle.ug_rule.specs.Words.{span_of, past_of, chance_of}
+use Rattle.ug_words.specs.Words.{span_of, past_of, chance_of}
 use Rattle.ug_rule.proofs.ConditionCuts.{of_kind, Reads, condition_cut, condition_reads}
 use Rattle.ug_rule.proofs.Machine.{given_in, is_nothing, Argument, Time, Past, Chance, says, InQuery, State, Front, Parts, AfterIf, CondBrace, CondItems, Opening, Inner, May, Matches, behind_condition, named, condition, ending_in, onward, run}
 use Rattle.ug_rule.proofs.MachineAttributes.{same_blank, stray_is, query_run}

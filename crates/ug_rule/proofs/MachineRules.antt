@@ -9,7 +9,8 @@ use Rattle.ug_rule.specs.declared.fault.FaultKind.TheVariants.{UnknownWord, Repe
 use Rattle.ug_rule.specs.Conditions.{conditions_of}
 use Rattle.ug_rule.specs.Faults.{fault_at, on_ok}
 use Rattle.ug_rule.specs.Grammar.{AllAttributes}
-use Rattle.ug_rule.specs.Keywords.{target_of, attribute_of, is_if}
+use Rattle.ug_words.specs.Keywords.{attribute_of, is_if}
+use Rattle.ug_types.specs.Targets.{target_of}
 use Rattle.ug_rule.specs.Queries.{is_blank, attributes_of, query_of, query_ends}
 use Rattle.ug_rule.specs.Rules.{end_of, some_conds, conds_of, rule_ends, parts_of, rule_of, whole_query}
 use Rattle.ug_rule.specs.Tokens.{word_of, is_word, first_word}

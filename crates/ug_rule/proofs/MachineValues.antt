@@ -5,7 +5,7 @@ use Rattle.ug_types.specs.declared.rule.Op.{Op}
 use Rattle.ug_types.specs.declared.rule.Op.TheVariants.{Equals}
 use Rattle.ug_rule.specs.declared.fault.Fault.{Fault}
 use Rattle.ug_rule.specs.Faults.{within, on_ok}
-use Rattle.ug_rule.specs.Keywords.{operator_of}
+use Rattle.ug_words.specs.Keywords.{operator_of}
 use Rattle.ug_rule.specs.Tokens.{word_of, is_open, is_close}
 use Rattle.ug_rule.specs.Values.{string_in, items_of, valued, set_of, behind_operator, value_of, text_of}
 use Rattle.ug_rule.proofs.Machine.{Shape, fits, State, Value, Brace, Items, Text, ending_in, run}

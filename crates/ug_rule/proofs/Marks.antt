@@ -5,10 +5,10 @@ use Rattle.ug_lex.specs.declared.token.Token.{Token}
 use Rattle.ug_lex.specs.declared.token.TokenKind.{TokenKind}
 use Rattle.ug_lex.specs.declared.token.TokenKind.TheVariants.{Word, Str, Open, Close, ParenOpen, ParenClose, Bang}
 use Rattle.ug_types.specs.declared.rule.Op.{Op}
-use Rattle.ug_rule.specs.declared.keywords.CondName.{CondName}
-use Rattle.ug_rule.specs.Keywords.{operator_of, attribute_of, condition_of, is_if}
+use Rattle.ug_words.specs.declared.keywords.CondName.{CondName}
+use Rattle.ug_words.specs.Keywords.{operator_of, attribute_of, condition_of, is_if}
 use Rattle.ug_rule.specs.Tokens.{word_by, word_of, is_open, is_close, is_paren_open, is_paren_close, is_bang}
-use Rattle.ug_rule.proofs.Cases.{by_test}
+use Rattle.ug_words.proofs.Tests.{by_test}
 
 -- a test that no bytes pass is passed by words alone
 pub only_word : (test : List ℕ → Bool) → test [] ≡ false → (line : List ℕ) (kind : TokenKind) (start end : ℕ) → test (word_by line kind start end) ≡ true → kind ≡ Word

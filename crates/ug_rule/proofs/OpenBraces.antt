@@ -7,18 +7,19 @@ use Rattle.ug_types.specs.declared.rule.Op.{Op}
 use Rattle.ug_types.specs.declared.verdict.Target.{Target}
 use Rattle.ug_rule.specs.declared.fault.Fault.{Fault}
 use Rattle.ug_rule.specs.declared.fault.FaultKind.{FaultKind}
-use Rattle.ug_rule.specs.declared.keywords.Attr.{Attr}
-use Rattle.ug_rule.specs.declared.keywords.Attr.TheVariants as attr
-use Rattle.ug_rule.specs.declared.keywords.CondName.{CondName}
-use Rattle.ug_rule.specs.declared.keywords.CondName.TheVariants as name
+use Rattle.ug_words.specs.declared.keywords.Attr.{Attr}
+use Rattle.ug_words.specs.declared.keywords.Attr.TheVariants as attr
+use Rattle.ug_words.specs.declared.keywords.CondName.{CondName}
+use Rattle.ug_words.specs.declared.keywords.CondName.TheVariants as name
 use Rattle.ug_rule.specs.declared.fault.FaultKind.TheVariants.{BadValue}
 use Rattle.ug_rule.specs.Faults.{missing, missing_by, outermost}
 use Rattle.ug_rule.specs.FirstFault.{braces_behind, open_braces, place_at_end}
-use Rattle.ug_rule.specs.Keywords.{target_of, operator_of, attribute_of, condition_of, is_if}
+use Rattle.ug_words.specs.Keywords.{operator_of, attribute_of, condition_of, is_if}
+use Rattle.ug_types.specs.Targets.{target_of}
 use Rattle.ug_rule.specs.Queries.{has_colon}
 use Rattle.ug_rule.specs.Tokens.{word_by, word_of, is_open, is_close, is_paren_open, is_paren_close, is_bang}
-use Rattle.ug_rule.specs.Words.{id_of, interface_of, span_of, time_of, minute_of, past_of, number_of, chance_of, two_stars, zero_point}
-use Rattle.ug_rule.proofs.Cases.{by_test}
+use Rattle.ug_words.specs.Words.{id_of, interface_of, span_of, time_of, minute_of, past_of, number_of, chance_of, two_stars, zero_point}
+use Rattle.ug_words.proofs.Tests.{by_test}
 use Rattle.ug_rule.proofs.Machine.{Given, nothing, is_nothing, has, put, Shape, Ids, Interfaces, Strings, fits, Argument, Time, Past, Chance, says, Where, BeforeIf, BehindIf, InQuery, Alone, State, End, Start, Front, Parts, Value, Brace, Items, Text, AfterIf, CondBrace, CondItems, Negated, Opening, Inner, Closing, May, Matches, Step, behind_name, behind_condition, other_part, part, value, named, condition, conditions, targeted, step, braces, bottom, ending_in, parts_end, finish}
 use Rattle.ug_rule.proofs.MachineRuns.{to_next, reach, After, after_ok, after_err, after_if}
 use Rattle.ug_rule.proofs.Marks.{only_word, opening_brace, closing_brace, opening_paren, closing_paren, bang_kind}

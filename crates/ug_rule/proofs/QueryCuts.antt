@@ -5,15 +5,16 @@ use Rattle.ug_types.specs.declared.rule.Op.TheVariants.{Equals}
 use Rattle.ug_types.specs.declared.rule.Query.{Query}
 use Rattle.ug_rule.specs.declared.fault.Ending.{Ending}
 use Rattle.ug_rule.specs.declared.fault.FaultKind.TheVariants.{BadValue}
-use Rattle.ug_rule.specs.declared.keywords.Attr.{Attr}
+use Rattle.ug_words.specs.declared.keywords.Attr.{Attr}
 use Rattle.ug_rule.specs.Faults.{on_ok}
 use Rattle.ug_rule.specs.Grammar.{AreAttributes, AllAttributes, Begins, IsQueryTo}
-use Rattle.ug_rule.specs.Keywords.{attribute_of}
+use Rattle.ug_words.specs.Keywords.{attribute_of}
 use Rattle.ug_rule.specs.Queries.{no_query, has_colon, id_query, attributes_of, bare_at, bare_of, query_of}
 use Rattle.ug_rule.specs.Tokens.{word_of, first_word}
 use Rattle.ug_rule.specs.Values.{id_in, item_of, valued, single_of}
 use Rattle.ug_rule.proofs.AttributeCuts.{attributes_cut, attributes_read, tells_shorter}
-use Rattle.ug_rule.proofs.Cases.{by_test, by_step, same_ok, by_found}
+use Rattle.ug_rule.proofs.Cases.{by_step, same_ok, by_found}
+use Rattle.ug_words.proofs.Tests.{by_test}
 
 -- ---- the id in front
 

@@ -10,16 +10,18 @@ use Rattle.ug_types.specs.declared.rule.Rule.{Rule}
 use Rattle.ug_types.specs.declared.verdict.Target.{Target}
 use Rattle.ug_rule.specs.declared.fault.Ending.{Ending}
 use Rattle.ug_rule.specs.declared.fault.FaultKind.TheVariants.{NoTarget, BadValue}
-use Rattle.ug_rule.specs.declared.keywords.Attr.{Attr}
+use Rattle.ug_words.specs.declared.keywords.Attr.{Attr}
 use Rattle.ug_rule.specs.Conditions.{conditions_of}
 use Rattle.ug_rule.specs.Faults.{missing, on_ok, required}
 use Rattle.ug_rule.specs.Grammar.{AreAttributes, AllAttributes, IsConditions, IsQuery, IsQueryTo, IsIf, Part, Attribute, If, AreParts, IsRule, Says, Asks, WellFormed}
-use Rattle.ug_rule.specs.Keywords.{target_of, attribute_of, is_if}
+use Rattle.ug_words.specs.Keywords.{attribute_of, is_if}
+use Rattle.ug_types.specs.Targets.{target_of}
 use Rattle.ug_rule.specs.Queries.{attributes_of, query_of, query_ends, is_blank}
 use Rattle.ug_rule.specs.Rules.{end_of, some_conds, conds_of, rule_ends, parts_of, rule_of, rule_read, whole_query, query_read}
 use Rattle.ug_rule.specs.Tokens.{word_of, first_word, read_by, tokens_read}
 use Rattle.ug_rule.proofs.AttributeCuts.{attributes_cut, attributes_read, no_word}
-use Rattle.ug_rule.proofs.Cases.{by_test, by_step, same_ok, by_found}
+use Rattle.ug_rule.proofs.Cases.{by_step, same_ok, by_found}
+use Rattle.ug_words.proofs.Tests.{by_test}
 use Rattle.ug_rule.proofs.CondSetCuts.{conditions_cut, conditions_read}
 use Rattle.ug_rule.proofs.Marks.{if_no_attribute}
 use Rattle.ug_rule.proofs.QueryCuts.{query_cut, query_reads}

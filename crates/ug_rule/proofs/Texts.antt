@@ -4,32 +4,32 @@ use Rattle.std.proofs.lemmas.List.{append-nil}
 use Rattle.ug_types.specs.declared.rule.Rule.{Rule}
 use Rattle.ug_types.specs.declared.text_fault.TextFault.{TextFault}
 use Rattle.ug_rule.specs.declared.fault.Fault.{Fault}
-use Rattle.ug_rule.specs.Faults.{on_ok}
-use Rattle.ug_rule.specs.Files.{line_read, added, fault_on, rules_from}
+use Rattle.ug_lines.specs.LineReading.{lines_read, then_on}
+use Rattle.ug_rule.specs.Files.{line_read, added, adding_line, fault_on}
 use Rattle.ug_rule.specs.FirstFault.{IsBadLine}
 use Rattle.ug_rule.proofs.TextLines.{blank_line, line_blank, line_rule, rule_line, bad_line, line_bad}
-use Rattle.ug_rule.specs.Texts.{AreRules, NoLines, Blank, OneMore, IsFirstBad}
+use Rattle.ug_rule.specs.Texts.{AreRules, NoLines, Blank, OneMore, IsFirstBadRule}
 
 one_more : (a b : ℕ) → a + 1 + b ≡ a + suc b
 one_more a b = omega arith
 
 -- what a line that reads so leads to
 next : (number : ℕ) (rules : List Rule) (line : List ℕ) (lines : List (List ℕ)) (read : Result (Option Rule) Fault) → line_read line ≡ read
-    → rules_from number rules (line ∷ lines) ≡ on_ok (added number rules read) (λ more. rules_from (number + 1) more lines)
-unfolding rules_from
-next number rules line lines read e = ap (λ (r : Result (Option Rule) Fault). on_ok (added number rules r) (λ more. rules_from (number + 1) more lines)) e
+    → lines_read adding_line number rules (line ∷ lines) ≡ then_on (added number rules read) (λ more. lines_read adding_line (number + 1) more lines)
+unfolding lines_read
+next number rules line lines read e = ap (λ (r : Result (Option Rule) Fault). then_on (added number rules r) (λ more. lines_read adding_line (number + 1) more lines)) e
 
 -- good lines lead to what stands behind them
-pub past : (number : ℕ) (old : List Rule) (lines behind : List (List ℕ)) (rules : List Rule) → AreRules lines rules → rules_from number old (lines ++ behind) ≡ rules_from (number + length lines) (old ++ rules) behind
+pub past : (number : ℕ) (old : List Rule) (lines behind : List (List ℕ)) (rules : List Rule) → AreRules lines rules → lines_read adding_line number old (lines ++ behind) ≡ lines_read adding_line (number + length lines) (old ++ rules) behind
 past number old lines behind rules NoLines =
     let n : number ≡ number + 0 = omega arith in
-    ap (λ (l : List Rule). rules_from number l behind) (sym (append-nil old)) ∙ ap (λ (k : ℕ). rules_from k (old ++ []) behind) n
+    ap (λ (l : List Rule). lines_read adding_line number l behind) (sym (append-nil old)) ∙ ap (λ (k : ℕ). lines_read adding_line k (old ++ []) behind) n
 past number old lines behind rules (Blank line more same e r) =
-    next number old line (more ++ behind) (Ok None) (line_blank line e) ∙ past (number + 1) old more behind rules r ∙ ap (λ (k : ℕ). rules_from k (old ++ rules) behind) (one_more number (length more))
+    next number old line (more ++ behind) (Ok None) (line_blank line e) ∙ past (number + 1) old more behind rules r ∙ ap (λ (k : ℕ). lines_read adding_line k (old ++ rules) behind) (one_more number (length more))
 past number old lines behind rules (OneMore line rule more rest e r) =
     next number old line (more ++ behind) (Ok (Some rule)) (rule_line line rule e) ∙ past (number + 1) (old ++ rule ∷ []) more behind rest r
-    ∙ ap (λ (k : ℕ). rules_from k ((old ++ rule ∷ []) ++ rest) behind) (one_more number (length more))
-    ∙ ap (λ (l : List Rule). rules_from (number + suc (length more)) l behind) (append_assoc old (rule ∷ []) rest)
+    ∙ ap (λ (k : ℕ). lines_read adding_line k ((old ++ rule ∷ []) ++ rest) behind) (one_more number (length more))
+    ∙ ap (λ (l : List Rule). lines_read adding_line (number + suc (length more)) l behind) (append_assoc old (rule ∷ []) rest)
 
 -- rules that are read behind others
 record Good (old : List Rule) (lines : List (List ℕ)) (all : List Rule) : Type 0 where
@@ -37,18 +37,18 @@ record Good (old : List Rule) (lines : List (List ℕ)) (all : List Rule) : Type
   good : AreRules lines rules
   is : all ≡ old ++ rules
 
-end : (number : ℕ) (old : List Rule) → rules_from number old [] ≡ Ok old
-unfolding rules_from
+end : (number : ℕ) (old : List Rule) → lines_read adding_line number old [] ≡ Ok old
+unfolding lines_read
 end number old = refl
 
-good-from : (number : ℕ) (old : List Rule) (lines : List (List ℕ)) (all : List Rule) → rules_from number old lines ≡ Ok all → Good old lines all
+good-from : (number : ℕ) (old : List Rule) (lines : List (List ℕ)) (all : List Rule) → lines_read adding_line number old lines ≡ Ok all → Good old lines all
 good-from number old [] all e =
     let q : Ok old ≡ Ok all = sym (end number old) ∙ e in
     let p : all ≡ old = cc in
     record { rules = []; good = NoLines; is = p ∙ sym (append-nil old) }
-good-from number old (line ∷ lines) all e = by (line_read line) refl (λ (o : List Rule) (h : rules_from (number + 1) o lines ≡ Ok all). good-from (number + 1) o lines all h)
+good-from number old (line ∷ lines) all e = by (line_read line) refl (λ (o : List Rule) (h : lines_read adding_line (number + 1) o lines ≡ Ok all). good-from (number + 1) o lines all h)
   where
-    by : (v : Result (Option Rule) Fault) → line_read line ≡ v → ((o : List Rule) → rules_from (number + 1) o lines ≡ Ok all → Good o lines all) → Good old (line ∷ lines) all
+    by : (v : Result (Option Rule) Fault) → line_read line ≡ v → ((o : List Rule) → lines_read adding_line (number + 1) o lines ≡ Ok all → Good o lines all) → Good old (line ∷ lines) all
     by (Ok None) q f = let g = f old (sym (next number old line lines (Ok None) q) ∙ e) in
         record { rules = g.rules; good = Blank line lines g.rules (blank_line line q) g.good; is = g.is }
     by (Ok (Some rule)) q f = let g = f (old ++ rule ∷ []) (sym (next number old line lines (Ok (Some rule)) q) ∙ e) in
@@ -67,11 +67,11 @@ record BadFrom (number : ℕ) (lines : List (List ℕ)) (fault : TextFault) : Ty
   bad : IsBadLine line found
   told : fault ≡ fault_on (number + length before) found
 
-bad-from : (number : ℕ) (old : List Rule) (lines : List (List ℕ)) (fault : TextFault) → rules_from number old lines ≡ Err fault → BadFrom number lines fault
+bad-from : (number : ℕ) (old : List Rule) (lines : List (List ℕ)) (fault : TextFault) → lines_read adding_line number old lines ≡ Err fault → BadFrom number lines fault
 bad-from number old [] fault e = let w = sym (end number old) ∙ e in absurd (cc)
-bad-from number old (line ∷ lines) fault e = by (line_read line) refl (λ (o : List Rule) (h : rules_from (number + 1) o lines ≡ Err fault). bad-from (number + 1) o lines fault h)
+bad-from number old (line ∷ lines) fault e = by (line_read line) refl (λ (o : List Rule) (h : lines_read adding_line (number + 1) o lines ≡ Err fault). bad-from (number + 1) o lines fault h)
   where
-    by : (v : Result (Option Rule) Fault) → line_read line ≡ v → ((o : List Rule) → rules_from (number + 1) o lines ≡ Err fault → BadFrom (number + 1) lines fault) → BadFrom number (line ∷ lines) fault
+    by : (v : Result (Option Rule) Fault) → line_read line ≡ v → ((o : List Rule) → lines_read adding_line (number + 1) o lines ≡ Err fault → BadFrom (number + 1) lines fault) → BadFrom number (line ∷ lines) fault
     by (Ok None) q f = let g = f old (sym (next number old line lines (Ok None) q) ∙ e) in record {
       before = line ∷ g.before;
       line = g.line;
@@ -109,13 +109,13 @@ bad-from number old (line ∷ lines) fault e = by (line_read line) refl (λ (o :
           told = p ∙ ap (λ (k : ℕ). fault_on k found) n;
         }
 
-pub rules-read : (lines : List (List ℕ)) (rules : List Rule) → rules_from 1 [] lines ≡ Ok rules → AreRules lines rules
+pub rules-read : (lines : List (List ℕ)) (rules : List Rule) → lines_read adding_line 1 [] lines ≡ Ok rules → AreRules lines rules
 rules-read lines rules e = let g = good-from 1 [] lines rules e in subst (λ (l : List Rule). AreRules lines l) (sym g.is) g.good
 
-pub read-rules : (lines : List (List ℕ)) (rules : List Rule) → AreRules lines rules → rules_from 1 [] lines ≡ Ok rules
-read-rules lines rules r = ap (λ (l : List (List ℕ)). rules_from 1 [] l) (sym (append-nil lines)) ∙ past 1 [] lines [] rules r ∙ end (1 + length lines) rules
+pub read-rules : (lines : List (List ℕ)) (rules : List Rule) → AreRules lines rules → lines_read adding_line 1 [] lines ≡ Ok rules
+read-rules lines rules r = ap (λ (l : List (List ℕ)). lines_read adding_line 1 [] l) (sym (append-nil lines)) ∙ past 1 [] lines [] rules r ∙ end (1 + length lines) rules
 
-pub fault-read : (lines : List (List ℕ)) (fault : TextFault) → rules_from 1 [] lines ≡ Err fault → IsFirstBad lines fault
+pub fault-read : (lines : List (List ℕ)) (fault : TextFault) → lines_read adding_line 1 [] lines ≡ Err fault → IsFirstBadRule lines fault
 fault-read lines fault e = let g = bad-from 1 [] lines fault e in record {
   before = g.before;
   line = g.line;
@@ -128,9 +128,9 @@ fault-read lines fault e = let g = bad-from 1 [] lines fault e in record {
   told = let n : 1 + length g.before ≡ length g.before + 1 = omega arith in g.told ∙ ap (λ (k : ℕ). fault_on k g.found) n;
 }
 
-pub read-fault : (lines : List (List ℕ)) (fault : TextFault) → IsFirstBad lines fault → rules_from 1 [] lines ≡ Err fault
+pub read-fault : (lines : List (List ℕ)) (fault : TextFault) → IsFirstBadRule lines fault → lines_read adding_line 1 [] lines ≡ Err fault
 read-fault lines fault b =
     let n : 1 + length b.before ≡ length b.before + 1 = omega arith in
-    ap (λ (l : List (List ℕ)). rules_from 1 [] l) b.split ∙ past 1 [] b.before (b.line ∷ b.behind) b.rules b.good
+    ap (λ (l : List (List ℕ)). lines_read adding_line 1 [] l) b.split ∙ past 1 [] b.before (b.line ∷ b.behind) b.rules b.good
     ∙ next (1 + length b.before) b.rules b.line b.behind (Err b.found) (line_bad b.line b.found b.bad)
     ∙ ap (λ (k : ℕ). Err (fault_on k b.found)) n ∙ ap (λ (t : TextFault). Err t) (sym b.told)

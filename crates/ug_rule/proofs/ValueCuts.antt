@@ -9,10 +9,11 @@ use Rattle.ug_rule.specs.declared.fault.Ending.{Ending}
 use Rattle.ug_rule.specs.declared.fault.FaultKind.TheVariants.{BadValue}
 use Rattle.ug_rule.specs.Faults.{fault_at, on_ok, within}
 use Rattle.ug_rule.specs.Grammar.{AreItems, IsSet, IsSingle, IsOperatorSet, IsValue}
-use Rattle.ug_rule.specs.Keywords.{operator_of}
+use Rattle.ug_words.specs.Keywords.{operator_of}
 use Rattle.ug_rule.specs.Tokens.{word_of, is_open, is_close}
 use Rattle.ug_rule.specs.Values.{item_of, filled, items_of, valued, set_of, brace_of, behind_operator, single_of, value_behind, value_of}
-use Rattle.ug_rule.proofs.Cases.{by_test, by_step, same_ok, by_found}
+use Rattle.ug_rule.proofs.Cases.{by_step, same_ok, by_found}
+use Rattle.ug_words.proofs.Tests.{by_test}
 
 -- ---- sets
 

@@ -11,15 +11,15 @@ use Rattle.ug_types.specs.declared.rule.Query.{Query}
 use Rattle.ug_rule.specs.declared.fault.Ending.{Ending}
 use Rattle.ug_rule.specs.declared.fault.Fault.{Fault}
 use Rattle.ug_rule.specs.declared.fault.FaultKind.TheVariants.{OpenSet, BadCondition, ConditionInQuery}
-use Rattle.ug_rule.specs.declared.keywords.CondName.{CondName}
-use Rattle.ug_rule.specs.declared.keywords.CondName.TheVariants as name
-use Rattle.ug_rule.specs.declared.words.DaySpan.{DaySpan}
+use Rattle.ug_words.specs.declared.keywords.CondName.{CondName}
+use Rattle.ug_words.specs.declared.keywords.CondName.TheVariants as name
+use Rattle.ug_words.specs.declared.words.DaySpan.{DaySpan}
 use Rattle.ug_rule.specs.Faults.{fault_at, missing, within, on_ok, required}
-use Rattle.ug_rule.specs.Keywords.{operator_of, condition_of}
+use Rattle.ug_words.specs.Keywords.{operator_of, condition_of}
 use Rattle.ug_rule.specs.Queries.{is_blank, query_of, stray}
 use Rattle.ug_rule.specs.Tokens.{word_of, is_open, is_close, is_paren_open, is_paren_close, is_bang, starts_with_paren, behind_first}
 use Rattle.ug_rule.specs.Values.{filled, brace_of}
-use Rattle.ug_rule.specs.Words.{span_of, past_of, chance_of}
+use Rattle.ug_words.specs.Words.{span_of, past_of, chance_of}
 
 -- ---- arguments in parentheses
 

@@ -5,9 +5,9 @@ use Rattle.ug_lex.specs.declared.token.TokenKind.{TokenKind}
 use Rattle.ug_lex.specs.declared.token.TokenKind.TheVariants.{Word, Str, Open, Close, ParenOpen, ParenClose, Bang}
 use Rattle.ug_rule.specs.declared.fault.FaultKind.{FaultKind}
 use Rattle.ug_rule.specs.declared.fault.FaultKind.TheVariants.{NoTarget, UnknownWord, Repeated, BadValue, EmptySet, OpenSet, BadCondition, ConditionInQuery, TrailingToken}
-use Rattle.ug_rule.specs.declared.keywords.CondName.{CondName}
-use Rattle.ug_rule.specs.declared.keywords.CondName.TheVariants as name
-use Rattle.ug_rule.specs.Keywords.{operator_of, attribute_of, condition_of, is_if}
+use Rattle.ug_words.specs.declared.keywords.CondName.{CondName}
+use Rattle.ug_words.specs.declared.keywords.CondName.TheVariants as name
+use Rattle.ug_words.specs.Keywords.{operator_of, attribute_of, condition_of, is_if}
 use Rattle.ug_rule.specs.Queries.{has_colon}
 use Rattle.ug_rule.specs.Tokens.{word_of, is_word, is_close, is_paren_close}
 

@@ -13,17 +13,18 @@ use Rattle.ug_types.specs.declared.rule.Op.TheVariants.{Equals}
 use Rattle.ug_types.specs.declared.rule.Query.{Query}
 use Rattle.ug_types.specs.declared.rule.Rule.{Rule}
 use Rattle.ug_types.specs.declared.rule.Values.{Values}
-use Rattle.ug_rule.specs.declared.keywords.Attr.{Attr}
-use Rattle.ug_rule.specs.declared.keywords.Attr.TheVariants as attr
-use Rattle.ug_rule.specs.declared.keywords.CondName.{CondName}
-use Rattle.ug_rule.specs.declared.keywords.CondName.TheVariants as name
-use Rattle.ug_rule.specs.declared.words.DaySpan.{DaySpan}
+use Rattle.ug_words.specs.declared.keywords.Attr.{Attr}
+use Rattle.ug_words.specs.declared.keywords.Attr.TheVariants as attr
+use Rattle.ug_words.specs.declared.keywords.CondName.{CondName}
+use Rattle.ug_words.specs.declared.keywords.CondName.TheVariants as name
+use Rattle.ug_words.specs.declared.words.DaySpan.{DaySpan}
 use Rattle.ug_rule.specs.Conditions.{chance_or_half, joined}
-use Rattle.ug_rule.specs.Keywords.{target_of, operator_of, attribute_of, condition_of, is_if}
+use Rattle.ug_words.specs.Keywords.{operator_of, attribute_of, condition_of, is_if}
+use Rattle.ug_types.specs.Targets.{target_of}
 use Rattle.ug_rule.specs.Queries.{no_query, is_given, is_blank, has_colon, id_query}
 use Rattle.ug_rule.specs.Tokens.{word_of, first_word, is_open, is_close, is_paren_open, is_paren_close, is_bang, starts_with_paren, string_by}
 use Rattle.ug_rule.specs.Values.{id_in, interface_in, string_in, valued}
-use Rattle.ug_rule.specs.Words.{id_of, span_of, past_of, chance_of}
+use Rattle.ug_words.specs.Words.{id_of, span_of, past_of, chance_of}
 
 -- each token is the item at its place
 abbrev pub AreItems : {X : Type 0} → (Token → Option X) → List Token → List X → Type 0

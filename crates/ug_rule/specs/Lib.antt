@@ -4,11 +4,8 @@ pub mod Faults
 pub mod Files
 pub mod FirstFault
 pub mod Grammar
-pub mod Keywords
 pub mod Queries
 pub mod Rules
 pub mod Texts
 pub mod Tokens
 pub mod Values
-pub mod WordGrammar
-pub mod Words

@@ -9,11 +9,11 @@ use Rattle.ug_rule.specs.declared.fault.Ending.{Ending}
 use Rattle.ug_rule.specs.declared.fault.Fault.{Fault}
 use Rattle.ug_rule.specs.declared.fault.FaultKind.{FaultKind}
 use Rattle.ug_rule.specs.declared.fault.FaultKind.TheVariants.{UnknownWord, Repeated, BadValue, ConditionInQuery, TrailingToken}
-use Rattle.ug_rule.specs.declared.keywords.Attr.{Attr}
-use Rattle.ug_rule.specs.declared.keywords.Attr.TheVariants as attr
+use Rattle.ug_words.specs.declared.keywords.Attr.{Attr}
+use Rattle.ug_words.specs.declared.keywords.Attr.TheVariants as attr
 use Rattle.ug_rule.specs.declared.queries.Named.{Named}
 use Rattle.ug_rule.specs.Faults.{fault_at, missing, on_ok}
-use Rattle.ug_rule.specs.Keywords.{attribute_of, is_if}
+use Rattle.ug_words.specs.Keywords.{attribute_of, is_if}
 use Rattle.ug_rule.specs.Tokens.{word_of, is_word, first_word}
 use Rattle.ug_rule.specs.Values.{id_in, interface_in, string_in, single_of, value_of, text_of}
 

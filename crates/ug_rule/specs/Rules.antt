@@ -10,7 +10,8 @@ use Rattle.ug_rule.specs.declared.fault.Fault.{Fault}
 use Rattle.ug_rule.specs.declared.fault.FaultKind.TheVariants.{NoTarget, Repeated}
 use Rattle.ug_rule.specs.Conditions.{conditions_of}
 use Rattle.ug_rule.specs.Faults.{fault_at, on_ok, required}
-use Rattle.ug_rule.specs.Keywords.{target_of, is_if}
+use Rattle.ug_words.specs.Keywords.{is_if}
+use Rattle.ug_types.specs.Targets.{target_of}
 use Rattle.ug_rule.specs.Queries.{attributes_of, query_of, query_ends, stray}
 use Rattle.ug_rule.specs.Tokens.{word_of, first_word, behind_first, tokens_read}
 

@@ -1,23 +1,11 @@
--- Texts of rules as relations: their lines, the rules of the lines, and the first bad line.
-use Rattle.std.specs.Prelude.{ℕ, ◌≡◌, ◌≢◌, ◌+◌, List, [], ◌∷◌, ◌++◌, length}
+-- Texts of rules as relations: the rules of their lines, and the first bad line.
+use Rattle.std.specs.Prelude.{ℕ, ◌≡◌, ◌+◌, List, [], ◌∷◌, ◌++◌, length}
 use Rattle.ug_types.specs.declared.rule.Rule.{Rule}
 use Rattle.ug_types.specs.declared.text_fault.TextFault.{TextFault}
 use Rattle.ug_rule.specs.declared.fault.Fault.{Fault}
 use Rattle.ug_rule.specs.Files.{fault_on}
 use Rattle.ug_rule.specs.FirstFault.{IsBlankLine, IsBadLine}
 use Rattle.ug_rule.specs.Grammar.{Says}
-
--- no newline is among the bytes
-abbrev pub IsLine : List ℕ → Type 0
-IsLine [] = Unit {0}
-IsLine (b ∷ line) = (b ≢ 10) × IsLine line
-
--- a text is lines, each of which but the last has a newline behind it
-pub data Splits : List ℕ → List (List ℕ) → Type 0 where
-  Nothing : Splits [] []
-  -- a last line without its newline has at least one byte
-  Open : (b : ℕ) (line : List ℕ) → IsLine (b ∷ line) → Splits (b ∷ line) ((b ∷ line) ∷ [])
-  Closed : (line text : List ℕ) (lines : List (List ℕ)) → IsLine line → Splits text lines → Splits (line ++ 10 ∷ text) (line ∷ lines)
 
 -- the rules of lines, each of which is a rule, or has no token since it is blank or a comment
 pub data AreRules : List (List ℕ) → List Rule → Type 0 where
@@ -26,7 +14,7 @@ pub data AreRules : List (List ℕ) → List Rule → Type 0 where
   OneMore : (line : List ℕ) (rule : Rule) (lines : List (List ℕ)) (rules : List Rule) → Says line rule → AreRules lines rules → AreRules (line ∷ lines) (rule ∷ rules)
 
 -- the lines before are good, this one is not, and its number, counted from 1, and its own fault are told
-pub record IsFirstBad (lines : List (List ℕ)) (fault : TextFault) : Type 0 where
+pub record IsFirstBadRule (lines : List (List ℕ)) (fault : TextFault) : Type 0 where
   pub before : List (List ℕ)
   pub line : List ℕ
   pub behind : List (List ℕ)

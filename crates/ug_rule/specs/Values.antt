@@ -11,9 +11,9 @@ use Rattle.ug_rule.specs.declared.fault.Fault.{Fault}
 use Rattle.ug_rule.specs.declared.fault.FaultKind.{FaultKind}
 use Rattle.ug_rule.specs.declared.fault.FaultKind.TheVariants.{BadValue, EmptySet, OpenSet}
 use Rattle.ug_rule.specs.Faults.{fault_at, missing, within, on_ok, required}
-use Rattle.ug_rule.specs.Keywords.{operator_of}
+use Rattle.ug_words.specs.Keywords.{operator_of}
 use Rattle.ug_rule.specs.Tokens.{word_of, is_open, is_close, string_by}
-use Rattle.ug_rule.specs.Words.{id_of, interface_of}
+use Rattle.ug_words.specs.Words.{id_of, interface_of}
 
 -- ---- items
 

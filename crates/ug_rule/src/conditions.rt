@@ -2,17 +2,16 @@
 ghost use Rattle.std.specs.Prelude.{◌≡◌, ◌≤◌, [], length};
 ghost use Rattle.ug_rule.specs.Conditions as conditions;
 ghost use Rattle.ug_rule.specs.Tokens.{Reads};
-ghost use Rattle.ug_rule.specs.Words.{past_of, chance_of};
+ghost use Rattle.ug_words.specs.Words.{past_of, chance_of};
 
 use crate::fault::{Ending, FaultKind, Stop, required};
-use crate::keywords::{CondName, condition, operator};
 use crate::queries::{is_blank, query, stray};
 use crate::tokens_left::{Tokens, closes, opens, word};
 use crate::values::{brace, filled};
-use crate::words::{chance, past, span};
 use std::alloc::Global;
 use ug_lex::{Token, TokenKind};
 use ug_types::{Cond, CondKind, Conds, List, Op, Query};
+use ug_words::{CondName, chance, condition, operator, past, span};
 
 // The token that must come next.
 fn next(tokens: &mut Tokens, ending: Ending) -> Result<Token, Stop>

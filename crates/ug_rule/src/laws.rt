@@ -1,22 +1,20 @@
 // Laws of the meaning of a rule's text.
 ghost use Rattle.std.specs.Prelude.{◌≡◌, ◌↔◌, ◌⊎◌, ℕ, List, Some, None, Ok, Err};
 ghost use Rattle.ug_lex.specs.declared.token.Token.{Token};
+ghost use Rattle.ug_lines.specs.Lines.{lines_of};
+ghost use Rattle.ug_lines.specs.Splitting.{AreLinesOf};
 ghost use Rattle.ug_types.specs.declared.text_fault.TextFault.{TextFault};
 ghost use Rattle.ug_rule.specs.declared.fault.Ending.{Ending};
 ghost use Rattle.ug_rule.specs.declared.fault.Fault.{Fault};
 ghost use Rattle.ug_rule.specs.Conditions.{conditions_of};
 ghost use Rattle.ug_rule.specs.FaultKinds.{query_early_kind, query_stray_kind, rule_early_kind, rule_stray_kind};
-ghost use Rattle.ug_rule.specs.Files.{file_read, line_read, lines_of};
+ghost use Rattle.ug_rule.specs.Files.{file_read, line_read};
 ghost use Rattle.ug_rule.specs.FirstFault.{AreQuery, AreRule, FirstFault, IsBadLine, IsBlankLine};
 ghost use Rattle.ug_rule.specs.Grammar.{AllAttributes, Asks, IsConditions, IsQuery, IsRule, IsValue, Says, WellFormed};
 ghost use Rattle.ug_rule.specs.Queries.{attributes_of};
 ghost use Rattle.ug_rule.specs.Rules.{rule_of, rule_read, whole_query, query_read};
-ghost use Rattle.ug_rule.specs.Texts.{AreRules, IsFirstBad, Splits};
+ghost use Rattle.ug_rule.specs.Texts.{AreRules, IsFirstBadRule};
 ghost use Rattle.ug_rule.specs.Values.{id_in, interface_in, string_in, value_of};
-ghost use Rattle.ug_rule.specs.declared.words.Clock.{Clock};
-ghost use Rattle.ug_rule.specs.declared.words.DaySpan.{DaySpan};
-ghost use Rattle.ug_rule.specs.WordGrammar.{IsChance, IsId, IsInterface, IsPast, IsSpan, IsTime};
-ghost use Rattle.ug_rule.specs.Words.{chance_of, id_of, interface_of, past_of, span_of, time_of};
 
 use ug_types::{Conds, Id, Iface, Query, Rule, TextFault, Values};
 
@@ -35,17 +33,6 @@ pub fn attributes_law()
 /// Conditions are read exactly as their tokens are cut into one condition, or an operator or none and conditions in braces.
 pub fn conditions_law()
     ensures { (line : List ℕ) (ending : Ending) (conds : Conds) (tokens rest : List Token) → (conditions_of line ending tokens ≡ Ok (conds, rest)) ↔ IsConditions line conds tokens rest }
-{}
-
-/// Words are read as ids, as interfaces, as times, as spans of the day, as pasts and as probabilities exactly where their
-/// parts stand as usbguard-rules.conf(5) writes them.
-pub fn words_law()
-    ensures ids { (id : Id) (word : List ℕ) → (id_of word ≡ Some id) ↔ IsId id word }
-    ensures interfaces { (iface : Iface) (word : List ℕ) → (interface_of word ≡ Some iface) ↔ IsInterface iface word }
-    ensures times { (most : ℕ) (time : Clock) (word : List ℕ) → (time_of most word ≡ Some time) ↔ IsTime most time word }
-    ensures spans { (span : DaySpan) (word : List ℕ) → (span_of word ≡ Some span) ↔ IsSpan span word }
-    ensures pasts { (n : ℕ) (word : List ℕ) → (past_of word ≡ Some n) ↔ IsPast n word }
-    ensures probabilities { (n : ℕ) (word : List ℕ) → (chance_of word ≡ Some n) ↔ IsChance n word }
 {}
 
 /// Tokens are read as a rule exactly where they are a target, a bare id or none, and parts in any order, and as a query
@@ -80,9 +67,9 @@ pub fn text_lines_law()
 /// A text splits into its lines and in no other way. It is read exactly where each line is a rule, blank or a comment, and
 /// then its rules are those of the lines, in their order; a fault is that of its first bad line.
 pub fn text_law()
-    ensures lines { (text : List ℕ) (lines : List (List ℕ)) → (lines_of text ≡ lines) ↔ Splits text lines }
+    ensures lines { (text : List ℕ) (lines : List (List ℕ)) → (lines_of text ≡ lines) ↔ AreLinesOf text lines }
     ensures rules { (text : List ℕ) (rules : List Rule) → (file_read text ≡ Ok rules) ↔ AreRules (lines_of text) rules }
-    ensures fault { (text : List ℕ) (fault : TextFault) → (file_read text ≡ Err fault) ↔ IsFirstBad (lines_of text) fault }
+    ensures fault { (text : List ℕ) (fault : TextFault) → (file_read text ≡ Err fault) ↔ IsFirstBadRule (lines_of text) fault }
 {}
 
 /// A line is one rule, or has one first fault, and never both. So it is with queries.

@@ -5,12 +5,12 @@ ghost use Rattle.ug_rule.specs.Tokens.{Reads, ReadsInto};
 ghost use Rattle.ug_rule.specs.Queries as queries;
 
 use crate::fault::{Ending, FaultKind, Stop};
-use crate::keywords::{Attr, attribute, is_if};
 use crate::tokens_left::{Tokens, word};
 use crate::values::{single, text, value};
 use std::alloc::Global;
 use ug_lex::{Token, TokenKind};
 use ug_types::{Id, Query, Values};
+use ug_words::{Attr, attribute, is_if};
 
 /// An attribute whose name was read, and where it stands.
 #[derive(Clone, Copy)]

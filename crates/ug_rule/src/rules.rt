@@ -6,12 +6,12 @@ ghost use Rattle.ug_rule.specs.Tokens.{Reads};
 
 use crate::conditions::conditions;
 use crate::fault::{Ending, FaultKind, RuleFault, Stop, answer, required};
-use crate::keywords::{is_if, target};
 use crate::queries::{add_attributes, query, query_ends, stray};
 use crate::tokens_left::{Tokens, read, word};
 use std::alloc::Global;
 use ug_lex::Token;
 use ug_types::{Conds, List, Query, Rule, Target};
+use ug_words::is_if;
 
 fn end_of(line: &[u8]) -> Ending
     ensures { result ≡ rules.end_of line.now }
@@ -77,7 +77,7 @@ pub fn rule(alloc: Global, line: &[u8], tokens: List<Token>) -> Result<Rule, Sto
     match tokens.next() {
         Some(token) => {
             let place = token.start as u64;
-            let target = required(target(word(line, &token)), FaultKind::NoTarget, place)?;
+            let target = required(Target::named(word(line, &token)), FaultKind::NoTarget, place)?;
             parts(alloc, line, &mut tokens, target)
         }
         None => Err(Stop::at(FaultKind::NoTarget, line.len() as u64)),

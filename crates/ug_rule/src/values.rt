@@ -5,12 +5,11 @@ ghost use Rattle.ug_rule.specs.Tokens.{Reads};
 ghost use Rattle.ug_rule.specs.Values as values;
 
 use crate::fault::{Ending, FaultKind, Stop, required};
-use crate::keywords::operator;
 use crate::tokens_left::{Tokens, closes, opens, word};
-use crate::words::{id, interface};
 use std::alloc::Global;
 use ug_lex::{Token, TokenKind};
 use ug_types::{Id, Iface, List, Op, Text, Values};
+use ug_words::{id, interface, operator};
 
 /// What one token says.
 pub trait FromToken: Sized + Drop {

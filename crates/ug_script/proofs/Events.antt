@@ -15,9 +15,9 @@ use Rattle.ug_core.specs.Event.{DaemonState, handling, has_numbers, RunsEvent}
 use Rattle.std.specs.Io.KnownBytes.{Appends}
 use Rattle.ug_types.specs.Ends.{Puts}
 use Rattle.ug_types.specs.declared.sink.Put.TheVariants.{Failed}
-use Rattle.ug_lines.specs.Runs.{Steps, Closes}
-use Rattle.ug_lines.specs.declared.machine.Ran.{Ran}
-use Rattle.ug_lines.specs.declared.machine.Ran.TheVariants.{Done, Bad, TooLong, SinkFailed, Memory}
+use Rattle.ug_console.specs.Runs.{Steps, Closes}
+use Rattle.ug_console.specs.declared.machine.Ran.{Ran}
+use Rattle.ug_console.specs.declared.machine.Ran.TheVariants.{Done, Bad, TooLong, SinkFailed, Memory}
 use Rattle.ug_sysfs.specs.declared.script.Scheduled.{Scheduled}
 use Rattle.ug_script.specs.Schedule.{arranged}
 use Rattle.ug_script.specs.Laws.{event_of}

@@ -23,10 +23,11 @@ use Rattle.ug_table.specs.Laws.{IsAsJudged}
 use Rattle.ug_play.specs.Play.{play, names_somebody, NameNobody}
 use Rattle.ug_play.proofs.Sweeps.{quiet_sweep, nobody_more}
 use Rattle.ug_play.proofs.Still.{lived_in_play}
-use Rattle.ug_conf.specs.declared.fault.Fault as conf
+use Rattle.ug_conf.specs.Faults.{SettingFault}
 use Rattle.ug_conf.specs.Draft.{Draft, draft_of, line_read}
 use Rattle.ug_conf.specs.Settings.{defaults}
-use Rattle.ug_conf.specs.Texts.{lines_read, settled}
+use Rattle.ug_conf.specs.Texts.{setting_line, settled}
+use Rattle.ug_lines.specs.LineReading.{lines_read}
 use Rattle.ug_conf.specs.Reader.{next_number}
 use Rattle.ug_core.specs.Event as event
 use Rattle.ug_core.specs.Settings.{classes_of}
@@ -36,7 +37,7 @@ use Rattle.ug_core.specs.Laws.{Handled}
 use Rattle.ug_core.specs.Chain.{Happened, Chain, journal}
 use Rattle.ug_core.proofs.Verdicts.{rulings_later}
 use Rattle.ug_core.proofs.Chained.{journal_append, is_run, chain_more, chain_moves}
-use Rattle.ug_lines.specs.Fold.{Fault, BadLine, Outcome, Writes, Refused, Stage, Going, Halted, is_within, stage_after, plays}
+use Rattle.ug_console.specs.Fold.{Fault, BadLine, Outcome, Writes, Refused, Stage, Going, Halted, is_within, stage_after, plays}
 use Rattle.ug_script.specs.declared.step.Step.{Step}
 use Rattle.ug_script.specs.declared.step.Step.TheVariants.{Skip, Rule, Conf, Seed, Zone, Plug, Unplug, Schedule, Fail, Sweep}
 use Rattle.ug_script.specs.Grammar.{step_of_line}
@@ -59,7 +60,7 @@ quiet_front (x ∷ steps) step q = let k = quiet_front steps step q.1 in ((q.0, 
 -- while setup lines may come: no event came, and what they gave so far
 record IsOpen (n : ℕ) (done : List (Option Step)) (hs : List Happened) (s : Script) : Type 0 where
   none : hs ≡ []
-  read : lines_read 1 (draft_of defaults []) (flat_map conf_asked done) ≡ Ok s.settings.draft
+  read : lines_read setting_line 1 (draft_of defaults []) (flat_map conf_asked done) ≡ Ok s.settings.draft
   lines : s.settings.lines ≡ length (flat_map conf_asked done)
   few : s.settings.lines ≤ n
   seeds : is_none s.seed ≡ true → flat_map seed_asked done ≡ []
@@ -133,14 +134,14 @@ kept_when first n done hs text true o p x y = x refl
 kept_when first n done hs text false o p x y = y refl
 
 -- the line of settings has the number that is next
-kept_conf : (first : World) (n : ℕ) (done : List (Option Step)) (hs : List Happened) (text line : List ℕ) (r : Result Draft conf.Fault) (s : Script) (w : World) → n < 1048576 → line_read (next_number s.settings.lines) s.settings.draft line ≡ r → s.setup ≡ true → Kept first n done hs text s w → KeptAfter first (n + 1) (done ++ Some (Conf line) ∷ []) (hs ++ []) text (conf_read r s w)
+kept_conf : (first : World) (n : ℕ) (done : List (Option Step)) (hs : List Happened) (text line : List ℕ) (r : Result Draft SettingFault) (s : Script) (w : World) → n < 1048576 → line_read (next_number s.settings.lines) s.settings.draft line ≡ r → s.setup ≡ true → Kept first n done hs text s w → KeptAfter first (n + 1) (done ++ Some (Conf line) ∷ []) (hs ++ []) text (conf_read r s w)
 kept_conf first n done hs text line (Ok draft) s w lt is setup h =
     let so = h.opened setup in
     let few : s.settings.lines ≤ n = so.few in
     let lines : s.settings.lines ≡ length (flat_map conf_asked done) = so.lines in
     let step : Option Step = Some (Conf line) in
     let number : next_number s.settings.lines ≡ 1 + length (flat_map conf_asked done) = omega (arith, few, lt, lines) in
-    let read : lines_read 1 (draft_of defaults []) (flat_map conf_asked (done ++ step ∷ [])) ≡ Ok draft = settings_then done line s.settings.draft draft so.read (subst (λ (m : ℕ). line_read m s.settings.draft line ≡ Ok draft) number is) in
+    let read : lines_read setting_line 1 (draft_of defaults []) (flat_map conf_asked (done ++ step ∷ [])) ≡ Ok draft = settings_then done line s.settings.draft draft so.read (subst (λ (m : ℕ). line_read m s.settings.draft line ≡ Ok draft) number is) in
     let t : Script = record s { settings = record { draft = draft; lines = next_number s.settings.lines }; daemon = with_classes (classes_of draft.settings) s.daemon } in
     let longer : length (flat_map conf_asked done ++ line ∷ []) ≡ length (flat_map conf_asked done) + 1 = length-append (flat_map conf_asked done) (line ∷ []) in
     let sum : 1 + length (flat_map conf_asked done) ≡ length (flat_map conf_asked done) + 1 = omega arith in
@@ -310,7 +311,7 @@ recorded first lines n text s w h =
     record {
       policy = h.policy;
       setup = h.given;
-      settings = λ whole e. ap (λ (ls : List (List ℕ)). settled (lines_read 1 (draft_of defaults []) ls)) e ∙ ap settled h.given.settings;
+      settings = λ whole e. ap (λ (ls : List (List ℕ)). settled (lines_read setting_line 1 (draft_of defaults []) ls)) e ∙ ap settled h.given.settings;
       later = λ rs. rulings_later h.policy rs h.new;
       chain = h.chain;
       run = is_run h.policy 1 first.kernel (started h.policy) (happened (None, first) lines) w.kernel s.daemon begins h.chain;

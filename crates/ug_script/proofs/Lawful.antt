@@ -32,10 +32,10 @@ use Rattle.ug_core.specs.Policy.{Judging, policy_answer, policy_later}
 use Rattle.ug_core.specs.Event.{DaemonState, handling, has_numbers, with_rule, has_place}
 use Rattle.ug_core.specs.Laws.{Handled, TellsEvent}
 use Rattle.ug_core.proofs.Failures.{event_tells, event_names}
-use Rattle.ug_lines.specs.Fold.{BadLine, Outcome, Writes, Refused}
+use Rattle.ug_console.specs.Fold.{BadLine, Outcome, Writes, Refused}
 use Rattle.ug_script.specs.declared.step.Step.{Step}
 use Rattle.ug_script.specs.declared.step.Step.TheVariants.{Skip, Rule, Conf, Seed, Zone, Plug, Unplug, Schedule, Fail, Sweep}
-use Rattle.ug_conf.specs.declared.fault.Fault.{Fault}
+use Rattle.ug_conf.specs.Faults.{SettingFault}
 use Rattle.ug_conf.specs.Draft.{Draft, line_read}
 use Rattle.ug_conf.specs.Reader.{next_number}
 use Rattle.ug_script.specs.Grammar.{step_of_line}
@@ -104,7 +104,7 @@ when : (b : Bool) (o p : Outcome (Option Script × World)) → HoldsAfter o → 
 when true o p x y = x
 when false o p x y = y
 
-conf_holds : (r : Result Draft Fault) (s : Script) (w : World) → HoldsIn (Some s, w) → HoldsAfter (conf_read r s w)
+conf_holds : (r : Result Draft SettingFault) (s : Script) (w : World) → HoldsIn (Some s, w) → HoldsAfter (conf_read r s w)
 conf_holds (Ok draft) s w h = h
 conf_holds (Err fault) s w h = h
 

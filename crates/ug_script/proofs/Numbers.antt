@@ -27,10 +27,10 @@ use Rattle.ug_play.proofs.Plays.{play_runs}
 use Rattle.ug_core.specs.Event as event
 use Rattle.ug_core.specs.Event.{DaemonState, has_numbers, is_low, has_place, with_rule}
 use Rattle.ug_core.specs.Policy.{Judging, policy_answer, policy_later}
-use Rattle.ug_lines.specs.Fold.{BadLine, Outcome, Writes, Refused}
+use Rattle.ug_console.specs.Fold.{BadLine, Outcome, Writes, Refused}
 use Rattle.ug_script.specs.declared.step.Step.{Step}
 use Rattle.ug_script.specs.declared.step.Step.TheVariants.{Skip, Rule, Conf, Seed, Zone, Plug, Unplug, Schedule, Fail, Sweep}
-use Rattle.ug_conf.specs.declared.fault.Fault.{Fault}
+use Rattle.ug_conf.specs.Faults.{SettingFault}
 use Rattle.ug_conf.specs.Draft.{Draft, line_read}
 use Rattle.ug_conf.specs.Reader.{next_number}
 use Rattle.ug_script.specs.Grammar.{step_of_line}
@@ -205,7 +205,7 @@ when : (n : ℕ) (b : Bool) (o p : Outcome (Option Script × World)) → FitsAft
 when n true o p x y = x
 when n false o p x y = y
 
-conf_fits : (n : ℕ) (r : Result Draft Fault) (s : Script) (w : World) → FitsIn n (Some s, w) → FitsAfter n (conf_read r s w)
+conf_fits : (n : ℕ) (r : Result Draft SettingFault) (s : Script) (w : World) → FitsIn n (Some s, w) → FitsAfter n (conf_read r s w)
 conf_fits n (Ok draft) s w h = h
 conf_fits n (Err fault) s w h = tt
 

@@ -11,11 +11,11 @@ use Rattle.ug_policy.proofs.Stands.{stands_insert}
 use Rattle.ug_cond.specs.Words.{behind}
 use Rattle.rand_core.specs.Stream.{Stream}
 use Rattle.std.proofs.lemmas.List.Edits.{insert_end}
-use Rattle.ug_conf.specs.declared.fault.Fault.{Fault}
 use Rattle.ug_conf.specs.Draft.{Draft, draft_of, line_read}
-use Rattle.ug_conf.specs.Faults.{on_ok}
+use Rattle.ug_conf.specs.Faults.{SettingFault, kind_number}
 use Rattle.ug_conf.specs.Settings.{defaults}
-use Rattle.ug_conf.specs.Texts.{in_line, lines_read}
+use Rattle.ug_conf.specs.Texts.{setting_line}
+use Rattle.ug_lines.specs.LineReading.{lines_read, on_line, then_on}
 use Rattle.ug_core.specs.Settings.{classes_of}
 use Rattle.ug_core.specs.Policy.{Judging, as_given}
 use Rattle.ug_core.specs.Verdicts.{IsLater}
@@ -33,18 +33,18 @@ pub flat_none : {X : Type 0} (f : Option Step → List X) (steps : List (Option 
 flat_none {X} f steps step none = flat_more f steps step ∙ ap (λ (l : List X). flat_map f steps ++ l) none ∙ append-nil (flat_map f steps)
 
 -- one line of settings more
-settings_by : (number : ℕ) (lines : List (List ℕ)) (line : List ℕ) (mid last : Draft) (r : Result Draft Fault) → on_ok (in_line number r) (λ (more : Draft). lines_read (number + 1) more lines) ≡ Ok mid
-    → ((more : Draft) → lines_read (number + 1) more lines ≡ Ok mid → lines_read (number + 1) more (lines ++ line ∷ []) ≡ Ok last) → on_ok (in_line number r) (λ (more : Draft). lines_read (number + 1) more (lines ++ line ∷ [])) ≡ Ok last
+settings_by : (number : ℕ) (lines : List (List ℕ)) (line : List ℕ) (mid last : Draft) (r : Result Draft SettingFault) → then_on (on_line kind_number number r) (λ (more : Draft). lines_read setting_line (number + 1) more lines) ≡ Ok mid
+    → ((more : Draft) → lines_read setting_line (number + 1) more lines ≡ Ok mid → lines_read setting_line (number + 1) more (lines ++ line ∷ []) ≡ Ok last) → then_on (on_line kind_number number r) (λ (more : Draft). lines_read setting_line (number + 1) more (lines ++ line ∷ [])) ≡ Ok last
 settings_by number lines line mid last (Ok more) h again = again more h
 settings_by number lines line mid last (Err fault) h again = let none : ⊥ = cc in absurd none
 
-settings_more : (number : ℕ) (draft : Draft) (lines : List (List ℕ)) (line : List ℕ) (mid last : Draft) → lines_read number draft lines ≡ Ok mid → line_read (number + length lines) mid line ≡ Ok last → lines_read number draft (lines ++ line ∷ []) ≡ Ok last
+settings_more : (number : ℕ) (draft : Draft) (lines : List (List ℕ)) (line : List ℕ) (mid last : Draft) → lines_read setting_line number draft lines ≡ Ok mid → line_read (number + length lines) mid line ≡ Ok last → lines_read setting_line number draft (lines ++ line ∷ []) ≡ Ok last
 unfolding lines_read
 settings_more number draft [] line mid last h g =
     let same : draft ≡ mid = cc in
     let none : number + 0 ≡ number = omega arith in
     let read : line_read number draft line ≡ Ok last = subst (λ (n : ℕ). line_read n draft line ≡ Ok last) none (subst (λ (d : Draft). line_read (number + 0) d line ≡ Ok last) (sym same) g) in
-    ap (λ (r : Result Draft Fault). on_ok (in_line number r) (λ (more : Draft). lines_read (number + 1) more [])) read
+    ap (λ (r : Result Draft SettingFault). then_on (on_line kind_number number r) (λ (more : Draft). lines_read setting_line (number + 1) more [])) read
 settings_more number draft (x ∷ lines) line mid last h g = settings_by number lines line mid last (line_read number draft x) h (λ more k. settings_more (number + 1) more lines line mid last k (let next : number + length (x ∷ lines) ≡ (number + 1) + length lines = omega arith in subst (λ (n : ℕ). line_read n mid line ≡ Ok last) next g))
 
 -- one rule more
@@ -54,11 +54,11 @@ entries_more id (r ∷ rules) rule =
     let next : (id + 1) + length rules ≡ id + length (r ∷ rules) = omega arith in
     ap (λ (l : List RuleEntry). new_entry id r false ∷ l) (entries_more (id + 1) rules rule) ∙ ap (λ (n : ℕ). new_entry id r false ∷ (entries_from (id + 1) rules ++ new_entry n rule false ∷ [])) next
 
-pub settings_then : (steps : List (Option Step)) (text : List ℕ) (mid draft : Draft) → lines_read 1 (draft_of defaults []) (flat_map conf_asked steps) ≡ Ok mid → line_read (1 + length (flat_map conf_asked steps)) mid text ≡ Ok draft → lines_read 1 (draft_of defaults []) (flat_map conf_asked (steps ++ Some (Conf text) ∷ [])) ≡ Ok draft
-settings_then steps text mid draft h read = ap (λ (l : List (List ℕ)). lines_read 1 (draft_of defaults []) l) (flat_more conf_asked steps (Some (Conf text))) ∙ settings_more 1 (draft_of defaults []) (flat_map conf_asked steps) text mid draft h read
+pub settings_then : (steps : List (Option Step)) (text : List ℕ) (mid draft : Draft) → lines_read setting_line 1 (draft_of defaults []) (flat_map conf_asked steps) ≡ Ok mid → line_read (1 + length (flat_map conf_asked steps)) mid text ≡ Ok draft → lines_read setting_line 1 (draft_of defaults []) (flat_map conf_asked (steps ++ Some (Conf text) ∷ [])) ≡ Ok draft
+settings_then steps text mid draft h read = ap (λ (l : List (List ℕ)). lines_read setting_line 1 (draft_of defaults []) l) (flat_more conf_asked steps (Some (Conf text))) ∙ settings_more 1 (draft_of defaults []) (flat_map conf_asked steps) text mid draft h read
 
-pub settings_still : (steps : List (Option Step)) (step : Option Step) (draft : Draft) → conf_asked step ≡ [] → lines_read 1 (draft_of defaults []) (flat_map conf_asked steps) ≡ Ok draft → lines_read 1 (draft_of defaults []) (flat_map conf_asked (steps ++ step ∷ [])) ≡ Ok draft
-settings_still steps step draft none h = ap (λ (l : List (List ℕ)). lines_read 1 (draft_of defaults []) l) (flat_none conf_asked steps step none) ∙ h
+pub settings_still : (steps : List (Option Step)) (step : Option Step) (draft : Draft) → conf_asked step ≡ [] → lines_read setting_line 1 (draft_of defaults []) (flat_map conf_asked steps) ≡ Ok draft → lines_read setting_line 1 (draft_of defaults []) (flat_map conf_asked (steps ++ step ∷ [])) ≡ Ok draft
+settings_still steps step draft none h = ap (λ (l : List (List ℕ)). lines_read setting_line 1 (draft_of defaults []) l) (flat_none conf_asked steps step none) ∙ h
 
 -- a step that isn't one of setup
 pub setup_still : (steps : List (Option Step)) (step : Option Step) (p : Judging) → conf_asked step ≡ [] → rule_asked step ≡ [] → zone_asked step ≡ [] → seed_asked step ≡ [] → IsSetup steps p → IsSetup (steps ++ step ∷ []) p
@@ -130,7 +130,7 @@ setup_rule steps rule p h =
       words = h.words ∙ ap (λ (l : List (List ℕ)). seeded (first_or no_seed l)) (sym (flat_none seed_asked steps step refl));
     }
 
-pub setup_conf : (steps : List (Option Step)) (text : List ℕ) (draft : Draft) (p : Judging) → IsSetup steps p → lines_read 1 (draft_of defaults []) (flat_map conf_asked (steps ++ Some (Conf text) ∷ [])) ≡ Ok draft → IsSetup (steps ++ Some (Conf text) ∷ []) (record p { classes = classes_of draft.settings })
+pub setup_conf : (steps : List (Option Step)) (text : List ℕ) (draft : Draft) (p : Judging) → IsSetup steps p → lines_read setting_line 1 (draft_of defaults []) (flat_map conf_asked (steps ++ Some (Conf text) ∷ [])) ≡ Ok draft → IsSetup (steps ++ Some (Conf text) ∷ []) (record p { classes = classes_of draft.settings })
 setup_conf steps text draft p h read =
     let step : Option Step = Some (Conf text) in
     record {
@@ -176,7 +176,7 @@ setup_zone steps offset p none h =
 
 -- what no line gives
 
-pub fresh_read : lines_read 1 (draft_of defaults []) [] ≡ Ok (draft_of defaults [])
+pub fresh_read : lines_read setting_line 1 (draft_of defaults []) [] ≡ Ok (draft_of defaults [])
 unfolding lines_read
 fresh_read = refl
 

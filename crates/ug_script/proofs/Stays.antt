@@ -3,7 +3,7 @@ use Rattle.std.proofs.Common.{◌≡◌, ℕ, ◌+◌, ◌<◌, ◌≤◌, ◌&&
 use Rattle.std.proofs.lemmas.Bool.Decides.{nat_tests}
 use Rattle.ug_kernel.specs.Kernel.{IsKernel}
 use Rattle.ug_sysfs.specs.World.{World}
-use Rattle.ug_lines.specs.Fold.{BadLine, Outcome, Writes, Refused, Stage, Going, Halted, is_within, stage_after, advance, plays}
+use Rattle.ug_console.specs.Fold.{BadLine, Outcome, Writes, Refused, Stage, Going, Halted, is_within, stage_after, advance, plays}
 use Rattle.ug_script.specs.Replay.{Script, script_step}
 use Rattle.ug_script.specs.Laws.{StaysLawful}
 use Rattle.ug_script.proofs.Lawful.{HoldsIn, HoldsAfter, step_holds, no_standing, lawful_event}

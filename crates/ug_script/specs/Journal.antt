@@ -13,7 +13,7 @@ use Rattle.ug_core.specs.Rulings.{Ruling, after_rulings, judgements_for, words_f
 use Rattle.ug_core.specs.Verdicts.{IsLater}
 use Rattle.ug_core.specs.declared.daemon.Event.TheVariants as event
 use Rattle.ug_lines.specs.Lines.{lines_of}
-use Rattle.ug_lines.specs.Fold.{Outcome, Writes, Refused, Going, plays}
+use Rattle.ug_console.specs.Fold.{Outcome, Writes, Refused, Going, plays}
 use Rattle.ug_script.specs.declared.step.Step.{Step}
 use Rattle.ug_script.specs.declared.step.Step.TheVariants.{Schedule, Fail, Sweep}
 use Rattle.ug_script.specs.Grammar.{step_of_line}

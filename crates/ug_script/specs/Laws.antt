@@ -9,7 +9,7 @@ use Rattle.ug_table.specs.Parts.{unsettled_names}
 use Rattle.ug_play.specs.Play.{play, tells_memory}
 use Rattle.ug_core.specs.Event.{DaemonState, handling, has_numbers}
 use Rattle.ug_core.specs.Laws.{Handled, TellsEvent}
-use Rattle.ug_lines.specs.Fold.{Going, plays}
+use Rattle.ug_console.specs.Fold.{Going, plays}
 use Rattle.ug_script.specs.Replay.{Script, script_step}
 use Rattle.ug_script.specs.Schedule.{arranged}
 

@@ -13,13 +13,13 @@ use Rattle.ug_sysfs.specs.World.{World, begun, over}
 use Rattle.ug_audit.specs.declared.entry.Entry.{Entry}
 use Rattle.ug_audit.specs.Lines.{entry_line}
 use Rattle.ug_play.specs.Play.{play, tells_memory}
-use Rattle.ug_conf.specs.declared.fault.Fault as conf
+use Rattle.ug_conf.specs.Faults.{SettingFault}
 use Rattle.ug_conf.specs.Settings.{defaults}
 use Rattle.ug_conf.specs.Draft.{Draft, draft_of, line_read}
 use Rattle.ug_conf.specs.Reader.{Progress, next_number}
 use Rattle.ug_core.specs.Settings.{classes_of}
 use Rattle.ug_core.specs.Event.{DaemonState, daemon_of, handling, has_numbers, has_place, with_classes, with_clock, with_rule, with_words}
-use Rattle.ug_lines.specs.Fold.{Outcome, Writes, Refused, BadLine}
+use Rattle.ug_console.specs.Fold.{Outcome, Writes, Refused, BadLine}
 use Rattle.ug_script.specs.declared.runner.Runner.{Runner}
 use Rattle.ug_script.specs.declared.running.Running.{Running}
 use Rattle.ug_script.specs.declared.step.Step.{Step}
@@ -106,7 +106,7 @@ begins_setting (Some b) = not (nat_eq b 35)
 abbrev pub is_setting : List ℕ → Bool
 is_setting text = begins_setting (find (λ b. not (nat_eq b 32 || nat_eq b 9)) text)
 
-abbrev pub conf_read : Result Draft conf.Fault → Script → World → Outcome (Option Script × World)
+abbrev pub conf_read : Result Draft SettingFault → Script → World → Outcome (Option Script × World)
 conf_read (Ok draft) s w = quiet (record s { settings = record { draft = draft; lines = next_number s.settings.lines }; daemon = with_classes (classes_of draft.settings) s.daemon }) w
 conf_read (Err fault) s w = bad s w
 

@@ -5,7 +5,8 @@ use Rattle.ug_policy.specs.declared.entry.RuleEntry.{RuleEntry}
 use Rattle.ug_policy.specs.Edits.{new_entry}
 use Rattle.ug_conf.specs.Settings.{defaults}
 use Rattle.ug_conf.specs.Draft.{Draft, draft_of}
-use Rattle.ug_conf.specs.Texts.{lines_read}
+use Rattle.ug_conf.specs.Texts.{setting_line}
+use Rattle.ug_lines.specs.LineReading.{lines_read}
 use Rattle.ug_core.specs.Settings.{classes_of}
 use Rattle.ug_core.specs.Policy.{Judging}
 use Rattle.ug_core.specs.Event.{DaemonState}
@@ -50,7 +51,7 @@ first_or other (x ∷ xs) = x
 -- `seed` line's seed, or of 32 bytes 0. No moment has come.
 pub record IsSetup (steps : List (Option Step)) (policy : Judging) : Type 0 where
   pub draft : Draft
-  pub settings : lines_read 1 (draft_of defaults []) (flat_map conf_asked steps) ≡ Ok draft
+  pub settings : lines_read setting_line 1 (draft_of defaults []) (flat_map conf_asked steps) ≡ Ok draft
   pub classes : policy.classes ≡ classes_of draft.settings
   pub rules : policy.rules ≡ entries_from 1 (flat_map rule_asked steps)
   pub next : policy.next ≡ length (flat_map rule_asked steps) + 1

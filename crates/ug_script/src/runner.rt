@@ -8,7 +8,7 @@ use crate::step::StepFault;
 use crate::text::put;
 use itoa::Buffer;
 use std::alloc::Global;
-use ug_lines::{Machine, Ran};
+use ug_console::{Machine, Ran};
 use ug_sysfs::SimKernel;
 use ug_types::{Line, Sink};
 

@@ -1,7 +1,7 @@
 // A script whose first line was read.
 ghost use Rattle.std.specs.Prelude.{◌≡◌, ◌≤◌, ◌&&◌, ◌||◌, ℕ, List, Option, find, nat_eq, true, not, Some, IsTrue, IfOk};
 ghost use Rattle.ug_types.specs.Ends.{Rose};
-ghost use Rattle.ug_lines.specs.Runs.{Steps};
+ghost use Rattle.ug_console.specs.Runs.{Steps};
 ghost use Rattle.ug_play.specs.Play.{IsPlayed};
 ghost use Rattle.ug_core.specs.Event.{daemon_of, handling, has_numbers, has_place};
 ghost use Rattle.ug_core.specs.Policy.{clock_of, judging_of};
@@ -19,7 +19,7 @@ use rand_core::{Rng, SeedableRng};
 use std::alloc::Global;
 use ug_conf::{LineFault, Settings, SettingsReader};
 use ug_core::{Classes, Daemon, Event, Policy};
-use ug_lines::Ran;
+use ug_console::Ran;
 use ug_policy::RuleList;
 use ug_sysfs::{SimKernel, Sysfs};
 use ug_types::{Moment, NoMemory, Rule, Sink};

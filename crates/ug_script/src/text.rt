@@ -1,13 +1,13 @@
 // The text of an event.
 ghost use Rattle.std.specs.Prelude.{◌≡◌, ◌≤◌, ◌++◌, Some, IfOk, OnOk};
 ghost use Rattle.ug_types.specs.Ends.{Rose};
-ghost use Rattle.ug_lines.specs.Runs.{Closes};
+ghost use Rattle.ug_console.specs.Runs.{Closes};
 ghost use Rattle.ug_play.specs.Play as play;
 ghost use Rattle.ug_script.specs.Replay.{terminated, lines_text};
 
 use std::alloc::Global;
 use ug_core::{Entry, Fault, line_of};
-use ug_lines::Ran;
+use ug_console::Ran;
 use ug_types::{NoMemory, Put, Refusal, Saved, Sink};
 
 fn push_line(text: &mut Vec<u8>, entry: &Entry) -> Result<(), NoMemory>

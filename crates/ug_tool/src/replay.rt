@@ -1,16 +1,16 @@
 // The command `replay`.
 ghost use Rattle.std.specs.Prelude.{◌≡◌, ◌↔◌, ℕ, List, Option, Some, None, map, IsTrue};
 ghost use Rattle.ug_types.specs.Ends.{Rose};
-ghost use Rattle.ug_lines.specs.Fold.{of_first};
-ghost use Rattle.ug_lines.specs.Statuses.{Answers, status_of};
-ghost use Rattle.ug_lines.specs.declared.call.Ended.{Ended};
+ghost use Rattle.ug_console.specs.Fold.{of_first};
+ghost use Rattle.ug_console.specs.Statuses.{Answers, status_of};
+ghost use Rattle.ug_console.specs.declared.results.Ended.{Ended};
 ghost use Rattle.ug_script.specs.Replay.{Script, script_step, script_end};
 ghost use Rattle.ug_script.specs.Journal.{StaysRecorded};
 ghost use Rattle.ug_script.specs.Laws.{StaysLawful};
 ghost use Rattle.ug_tool.specs.Replay.{new_world, replay_words, IsRefused};
 
 use std::alloc::Global;
-use ug_lines::run;
+use ug_console::run;
 use ug_script::Runner;
 use ug_sysfs::SimKernel;
 use ug_types::{Put, Sink, Source};

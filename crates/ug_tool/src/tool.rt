@@ -1,23 +1,23 @@
 // The commands by their words.
 ghost use Rattle.std.specs.Prelude.{◌≡◌, ◌↔◌, ◌⊎◌, ℕ, List, Option, Some, None, map, IsTrue};
 ghost use Rattle.ug_types.specs.Ends.{Rose};
-ghost use Rattle.ug_lines.specs.Fold.{of_first};
-ghost use Rattle.ug_lines.specs.Statuses.{status_of};
-ghost use Rattle.ug_lines.specs.Statuses as lines;
-ghost use Rattle.ug_lines.specs.declared.call.Ended.{Ended};
+ghost use Rattle.ug_console.specs.Fold.{of_first};
+ghost use Rattle.ug_console.specs.Statuses.{status_of};
+ghost use Rattle.ug_console.specs.Statuses as lines;
+ghost use Rattle.ug_console.specs.declared.results.Ended.{Ended};
 ghost use Rattle.ug_sysfs.specs.World.{World};
 ghost use Rattle.ug_script.specs.Journal.{StaysRecorded};
 ghost use Rattle.ug_script.specs.Laws.{StaysLawful};
 ghost use Rattle.ug_script.specs.Replay.{Script, script_step, script_end};
-ghost use Rattle.ug_listing.specs.Listing as listing;
-ghost use Rattle.ug_checking.specs.Checking as checking;
+ghost use Rattle.ug_commands.specs.Listing as listing;
+ghost use Rattle.ug_commands.specs.Checking as checking;
 ghost use Rattle.ug_tool.specs.Replay.{new_world, replay_words, IsRefused};
 ghost use Rattle.ug_tool.specs.Tool.{read_descriptor_words, check_rules_words};
 
 use crate::replay::{is_replay, refuse, run_replay};
 use std::alloc::Global;
-use ug_checking::check_rules;
-use ug_listing::list_descriptors;
+use ug_commands::check_rules;
+use ug_commands::list_descriptors;
 use ug_sysfs::SimKernel;
 use ug_types::{Link, Sink, Source};
 

@@ -1,12 +1,10 @@
-use Rattle.std.proofs.Common.{List, ℕ, subst}
-use Rattle.ug_rule.specs.Texts.{Splits}
-use Rattle.ug_rule.proofs.Splitting.{splits, splits-only}
-use Rattle.ug_rule.specs.Files.{lines_of}
+use Rattle.ug_lines.specs.Lines.{lines_of}
+use Rattle.ug_lines.proofs.TextLines.{text_lines}
 use Rattle.ug_rule.proofs.Texts.{rules-read, read-rules, fault-read, read-fault}
 use Rattle.ug_rule.proofs.laws.text_law.Goals as goal
 
 pub returns-clause-lines : goal.returns-clause-lines
-returns-clause-lines c = λ text lines. (λ e. subst (λ (ls : List (List ℕ)). Splits text ls) e (splits text), λ s. splits-only text lines s)
+returns-clause-lines c = text_lines
 
 pub returns-clause-rules : goal.returns-clause-rules
 returns-clause-rules c = λ text rules. (λ e. rules-read (lines_of text) rules e, λ r. read-rules (lines_of text) rules r)

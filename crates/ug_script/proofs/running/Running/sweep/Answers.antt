@@ -2,7 +2,7 @@ use Rattle.std.proofs.Common.{rules, ◌≡◌, List, Some, ◌∙◌, ap, subst
 use Rattle.ug_sysfs.specs.World.{World, begun}
 use Rattle.ug_play.specs.Play.{IsPlayed}
 use Rattle.ug_core.specs.Event.{daemon_of, handling}
-use Rattle.ug_lines.specs.Runs.{Closes}
+use Rattle.ug_console.specs.Runs.{Closes}
 use Rattle.ug_script.specs.Schedule.{arranged}
 use Rattle.ug_script.specs.Replay.{script_of, lines_text, tells}
 use Rattle.ug_script.proofs.Events.{swept_steps}

@@ -1,7 +1,0 @@
-use Rattle.ug_checking.specs.Checking.{status_of, IsCounted, IsRefused}
-use Rattle.ug_input.proofs.Outputs.{answers}
-use Rattle.ug_checking.proofs.checking.check_rules.Goals as goal
-
-pub returns-clause-answers : goal.returns-clause-answers
-returns-clause-answers g c = λ all base a b. answers status_of 67108864 IsCounted IsRefused (g.S.Source.left c.args.input.now) (g.S.Source.left c.check_input.new.input) (g.K.Sink.held c.args.out.now) (g.K.Sink.held c.check_input.new.out) c.check_input.result
-    c.check_input.ensures.told all base a b c.status.result c.status.ensures

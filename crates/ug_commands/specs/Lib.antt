@@ -1,0 +1,4 @@
+pub mod Checking
+pub mod CheckingLines
+pub mod Listing
+pub mod ListingLines

@@ -1,0 +1,6 @@
+pub mod Stages
+pub mod Feeding
+pub mod Faults
+pub mod Ending
+pub mod Outputs
+pub mod WholeInputs

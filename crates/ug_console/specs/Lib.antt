@@ -1,0 +1,5 @@
+pub mod Fold
+pub mod Reading
+pub mod Runs
+pub mod Statuses
+pub mod WholeInputs

@@ -1,6 +1,0 @@
-use Rattle.std.proofs.Common.{◌≡◌, Some, take}
-use Rattle.ug_rule.specs.Words.{digits_of}
-use Rattle.ug_rule.proofs.words.digits.Given as goal
-
-abbrev pub invariant-loop-byte : goal.invariant-loop-byte
-invariant-loop-byte l = digits_of (take l.byte-index l.digits) ≡ Some l.number

@@ -1,0 +1,6 @@
+pub mod Decimals
+pub mod Digits
+pub mod Hexadecimal
+pub mod Tests
+pub mod TimeCuts
+pub mod WordCuts

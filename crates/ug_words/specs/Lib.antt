@@ -1,0 +1,4 @@
+pub mod Digits
+pub mod Keywords
+pub mod WordGrammar
+pub mod Words
