@@ -1,5 +1,5 @@
 -- A line of the journal begins as no reply does.
-use Rattle.std.proofs.Common.{◌≡◌, ℕ, Bool, true, false, nat_eq, List, [], ◌∷◌, ◌++◌, take, refl, sym, ap, ◌∙◌, append_assoc}
+use Rattle.std.proofs.Common.{◌≡◌, ℕ, Bool, true, false, nat_eq, List, [], ◌∷◌, ◌++◌, take, Ok, Err, refl, sym, ap, ◌∙◌, append_assoc}
 use Rattle.std.specs.Prelude.{codes, decimal, if◌then◌else◌}
 use Rattle.std.specs.Cmp.Lexicographic.{pointwise}
 use Rattle.std.proofs.lemmas.Bool.{false≢true}
@@ -34,13 +34,21 @@ by_first text words more h =
 entry_not : (e : Entry) (more : List ℕ) → as_reply (entry_line e ++ more) ≡ false
 unfolding entry_line
 entry_not (entry.Event number moment) more = refl
+entry_not (entry.Order number moment who) more = refl
+entry_not (entry.Save became) more = refl
 entry_not (entry.Judged number name held verdict why) more = by_first (codes "judged") (decimal number ∷ name ∷ target_word verdict ∷ cause_words why) more (λ rest. refl)
 entry_not (entry.Intent number name bytes) more = refl
 entry_not (entry.Wrote number name bytes outcome) more = refl
 entry_not (entry.Gone number name) more = refl
 entry_not (entry.Unsettled name why) more = by_first (codes "unsettled") (name ∷ fault_words why) more (λ rest. refl)
 entry_not (entry.UnsettledAll why) more = by_first (codes "unsettled") (codes "*" ∷ fault_words why) more (λ rest. refl)
+entry_not (entry.Rules made id) more = refl
+entry_not (entry.Reply (Ok done)) more = refl
+entry_not (entry.Reply (Err refusal)) more = refl
+entry_not (entry.Dropped member) more = refl
 entry_not (entry.End number) more = refl
+entry_not (entry.UnusedKey line) more = refl
+entry_not (entry.StartRefused part line kind place) more = refl
 
 pub entry_or_reply : (e : Entry) (reply : Reply) (more rest : List ℕ) → entry_line e ++ more ≡ reply_text reply ++ rest → ⊥
 entry_or_reply e reply more rest h = false≢true (sym (entry_not e more) ∙ ap as_reply h ∙ reply_so reply rest)

@@ -9,7 +9,6 @@ pub mod Reading
 pub mod AnswerScans
 pub mod RefusalNumbers
 pub mod RefusalScans
-pub mod RefusalWords
 pub mod Scans
 pub mod StreamLines
 pub mod Words

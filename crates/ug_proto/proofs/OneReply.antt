@@ -2,14 +2,15 @@
 use Rattle.std.proofs.Common.{◌≡◌, ℕ, List, [], ◌∷◌, ◌++◌, length, drop, get_or, refl, sym, ap, ◌∙◌, append_assoc, arith}
 use Rattle.std.specs.Prelude.{decimal}
 use Rattle.std.proofs.lemmas.Fmt.{decimal_injective}
+use Rattle.ug_types.proofs.RefusalRead.{one_refusal, refusal_on_line}
+use Rattle.ug_types.proofs.SpacedWords.{line_no_newline}
 use Rattle.ug_types.specs.Refusals.{refusal_words}
 use Rattle.ug_types.specs.declared.refusal.Refusal.{Refusal}
 use Rattle.ug_proto.specs.declared.reply.Reply.{Reply}
 use Rattle.ug_proto.specs.declared.reply.Reply.TheVariants.{Lines, Refused}
 use Rattle.ug_proto.specs.Replies.{ended_lines, reply_text, AreWholeLines, IsReply}
-use Rattle.ug_proto.proofs.Scans.{cut}
+use Rattle.ug_proto.proofs.Scans.{cut, number_has_no}
 use Rattle.ug_proto.proofs.RefusalNumbers.{line_parts}
-use Rattle.ug_proto.proofs.RefusalWords.{clean_so, number_clean, refusal_clean, one_refusal}
 
 one_list : (ls ms : List (List ℕ)) (more : List ℕ) → AreWholeLines ls → AreWholeLines ms → length ls ≡ length ms → ended_lines ls ++ more ≡ ended_lines ms → (ls ≡ ms) × (more ≡ [])
 one_list [] [] more h k l e = (refl, e)
@@ -24,13 +25,13 @@ same_lines : (ls ms : List (List ℕ)) (more : List ℕ) → IsReply (Lines ls) 
 unfolding reply_text
 same_lines ls ms more h k e =
     let behind : decimal (length ls) ++ (10 ∷ (ended_lines ls ++ more)) ≡ decimal (length ms) ++ (10 ∷ ended_lines ms) = sym (append_assoc (decimal (length ls)) (10 ∷ ended_lines ls) more) ∙ ap (drop 3) e in
-    let c = cut 10 (decimal (length ls)) (decimal (length ms)) (ended_lines ls ++ more) (ended_lines ms) (clean_so (decimal (length ls)) (number_clean (length ls) h.1)) (clean_so (decimal (length ms)) (number_clean (length ms) k.1)) behind in
+    let c = cut 10 (decimal (length ls)) (decimal (length ms)) (ended_lines ls ++ more) (ended_lines ms) (number_has_no 10 (length ls) (omega arith) h.1) (number_has_no 10 (length ms) (omega arith) k.1) behind in
     one_list ls ms more h.0 k.0 (decimal_injective (length ls) (length ms) h.1 k.1 c.0) c.1
 
 same_refusal : (a b : Refusal) (more : List ℕ) → IsReply (Refused a) → IsReply (Refused b) → reply_text (Refused a) ++ more ≡ reply_text (Refused b) → (a ≡ b) × (more ≡ [])
 unfolding reply_text
 same_refusal a b more h k e =
-    let c = cut 10 (refusal_words a) (refusal_words b) more [] (clean_so (refusal_words a) (refusal_clean a h)) (clean_so (refusal_words b) (refusal_clean b k)) (sym (append_assoc (refusal_words a) (10 ∷ []) more) ∙ e) in
+    let c = cut 10 (refusal_words a) (refusal_words b) more [] (line_no_newline (refusal_words a) (refusal_on_line a h)) (line_no_newline (refusal_words b) (refusal_on_line b k)) (sym (append_assoc (refusal_words a) (10 ∷ []) more) ∙ e) in
     (one_refusal a b h k c.0, c.1)
 
 lines_first : (lines : List (List ℕ)) (more : List ℕ) → get_or (reply_text (Lines lines) ++ more) 0 0 ≡ 111

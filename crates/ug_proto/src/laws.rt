@@ -29,7 +29,7 @@ pub fn replies_law()
 {}
 
 /// A line of the journal and a reply differ at a byte that both have, so neither is the other or begins it.
-pub fn entries_law()
+pub fn entries_and_replies_law()
     ensures { (entry : Entry) (reply : Reply) (more rest : List ℕ)
         → entry_line entry ++ more ≡ reply_text reply ++ rest → ⊥ }
 {}
