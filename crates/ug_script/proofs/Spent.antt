@@ -65,7 +65,10 @@ chain_calls (First name names how w x v ok more ms ns es p c) =
 closings_uncounted : (files : List Held) (ms : List Made) → AreClosings files ms
     → count_calls ms ≡ 0
 closings_uncounted [] ms h = ap count_calls h
-closings_uncounted (file ∷ files) ms h = ap count_calls h.2 ∙ closings_uncounted files h.1 h.3
+closings_uncounted (file ∷ files) ms h =
+    let same = ap count_calls h.2 in
+    let none = closings_uncounted files h.1 h.3 in
+    omega (arith, same, none)
 
 abbrev named_in : (call : Call) → Answer call → ℕ
 named_in Names answer = count_listed answer.answer
