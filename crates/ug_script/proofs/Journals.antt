@@ -1,14 +1,12 @@
 -- The events of a script's lines are a chain from the daemon that the setup lines gave, what is written is the text of their entries,
 -- and a script without failures names nobody and judges each device once.
 use Rattle.std.proofs.lemmas.Bool.Decides.{nat_tests}
-use Rattle.std.proofs.Common.{◌≡◌, ℕ, ◌+◌, ◌-◌, ◌^◌, ◌<◌, ◌≤◌, min, arith, Bool, true, false, not, is_none, ◌&&◌, ◌||◌, cond, nat_eq, nat_lt, nat_le, map, List, [], ◌∷◌, ◌++◌, length, reverse, flat_map, Option, Some, None, Result, Ok, Err, inl, inr, refl, sym, ◌∙◌, ap, subst, append_assoc, append-nil, length-append}
+use Rattle.std.proofs.Common.{◌≡◌, ℕ, ◌+◌, ◌-◌, ◌^◌, ◌<◌, ◌≤◌, arith, Bool, true, false, not, is_none, ◌&&◌, ◌||◌, cond, nat_eq, nat_lt, nat_le, map, List, [], ◌∷◌, ◌++◌, length, reverse, flat_map, Option, Some, None, Result, Ok, Err, inl, inr, refl, sym, ◌∙◌, ap, subst, append_assoc, append-nil, length-append}
 use Rattle.std.specs.Cmp.Lexicographic.{pointwise}
 use Rattle.std.specs.List.{list_any}
 use Rattle.ug_types.specs.Elements.{Has}
-use Rattle.ug_types.specs.declared.rule.Rule as types
 use Rattle.ug_types.specs.declared.verdict.Moment.{Moment}
-use Rattle.ug_kernel.specs.declared.device.Device.{Device}
-use Rattle.ug_kernel.specs.Kernel.{Kernel, IsKernel, Live, Moves}
+use Rattle.ug_kernel.specs.Kernel.{Kernel, IsKernel, Moves}
 use Rattle.ug_kernel.proofs.Stayed.{unmoving}
 use Rattle.ug_sysfs.specs.Devices.{plugged, unplugged}
 use Rattle.ug_sysfs.specs.World.{World, begun, over}
