@@ -6,7 +6,7 @@ ghost use Rattle.ug_console.specs.WholeInputs.{input_limit};
 ghost use Rattle.ug_console.specs.declared.results.Ended.{Ended};
 ghost use Rattle.ug_commands.specs.Checking.{Answers, Completes, Tells, status_of};
 
-use crate::checking_lines::{line_of_count, line_of_bad_rules};
+use crate::checking_lines::{line_of_bad_rules, line_of_count};
 use std::alloc::Global;
 use ug_console::{Ended, INPUT_LIMIT, read_input, refuse_input, write_result};
 use ug_rule::count_rules;
@@ -21,7 +21,11 @@ fn write_count<K: Sink>(alloc: Global, bytes: &[u8], out: &mut K) -> Ended
 {
     match count_rules(alloc, bytes) {
         Ok(count) => write_result(out, line_of_count(count).bytes(), Ended::Done),
-        Err(FileFault::Bad(fault)) => write_result(out, line_of_bad_rules(fault).bytes(), Ended::Bad),
+        Err(FileFault::Bad(fault)) => write_result(
+            out,
+            line_of_bad_rules(fault).bytes(),
+            Ended::Bad,
+        ),
         Err(FileFault::Memory) => write_result(out, b"no memory\n", Ended::Memory),
     }
 }

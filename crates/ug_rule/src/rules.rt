@@ -77,7 +77,11 @@ pub fn rule(alloc: Global, line: &[u8], tokens: List<Token>) -> Result<Rule, Sto
     match tokens.next() {
         Some(token) => {
             let place = token.start as u64;
-            let target = required(Target::named(word(line, &token)), FaultKind::NoTarget, place)?;
+            let target = required(
+                Target::named(word(line, &token)),
+                FaultKind::NoTarget,
+                place,
+            )?;
             parts(alloc, line, &mut tokens, target)
         }
         None => Err(Stop::at(FaultKind::NoTarget, line.len() as u64)),
