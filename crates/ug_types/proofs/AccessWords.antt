@@ -1,16 +1,14 @@
--- Words are sections, privileges and targets exactly as these are written.
+-- Words are sections and targets exactly as these are written.
 use Rattle.std.proofs.Common.{◌≡◌, ℕ, Bool, true, false, cond, nat_eq, List, Option, Some, refl, sym, ap, ◌∙◌}
 use Rattle.std.specs.Prelude.{codes, ◌↔◌}
 use Rattle.std.specs.Cmp.Lexicographic.{pointwise, same_text}
 use Rattle.std.proofs.lemmas.Option.{none-some, same_Some}
 use Rattle.ug_types.specs.declared.access.Section.{Section}
 use Rattle.ug_types.specs.declared.access.Section.TheVariants.{Devices, Policy, Exceptions, Parameters}
-use Rattle.ug_types.specs.declared.access.Privilege.{Privilege}
-use Rattle.ug_types.specs.declared.access.Privilege.TheVariants as privilege
 use Rattle.ug_types.specs.declared.verdict.Target.{Target}
 use Rattle.ug_types.specs.declared.verdict.Target.TheVariants.{Allow, Block, Reject}
 use Rattle.ug_types.specs.Targets.{target_word, target_of}
-use Rattle.ug_types.specs.Access.{section_word, privilege_word, section_of, privilege_of}
+use Rattle.ug_types.specs.Access.{section_word, section_of}
 
 -- one row of a table
 row : {X : Type 0} (spell : X → List ℕ) (word text : List ℕ) (here it : X) (rest : Option X) → text ≡ spell here → (rest ≡ Some it → word ≡ spell it) → cond (pointwise nat_eq word text) (Some here) rest ≡ Some it → word ≡ spell it
@@ -30,16 +28,6 @@ section_read Devices = refl
 section_read Policy = refl
 section_read Exceptions = refl
 section_read Parameters = refl
-
-pub privilege_written : (word : List ℕ) (it : Privilege) → privilege_of word ≡ Some it → word ≡ privilege_word it
-unfolding privilege_of privilege_word
-privilege_written word it h = row privilege_word word (codes "modify") privilege.Modify it _ refl (λ h. row privilege_word word (codes "list") privilege.List it _ refl (λ h. row privilege_word word (codes "listen") privilege.Listen it _ refl (λ h. absurd (none-some it h)) h) h) h
-
-pub privilege_read : (it : Privilege) → privilege_of (privilege_word it) ≡ Some it
-unfolding privilege_of privilege_word
-privilege_read privilege.Modify = refl
-privilege_read privilege.List = refl
-privilege_read privilege.Listen = refl
 
 pub target_written : (word : List ℕ) (it : Target) → target_of word ≡ Some it → word ≡ target_word it
 unfolding target_of
