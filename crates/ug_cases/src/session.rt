@@ -158,10 +158,10 @@ impl Session {
     // `ID TARGET`
     fn set_target(&mut self, line: &[u8]) -> Result<Vec<u8>, NoMemory> {
         let (id, target) = split_word(line);
-        match self
-            .list
-            .set_target(number_of(id).unwrap_or(0), Target::named(target).unwrap_or(Target::Reject))
-        {
+        match self.list.set_target(
+            number_of(id).unwrap_or(0),
+            Target::named(target).unwrap_or(Target::Reject),
+        ) {
             Ok(()) => self.say(b"done"),
             Err(_) => self.say(b"no rule"),
         }

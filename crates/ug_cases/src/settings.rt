@@ -78,11 +78,7 @@ fn tell_settings(alloc: Global, settings: &Settings) -> Result<Vec<u8>, NoMemory
         b"IPCAccessControlFiles",
         settings.access_folder.bytes(),
     )?;
-    push_word(
-        &mut told,
-        b"ImplicitPolicyTarget",
-        settings.implicit.word(),
-    )?;
+    push_word(&mut told, b"ImplicitPolicyTarget", settings.implicit.word())?;
     push_word(
         &mut told,
         b"PresentDevicePolicy",

@@ -6,8 +6,8 @@ ghost use Rattle.ug_play.specs.Play as play;
 ghost use Rattle.ug_script.specs.Replay.{terminated, lines_text};
 
 use std::alloc::Global;
-use ug_core::{Entry, Fault, line_of};
 use ug_console::Ran;
+use ug_core::{Entry, Fault, line_of};
 use ug_types::{NoMemory, Put, Sink};
 
 fn push_line(text: &mut Vec<u8>, entry: &Entry) -> Result<(), NoMemory>

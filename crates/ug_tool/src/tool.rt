@@ -16,8 +16,7 @@ ghost use Rattle.ug_tool.specs.Tool.{read_descriptor_words, check_rules_words};
 
 use crate::replay::{is_replay, refuse, run_replay};
 use std::alloc::Global;
-use ug_commands::check_rules;
-use ug_commands::list_descriptors;
+use ug_commands::{check_rules, list_descriptors};
 use ug_sysfs::SimKernel;
 use ug_types::{Link, Sink, Source};
 
