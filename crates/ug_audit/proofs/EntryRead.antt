@@ -172,9 +172,10 @@ cause_back (cause.Order who) h = ((refl, (principal_graphic who h, tt)), ap caus
 
 fault_back : (f : Fault) → IsUnsettling f → AllGraphic (fault_words f) × (fault_read (fault_words f) ≡ f)
 unfolding fault_words
-fault_back (fault.Call failed) h =
-    ((refl, (number_graphic failed.call h.0, (number_graphic failed.count h.1, tt))),
-      λ i. fault.Call (record { call = number_back failed.call h.0 i; count = number_back failed.count h.1 i }))
+fault_back (fault.Call failed) h = (
+  (refl, (number_graphic failed.call h.0, (number_graphic failed.count h.1, tt))),
+  λ i. fault.Call (record { call = number_back failed.call h.0 i; count = number_back failed.count h.1 i }),
+)
 fault_back fault.Memory h = ((refl, tt), refl)
 
 -- ---- each line
@@ -183,9 +184,10 @@ abbrev IsReadAs : List ℕ → Entry → Type 0
 IsReadAs line e = (entry_read (split_words line) ≡ e) × (is_line line ≡ true)
 
 read_as : (word : List ℕ) (words : List (List ℕ)) (e : Entry) → is_graphic word ≡ true → AllGraphic words → entry_read (word ∷ words) ≡ e → IsReadAs (and_words word words) e
-read_as word words e g h r =
-    (ap (λ (line : List ℕ). entry_read (split_words line)) (words_behind word words) ∙ ap entry_read (split_behind word words g h) ∙ r,
-      ap is_line (words_behind word words) ∙ line_behind word words g h)
+read_as word words e g h r = (
+  ap (λ (line : List ℕ). entry_read (split_words line)) (words_behind word words) ∙ ap entry_read (split_behind word words g h) ∙ r,
+  ap is_line (words_behind word words) ∙ line_behind word words g h,
+)
 
 abbrev read_saved : Saved → Entry
 read_saved became = as_printed (entry.Save became)
@@ -229,9 +231,11 @@ entry_back (entry.Rules done id) h =
     (λ i. entry.Rules ((change_back done).1 i) (number_back id h i))
 entry_back (entry.Reply (Ok done)) h = (refl, refl)
 entry_back (entry.Reply (Err refusal)) h =
-    let words = split_words (refusal_words refusal) in
-    (ap (λ (w : List ℕ). if same_word w (codes "ok") then entry.Reply (Ok tt) else entry.Reply (Err (refusal_read words))) (refusal_first refusal)
-    ∙ ap (λ r. entry.Reply (Err r)) (refusal_back refusal h), refusal_on_line refusal h)
+    let words = split_words (refusal_words refusal) in (
+      ap (λ (w : List ℕ). if same_word w (codes "ok") then entry.Reply (Ok tt) else entry.Reply (Err (refusal_read words))) (refusal_first refusal)
+          ∙ ap (λ r. entry.Reply (Err r)) (refusal_back refusal h),
+      refusal_on_line refusal h,
+    )
 entry_back (entry.Dropped member) h =
     let k = byte_number member h in
     read_as (codes "dropped") (decimal member ∷ []) (entry.Dropped member) refl (number_graphic member k, tt) (ap entry.Dropped (number_back member k))
