@@ -1,1 +1,2 @@
 pub mod EntryRead
+pub mod Fronts

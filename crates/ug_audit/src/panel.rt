@@ -1,0 +1,102 @@
+// The auditors of a journal.
+ghost use Rattle.std.specs.Prelude.{◌≡◌, ◌≤◌, ◌<◌, ◌^◌, true, false, length, replicate, slice_get, Some};
+ghost use Rattle.std.specs.Option.{option_copied};
+ghost use Rattle.ug_types.specs.Ends.{IsCounted, Rose};
+ghost use Rattle.ug_audit.specs.Auditors.{IsTextTaken};
+ghost use Rattle.ug_audit.specs.Panels.{TakesAs, is_newly, NotesAll, members_of, dropped_between};
+
+use crate::auditor::{Auditor, Noted};
+
+/// At most 64 auditors, each of which is given each line until it fails.
+#[derive(Drop)]
+pub struct Panel {
+    auditors: Vec<Box<dyn Auditor>>,
+    dropped: [bool; 64],
+    ghost few: { length auditors.items ≤ 64 },
+}
+
+/// Gives the line to an auditor that isn't dropped, and drops it where it fails. Tells whether it did.
+fn give(auditor: &mut Box<dyn Auditor>, dropped: &mut bool, line: &[u8]) -> bool
+    ensures taken { TakesAs dropped.old dropped.new line.now (record { text = text auditor.old; faults = faults auditor.old; dropped = dropped.old }) (record { text = text auditor.new; faults = faults auditor.new; dropped = dropped.new }) }
+    ensures told { result ≡ is_newly dropped.old dropped.new }
+{
+    if *dropped {
+        return false;
+    }
+    match auditor.note(line) {
+        Noted::Done => false,
+        Noted::Failed => {
+            *dropped = true;
+            true
+        }
+    }
+}
+
+fn give_all(auditors: &mut [Box<dyn Auditor>], dropped: &mut [bool], line: &[u8]) -> u64
+    requires few { length auditors.old ≤ 64 }
+    requires marks { length auditors.old ≤ length dropped.old }
+    ensures each { NotesAll line.now (members_of (λ b. text b) (λ b. faults b) auditors.old dropped.old) (members_of (λ b. text b) (λ b. faults b) auditors.new dropped.new) }
+    ensures set { result ≡ dropped_between (members_of (λ b. text b) (λ b. faults b) auditors.old dropped.old) (members_of (λ b. text b) (λ b. faults b) auditors.new dropped.new) }
+    ensures small { result < 2 ^ length auditors.old }
+    ensures auditors { length auditors.new ≡ length auditors.old }
+    ensures dropped { length dropped.new ≡ length dropped.old }
+{
+    let Some((auditor, auditors)) = auditors.split_first_mut() else {
+        return 0;
+    };
+    let Some((mark, dropped)) = dropped.split_first_mut() else {
+        return 0;
+    };
+    let failed = give(auditor, mark, line);
+    let later = give_all(auditors, dropped, line);
+    failed as u64 + 2 * later
+}
+
+fn text_of(auditor: &Box<dyn Auditor>) -> Option<&[u8]>
+    ensures { IsTextTaken (option_copied result) (text auditor.now) }
+{
+    auditor.taken()
+}
+
+impl Panel {
+    /// The panel of these auditors, of which there are at most 64.
+    pub fn new(members: Vec<Box<dyn Auditor>>) -> Panel
+        requires { length members.items ≤ 64 }
+        ensures auditors { result.auditors ≡ members }
+        ensures dropped { result.dropped ≡ replicate 64 false }
+    {
+        Panel {
+            auditors: members,
+            dropped: [false; 64],
+        }
+    }
+
+    /// Gives a line to each member that isn't dropped, in order, and drops those that fail. The answer is the set of these, bit i
+    /// for member i. It takes no memory.
+    pub fn note(&mut self, line: &[u8]) -> u64
+        ensures each { NotesAll line.now (members_of (λ b. text b) (λ b. faults b) self.old.auditors.items self.old.dropped) (members_of (λ b. text b) (λ b. faults b) self.new.auditors.items self.new.dropped) }
+        ensures set { result ≡ dropped_between (members_of (λ b. text b) (λ b. faults b) self.old.auditors.items self.old.dropped) (members_of (λ b. text b) (λ b. faults b) self.new.auditors.items self.new.dropped) }
+        ensures len { length self.new.auditors.items ≡ length self.old.auditors.items }
+    {
+        give_all(self.auditors.as_mut_slice(), &mut self.dropped, line)
+    }
+
+    /// How many members there are.
+    pub fn len(&self) -> usize
+        ensures value { result ≡ length self.now.auditors.items }
+        ensures few { result ≤ 64 }
+    {
+        self.auditors.len()
+    }
+
+    /// The text that the member of that number tells.
+    pub fn text(&self, i: usize) -> Option<&[u8]>
+        requires { i < length self.now.auditors.items }
+        ensures { (b : _) → slice_get self.now.auditors.items i ≡ Some b → IsTextTaken (option_copied result) (text b) }
+    {
+        match self.auditors.get(i) {
+            Some(auditor) => text_of(auditor),
+            None => None,
+        }
+    }
+}
