@@ -1,9 +1,11 @@
 // Entries of a journal and their lines.
 use std::alloc::Global;
-use ug_audit::{Entry, Fault, line_of};
+use ug_audit::{ConfigPart, Entry, Fault, RuleChange, line_of};
 use ug_casefile::number_of;
 use ug_kernel::{FailedCall, Write, Wrote};
-use ug_types::{Cause, Held, Moment, NoMemory, NodeName, Target};
+use ug_types::{
+    Cause, Held, Moment, NoMemory, NodeName, Principal, Privilege, Refusal, Saved, Section, Target,
+};
 
 fn number(word: &str) -> Option<u64> {
     number_of(word.as_bytes())
@@ -11,6 +13,14 @@ fn number(word: &str) -> Option<u64> {
 
 fn name(word: &str) -> Option<NodeName> {
     NodeName::parse(word.as_bytes()).ok()
+}
+
+fn principal(word: &str) -> Option<Principal> {
+    Principal::parse(word.as_bytes())
+}
+
+fn byte(word: &str) -> Option<u8> {
+    u8::try_from(number(word)?).ok()
 }
 
 fn verdict(word: &str) -> Option<Target> {
@@ -30,9 +40,10 @@ fn cause(words: &[&str]) -> Option<Cause> {
         ["keep"] => Some(Cause::Keep),
         ["inserted"] => Some(Cause::Inserted),
         ["malformed", kind, place] => Some(Cause::Malformed {
-            kind: u8::try_from(number(kind)?).ok()?,
+            kind: byte(kind)?,
             place: number(place)?,
         }),
+        ["order", who] => Some(Cause::Order(principal(who)?)),
         _ => None,
     }
 }
@@ -63,6 +74,91 @@ fn fault(words: &[&str]) -> Option<Fault> {
         })),
         ["memory"] => Some(Fault::Memory),
         _ => None,
+    }
+}
+
+fn save(word: &str) -> Option<Saved> {
+    match word {
+        "done" => Some(Saved::Done),
+        "failed" => Some(Saved::Failed(5)),
+        "memory" => Some(Saved::Memory),
+        _ => None,
+    }
+}
+
+fn change(word: &str) -> Option<RuleChange> {
+    match word {
+        "added" => Some(RuleChange::Added),
+        "removed" => Some(RuleChange::Removed),
+        "changed" => Some(RuleChange::Changed),
+        _ => None,
+    }
+}
+
+fn part(word: &str) -> Option<ConfigPart> {
+    match word {
+        "settings" => Some(ConfigPart::Settings),
+        "rules" => Some(ConfigPart::Rules),
+        "access" => Some(ConfigPart::Access),
+        _ => None,
+    }
+}
+
+fn section(word: &str) -> Option<Section> {
+    Section::named(word.as_bytes())
+}
+
+fn refusal(words: &[&str]) -> Option<Refusal> {
+    match words {
+        ["1", "bad-request", place] => Some(Refusal::BadRequest {
+            place: number(place)?,
+        }),
+        ["2", "denied", part, privilege] => Some(Refusal::Denied {
+            section: section(part)?,
+            privilege: Privilege::named(privilege.as_bytes())?,
+        }),
+        ["6", "bad-parameter"] => Some(Refusal::BadParameter),
+        ["11", "device-fault", call, count] => Some(Refusal::DeviceFault {
+            call: number(call)?,
+            count: number(count)?,
+        }),
+        ["12", "memory", stands] => Some(Refusal::Memory {
+            stands: *stands == "1",
+        }),
+        _ => None,
+    }
+}
+
+fn entry_of_order(words: &[&str]) -> Option<Entry> {
+    match words {
+        ["event", id, "order", moment, who] => Some(Entry::Order {
+            number: number(id)?,
+            moment: Moment(number(moment)?),
+            who: principal(who)?,
+        }),
+        ["save", word] => Some(Entry::Save(save(word)?)),
+        ["rules", word, id] => Some(Entry::Rules {
+            change: change(word)?,
+            id: number(id)?,
+        }),
+        ["reply", "ok"] => Some(Entry::Reply(Ok(()))),
+        ["reply", "refused", rest @ ..] => Some(Entry::Reply(Err(refusal(rest)?))),
+        _ => entry_of_device(words),
+    }
+}
+
+fn entry_of_start(words: &[&str]) -> Option<Entry> {
+    match words {
+        ["note", "unused-key", line] => Some(Entry::UnusedKey {
+            line: number(line)?,
+        }),
+        ["start-refused", what, line, kind, place] => Some(Entry::StartRefused {
+            part: part(what)?,
+            line: number(line)?,
+            kind: byte(kind)?,
+            place: number(place)?,
+        }),
+        _ => entry_of_order(words),
     }
 }
 
@@ -110,7 +206,10 @@ fn entry(words: &[&str]) -> Option<Entry> {
         ["end", id] => Some(Entry::End {
             number: number(id)?,
         }),
-        _ => entry_of_device(words),
+        ["dropped", member] => Some(Entry::Dropped {
+            member: byte(member)?,
+        }),
+        _ => entry_of_start(words),
     }
 }
 
