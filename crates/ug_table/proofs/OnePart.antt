@@ -549,6 +549,7 @@ tells_why name [] last = refl
 tells_why name (entry.Unsettled other why ∷ es) last =
     ap (λ (v : List FailedCall). told_by why ++ v) (tells_why name es last.1)
 tells_why name (entry.UnsettledAll why ∷ es) last = absurd last.0
+tells_why name (entry.Reply answered ∷ es) last = absurd last.0
 tells_why name (e ∷ es) last = tells_why name es last.1
 
 -- so want of memory is told where it ended so
