@@ -4,7 +4,7 @@ use Rattle.std.proofs.lemmas.Bool.{or_left, or_right}
 use Rattle.std.specs.List.{list_any}
 use Rattle.std.proofs.lemmas.Bool.{or_parts}
 use Rattle.std.proofs.lemmas.List.Folds.{list_any-append}
-use Rattle.ug_table.proofs.Common.{in_sweep_order, Held, Made, failures, Entry, State, Answers, Laters, lists, farewells, AreClosings, unlisted_files, failures_told}
+use Rattle.ug_table.proofs.Common.{in_sweep_order, Held, Made, failures, FailedCall, Entry, State, Answers, Laters, lists, farewells, AreClosings, unlisted_files, failure_in, failures_told}
 use Rattle.ug_table.specs.declared.standing.Standing.{Standing}
 use Rattle.ug_kernel.specs.Tree.{Prog, Return, Runs, then}
 use Rattle.ug_kernel.proofs.Ways.{Ways, ways_more, ways_last}
@@ -15,7 +15,7 @@ use Rattle.ug_table.specs.Sweep.{sweeping}
 use Rattle.ug_table.proofs.Standings.{farewells_by}
 use Rattle.ug_table.proofs.Chains.{Chain, Over, First, List_failed, List_short, No_room, Goes, Listed, Unlisted, Comes, sweeping_by, goes_entries}
 use Rattle.ug_table.proofs.Faults.{goes_tells}
-use Rattle.ug_play.specs.Play.{play, tells_memory, TellsMemory, IsPlayed, names_somebody, NameNobody}
+use Rattle.ug_play.specs.Play.{play, entry_tells_memory, tells_memory, TellsMemory, IsPlayed, names_somebody, NameNobody}
 use Rattle.ug_table.proofs.PartCalls.{has_want, want_more}
 use Rattle.ug_play.proofs.Plays.{refused, play_way, TellsWant, played}
 use Rattle.ug_play.proofs.Wants.{memory_more, flat_want}
