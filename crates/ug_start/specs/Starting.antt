@@ -1,81 +1,83 @@
 -- The rules that a daemon starts with.
 use Rattle.std.specs.Prelude.{◌≡◌, ℕ, ◌+◌, ◌<◌, ◌≤◌, Bool, false, List, [], ◌∷◌, length, Option, Result, Ok, Err}
 use Rattle.ug_types.specs.declared.rule.Rule.{Rule}
-use Rattle.ug_types.specs.declared.text_fault.TextFault.{TextFault}
+use Rattle.ug_types.specs.declared.text_fault.FileFault.{FileFault}
+use Rattle.ug_types.specs.declared.text_fault.FileFault.TheVariants as file
 use Rattle.ug_rule.specs.Files.{file_read}
+use Rattle.ug_print.specs.declared.rule_texts.RulesTextFault.{RulesTextFault}
+use Rattle.ug_print.specs.declared.rule_texts.RulesTextFault.TheVariants as printed
 use Rattle.ug_print.specs.RuleTexts.{rules_text_of}
 use Rattle.ug_policy.specs.declared.entry.RuleEntry.{RuleEntry}
 use Rattle.ug_policy.specs.Edits.{new_entry}
+use Rattle.ug_policy.specs.Kept.{StandsFor}
 use Rattle.ug_policy.specs.Rules.{Rules}
 use Rattle.ug_store.specs.DiskCalls.{DiskCall, DiskTold, file_limit}
 use Rattle.ug_store.specs.Disk.{Disk}
 use Rattle.ug_store.specs.Store.{RunsDisk, recovering, Recovers, TellsRecoverFault}
 use Rattle.ug_store.specs.declared.store.RecoverFault.{RecoverFault}
 use Rattle.ug_store.specs.declared.store.RecoverFault.TheVariants as recover
-use Rattle.ug_start.specs.declared.rules.StartFault.{StartFault}
-use Rattle.ug_start.specs.declared.rules.StartFault.TheVariants as fault
+use Rattle.ug_start.specs.declared.fault.StartFault.{StartFault}
+use Rattle.ug_start.specs.declared.fault.StartFault.TheVariants as fault
 
--- permanent rules without a history, with ids from a number on
-abbrev pub entries_from : ℕ → List Rule → List RuleEntry
-entries_from id [] = []
-entries_from id (rule ∷ rules) = new_entry id rule false ∷ entries_from (id + 1) rules
+-- what a start tells of a file that wasn't read, of a text that isn't rules, and of rules that have no text
 
--- a list of just these rules, whose ids begin with 1
-abbrev pub has_entries : List Rule → Rules → Type 0
-has_entries rules list = (list.entries ≡ entries_from 1 rules) × (list.next ≡ length rules + 1)
+abbrev pub fault_of_recovery : RecoverFault → StartFault
+fault_of_recovery (recover.Failed count) = fault.Disk count
+fault_of_recovery recover.TooLong = fault.TooLong
+fault_of_recovery recover.Memory = fault.Memory
 
--- what a reading of a text as rules comes to
-abbrev pub StartsBy : List ℕ → Result (List Rule) StartFault → Type 0
-StartsBy text (Ok rules) = file_read text ≡ Ok rules
-StartsBy text (Err (fault.BadRules bad)) = file_read text ≡ Err bad
-StartsBy text (Err fault.Memory) = Unit {0}
-StartsBy text (Err (fault.Disk count)) = ⊥
-StartsBy text (Err fault.TooLong) = ⊥
-StartsBy text (Err fault.TooMany) = ⊥
+abbrev pub fault_of_file : FileFault → StartFault
+fault_of_file (file.Bad bad) = fault.BadRules bad
+fault_of_file file.Memory = fault.Memory
 
--- the canonical text of the rules fits into a rule file, or doesn't
-abbrev pub TellsLength : List Rule → Result (Unit {0}) StartFault → Type 0
-TellsLength rules (Ok done) = length (rules_text_of rules) ≤ file_limit
-TellsLength rules (Err fault.TooLong) = file_limit < length (rules_text_of rules)
-TellsLength rules (Err fault.Memory) = Unit {0}
-TellsLength rules (Err (fault.Disk count)) = ⊥
-TellsLength rules (Err (fault.BadRules bad)) = ⊥
-TellsLength rules (Err fault.TooMany) = ⊥
+abbrev pub fault_of_printing : RulesTextFault → StartFault
+fault_of_printing printed.TooLong = fault.TooLong
+fault_of_printing printed.Memory = fault.Memory
 
--- the rules of a text that fit into a list and a file, as a list
-pub record IsStarted (text : List ℕ) (list : Rules) : Type 0 where
+-- permanent rules without histories, that bear ids from that one on
+abbrev pub permanent_entries : ℕ → List Rule → List RuleEntry
+permanent_entries id [] = []
+permanent_entries id (rule ∷ rules) = new_entry id rule false ∷ permanent_entries (id + 1) rules
+
+-- the list has just these rules in this order, with ids from 1 on, and nothing was judged by them yet
+pub record HoldsJust (rules : List Rule) (list : Rules) : Type 0 where
+  pub entries : list.entries ≡ permanent_entries 1 rules
+  pub next : list.next ≡ length rules + 1
+  pub history : StandsFor list.entries list.next []
+
+-- the text's rules are no more than a list takes, their canonical text fits into a rule file, and the list holds just them
+pub record HasRulesOf (text : List ℕ) (list : Rules) : Type 0 where
   pub rules : List Rule
   pub reads : file_read text ≡ Ok rules
   pub few : length rules ≤ 65536
   pub fits : length (rules_text_of rules) ≤ file_limit
-  pub entries : has_entries rules list
+  pub holds : HoldsJust rules list
 
--- rules that are no more than a list has, and whose canonical text is too long
+-- the text's rules are no more than a list takes, but their canonical text doesn't fit into a rule file
 pub record IsTooLong (text : List ℕ) : Type 0 where
   pub rules : List Rule
   pub reads : file_read text ≡ Ok rules
   pub few : length rules ≤ 65536
   pub long : file_limit < length (rules_text_of rules)
 
--- the list of a text's rules, or what is wrong with it
+-- the list of a text's rules, or what is wrong with them
 abbrev pub StartsWith : List ℕ → Result Rules StartFault → Type 0
-StartsWith text (Ok list) = IsStarted text list
+StartsWith text (Ok list) = HasRulesOf text list
 StartsWith text (Err (fault.BadRules bad)) = file_read text ≡ Err bad
 StartsWith text (Err fault.TooMany) = (rules : List Rule) × (file_read text ≡ Ok rules) × (65536 < length rules)
 StartsWith text (Err fault.TooLong) = IsTooLong text
 StartsWith text (Err fault.Memory) = Unit {0}
 StartsWith text (Err (fault.Disk count)) = ⊥
 
--- what a start comes to, by what its reading of the rule file gave
-abbrev pub StartsAfter : {S : Type 0} → Result (List ℕ) RecoverFault → Result (S × Rules) StartFault → Type 0
-StartsAfter (Ok text) (Ok started) = StartsWith text (Ok started.1)
+-- what a start comes to by what the reading of the rule file gave. No save is pending
+abbrev pub StartsAfter : Result (List ℕ) RecoverFault → Result (Bool × Rules) StartFault → Type 0
+StartsAfter (Ok text) (Ok started) = (started.0 ≡ false) × StartsWith text (Ok started.1)
 StartsAfter (Ok text) (Err e) = StartsWith text (Err e)
-StartsAfter (Err (recover.Failed count)) result = result ≡ Err (fault.Disk count)
-StartsAfter (Err recover.TooLong) result = result ≡ Err fault.TooLong
-StartsAfter (Err recover.Memory) result = result ≡ Err fault.Memory
+StartsAfter (Err e) result = result ≡ Err (fault_of_recovery e)
 
--- The rule file is read once. Where the disk is told, what was read is its text, and the disk is as it was; a failure is counted.
-pub record Loads {S T : Type 0} (keeps : S → (call : DiskCall) → DiskTold call → S → Type 0) (told : S → Option Disk) (faults : S → ℕ) (s : S) (result : Result (T × Rules) StartFault) (t : S) : Type 0 where
+-- The rule file is read once, and nothing else is asked of the disk. What was read is no choice: the one call's answer fixes it. Where
+-- the disk is told, that is the rule file's text, and the disk is as it was; a failure is counted.
+pub record Loads {S : Type 0} (keeps : S → (call : DiskCall) → DiskTold call → S → Type 0) (told : S → Option Disk) (faults : S → ℕ) (s : S) (result : Result (Bool × Rules) StartFault) (t : S) : Type 0 where
   pub read : Result (List ℕ) RecoverFault
   pub runs : RunsDisk keeps s recovering read t
   pub law : Recovers told s read t
