@@ -109,7 +109,7 @@ impl Grants {
         }
     }
 
-    /// As they are kept.
+    /// The grants as they are stored.
     pub fn kept(&self) -> Kept
         ensures { pairs_kept result ≡ self.now }
     {

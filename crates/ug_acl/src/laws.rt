@@ -39,7 +39,7 @@ pub fn one_access_meaning()
     ensures not_both { (text : List ℕ) (pairs : List Pair) (fault : TextFault) → GivesAccess text pairs → IsFirstBadGrant text fault → ⊥ }
 {}
 
-/// What a printed text is read as. Grants are some of all pairs, in their order.
+/// A printed text reads back as the grants. Grants are a part of all pairs, in their order.
 pub fn printing_reads_back()
     ensures { (kept : Pair → Bool) → access_read (printed (filter kept all_pairs)) ≡ Ok (filter kept all_pairs) }
 {}

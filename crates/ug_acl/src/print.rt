@@ -70,7 +70,7 @@ pub fn print_all(alloc: Global, kept: &Kept) -> Result<Vec<u8>, NoMemory>
     Ok(out)
 }
 
-/// The same, which reads back.
+/// The same; the text reads back as these grants.
 pub fn print_readable(alloc: Global, kept: &Kept) -> Result<Vec<u8>, NoMemory>
     ensures is { IfOk result (λ out. out.items ≡ printed (pairs_kept kept.now)) }
     ensures reads_back { IfOk result (λ out. access_read out.items ≡ Ok (pairs_kept kept.now)) }

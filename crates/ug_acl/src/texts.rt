@@ -40,8 +40,8 @@ impl LineReader for Granting {
 }
 
 /// What an access file grants, or its first bad line: usbguard-daemon.conf(5), IPC access control files. A line is empty, a comment
-/// that begins with `#`, or `Section=privilege,privilege`, where `ALL` stands for all privileges of the section. Blanks,
-/// space and tab, may stand about each part. Each section stands once at most. A bad line is told by its number, counted
+/// that begins with `#`, or `Section=privilege,privilege`, where `ALL` stands for all privileges of the section. Spaces
+/// and tabs may surround each part. Each section occurs at most once. A bad line is told by its number, counted
 /// from 1, the number of its `FaultKind`, and the place where the bad privilege begins, or would begin, else 0. Where several
 /// things are wrong with it, the first of `NoEquals`, `UnknownSection`, `Repeated` and `BadPrivilege` is told. The last line may
 /// lack its newline. Linear in the number of bytes.

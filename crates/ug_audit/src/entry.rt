@@ -62,17 +62,17 @@ pub enum Entry {
         write: Write,
         outcome: Wrote,
     },
-    /// A standing was dropped.
+    /// The device of that number has gone; its standing was dropped.
     Gone {
         number: u64,
         name: NodeName,
     },
-    /// The device of a name may not stand as judged.
+    /// The device of this name may not have the state that its verdict wants.
     Unsettled {
         name: NodeName,
         fault: Fault,
     },
-    /// No device is known to be listed.
+    /// The listing failed, or memory was short for it.
     UnsettledAll {
         fault: Fault,
     },
@@ -81,7 +81,7 @@ pub enum Entry {
         change: RuleChange,
         id: u64,
     },
-    /// What the order was answered, the lines of the answer aside.
+    /// The answer to the order, without its lines.
     Reply(Result<(), Refusal>),
     /// That auditor is given no more lines.
     Dropped {
@@ -95,7 +95,7 @@ pub enum Entry {
     UnusedKey {
         line: u64,
     },
-    /// At the start: that part wasn't taken, by its first bad line. All three are 0 where the part as a whole isn't taken.
+    /// At the start this part was refused, by its first bad line. All three numbers are 0 if the part as a whole was refused.
     StartRefused {
         part: ConfigPart,
         line: u64,

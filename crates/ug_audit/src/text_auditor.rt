@@ -7,8 +7,7 @@ ghost use Rattle.ug_audit.specs.Auditors.{TakesLine};
 use crate::auditor::{Auditor, Noted};
 use std::alloc::Global;
 
-/// Keeps the text that it takes. The calls of those numbers fail, the first of which is number 1; a call that finds no memory
-/// fails too.
+/// Keeps the text that it takes. The calls with the listed numbers, counted from 1, fail; so does one that finds no memory.
 #[derive(Drop)]
 pub struct TextAuditor {
     bytes: Vec<u8>,

@@ -7,7 +7,7 @@ use crate::listing_lines::{line_of_configuration, line_of_device, line_of_interf
 use ug_descr::{Config, Descr};
 use ug_types::{Put, Sink};
 
-/// Writes the device's line and its configurations. Behind a call of the sink that failed nothing is written.
+/// Writes the device's line and its configurations. After a failed call of the sink nothing more is written.
 pub fn write_listing<K: Sink>(out: &mut K, descr: &Descr) -> Put
     ensures put { Puts (K.held out.old) (K.held out.new) (listing_text descr.now) result }
     ensures counted { K.faults out.old ≤ K.faults out.new }

@@ -6,7 +6,7 @@ use crate::settings::{AuthDefault, Inserted, Present, Settings};
 use std::alloc::Global;
 use ug_types::{List, NoMemory, Target, Text};
 
-/// What the daemon goes by where no line says otherwise: rules in `/etc/usbguard/rules.conf`, access files in
+/// The settings of an empty text: rules in `/etc/usbguard/rules.conf`, access files in
 /// `/etc/usbguard/IPCAccessControl.d/`, no folder of rules, no users, `block` where no rule matches, and
 /// `keep` for controllers.
 #[tactic(auto, unfolding(crate::specs::Settings::defaults))]

@@ -87,7 +87,7 @@ fn value(alloc: Global, key: Key, text: &[u8], place: u64) -> Result<Setting, Li
     }
 }
 
-// LeavesDraft what stands before and behind the first `=`. The value's place is given.
+// Takes what is before and after the first `=`. The value's place is given.
 fn add_assignment(
     alloc: Global,
     settings: &mut Settings,
@@ -116,7 +116,7 @@ fn equals_in(text: &[u8]) -> Option<usize>
     text.iter().position(|byte| b'=' == *byte)
 }
 
-// LeavesDraft a line that is neither empty nor a comment, without its blanks.
+// Takes a line that is neither empty nor a comment, without its blanks.
 fn add_text(
     alloc: Global,
     settings: &mut Settings,
@@ -137,7 +137,7 @@ fn add_text(
     }
 }
 
-/// LeavesDraft the line of that number. A refusal changes nothing.
+/// Takes the line of that number. A refusal changes nothing.
 pub fn add_line(
     alloc: Global,
     settings: &mut Settings,

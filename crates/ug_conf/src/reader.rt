@@ -44,8 +44,8 @@ impl SettingsReader {
         })
     }
 
-    /// LeavesDraft a line without its newline, as `parse_conf` does: it counts on, and no key stands twice in the lines taken so
-    /// far. A refusal changes nothing.
+    /// Takes a line without its newline, as `parse_conf` does. No key may be set twice in the lines so far. A refusal changes
+    /// nothing.
     pub fn line(&mut self, line: &[u8]) -> Result<(), LineFault<FaultKind>>
         ensures { TakesLine result self.old self.new line.now }
     {

@@ -7,7 +7,7 @@ pub enum Present {
     Allow,
     Block,
     Reject,
-    /// It keeps what it has.
+    /// The device keeps its state.
     Keep,
     /// The rules decide.
     Apply,
@@ -31,7 +31,7 @@ pub enum AuthDefault {
     None,
     /// Each is.
     All,
-    /// Those within the machine are.
+    /// Devices that are built in are.
     Internal,
 }
 

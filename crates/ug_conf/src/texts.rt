@@ -39,8 +39,8 @@ impl LineReader for Drafting {
 }
 
 /// The settings of a text, or its first bad line: usbguard-daemon.conf(5). A line is empty, a comment that begins with `#`,
-/// or `Key=Value`. Blanks, space and tab, may stand at its ends and about the first `=`. Each key stands once at most; those
-/// that don't stand are as in `default_settings`. A bad line is told by its number, counted from 1, the number of its
+/// or `Key=Value`. Spaces and tabs may surround the line and the first `=`. Each key occurs at most once; the others have
+/// the values of `default_settings`. A bad line is told by its number, counted from 1, the number of its
 /// `FaultKind`, and the place where the value begins for `BadValue`, else 0. Where several things are wrong with it, the
 /// first of `NoEquals`, `UnknownKey`, `Repeated` and `BadValue` is told. The last line may lack its newline. Linear in the
 /// number of bytes.

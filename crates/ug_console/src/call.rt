@@ -66,7 +66,7 @@ fn finish<K: Sink, W, M: Machine<W>>(
 
 /// Reads a text to its end, hands each line to the machine, and writes the lines' text and a fault line.
 /// A newline ends a line; the last line may lack it. There may be 1,048,576 lines of at most 1,048,576 bytes.
-/// Behind a call of the sink that failed nothing is written.
+/// After a failed call of the sink nothing more is written.
 pub fn replay<S: Source, K: Sink, W, M: Machine<W>>(
     alloc: Global,
     input: &mut S,

@@ -14,8 +14,8 @@ use itoa::Buffer;
 use std::alloc::Global;
 use ug_types::{DeviceRecord, List, NoMemory, NodeName, Target, Text};
 
-/// The line of a list of devices: the text of the rule that is made of the device with its verdict and its port. It
-/// reads as that rule.
+/// A device's line in a list of devices: the canonical text of its generated rule, with its verdict as the target and with
+/// its port. It reads as that rule.
 pub fn device_line(alloc: Global, device: &DeviceRecord, verdict: Target) -> Result<Text, NoMemory>
     ensures text { IfOk result (λ text. text ≡ rule_text (generated_of device.now verdict true)) }
     ensures reads { IfOk result (λ text. rule_read text ≡ Ok (generated_of device.now verdict true)) }

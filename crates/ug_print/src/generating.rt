@@ -106,8 +106,8 @@ fn query(alloc: Global, device: &DeviceRecord, with_port: bool) -> Result<Query,
     })
 }
 
-/// The rule that is made of a device: all that is known of it, each with `equals`, and its port only if that is asked
-/// for. Interfaces stand in the device's order; without any the attribute isn't given. Some line reads as it.
+/// The rule generated from a device: every attribute that is known, each with `equals`, and the port only where it is asked
+/// for. Interfaces are in the device's order; a device without any gets no `with-interface`. Some line reads as the rule.
 #[tactic(auto, unfolding(crate::specs::Generated::generated_of))]
 pub fn generated_rule(
     alloc: Global,

@@ -31,7 +31,7 @@ pub fn rules_text_law()
         → file_read (rules_text_of rules) ≡ Ok rules }
 {}
 
-/// Such a rule with another target is one too.
+/// Where a line reads as the rule, some line reads as the rule with another target.
 pub fn target_law()
     ensures well_formed { (rule : Rule) (target : Target) → WellFormed rule → RuleOfBytes rule
         → WellFormed (record rule { target = target }) }
