@@ -4,13 +4,11 @@ use Rattle.ug_kernel.specs.Calls.{Call, Names, Open, Read, Ask_alive, Put, Close
 use Rattle.ug_kernel.specs.Tree.{Prog, Return, Ask, Room, Runs, then}
 use Rattle.ug_sysfs.specs.World.{World, Gives, entered, answer_from, refusing, answer_of, answer_unless, fate, fate_of, effect, opened_at, read_from, read_at, alive_of, probed_at, put_at, live_held, Wants}
 use Rattle.ug_play.specs.Play.{play, IsPlayed}
-use Rattle.std.specs.List.{slice_get, list_any}
+use Rattle.std.specs.List.{slice_get}
 use Rattle.ug_table.proofs.Common.{Device, Control, Write, Listing, Kernel, FailedCall}
 use Rattle.ug_types.specs.declared.control.Attr.{Attr}
 use Rattle.ug_types.specs.declared.control.Attr.TheVariants as attr
-use Rattle.ug_kernel.specs.declared.calls.Listing.TheVariants as listing
 use Rattle.ug_kernel.specs.declared.calls.Opened.{Opened}
-use Rattle.ug_kernel.specs.declared.calls.Opened.TheVariants as opened
 use Rattle.ug_kernel.specs.declared.calls.ReadOut.{ReadOut}
 use Rattle.ug_kernel.specs.declared.calls.ReadOut.TheVariants as out
 use Rattle.ug_kernel.specs.Called.{within, text_within, read_of}
@@ -31,16 +29,8 @@ play_runs (Room next) s = (true, play_runs (next true) s)
 -- a call is answered by the script, or refused where the kernel has run out; closing is neither
 pub unless_cases : (P : (call : Call) → Answer call × World → Type 0) (out : Bool) (s : World) → ((held : ℕ) → P (Close held) (Closed, s)) → ((call : Call) → out ≡ true → P call (refusing s call)) → ((call : Call) → out ≡ false → P call (answer_from (entered s) call)) → (call : Call) → P call (answer_unless out s call)
 unless_cases P out s shut refused goes (Close held) = shut held
-unless_cases P true s shut refused goes Names = refused Names refl
-unless_cases P true s shut refused goes (Open name control) = refused (Open name control) refl
-unless_cases P true s shut refused goes (Read name attr) = refused (Read name attr) refl
-unless_cases P true s shut refused goes (Ask_alive held) = refused (Ask_alive held) refl
-unless_cases P true s shut refused goes (Put held write) = refused (Put held write) refl
-unless_cases P false s shut refused goes Names = goes Names refl
-unless_cases P false s shut refused goes (Open name control) = goes (Open name control) refl
-unless_cases P false s shut refused goes (Read name attr) = goes (Read name attr) refl
-unless_cases P false s shut refused goes (Ask_alive held) = goes (Ask_alive held) refl
-unless_cases P false s shut refused goes (Put held write) = goes (Put held write) refl
+unless_cases P true s shut refused goes call = refused call refl
+unless_cases P false s shut refused goes call = goes call refl
 
 pub told_unless : (s : World) (call : Call) → s.ran_out ≡ false → (answer_of s call).1.ran_out ≡ false
 told_unless s call e = unless_cases (λ call (p : Answer call × World). p.1.ran_out ≡ false) s.ran_out s (λ held. e) (λ call t. e) (λ call f. e) call
@@ -127,14 +117,11 @@ sure_read (Some b) name at k = refl
 
 never_wants : (b : Bool) (s : World) (call : Call) → is_want call (answer_unless b s call).0 ≡ false
 never_wants b s (Close held) = refl
-never_wants b s (Ask_alive held) = refl
-never_wants b s (Put held write) = refl
-never_wants true s Names = refl
-never_wants true s (Open name control) = refl
-never_wants true s (Read name at) = refl
+never_wants true s call = refl
 never_wants false s Names = sure_listing (fate_of (entered s)) (entered s).kernel
 never_wants false s (Open name control) = sure_open (fate_of (entered s)) name control (entered s).kernel
 never_wants false s (Read name at) = sure_read (fate_of (entered s)) name at (entered s).kernel
+never_wants false s call = refl
 
 -- nor fails, where no call is to fail
 

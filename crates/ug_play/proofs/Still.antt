@@ -3,7 +3,7 @@ use Rattle.std.proofs.Common.{◌≡◌, ℕ, ◌<◌, Bool, true, false, List, 
 use Rattle.std.specs.List.{slice_get}
 use Rattle.std.proofs.lemmas.List.{length-set}
 use Rattle.std.proofs.lemmas.Option.{slice_get_within, slice_get_cases, same_Some}
-use Rattle.ug_table.proofs.Common.{Device, Control, Write, Call, Answer, Names, Open, Read, Ask_alive, Put, Close, Kernel, Live, Lived, Grows}
+use Rattle.ug_table.proofs.Common.{Device, Control, Write, Call, Answer, Open, Put, Kernel, Live, Lived, Grows}
 use Rattle.ug_kernel.specs.Tree.{Prog, Return, Ask, Room}
 use Rattle.ug_sysfs.specs.Devices.{find}
 use Rattle.ug_sysfs.specs.declared.script.Scheduled.{Scheduled}
@@ -15,12 +15,9 @@ record Still (s t : World) : Type 0 where
   pub moves : t.moves ≡ []
   pub devices : length t.kernel.devices ≡ length s.kernel.devices
 
-nothing_moves : (n : ℕ) (after : Bool) (ms : List Scheduled) (ds : List Device) → ms ≡ [] → happen n after ms ds ≡ ([], ds)
-nothing_moves n after ms ds e = ap (λ (v : List Scheduled). happen n after v ds) e
-
 still_shift : (n : ℕ) (after : Bool) (s : World) → s.moves ≡ [] → Still s (shift n after s)
 still_shift n after s e =
-    let h : happen n after s.moves s.kernel.devices ≡ ([], s.kernel.devices) = nothing_moves n after s.moves s.kernel.devices e in
+    let h : happen n after s.moves s.kernel.devices ≡ ([], s.kernel.devices) = ap (λ (v : List Scheduled). happen n after v s.kernel.devices) e in
     record { moves = ap (λ (p : List Scheduled × List Device). p.0) h; devices = ap (λ (p : List Scheduled × List Device). length p.1) h }
 
 length_opened : (control : Control) (o : Option ℕ) (k : Kernel) → length (opened_at control o k).1.devices ≡ length k.devices

@@ -1,11 +1,10 @@
 -- What a sweep tells of failed calls and of want of memory: it tells each, and no other.
-use Rattle.std.proofs.Common.{◌≡◌, ℕ, Bool, true, false, not, cond, ◌&&◌, ◌||◌, List, [], ◌∷◌, ◌++◌, refl, sym, ◌∙◌, ap, subst}
+use Rattle.std.proofs.Common.{◌≡◌, ℕ, Bool, true, false, not, ◌&&◌, ◌||◌, List, [], ◌∷◌, ◌++◌, refl, sym, ◌∙◌, ap, subst}
 use Rattle.std.proofs.lemmas.Bool.{or_left, or_right}
 use Rattle.std.specs.List.{list_any}
 use Rattle.std.proofs.lemmas.Bool.{or_parts}
 use Rattle.std.proofs.lemmas.List.Folds.{list_any-append}
-use Rattle.ug_table.proofs.Common.{in_sweep_order, Held, Made, failures, FailedCall, Entry, State, Answers, Laters, lists, farewells, AreClosings, unlisted_files, failure_in, failures_told}
-use Rattle.ug_table.specs.declared.standing.Standing.{Standing}
+use Rattle.ug_table.proofs.Common.{in_sweep_order, Held, Made, failures, FailedCall, Entry, State, Answers, Laters, farewells, AreClosings, unlisted_files, failure_in, failures_told}
 use Rattle.ug_kernel.specs.Tree.{Prog, Return, Runs, then}
 use Rattle.ug_kernel.proofs.Ways.{Ways, ways_more, ways_last}
 use Rattle.ug_sysfs.specs.World.{World, Gives}
@@ -28,10 +27,8 @@ pub record Sums (es : List Entry) (ok : Bool) (ms : List Made) (fs : List Entry)
   pub faults : failures_told rest ≡ failures ms
 
 refused_more : (a b x y : Bool) → ((not a || x) || (not b || y)) ≡ (not (a && b) || (x || y))
-refused_more true true true y = refl
-refused_more true true false y = refl
-refused_more true false true y = refl
-refused_more true false false y = refl
+refused_more true true x y = refl
+refused_more true false x y = or_right x true refl
 refused_more false b x y = refl
 
 -- a chain
@@ -53,11 +50,6 @@ closings_sure : (files : List Held) (ms : List Made) → AreClosings files ms �
 closings_sure [] ms h = ap has_want h
 closings_sure (file ∷ files) ms h = ap has_want h.2 ∙ closings_sure files h.1 h.3
 
-farewells_calm : (names : List (List ℕ)) (ss : List Standing)
-    → tells_memory (farewells names ss) ≡ false
-farewells_calm names ss =
-    farewells_by (λ es. tells_memory es ≡ false) refl (λ number name es h. h) names ss
-
 -- a sweep
 goes_wants : {J : Type 0} {answer : Answers J} {later : Laters J} {w v : State J} {ok : Bool}
     {ms : List Made} {es : List Entry} → Goes answer later w ok ms es v
@@ -66,7 +58,8 @@ goes_wants {w = w} (Listed found failed ok shut made es v closings c) =
     let names = in_sweep_order found in
     let sure = closings_sure (unlisted_files names w.standings) shut closings in
     memory_more (farewells names w.standings) es
-    ∙ ap (λ (b : Bool). b || tells_memory es) (farewells_calm names w.standings)
+    ∙ ap (λ (b : Bool). b || tells_memory es) (farewells_by (λ fs. tells_memory fs ≡ false) refl
+    (λ number name fs h. h) names w.standings)
     ∙ chain_wants c
     ∙ sym (ap (λ (b : Bool). not ok || b)
     (want_more shut made ∙ ap (λ (b : Bool). b || has_want made) sure))

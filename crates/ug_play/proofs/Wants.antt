@@ -1,5 +1,5 @@
 -- What a name's part tells of want of memory: it tells it just where memory was refused in it.
-use Rattle.std.proofs.Common.{◌≡◌, ℕ, Bool, true, false, ◌||◌, List, [], ◌∷◌, ◌++◌, Option, refl, sym, ◌∙◌, ap}
+use Rattle.std.proofs.Common.{◌≡◌, ℕ, Bool, ◌||◌, List, [], ◌∷◌, ◌++◌, Option, refl, sym, ◌∙◌, ap}
 use Rattle.std.proofs.lemmas.List.Folds.{list_any-append}
 use Rattle.ug_table.proofs.Common.{Made, Bound, Entry, AllBear, EndsUnsettled}
 use Rattle.ug_table.specs.declared.standing.Standing.{Standing}

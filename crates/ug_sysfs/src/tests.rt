@@ -42,40 +42,71 @@ fn scripted(alloc: Global) -> Result<SimKernel, NoMemory> {
     Ok(kernel)
 }
 
+// The hub and the device below it are listed, and the device's file is opened.
+fn comes(kernel: &mut SimKernel, alloc: Global, device: &NodeName) -> bool {
+    let listed = match kernel.list(alloc) {
+        Listing::Names(names) => names.as_slice().len() == 2,
+        _ => false,
+    };
+    let opened = kernel.open_control(alloc, device, Control::Authorized);
+    listed && opened == Opened::Token(Held(0))
+}
+
+// One write fails without its effect, and one with it.
+fn fails(kernel: &mut SimKernel) -> bool {
+    let first = kernel.write(Held(0), Write::On);
+    let without = kernel.log().len() == 0;
+    let second = kernel.write(Held(0), Write::On);
+    first == Wrote::Failed && without && second == Wrote::Failed
+}
+
+// It is probed, read and written while the hub is there.
+fn answers(kernel: &mut SimKernel, alloc: Global, device: &NodeName) -> bool {
+    let alive = kernel.probe(Held(0)) == Probe::Alive(true);
+    let product = match kernel.read(alloc, device, Attr::Product) {
+        ReadOut::Bytes(_) => true,
+        _ => false,
+    };
+    alive && product && kernel.write(Held(0), Write::Off) == Wrote::Done
+}
+
+// It is gone with its hub.
+fn goes(kernel: &mut SimKernel, alloc: Global, device: &NodeName) -> bool {
+    let gone = kernel.probe(Held(0)) == Probe::Gone;
+    let serial = match kernel.read(alloc, device, Attr::Serial) {
+        ReadOut::Absent => true,
+        _ => false,
+    };
+    gone && serial
+}
+
+// What was written and counted.
+fn counts(kernel: &SimKernel) -> bool {
+    let third = match kernel.made().get(3) {
+        Some(made) => made.kind == Kind::Failed,
+        None => false,
+    };
+    third && kernel.log().len() == 2 && kernel.calls() == 9 && kernel.faults() == 2
+}
+
+// What comes between events comes at their end, and the next begins with no calls.
+fn ends(kernel: &mut SimKernel) -> bool {
+    kernel.close(Held(0));
+    kernel.end_event();
+    let devices = kernel.devices().len() == 3;
+    kernel.begin();
+    devices && kernel.made().len() == 0 && !kernel.ran_out()
+}
+
 #[test]
 fn a_script_runs(rt: HostRuntime) {
     let alloc = rt.alloc();
     let mut kernel = scripted(alloc).expect(&rt, "memory");
     let device = name(b"1-1").expect(&rt, "a name");
-    match kernel.list(alloc) {
-        Listing::Names(names) => assert_eq!(rt; names.as_slice().len(), 2),
-        _ => panic!(rt; "no names"),
-    }
-    assert_eq!(rt;
-        kernel.open_control(alloc, &device, Control::Authorized),
-        Opened::Token(Held(0))
-    );
-    assert_eq!(rt; kernel.write(Held(0), Write::On), Wrote::Failed);
-    assert_eq!(rt; kernel.log().len(), 0);
-    assert_eq!(rt; kernel.write(Held(0), Write::On), Wrote::Failed);
-    assert_eq!(rt; kernel.probe(Held(0)), Probe::Alive(true));
-    assert!(rt;
-        matches!(
-            &kernel.read(alloc, &device, Attr::Product),
-            ReadOut::Bytes(_)
-        )
-    );
-    assert_eq!(rt; kernel.write(Held(0), Write::Off), Wrote::Done);
-    assert_eq!(rt; kernel.probe(Held(0)), Probe::Gone);
-    assert!(rt; matches!(&kernel.read(alloc, &device, Attr::Serial), ReadOut::Absent));
-    assert_eq!(rt; kernel.log().len(), 2);
-    assert_eq!(rt; kernel.calls(), 9);
-    assert_eq!(rt; kernel.faults(), 2);
-    assert!(rt; matches!(kernel.made().get(3), Some(made) if made.kind == Kind::Failed));
-    kernel.close(Held(0));
-    kernel.end_event();
-    assert_eq!(rt; kernel.devices().len(), 3);
-    kernel.begin();
-    assert_eq!(rt; kernel.made().len(), 0);
-    assert!(rt; !kernel.ran_out());
+    assert!(rt; comes(&mut kernel, alloc, &device));
+    assert!(rt; fails(&mut kernel));
+    assert!(rt; answers(&mut kernel, alloc, &device));
+    assert!(rt; goes(&mut kernel, alloc, &device));
+    assert!(rt; counts(&kernel));
+    assert!(rt; ends(&mut kernel));
 }

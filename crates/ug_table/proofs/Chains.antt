@@ -1,5 +1,5 @@
 -- A sweep, flat: the listing, the closings of what isn't listed, and a chain of parts, one for each name, each with its shape.
-use Rattle.std.proofs.Common.{◌≡◌, ℕ, Bool, true, false, not, cond, map, List, [], ◌∷◌, refl, sym, ◌∙◌, ap, subst, ◌&&◌, ◌++◌, Option, Some, inl, inr, append_assoc, append-nil}
+use Rattle.std.proofs.Common.{◌≡◌, ℕ, Bool, true, false, not, cond, map, List, [], ◌∷◌, refl, sym, ◌∙◌, ap, subst, ◌&&◌, ◌++◌, Option, Some, append_assoc, append-nil}
 use Rattle.std.specs.List.{filter}
 use Rattle.ug_table.proofs.Common.{Held, Close, Call, Answer, Names, Kernel, IsKernel, Quiet, Ask, calls, Runs, Made, answered, Along, failures, failure_of, lists, numbered, farewells, AreClosings, unlisted_files, Standing, in_sweep_order, FailedCall, Listing, Entry, Fault, State, Kept, kept_of, with_kept, noted, Answers, Laters, Settled}
 use Rattle.ug_kernel.proofs.Ways.{Ways, Sure, ways_more, along_sound, Unwritten, along_quiet, Went, ways_next, ways_last, behind_sure, ways_run}

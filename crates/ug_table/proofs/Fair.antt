@@ -1,7 +1,7 @@
 -- A part is fair, and so is a sweep.
-use Rattle.std.proofs.Common.{◌≡◌, ℕ, Bool, true, false, not, ◌&&◌, List, [], ◌∷◌, ◌++◌, ◌⊎◌, Some, slice_get, inl, inr, refl, sym, ◌∙◌, ap, subst, append_assoc, append-nil, ◌+◌, ◌<◌, ◌||◌, is_none, Option, arith, cond, true≢false}
-use Rattle.std.proofs.lemmas.Bool.{and_parts, not-true, or_right}
-use Rattle.ug_table.proofs.Common.{Has, AllDistinct, Target, Control, Authorized, Remove, Write, Wrote, Put, Close, Told, Closing, Ask_alive, Names, Kernel, Moves, IsKernel, Live, IsWritten, IsGoneAt, says_put, Called, says_listing, Grows, Quiet, calls, Runs, RemoveHold, Entry, State, Answers, Laters, known_of, standing_of, without, with_standing, place_for, settled_standing, lists, farewells, Tries, IsDevice, MayHave, MayHaveNot, wrote_entries, HasRemoval, IsFirst, Account, Start, Had, Had_not, AreInOrder, none_before, IsProbed, Stand, numbers_of, Judge, IsOne, IsTold, HasStanding, IsFair, IsRemoveMarked, swept_before, IsGone, Went as WentAway, gone_of, Standing, Settled, Made, answered, Along, failure_of, FailedCall, parent_of, Judged, Held, Cause, Device, Bound, Binding, Known, in_sweep_order, Listing, unlisted_files}
+use Rattle.std.proofs.Common.{◌≡◌, ℕ, Bool, true, false, not, ◌&&◌, List, [], ◌∷◌, ◌++◌, ◌⊎◌, Some, slice_get, inl, inr, refl, sym, ◌∙◌, ap, subst, append_assoc, append-nil, ◌+◌, ◌<◌, is_none, Option, arith, cond, true≢false}
+use Rattle.std.proofs.lemmas.Bool.{and_parts, and_cases, both_ways, not-true, not-false, cond_both, cases_Bool}
+use Rattle.ug_table.proofs.Common.{Has, AllDistinct, Target, Control, Authorized, Remove, Write, Wrote, Put, Close, Told, Closing, Ask_alive, Names, Kernel, Moves, IsKernel, Live, IsWritten, IsGoneAt, says_put, Called, says_listing, Grows, Quiet, calls, Runs, RemoveHold, Entry, State, Answers, Laters, known_of, standing_of, without, with_standing, place_for, lists, farewells, Tries, IsDevice, MayHave, MayHaveNot, wrote_entries, HasRemoval, WasRemoved, IsFirst, Account, Start, Had, Had_not, AreInOrder, none_before, IsProbed, Stand, numbers_of, Judge, IsOne, IsTold, HasStanding, IsFair, IsRemoveMarked, swept_before, IsGone, Went as WentAway, gone_of, Standing, Settled, Made, answered, Along, failure_of, FailedCall, parent_of, Judged, Held, Cause, Device, Bound, Binding, Known, in_sweep_order, unlisted_files}
 use Rattle.ug_types.specs.declared.verdict.Target.TheVariants as target
 use Rattle.ug_kernel.specs.declared.device.HeldFile.{HeldFile}
 use Rattle.ug_kernel.specs.declared.device.Effect.{Effect}
@@ -15,22 +15,23 @@ use Rattle.ug_audit.specs.declared.entry.Entry.TheVariants as entry
 use Rattle.ug_audit.specs.declared.entry.Fault.TheVariants as fault
 use Rattle.ug_table.specs.Bring.{write_of, is_reject, CallsFor, is_to_go}
 use Rattle.ug_table.specs.declared.standing.Settled.TheVariants as settled
-use Rattle.ug_types.proofs.Elements.{has_right, distinct_one, map_has, has_map, insert_has, has_new, has_old, distinct_insert, filter_has, has_filter, distinct_filter}
-use Rattle.ug_table.proofs.Standings.{IsHeldAs, file_same, file_later, IsFileOf, found, missing, missing_without, or_by, listed_is}
+use Rattle.ug_types.proofs.Elements.{has_right, distinct_one, has_map, has_new, has_old, filter_has, has_filter, distinct_filter}
+use Rattle.ug_table.proofs.Standings.{IsHeldAs, file_same, file_later, IsFileOf, found, with_own, each_with, listed_is, IsOpen, open_name}
+use Rattle.ug_table.proofs.OnePart.{no_removal}
 use Rattle.ug_table.proofs.Devices.{device_stays, stand_stays, probed_from}
-use Rattle.ug_table.proofs.Steps.{NoRemoval, keeps_itself, removal_marks, removal_removed, marks_keep, Keeps, keep_one, Marks, keep_marks, FairFrom, fair_trans, StepFrom, fair_by, After, same_refl, plain_fair, keep_fair, fair_end, then_quiet, then_called, then_note, then_same, then_went, Same as AreSame, one_itself, without_less, tried_after, left_all, stand_of, fair_refl, gone_device, account_stays}
+use Rattle.ug_table.proofs.Steps.{NoRemoval, AreMarked, keeps_itself, removal_marks, removal_removed, marks_keep, keep_one, keep_marks, FairFrom, fair_trans, StepFrom, fair_by, After, same_refl, plain_fair, keep_fair, fair_end, then_quiet, then_called, then_note, then_same, then_went, one_itself, without_less, tried_after, left_all, stand_of, fair_refl, gone_device, account_stays}
 use Rattle.ug_table.proofs.Says.{plain_wrote, gone_has}
 use Rattle.ug_kernel.proofs.Ways.{Way, way_runs, along_split}
-use Rattle.ug_table.proofs.Shapes.{Written, Done, Went, Broke, Valued, Same, Set, Unheld, Gone_by, Failed_by, Short_by, Removal, Not_held, Put_on, Carried, By_value, And_removal, Brought, Left_open, Let_go, told_at, Piece, Opening, Fresh, Lost, Unbound_end, Absent_so, Vanished_so, Failed_so, Short_so, Flat, Unprobed, Tried, Stopped, Unbound, No_place, Judged_so, IsGiven, next_after, judge_after}
+use Rattle.ug_table.proofs.Shapes.{Written, Done, Went, Broke, Valued, Same, Set, Unheld, Gone_by, Failed_by, Short_by, Removal, Not_held, Put_on, Carried, By_value, And_removal, Brought, Left_open, Let_go, told_at, Piece, Opening, Fresh, Lost, Unbound_end, Failed_so, Short_so, Flat, Unprobed, Tried, Stopped, Unbound, No_place, Judged_so, IsGiven, next_after, judge_after, opening_none, opening_absent}
 use Rattle.ug_types.specs.declared.record.Attrs.{Attrs}
 use Rattle.ug_kernel.specs.declared.calls.Probe.TheVariants as probe
 use Rattle.ug_record.specs.Records.{judged_of}
 use Rattle.ug_node.specs.Bind.{binding}
 use Rattle.ug_node.specs.Bound.{attrs_of, IsBound, BindSays}
 use Rattle.ug_node.specs.declared.identity.Binding.TheVariants as bound
-use Rattle.ug_table.specs.Settle.{kept_standings, standing_for, judged_entry, tried_standings, dropped}
+use Rattle.ug_table.specs.Settle.{standing_for, judged_entry, tried_standings, dropped}
 use Rattle.ug_table.specs.Sweep.{names_of, parted, marked_listed, sweeping}
-use Rattle.ug_table.proofs.Marks.{order_with, order_filter, sweep_in_order, AreIn, dropped_in, AreSplit, AreFresh, split_in, parted_split, parted_fresh, part_split, part_fresh, piece_part, order_distinct}
+use Rattle.ug_table.proofs.Marks.{order_new, names_distinct, order_filter, sweep_in_order, AreIn, dropped_in, AreSplit, AreFresh, split_in, parted_split, parted_fresh, part_split, part_fresh, piece_part, order_distinct}
 use Rattle.std.specs.List.{filter}
 use Rattle.ug_types.proofs.Sorting.{to_sweep_order}
 use Rattle.ug_kernel.specs.declared.calls.Listing.TheVariants as listing
@@ -108,12 +109,10 @@ value_first : (ss : List Standing) (es : List Entry) (number : ℕ) (verdict : T
 value_first ss es number target.Allow = tt
 value_first ss es number x = tt
 
-value_no_removal : (s : Standing) (verdict : Target) (outcome : Wrote) → NoRemoval (wrote_entries s.number s.name (write_of verdict) outcome)
-value_no_removal s verdict outcome number name (inl e) = let none : ⊥ = cc in none
-value_no_removal s target.Allow outcome number name (inr (inl e)) = let none : ⊥ = cc in none
-value_no_removal s target.Block outcome number name (inr (inl e)) = let none : ⊥ = cc in none
-value_no_removal s target.Reject outcome number name (inr (inl e)) = let none : ⊥ = cc in none
-value_no_removal s verdict outcome number name (inr (inr none)) = none
+put_no_removal : (s : Standing) (what : Write) (outcome : Wrote) → (what ≡ write.Remove → outcome ≡ wrote.Done → ⊥) → NoRemoval (wrote_entries s.number s.name what outcome)
+put_no_removal s what outcome none number name (inl e) = let none : ⊥ = cc in none
+put_no_removal s what outcome none number name (inr (inl e)) = none (let a : what ≡ write.Remove = cc in a) (let b : outcome ≡ wrote.Done = cc in b)
+put_no_removal s what outcome none number name (inr (inr x)) = x
 
 -- the entries of a write, and of what it leads to
 two_more : {J : Type 0} {answer : Answers J} {later : Laters J} {present : Bool} {tried : Tries} {k l : Kernel} {w : State J} (u : State J) (ss : List Standing) (a b : Entry) → FairFrom answer later present tried k w l (record u { standings = ss; entries = (u.entries ++ a ∷ []) ++ b ∷ [] }) → FairFrom answer later present tried k w l (more u ss (a ∷ b ∷ []))
@@ -134,7 +133,7 @@ valued_fair : {J : Type 0} {answer : Answers J} {later : Laters J} {present : Bo
 valued_fair {u = u} l s after (Same e) has a h r = fair_end l (more u u.standings []) refl r (none_more u h)
 valued_fair {m = m} {u = u} l s after (Set t es how e v) has a h r =
     let x = h.fair.stand.devices s has in
-    let put = put_fair r.0 s x.0 s.held.0 Authorized (write_of s.verdict) t.answer (failure_of t) (has, x.1) x.1.file (value_called s.verdict) (value_first u.standings [] s.number s.verdict) (value_no_removal s s.verdict t.answer) r.1 h in
+    let put = put_fair r.0 s x.0 s.held.0 Authorized (write_of s.verdict) t.answer (failure_of t) (has, x.1) x.1.file (value_called s.verdict) (value_first u.standings [] s.number s.verdict) (put_no_removal s (write_of s.verdict) t.answer (λ e f. no_removal s.verdict e)) r.1 h in
     fair_end l (more u (mid u after how) es) refl r.2 (value_fair u m s after (write_of s.verdict) v has a r.1.says put)
 
 -- the removal
@@ -144,9 +143,7 @@ reject_calls target.Reject e = tt
 reject_calls x e = let none : ⊥ = cc in absurd none
 
 removed_if : (a b : Bool) → (a && not b) ≡ false → a ≡ true → b ≡ true
-removed_if true true e r = refl
-removed_if true false e r = sym e
-removed_if false b e r = let none : ⊥ = cc in absurd none
+removed_if a b e r = elim (and_cases a (not b) e) [ inl f ↦ absurd (both_ways a f r) | inr f ↦ not-false b f ]
 
 remove_first : {J : Type 0} (m : Kernel) (u : State J) (s : Standing) → Has u.standings s → s.removed ≡ false → (distinct : (t : Standing) → Has u.standings t → t.number ≡ s.number → t ≡ s) → IsFirst u.standings [] s.number write.Remove
 remove_first m u s has e one (inl b) =
@@ -176,11 +173,6 @@ removed_fair {J} {answer} {later} {present} {tried} {k} {m} {w} {u} l s i file f
     let step = plain_fair answer later present tried m l u rs es c.sound g stand a.0 (removal_marks u.standings rs s stand.distinct reject a.1) removed (plain_wrote s.number s.name write.Remove wrote.Done) account in
     fair_trans h (subst (λ (v : List Entry). StepFrom answer later present tried m u l (record u { standings = rs; entries = v })) (sym (append_assoc u.entries (entry.Intent s.number s.name write.Remove ∷ []) (entry.Wrote s.number s.name write.Remove wrote.Done ∷ []))) step)
 
-undone_no_removal : (s : Standing) (outcome : Wrote) → (outcome ≡ wrote.Done → ⊥) → NoRemoval (wrote_entries s.number s.name write.Remove outcome)
-undone_no_removal s outcome ne number name (inl e) = let none : ⊥ = cc in none
-undone_no_removal s outcome ne number name (inr (inl e)) = ne (let is : outcome ≡ wrote.Done = cc in is)
-undone_no_removal s outcome ne number name (inr (inr none)) = none
-
 -- where the `remove` file's device is gone, that of the `authorized` file is so
 gone_through : (k l : Kernel) (s : Standing) (i file : ℕ) (d : IsDevice k i s.name s.held s.judged) → IsHeldAs k file i Remove → IsGoneAt file k → Grows k l → IsGoneAt s.held.0 l
 gone_through k l s i file d of gone g =
@@ -191,13 +183,13 @@ put_on_fair {u = u} x y s i file after shut (Done failed) at of reject fresh a c
     two_more u (after settled.Stands) _ _ (then_called (Close file) shut y tt d (removed_fair x s i file failed (after settled.Stands) at of reject fresh (a settled.Stands) c h))
 put_on_fair {m = m} {u = u} x y s i file after shut (Went failed) at of reject fresh a c d h =
     let first = remove_first m u s at.0 fresh (λ t b e. distinct_one (λ (v : Standing). v.number) u.standings t s h.fair.stand.distinct b at.0 e) in
-    let put = put_fair x s i file Remove write.Remove wrote.Gone failed at of (reject_calls s.verdict reject) first (undone_no_removal s wrote.Gone (λ e. let none : ⊥ = cc in none)) c h in
+    let put = put_fair x s i file Remove write.Remove wrote.Gone failed at of (reject_calls s.verdict reject) first (put_no_removal s write.Remove wrote.Gone (λ e f. let none : ⊥ = cc in none)) c h in
     let g = called_grows (Put file write.Remove) (told_at wrote.Gone failed) m x c in
     let gone = gone_through x y s i file (device_stays m x i s.name s.held s.judged g at.1) (g.held file (record { device = i; control = Remove }) of) c.says (called_grows (Close file) shut x y d) in
     three_more u (after settled.Nobody) _ _ _ (then_went s (after settled.Nobody) at.0 (a settled.Nobody) gone (then_called (Close file) shut y tt d put))
 put_on_fair {m = m} {u = u} x y s i file after shut (Broke failed) at of reject fresh a c d h =
     let first = remove_first m u s at.0 fresh (λ t b e. distinct_one (λ (v : Standing). v.number) u.standings t s h.fair.stand.distinct b at.0 e) in
-    let put = put_fair x s i file Remove write.Remove wrote.Failed failed at of (reject_calls s.verdict reject) first (undone_no_removal s wrote.Failed (λ e. let none : ⊥ = cc in none)) c h in
+    let put = put_fair x s i file Remove write.Remove wrote.Failed failed at of (reject_calls s.verdict reject) first (put_no_removal s write.Remove wrote.Failed (λ e f. let none : ⊥ = cc in none)) c h in
     let mark = a (settled.Fault failed) in
     three_more u (after (settled.Fault failed)) _ _ _ (then_same (after (settled.Fault failed)) mark.0 mark.1 (then_note (entry.Unsettled s.name (fault.Call failed)) tt (then_called (Close file) shut y tt d put)))
 
@@ -248,9 +240,6 @@ brought_fair {m = m} l s after (Let_go ms es shut c) has a h along =
 
 -- The settling of one name is fair.
 
-second : {A B : Type 0} (p q : A × B) → p ≡ q → p.1 ≡ q.1
-second p q e = ap (λ (x : _). x.1) e
-
 -- the state in which a device was just judged
 abbrev given_of : {J : Type 0} → Answers J → State J → List ℕ → Judged → Bool → Bool → Target × Cause
 given_of answer w name judged present on = answer w.judge judged (is_none (parent_of name)) present on w.standings
@@ -266,66 +255,41 @@ just_judged answer later w name held judged present on = record w {
   entries = w.entries ++ judged_entry w name held (given_of answer w name judged present on) ∷ [];
 }
 
-new_number : (ss : List Standing) (next number : ℕ) → number ≡ next → ((t : Standing) → Has ss t → t.number < next) → Has (numbers_of ss) number → ⊥
-new_number ss next number e low a =
-    let m = map_has (λ (s : Standing). s.number) ss number a in
-    let below = low m.0 m.1 in
-    let same = m.2 in
-    let none : ⊥ = omega (arith, below, same, e) in none
-
 stand_more : (k : Kernel) (ss : List Standing) (next i : ℕ) (s : Standing) → IsDevice k i s.name s.held s.judged → s.number ≡ next → s.removed ≡ false → (Has (names_of ss) s.name → ⊥) → Stand k ss next → Stand k (with_standing s ss) (next + 1)
-stand_more k ss next i s d number fresh absent stand = record {
-  devices = λ t h. elim (insert_has ss (place_for s.name ss) s t h) [
-    | inl e ↦ subst (λ (v : Standing). (i : ℕ) × IsDevice k i v.name v.held v.judged) e (i, d)
-    | inr a ↦ stand.devices t a
-  ];
-  numbers = λ t h. elim (insert_has ss (place_for s.name ss) s t h) [
-    | inl e ↦ subst (λ (v : Standing). v.number < next + 1) e (omega (arith, number))
-    | inr a ↦ let n = stand.numbers t a in omega (arith, n)
-  ];
-  names = distinct_insert (λ (v : Standing). v.name) ss (place_for s.name ss) s stand.names absent;
-  order = order_with s ss stand.order absent;
-  distinct = distinct_insert (λ (v : Standing). v.number) ss (place_for s.name ss) s stand.distinct (λ a. new_number ss next s.number number stand.numbers a);
-  removed = λ t h r. elim (insert_has ss (place_for s.name ss) s t h) [
-    | inl e ↦ let was : true ≡ false = sym r ∙ ap (λ (v : Standing). v.removed) (sym e) ∙ fresh in absurd (let none : ⊥ = cc in none)
-    | inr a ↦ stand.removed t a r
-  ];
-}
+stand_more k ss next i s d number fresh absent stand =
+    let o = order_new next ss s number absent (record { order = stand.order; distinct = stand.distinct; numbers = stand.numbers }) in
+    record {
+      devices = each_with (λ (v : Standing). (i : ℕ) × IsDevice k i v.name v.held v.judged) s ss (i, d) stand.devices;
+      numbers = o.numbers;
+      names = names_distinct (names_of (with_standing s ss)) o.order;
+      order = o.order;
+      distinct = o.distinct;
+      removed = each_with (λ (v : Standing). v.removed ≡ true → HasRemoval k v.held) s ss (λ r. absurd (true≢false (sym r ∙ fresh))) stand.removed;
+    }
 
 -- a new standing isn't marked as removed
-new_marks : (ss : List Standing) (next : ℕ) (s t : Standing) (e : Entry) → s.number ≡ next → s.removed ≡ false → AllDistinct (numbers_of ss) → ((x : Standing) → Has ss x → x.number < next) → ((number : ℕ) (name : List ℕ) → Has (e ∷ []) (entry.Wrote number name write.Remove wrote.Done) → ⊥) → Has (with_standing s ss) t → IsRemoveMarked ss (e ∷ []) t
-new_marks ss next s t e number fresh distinct low none h = elim (insert_has ss (place_for s.name ss) s t h) [
-  | inl is ↦ subst (λ (v : Standing). IsRemoveMarked ss (e ∷ []) v) is (inr (
-    fresh,
-    λ w. elim w [
+new_marks : (ss : List Standing) (next : ℕ) (s : Standing) (e : Entry) → s.number ≡ next → s.removed ≡ false → AllDistinct (numbers_of ss) → ((x : Standing) → Has ss x → x.number < next) → NoRemoval (e ∷ []) → AreMarked ss (e ∷ []) (with_standing s ss)
+new_marks ss next s e number fresh distinct low none =
+    let unmarked : WasRemoved ss (e ∷ []) s.number → ⊥ = λ w. elim w [
       | inl b ↦
           let below = low b.0 b.1 in
           let same = b.2 in
-          let none : ⊥ = omega (arith, below, same, number) in none
+          omega (arith, below, same, number)
       | inr b ↦ none s.number b.0 b.1
-    ],
-  ))
-  | inr a ↦ keep_one ss (e ∷ []) t (keeps_itself ss t a) distinct (none t.number)
-]
+    ] in
+    each_with (λ (v : Standing). IsRemoveMarked ss (e ∷ []) v) s ss (inr (fresh, unmarked)) (λ t a. keep_one ss (e ∷ []) t (keeps_itself ss t a) distinct (none t.number))
 
 -- a device of the name had no standing, where the name had none
 none_stood : (k : Kernel) (ss : List Standing) (next i : ℕ) (name : List ℕ) (held : Held) (judged : Judged) → IsDevice k i name held judged → (Has (names_of ss) name → ⊥) → Stand k ss next → HasStanding k ss i → ⊥
 none_stood k ss next i name held judged d absent stand h =
     let x = stand.devices h.s h.has in
-    let is : x.0 ≡ i = file_same k h.s.held.0 x.0 i x.1.file h.file in
-    let same : x.1.d ≡ d.d = some_same (slice_get k.devices i) x.1.d d.d (subst (λ (v : ℕ). slice_get k.devices v ≡ Some x.1.d) is x.1.device) d.device in
-    let named : h.s.name ≡ name = sym x.1.named ∙ ap (λ (v : Device). v.name) same ∙ d.named in
+    let own : IsOpen k h.s.name h.s.held.0 = record { i = x.0; d = x.1.d; file = x.1.file; device = x.1.device; named = x.1.named } in
+    let named : h.s.name ≡ name = sym (open_name k h.s.name h.s.held.0 i d.d own d.device h.file) ∙ d.named in
     absent (subst (λ (v : List ℕ). Has (names_of ss) v) named (has_map (λ (v : Standing). v.name) ss h.s h.has))
 
 -- one entry of a verdict
 judged_same : (number n : ℕ) (name m : List ℕ) (held g : Held) (verdict u : Target) (cause d : Cause) → Has (entry.Judged number name held verdict cause ∷ []) (entry.Judged n m g u d) → (number ≡ n) × (name ≡ m) × (held ≡ g) × (verdict ≡ u) × (cause ≡ d)
-judged_same number n name m held g verdict u cause d (inl e) =
-    let same_number : number ≡ n = cc in
-    let same_name : name ≡ m = cc in
-    let same_held : held ≡ g = cc in
-    let same_verdict : verdict ≡ u = cc in
-    let same_cause : cause ≡ d = cc in
-    (same_number, same_name, same_held, same_verdict, same_cause)
+judged_same number n name m held g verdict u cause d (inl e) = ((cc), (cc), (cc), (cc), (cc))
 judged_same number n name m held g verdict u cause d (inr none) = absurd none
 
 -- a device was bound, and is judged
@@ -346,16 +310,13 @@ judged_fair answer later present n m u name held i judged on sound q d probed ab
       stand = stand_more m u.standings u.next i s d refl refl absent there;
       account = subst (λ (v : List Effect). Account answer later present none_before n m u.standings v u.judge u.next (e ∷ []) m.log now.judge now.next) q.log account;
       left = record {
-        told = λ t a. elim (insert_has u.standings (place_for name u.standings) s t a) [
-          | inl is ↦ subst (λ (v : Standing). IsTold u.standings (e ∷ []) v) is (inr (inl refl))
-          | inr old ↦ inl (one_itself u.standings t old)
-        ];
+        told = each_with (λ (v : Standing). IsTold u.standings (e ∷ []) v) s u.standings (inr (inl refl)) (λ t a. inl (one_itself u.standings t a));
         kept = λ t a. inl (one_itself now.standings t (has_old u.standings (place_for name u.standings) s t a));
         judged = λ number m held verdict cause a.
             let x = judged_same u.next number name m file held given.0 verdict given.1 cause a in
             inl (s, has_new u.standings (place_for name u.standings) s, x.0, x.1, x.2, x.3, x.4);
         ended = λ t other a g. elim g [ inl is ↦ let none : ⊥ = cc in none | inr none ↦ none ];
-        removed = λ t a. new_marks u.standings u.next s t e refl refl stand.distinct stand.numbers (λ number m h. elim h [ inl is ↦ let none : ⊥ = cc in none | inr none ↦ none ]) a;
+        removed = new_marks u.standings u.next s e refl refl stand.distinct stand.numbers (λ number m h. elim h [ inl is ↦ let none : ⊥ = cc in none | inr none ↦ none ]);
       };
       gone = tt;
       once = λ j a b x y. sym (judged_same u.next a name x.name file x.held given.0 x.verdict given.1 x.cause x.has).0 ∙ (judged_same u.next b name y.name file y.held given.0 y.verdict given.1 y.cause y.has).0;
@@ -365,69 +326,6 @@ judged_fair answer later present n m u name held i judged on sound q d probed ab
           none_stood m u.standings u.next i name file judged d absent there (subst (λ (v : ℕ). HasStanding m u.standings v) (sym is) h);
     } in
     record { stood = stand; fair = fair }
-
--- it is there, and nothing else changed
-new_same : (ss : List Standing) (next : ℕ) (s : Standing) → s.number ≡ next
-    → (Has (names_of ss) s.name → ⊥) → AllDistinct (names_of ss) → AreInOrder (names_of ss)
-    → AllDistinct (numbers_of ss) → ((t : Standing) → Has ss t → t.number < next)
-    → AreSame (with_standing s ss) (with_standing s ss)
-new_same ss next s number absent names order distinct numbers = record {
-  there = one_itself (with_standing s ss);
-  kept = one_itself (with_standing s ss);
-  names = distinct_insert (λ (v : Standing). v.name) ss (place_for s.name ss) s names absent;
-  order = order_with s ss order absent;
-  distinct = distinct_insert (λ (v : Standing). v.number) ss (place_for s.name ss) s distinct (λ a. new_number ss next s.number number numbers a);
-}
-
--- it is kept, settled or not, or dropped
-kept_after : (k : Kernel) (ss : List Standing) (next : ℕ) (s : Standing) (how : Settled) → s.number ≡ next → (Has (names_of ss) s.name → ⊥) → Stand k ss next → After s (with_standing s ss) how (kept_standings ss s how)
-kept_after k ss next s settled.Nobody number absent stand = record {
-  there = λ t a. one_itself (with_standing s ss) t (has_old ss (place_for s.name ss) s t a);
-  kept = λ t a. elim (insert_has ss (place_for s.name ss) s t a) [
-    | inl e ↦ inr (ap (λ (v : Standing). v.number) (sym e), ap (λ (v : Standing). v.name) (sym e))
-    | inr old ↦ inl (one_itself ss t old)
-  ];
-  apart = λ t a e. let n = stand.numbers t a in let none : ⊥ = omega (arith, n, e, number) in none;
-  marks = λ t a. keeps_itself (with_standing s ss) t (has_old ss (place_for s.name ss) s t a);
-  names = stand.names;
-  order = stand.order;
-  distinct = stand.distinct;
-}
-kept_after k ss next s settled.Stands number absent stand =
-    let new : Standing = settled_standing s in
-    let same : AreSame (with_standing s ss) (with_standing new ss) = record {
-      there = λ t a. elim (insert_has ss (place_for s.name ss) new t a) [
-        | inl e ↦ subst (λ (v : Standing). IsOne (with_standing s ss) v) e (s, has_new ss (place_for s.name ss) s, refl, refl, refl, refl, refl, refl)
-        | inr old ↦ one_itself (with_standing s ss) t (has_old ss (place_for s.name ss) s t old)
-      ];
-      kept = λ t a. elim (insert_has ss (place_for s.name ss) s t a) [
-        | inl e ↦ subst (λ (v : Standing). IsOne (with_standing new ss) v) e (new, has_new ss (place_for s.name ss) new, refl, refl, refl, refl, refl, refl)
-        | inr old ↦ one_itself (with_standing new ss) t (has_old ss (place_for s.name ss) new t old)
-      ];
-      names = distinct_insert (λ (v : Standing). v.name) ss (place_for s.name ss) new stand.names absent;
-      order = order_with new ss stand.order absent;
-      distinct = distinct_insert (λ (v : Standing). v.number) ss (place_for s.name ss) new stand.distinct (λ a. new_number ss next s.number number stand.numbers a);
-    } in
-    let whole : List Standing = with_standing s ss in
-    let own : Keeps whole new ⊎ ((new.number ≡ s.number) × (new.held ≡ s.held) × (new.removed ≡ true) × (is_reject s.verdict ≡ true)) = elim (or_by s.removed (is_reject s.verdict)) [
-      | inl h ↦ inl (s, has_new ss (place_for s.name ss) s, refl, refl, sym h)
-      | inr h ↦ inr (refl, refl, h.0, h.1)
-    ] in
-    let marks : Marks s whole (with_standing new ss) = record {
-      each = λ t a. elim (insert_has ss (place_for s.name ss) new t a) [
-        | inl e ↦ subst (λ (v : Standing). Keeps whole v ⊎ ((v.number ≡ s.number) × (v.held ≡ s.held) × (v.removed ≡ true) × (is_reject s.verdict ≡ true))) e own
-        | inr old ↦ inl (keeps_itself whole t (has_old ss (place_for s.name ss) s t old))
-      ];
-      own = λ t a e r. elim (insert_has ss (place_for s.name ss) new t a) [
-        | inl is ↦ subst (λ (v : Standing). v.removed ≡ true) is
-            (ap (λ (b : Bool). s.removed || b) r ∙ or_right s.removed true refl)
-        | inr old ↦
-            let n = stand.numbers t old in
-            let none : ⊥ = omega (arith, n, e, number) in absurd none
-      ];
-    } in
-    (same, marks)
-kept_after k ss next s how number absent stand = (new_same ss next s number absent stand.names stand.order stand.distinct stand.numbers, keeps_itself (with_standing s ss))
 
 bound_device : (name : List ℕ) (k l : Kernel) (b : Bound) (x : IsBound name k l b) → IsDevice l x.i name b.held (judged_of name b.attrs b.parent)
 bound_device name k l b x =
@@ -475,15 +373,13 @@ then_failed {m = m} {u = u} name known failed at h =
 -- before a binding, the name has no standing left
 record OpensFair {J : Type 0} (answer : Answers J) (later : Laters J) (present : Bool) (tried : Tries) (k : Kernel) (w : State J) (l : Kernel) (v : State J) (name : List ℕ) (binds : Bool) : Type 0 where
   fair : FairFrom answer later present tried k w l v
-  absent : Has (names_of v.standings) name → ⊥
   so : binds ≡ true → AreIn tried name w v
 
 opening_fair : {J : Type 0} {answer : Answers J} {later : Laters J} {present : Bool} {tried : Tries} {binds : Bool} {k m : Kernel} {w u : State J} {name : List ℕ} {ms : List Made} {es : List Entry} {rs : List Standing} (l : Kernel) → Opening name u.standings ms es rs → (binds ≡ true → AreIn tried name w u) → FairFrom answer later present tried k w m u → Along calls m ms l → OpensFair answer later present tried k w l (record u { standings = rs; entries = u.entries ++ es }) name binds
 opening_fair {J} {answer} {later} {present} {tried} {binds} {k} {m} {w} {u} {name} l (Fresh e) so h a =
-    subst (λ (v : List Entry). OpensFair answer later present tried k w l (record u { entries = v }) name binds) (sym (append-nil u.entries)) (record { fair = fair_end l u refl a h; absent = missing name u.standings e; so = so })
+    subst (λ (v : List Entry). OpensFair answer later present tried k w l (record u { entries = v }) name binds) (sym (append-nil u.entries)) (record { fair = fair_end l u refl a h; so = so })
 opening_fair {tried = tried} {w = w} {u = u} {name = name} l (Lost known failed shut e) so h a = record {
   fair = fair_end l _ refl a.2.2 (then_called (Close known.held.0) shut a.2.0 tt a.2.1 (then_dropped name known e a.1.says (then_called (Ask_alive known.held.0) (told_at probe.Gone failed) a.0 tt a.1 h)));
-  absent = missing_without name u.standings;
   so = λ b. dropped_in tried w u name known.number h.fair.rest h.fair.entries (so b);
 }
 
@@ -497,13 +393,10 @@ unbound_fair {J} {answer} {later} {present} {tried} {k} {l} {w} {name} {r} {fs} 
     v : State J
     v = record u { standings = rs; entries = u.entries ++ es }
 
-    same : FairFrom answer later present tried k w l v → FairFrom answer later present tried k w l (record v { entries = v.entries ++ [] })
-    same h = subst (λ (x : List Entry). FairFrom answer later present tried k w l (record v { entries = x })) (sym (append-nil v.entries)) h
-
     by : {r : Binding} {fs : List Entry} {how : Settled} → Unbound_end name r fs how → FairFrom answer later present tried k w l v → FairFrom answer later present tried k w l (record v { entries = v.entries ++ fs })
     by (Failed_so failed) h = then_note (entry.Unsettled name (fault.Call failed)) tt h
     by Short_so h = then_note (entry.Unsettled name fault.Memory) tt h
-    by x h = same h
+    by x h = none_more v h
 
 -- a binding leads to what it says
 binds_fair : {J : Type 0} {answer : Answers J} {later : Laters J} {present : Bool} {tried : Tries} {k n : Kernel} {w u : State J} (m : Kernel) (name : List ℕ) (ns : List Made) (r : Binding) → Way (binding name (parent_of name)) ns r → FairFrom answer later present tried k w n u → Along calls n ns m → IsKernel m × Quiet n m × BindSays name n m r × FairFrom answer later present tried k w m u
@@ -534,14 +427,14 @@ flat_fair {J} {answer} {later} {present} {tried} {k = k} {m = m} {w = w} {u = u}
     let n = far.0 in
     let y = binds_fair n name ns (bound.Bound b) way o.fair far.1 in
     let judged : Judged = judged_of name b.attrs b.parent in
-    let first = bound_fair n name b y.0 y.1 y.2 o.absent (o.so t) o.fair in
+    let first = bound_fair n name b y.0 y.1 y.2 (opening_absent opening) (o.so t) o.fair in
     let now = just_judged answer later v name b.held.0 judged present b.on in
     let s = new_standing answer v name b.held.0 judged present b.on in
     let e = judged_entry v name b.held.0 (given_of answer v name judged present b.on) in
-    let E : Standing → State J = λ z. ended_as later present name u (Some (rs, b)) (kept_standings rs z how) (es ++ entry.Judged z.number name z.held z.verdict z.cause ∷ fs) in
+    let E : Standing → State J = λ z. ended_as later present name u (Some (rs, b)) (tried_standings (with_standing z rs) name how) (es ++ entry.Judged z.number name z.held z.verdict z.cause ∷ fs) in
     let T : Standing → Type 0 = λ z. Brought name (known_of z) b.on os fs how → FairFrom answer later present tried k w l (E z) in
-    let own : T s = λ br. subst (λ (q : List Entry). FairFrom answer later present tried k w l (record now { standings = kept_standings rs s how; entries = q })) (append_assoc v.entries (e ∷ []) fs ∙ append_assoc u.entries es (e ∷ fs))
-    (brought_fair l s (kept_standings rs s) br (has_new rs (place_for name rs) s) (λ how. kept_after n rs v.next s how refl o.absent y.3.fair.stand) first far.2) in
+    let own : T s = λ br. subst (λ (q : List Entry). FairFrom answer later present tried k w l (record now { standings = tried_standings (with_standing s rs) name how; entries = q })) (append_assoc v.entries (e ∷ []) fs ∙ append_assoc u.entries es (e ∷ fs))
+    (known_brought l name (known_of s) b.on (with_own name s rs refl (opening_none opening)) first br far.2) in
     (subst T (sym (is rs b x given)) own) brought
 
 state_is : {J : Type 0} (v : State J) (next : ℕ) (listed : Bool) (judge : J) (es : List Entry) → v.next ≡ next → v.listed ≡ listed → v.judge ≡ judge → v.entries ≡ es → let made : State J = record { standings = v.standings; next = next; listed = listed; judge = judge; entries = es } in v ≡ made
@@ -592,10 +485,9 @@ farewell_has : (names : List (List ℕ)) (ss : List Standing) (e : Entry) → Ha
 farewell_has names [] e a = absurd a
 farewell_has names (s ∷ ss) e a =
     let more : Has (farewells names ss) e → (t : Standing) × Has (s ∷ ss) t × (lists names t.name ≡ false) × (entry.Gone t.number t.name ≡ e) = λ b. let t = farewell_has names ss e b in (t.0, inr t.1, t.2, t.3) in
-    (elim (lists names s.name) as (λ (b : Bool). lists names s.name ≡ b → Has (cond b (farewells names ss) (entry.Gone s.number s.name ∷ farewells names ss)) e → (t : Standing) × Has (s ∷ ss) t × (lists names t.name ≡ false) × (entry.Gone t.number t.name ≡ e)) [
-      | true ↦ λ q h. more h
-      | false ↦ λ q h. elim h [ inl is ↦ (s, inl refl, q, is) | inr b ↦ more b ]
-    ]) refl a
+    cond_both (lists names s.name) (farewells names ss) (entry.Gone s.number s.name ∷ farewells names ss)
+    (λ (l : List Entry). Has l e → (t : Standing) × Has (s ∷ ss) t × (lists names t.name ≡ false) × (entry.Gone t.number t.name ≡ e))
+    (λ q h. more h) (λ q h. elim h [ inl is ↦ (s, inl refl, q, is) | inr b ↦ more b ]) a
 
 has_farewell : (names : List (List ℕ)) (ss : List Standing) (t : Standing) → Has ss t → lists names t.name ≡ false → Has (farewells names ss) (entry.Gone t.number t.name)
 has_farewell names [] t a f = absurd a
@@ -635,12 +527,10 @@ farewell_account {J} answer later present tried m names before log judge next (s
     let rec : (fs : List Entry) → A fs → A (fs ++ farewells names ss) = λ fs b. farewell_account answer later present tried m names before log judge next ss fs stand gone (λ t h. sub t (inr h)) b in
     let has = sub s (inl refl) in
     let d = stand.devices s has in
-    (elim (lists names s.name) as (λ (b : Bool). lists names s.name ≡ b → A (es ++ cond b (farewells names ss) (e ∷ farewells names ss))) [
-      | true ↦ λ q. rec es a
-      | false ↦ λ q. subst (λ (v : List Entry). A v) (append_assoc es (e ∷ []) (farewells names ss))
-          (rec (es ++ e ∷ []) (WentAway es log judge next d.0 s.number s.name s.held s.judged
-          s.verdict d.1 (gone s d.0 has d.1 q) (inl (s, has, refl, refl, refl, refl)) a))
-    ]) refl
+    cond_both (lists names s.name) (farewells names ss) (e ∷ farewells names ss) (λ (l : List Entry). A (es ++ l)) (λ q. rec es a)
+    (λ q. subst (λ (v : List Entry). A v) (append_assoc es (e ∷ []) (farewells names ss))
+    (rec (es ++ e ∷ []) (WentAway es log judge next d.0 s.number s.name s.held s.judged s.verdict d.1
+    (gone s d.0 has d.1 q) (inl (s, has, refl, refl, refl, refl)) a)))
 
 parted_fair : {J : Type 0} (answer : Answers J) (later : Laters J) (present : Bool) (tried : Tries) (m : Kernel) (u : State J) (names : List (List ℕ)) → IsKernel m → Stand m u.standings u.next → AreGone m names u.standings → StepFrom answer later present tried m u m (parted names u)
 parted_fair answer later present tried m u names sound stand gone =
@@ -658,11 +548,10 @@ parted_fair answer later present tried m u names sound stand gone =
       account = farewell_account answer later present tried m names ss m.log u.judge u.next ss [] stand gone (λ s a. a) Start;
       left = record {
         told = λ s a. inl (there s a);
-        kept = λ s a.
-            (elim (lists names s.name) as (λ (b : Bool). lists names s.name ≡ b → IsOne rs s ⊎ Has (farewells names ss) (entry.Gone s.number s.name)) [
-              | true ↦ λ q. inl (one_itself rs s (has_filter listed ss s a q))
-              | false ↦ λ q. inr (has_farewell names ss s a q)
-            ]) refl;
+        kept = λ s a. elim (cases_Bool (lists names s.name)) [
+          | inl q ↦ inl (one_itself rs s (has_filter listed ss s a q))
+          | inr q ↦ inr (has_farewell names ss s a q)
+        ];
         judged = λ number name held verdict cause a. absurd (none number name held verdict cause a);
         ended = λ s name a g.
             let t = farewell_has names ss (entry.Gone s.number name) g in
@@ -679,9 +568,6 @@ parted_fair answer later present tried m u names sound stand gone =
       unjudged = λ i a h p. none a p.name p.held p.verdict p.cause p.has;
     } in
     record { step = record { stood = stand; fair = fair }; none = none }
-
-then_parted : {J : Type 0} {answer : Answers J} {later : Laters J} {present : Bool} {tried : Tries} {k m : Kernel} {w u : State J} (names : List (List ℕ)) → AreGone m names u.standings → FairFrom answer later present tried k w m u → FairFrom answer later present tried k w m (parted names u)
-then_parted {J} {answer} {later} {present} {tried} {k} {m} {w} {u} names gone h = fair_trans h (parted_fair answer later present tried m u names h.fair.sound h.fair.stand gone)
 
 -- what isn't listed is gone
 
@@ -716,9 +602,10 @@ goes_fair {answer = answer} {later = later} {k = k} {l = l} {w = w} sound stand
     stand in
     let q = closings_quiet (unlisted_files names w.standings) shut m cut.0 b.1.sound closings cut.1
     in
-    let h = then_parted names gone
-    (then_called Names a m tt b.1
-    (fair_refl answer later (not w.listed) swept_before k w sound stand)) in
+    let f = then_called Names a m tt b.1 (fair_refl answer later (not w.listed) swept_before k w sound stand)
+    in
+    let h = fair_trans f
+    (parted_fair answer later (not w.listed) swept_before m w names f.fair.sound f.fair.stand gone) in
     chain_fair l (λ e. (
       order_distinct found b.1.says.1,
       sweep_in_order found b.1.says.1,

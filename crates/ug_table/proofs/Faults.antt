@@ -1,19 +1,18 @@
 -- A run of a sweep goes along its parts, and tells each failed call.
-use Rattle.std.proofs.Common.{◌≡◌, ℕ, ◌+◌, ◌≤◌, length, Option, Some, None, arith, Bool, true, false, cond, List, [], ◌∷◌, ◌++◌, inl, inr, refl, sym, ◌∙◌, ap, subst}
+use Rattle.std.proofs.Common.{◌≡◌, ℕ, ◌+◌, ◌≤◌, length, Option, Some, None, arith, Bool, true, false, List, [], ◌∷◌, ◌++◌, inl, inr, refl, sym, ◌∙◌, ap, subst}
 use Rattle.std.specs.List.{filter}
 use Rattle.std.proofs.lemmas.List.{length-append}
 use Rattle.ug_types.proofs.Sorting.{length-sweep_order}
-use Rattle.ug_table.proofs.Common.{Bound, in_sweep_order, FailedCall, Listing, Call, Names, Told, Answer, Runs, Made, answered, Along, failure, failures, Rises, Entry, Fault, State, Answers, Laters, lists, farewells, told_by, failures_told, numbers_given, InParts, unlisted_files, AfterListing, GoesInParts, TellsFaults, Standing}
+use Rattle.ug_table.proofs.Common.{Bound, in_sweep_order, FailedCall, Listing, Call, Names, Answer, Runs, Made, answered, Along, failure, failures, Rises, Entry, Fault, State, Answers, Laters, lists, farewells, told_by, failures_told, numbers_given, InParts, unlisted_files, AfterListing, GoesInParts, TellsFaults, Standing}
 use Rattle.ug_kernel.specs.declared.calls.Listing.TheVariants as listing
 use Rattle.ug_kernel.proofs.Ways.{failures_more}
 use Rattle.ug_kernel.proofs.Rises.{Counting, along_numbered, along_rises}
 use Rattle.ug_audit.specs.declared.entry.Entry.TheVariants as entry
-use Rattle.ug_audit.specs.declared.entry.Fault.TheVariants as fault
 use Rattle.ug_table.specs.Sweep.{names_of, sweeping}
 use Rattle.ug_table.proofs.Shapes.{told_at, next_after}
 use Rattle.ug_table.proofs.OnePart.{told_more, given_count, given_more, flat_given, flat_none, flat_is_part}
 use Rattle.ug_table.proofs.Standings.{farewells_by}
-use Rattle.ug_table.proofs.Chains.{closings_calm, Chain, Over, First, Without, List_failed, List_short, No_room, Goes, Listed, Unlisted, goes_entries, sweeping_run}
+use Rattle.ug_table.proofs.Chains.{closings_calm, Chain, Over, First, Without, List_failed, No_room, Goes, Listed, Unlisted, goes_entries, sweeping_run}
 
 chain_parts : {J : Type 0} {answer : Answers J} {later : Laters J} {binds present : Bool}
     {names : List (List ℕ)} {w v : State J} {ok : Bool} {ms : List Made} {es : List Entry}
@@ -131,12 +130,6 @@ chain_tells (First name names how w x v ok more ms ns es p c) =
     ∙ ap (λ (y : List FailedCall). failures ms ++ y) (chain_tells c)
     ∙ sym (failures_more ms ns)
 
--- `gone` tells no failure
-farewells_tell_none : (names : List (List ℕ)) (ss : List Standing)
-    → failures_told (farewells names ss) ≡ []
-farewells_tell_none names ss =
-    farewells_by (λ es. failures_told es ≡ []) refl (λ number name es h. h) names ss
-
 why_told : {list : Listing} {failed : FailedCall} {room : Bool} {why : Fault}
     → Without list failed room why → told_by why ≡ failure Names (told_at list failed)
 why_told (List_failed failed) = refl
@@ -148,7 +141,8 @@ pub goes_tells : {J : Type 0} {answer : Answers J} {later : Laters J} {w v : Sta
 goes_tells {w = w} (Listed found failed ok shut made es v closings c) =
     let names = in_sweep_order found in
     told_more (farewells names w.standings) es
-    ∙ ap (λ (y : List FailedCall). y ++ failures_told es) (farewells_tell_none names w.standings)
+    ∙ ap (λ (y : List FailedCall). y ++ failures_told es) (farewells_by (λ fs. failures_told fs ≡ []) refl
+    (λ number name fs h. h) names w.standings)
     ∙ chain_tells c
     ∙ sym (failures_more shut made
     ∙ ap (λ (y : List FailedCall). y ++ failures made)

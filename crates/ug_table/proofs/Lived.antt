@@ -1,12 +1,12 @@
 -- What settling names leaves of devices: each one that lived through is as judged, or is told.
-use Rattle.std.proofs.Common.{◌≡◌, ℕ, Bool, List, [], ◌∷◌, ◌++◌, Option, Some, refl, sym, ◌∙◌, ap, subst, append_assoc, append-nil, slice_get, false, ◌⊎◌, inl, inr, true, None}
-use Rattle.ug_table.proofs.Common.{Has, parent_of, Ask_alive, Put, Close, Closing, Told, Names, Authorized, Remove, Kernel, IsKernel, Quiet, Grows, Made, answered, Along, Runs, calls, RemoveHold, Bound, Binding, Entry, State, Answers, Laters, standing_of, without, same_name, lists, farewells, Standing, Known, Settled, Held, Target, Wrote, Device, Control, IsGoneAt, Called, Lived, IsNamed, HasStanding, Stand, IsAsJudged, IsSettled, FailedCall, in_sweep_order, Listing, Fault, unlisted_files}
+use Rattle.std.proofs.Common.{◌≡◌, ℕ, Bool, List, [], ◌∷◌, ◌++◌, Option, Some, refl, sym, ◌∙◌, ap, subst, append_assoc, append-nil, slice_get, false, ◌⊎◌, inl, inr, true, None, true≢false}
+use Rattle.ug_table.proofs.Common.{Has, parent_of, Ask_alive, Put, Close, Closing, Told, Names, Authorized, Remove, Kernel, IsKernel, Quiet, Grows, Made, answered, Along, Runs, calls, RemoveHold, Bound, Binding, Entry, State, Answers, Laters, standing_of, without, with_standing, place_for, same_name, lists, farewells, Standing, Known, Settled, Held, Target, Wrote, Device, Control, IsGoneAt, Called, Lived, IsNamed, HasStanding, Stand, IsAsJudged, IsSettled, FailedCall, in_sweep_order, Fault, unlisted_files}
 use Rattle.ug_kernel.specs.declared.calls.Probe.TheVariants as probe
 use Rattle.ug_types.specs.declared.control.Write.TheVariants as write
 use Rattle.ug_kernel.proofs.Grow.{quiet_grows, called_grows, some_same, grows_refl, grows_trans}
 use Rattle.ug_kernel.proofs.Quiet.{called_quiet, quiet_refl, quiet_trans}
 use Rattle.ug_kernel.proofs.Ways.{Way, way_runs, along_split, along_sound, along_grows}
-use Rattle.ug_table.proofs.Shapes.{Piece, Valued, Same, Set, Removal, Not_held, Put_on, Carried, By_value, And_removal, Brought, Left_open, Let_go, Opening, Fresh, Lost, Flat, Unprobed, Tried, Stopped, Unbound, No_place, Judged_so, told_at, Written, Done, Went, Broke, Unheld, Gone_by, Failed_by, Short_by, Unbound_end, Absent_so, Vanished_so, Failed_so, Short_so}
+use Rattle.ug_table.proofs.Shapes.{Piece, Valued, Same, Set, Removal, Not_held, Put_on, Carried, By_value, And_removal, Brought, Left_open, Let_go, Opening, Fresh, Lost, Flat, Unprobed, Tried, Stopped, Unbound, No_place, Judged_so, told_at, Written, Done, Went, Broke, Unheld, Gone_by, Failed_by, Short_by, Unbound_end, Failed_so, Short_so, opening_absent, opening_less}
 use Rattle.ug_node.specs.Removal.{holding_remove, RemoveSays}
 use Rattle.ug_node.specs.declared.removal.RemoveHold.TheVariants as hold
 use Rattle.ug_node.proofs.Laws.{holding_law, binding_law}
@@ -15,14 +15,14 @@ use Rattle.ug_node.specs.Bound.{BindSays}
 use Rattle.ug_node.specs.declared.identity.Binding.TheVariants as bound
 use Rattle.ug_table.specs.Bring.{write_of, wants, is_reject}
 use Rattle.ug_table.specs.declared.standing.Settled.TheVariants as settled
-use Rattle.ug_table.proofs.Standings.{Others, others_refl, others_trans, others_quiet, others_put, IsOpen, open_later, IsFileOf, file_later, LiveAs, lives_between, lived, live_same, gone_no, Value, quiet_value, done_value, alive_open, IsHeldAs, removal_value, file_same, open_named, found, same_is, is_same, missing, Files, files_later, kept_has, kept_files, tried_has, tried_files, kept_new, tried_new, IsRemovedIf, Was, tried_was}
+use Rattle.ug_table.proofs.Standings.{Others, others_refl, others_trans, others_quiet, others_put, IsOpen, open_name, open_later, IsFileOf, file_later, LiveAs, lives_between, lived, live_same, gone_no, Value, quiet_value, done_value, alive_open, IsHeldAs, removal_value, file_same, open_named, found, same_is, is_same, missing, Files, files_later, with_files, tried_has, tried_files, tried_new, IsRemovedIf, Was, tried_was}
 use Rattle.ug_kernel.specs.declared.calls.Wrote.TheVariants as wrote
 use Rattle.ug_kernel.proofs.Held.{live_before}
 use Rattle.ug_audit.specs.declared.entry.Entry.TheVariants as entry
 use Rattle.ug_audit.specs.declared.entry.Fault.TheVariants as fault
-use Rattle.ug_table.specs.Settle.{kept_standings, tried_standings}
-use Rattle.ug_types.proofs.Elements.{has_right, has_left, cancel, filter_has, has_map}
-use Rattle.ug_table.proofs.Marks.{known_has, opens}
+use Rattle.ug_table.specs.Settle.{tried_standings}
+use Rattle.ug_types.proofs.Elements.{has_right, has_left, has_new, has_old, cancel, filter_has, has_map}
+use Rattle.ug_table.proofs.Marks.{known_has}
 use Rattle.ug_table.specs.Sweep.{names_of, parted, sweeping}
 use Rattle.ug_types.proofs.Sorting.{to_sweep_order}
 use Rattle.ug_kernel.specs.declared.calls.Listing.TheVariants as listing
@@ -42,11 +42,8 @@ appends_trans es fs gs a b = (a.0 ++ b.0, b.1 ∙ ap (λ v. v ++ b.0) a.1 ∙ ap
 
 -- the writes
 
-apart_end : (name : List ℕ) (k l : Kernel) → l ≡ k → Others name k l
-apart_end name k l e = subst (λ v. Others name k v) (sym e) (others_refl name k)
-
 valued_apart : {name : List ℕ} {known : Known} {on : Bool} {ms : List Made} {es : List Entry} {how : Settled} (k l : Kernel) → Valued name known on ms es how → IsOpen k name known.held.0 → Along calls k ms l → Others name k l
-valued_apart {name} k l (Same e) o a = apart_end name k l a
+valued_apart {name} k l (Same e) o a = subst (λ v. Others name k v) (sym a) (others_refl name k)
 valued_apart {name} {known} k l (Set t es how e w) o a = subst (λ v. Others name k v) (sym a.2) (others_put name known.held.0 known.held.0 Authorized (write_of known.verdict) t k a.0 o o.file a.1)
 
 -- the removal
@@ -155,9 +152,9 @@ flat_apart {name = name} k l xs ys e sound f (Judged_so ms ns os es fs rs b x ho
     let g = along_grows os m l cut.2 in
     record {
       others = others_trans name k m l (quiet_grows k m o.quiet) (others_quiet name k m o.quiet) (brought_apart m l brought o.sound opened_now cut.2);
-      rest = λ s y ne. kept_has rs x how s (o.rest s y ne);
+      rest = λ s y ne. tried_has (with_standing x rs) name how s (has_old rs (place_for x.name rs) x s (o.rest s y ne)) ne;
       entries = (_, e);
-      files = kept_files l rs x how (files_later m l rs g o.files) (subst (λ v. IsOpen l v x.held.0) (sym new.named) (open_later m l name x.held.0 g opened_now));
+      files = tried_files l (with_standing x rs) name how (with_files l rs x (files_later m l rs g o.files) (subst (λ v. IsOpen l v x.held.0) (sym new.named) (open_later m l name x.held.0 g opened_now)));
     }
 
 pub piece_apart : {J : Type 0} {answer : Answers J} {later : Laters J} {binds present : Bool}
@@ -173,9 +170,6 @@ piece_apart {k = k} {l = l} {w = w} {v = v} sound f p a =
 abbrev pub NamedSince : List Entry → List Entry → List ℕ → Type 0
 NamedSince es fs name = (rest : List Entry) × (fs ≡ es ++ rest) × IsNamed rest name
 
-named_before : (es fs gs : List Entry) (name : List ℕ) → Appends es fs → NamedSince fs gs name → NamedSince es gs name
-named_before es fs gs name a h = (a.0 ++ h.0, h.1 ∙ ap (λ v. v ++ h.0) a.1 ∙ append_assoc es a.0 h.0, (h.2.0, has_right a.0 h.0 (entry.Unsettled name h.2.0) h.2.1))
-
 -- the device has a standing and the value that its verdict wants, and where it is rejected it is marked as removed
 pub record StandsSo (k : Kernel) (ss : List Standing) (i : ℕ) : Type 0 where
   pub standing : HasStanding k ss i
@@ -190,7 +184,7 @@ Good es l ss fs i name = StandsSo l ss i ⊎ NamedSince es fs name
 
 pub good_before : (es fs gs : List Entry) (l : Kernel) (ss : List Standing) (i : ℕ) (name : List ℕ) → Appends es fs → Good fs l ss gs i name → Good es l ss gs i name
 good_before es fs gs l ss i name a (inl h) = inl h
-good_before es fs gs l ss i name a (inr h) = inr (named_before es fs gs name a h)
+good_before es fs gs l ss i name a (inr h) = inr (a.0 ++ h.0, h.1 ∙ ap (λ v. v ++ h.0) a.1 ∙ append_assoc es a.0 h.0, (h.2.0, has_right a.0 h.0 (entry.Unsettled name h.2.0) h.2.1))
 
 -- a standing whose device has the value that its verdict wants
 pub as_judged : (l : Kernel) (ss : List Standing) (i : ℕ) (held : Held) (verdict : Target) (s : Standing) → Has ss s → s.held ≡ held → s.verdict ≡ verdict → IsFileOf l held.0 i → Value l i (wants verdict) → IsRemovedIf s → StandsSo l ss i
@@ -214,12 +208,6 @@ open_of k l i held on name g live file v =
     let x = g.devices i v.0 v.1 in
     let same : x.0 ≡ live.d = some_same (slice_get l.devices i) x.0 live.d x.1 live.live.at in
     record { i = i; d = v.0; file = file; device = v.1; named = sym x.2.name ∙ ap (λ (d : Device). d.name) same ∙ live.named }
-
--- and its device's name
-open_name : (k : Kernel) (name : List ℕ) (held i : ℕ) (d : Device) (o : IsOpen k name held) → slice_get k.devices i ≡ Some d → IsFileOf k held i → d.name ≡ name
-open_name k name held i d o at file =
-    let is : o.i ≡ i = file_same k held o.i i o.file file in
-    ap (λ (x : Device). x.name) (some_same (slice_get k.devices i) d o.d at (subst (λ (j : ℕ). slice_get k.devices j ≡ Some o.d) is o.device)) ∙ o.named
 
 -- it stands with that value, or the name is told
 abbrev Ends : List Entry → Kernel → Settled → ℕ → List ℕ → Bool → Type 0
@@ -330,7 +318,7 @@ flat_own {name = name} {ss = ss} i k l sound f first live (Tried known on failed
       | inl h ↦ let t = tried_new ss name how s.s h.0 s.named s.has in inl (as_judged l (tried_standings ss name how) i known.held known.verdict t.0 t.1 (t.2 ∙ ap (λ (v : Known). v.held) s.known) (t.3 ∙ ap (λ (v : Known). v.verdict) s.known) (file_later a.0 l known.held.0 i (along_grows ms a.0 l a.2) x.0) h.1 t.4)
       | inr n ↦ inr n
     ])
-flat_own i k l sound f first live (Stopped ms es rs b opening) a = inr (b, (opens opening).absent)
+flat_own i k l sound f first live (Stopped ms es rs b opening) a = inr (b, opening_absent opening)
 flat_own {name = name} i k l sound f first live (Unbound ms ns es fs rs r how t opening way end) a =
     let h = opening_bind k l ns r opening way sound f a in
     let cut = along_split calls ms ns k l a in
@@ -350,7 +338,7 @@ flat_own {name = name} i k l sound f first live (Judged_so ms ns os es fs rs b x
     let is : says.i ≡ i = sym (says.only i start.d (lived n m i name start mid) start.named) in
     let file : IsFileOf m x.held.0 i = subst (λ (v : Held). IsFileOf m v.0 i) (sym new.held) (subst (λ j. IsFileOf m b.held.0 j) is says.file) in
     inl (elim (brought_own i m l brought h.0.sound live file (subst (λ j. Value m j b.on) is (says.d, says.device, says.value)) cut.2) [
-      | inl y ↦ let u = kept_new rs x how y.0 in inl (as_judged l (kept_standings rs x how) i x.held x.verdict u.0 u.1 u.2 u.3 (file_later m l x.held.0 i g file) y.1 u.4)
+      | inl y ↦ let u = tried_new (with_standing x rs) name how x y.0 new.named (has_new rs (place_for x.name rs) x) in inl (as_judged l (tried_standings (with_standing x rs) name how) i x.held x.verdict u.0 u.1 u.2 u.3 (file_later m l x.held.0 i g file) y.1 u.4)
       | inr y ↦ inr (named_later es (entry.Judged x.number name x.held x.verdict x.cause ∷ fs) name (y.0, inr y.1))
     ])
 
@@ -406,7 +394,7 @@ piece_well {name = name} {l = l} {v = v} i sound f first live p a =
 flat_was : {binds : Bool} {given : List Standing → Bound → Standing → Type 0} {name : List ℕ} {ss : List Standing} {ok : Bool} {ms : List Made} {rest : List Entry} {how : Settled} {rs : List Standing} {o : Option (List Standing × Bound)} → binds ≡ false → Flat binds given name ss ok ms rest how rs o → (s : Standing) → Has rs s → Was ss s
 flat_was {name = name} {ss = ss} f (Unprobed known failed at) s a = tried_was ss name (settled.Fault failed) s a
 flat_was {name = name} {ss = ss} f (Tried known on failed ms es how at b) s a = tried_was ss name how s a
-flat_was f (Stopped ms es rs g opening) s a = (s, (opens opening).less s a, refl, refl)
+flat_was f (Stopped ms es rs g opening) s a = (s, opening_less opening s a, refl, refl)
 flat_was f (Unbound ms ns es fs rs r how t opening way end) s a = let none : ⊥ = cc in absurd none
 flat_was f (No_place ms ns es rs b shut t opening way) s a = let none : ⊥ = cc in absurd none
 flat_was f (Judged_so ms ns os es fs rs b x how t opening way given new brought) s a = let none : ⊥ = cc in absurd none
@@ -491,14 +479,6 @@ begins name i es k ss (Some known) e f live = inl (known_has name ss known e)
 
 -- the whole sweep
 
-parted_files : {J : Type 0} (k : Kernel) (names : List (List ℕ)) (w : State J) → Files k w.standings → Files k (parted names w).standings
-parted_files k names w f s a = f s (filter_has (λ (v : Standing). lists names v.name) w.standings s a).0
-
--- where names are bound, the device is as judged or told
-well_good : (es : List Entry) (l : Kernel) (ss : List Standing) (fs : List Entry) (i : ℕ) (name : List ℕ) → Well true es l ss fs i name → Good es l ss fs i name
-well_good es l ss fs i name (inl h) = h
-well_good es l ss fs i name (inr h) = let e = h.0 in absurd (let none : ⊥ = cc in none)
-
 goes_ended : {J : Type 0} {answer : Answers J} {later : Laters J} {k l : Kernel} {w v : State J}
     {ok : Bool} {ms : List Made} {es : List Entry} (rest : List Entry) (i : ℕ) (name : List ℕ)
     → Files k w.standings → v.entries ≡ w.entries ++ rest → LiveAs k i name → LiveAs l i name
@@ -518,11 +498,12 @@ goes_ended {k = k} {l = l} {w = w} {v = v} rest i name f e first live
     let has : Has names name = to_sweep_order found name
     (subst (λ (n : List ℕ). Has found n) first.named
     (b.1.says.0 i first.d (lived k m i name first mid))) in
+    let files = files_later k u w.standings (grows_trans k m u h j) f in
+    let well = chain_well name i w.entries q.0
+    (λ s a. files s (filter_has (λ (v : Standing). lists names v.name) w.standings s a).0) late live
+    (farewells names w.standings, refl) (inl has) chain cut.2 in
     good_ended w.entries l v.standings v.entries rest i name e
-    (well_good w.entries l v.standings v.entries i name
-    (chain_well name i w.entries q.0
-    (parted_files u names w (files_later k u w.standings (grows_trans k m u h j) f)) late live
-    (farewells names w.standings, refl) (inl has) chain cut.2).1)
+    (elim well.1 [ inl g ↦ g | inr g ↦ absurd (true≢false g.0) ])
 goes_ended {k = k} {l = l} {w = w} {v = v} rest i name f e first live
     (Unlisted list failed room why ok made added _ by chain) b =
     let m = b.0 in

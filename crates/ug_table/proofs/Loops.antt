@@ -1,7 +1,7 @@
 -- One name more.
 use Rattle.std.proofs.Common.{◌≡◌, ℕ, ◌+◌, ◌*◌, ◌<◌, Bool, List, ◌∷◌, length, get_or, drop, sym, ap, ◌∙◌, subst, arith}
 use Rattle.std.proofs.lemmas.List.{drop_more}
-use Rattle.ug_table.proofs.Common.{Call, Answer, Runs, State, Kept, Answers, Laters, Settled}
+use Rattle.ug_table.proofs.Common.{Entry, Standing, Call, Answer, Runs, State, Kept, Answers, Laters, Settled}
 use Rattle.ug_kernel.proofs.Runs.{runs_then}
 use Rattle.ug_audit.specs.declared.journal.Journal.{Journal}
 use Rattle.ug_audit.specs.Journal.{Notes}
@@ -24,3 +24,7 @@ resettling_more {S} gives names i name w s u p lt e h r t k =
 -- what each name notes
 pub notes_more : (each i : ℕ) (a b c : Journal) → Notes (each * i) a b → Notes each b c → Notes (each * (i + 1)) a c
 notes_more each i a b c h k = (k.0 ∙ h.0, k.1 ∙ h.1, let first = h.2 in let next = k.2 in grind (arith, first, next))
+
+-- a state whose fields are those of another
+pub same_state : {J : Type 0} (ss rs : List Standing) (next after : ℕ) (listed seen : Bool) (judge : J) (es : List Entry) → rs ≡ ss → after ≡ next → seen ≡ listed → let made : State J = record { standings = rs; next = after; listed = seen; judge = judge; entries = es } in let was : State J = record { standings = ss; next = next; listed = listed; judge = judge; entries = es } in made ≡ was
+same_state ss rs next after listed seen judge es a b c = λ i. record { standings = a i; next = b i; listed = c i; judge = judge; entries = es }

@@ -1,23 +1,23 @@
 -- Marks and the order of standings.
 use Rattle.std.proofs.Common.{◌≡◌, ℕ, Bool, true, false, not, cond, List, [], ◌∷◌, ◌++◌, map, Option, inl, inr, refl, sym, ◌∙◌, ap, subst, Some, append_assoc, ◌⊎◌, append-nil, ◌+◌, add-one, true≢false, ◌<◌, ◌≤◌, None, length, min, take, get_or, arith}
-use Rattle.ug_table.proofs.Common.{Has, AllDistinct, Write, Wrote, Call, Answer, Told, Bound, Binding, Entry, State, Answers, Laters, noted, same_name, without, marked, place_for, with_standing, settled_standing, standing_of, lists, farewells, IsNamed, IsMarked, IsUnlisted, IsListed, swept_before, AreInOrder, Tries, IsMarkedIn, AreMarkedIn, numbers_of, Standing, Known, Settled, Made, Along, Fault, EndsUnsettled, sweep_cmp, in_place, in_sweep_order, sweep_total, sweep_exact, Kernel, Runs, calls}
+use Rattle.ug_table.proofs.Common.{Has, AllDistinct, Bound, Binding, Entry, State, Answers, Laters, same_name, without, marked, place_for, with_standing, known_of, standing_of, lists, farewells, IsNamed, IsMarked, IsUnlisted, IsListed, swept_before, AreInOrder, Tries, IsMarkedIn, AreMarkedIn, numbers_of, Standing, Known, Settled, Made, Along, Fault, EndsUnsettled, sweep_cmp, in_place, in_sweep_order, sweep_total, sweep_exact, Kernel, Runs, calls}
 use Rattle.ug_audit.specs.declared.entry.Entry.TheVariants as entry
 use Rattle.ug_audit.specs.declared.entry.Fault.TheVariants as fault
 use Rattle.ug_table.specs.Settle.{kept_standings, tried_standings, dropped}
-use Rattle.ug_table.specs.Sweep.{names_of, parted, marked_listed, sweeping}
+use Rattle.ug_table.specs.Sweep.{names_of, parted, sweeping}
 use Rattle.ug_table.specs.declared.standing.Settled.TheVariants as settled
-use Rattle.ug_types.proofs.Elements.{has_left, has_right, has_cases, filter_has, map_has, has_map, insert_has, has_new, cancel, last_is, distinct_filter, distinct_insert}
-use Rattle.ug_table.proofs.Shapes.{Piece, Written, Done, Went, Broke, Valued, Same, Set, Gone_by, Failed_by, Short_by, Removal, Not_held, Put_on, Carried, By_value, And_removal, Brought, Left_open, Let_go, Opening, Fresh, Lost, Unbound_end, Absent_so, Vanished_so, Failed_so, Short_so, Flat, Unprobed, Tried, Stopped, Unbound, No_place, Judged_so, brought}
-use Rattle.ug_table.proofs.Standings.{farewells_by, is_same, missing, missing_without, found, marked_other, tried_own, lists_has, either_listed, same_is, names_marked, numbers_marked}
-use Rattle.ug_table.specs.Bring.{is_to_go}
-use Rattle.ug_table.specs.One.{why_in, whys, why_of}
-use Rattle.ug_table.proofs.OnePart.{flat_is_part, flat_whys}
+use Rattle.ug_types.proofs.Elements.{has_left, has_right, has_cases, filter_has, map_has, has_map, cancel, last_is, distinct_filter, distinct_insert}
+use Rattle.ug_table.proofs.Shapes.{Piece, Unbound_end, Absent_so, Flat, Unprobed, Tried, Stopped, Unbound, No_place, Judged_so, opening_absent, opening_less, new_known}
+use Rattle.ug_table.proofs.Standings.{kept_tried, each_with, farewells_by, is_same, missing, missing_without, found, marked_other, tried_own, lists_has, either_listed, same_is, names_marked, numbers_marked}
+use Rattle.ug_table.specs.One.{whys, why_of}
+use Rattle.ug_table.proofs.OnePart.{flat_is_part, flat_whys, told_in}
 use Rattle.ug_table.proofs.Says.{Each, NamesOnly, each_has, each_append, each_map, NamesNone, none_named}
 use Rattle.std.specs.List.{filter, insert}
 use Rattle.std.specs.Ordering.{is_gt, is_lt, ordering_reverse}
 use Rattle.ug_table.proofs.Chains.{Chain, Over, First, Goes, Listed, Unlisted, sweeping_run}
 use Rattle.std.specs.declared.cmp.Ordering.{Ordering}
 use Rattle.std.specs.declared.cmp.Ordering.TheVariants.{Less, Equal, Greater}
+use Rattle.std.proofs.lemmas.Bool.{cond_both}
 use Rattle.std.proofs.lemmas.Cmp.{tied_itself}
 use Rattle.std.proofs.Math.Nat.{min-le_right}
 use Rattle.std.proofs.lemmas.List.{take_more}
@@ -25,23 +25,12 @@ use Rattle.ug_table.specs.Order.{StandInOrder, KeepsOrder, IsNextNumbered, is_ne
 
 -- What settling a name tells as unsettled, and how it leaves the marks, whatever the kernel answers.
 
--- nothing that is told is unsettled
-right_none : (xs ys : List Fault) → xs ++ ys ≡ [] → ys ≡ []
-right_none [] ys e = e
-right_none (x ∷ xs) ys e = let none : ⊥ = cc in absurd none
-
-told_why : (es : List Entry) (name : List ℕ) (why : Fault) → whys es ≡ [] → Has es (entry.Unsettled name why) → ⊥
-told_why [] name why e a = a
-told_why (x ∷ es) name why e (inl is) =
-    let here : why ∷ whys es ≡ [] = subst (λ (v : Entry). why_in v ++ whys es ≡ []) is e in
-    let none : ⊥ = cc in none
-told_why (x ∷ es) name why e (inr a) = told_why es name why (right_none (why_in x) (whys es) e) a
-
+-- no name is told without why
 pub unnamed : (es : List Entry) (name : List ℕ) → whys es ≡ [] → IsNamed es name → ⊥
-unnamed es name e a = told_why es name a.0 e a.1
+unnamed es name e a = subst (λ (v : List Fault). Has v a.0) e (told_in name a.0 es a.1)
 
 -- an entry that tells it unsettled is the last, and names it
-ends_only : (name : List ℕ) (es : List Entry) → EndsUnsettled name es → Each (NamesOnly name) es
+pub ends_only : (name : List ℕ) (es : List Entry) → EndsUnsettled name es → Each (NamesOnly name) es
 ends_only name [] h = tt
 ends_only name (entry.Unsettled n why ∷ es) h = (h.0.0, ends_only name es h.1)
 ends_only name (entry.UnsettledAll why ∷ es) h = absurd h.0
@@ -86,26 +75,7 @@ marked_right es fs s none (inr h) = inr (h.0, (h.1.0, has_left es fs (entry.Unse
 -- a new standing
 
 new_others : (ss : List Standing) (x s : Standing) → Has (with_standing x ss) s → (s.name ≡ x.name → ⊥) → Has ss s
-new_others ss x s a ne = elim (insert_has ss (place_for x.name ss) x s a) [
-  | inl e ↦ absurd (ne (ap (λ (v : Standing). v.name) (sym e)))
-  | inr b ↦ b
-]
-
-kept_others : (ss : List Standing) (x : Standing) (how : Settled) (s : Standing) → Has (kept_standings ss x how) s → (s.name ≡ x.name → ⊥) → Has ss s
-kept_others ss x settled.Nobody s a ne = a
-kept_others ss x settled.Stands s a ne = new_others ss (settled_standing x) s a ne
-kept_others ss x how s a ne = new_others ss x s a ne
-
-new_mark : (ss : List Standing) (x s : Standing) (rest : List Entry) → (Has (names_of ss) x.name → ⊥) → IsMarked rest x → Has (with_standing x ss) s → s.name ≡ x.name → IsMarked rest s
-new_mark ss x s rest absent m a e = elim (insert_has ss (place_for x.name ss) x s a) [
-  | inl is ↦ subst (λ (v : Standing). IsMarked rest v) is m
-  | inr b ↦ absurd (absent (subst (λ (v : List ℕ). Has (names_of ss) v) e (has_map (λ (v : Standing). v.name) ss s b)))
-]
-
-kept_mark : (ss : List Standing) (x : Standing) (how : Settled) (rest : List Entry) (s : Standing) → (Has (names_of ss) x.name → ⊥) → x.settled ≡ false → Tells how x.name rest → Has (kept_standings ss x how) s → s.name ≡ x.name → IsMarked rest s
-kept_mark ss x settled.Nobody rest s absent f t a e = absurd (absent (subst (λ (v : List ℕ). Has (names_of ss) v) e (has_map (λ (v : Standing). v.name) ss s a)))
-kept_mark ss x settled.Stands rest s absent f t a e = new_mark ss (settled_standing x) s rest absent (inl (refl, t)) a e
-kept_mark ss x how rest s absent f t a e = new_mark ss x s rest absent (inr (f, t)) a e
+new_others ss x s a ne = each_with (λ (t : Standing). (t.name ≡ x.name → ⊥) → Has ss t) x ss (λ f. absurd (f refl)) (λ t b f. b) s a ne
 
 -- a standing that is tried again
 
@@ -131,18 +101,6 @@ tried_mark ss name settled.Nobody rest s t a e = absurd (missing_without name ss
 tried_mark ss name settled.Stands rest s t a e = inl (marked_mark ss name true s a e, subst (λ (v : List ℕ). IsNamed rest v → ⊥) (sym e) t)
 tried_mark ss name how rest s t a e = inr (marked_mark ss name false s a e, subst (λ (v : List ℕ). IsNamed rest v) (sym e) t)
 
--- before a binding, no standing of the name is left
-pub record Opens (name : List ℕ) (ss : List Standing) (rs : List Standing) : Type 0 where
-  pub less : (s : Standing) → Has rs s → Has ss s
-  pub absent : Has (names_of rs) name → ⊥
-
-pub opens : {name : List ℕ} {ss : List Standing} {ms : List Made} {es : List Entry} {rs : List Standing} → Opening name ss ms es rs → Opens name ss rs
-opens {name} {ss} (Fresh e) = record { less = λ s a. a; absent = missing name ss e }
-opens {name} {ss} (Lost known failed shut e) = record { less = λ s a. tried_others_less s a; absent = missing_without name ss }
-  where
-    tried_others_less : (s : Standing) → Has (without name ss) s → Has ss s
-    tried_others_less s a = (filter_has (λ (v : Standing). not (same_name v.name name)) ss s a).0
-
 -- a standing of the name
 own_name : (ss : List Standing) (name : List ℕ) (s : Standing) → Has ss s → s.name ≡ name → Has (names_of ss) name
 own_name ss name s a e = subst (λ (v : List ℕ). Has (names_of ss) v) e (has_map (λ (v : Standing). v.name) ss s a)
@@ -150,19 +108,19 @@ own_name ss name s a e = subst (λ (v : List ℕ). Has (names_of ss) v) e (has_m
 flat_others : {binds : Bool} {given : List Standing → Bound → Standing → Type 0} {name : List ℕ} {ss : List Standing} {ok : Bool} {ms : List Made} {rest : List Entry} {how : Settled} {rs : List Standing} {o : Option (List Standing × Bound)} → Flat binds given name ss ok ms rest how rs o → (s : Standing) → Has rs s → (s.name ≡ name → ⊥) → Has ss s
 flat_others {name = name} {ss = ss} (Unprobed known failed at) s a ne = tried_others ss name (settled.Fault failed) s a ne
 flat_others {name = name} {ss = ss} (Tried known on failed ms es how at b) s a ne = tried_others ss name how s a ne
-flat_others (Stopped ms es rs f opening) s a ne = (opens opening).less s a
-flat_others (Unbound ms ns es fs rs r how t opening way end) s a ne = (opens opening).less s a
-flat_others (No_place ms ns es rs b shut t opening way) s a ne = (opens opening).less s a
-flat_others (Judged_so ms ns os es fs rs b x how t opening way given new brought) s a ne = (opens opening).less s (kept_others rs x how s a (λ f. ne (f ∙ new.named)))
+flat_others (Stopped ms es rs f opening) s a ne = opening_less opening s a
+flat_others (Unbound ms ns es fs rs r how t opening way end) s a ne = opening_less opening s a
+flat_others (No_place ms ns es rs b shut t opening way) s a ne = opening_less opening s a
+flat_others {name = name} (Judged_so ms ns os es fs rs b x how t opening way given new brought) s a ne =
+    opening_less opening s (new_others rs x s (tried_others (with_standing x rs) name how s a ne) (λ f. ne (f ∙ new.named)))
 
 flat_mark : {binds : Bool} {given : List Standing → Bound → Standing → Type 0} {name : List ℕ} {ss : List Standing} {ok : Bool} {ms : List Made} {rest : List Entry} {how : Settled} {rs : List Standing} {o : Option (List Standing × Bound)} → Tells how name rest → Flat binds given name ss ok ms rest how rs o → (s : Standing) → Has rs s → s.name ≡ name → IsMarked rest s
 flat_mark {name = name} {ss = ss} t (Unprobed known failed at) s a is = tried_mark ss name (settled.Fault failed) (entry.Unsettled name (fault.Call failed) ∷ []) s t a is
 flat_mark {name = name} {ss = ss} t (Tried known on failed ms es how at b) s a is = tried_mark ss name how es s t a is
-flat_mark {name = name} t (Stopped ms es rs f opening) s a is = absurd ((opens opening).absent (own_name rs name s a is))
-flat_mark {name = name} t (Unbound ms ns es fs rs r how f opening way end) s a is = absurd ((opens opening).absent (own_name rs name s a is))
-flat_mark {name = name} t (No_place ms ns es rs b shut f opening way) s a is = absurd ((opens opening).absent (own_name rs name s a is))
-flat_mark {rest = rest} t (Judged_so ms ns os es fs rs b x how f opening way given new brought) s a is =
-    kept_mark rs x how rest s (subst (λ v. Has (names_of rs) v → ⊥) (sym new.named) (opens opening).absent) new.fresh (subst (λ v. Tells how v rest) (sym new.named) t) a (is ∙ sym new.named)
+flat_mark {name = name} t (Stopped ms es rs f opening) s a is = absurd (opening_absent opening (own_name rs name s a is))
+flat_mark {name = name} t (Unbound ms ns es fs rs r how f opening way end) s a is = absurd (opening_absent opening (own_name rs name s a is))
+flat_mark {name = name} t (No_place ms ns es rs b shut f opening way) s a is = absurd (opening_absent opening (own_name rs name s a is))
+flat_mark {name = name} {rest = rest} t (Judged_so ms ns os es fs rs b x how f opening way given new brought) s a is = tried_mark (with_standing x rs) name how rest s t a is
 
 flat_part : {binds : Bool} {given : List Standing → Bound → Standing → Type 0} {name : List ℕ} {ss : List Standing} {ok : Bool} {ms : List Made} {rest : List Entry} {how : Settled} {rs : List Standing} {o : Option (List Standing × Bound)} (es fs : List Entry) → fs ≡ es ++ rest → Flat binds given name ss ok ms rest how rs o → Part name ss es rs fs
 flat_part {name = name} {rest = rest} {how = how} xs ys e f =
@@ -186,13 +144,10 @@ known_has name ss known e =
     let s = found name ss known e in
     subst (λ (v : List ℕ). Has (names_of ss) v) s.named (has_map (λ (v : Standing). v.name) ss s.s s.has)
 
-kept_stands : (ss : List Standing) (x : Standing) (how : Settled) → how ≡ settled.Stands → Has (names_of (kept_standings ss x how)) x.name
-kept_stands ss x settled.Stands e = has_map (λ (v : Standing). v.name) (with_standing (settled_standing x) ss) (settled_standing x) (has_new ss (place_for x.name ss) (settled_standing x))
-kept_stands ss x how e = let none : ⊥ = cc in absurd none
-
-kept_nobody : (ss : List Standing) (x : Standing) (how : Settled) (name : List ℕ) → (Has (names_of ss) name → ⊥) → how ≡ settled.Nobody → Has (names_of (kept_standings ss x how)) name → ⊥
-kept_nobody ss x settled.Nobody name absent e = absent
-kept_nobody ss x how name absent e = let none : ⊥ = cc in absurd none
+tried_stands : (name : List ℕ) (ss : List Standing) (known : Known) (how : Settled) → standing_of name ss ≡ Some known → how ≡ settled.Stands → Has (names_of (tried_standings ss name how)) name
+tried_stands name ss known how at e =
+    let k = tried_own name ss how known at (λ n. let none : ⊥ = cc in none) in
+    known_has name (tried_standings ss name how) k.0 k.1
 
 tried_nobody : (ss : List Standing) (name : List ℕ) (how : Settled) → how ≡ settled.Nobody → Has (names_of (tried_standings ss name how)) name → ⊥
 tried_nobody ss name settled.Nobody e = missing_without name ss
@@ -204,20 +159,18 @@ unbound_stands Absent_so e = let none : ⊥ = cc in none
 unbound_stands x e = let none : ⊥ = cc in none
 
 pub flat_stands : {binds : Bool} {given : List Standing → Bound → Standing → Type 0} {name : List ℕ} {ss : List Standing} {ok : Bool} {ms : List Made} {rest : List Entry} {how : Settled} {rs : List Standing} {o : Option (List Standing × Bound)} → Flat binds given name ss ok ms rest how rs o → how ≡ settled.Stands → Has (names_of rs) name
-flat_stands {name = name} {ss = ss} (Tried known on failed ms es how at b) e =
-    let k = tried_own name ss how known at (λ n. let none : ⊥ = cc in none) in
-    known_has name (tried_standings ss name how) k.0 k.1
+flat_stands {name = name} {ss = ss} (Tried known on failed ms es how at b) e = tried_stands name ss known how at e
 flat_stands (Unbound ms ns es fs rs r how t opening way end) e = absurd (unbound_stands end e)
-flat_stands (Judged_so ms ns os es fs rs b x how t opening way given new brought) e = subst (λ v. Has (names_of (kept_standings rs x how)) v) new.named (kept_stands rs x how e)
+flat_stands {name = name} (Judged_so ms ns os es fs rs b x how t opening way given new brought) e = tried_stands name (with_standing x rs) (known_of x) how (new_known opening new) e
 flat_stands x e = let none : ⊥ = cc in absurd none
 
 pub flat_nobody : {binds : Bool} {given : List Standing → Bound → Standing → Type 0} {name : List ℕ} {ss : List Standing} {ok : Bool} {ms : List Made} {rest : List Entry} {how : Settled} {rs : List Standing} {o : Option (List Standing × Bound)} → Flat binds given name ss ok ms rest how rs o → how ≡ settled.Nobody → Has (names_of rs) name → ⊥
 flat_nobody (Unprobed known failed at) e = let none : ⊥ = cc in absurd none
 flat_nobody {name = name} {ss = ss} (Tried known on failed ms es how at b) e = tried_nobody ss name how e
-flat_nobody (Stopped ms es rs f opening) e = (opens opening).absent
-flat_nobody (Unbound ms ns es fs rs r how t opening way end) e = (opens opening).absent
-flat_nobody (No_place ms ns es rs b shut t opening way) e = (opens opening).absent
-flat_nobody {name = name} (Judged_so ms ns os es fs rs b x how t opening way given new brought) e = kept_nobody rs x how name (opens opening).absent e
+flat_nobody (Stopped ms es rs f opening) e = opening_absent opening
+flat_nobody (Unbound ms ns es fs rs r how t opening way end) e = opening_absent opening
+flat_nobody (No_place ms ns es rs b shut t opening way) e = opening_absent opening
+flat_nobody {name = name} (Judged_so ms ns os es fs rs b x how t opening way given new brought) e = tried_nobody (with_standing x rs) name how e
 
 -- The marks at the end of a sweep, and whether a listing has succeeded.
 
@@ -234,9 +187,6 @@ pub record Parts (names : List (List ℕ)) (ss : List Standing) (es : List Entry
   pub only : Each (NamesIn names) rest
   pub others : (s : Standing) → Has rs s → (Has names s.name → ⊥) → Has ss s
   pub mark : (s : Standing) → Has rs s → Has names s.name → IsMarked rest s
-
-named_in : (names : List (List ℕ)) (es : List Entry) (name : List ℕ) → Each (NamesIn names) es → IsNamed es name → Has names name
-named_in names es name h a = each_has (NamesIn names) es (entry.Unsettled name a.0) h a.1
 
 pub named_only : (n name : List ℕ) (es : List Entry) → Each (NamesOnly n) es → IsNamed es name → name ≡ n
 named_only n name es h a = each_has (NamesOnly n) es (entry.Unsettled name a.0) h a.1
@@ -258,7 +208,7 @@ parts_more n names ss ms rs es gs fs distinct a b =
     let mark : (s : Standing) → Has rs s → (n ≡ s.name) ⊎ Has names s.name → IsMarked (a.rest ++ b.rest) s = λ s h c. elim c [
       | inl e ↦
           let apart : Has names s.name → ⊥ = λ x. distinct.0 (subst (λ (v : List ℕ). Has names v) (sym e) x) in
-          marked_right a.rest b.rest s (λ x. apart (named_in names b.rest s.name b.only x)) (a.mark s (b.others s h apart) (sym e))
+          marked_right a.rest b.rest s (λ x. apart (each_has (NamesIn names) b.rest (entry.Unsettled s.name x.0) b.only x.1)) (a.mark s (b.others s h apart) (sym e))
       | inr x ↦ marked_left a.rest b.rest s (λ y. distinct.0 (subst (λ (v : List ℕ). Has names v) (named_only n s.name a.rest a.only y) x)) (b.mark s h x)
     ] in
     record {
@@ -283,12 +233,9 @@ chain_parts distinct (First n names how w x v ok more ms ns es p c) =
 
 pub place_has : (name : List ℕ) (names : List (List ℕ)) (x : List ℕ) → Has (in_place name names) x → (name ≡ x) ⊎ Has names x
 place_has name [] x h = h
-place_has name (first ∷ names) x h =
-    let rest = place_has name names x in
-    (elim (is_gt (sweep_cmp name first)) as (λ (b : Bool). Has (cond b (first ∷ in_place name names) (name ∷ first ∷ names)) x → (name ≡ x) ⊎ Has (first ∷ names) x) [
-      | true ↦ λ k. elim k [ inl e ↦ inr (inl e) | inr a ↦ elim (rest a) [ inl e ↦ inl e | inr b ↦ inr (inr b) ] ]
-      | false ↦ λ k. k
-    ]) h
+place_has name (first ∷ names) x h = cond_both (is_gt (sweep_cmp name first)) (first ∷ in_place name names) (name ∷ first ∷ names) (λ (l : List (List ℕ)). Has l x → (name ≡ x) ⊎ Has (first ∷ names) x)
+    (λ b k. elim k [ inl e ↦ inr (inl e) | inr a ↦ elim (place_has name names x a) [ inl e ↦ inl e | inr c ↦ inr (inr c) ] ])
+    (λ b k. k) h
 
 place_distinct : (name : List ℕ) (names : List (List ℕ)) → (Has names name → ⊥) → AllDistinct names → AllDistinct (in_place name names)
 place_distinct name [] none d = (none, d)
@@ -313,60 +260,36 @@ Ends w v rest = IsListed rest w.listed v.listed × ((s : Standing) → Has v.sta
 pub farewell_none : (names : List (List ℕ)) (ss : List Standing) → Each NamesNone (farewells names ss)
 farewell_none names ss = farewells_by (Each NamesNone) tt (λ number name es h. (tt, h)) names ss
 
-none_unlisted : (es : List Entry) → Each NamesNone es → IsUnlisted es → ⊥
-none_unlisted es h a = each_has NamesNone es (entry.UnsettledAll a.0) h a.1
-
-in_unlisted : (names : List (List ℕ)) (es : List Entry) → Each (NamesIn names) es → IsUnlisted es → ⊥
-in_unlisted names es h a = each_has (NamesIn names) es (entry.UnsettledAll a.0) h a.1
-
 -- each standing at the end has one of the names
-stands_listed : (names : List (List ℕ)) (ss rs : List Standing) → ((s : Standing) → Has rs s → (Has names s.name → ⊥) → Has (filter (λ (v : Standing). lists names v.name) ss) s) → (s : Standing) → Has rs s → Has names s.name
-stands_listed names ss rs others s a = elim (either_listed names s.name) [
-  | inl h ↦ h
-  | inr ne ↦ lists_has names s.name (filter_has (λ (v : Standing). lists names v.name) ss s (others s a ne)).1
-]
-
-stands_known : (ss rs : List Standing) → ((s : Standing) → Has rs s → (Has (names_of ss) s.name → ⊥) → Has ss s) → (s : Standing) → Has rs s → Has (names_of ss) s.name
-stands_known ss rs others s a = elim (either_listed (names_of ss) s.name) [
-  | inl h ↦ h
-  | inr ne ↦ has_map (λ (v : Standing). v.name) ss s (others s a ne)
-]
-
-listed_ends : {J : Type 0} {answer : Answers J} {later : Laters J} {present : Bool} {v : State J}
-    {ok : Bool} {ms : List Made} {es : List Entry} (names : List (List ℕ)) (w : State J)
-    (rest : List Entry) → AllDistinct names
-    → Chain answer later true present names (marked_listed (parted names w)) ok ms es v
-    → v.entries ≡ w.entries ++ rest → Ends w v rest
-listed_ends {v = v} names w rest distinct chain e =
-    let bye = farewells names w.standings in
-    let h = chain_parts distinct chain in
-    let same : bye ++ h.0.rest ≡ rest = cancel w.entries (bye ++ h.0.rest) rest (sym (append_assoc w.entries bye h.0.rest) ∙ sym h.0.entries ∙ e) in
-    let none = farewell_none names w.standings in
-    let listed : IsUnlisted (bye ++ h.0.rest) → ⊥ = λ a. elim (has_cases bye h.0.rest (entry.UnsettledAll a.0) a.1) [ inl b ↦ none_unlisted bye none (a.0, b) | inr b ↦ in_unlisted names h.0.rest h.0.only (a.0, b) ] in
-    let marks : (s : Standing) → Has v.standings s → IsMarked (bye ++ h.0.rest) s = λ s a. marked_left bye h.0.rest s (none_named bye s.name none) (h.0.mark s a (stands_listed names w.standings v.standings h.0.others s a)) in
-    subst (λ (y : List Entry). Ends w v y) same (inl (listed, h.1), marks)
-
-unlisted_ends : {J : Type 0} {answer : Answers J} {later : Laters J} {present : Bool} {v : State J}
-    {ok : Bool} {ms : List Made} {es : List Entry} (why : Fault) (w : State J) (rest : List Entry)
-    → AllDistinct (names_of w.standings)
-    → Chain answer later false present (names_of w.standings) (noted w (entry.UnsettledAll why)) ok
-    ms es v → v.entries ≡ w.entries ++ rest → Ends w v rest
-unlisted_ends {v = v} why w rest distinct chain e =
-    let all = entry.UnsettledAll why in
-    let names = names_of w.standings in
-    let h = chain_parts distinct chain in
-    let same : all ∷ h.0.rest ≡ rest = cancel w.entries (all ∷ h.0.rest) rest (sym (append_assoc w.entries (all ∷ []) h.0.rest) ∙ sym h.0.entries ∙ e) in
-    let marks : (s : Standing) → Has v.standings s → IsMarked (all ∷ h.0.rest) s = λ s a. marked_left (all ∷ []) h.0.rest s (λ n. elim n.1 [ inl q ↦ let none : ⊥ = cc in none | inr none ↦ none ]) (h.0.mark s a (stands_known w.standings v.standings h.0.others s a)) in
-    subst (λ (y : List Entry). Ends w v y) same (inr ((why, inl refl), h.1), marks)
+stands_in : (names : List (List ℕ)) (P : Standing → Type 0) (rs : List Standing) → ((s : Standing) → P s → Has names s.name) → ((s : Standing) → Has rs s → (Has names s.name → ⊥) → P s) → (s : Standing) → Has rs s → Has names s.name
+stands_in names P rs named others s a = elim (either_listed names s.name) [ inl h ↦ h | inr ne ↦ named s (others s a ne) ]
 
 goes_ends : {J : Type 0} {answer : Answers J} {later : Laters J} {w v : State J} {ok : Bool}
     {ms : List Made} {es : List Entry} (k l : Kernel) (rest : List Entry)
     → AllDistinct (names_of w.standings) → v.entries ≡ w.entries ++ rest
     → Goes answer later w ok ms es v → Along calls k ms l → Ends w v rest
-goes_ends {w = w} k l rest known e (Listed found failed ok shut made es v closings chain) a =
-    listed_ends (in_sweep_order found) w rest (order_distinct found a.1.says.1) chain e
-goes_ends {w = w} k l rest known e (Unlisted list failed room why ok made es v by chain) a =
-    unlisted_ends why w rest known chain e
+goes_ends {w = w} {v = v} k l rest known e (Listed found failed ok shut made es _ closings chain) a =
+    let names = in_sweep_order found in
+    let bye = farewells names w.standings in
+    let listed : Standing → Bool = λ s. lists names s.name in
+    let h = chain_parts (order_distinct found a.1.says.1) chain in
+    let same : bye ++ h.0.rest ≡ rest = cancel w.entries (bye ++ h.0.rest) rest (sym (append_assoc w.entries bye h.0.rest) ∙ sym h.0.entries ∙ e) in
+    let none = farewell_none names w.standings in
+    let told : IsUnlisted (bye ++ h.0.rest) → ⊥ = λ n. elim (has_cases bye h.0.rest (entry.UnsettledAll n.0) n.1) [
+      | inl b ↦ each_has NamesNone bye (entry.UnsettledAll n.0) none b
+      | inr b ↦ each_has (NamesIn names) h.0.rest (entry.UnsettledAll n.0) h.0.only b
+    ] in
+    let named = stands_in names (Has (filter listed w.standings)) v.standings (λ s b. lists_has names s.name (filter_has listed w.standings s b).1) h.0.others in
+    let marks : (s : Standing) → Has v.standings s → IsMarked (bye ++ h.0.rest) s = λ s b. marked_left bye h.0.rest s (none_named bye s.name none) (h.0.mark s b (named s b)) in
+    subst (λ (y : List Entry). Ends w v y) same (inl (told, h.1), marks)
+goes_ends {w = w} {v = v} k l rest known e (Unlisted list failed room why ok made es _ by chain) a =
+    let all = entry.UnsettledAll why in
+    let names = names_of w.standings in
+    let h = chain_parts known chain in
+    let same : all ∷ h.0.rest ≡ rest = cancel w.entries (all ∷ h.0.rest) rest (sym (append_assoc w.entries (all ∷ []) h.0.rest) ∙ sym h.0.entries ∙ e) in
+    let named = stands_in names (Has w.standings) v.standings (λ s b. has_map (λ (x : Standing). x.name) w.standings s b) h.0.others in
+    let marks : (s : Standing) → Has v.standings s → IsMarked (all ∷ h.0.rest) s = λ s b. marked_left (all ∷ []) h.0.rest s (λ n. elim n.1 [ inl q ↦ let none : ⊥ = cc in none | inr none ↦ none ]) (h.0.mark s b (named s b)) in
+    subst (λ (y : List Entry). Ends w v y) same (inr ((why, inl refl), h.1), marks)
 
 -- whatever the entries that were added
 pub sweeping_marks : {J : Type 0} (answer : Answers J) (later : Laters J) (w : State J)
@@ -407,15 +330,18 @@ less_or Less e ne = refl
 less_or Equal e ne = absurd (ne refl)
 less_or Greater e ne = absurd (true≢false e)
 
-placed_by : (x y : List ℕ) (ys : List (List ℕ)) (b : Bool) → is_gt (sweep_cmp x y) ≡ b → (Has (y ∷ ys) x → ⊥) → AreInOrder (y ∷ ys) → AreInOrder (in_place x ys) → AreInOrder (cond b (y ∷ in_place x ys) (x ∷ y ∷ ys))
-placed_by x y ys true e none o rest = (λ z h. elim (place_has x ys z h) [ inl is ↦ subst (λ (v : List ℕ). swept_before y v ≡ true) is (greater_before x y e) | inr a ↦ o.0 z a ], rest)
-placed_by x y ys false e none o rest =
-    let first : swept_before x y ≡ true = less_or (sweep_cmp x y) e (λ f. none (inl (sym (sweep_exact x y f)))) in
-    (λ z h. elim h [ inl is ↦ subst (λ (v : List ℕ). swept_before x v ≡ true) is first | inr a ↦ further x y z first (o.0 z a) ], o)
-
 placed_order : (x : List ℕ) (ys : List (List ℕ)) → (Has ys x → ⊥) → AreInOrder ys → AreInOrder (in_place x ys)
 placed_order x [] none o = (λ z h. absurd h, tt)
-placed_order x (y ∷ ys) none o = placed_by x y ys (is_gt (sweep_cmp x y)) refl none o (placed_order x ys (λ h. none (inr h)) o.1)
+placed_order x (y ∷ ys) none o = cond_both (is_gt (sweep_cmp x y)) (y ∷ in_place x ys) (x ∷ y ∷ ys) AreInOrder
+    (λ e. (λ z h. elim (place_has x ys z h) [ inl is ↦ subst (λ (v : List ℕ). swept_before y v ≡ true) is (greater_before x y e) | inr a ↦ o.0 z a ], placed_order x ys (λ h. none (inr h)) o.1))
+    (λ e.
+    let first : swept_before x y ≡ true = less_or (sweep_cmp x y) e (λ f. none (inl (sym (sweep_exact x y f)))) in
+    (λ z h. elim h [ inl is ↦ subst (λ (v : List ℕ). swept_before x v ≡ true) is first | inr a ↦ further x y z first (o.0 z a) ], o))
+
+-- names in order are distinct
+pub names_distinct : (names : List (List ℕ)) → AreInOrder names → AllDistinct names
+names_distinct [] o = tt
+names_distinct (name ∷ names) o = (λ a. true≢false (sym (o.0 name a) ∙ not_itself name), names_distinct names o.1)
 
 pub sweep_in_order : (names : List (List ℕ)) → AllDistinct names → AreInOrder (in_sweep_order names)
 sweep_in_order [] d = tt
@@ -548,7 +474,7 @@ keeps_tried name settled.Stands ss = keeps_marked name true ss
 keeps_tried name how ss = keeps_marked name false ss
 
 -- a new one
-order_new : (next : ℕ) (ss : List Standing) (s : Standing) → s.number ≡ next → (Has (names_of ss) s.name → ⊥) → StandInOrder next ss → StandInOrder (next + 1) (with_standing s ss)
+pub order_new : (next : ℕ) (ss : List Standing) (s : Standing) → s.number ≡ next → (Has (names_of ss) s.name → ⊥) → StandInOrder next ss → StandInOrder (next + 1) (with_standing s ss)
 order_new next ss s is absent o =
     let none : Has (numbers_of ss) s.number → ⊥ = λ a.
     let m = map_has (λ (v : Standing). v.number) ss s.number a in
@@ -557,16 +483,8 @@ order_new next ss s is absent o =
     record {
       order = order_with s ss o.order absent;
       distinct = distinct_insert (λ (v : Standing). v.number) ss (place_for s.name ss) s o.distinct none;
-      numbers = λ t a. elim (insert_has ss (place_for s.name ss) s t a) [
-        | inl e ↦ let same = ap (λ (v : Standing). v.number) e in omega (arith, same, is)
-        | inr b ↦ let below = o.numbers t b in omega (arith, below)
-      ];
+      numbers = each_with (λ (v : Standing). v.number < next + 1) s ss (omega (arith, is)) (λ t b. let below = o.numbers t b in omega (arith, below));
     }
-
-order_kept : (next : ℕ) (ss : List Standing) (s : Standing) (how : Settled) → s.number ≡ next → standing_of s.name ss ≡ None → StandInOrder next ss → StandInOrder (next + 1) (kept_standings ss s how)
-order_kept next ss s settled.Nobody is none o = record { order = o.order; distinct = o.distinct; numbers = λ t a. let below = o.numbers t a in omega (arith, below) }
-order_kept next ss s settled.Stands is none o = order_new next ss (settled_standing s) is (missing s.name ss none) o
-order_kept next ss s how is none o = order_new next ss s is (missing s.name ss none) o
 
 pub kept_as : (before made after : List Standing) → after ≡ made → KeepsOrder before made → KeepsOrder before after
 kept_as before made after e k = subst (λ (v : List Standing). KeepsOrder before v) (sym e) k
@@ -575,11 +493,13 @@ kept_as before made after e k = subst (λ (v : List Standing). KeepsOrder before
 pub kept_fields : (next cap : ℕ) (before after : List Standing) → KeepsOrder before after → length after ≤ length before → StandInOrder next before × (length before ≤ cap) → StandInOrder next after × (length after ≤ cap)
 kept_fields next cap before after keeps len h = (keeps next h.0, let most = h.1 in omega (arith, len, most))
 
-pub kept_more : (next cap other room : ℕ) (ss rs after : List Standing) (s : Standing) (how : Settled) → s.number ≡ next → ss ≡ rs → standing_of s.name rs ≡ None → min other cap ≡ room → length rs < room → after ≡ kept_standings ss s how → length after ≤ length ss + 1 → StandInOrder next ss → StandInOrder (next + 1) after × (length after ≤ cap)
-kept_more next cap other room ss rs after s how is same none e place made len o = (
-  subst (λ (v : List Standing). StandInOrder (next + 1) v) (sym made) (order_kept next ss s how is (ap (λ (v : List Standing). standing_of s.name v) same ∙ none) o),
-  let as_long = ap length same in omega (arith, min-le_right other cap, e, place, len, as_long),
-)
+pub kept_more : (next cap other room : ℕ) (ss rs after : List Standing) (s : Standing) (how : Settled) → s.number ≡ next → s.settled ≡ false → ss ≡ rs → standing_of s.name rs ≡ None → min other cap ≡ room → length rs < room → after ≡ kept_standings ss s how → length after ≤ length ss + 1 → StandInOrder next ss → StandInOrder (next + 1) after × (length after ≤ cap)
+kept_more next cap other room ss rs after s how is fresh same none e place made len o =
+    let at = ap (λ (v : List Standing). standing_of s.name v) same ∙ none in
+    let new = order_new next ss s is (missing s.name ss at) o in (
+      kept_as (with_standing s ss) _ after (made ∙ kept_tried ss s how fresh at) (keeps_tried s.name how (with_standing s ss)) (next + 1) new,
+      let as_long = ap length same in omega (arith, min-le_right other cap, e, place, len, as_long),
+    )
 
 -- the standing with the next number, as one more is looked at
 

@@ -1,13 +1,13 @@
 -- The names that a sweep tells, none twice; and that no device is told for want of memory that had a standing, lived through it, and
 -- wasn't still to be removed.
-use Rattle.std.proofs.Common.{◌≡◌, ℕ, Bool, true, false, cond, List, [], ◌∷◌, ◌++◌, Option, Some, ◌⊎◌, inl, inr, refl, sym, ◌∙◌, ap, subst, append_assoc}
-use Rattle.ug_table.proofs.Common.{Has, AllDistinct, Call, Answer, Names, Ask_alive, Kernel, Follows, says_probe, Runs, calls, Made, answered, Along, Entry, State, Answers, Laters, lists, farewells, known_of, standing_of, name_in, unsettled_names, EndsUnsettled, NamesOnce, Part, IsLast, Standing, in_sweep_order, Grows, Probe, Fault, Stand, IsSpared, Known}
+use Rattle.std.proofs.Common.{◌≡◌, ℕ, Bool, true, List, [], ◌∷◌, ◌++◌, Option, Some, ◌⊎◌, inl, inr, refl, sym, ◌∙◌, ap, subst, append_assoc}
+use Rattle.ug_table.proofs.Common.{Has, AllDistinct, Call, Answer, Names, Ask_alive, Kernel, Follows, says_probe, Runs, calls, Made, answered, Along, Entry, State, Answers, Laters, farewells, standing_of, name_in, unsettled_names, EndsUnsettled, NamesOnce, Part, Standing, in_sweep_order, Grows, Probe, Fault, Stand, IsSpared, Known}
 use Rattle.ug_kernel.specs.declared.calls.Listing.TheVariants as listing
 use Rattle.ug_kernel.proofs.Told.{told_run}
 use Rattle.ug_audit.specs.declared.entry.Entry.TheVariants as entry
 use Rattle.ug_table.specs.Sweep.{names_of, sweeping}
 use Rattle.ug_types.proofs.Elements.{has_cases, cancel, has_right}
-use Rattle.ug_table.proofs.Marks.{order_distinct}
+use Rattle.ug_table.proofs.Marks.{order_distinct, ends_only, named_only}
 use Rattle.ug_table.proofs.Chains.{Chain, Over, First, Goes, Listed, Unlisted, goes_entries, sweeping_run}
 use Rattle.ug_table.proofs.OnePart.{flat_is_part}
 use Rattle.ug_table.proofs.Shapes.{told_at}
@@ -80,18 +80,15 @@ goes_once {w = w} k l d (Listed found failed ok shut made es v closings c) a =
     subst AllDistinct (sym same) (chain_once (order_distinct found a.1.says.1) c)
 goes_once k l d (Unlisted list failed room why ok made es v by c) a = chain_once d c
 
-sweeping_once : {J : Type 0} (answer : Answers J) (later : Laters J) (k : Kernel) (w : State J)
-    (l : Kernel) (v : State J) → AllDistinct (names_of w.standings)
-    → Runs calls k (sweeping answer later w) v l
-    → (rest : List Entry) × (v.entries ≡ w.entries ++ rest) × AllDistinct (unsettled_names rest)
-sweeping_once answer later k w l v d h =
-    let x = sweeping_run calls answer later k w l v h in
-    (x.so.0, goes_entries x.so.1, goes_once k l d x.so.1 x.along)
-
 pub told_once : {S J : Type 0} (gives : S → (call : Call) → Answer call → S → Type 0) (told : S → Option Kernel) (did : (s : S) (call : Call) (answer : Answer call) (t : S) (l : Kernel) → gives s call answer t → told t ≡ Some l → Follows call answer (told s) l) (answer : Answers J) (later : Laters J) (s : S) (w : State J) (t : S) (v : State J) → Runs gives s (sweeping answer later w) v t → NamesOnce told s w t v
 told_once gives told did answer later s w t v r = λ l e.
-    let m = told_run gives told did (sweeping answer later w) s v t l r e in
-    (m.kernel, m.was, λ sound stand. sweeping_once answer later m.kernel w l v stand.names (m.run sound).0)
+    let m = told_run gives told did (sweeping answer later w) s v t l r e in (
+      m.kernel,
+      m.was,
+      λ sound stand.
+          let x = sweeping_run calls answer later m.kernel w l v (m.run sound).0 in
+          (x.so.0, goes_entries x.so.1, goes_once m.kernel l stand.names x.so.1 x.along),
+    )
 
 -- the name stands so, and its device lives from one kernel to the other
 record Lives (name : List ℕ) (known : Known) (i : ℕ) (ss : List Standing) (k l : Kernel) : Type 0 where
@@ -135,12 +132,6 @@ part_spared name known i k l ss rs ms es part lives a told = elim (part.memory t
   | inr lacks ↦ subst (λ (v : Known). is_to_go v ≡ true) (some_same (standing_of name ss) lacks.0.0 known lacks.0.1 lives.at) lacks.0.2
 ]
 
--- the last entry of a part names it
-last_named : (name : List ℕ) (es : List Entry) (other : List ℕ) (why : Fault) → EndsUnsettled name es → Has es (entry.Unsettled other why) → other ≡ name
-last_named name [] other why h a = absurd a
-last_named name (e ∷ es) other why h (inl is) = (subst (λ (v : Entry). IsLast name v es) is h.0).0
-last_named name (e ∷ es) other why h (inr a) = last_named name es other why h.1 a
-
 name_told : (es : List Entry) (name : List ℕ) (why : Fault) → Has es (entry.Unsettled name why) → Has (unsettled_names es) name
 name_told [] name why a = absurd a
 name_told (e ∷ es) name why (inl is) = subst (λ (v : Entry). Has (name_in v ++ unsettled_names es) name) (sym is) (inl refl)
@@ -164,7 +155,7 @@ chain_spared {name = name} {known = known} {i = i} {k = k} {l = l} d
     let part = flat_is_part p.flat in
     elim (has_cases p.rest es memory told) [
       | inl y ↦
-          let is : name ≡ n = last_named n p.rest name fault.Memory part.last y in
+          let is : name ≡ n = named_only n name p.rest (ends_only n p.rest part.last) (fault.Memory, y) in
           let own = subst (λ (z : List ℕ). Part z w.standings x.standings ms p.rest) (sym is) part
           in
           let mid = lives_between k u l i name g h lives.first lives.last in

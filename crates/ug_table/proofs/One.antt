@@ -1,66 +1,48 @@
 -- What the settling of one name does, over the states of a run.
-use Rattle.std.proofs.Common.{◌≡◌, ℕ, Bool, true, false, not, nat_eq, ◌&&◌, ◌||◌, List, [], ◌∷◌, ◌++◌, Option, Some, map, cond, take, drop, inl, inr, refl, sym, ◌∙◌, ap, subst, arith, true≢false, ◌⊎◌, append-nil, append_assoc, slice_get}
+use Rattle.std.proofs.Common.{◌≡◌, ℕ, Bool, true, false, not, nat_eq, ◌&&◌, ◌||◌, List, [], ◌∷◌, ◌++◌, Option, Some, map, cond, inl, inr, refl, sym, ◌∙◌, ap, subst, arith, true≢false, ◌⊎◌, slice_get}
 use Rattle.std.specs.List.{filter}
-use Rattle.std.proofs.lemmas.List.{take-append-drop}
-use Rattle.ug_table.proofs.Common.{Has, AllDistinct, Call, Answer, Runs, calls, Made, Along, Bound, Entry, State, Kept, Answers, Laters, kept_of, with_kept, same_name, known_of, numbered, without, marked, removed_of, place_for, with_standing, settled_standing, AreInOrder, numbers_of, Tries, none_before, Stand, IsGone, IsNamed, HasStanding, IsAsJudged, Standing, Settled, Device, Kernel, IsKernel, Follows, FailedCall, Fault, told_by, failure_in, failures_told, IsLast, EndsUnsettled}
+use Rattle.std.proofs.lemmas.Bool.{false_from_ne_true}
+use Rattle.ug_table.proofs.Common.{Has, AllDistinct, Call, Answer, Runs, calls, Made, Along, Bound, Entry, State, Kept, Answers, Laters, kept_of, with_kept, same_name, known_of, numbered, without, marked, removed_of, with_standing, numbers_of, Tries, none_before, Stand, IsGone, IsNamed, HasStanding, IsAsJudged, Standing, Settled, Device, Kernel, IsKernel, Follows}
 use Rattle.ug_table.specs.Bring.{is_reject, is_to_go}
-use Rattle.ug_table.specs.Settle.{stands, kept_standings, tried_standings, settling, resettling}
+use Rattle.ug_table.specs.Settle.{stands, tried_standings, settling, resettling}
 use Rattle.ug_table.specs.Sweep.{names_of}
 use Rattle.ug_table.specs.Order.{StandInOrder}
 use Rattle.ug_table.specs.Marks.{has_name, has_number, stood_removed, LeavesMarks}
-use Rattle.ug_table.specs.One.{resettling_numbered, NeedsRoom, failed_of, why_in, whys, why_of, GoesAsPart, LivedAs, SettledOne, SettlesOne, IsOf, ResettledOne, ResettlesOne}
+use Rattle.ug_table.specs.One.{resettling_numbered, NeedsRoom, failed_of, whys, why_of, GoesAsPart, LivedAs, SettledOne, SettlesOne, IsOf, ResettledOne, ResettlesOne}
 use Rattle.ug_table.specs.declared.standing.Settled.TheVariants as settled
-use Rattle.ug_types.proofs.Elements.{filter_has, map_has, has_map, insert_has, distinct_one, cancel}
-use Rattle.ug_table.proofs.Marks.{not_itself, opens, AreIn, unnamed, flat_stands, flat_nobody}
-use Rattle.ug_table.proofs.Standings.{marked_other, same_is, is_same, found, missing, numbered_has, IsFileOf, file_same, file_later, LiveAs, IsOpen, open_later, open_named}
-use Rattle.ug_table.proofs.Shapes.{Opening, Fresh, Lost, Flat, Unprobed, Tried, Stopped, Unbound, No_place, Judged_so, Piece}
+use Rattle.ug_types.proofs.Elements.{filter_has, map_has, has_map, distinct_one, cancel}
+use Rattle.ug_table.proofs.Marks.{names_distinct, AreIn, unnamed, flat_stands, flat_nobody}
+use Rattle.ug_table.proofs.Standings.{marked_other, without_with, each_with, same_is, is_same, found, missing, numbered_has, IsFileOf, file_same, file_later, LiveAs, IsOpen, or_none, open_name, open_later, open_named}
+use Rattle.ug_table.proofs.Shapes.{Opening, Fresh, Lost, Flat, Unprobed, Tried, Stopped, Unbound, No_place, Judged_so, Piece, opening_absent}
 use Rattle.ug_table.proofs.PartCalls.{failed_by}
 use Rattle.ug_table.proofs.OnePart.{flat_room, tells_why, flat_whys, flat_is_part}
 use Rattle.ug_table.proofs.Chains.{settling_run, numbered_run, resettling_run, run_numbered, no_verdict, no_later}
-use Rattle.ug_types.specs.declared.verdict.Target.TheVariants as target
-use Rattle.ug_types.specs.declared.verdict.Cause.TheVariants as cause
 use Rattle.ug_kernel.proofs.Grow.{grows_refl, some_same}
 use Rattle.ug_kernel.proofs.Rises.{Counting, along_numbered, along_rises}
 use Rattle.ug_kernel.proofs.Told.{told_run}
-use Rattle.ug_audit.specs.declared.entry.Entry.TheVariants as entry
 use Rattle.ug_table.proofs.Steps.{FairFrom, had_before, fair_refl}
 use Rattle.ug_table.proofs.Lived.{lives_first, lives_last, stand_files, judged_at, piece_well, piece_own}
 use Rattle.ug_table.proofs.Fair.{piece_fair}
 
 -- How the settling of a name leaves the marks, whatever the kernel answers.
 
--- names in order are distinct
-names_distinct : (names : List (List ℕ)) → AreInOrder names → AllDistinct names
-names_distinct [] o = tt
-names_distinct (name ∷ names) o = (λ a. true≢false (sym (o.0 name a) ∙ not_itself name), names_distinct names o.1)
-
 -- which numbers were marked as removed
 
 none_stood : (number : ℕ) (ss : List Standing) → (Has (numbers_of ss) number → ⊥) → stood_removed number ss ≡ false
 none_stood number [] n = refl
-none_stood number (s ∷ ss) n = by (nat_eq s.number number) refl (none_stood number ss (λ a. n (inr a)))
-  where
-    by : (b : Bool) → nat_eq s.number number ≡ b → stood_removed number ss ≡ false → ((b && s.removed) || stood_removed number ss) ≡ false
-    by true e h = absurd (n (inl (let is : s.number ≡ number = grind (arith, e) in is)))
-    by false e h = h
-
-flag_alone : (a b : Bool) → b ≡ false → (a || b) ≡ a
-flag_alone true b e = refl
-flag_alone false b e = e
+none_stood number (s ∷ ss) n =
+    ap (λ (b : Bool). (b && s.removed) || stood_removed number ss) (false_from_ne_true (nat_eq s.number number) (λ e. n (inl (let is : s.number ≡ number = grind (arith, e) in is))))
+    ∙ none_stood number ss (λ a. n (inr a))
 
 stood_at : (ss : List Standing) (s : Standing) → AllDistinct (numbers_of ss) → Has ss s → stood_removed s.number ss ≡ s.removed
 stood_at [] s d a = absurd a
 stood_at (t ∷ ss) s d (inl e) =
     let same : nat_eq t.number s.number ≡ true = let is = ap (λ (v : Standing). v.number) e in grind (arith, is) in
     let rest : stood_removed s.number ss ≡ false = none_stood s.number ss (λ a. d.0 (subst (λ (v : ℕ). Has (numbers_of ss) v) (sym (ap (λ (v : Standing). v.number) e)) a)) in
-    ap (λ (b : Bool). (b && t.removed) || stood_removed s.number ss) same ∙ flag_alone t.removed (stood_removed s.number ss) rest ∙ ap (λ (v : Standing). v.removed) e
+    ap (λ (b : Bool). (b && t.removed) || stood_removed s.number ss) same ∙ ap (λ (b : Bool). t.removed || b) rest ∙ or_none t.removed ∙ ap (λ (v : Standing). v.removed) e
 stood_at (t ∷ ss) s d (inr a) =
-    let other : nat_eq t.number s.number ≡ false = by (nat_eq t.number s.number) refl in
+    let other = false_from_ne_true (nat_eq t.number s.number) (λ e. let is : t.number ≡ s.number = grind (arith, e) in d.0 (subst (λ (v : ℕ). Has (numbers_of ss) v) (sym is) (has_map (λ (v : Standing). v.number) ss s a))) in
     ap (λ (b : Bool). (b && t.removed) || stood_removed s.number ss) other ∙ stood_at ss s d.1 a
-  where
-    by : (b : Bool) → nat_eq t.number s.number ≡ b → b ≡ false
-    by true e = let is : t.number ≡ s.number = grind (arith, e) in absurd (d.0 (subst (λ (v : ℕ). Has (numbers_of ss) v) (sym is) (has_map (λ (v : Standing). v.number) ss s a)))
-    by false e = refl
 
 -- those that are meant, by name and number
 abbrev Test : Type 0
@@ -75,6 +57,10 @@ rest_of test ss = filter (λ (s : Standing). not (own test s)) ss
 -- among these standings, they are those of that name
 abbrev AreNamed : Test → List ℕ → List Standing → Type 0
 AreNamed test name ss = (s : Standing) → Has ss s → own test s ≡ same_name s.name name
+
+-- those that are meant were marked as removed before as they are now
+abbrev AreStood : Test → List Standing → List Standing → Type 0
+AreStood test before ss = (s : Standing) → Has ss s → own test s ≡ true → stood_removed s.number before ≡ s.removed
 
 marked_rest : (test : Test) (name : List ℕ) (mark : Bool) (ss : List Standing) → AreNamed test name ss → rest_of test (map (marked name mark) ss) ≡ rest_of test ss
 marked_rest test name mark [] named = refl
@@ -96,20 +82,11 @@ without_rest test name (s ∷ ss) named = by (own test s) refl (same_name s.name
     by true e false f h = absurd (true≢false (sym e ∙ sym f))
     by false e true f h = absurd (true≢false (f ∙ e))
 
-between_rest : (test : Test) (x : Standing) (ss rs : List Standing) → own test x ≡ true → rest_of test (ss ++ x ∷ rs) ≡ rest_of test (ss ++ rs)
-between_rest test x [] rs e = ap (λ (v : Bool). cond (not v) (x ∷ rest_of test rs) (rest_of test rs)) e
-between_rest test x (s ∷ ss) rs e = ap (λ (v : List Standing). cond (not (own test s)) (s ∷ v) v) (between_rest test x ss rs e)
-
-with_rest : (test : Test) (x : Standing) (ss : List Standing) → own test x ≡ true → rest_of test (with_standing x ss) ≡ rest_of test ss
-with_rest test x ss e =
-    let p : ℕ = place_for x.name ss in
-    between_rest test x (take p ss) (drop p ss) e ∙ ap (λ (v : List Standing). rest_of test v) (take-append-drop p ss)
-
 -- standings that are tried again
 
-marked_leaves : (test : Test) (name : List ℕ) (ss : List Standing) (mark : Bool) (how : Settled) → mark ≡ stands how → AllDistinct (numbers_of ss) → AreNamed test name ss → LeavesMarks (own test) ss (map (marked name mark) ss) how
-marked_leaves test name ss mark how is distinct named = record {
-  others = marked_rest test name mark ss named;
+marked_leaves : (test : Test) (name : List ℕ) (before ss : List Standing) (mark : Bool) (how : Settled) → mark ≡ stands how → AreNamed test name ss → rest_of test ss ≡ rest_of test before → AreStood test before ss → LeavesMarks (own test) before (map (marked name mark) ss) how
+marked_leaves test name before ss mark how is named rest stood = record {
+  others = marked_rest test name mark ss named ∙ rest;
   settled = λ s a o.
       let m = map_has (marked name mark) ss s a in
       let flag = own_named m.0 m.1 s m.2 o in
@@ -117,32 +94,37 @@ marked_leaves test name ss mark how is distinct named = record {
   removed = λ s a o.
       let m = map_has (marked name mark) ss s a in
       let flag = own_named m.0 m.1 s m.2 o in
-      let to : removed_of name mark m.0 ≡ (stood_removed m.0.number ss || (stands how && is_reject m.0.verdict)) =
+      let to : removed_of name mark m.0 ≡ (stood_removed m.0.number before || (stands how && is_reject m.0.verdict)) =
       ap (λ (t : Bool). cond t (m.0.removed || (mark && is_reject m.0.verdict)) m.0.removed) flag
-      ∙ ap (λ (t : Bool). t || (mark && is_reject m.0.verdict)) (sym (stood_at ss m.0 distinct m.1))
-      ∙ ap (λ (t : Bool). stood_removed m.0.number ss || (t && is_reject m.0.verdict)) is in
-      subst (λ (v : Standing). v.removed ≡ (stood_removed v.number ss || (stands how && is_reject v.verdict))) m.2 to;
+      ∙ ap (λ (t : Bool). t || (mark && is_reject m.0.verdict)) (sym (stood m.0 m.1 (named m.0 m.1 ∙ flag)))
+      ∙ ap (λ (t : Bool). stood_removed m.0.number before || (t && is_reject m.0.verdict)) is in
+      subst (λ (v : Standing). v.removed ≡ (stood_removed v.number before || (stands how && is_reject v.verdict))) m.2 to;
 }
   where
     own_named : (b : Standing) → Has ss b → (s : Standing) → marked name mark b ≡ s → own test s ≡ true → same_name b.name name ≡ true
     own_named b a s e o = sym (named b a) ∙ ap (λ (v : Standing). own test v) e ∙ o
 
-without_leaves : (test : Test) (name : List ℕ) (ss : List Standing) (how : Settled) → AreNamed test name ss → LeavesMarks (own test) ss (without name ss) how
-without_leaves test name ss how named = record {
-  others = without_rest test name ss named;
+-- none is left of those that are meant
+none_leaves : (test : Test) (before after : List Standing) (how : Settled) → rest_of test after ≡ rest_of test before → ((s : Standing) → Has after s → own test s ≡ true → ⊥) → LeavesMarks (own test) before after how
+none_leaves test before after how rest none = record {
+  others = rest;
   settled = λ s a o. absurd (none s a o);
   removed = λ s a o. absurd (none s a o);
 }
+
+without_leaves : (test : Test) (name : List ℕ) (before ss : List Standing) (how : Settled) → AreNamed test name ss → rest_of test ss ≡ rest_of test before → LeavesMarks (own test) before (without name ss) how
+without_leaves test name before ss how named rest =
+    none_leaves test before (without name ss) how (without_rest test name ss named ∙ rest) none
   where
     none : (s : Standing) → Has (without name ss) s → own test s ≡ true → ⊥
     none s a o =
         let f = filter_has (λ (v : Standing). not (same_name v.name name)) ss s a in
         true≢false (sym f.1 ∙ ap not (sym (named s f.0) ∙ o))
 
-tried_leaves : (test : Test) (name : List ℕ) (ss : List Standing) (how : Settled) → AllDistinct (numbers_of ss) → AreNamed test name ss → LeavesMarks (own test) ss (tried_standings ss name how) how
-tried_leaves test name ss settled.Nobody distinct named = without_leaves test name ss settled.Nobody named
-tried_leaves test name ss settled.Stands distinct named = marked_leaves test name ss true settled.Stands refl distinct named
-tried_leaves test name ss how distinct named = marked_leaves test name ss false how refl distinct named
+tried_leaves : (test : Test) (name : List ℕ) (before ss : List Standing) (how : Settled) → AreNamed test name ss → rest_of test ss ≡ rest_of test before → AreStood test before ss → LeavesMarks (own test) before (tried_standings ss name how) how
+tried_leaves test name before ss settled.Nobody named rest stood = without_leaves test name before ss settled.Nobody named rest
+tried_leaves test name before ss settled.Stands named rest stood = marked_leaves test name before ss true settled.Stands refl named rest stood
+tried_leaves test name before ss how named rest stood = marked_leaves test name before ss false how refl named rest stood
 
 -- a name
 
@@ -158,33 +140,8 @@ opening_rest {name = name} {ss = ss} (Lost known failed shut e) = without_rest (
 
 -- none stands for it
 opening_leaves : {name : List ℕ} {ss : List Standing} {ms : List Made} {es : List Entry} {rs : List Standing} (how : Settled) → Opening name ss ms es rs → LeavesMarks (has_name name) ss rs how
-opening_leaves {name = name} {rs = rs} how opening = record {
-  others = opening_rest opening;
-  settled = λ s a o. absurd (own_missing name rs s (opens opening).absent a o);
-  removed = λ s a o. absurd (own_missing name rs s (opens opening).absent a o);
-}
-
-with_leaves : (name : List ℕ) (ss rs : List Standing) (x : Standing) (how : Settled) → x.name ≡ name → rest_of (of_name name) rs ≡ rest_of (of_name name) ss → (Has (names_of rs) name → ⊥) → x.settled ≡ stands how → x.removed ≡ (stood_removed x.number ss || (stands how && is_reject x.verdict)) → LeavesMarks (has_name name) ss (with_standing x rs) how
-with_leaves name ss rs x how named rest absent mark gone = record {
-  others = with_rest (of_name name) x rs (is_same x.name name named) ∙ rest;
-  settled = λ s a o. elim (insert_has rs (place_for x.name rs) x s a) [
-    | inl e ↦ sym (ap (λ (v : Standing). v.settled) e) ∙ mark
-    | inr b ↦ absurd (own_missing name rs s absent b o)
-  ];
-  removed = λ s a o. elim (insert_has rs (place_for x.name rs) x s a) [
-    | inl e ↦ subst (λ (v : Standing). v.removed ≡ (stood_removed v.number ss || (stands how && is_reject v.verdict))) e gone
-    | inr b ↦ absurd (own_missing name rs s absent b o)
-  ];
-}
-
-kept_leaves : (name : List ℕ) (ss rs : List Standing) (x : Standing) (how : Settled) → x.name ≡ name → x.settled ≡ false → x.removed ≡ false → stood_removed x.number ss ≡ false → rest_of (of_name name) rs ≡ rest_of (of_name name) ss → (Has (names_of rs) name → ⊥) → LeavesMarks (has_name name) ss (kept_standings rs x how) how
-kept_leaves name ss rs x settled.Nobody named fresh stays none rest absent = record {
-  others = rest;
-  settled = λ s a o. absurd (own_missing name rs s absent a o);
-  removed = λ s a o. absurd (own_missing name rs s absent a o);
-}
-kept_leaves name ss rs x settled.Stands named fresh stays none rest absent = with_leaves name ss rs (settled_standing x) settled.Stands named rest absent refl (ap (λ (v : Bool). v || is_reject x.verdict) (stays ∙ sym none))
-kept_leaves name ss rs x how named fresh stays none rest absent = with_leaves name ss rs x how named rest absent fresh (stays ∙ sym (ap (λ (v : Bool). v || false) none))
+opening_leaves {name = name} {ss = ss} {rs = rs} how opening =
+    none_leaves (of_name name) ss rs how (opening_rest opening) (λ s a o. own_missing name rs s (opening_absent opening) a o)
 
 next_stood : (next : ℕ) (ss : List Standing) → StandInOrder next ss → stood_removed next ss ≡ false
 next_stood next ss o = none_stood next ss (λ a.
@@ -194,13 +151,14 @@ next_stood next ss o = none_stood next ss (λ a.
     omega (arith, below, is))
 
 flat_leaves : {binds : Bool} {given : List Standing → Bound → Standing → Type 0} {name : List ℕ} {ss : List Standing} {ok : Bool} {ms : List Made} {rest : List Entry} {how : Settled} {rs : List Standing} {o : Option (List Standing × Bound)} (next : ℕ) → StandInOrder next ss → ((rs : List Standing) (b : Bound) (x : Standing) → given rs b x → x.number ≡ next) → Flat binds given name ss ok ms rest how rs o → LeavesMarks (has_name name) ss rs how
-flat_leaves {name = name} {ss = ss} next order numbered (Unprobed known failed at) = tried_leaves (of_name name) name ss (settled.Fault failed) order.distinct (λ s a. refl)
-flat_leaves {name = name} {ss = ss} next order numbered (Tried known on failed ms es how at b) = tried_leaves (of_name name) name ss how order.distinct (λ s a. refl)
+flat_leaves {name = name} {ss = ss} next order numbered (Unprobed known failed at) = tried_leaves (of_name name) name ss ss (settled.Fault failed) (λ s a. refl) refl (λ s a o. stood_at ss s order.distinct a)
+flat_leaves {name = name} {ss = ss} next order numbered (Tried known on failed ms es how at b) = tried_leaves (of_name name) name ss ss how (λ s a. refl) refl (λ s a o. stood_at ss s order.distinct a)
 flat_leaves next order numbered (Stopped ms es rs f opening) = opening_leaves settled.Nobody opening
 flat_leaves next order numbered (Unbound ms ns es fs rs r how t opening way end) = opening_leaves how opening
 flat_leaves next order numbered (No_place ms ns es rs b shut t opening way) = opening_leaves settled.Memory opening
 flat_leaves {name = name} {ss = ss} next order numbered (Judged_so ms ns os es fs rs b x how t opening way given new brought) =
-    kept_leaves name ss rs x how new.named new.fresh new.stays (ap (λ (v : ℕ). stood_removed v ss) (numbered rs b x given) ∙ next_stood next ss order) (opening_rest opening) (opens opening).absent
+    let none = ap (λ (v : ℕ). stood_removed v ss) (numbered rs b x given) ∙ next_stood next ss order ∙ sym new.stays in
+    tried_leaves (of_name name) name ss (with_standing x rs) how (λ s a. refl) (without_with name x rs new.named ∙ opening_rest opening) (each_with (λ (v : Standing). same_name v.name name ≡ true → stood_removed v.number ss ≡ v.removed) x rs (λ o. none) (λ s a o. absurd (own_missing name rs s (opening_absent opening) a o)))
 
 pub run_leaves : {S J : Type 0} (gives : S → (call : Call) → Answer call → S → Type 0) (answer : Answers J) (later : Laters J) (name : List ℕ) (present : Bool) (w : State J) (s : S) (p : Settled × State J) (t : S) → StandInOrder w.next w.standings → Runs gives s (settling answer later name present w) p t → LeavesMarks (has_name name) w.standings p.1.standings p.0
 run_leaves gives answer later name present w s p t order r = flat_leaves w.next order
@@ -247,7 +205,7 @@ pub numbered_leaves : {S : Type 0} (gives : S → (call : Call) → Answer call 
 numbered_leaves gives next number k x s p t order at r =
     let has = has_map (λ (v : Standing). v.name) k.standings x (numbered_has number k.standings x at).0 in
     let tried = flat_tried (numbered_run gives number k x s p t at r).so.flat refl has in
-    subst (λ (v : List Standing). LeavesMarks (has_number number) k.standings v p.0) (sym tried) (tried_leaves (of_number number) x.name k.standings p.0 order.distinct (numbered_named next number k.standings x order at))
+    subst (λ (v : List Standing). LeavesMarks (has_number number) k.standings v p.0) (sym tried) (tried_leaves (of_number number) x.name k.standings k.standings p.0 (numbered_named next number k.standings x order at) refl (λ s a o. stood_at k.standings s order.distinct a))
 
 -- want of memory
 pub needs_room : {S : Type 0} (gives : S → (call : Call) → Answer call → S → Type 0) (next number : ℕ) (k : Kept) (x : Standing) (s : S) (p : Settled × Kept) (t : S) → StandInOrder next k.standings → numbered number k.standings ≡ Some x → Runs gives s (resettling_numbered number k) p t → p.0 ≡ settled.Memory → NeedsRoom number k.standings
@@ -293,9 +251,6 @@ settling_part gives calls faults counted answer later name present w s p t h =
     let x = settling_run gives answer later name present w s p t h in
     as_part gives calls faults counted x.so x.along
 
-first_in : {J : Type 0} (w : State J) (name : List ℕ) → AreIn none_before name w w
-first_in w name rest e s a = inr (refl, a)
-
 -- the standing of a live device of that name bears the name
 standing_named : (l : Kernel) (ss : List Standing) (next i : ℕ) (name : List ℕ) → Stand l ss next → LiveAs l i name → HasStanding l ss i → Has (names_of ss) name
 standing_named l ss next i name stand live h =
@@ -306,7 +261,7 @@ settling_one {J} answer later name present w k l p sound stand r =
     let x = settling_run calls answer later name present w k p l r in
     let piece = x.so in
     let along = x.along in
-    let a = piece_fair (λ e. first_in w name)
+    let a = piece_fair (λ e rest f s a. inr (refl, a))
     (fair_refl answer later present none_before k w sound stand) piece x.along in
     let last : (i : ℕ) → LivedAs k l name i → LiveAs l i name = λ i x. subst (λ (v : List ℕ). LiveAs l i v) x.2 (lives_last k l i x.0 a.fair.grows x.1) in
     let ended : (i : ℕ) → LivedAs k l name i → IsAsJudged l p.1.standings i ⊎ IsNamed a.fair.rest name = λ i x.
@@ -340,10 +295,8 @@ numbered_part gives calls faults counted number k x s p t e r =
 -- two open files of one device are of one name
 one_name : (k : Kernel) (a b : List ℕ) (held other i : ℕ) → IsOpen k a held → IsOpen k b other → IsFileOf k held i → IsFileOf k other i → a ≡ b
 one_name k a b held other i x y f g =
-    let is : x.i ≡ i = file_same k held x.i i x.file f in
     let at : y.i ≡ i = file_same k other y.i i y.file g in
-    let same : x.d ≡ y.d = some_same (slice_get k.devices i) x.d y.d (subst (λ v. slice_get k.devices v ≡ Some x.d) is x.device) (subst (λ v. slice_get k.devices v ≡ Some y.d) at y.device) in
-    sym x.named ∙ ap (λ (v : Device). v.name) same ∙ y.named
+    sym (open_name k a held y.i y.d x y.device (subst (λ j. IsFileOf k held j) (sym at) f)) ∙ y.named
 
 -- a live device isn't gone
 dead : (l : Kernel) (i : ℕ) (name : List ℕ) → IsGone l i → LiveAs l i name → ⊥

@@ -1,23 +1,21 @@
 -- One name's part of a sweep, from its shapes: one law on its calls, and one on its entries.
-use Rattle.std.proofs.Common.{◌≡◌, ℕ, ◌+◌, ◌≤◌, Bool, true, false, not, cond, ◌||◌, List, [], ◌∷◌, ◌++◌, length, Option, Some, None, ◌⊎◌, inl, inr, refl, sym, ◌∙◌, ap, subst, append_assoc, append-nil, arith}
-use Rattle.std.specs.Prelude.{if◌then◌else◌}
-use Rattle.ug_table.proofs.Common.{Has, Held, Target, Authorized, Remove, Write, FailedCall, Probe, Wrote, Call, Open, Ask_alive, Put, Close, Told, Made, answered, failures, count_calls, Bound, Binding, RemoveHold, Entry, Fault, standing_of, wrote_entries, OpenFile, open_file, Behind, behind_more, IsWriteDue, PutMade, AtMostOneEach, told_by, failure_in, failures_told, write_in, writes_in, TellsWrites, EndsUnsettled, IsBoundAnew, LacksRoom, control_of, known_files, AllBear, number_of, AreOfNumber, numbers_given, Part, Standing, Known, Settled}
+use Rattle.std.proofs.Common.{◌≡◌, ℕ, ◌≤◌, Bool, true, false, not, ◌||◌, List, [], ◌∷◌, ◌++◌, length, Option, Some, None, ◌⊎◌, inl, inr, refl, sym, ◌∙◌, ap, subst, append_assoc, append-nil, arith}
+use Rattle.ug_table.proofs.Common.{Has, Held, Target, Authorized, Remove, Write, FailedCall, Probe, Wrote, Open, Ask_alive, Put, Close, Told, Made, answered, failures, count_calls, Bound, Binding, RemoveHold, Entry, Fault, known_of, with_standing, standing_of, wrote_entries, OpenFile, open_file, Behind, behind_more, IsWriteDue, PutMade, AtMostOneEach, told_by, failure_in, failures_told, write_in, writes_in, TellsWrites, EndsUnsettled, IsBoundAnew, LacksRoom, control_of, known_files, AllBear, number_of, AreOfNumber, numbers_given, Part, Standing, Known, Settled}
 use Rattle.ug_types.specs.declared.verdict.Target.TheVariants as target
 use Rattle.ug_types.specs.declared.control.Write.TheVariants as write
 use Rattle.ug_kernel.specs.declared.calls.Probe.TheVariants as probe
-use Rattle.ug_kernel.specs.declared.calls.ReadOut.TheVariants as out
 use Rattle.ug_node.specs.declared.identity.Binding.TheVariants as bound
 use Rattle.ug_node.specs.declared.removal.RemoveHold.TheVariants as hold
-use Rattle.ug_node.proofs.BindShapes.{told, way_binds, Holds_by, way_holds}
+use Rattle.ug_node.proofs.BindShapes.{way_binds, Holds_by, way_holds}
 use Rattle.ug_audit.specs.declared.entry.Entry.TheVariants as entry
 use Rattle.ug_audit.specs.declared.entry.Fault.TheVariants as fault
-use Rattle.ug_table.specs.Settle.{kept_standings, tried_standings}
+use Rattle.ug_table.specs.Settle.{tried_standings}
 use Rattle.ug_table.specs.Bring.{wants, write_of, is_to_go}
 use Rattle.ug_table.specs.One.{why_in, whys, why_of}
 use Rattle.ug_table.specs.declared.standing.Settled.TheVariants as settled
 use Rattle.ug_types.proofs.Elements.{has_right}
-use Rattle.ug_table.proofs.Shapes.{Written, Done, Went, Broke, Valued, Same, Set, Unheld, Gone_by, Short_by, Removal, Not_held, Put_on, Carried, By_value, And_removal, Brought, Left_open, Let_go, Opening, Fresh, Lost, Unbound_end, Absent_so, Vanished_so, Flat, Unprobed, Tried, Stopped, Unbound, No_place, Judged_so, told_at}
-use Rattle.ug_table.proofs.Standings.{OthersStand, others_stand, without_stand, kept_stand, tried_stand, stands_file, stands_number, without_own, tried_own, kept_own}
+use Rattle.ug_table.proofs.Shapes.{Written, Done, Went, Broke, Valued, Same, Set, Unheld, Gone_by, Short_by, Removal, Not_held, Put_on, Carried, By_value, And_removal, Brought, Left_open, Let_go, Opening, Fresh, Lost, Unbound_end, Absent_so, Vanished_so, Flat, Unprobed, Tried, Stopped, Unbound, No_place, Judged_so, told_at, opening_none, new_known}
+use Rattle.ug_table.proofs.Standings.{OthersStand, others_stand, without_stand, with_stand, not_named, tried_stand, stands_file, stands_number, without_own, tried_own}
 use Rattle.ug_table.proofs.PartCalls.{has_want, failed_by, are_short, behind_after, CallsOf, calls_are, calls_more, calls_as, closed_first, binding_faults, binding_files, binds_calls, IsFound, bound_found, hold_faults, hold_files, holds_calls, ready_due, IsShort, hold_short}
 
 -- entries
@@ -211,7 +209,7 @@ value_file : (verdict : Target) (held : ℕ) (files : List OpenFile)
 value_file target.Allow held files h = h
 value_file x held files h = h
 
-no_removal : (verdict : Target) → write_of verdict ≡ write.Remove → ⊥
+pub no_removal : (verdict : Target) → write_of verdict ≡ write.Remove → ⊥
 no_removal target.Allow e = let none : ⊥ = cc in none
 no_removal x e = let none : ⊥ = cc in none
 
@@ -355,11 +353,6 @@ opening_goes {name} b (Lost known failed shut e) =
       anew = λ ns. inr (m, n ∷ ns, refl, (known, t, refl, refl, refl));
     })
 
-opening_none : {name : List ℕ} {ss : List Standing} {ms : List Made} {es : List Entry}
-    {rs : List Standing} → Opening name ss ms es rs → standing_of name rs ≡ None
-opening_none (Fresh e) = e
-opening_none {name} {ss} (Lost known failed shut e) = without_own name ss
-
 unbound_calls : {name : List ℕ} {r : Binding} {es : List Entry} {how : Settled} {b : Behind}
     {ms : List Made} → Unbound_end name r es how
     → CallsOf name [] b ms (binding_files r []) (binding_faults r) [] 9
@@ -387,15 +380,6 @@ tried_so name ss how known e =
       sym
           (stands_number _ known.number known.held own),
     )
-
-kept_so : (name : List ℕ) (ss : List Standing) (x : Standing) (how : Settled) → x.name ≡ name
-    → standing_of name ss ≡ None
-    → (ended_files how x.held.0 ≡ known_files (standing_of name (kept_standings ss x how)))
-    × (ended_number how x.number ≡ number_of (standing_of name (kept_standings ss x how)))
-kept_so name ss x settled.Nobody e n = (sym (ap known_files n), sym (ap number_of n))
-kept_so name ss x how e n =
-    let own = kept_own name ss x how e n (λ s. let none : ⊥ = cc in none) in
-    (sym (stands_file _ x.number x.held own), sym (stands_number _ x.number x.held own))
 
 abbrev start : Behind
 start = record { last = None; earlier = None }
@@ -504,7 +488,7 @@ flat_goes {name = name} (Judged_so ms ns os es fs rs v x how t opening way given
     let found = subst (λ (w : Held). IsFound (behind_after c ns) w.0 v.on) (sym new.held) f in
     let k = brought_goes (behind_after c ns) found brought in
     let held = ap (λ (w : Held). open_file w.0 Authorized ∷ []) (sym new.held) in
-    let so = kept_so name rs x how new.named (opening_none opening) in
+    let so = tried_so name (with_standing x rs) how (known_of x) (new_known opening new) in
     let e : List Entry = entry.Judged x.number name x.held x.verdict x.cause ∷ [] in
     let given : EntriesOf name None e (Some x.number) [] [] (x.number ∷ []) =
     entries_are (refl, refl) refl refl (tt, tt) (refl, tt) refl in
@@ -530,7 +514,8 @@ flat_others (Stopped ms es rs f opening) = opening_others opening
 flat_others (Unbound ms ns es fs rs r how t opening way end) = opening_others opening
 flat_others (No_place ms ns es rs b shut t opening way) = opening_others opening
 flat_others {name = name} (Judged_so ms ns os es fs rs b x how t opening way given new brought) =
-    λ other n. kept_stand name rs x how new.named other n ∙ opening_others opening other n
+    λ other n. tried_stand name (with_standing x rs) how other n
+    ∙ with_stand other x rs (not_named name other x new.named n) ∙ opening_others opening other n
 
 -- where nothing is bound, no number is given out
 pub flat_none : {binds : Bool} {given : List Standing → Bound → Standing → Type 0} {name : List ℕ}
@@ -552,19 +537,20 @@ tells_why name (entry.UnsettledAll why ∷ es) last = absurd last.0
 tells_why name (entry.Reply answered ∷ es) last = absurd last.0
 tells_why name (e ∷ es) last = tells_why name es last.1
 
+-- why a name is told is among them
+pub told_in : (name : List ℕ) (why : Fault) (es : List Entry) → Has es (entry.Unsettled name why)
+    → Has (whys es) why
+told_in name why [] a = a
+told_in name why (e ∷ es) (inl is) =
+    subst (λ (v : Entry). Has (why_in v ++ whys es) why) (sym is) (inl refl)
+told_in name why (e ∷ es) (inr a) = has_right (why_in e) (whys es) why (told_in name why es a)
+
 -- so want of memory is told where it ended so
 tells_memory : (es : List Entry) (name : List ℕ) (how : Settled) → whys es ≡ why_of how
     → Has es (entry.Unsettled name fault.Memory) → how ≡ settled.Memory
 tells_memory es name how e a = by how
-    (subst (λ (v : List Fault). Has v fault.Memory) e (told_in es a))
+    (subst (λ (v : List Fault). Has v fault.Memory) e (told_in name fault.Memory es a))
   where
-    told_in : (fs : List Entry) → Has fs (entry.Unsettled name fault.Memory)
-        → Has (whys fs) fault.Memory
-    told_in [] b = b
-    told_in (f ∷ fs) (inl is) =
-        subst (λ (v : Entry). Has (why_in v ++ whys fs) fault.Memory) (sym is) (inl refl)
-    told_in (f ∷ fs) (inr b) = has_right (why_in f) (whys fs) fault.Memory (told_in fs b)
-
     by : (x : Settled) → Has (why_of x) fault.Memory → x ≡ settled.Memory
     by settled.Stands b = absurd b
     by settled.Nobody b = absurd b

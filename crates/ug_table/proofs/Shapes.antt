@@ -1,6 +1,6 @@
 -- One name's part, flat: each way through the trees of a settling and a resettling has one of these shapes.
-use Rattle.std.proofs.Common.{◌≡◌, ℕ, ◌+◌, Bool, true, false, ◌&&◌, is_none, List, [], ◌∷◌, ◌++◌, Option, Some, None, refl, sym, ◌∙◌, ap, subst, append_assoc, append-nil}
-use Rattle.ug_table.proofs.Common.{parent_of, Judged, Held, Target, Cause, Probe, Write, Wrote, Ask_alive, Put, Close, Closing, Told, Made, answered, failure_of, Bound, Binding, RemoveHold, Entry, State, Kept, with_kept, Answers, Laters, known_of, standing_of, without, Standing, Known, Settled, FailedCall}
+use Rattle.std.proofs.Common.{◌≡◌, ℕ, ◌+◌, Bool, true, false, ◌&&◌, not, is_none, List, [], ◌∷◌, ◌++◌, Option, Some, None, refl, sym, ◌∙◌, ap, subst, append_assoc, append-nil}
+use Rattle.ug_table.proofs.Common.{parent_of, Judged, Held, Target, Cause, Probe, Write, Wrote, Ask_alive, Put, Close, Closing, Told, Made, answered, failure_of, Bound, Binding, RemoveHold, Entry, State, Kept, with_kept, Answers, Laters, Has, known_of, standing_of, same_name, without, with_standing, Standing, Known, Settled, FailedCall}
 use Rattle.ug_kernel.specs.declared.calls.Probe.TheVariants as probe
 use Rattle.ug_types.specs.declared.control.Write.TheVariants as write
 use Rattle.ug_kernel.specs.declared.calls.Wrote.TheVariants as wrote
@@ -15,11 +15,11 @@ use Rattle.ug_table.specs.Bring.{wants, write_of, after_write, to_value, valuing
 use Rattle.ug_table.specs.Settle.{kept_standings, to_keep, no_room, standing_for, known_in, judged_entry, if_place, if_record, admitting, after_bind, entering, tried_standings, to_mark, after_known, from_standing, settling, to_keep_mark, after_again, again, resettling}
 use Rattle.ug_table.specs.declared.standing.Settled.TheVariants as settled
 use Rattle.ug_kernel.proofs.Ways.{Ways, Sure, Way, ways_more, behind_sure, sure_last}
-use Rattle.ug_node.proofs.BindShapes.{sure_binding, sure_hold, told}
-
--- what a call was answered, with its number and the count of failed calls after it
-abbrev pub told_at : {X : Type 0} → X → FailedCall → Told X
-told_at answer last = told answer last.call last.count
+use Rattle.ug_node.proofs.BindShapes.{sure_binding, sure_hold}
+use Rattle.ug_types.proofs.Elements.{filter_has}
+use Rattle.ug_table.specs.Sweep.{names_of}
+use Rattle.ug_table.proofs.Standings.{missing, without_own, with_own, kept_tried}
+pub use Rattle.ug_table.proofs.Standings.{told_at}
 
 -- the shapes
 
@@ -59,6 +59,18 @@ pub data Opening (name : List ℕ) (ss : List Standing) : List Made → List Ent
   Fresh : standing_of name ss ≡ None → Opening name ss [] [] ss
   Lost : (known : Known) (failed : FailedCall) (shut : Closing) → standing_of name ss ≡ Some known → Opening name ss (answered (Ask_alive known.held.0) (told_at probe.Gone failed) ∷ answered (Close known.held.0) shut ∷ []) (entry.Gone known.number name ∷ []) (without name ss)
 
+-- so none of the name is left, and no other is new
+pub opening_none : {name : List ℕ} {ss : List Standing} {ms : List Made} {es : List Entry} {rs : List Standing} → Opening name ss ms es rs → standing_of name rs ≡ None
+opening_none (Fresh e) = e
+opening_none {name} {ss} (Lost known failed shut e) = without_own name ss
+
+pub opening_absent : {name : List ℕ} {ss : List Standing} {ms : List Made} {es : List Entry} {rs : List Standing} → Opening name ss ms es rs → Has (names_of rs) name → ⊥
+opening_absent {name} {rs = rs} opening = missing name rs (opening_none opening)
+
+pub opening_less : {name : List ℕ} {ss : List Standing} {ms : List Made} {es : List Entry} {rs : List Standing} → Opening name ss ms es rs → (s : Standing) → Has rs s → Has ss s
+opening_less (Fresh e) s a = a
+opening_less {name} {ss} (Lost known failed shut e) s a = (filter_has (λ (v : Standing). not (same_name v.name name)) ss s a).0
+
 -- no device was bound
 pub data Unbound_end (name : List ℕ) : Binding → List Entry → Settled → Type 0 where
   Absent_so : Unbound_end name bound.Absent [] settled.Nobody
@@ -73,6 +85,10 @@ pub record IsNew (name : List ℕ) (b : Bound) (s : Standing) : Type 0 where
   pub fresh : s.settled ≡ false
   pub stays : s.removed ≡ false
 
+-- it is the name's
+pub new_known : {name : List ℕ} {ss : List Standing} {ms : List Made} {es : List Entry} {rs : List Standing} {b : Bound} {x : Standing} → Opening name ss ms es rs → IsNew name b x → standing_of name (with_standing x rs) ≡ Some (known_of x)
+new_known {name} {rs = rs} {x = x} opening new = with_own name x rs new.named (opening_none opening)
+
 -- A name's part: whether room was granted, the calls, the entries, how it ended, the standings then, and the device that was judged
 -- beside which standings, if one was. Only a settling binds; `given` is what is known of a new standing.
 pub data Flat (binds : Bool) (given : List Standing → Bound → Standing → Type 0) (name : List ℕ) (ss : List Standing) : Bool → List Made → List Entry → Settled → List Standing → Option (List Standing × Bound) → Type 0 where
@@ -81,7 +97,7 @@ pub data Flat (binds : Bool) (given : List Standing → Bound → Standing → T
   Stopped : (ms : List Made) (es : List Entry) (rs : List Standing) → binds ≡ false → Opening name ss ms es rs → Flat binds given name ss true ms es settled.Nobody rs None
   Unbound : (ms ns : List Made) (es fs : List Entry) (rs : List Standing) (r : Binding) (how : Settled) → binds ≡ true → Opening name ss ms es rs → Way (binding name (parent_of name)) ns r → Unbound_end name r fs how → Flat binds given name ss true (ms ++ ns) (es ++ fs) how rs None
   No_place : (ms ns : List Made) (es : List Entry) (rs : List Standing) (b : Bound) (shut : Closing) → binds ≡ true → Opening name ss ms es rs → Way (binding name (parent_of name)) ns (bound.Bound b) → Flat binds given name ss false (ms ++ (ns ++ answered (Close b.held.0) shut ∷ [])) (es ++ entry.Unsettled name fault.Memory ∷ []) settled.Memory rs None
-  Judged_so : (ms ns os : List Made) (es fs : List Entry) (rs : List Standing) (b : Bound) (x : Standing) (how : Settled) → binds ≡ true → Opening name ss ms es rs → Way (binding name (parent_of name)) ns (bound.Bound b) → given rs b x → IsNew name b x → Brought name (known_of x) b.on os fs how → Flat binds given name ss true (ms ++ (ns ++ os)) (es ++ entry.Judged x.number name x.held x.verdict x.cause ∷ fs) how (kept_standings rs x how) (Some (rs, b))
+  Judged_so : (ms ns os : List Made) (es fs : List Entry) (rs : List Standing) (b : Bound) (x : Standing) (how : Settled) → binds ≡ true → Opening name ss ms es rs → Way (binding name (parent_of name)) ns (bound.Bound b) → given rs b x → IsNew name b x → Brought name (known_of x) b.on os fs how → Flat binds given name ss true (ms ++ (ns ++ os)) (es ++ entry.Judged x.number name x.held x.verdict x.cause ∷ fs) how (tried_standings (with_standing x rs) name how) (Some (rs, b))
 
 -- the walk
 
@@ -139,9 +155,7 @@ carried name known on entries = behind_sure (Adds entries (Valued name known on)
 
     by : (ms : List Made) (how : Settled) (fs es : List Entry) → fs ≡ entries ++ es → Valued name known on ms es how → Ways (after_value name known fs how) (Sure (λ ns p. Adds entries (Carried name known on) (ms ++ ns) p))
     by ms settled.Stands fs es e v = goes ms es fs (is_to_go known) refl e v
-    by ms settled.Nobody fs es e v = stops ms settled.Nobody es fs e v (λ s. let none : ⊥ = cc in absurd none)
-    by ms (settled.Fault failed) fs es e v = stops ms (settled.Fault failed) es fs e v (λ s. let none : ⊥ = cc in absurd none)
-    by ms settled.Memory fs es e v = stops ms settled.Memory es fs e v (λ s. let none : ⊥ = cc in absurd none)
+    by ms how fs es e v = stops ms how es fs e v (λ s. let none : ⊥ = cc in absurd none)
 
 pub brought : (name : List ℕ) (known : Known) (on : Bool) (entries : List Entry) → Ways (bringing name known on entries) (Sure (Adds entries (Brought name known on)))
 unfolding bringing
@@ -152,9 +166,7 @@ brought name known on entries = behind_sure (Adds entries (Carried name known on
 
     by : (ms : List Made) (how : Settled) (fs es : List Entry) → fs ≡ entries ++ es → Carried name known on ms es how → Ways (close_gone known.held.0 fs how) (Sure (λ ns p. Adds entries (Brought name known on) (ms ++ ns) p))
     by ms settled.Nobody fs es e c = λ shut. (refl, (es, e, Let_go ms es shut c))
-    by ms settled.Stands fs es e c = stays ms settled.Stands fs es e c (λ s. let none : ⊥ = cc in none)
-    by ms (settled.Fault failed) fs es e c = stays ms (settled.Fault failed) fs es e c (λ s. let none : ⊥ = cc in none)
-    by ms settled.Memory fs es e c = stays ms settled.Memory fs es e c (λ s. let none : ⊥ = cc in none)
+    by ms how fs es e c = stays ms how fs es e c (λ s. let none : ⊥ = cc in none)
 
 -- a settling
 
@@ -212,7 +224,7 @@ entered {J} answer later name present w ms es fs rs same opening = behind_sure (
         (λ os q h. record {
           rest = es ++ e ∷ h.0;
           judged = Some (rs, b);
-          flat = Judged_so ms ns os es h.0 rs b x q.0 refl opening way refl (record { named = refl; held = refl; fresh = refl; stays = refl }) h.2;
+          flat = subst (λ v. Flat true (IsGiven answer present name w) name w.standings true (ms ++ (ns ++ os)) (es ++ e ∷ h.0) q.0 v (Some (rs, b))) (sym (kept_tried rs x q.0 refl (opening_none opening))) (Judged_so ms ns os es h.0 rs b x q.0 refl opening way refl (record { named = refl; held = refl; fresh = refl; stays = refl }) h.2);
           entries = more q.1 (e ∷ h.0) (h.1 ∙ behind fs e h.0);
           listed = refl;
           next = refl;

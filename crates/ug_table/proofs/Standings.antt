@@ -1,10 +1,10 @@
 -- Standings, and the devices of their held files.
-use Rattle.std.proofs.Common.{◌≡◌, ◌↔◌, ℕ, nat_eq, Option, option_copied, IsNone, Bor, sym, Bool, true, false, not, ◌∙◌, ◌||◌, List, [], ◌∷◌, Some, None, map, cond, ◌⊎◌, inl, inr, refl, ap, subst, arith, slice_get, ◌&&◌, ◌++◌, take, drop, true≢false}
-use Rattle.std.proofs.lemmas.Bool.{or_right}
+use Rattle.std.proofs.Common.{◌≡◌, ◌↔◌, ℕ, nat_eq, Option, option_copied, IsNone, Bor, sym, Bool, true, false, not, ◌∙◌, ◌||◌, List, [], ◌∷◌, Some, None, map, cond, ◌⊎◌, inl, inr, refl, ap, subst, arith, slice_get, ◌&&◌, ◌++◌, take, drop}
+use Rattle.std.proofs.lemmas.Bool.{or_right, or_cases, cases_Bool, cond_both, cond-false, both_ways, not-true, not-false, false_from_ne_true}
 use Rattle.std.specs.Cmp.Lexicographic.{bytes_decides}
 use Rattle.ug_table.proofs.Common.{Has, AllDistinct, same_name, known_of, standing_of, numbered, without, marked, lists, removed_of, place_for, with_standing, settled_standing, numbers_of, Standing, Known, Target, Device, Control, Authorized, Remove, Write, Wrote, Told, Put, Kernel, Live, IsKernel, Lived, value_after, does_put, IsWritten, IsGoneAt, IsAlive, Called, Quiet, Grows, FailedCall, Settled, Held, open_file, known_files, number_of, Entry, farewells}
 use Rattle.ug_table.specs.Sweep.{names_of}
-use Rattle.ug_types.proofs.Elements.{filter_has, map_has, has_map, distinct_one, has_filter, insert_has, has_new, has_old}
+use Rattle.ug_types.proofs.Elements.{filter_has, map_has, has_map, distinct_one, has_filter, insert_has}
 use Rattle.ug_table.specs.Bring.{is_reject, wants, write_of}
 use Rattle.ug_types.specs.declared.verdict.Target.TheVariants as target
 use Rattle.ug_kernel.specs.declared.device.HeldFile.{HeldFile}
@@ -13,13 +13,17 @@ use Rattle.ug_kernel.specs.declared.calls.Wrote.TheVariants as wrote
 use Rattle.ug_kernel.proofs.Grow.{some_same}
 use Rattle.ug_kernel.proofs.Quiet.{moves_quiet}
 use Rattle.ug_kernel.proofs.Held.{live_before}
-use Rattle.ug_table.proofs.Shapes.{told_at}
+use Rattle.ug_node.proofs.BindShapes.{told}
 use Rattle.std.specs.Prelude.{if◌then◌else◌}
 use Rattle.ug_table.specs.Settle.{kept_standings, tried_standings}
 use Rattle.ug_table.specs.declared.standing.Settled.TheVariants as settled
 use Rattle.std.proofs.lemmas.List.{take-append-drop}
-use Rattle.std.specs.List.{filter}
+use Rattle.std.specs.List.{filter, insert}
 use Rattle.ug_audit.specs.declared.entry.Entry.TheVariants as entry
+
+-- what a call was answered, with its number and the count of failed calls after it
+abbrev pub told_at : {X : Type 0} → X → FailedCall → Told X
+told_at answer last = told answer last.call last.count
 
 -- what holds of no entry, and stays with one that tells a standing gone, holds of those that tell what isn't listed
 pub farewells_by : (P : List Entry → Type 0) → P []
@@ -51,23 +55,19 @@ pub record Found (name : List ℕ) (ss : List Standing) (found_known : Known) : 
   pub named : s.name ≡ name
   pub known : known_of s ≡ found_known
 
-found_by : (name : List ℕ) (x : Standing) (ss : List Standing) (known : Known) (b : Bool) → same_name x.name name ≡ b → (standing_of name ss ≡ Some known → Found name ss known) → cond b (Some (known_of x)) (standing_of name ss) ≡ Some known → Found name (x ∷ ss) known
-found_by name x ss known true e f h = let same : known_of x ≡ known = cc in record { s = x; has = inl refl; named = same_is x.name name e; known = same }
-found_by name x ss known false e f h = let k = f h in record { s = k.s; has = inr k.has; named = k.named; known = k.known }
-
 pub found : (name : List ℕ) (ss : List Standing) (known : Known) → standing_of name ss ≡ Some known → Found name ss known
 found name [] known h = let none : ⊥ = cc in absurd none
-found name (x ∷ ss) known h = found_by name x ss known (same_name x.name name) refl (λ k. found name ss known k) h
+found name (x ∷ ss) known h = cond_both (same_name x.name name) (Some (known_of x)) (standing_of name ss)
+    (λ (o : Option Known). o ≡ Some known → Found name (x ∷ ss) known)
+    (λ e f. let same : known_of x ≡ known = cc in record { s = x; has = inl refl; named = same_is x.name name e; known = same })
+    (λ e f. let k = found name ss known f in record { s = k.s; has = inr k.has; named = k.named; known = k.known }) h
 
 -- and a name that has none
-missing_by : (name : List ℕ) (x : Standing) (ss : List Standing) (b : Bool) → same_name x.name name ≡ b → (standing_of name ss ≡ None → Has (names_of ss) name → ⊥) → cond b (Some (known_of x)) (standing_of name ss) ≡ None → (x.name ≡ name) ⊎ Has (names_of ss) name → ⊥
-missing_by name x ss true e f h a = let none : ⊥ = cc in none
-missing_by name x ss false e f h (inl a) = let same = is_same x.name name a in let none : ⊥ = cc in none
-missing_by name x ss false e f h (inr a) = f h a
-
 pub missing : (name : List ℕ) (ss : List Standing) → standing_of name ss ≡ None → Has (names_of ss) name → ⊥
 missing name [] h a = a
-missing name (x ∷ ss) h a = missing_by name x ss (same_name x.name name) refl (λ k. missing name ss k) h a
+missing name (x ∷ ss) h a = cond_both (same_name x.name name) (Some (known_of x)) (standing_of name ss)
+    (λ (o : Option Known). o ≡ None → ⊥) (λ e f. let none : ⊥ = cc in none)
+    (λ e f. elim a [ inl is ↦ both_ways (same_name x.name name) e (is_same x.name name is) | inr b ↦ missing name ss f b ]) h
 
 -- a standing is its name's, where no name has two
 pub stands_one : (name : List ℕ) (ss : List Standing) (s : Standing) → AllDistinct (names_of ss) → Has ss s → s.name ≡ name → standing_of name ss ≡ Some (known_of s)
@@ -88,24 +88,21 @@ missing_without name ss a =
 
 -- the standing of a number
 
-numbered_by : (number : ℕ) (y x : Standing) (ss : List Standing) (b : Bool) → nat_eq y.number number ≡ b → (numbered number ss ≡ Some x → Has ss x × (x.number ≡ number)) → cond b (Some y) (numbered number ss) ≡ Some x → Has (y ∷ ss) x × (x.number ≡ number)
-numbered_by number y x ss true e f h = let same : y ≡ x = cc in let at : y.number ≡ number = grind (arith, e) in (inl same, sym (ap (λ (v : Standing). v.number) same) ∙ at)
-numbered_by number y x ss false e f h = let k = f h in (inr k.0, k.1)
-
 pub numbered_has : (number : ℕ) (ss : List Standing) (x : Standing) → numbered number ss ≡ Some x → Has ss x × (x.number ≡ number)
 numbered_has number [] x h = let none : ⊥ = cc in absurd none
-numbered_has number (y ∷ ss) x h = numbered_by number y x ss (nat_eq y.number number) refl (λ k. numbered_has number ss x k) h
-
-unnumbered_by : (number : ℕ) (y s : Standing) (ss : List Standing) (b : Bool) → nat_eq y.number number ≡ b → (numbered number ss ≡ None → Has ss s → s.number ≡ number → ⊥) → cond b (Some y) (numbered number ss) ≡ None → Has (y ∷ ss) s → s.number ≡ number → ⊥
-unnumbered_by number y s ss true e f h a n = let none : ⊥ = cc in none
-unnumbered_by number y s ss false e f h (inl is) n =
-    let same : y.number ≡ number = ap (λ (v : Standing). v.number) is ∙ n in
-    let none : ⊥ = grind (arith, same, e) in none
-unnumbered_by number y s ss false e f h (inr a) n = f h a n
+numbered_has number (y ∷ ss) x h = cond_both (nat_eq y.number number) (Some y) (numbered number ss)
+    (λ (o : Option Standing). o ≡ Some x → Has (y ∷ ss) x × (x.number ≡ number))
+    (λ e f. let same : y ≡ x = cc in let at : y.number ≡ number = grind (arith, e) in (inl same, sym (ap (λ (v : Standing). v.number) same) ∙ at))
+    (λ e f. let k = numbered_has number ss x f in (inr k.0, k.1)) h
 
 unnumbered : (number : ℕ) (ss : List Standing) (s : Standing) → numbered number ss ≡ None → Has ss s → s.number ≡ number → ⊥
 unnumbered number [] s h a n = a
-unnumbered number (y ∷ ss) s h a n = unnumbered_by number y s ss (nat_eq y.number number) refl (λ k b m. unnumbered number ss s k b m) h a n
+unnumbered number (y ∷ ss) s h a n = cond_both (nat_eq y.number number) (Some y) (numbered number ss)
+    (λ (o : Option Standing). o ≡ None → ⊥) (λ e f. let none : ⊥ = cc in none)
+    (λ e f. elim a [
+      | inl is ↦ let same : y.number ≡ number = ap (λ (v : Standing). v.number) is ∙ n in let none : ⊥ = grind (arith, same, e) in none
+      | inr b ↦ unnumbered number ss s f b n
+    ]) h
 
 -- none is found exactly where no standing has it
 pub none_numbered : (o : Option (Bor Standing)) (number : ℕ) (ss : List Standing) → option_copied o ≡ numbered number ss → IsNone o ↔ ((s : Standing) → Has ss s → s.number ≡ number → ⊥)
@@ -122,7 +119,7 @@ numbers_marked name mark (s ∷ ss) = ap (λ (v : List ℕ). s.number ∷ v) (nu
 
 -- the marks of removed devices
 
-or_none : (b : Bool) → (b || false) ≡ b
+pub or_none : (b : Bool) → (b || false) ≡ b
 or_none true = refl
 or_none false = refl
 
@@ -131,18 +128,13 @@ or_by true b = inl refl
 or_by false true = inr (refl, refl)
 or_by false false = inl refl
 
-pub still_removed : (name : List ℕ) (s : Standing) (b : Bool) → same_name s.name name ≡ b → removed_of name false s ≡ s.removed
-still_removed name s true e = ap (λ (t : Bool). cond t (s.removed || false) s.removed) e ∙ or_none s.removed
-still_removed name s false e = ap (λ (t : Bool). cond t (s.removed || false) s.removed) e
+pub still_removed : (name : List ℕ) (s : Standing) → removed_of name false s ≡ s.removed
+still_removed name s = cond_both (same_name s.name name) (s.removed || false) s.removed (λ (v : Bool). v ≡ s.removed) (λ e. or_none s.removed) (λ e. refl)
 
-pub settled_removed : (name : List ℕ) (s : Standing) (b : Bool) → same_name s.name name ≡ b → (removed_of name true s ≡ s.removed) ⊎ ((s.name ≡ name) × (removed_of name true s ≡ true) × (is_reject s.verdict ≡ true))
-settled_removed name s true e =
-    let flag : removed_of name true s ≡ (s.removed || is_reject s.verdict) = ap (λ (t : Bool). cond t (s.removed || is_reject s.verdict) s.removed) e in
-    elim (or_by s.removed (is_reject s.verdict)) [
-      | inl h ↦ inl (flag ∙ h)
-      | inr h ↦ inr (same_is s.name name e, flag ∙ h.0, h.1)
-    ]
-settled_removed name s false e = inl (ap (λ (t : Bool). cond t (s.removed || is_reject s.verdict) s.removed) e)
+pub settled_removed : (name : List ℕ) (s : Standing) → (removed_of name true s ≡ s.removed) ⊎ ((s.name ≡ name) × (removed_of name true s ≡ true) × (is_reject s.verdict ≡ true))
+settled_removed name s = cond_both (same_name s.name name) (s.removed || is_reject s.verdict) s.removed
+    (λ (v : Bool). (v ≡ s.removed) ⊎ ((s.name ≡ name) × (v ≡ true) × (is_reject s.verdict ≡ true)))
+    (λ e. elim (or_by s.removed (is_reject s.verdict)) [ inl h ↦ inl h | inr h ↦ inr (same_is s.name name e, h.0, h.1) ]) (λ e. inl refl)
 
 pub reject_removed : (name : List ℕ) (s : Standing) → same_name s.name name ≡ true → is_reject s.verdict ≡ true → removed_of name true s ≡ true
 reject_removed name s e r = ap (λ (t : Bool). cond t (s.removed || is_reject s.verdict) s.removed) e
@@ -155,20 +147,12 @@ listed_is [] name a = absurd a
 listed_is (n ∷ names) name (inl e) = let same = is_same n name e in grind (arith, same)
 listed_is (n ∷ names) name (inr a) = let rest = listed_is names name a in grind (arith, rest)
 
-lists_has_by : (n : List ℕ) (names : List (List ℕ)) (name : List ℕ) (b : Bool) → same_name n name ≡ b → (lists names name ≡ true → Has names name) → (b || lists names name) ≡ true → Has (n ∷ names) name
-lists_has_by n names name true e f h = inl (same_is n name e)
-lists_has_by n names name false e f h = inr (f h)
-
 pub lists_has : (names : List (List ℕ)) (name : List ℕ) → lists names name ≡ true → Has names name
 lists_has [] name e = let none : ⊥ = cc in absurd none
-lists_has (n ∷ names) name e = lists_has_by n names name (same_name n name) refl (λ h. lists_has names name h) e
-
-either_by : (names : List (List ℕ)) (name : List ℕ) (b : Bool) → lists names name ≡ b → Has names name ⊎ (Has names name → ⊥)
-either_by names name true e = inl (lists_has names name e)
-either_by names name false e = inr (λ h. let same = listed_is names name h in let none : ⊥ = cc in none)
+lists_has (n ∷ names) name e = elim (or_cases (same_name n name) (lists names name) e) [ inl h ↦ inl (same_is n name h) | inr h ↦ inr (lists_has names name h) ]
 
 pub either_listed : (names : List (List ℕ)) (name : List ℕ) → Has names name ⊎ (Has names name → ⊥)
-either_listed names name = either_by names name (lists names name) refl
+either_listed names name = elim (cases_Bool (lists names name)) [ inl e ↦ inl (lists_has names name e) | inr e ↦ inr (λ h. both_ways (lists names name) e (listed_is names name h)) ]
 
 -- What calls do to the devices' values.
 
@@ -290,19 +274,20 @@ open_later k l name held g o =
     let x = g.devices o.i o.d o.device in
     record { i = o.i; d = x.0; file = file_later k l held o.i g o.file; device = x.1; named = x.2.name ∙ o.named }
 
+-- its device bears the name
+pub open_name : (k : Kernel) (name : List ℕ) (held i : ℕ) (d : Device) (o : IsOpen k name held) → slice_get k.devices i ≡ Some d → IsFileOf k held i → d.name ≡ name
+open_name k name held i d o at file =
+    let is : o.i ≡ i = file_same k held o.i i o.file file in
+    ap (λ (x : Device). x.name) (some_same (slice_get k.devices i) d o.d at (subst (λ (j : ℕ). slice_get k.devices j ≡ Some o.d) is o.device)) ∙ o.named
+
 -- where it is that live device's, the names are one
 pub open_named : (k : Kernel) (name other : List ℕ) (held i : ℕ) → IsOpen k name held → IsFileOf k held i → LiveAs k i other → name ≡ other
-open_named k name other held i o file live =
-    let is : o.i ≡ i = file_same k held o.i i o.file file in
-    let same : o.d ≡ live.d = some_same (slice_get k.devices i) o.d live.d (subst (λ v. slice_get k.devices v ≡ Some o.d) is o.device) live.live.at in
-    sym o.named ∙ ap (λ (v : Device). v.name) same ∙ live.named
+open_named k name other held i o file live = sym (open_name k name held i live.d o live.live.at file) ∙ live.named
 
 -- a write through a file of a device of that name
 pub others_put : (name : List ℕ) (held file : ℕ) (control : Control) (write : Write) (answer : Told Wrote) (k l : Kernel) (o : IsOpen k name held) → IsHeldAs k file o.i control → Called (Put file write) answer k l → Others name k l
 others_put name held file control write answer k l o of c i on d e ne v =
-    let other : o.i ≡ i → ⊥ = λ is.
-    let same : o.d ≡ d = some_same (slice_get k.devices i) o.d d (subst (λ x. slice_get k.devices x ≡ Some o.d) is o.device) e in
-    ne (ap (λ (x : Device). x.name) (sym same) ∙ o.named) in
+    let other : o.i ≡ i → ⊥ = λ is. ne (open_name k name held i d o e (subst (λ j. IsFileOf k held j) is o.file)) in
     put_other file i o.i control write answer on k l of other c v
 
 -- what is alive behind the file of a device is that device
@@ -316,12 +301,8 @@ alive_open k name held on o alive =
 
 -- What settling a name leaves of the standings.
 
-other_by : (a b : List ℕ) (t : Bool) → same_name a b ≡ t → (a ≡ b → ⊥) → same_name a b ≡ false
-other_by a b true e ne = absurd (ne (same_is a b e))
-other_by a b false e ne = e
-
 pub other_test : (a b : List ℕ) → (a ≡ b → ⊥) → same_name a b ≡ false
-other_test a b ne = other_by a b (same_name a b) refl ne
+other_test a b ne = false_from_ne_true (same_name a b) (λ e. ne (same_is a b e))
 
 -- each standing's held file is of a device of its name
 
@@ -331,39 +312,22 @@ Files k ss = (s : Standing) → Has ss s → IsOpen k s.name s.held.0
 pub files_later : (k l : Kernel) (ss : List Standing) → Grows k l → Files k ss → Files l ss
 files_later k l ss g f s a = open_later k l s.name s.held.0 g (f s a)
 
--- a new standing that is kept
+-- a new standing
 
-pub kept_has : (ss : List Standing) (x : Standing) (how : Settled) (s : Standing) → Has ss s → Has (kept_standings ss x how) s
-kept_has ss x settled.Nobody s h = h
-kept_has ss x settled.Stands s h = has_old ss (place_for x.name ss) (settled_standing x) s h
-kept_has ss x how s h = has_old ss (place_for x.name ss) x s h
-
-with_files : (k : Kernel) (ss : List Standing) (x : Standing) → Files k ss → IsOpen k x.name x.held.0 → Files k (with_standing x ss)
-with_files k ss x f o s a = elim (insert_has ss (place_for x.name ss) x s a) [
-  | inl e ↦ subst (λ (v : Standing). IsOpen k v.name v.held.0) e o
-  | inr b ↦ f s b
+-- what holds of it, and of each that was there, holds of each
+pub each_with : (P : Standing → Type 0) (x : Standing) (ss : List Standing) → P x
+    → ((s : Standing) → Has ss s → P s) → (s : Standing) → Has (with_standing x ss) s → P s
+each_with P x ss own rest s a = elim (insert_has ss (place_for x.name ss) x s a) [
+  | inl e ↦ subst P e own
+  | inr b ↦ rest s b
 ]
 
-pub kept_files : (k : Kernel) (ss : List Standing) (x : Standing) (how : Settled) → Files k ss → IsOpen k x.name x.held.0 → Files k (kept_standings ss x how)
-kept_files k ss x settled.Nobody f o = f
-kept_files k ss x settled.Stands f o = with_files k ss (settled_standing x) f o
-kept_files k ss x how f o = with_files k ss x f o
+pub with_files : (k : Kernel) (ss : List Standing) (x : Standing) → Files k ss → IsOpen k x.name x.held.0 → Files k (with_standing x ss)
+with_files k ss x f o = each_with (λ (s : Standing). IsOpen k s.name s.held.0) x ss o f
 
 -- a rejected one is marked as removed
 abbrev pub IsRemovedIf : Standing → Type 0
 IsRemovedIf s = is_reject s.verdict ≡ true → s.removed ≡ true
-
-pub kept_new : (ss : List Standing) (x : Standing) (how : Settled) → how ≡ settled.Stands → (s : Standing) × Has (kept_standings ss x how) s × (s.held ≡ x.held) × (s.verdict ≡ x.verdict) × IsRemovedIf s
-kept_new ss x how e = subst
-    (λ (v : Settled). (s : Standing) × Has (kept_standings ss x v) s × (s.held ≡ x.held) ×
-    (s.verdict ≡ x.verdict) × IsRemovedIf s) (sym e) (
-      settled_standing x,
-      has_new ss (place_for x.name ss) (settled_standing x),
-      refl,
-      refl,
-      λ r. ap
-          (λ (t : Bool). x.removed || t) r ∙ or_right x.removed true refl,
-    )
 
 -- a standing that is tried again
 
@@ -422,13 +386,12 @@ marked_own : (name : List ℕ) (mark : Bool) (ss : List Standing) (known : Known
 marked_own name mark [] known e = let none : ⊥ = cc in absurd none
 marked_own name mark (s ∷ ss) known e = marked_by name mark s ss known (same_name s.name name) refl (λ f. marked_own name mark ss known f) e
 
-without_by : (name : List ℕ) (s : Standing) (ss : List Standing) (b : Bool) → same_name s.name name ≡ b → standing_of name (without name ss) ≡ None → standing_of name (cond (not b) (s ∷ without name ss) (without name ss)) ≡ None
-without_by name s ss true e h = h
-without_by name s ss false e h = ap (λ (v : Bool). cond v (Some (known_of s)) (standing_of name (without name ss))) e ∙ h
-
 pub without_own : (name : List ℕ) (ss : List Standing) → standing_of name (without name ss) ≡ None
 without_own name [] = refl
-without_own name (s ∷ ss) = without_by name s ss (same_name s.name name) refl (without_own name ss)
+without_own name (s ∷ ss) = cond_both (not (same_name s.name name)) (s ∷ without name ss) (without name ss)
+    (λ (l : List Standing). standing_of name l ≡ None)
+    (λ e. cond-false (same_name s.name name) (Some (known_of s)) (standing_of name (without name ss)) (not-true (same_name s.name name) e) ∙ without_own name ss)
+    (λ e. without_own name ss)
 
 pub tried_own : (name : List ℕ) (ss : List Standing) (how : Settled) (known : Known) → standing_of name ss ≡ Some known → (how ≡ settled.Nobody → ⊥) → StandsAs known.number known.held (standing_of name (tried_standings ss name how))
 tried_own name ss settled.Nobody known e n = absurd (n refl)
@@ -437,23 +400,17 @@ tried_own name ss how known e n = marked_own name false ss known e
 
 -- a new one
 
-between_by : (name : List ℕ) (x t : Standing) (ts ds : List Standing) (b : Bool) → same_name t.name name ≡ b → cond b (Some (known_of t)) (standing_of name (ts ++ ds)) ≡ None → (standing_of name (ts ++ ds) ≡ None → standing_of name (ts ++ x ∷ ds) ≡ Some (known_of x)) → standing_of name ((t ∷ ts) ++ x ∷ ds) ≡ Some (known_of x)
-between_by name x t ts ds true e n h = let none : ⊥ = cc in absurd none
-between_by name x t ts ds false e n h = ap (λ (v : Bool). cond v (Some (known_of t)) (standing_of name (ts ++ x ∷ ds))) e ∙ h n
-
 between_own : (name : List ℕ) (x : Standing) (ts ds : List Standing) → same_name x.name name ≡ true → standing_of name (ts ++ ds) ≡ None → standing_of name (ts ++ x ∷ ds) ≡ Some (known_of x)
 between_own name x [] ds e n = ap (λ (v : Bool). cond v (Some (known_of x)) (standing_of name ds)) e
-between_own name x (t ∷ ts) ds e n = between_by name x t ts ds (same_name t.name name) refl n (λ m. between_own name x ts ds e m)
+between_own name x (t ∷ ts) ds e n = cond_both (same_name t.name name) (Some (known_of t)) (standing_of name (ts ++ ds))
+    (λ (o : Option Known). o ≡ None → standing_of name (t ∷ ts ++ x ∷ ds) ≡ Some (known_of x))
+    (λ f g. let none : ⊥ = cc in absurd none)
+    (λ f g. cond-false (same_name t.name name) (Some (known_of t)) (standing_of name (ts ++ x ∷ ds)) f ∙ between_own name x ts ds e g) n
 
-with_own : (name : List ℕ) (x : Standing) (ss : List Standing) → x.name ≡ name → standing_of name ss ≡ None → standing_of name (with_standing x ss) ≡ Some (known_of x)
+pub with_own : (name : List ℕ) (x : Standing) (ss : List Standing) → x.name ≡ name → standing_of name ss ≡ None → standing_of name (with_standing x ss) ≡ Some (known_of x)
 with_own name x ss e n =
     let p : ℕ = place_for x.name ss in
     between_own name x (take p ss) (drop p ss) (is_same x.name name e) (ap (λ (v : List Standing). standing_of name v) (take-append-drop p ss) ∙ n)
-
-pub kept_own : (name : List ℕ) (ss : List Standing) (x : Standing) (how : Settled) → x.name ≡ name → standing_of name ss ≡ None → (how ≡ settled.Nobody → ⊥) → StandsAs x.number x.held (standing_of name (kept_standings ss x how))
-kept_own name ss x settled.Nobody e none n = absurd (n refl)
-kept_own name ss x settled.Stands e none n = (known_of (settled_standing x), with_own name (settled_standing x) ss e none, refl, refl)
-kept_own name ss x how e none n = (known_of x, with_own name x ss e none, refl, refl)
 
 -- another name has the standing that it had
 abbrev pub OthersStand : List ℕ → List Standing → List Standing → Type 0
@@ -466,12 +423,8 @@ others_stand name ss = λ other n. refl
 passed : (other : List ℕ) (s : Standing) (ss : List Standing) → same_name s.name other ≡ false → standing_of other (s ∷ ss) ≡ standing_of other ss
 passed other s ss e = ap (λ (v : Bool). cond v (Some (known_of s)) (standing_of other ss)) e
 
-not_named : (name other : List ℕ) (s : Standing) → s.name ≡ name → (other ≡ name → ⊥) → same_name s.name other ≡ false
+pub not_named : (name other : List ℕ) (s : Standing) → s.name ≡ name → (other ≡ name → ⊥) → same_name s.name other ≡ false
 not_named name other s e n = other_test s.name other (λ f. n (sym f ∙ e))
-
-other_without_by : (name other : List ℕ) (s : Standing) (ss : List Standing) (b : Bool) → same_name s.name name ≡ b → (other ≡ name → ⊥) → standing_of other (without name ss) ≡ standing_of other ss → standing_of other (cond (not b) (s ∷ without name ss) (without name ss)) ≡ standing_of other (s ∷ ss)
-other_without_by name other s ss true e n h = h ∙ sym (passed other s ss (not_named name other s (same_is s.name name e) n))
-other_without_by name other s ss false e n h = ap (λ (v : Option Known). cond (same_name s.name other) (Some (known_of s)) v) h
 
 other_marked_by : (name other : List ℕ) (mark : Bool) (s : Standing) (ss : List Standing) (b : Bool) → same_name s.name name ≡ b → (other ≡ name → ⊥) → standing_of other (map (marked name mark) ss) ≡ standing_of other ss → standing_of other (map (marked name mark) (s ∷ ss)) ≡ standing_of other (s ∷ ss)
 other_marked_by name other mark s ss true e n h =
@@ -488,32 +441,98 @@ marked_stand name other mark (s ∷ ss) n = other_marked_by name other mark s ss
 
 pub without_stand : (name other : List ℕ) (ss : List Standing) → (other ≡ name → ⊥) → standing_of other (without name ss) ≡ standing_of other ss
 without_stand name other [] n = refl
-without_stand name other (s ∷ ss) n = other_without_by name other s ss (same_name s.name name) refl n (without_stand name other ss n)
+without_stand name other (s ∷ ss) n = cond_both (not (same_name s.name name)) (s ∷ without name ss) (without name ss)
+    (λ (l : List Standing). standing_of other l ≡ standing_of other (s ∷ ss))
+    (λ e. ap (λ (v : Option Known). cond (same_name s.name other) (Some (known_of s)) v) (without_stand name other ss n))
+    (λ e. without_stand name other ss n ∙ sym (passed other s ss (not_named name other s (same_is s.name name (not-false (same_name s.name name) e)) n)))
 
 -- the standings of the names that are listed
-listed_by : (names : List (List ℕ)) (name : List ℕ) (s : Standing) (ss rs : List Standing) (b : Bool) → lists names s.name ≡ b → lists names name ≡ true → standing_of name rs ≡ standing_of name ss → standing_of name (cond b (s ∷ rs) rs) ≡ standing_of name (s ∷ ss)
-listed_by names name s ss rs true e has h = ap (λ (v : Option Known). cond (same_name s.name name) (Some (known_of s)) v) h
-listed_by names name s ss rs false e has h = h ∙ sym (passed name s ss (other_test s.name name (λ f. true≢false (sym has ∙ sym (ap (λ (v : List ℕ). lists names v) f) ∙ e))))
-
 pub listed_stand : (names : List (List ℕ)) (name : List ℕ) (ss : List Standing) → lists names name ≡ true → standing_of name (filter (λ s. lists names s.name) ss) ≡ standing_of name ss
 listed_stand names name [] has = refl
-listed_stand names name (s ∷ ss) has = listed_by names name s ss (filter (λ (v : Standing). lists names v.name) ss) (lists names s.name) refl has (listed_stand names name ss has)
+listed_stand names name (s ∷ ss) has = cond_both (lists names s.name) (s ∷ filter (λ s. lists names s.name) ss) (filter (λ s. lists names s.name) ss)
+    (λ (l : List Standing). standing_of name l ≡ standing_of name (s ∷ ss))
+    (λ e. ap (λ (v : Option Known). cond (same_name s.name name) (Some (known_of s)) v) (listed_stand names name ss has))
+    (λ e. listed_stand names name ss has ∙ sym (passed name s ss (other_test s.name name (λ f. both_ways (lists names s.name) e (ap (λ (v : List ℕ). lists names v) f ∙ has)))))
 
 between_stand : (other : List ℕ) (x : Standing) (ss rs : List Standing) → same_name x.name other ≡ false → standing_of other (ss ++ x ∷ rs) ≡ standing_of other (ss ++ rs)
 between_stand other x [] rs e = passed other x rs e
 between_stand other x (s ∷ ss) rs e = ap (λ (v : Option Known). cond (same_name s.name other) (Some (known_of s)) v) (between_stand other x ss rs e)
 
-with_stand : (other : List ℕ) (x : Standing) (ss : List Standing) → same_name x.name other ≡ false → standing_of other (with_standing x ss) ≡ standing_of other ss
+pub with_stand : (other : List ℕ) (x : Standing) (ss : List Standing) → same_name x.name other ≡ false → standing_of other (with_standing x ss) ≡ standing_of other ss
 with_stand other x ss e =
     between_stand other x (take (place_for x.name ss) ss) (drop (place_for x.name ss) ss) e
     ∙ ap (λ (v : List Standing). standing_of other v) (take-append-drop (place_for x.name ss) ss)
-
-pub kept_stand : (name : List ℕ) (ss : List Standing) (x : Standing) (how : Settled) → x.name ≡ name → OthersStand name ss (kept_standings ss x how)
-kept_stand name ss x settled.Nobody e = λ other n. refl
-kept_stand name ss x settled.Stands e = λ other n. with_stand other (settled_standing x) ss (not_named name other x e n)
-kept_stand name ss x how e = λ other n. with_stand other x ss (not_named name other x e n)
 
 pub tried_stand : (name : List ℕ) (ss : List Standing) (how : Settled) → OthersStand name ss (tried_standings ss name how)
 tried_stand name ss settled.Nobody = λ other n. without_stand name other ss n
 tried_stand name ss settled.Stands = λ other n. marked_stand name other true ss n
 tried_stand name ss how = λ other n. marked_stand name other false ss n
+
+-- A new standing that is kept was added, and then tried.
+
+marked_none : (name : List ℕ) (b : Bool) (ss : List Standing) → (Has (names_of ss) name → ⊥)
+    → map (marked name b) ss ≡ ss
+marked_none name b [] n = refl
+marked_none name b (s ∷ ss) n =
+    ap (λ (v : Standing). v ∷ map (marked name b) ss) (marked_other name b s (λ e. n (inl e)))
+    ∙ ap (λ (v : List Standing). s ∷ v) (marked_none name b ss (λ a. n (inr a)))
+
+marked_between : (name : List ℕ) (b : Bool) (x : Standing) (ts ds : List Standing)
+    → (Has (names_of (ts ++ ds)) name → ⊥)
+    → map (marked name b) (ts ++ x ∷ ds) ≡ ts ++ marked name b x ∷ ds
+marked_between name b x [] ds n =
+    ap (λ (v : List Standing). marked name b x ∷ v) (marked_none name b ds n)
+marked_between name b x (t ∷ ts) ds n =
+    let own = marked_other name b t (λ e. n (inl e)) in
+    ap (λ (v : Standing). v ∷ map (marked name b) (ts ++ x ∷ ds)) own
+    ∙ ap (λ (v : List Standing). t ∷ v) (marked_between name b x ts ds (λ a. n (inr a)))
+
+without_none : (name : List ℕ) (ss : List Standing) → (Has (names_of ss) name → ⊥)
+    → without name ss ≡ ss
+without_none name [] n = refl
+without_none name (s ∷ ss) n =
+    ap (λ (v : Bool). cond (not v) (s ∷ without name ss) (without name ss))
+    (other_test s.name name (λ e. n (inl e)))
+    ∙ ap (λ (v : List Standing). s ∷ v) (without_none name ss (λ a. n (inr a)))
+
+without_between : (name : List ℕ) (x : Standing) (ts ds : List Standing) → x.name ≡ name
+    → without name (ts ++ x ∷ ds) ≡ without name (ts ++ ds)
+without_between name x [] ds e =
+    ap (λ (v : Bool). cond (not v) (x ∷ without name ds) (without name ds)) (is_same x.name name e)
+without_between name x (t ∷ ts) ds e =
+    ap (λ (v : List Standing). cond (not (same_name t.name name)) (t ∷ v) v)
+    (without_between name x ts ds e)
+
+pub without_with : (name : List ℕ) (x : Standing) (ss : List Standing) → x.name ≡ name
+    → without name (with_standing x ss) ≡ without name ss
+without_with name x ss e =
+    let p : ℕ = place_for x.name ss in
+    without_between name x (take p ss) (drop p ss) e ∙ ap (without name) (take-append-drop p ss)
+
+pub kept_tried : (ss : List Standing) (x : Standing) (how : Settled) → x.settled ≡ false
+    → standing_of x.name ss ≡ None
+    → kept_standings ss x how ≡ tried_standings (with_standing x ss) x.name how
+kept_tried ss x how fresh none = by how
+  where
+    into : (b : Bool) (y : Standing) → marked x.name b x ≡ y
+        → insert ss (place_for x.name ss) y ≡ map (marked x.name b) (with_standing x ss)
+    into b y e =
+        let p : ℕ = place_for x.name ss in
+        let absent = subst (λ (v : List Standing). Has (names_of v) x.name → ⊥)
+        (sym (take-append-drop p ss)) (missing x.name ss none) in
+        ap (λ (v : Standing). insert ss p v) (sym e)
+        ∙ sym (marked_between x.name b x (take p ss) (drop p ss) absent)
+
+    own : (b : Bool) → marked x.name b x
+        ≡ record x { settled = b; removed = x.removed || (b && is_reject x.verdict) }
+    own b = ap (λ (t : Bool). let v : Standing = record x { settled = if t then b else x.settled; removed = if t then x.removed || (b && is_reject x.verdict) else x.removed } in v)
+        (is_same x.name x.name refl)
+
+    stays : marked x.name false x ≡ x
+    stays = own false ∙ (λ i. record x { settled = (sym fresh) i; removed = (or_none x.removed) i })
+
+    by : (how : Settled) → kept_standings ss x how ≡ tried_standings (with_standing x ss) x.name how
+    by settled.Nobody =
+        sym (without_with x.name x ss refl ∙ without_none x.name ss (missing x.name ss none))
+    by settled.Stands = into true (settled_standing x) (own true)
+    by how = into false x stays

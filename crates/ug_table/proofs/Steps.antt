@@ -10,7 +10,8 @@ use Rattle.ug_kernel.specs.declared.calls.Wrote.TheVariants as wrote
 use Rattle.ug_table.specs.Bring.{is_reject}
 use Rattle.ug_kernel.proofs.Grow.{some_same, quiet_grows, grows_trans, grows_refl}
 use Rattle.ug_kernel.proofs.Quiet.{moves_quiet, WritesNothing, quiet_refl, called_quiet}
-use Rattle.ug_table.proofs.Standings.{IsFileOf, file_same, file_later, same_is, is_same, names_marked, numbers_marked, still_removed, settled_removed, reject_removed}
+use Rattle.std.proofs.lemmas.Bool.{cases_Bool, both_ways, true_from_ne_false}
+use Rattle.ug_table.proofs.Standings.{missing_without, IsFileOf, file_same, file_later, same_is, is_same, names_marked, numbers_marked, still_removed, settled_removed, reject_removed}
 use Rattle.ug_table.proofs.Says.{Says, gone_has, gone_append, account_says, one_held, AreLow, Plain, plain_none, plain_note, plain_distinct, one_neither}
 use Rattle.ug_table.specs.Settle.{tried_standings}
 use Rattle.ug_table.specs.Sweep.{names_of}
@@ -71,22 +72,18 @@ AreMarked ss es rs = (s : Standing) → Has rs s → IsRemoveMarked ss es s
 abbrev pub AreRemoved : Kernel → List Standing → Type 0
 AreRemoved k ss = (s : Standing) → Has ss s → s.removed ≡ true → HasRemoval k s.held
 
-kept_by : (ss : List Standing) (es : List Entry) (s : Standing) (b : Keeps ss s) (flag : Bool) → b.0.removed ≡ flag → AllDistinct (numbers_of ss) → ((name : List ℕ) → Has es (entry.Wrote s.number name write.Remove wrote.Done) → ⊥) → IsRemoveMarked ss es s
-kept_by ss es s b true e distinct none = inl (sym b.4 ∙ e, inl (b.0, b.1, b.2, e))
-kept_by ss es s b false e distinct none =
-    inr (
-      sym b.4 ∙ e,
-      λ w. elim w [
+pub keep_one : (ss : List Standing) (es : List Entry) (s : Standing) → Keeps ss s → AllDistinct (numbers_of ss) → ((name : List ℕ) → Has es (entry.Wrote s.number name write.Remove wrote.Done) → ⊥) → IsRemoveMarked ss es s
+keep_one ss es s b distinct none = elim (cases_Bool b.0.removed) [
+  | inl e ↦ inl (sym b.4 ∙ e, inl (b.0, b.1, b.2, e))
+  | inr e ↦
+      let unmarked : WasRemoved ss es s.number → ⊥ = λ w. elim w [
         | inl c ↦
             let same : c.0 ≡ b.0 = distinct_one (λ (v : Standing). v.number) ss c.0 b.0 distinct c.1 b.1 (c.2 ∙ sym b.2) in
-            let was : true ≡ false = sym c.3 ∙ ap (λ (v : Standing). v.removed) same ∙ e in
-            let none : ⊥ = cc in none
+            both_ways c.0.removed (ap (λ (v : Standing). v.removed) same ∙ e) c.3
         | inr c ↦ none c.0 c.1
-      ],
-    )
-
-pub keep_one : (ss : List Standing) (es : List Entry) (s : Standing) → Keeps ss s → AllDistinct (numbers_of ss) → ((name : List ℕ) → Has es (entry.Wrote s.number name write.Remove wrote.Done) → ⊥) → IsRemoveMarked ss es s
-keep_one ss es s b distinct none = kept_by ss es s b b.0.removed refl distinct none
+      ] in
+      inr (sym b.4 ∙ e, unmarked)
+]
 
 pub keep_marks : (ss rs : List Standing) (es : List Entry) → AllDistinct (numbers_of ss) → KeepMarks ss rs → NoRemoval es → AreMarked ss es rs
 keep_marks ss rs es distinct keep none s a = keep_one ss es s (keep s a) distinct (none s.number)
@@ -110,23 +107,20 @@ marks_keep ss rs x has was m s a = elim (m.each s a) [
 ]
 
 -- it was removed just now
-removal_by : (ss rs : List Standing) (x s : Standing) (flag : Bool) → s.removed ≡ flag → Has rs s → AllDistinct (numbers_of ss) → is_reject x.verdict ≡ true → Marks x ss rs → IsRemoveMarked ss (wrote_entries x.number x.name write.Remove wrote.Done) s
-removal_by ss rs x s true e a distinct reject m = elim (m.each s a) [
-  | inl b ↦ inl (e, inl (b.0, b.1, b.2, b.4 ∙ e))
-  | inr b ↦ inl (e, inr (x.name, inr (inl (ap (λ (v : ℕ). entry.Wrote v x.name write.Remove wrote.Done) (sym b.0)))))
-]
-removal_by ss rs x s false e a distinct reject m =
-    let other : s.number ≡ x.number → ⊥ = λ is. let was : false ≡ true = sym e ∙ m.own s a is reject in let none : ⊥ = cc in none in
-    elim (m.each s a) [
-      | inl b ↦ keep_one ss (wrote_entries x.number x.name write.Remove wrote.Done) s b distinct (λ name h. elim h [
+pub removal_marks : (ss rs : List Standing) (x : Standing) → AllDistinct (numbers_of ss) → is_reject x.verdict ≡ true → Marks x ss rs → AreMarked ss (wrote_entries x.number x.name write.Remove wrote.Done) rs
+removal_marks ss rs x distinct reject m s a = elim (cases_Bool s.removed) [
+  | inl e ↦ elim (m.each s a) [
+    | inl b ↦ inl (e, inl (b.0, b.1, b.2, b.4 ∙ e))
+    | inr b ↦ inl (e, inr (x.name, inr (inl (ap (λ (v : ℕ). entry.Wrote v x.name write.Remove wrote.Done) (sym b.0)))))
+  ]
+  | inr e ↦
+      let other : s.number ≡ x.number → ⊥ = λ is. both_ways s.removed e (m.own s a is reject) in
+      let kept : Keeps ss s = elim (m.each s a) [ inl b ↦ b | inr b ↦ absurd (other b.0) ] in
+      keep_one ss (wrote_entries x.number x.name write.Remove wrote.Done) s kept distinct (λ name h. elim h [
         | inl is ↦ let none : ⊥ = cc in none
         | inr g ↦ elim g [ inl is ↦ other (let same : s.number ≡ x.number = cc in same) | inr none ↦ none ]
       ])
-      | inr b ↦ absurd (other b.0)
-    ]
-
-pub removal_marks : (ss rs : List Standing) (x : Standing) → AllDistinct (numbers_of ss) → is_reject x.verdict ≡ true → Marks x ss rs → AreMarked ss (wrote_entries x.number x.name write.Remove wrote.Done) rs
-removal_marks ss rs x distinct reject m s a = removal_by ss rs x s s.removed refl a distinct reject m
+]
 
 pub removal_removed : (k : Kernel) (ss rs : List Standing) (x : Standing) → AreRemoved k ss → HasRemoval k x.held → Marks x ss rs → AreRemoved k rs
 removal_removed k ss rs x stand log m s a r = elim (m.each s a) [
@@ -508,12 +502,8 @@ then_same {J} {answer} {later} {present} {tried} {k} {l} {w} {u} ss same keep h 
 
 -- a standing that ends
 
-gone_flag : (k : Kernel) (i : ℕ) (d : Device) (b : Bool) → slice_get k.devices i ≡ Some d → (Live k.devices i d → ⊥) → d.gone ≡ b → d.gone ≡ true
-gone_flag k i d true at dead e = e
-gone_flag k i d false at dead e = absurd (dead (record { at = at; here = e }))
-
 pub gone_device : (k : Kernel) (i : ℕ) (name : List ℕ) (held : Held) (judged : Judged) (x : IsDevice k i name held judged) → (Live k.devices i x.d → ⊥) → IsGone k i
-gone_device k i name held judged x dead = (x.d, x.device, gone_flag k i x.d x.d.gone x.device dead refl)
+gone_device k i name held judged x dead = (x.d, x.device, true_from_ne_false x.d.gone (λ e. dead (record { at = x.device; here = e })))
 
 gone_held : (k : Kernel) (i : ℕ) (name : List ℕ) (held : Held) (judged : Judged) → IsDevice k i name held judged → IsGoneAt held.0 k → IsGone k i
 gone_held k i name held judged x gone = gone_device k i name held judged x (λ live. gone i x.d (record { file = record { device = i; control = Authorized }; at = x.file; is = refl; device = x.device }) live)
@@ -568,7 +558,7 @@ marked_same k ss next name mark stand = record {
 unsettled_marks : (ss : List Standing) (name : List ℕ) → KeepMarks ss (map (marked name false) ss)
 unsettled_marks ss name s a =
     let m = map_has (marked name false) ss s a in
-    (m.0, m.1, ap (λ (v : Standing). v.number) m.2, ap (λ (v : Standing). v.held) m.2, sym (still_removed name m.0 (same_name m.0.name name) refl) ∙ ap (λ (v : Standing). v.removed) m.2)
+    (m.0, m.1, ap (λ (v : Standing). v.number) m.2, ap (λ (v : Standing). v.held) m.2, sym (still_removed name m.0) ∙ ap (λ (v : Standing). v.removed) m.2)
 
 -- marked as settled
 settled_marks : (k : Kernel) (ss : List Standing) (next : ℕ) (name : List ℕ) (x : Standing) → Has ss x → x.name ≡ name → Stand k ss next → Marks x ss (map (marked name true) ss)
@@ -579,7 +569,7 @@ settled_marks k ss next name x has named stand = record {
       let held : m.0.held ≡ s.held = ap (λ (v : Standing). v.held) m.2 in
       let flag : removed_of name true m.0 ≡ s.removed = ap (λ (v : Standing). v.removed) m.2 in
       let is : m.0.name ≡ name → m.0 ≡ x = λ e. distinct_one (λ (v : Standing). v.name) ss m.0 x stand.names m.1 has (e ∙ sym named) in
-      elim (settled_removed name m.0 (same_name m.0.name name) refl) [
+      elim (settled_removed name m.0) [
         | inl e ↦ inl (m.0, m.1, number, held, sym e ∙ flag)
         | inr e ↦ inr (sym number ∙ ap (λ (v : Standing). v.number) (is e.0), sym held ∙ ap (λ (v : Standing). v.held) (is e.0), sym flag ∙ e.1, subst (λ (v : Standing). is_reject v.verdict ≡ true) (is e.0) e.2)
       ];
@@ -590,26 +580,15 @@ settled_marks k ss next name x has named stand = record {
       sym flag ∙ reject_removed name m.0 (is_same m.0.name name (ap (λ (v : Standing). v.name) same ∙ named)) (subst (λ (v : Standing). is_reject v.verdict ≡ true) (sym same) r);
 }
 
-other_or_named : (name : List ℕ) (ss : List Standing) (s : Standing) (b : Bool) → same_name s.name name ≡ b → Has ss s → Has (without name ss) s ⊎ (s.name ≡ name)
-other_or_named name ss s true e a = inr (same_is s.name name e)
-other_or_named name ss s false e a = inl (has_filter (λ (v : Standing). not (same_name v.name name)) ss s a (ap not e))
-
-without_named : (name : List ℕ) (ss : List Standing) (s : Standing) → Has (without name ss) s → s.name ≡ name → ⊥
-without_named name ss s a e =
-    let f = (filter_has (λ (v : Standing). not (same_name v.name name)) ss s a).1 in
-    let same = is_same s.name name e in
-    let was : false ≡ true = ap not (sym same) ∙ f in
-    let none : ⊥ = cc in none
-
 pub without_less : (k : Kernel) (ss : List Standing) (next : ℕ) (name : List ℕ) (x : Standing) → Has ss x → x.name ≡ name → Stand k ss next → Less x ss (without name ss)
 without_less k ss next name x has named stand = record {
   there = λ s a. one_itself ss s (filter_has (λ (v : Standing). not (same_name v.name name)) ss s a).0;
   marks = λ s a. keeps_itself ss s (filter_has (λ (v : Standing). not (same_name v.name name)) ss s a).0;
-  kept = λ s a. elim (other_or_named name ss s (same_name s.name name) refl a) [
-    | inl b ↦ inl (one_itself (without name ss) s b)
-    | inr e ↦ let same : s ≡ x = distinct_one (λ (v : Standing). v.name) ss s x stand.names a has (e ∙ sym named) in inr (ap (λ (v : Standing). v.number) same, ap (λ (v : Standing). v.name) same)
+  kept = λ s a. elim (cases_Bool (same_name s.name name)) [
+    | inr e ↦ inl (one_itself (without name ss) s (has_filter (λ (v : Standing). not (same_name v.name name)) ss s a (ap not e)))
+    | inl e ↦ let same : s ≡ x = distinct_one (λ (v : Standing). v.name) ss s x stand.names a has (same_is s.name name e ∙ sym named) in inr (ap (λ (v : Standing). v.number) same, ap (λ (v : Standing). v.name) same)
   ];
-  apart = λ s a e. let same : s ≡ x = distinct_one (λ (v : Standing). v.number) ss s x stand.distinct (filter_has (λ (v : Standing). not (same_name v.name name)) ss s a).0 has e in without_named name ss s a (ap (λ (v : Standing). v.name) same ∙ named);
+  apart = λ s a e. let same : s ≡ x = distinct_one (λ (v : Standing). v.number) ss s x stand.distinct (filter_has (λ (v : Standing). not (same_name v.name name)) ss s a).0 has e in missing_without name ss (subst (λ (v : List ℕ). Has (names_of (without name ss)) v) (ap (λ (v : Standing). v.name) same ∙ named) (has_map (λ (v : Standing). v.name) (without name ss) s a));
   names = distinct_filter (λ (s : Standing). s.name) (λ (v : Standing). not (same_name v.name name)) ss stand.names;
   order = order_filter (λ (v : Standing). not (same_name v.name name)) ss stand.order;
   distinct = distinct_filter (λ (s : Standing). s.number) (λ (v : Standing). not (same_name v.name name)) ss stand.distinct;

@@ -8,11 +8,8 @@ use Rattle.ug_table.specs.declared.standing.Standing.{Standing}
 use Rattle.ug_audit.specs.Journal.{noted_in}
 use Rattle.ug_table.specs.State.{State, state_of}
 use Rattle.ug_table.specs.Settle.{no_room, to_judge, admitting}
+use Rattle.ug_table.proofs.Loops.{same_state}
 use Rattle.ug_table.proofs.table.Table.admit.Goals as goal
-
--- a state whose fields are those of another
-same_state : {J : Type 0} (ss rs : List Standing) (next after : ℕ) (listed seen : Bool) (judge : J) (es : List Entry) → rs ≡ ss → after ≡ next → seen ≡ listed → let made : State J = record { standings = rs; next = after; listed = seen; judge = judge; entries = es } in let was : State J = record { standings = ss; next = next; listed = listed; judge = judge; entries = es } in made ≡ was
-same_state ss rs next after listed seen judge es a b c = λ i. record { standings = a i; next = b i; listed = c i; judge = judge; entries = es }
 
 pub returns-then-is_err-clause-runs : goal.returns-then-is_err-clause-runs
 unfolding admitting

@@ -16,4 +16,4 @@ invariant_of-self g c =
       settled = false;
       removed = false;
     } in
-    kept_more c.self.inside.next _ _ _ c.self.inside.standings.items _ _ x c.bring-settled.result refl (ap (λ (v : TableState). v.standings) c.self.view_is) c.requires.absent (ap (λ (v : TableState). v.room) c.self.view_is) c.requires.place c.keep.ensures.standings c.keep.ensures.len c.self.invariant.0
+    kept_more c.self.inside.next _ _ _ c.self.inside.standings.items _ _ x c.bring-settled.result refl refl (ap (λ (v : TableState). v.standings) c.self.view_is) c.requires.absent (ap (λ (v : TableState). v.room) c.self.view_is) c.requires.place c.keep.ensures.standings c.keep.ensures.len c.self.invariant.0
