@@ -1,3 +1,4 @@
 pub mod Added
 pub mod Apart
 pub mod Counting
+mod Written

@@ -1,3 +1,4 @@
 pub mod Content
 pub mod Names
 pub mod Untold
+pub mod Zones

@@ -1,5 +1,5 @@
 // Files below a folder, and why one can't be had.
-ghost use Rattle.std.specs.Prelude.{IfOk};
+ghost use Rattle.std.specs.Prelude.{◌≡◌, ◌≤◌, length, IfOk};
 ghost use Rattle.ug_host.specs.Content.{Fits};
 
 use std::alloc::{AllocError, Global};
@@ -71,6 +71,23 @@ pub fn word_of(name: &NodeName) -> Result<&str, FileFault> {
     }
 }
 
+/// How often a reading is made again that a signal interrupted.
+const TRIES: u32 = 1000;
+
+// Reads a piece. A file of sysfs whose device is busy answers EINTR where the program is stopped meanwhile and goes on.
+fn read_piece<F: Read>(file: &mut F, piece: &mut [u8]) -> io::Result<usize>
+    ensures bound { IfOk result (λ count. count ≤ length piece.old) }
+    ensures length { length piece.new ≡ length piece.old }
+{
+    for _ in 0..TRIES {
+        match file.read(piece) {
+            Err(e) if e.kind() == ErrorKind::Interrupted => {}
+            read => return read,
+        }
+    }
+    file.read(piece)
+}
+
 /// Reads a file to its end, which comes in pieces, and stops above the limit.
 pub fn read_content<F: Read>(
     alloc: Global,
@@ -82,7 +99,7 @@ pub fn read_content<F: Read>(
     let mut bytes = Vec::new(alloc);
     let mut piece = [0u8; 4096];
     for _ in 0..u64::MAX {
-        let count = match file.read(&mut piece) {
+        let count = match read_piece(file, &mut piece) {
             Ok(count) => count,
             Err(e) => return Err(FileFault::from(e)),
         };
@@ -112,7 +129,7 @@ pub fn read_file<R: Files>(
 pub fn read_number<R: Files>(rt: &R, path: &str) -> Result<u32, FileFault> {
     let mut file = fs::open(rt, path)?;
     let mut piece = [0u8; 16];
-    let count = file.read(&mut piece)?;
+    let count = read_piece(&mut file, &mut piece)?;
     number_of(&piece[..count]).ok_or(FileFault::Failed)
 }
 
@@ -137,7 +154,7 @@ pub fn open_to_write<R: Files>(rt: &R, path: &str, read: bool) -> Result<R::File
 pub fn read_first<F: Read + Seek>(file: &mut F) -> Result<Option<u8>, FileFault> {
     let mut piece = [0u8; 8];
     file.seek(SeekFrom::Start(0))?;
-    let count = file.read(&mut piece)?;
+    let count = read_piece(file, &mut piece)?;
     Ok(if count == 0 { None } else { Some(piece[0]) })
 }
 

@@ -1,10 +1,12 @@
 // Ordinary files in a folder among the temporary files.
+use crate::file::{Content, read_content};
 use crate::{ConfFolder, RuleFile, SecondWaiter, SystemClock};
 use std::alloc::Global;
+use std::io::{ErrorKind, Read};
 use std::os::unix::fs::{MetadataExt, PermissionsExt, symlink};
 use std::test::Fail;
 use std::time::{Instant, SystemTime};
-use std::{env, fs};
+use std::{env, fs, io};
 use ug_conf::{ConfFiles, FileRead, FolderRead};
 use ug_store::{DiskAnswer, Loaded, RuleDisk};
 use ug_types::{Clock, Ready, Waiter, Woken};
@@ -107,5 +109,40 @@ fn an_announcement_ends_the_second(rt: HostRuntime) -> Result<(), Fail> {
     assert!(rt; again.elapsed(&rt)?.as_millis() < 500);
     assert!(rt; SystemClock::new(rt).now().0 > 1_700_000_000);
     fs::remove_dir_all(&rt, folder.as_str())?;
+    Ok(())
+}
+
+/// A file that answers EINTR so many times, and then has one byte.
+#[derive(Drop)]
+struct Busy {
+    times: u32,
+    read: bool,
+}
+
+impl Read for Busy {
+    fn read(&mut self, buf: &mut [u8]) -> io::Result<usize> {
+        if self.times > 0 {
+            self.times -= 1;
+            return Err(io::Error::from(ErrorKind::Interrupted));
+        }
+        if self.read || buf.is_empty() {
+            return Ok(0);
+        }
+        self.read = true;
+        buf[0] = b'1';
+        Ok(1)
+    }
+}
+
+#[test]
+fn an_interrupted_reading_is_made_again(rt: HostRuntime) -> Result<(), Fail> {
+    let mut file = Busy {
+        times: 3,
+        read: false,
+    };
+    match read_content(rt.alloc(), &mut file, 10) {
+        Ok(Content::Whole(text)) => assert!(rt; text.bytes() == b"1".as_slice()),
+        _ => return Err(Fail::from("not read")),
+    }
     Ok(())
 }

@@ -45,7 +45,8 @@ impl<R: Files + AllocGlobal + Clone + Drop> Folder<R> {
         join(alloc, self.root.as_str(), &[word_of(name)?, file])
     }
 
-    // Opens a control, and takes the device's number before and behind it. Where they differ, none of the name lived through.
+    // Opens a control, and behind it takes the number of the device that bears the name. That is the number of the control's device, or
+    // this one has gone by then; where none bears the name any more, none lived through.
     fn open_file(
         &self,
         alloc: Global,
@@ -53,7 +54,6 @@ impl<R: Files + AllocGlobal + Clone + Drop> Folder<R> {
         control: Control,
     ) -> Result<OpenControl<R::File>, FileFault> {
         let devnum_path = self.path_of(alloc, name, "devnum")?;
-        let devnum = read_number(&self.rt, devnum_path.as_str())?;
         let file = match control {
             Control::Authorized => {
                 let path = self.path_of(alloc, name, "authorized")?;
@@ -64,9 +64,7 @@ impl<R: Files + AllocGlobal + Clone + Drop> Folder<R> {
                 open_to_write(&self.rt, path.as_str(), false)?
             }
         };
-        if read_number(&self.rt, devnum_path.as_str())? != devnum {
-            return Err(FileFault::Missing);
-        }
+        let devnum = read_number(&self.rt, devnum_path.as_str())?;
         Ok(OpenControl {
             file,
             devnum_path,

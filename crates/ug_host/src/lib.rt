@@ -1,6 +1,7 @@
 // The machine's own files behind the daemon's traits.
 #![tactic(auto)]
 
+mod auditor;
 mod clock;
 mod conf_folder;
 mod entries;
@@ -12,16 +13,23 @@ mod names;
 mod plain;
 mod port;
 mod rule_file;
+mod seed;
 mod sysfs;
 mod waiter;
+mod zone;
 
+pub use auditor::WriterAuditor;
 pub use clock::SystemClock;
 pub use conf_folder::ConfFolder;
 pub use rule_file::RuleFile;
+pub use seed::read_seed;
 pub use sysfs::SysfsFolder;
 pub use waiter::SecondWaiter;
+pub use zone::LocalZone;
 
 #[cfg(test)]
 mod file_tests;
+#[cfg(test)]
+mod journal_tests;
 #[cfg(test)]
 mod tests;
