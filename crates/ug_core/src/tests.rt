@@ -8,7 +8,7 @@ use std::process::Abort;
 use std::test::Fail;
 use ug_conf::default_settings;
 use ug_policy::RuleList;
-use ug_sysfs::{Device, SimKernel, Sysfs};
+use ug_sysfs::{NewDevice, SimKernel, Sysfs};
 use ug_types::{Id, List, Moment, NodeName, Op, Query, Rule, Target, Text, Values};
 
 // A device descriptor alone: vendor 1050, product 11.
@@ -17,15 +17,13 @@ const KEY: [u8; 18] = [
     0x00, 0x01,
 ];
 
-fn device(alloc: Global, name: &[u8], on: bool) -> Result<Device, Fail> {
-    Ok(Device {
+fn device(alloc: Global, name: &[u8], on: bool) -> Result<NewDevice, Fail> {
+    Ok(NewDevice {
         name: NodeName::parse(name)?,
-        parent: None,
         descriptors: Text::of(alloc, &KEY)?,
         product: None,
         serial: None,
         connect: None,
-        gone: false,
         on,
     })
 }

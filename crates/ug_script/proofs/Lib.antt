@@ -1,10 +1,12 @@
 pub mod Digits
 pub mod Moments
 pub mod NamesRead
-pub mod Events
+pub mod Readable
+pub mod WellFormed
+pub mod EventSteps
+pub mod Starts
 pub mod Lawful
 pub mod Spent
 pub mod Numbers
-pub mod Stays
 pub mod Setups
 pub mod Journals

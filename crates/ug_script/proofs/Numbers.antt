@@ -1,6 +1,5 @@
 -- A script's numbers don't run out within its limit of lines.
-use Rattle.std.proofs.Common.{◌≡◌, ℕ, ◌+◌, ◌*◌, ◌-◌, ◌^◌, ◌<◌, ◌≤◌, Bool, true, false, not, is_none, cond, ◌&&◌, ◌||◌, if◌then◌else◌, eqb, nat_lt, List, [], ◌∷◌, length, Option, Some, None, Result, Ok, Err, inl, inr, refl, sym, ap, subst, arith}
-use Rattle.std.specs.Cmp.Lexicographic.{pointwise}
+use Rattle.std.proofs.Common.{◌≡◌, ℕ, ◌+◌, ◌*◌, ◌-◌, ◌^◌, ◌<◌, ◌≤◌, Bool, true, false, cond, ◌&&◌, ◌||◌, if◌then◌else◌, eqb, nat_lt, List, [], ◌∷◌, length, Option, Some, None, inl, inr, refl, sym, ap, subst, arith}
 use Rattle.std.specs.List.{list_any, AllByRecursion, IsDistinct}
 use Rattle.std.proofs.lemmas.Bool.Decides.{nat_tests}
 use Rattle.std.proofs.lemmas.List.{length-map}
@@ -25,20 +24,11 @@ use Rattle.ug_table.specs.declared.standing.Standing.{Standing}
 use Rattle.ug_play.specs.Play.{play}
 use Rattle.ug_play.proofs.Plays.{play_runs}
 use Rattle.ug_core.specs.Event as event
-use Rattle.ug_core.specs.Event.{DaemonState, has_numbers, is_low, has_place, with_rule}
+use Rattle.ug_core.specs.Event.{DaemonState, has_numbers, is_low}
 use Rattle.ug_core.specs.Policy.{Judging, policy_answer, policy_later}
-use Rattle.ug_console.specs.Fold.{BadLine, Outcome, Writes, Refused}
-use Rattle.ug_script.specs.declared.step.Step.{Step}
-use Rattle.ug_script.specs.declared.step.Step.TheVariants.{Skip, Rule, Conf, Seed, Zone, Plug, Unplug, Schedule, Fail, Sweep}
-use Rattle.ug_conf.specs.Faults.{SettingFault}
-use Rattle.ug_conf.specs.Draft.{Draft, line_read}
-use Rattle.ug_conf.specs.Reader.{next_number}
-use Rattle.ug_script.specs.Grammar.{step_of_line}
-use Rattle.ug_script.specs.Replay.{Script, header, fresh, quiet, bad, is_setting, conf_read, with_seed, with_zone, is_offset, after_event, taken, taken_if, script_step}
-use Rattle.ug_script.specs.Schedule.{arranged}
-use Rattle.ug_script.specs.Laws.{event_of}
-use Rattle.ug_script.proofs.Lawful.{Holds, HoldsIn, plays_sweep}
 use Rattle.ug_script.proofs.Spent.{Spends, found, sweeping_spends}
+use Rattle.ug_script.specs.Setup.{SetupState}
+use Rattle.ug_script.proofs.Lawful.{Holds, plays_sweep}
 
 -- how many standings there are
 
@@ -147,7 +137,7 @@ pub record Fits (lines event next id faults : ℕ) : Type 0 where
   pub few_ids : id ≤ lines + 1
   pub few_faults : faults ≤ 1099511627776 * lines
 
-fits_more : {n event next id faults : ℕ} → Fits n event next id faults → Fits (n + 1) event next id faults
+pub fits_more : {n event next id faults : ℕ} → Fits n event next id faults → Fits (n + 1) event next id faults
 fits_more h =
     let a = h.few_events in
     let b = h.few_numbers in
@@ -155,19 +145,11 @@ fits_more h =
     let d = h.few_faults in
     record { few_events = omega (arith, a); few_numbers = omega (arith, b); few_ids = omega (arith, c); few_faults = omega (arith, d) }
 
-fits_rule : {n event next id faults : ℕ} → Fits n event next id faults → Fits (n + 1) event next (id + 1) faults
-fits_rule h =
-    let a = h.few_events in
-    let b = h.few_numbers in
-    let c = h.few_ids in
-    let d = h.few_faults in
-    record { few_events = omega (arith, a); few_numbers = omega (arith, b); few_ids = omega (arith, c); few_faults = omega (arith, d) }
-
-abbrev FitsOf : ℕ → DaemonState → World → Type 0
+abbrev pub FitsOf : ℕ → DaemonState → World → Type 0
 FitsOf n d w = Fits n d.event d.sweep.next d.sweep.judge.next w.faults
 
 -- an event
-event_fits : (n : ℕ) (moment : Moment) (d : DaemonState) (w : World) → n < 1048576 → Holds d.sweep.standings d.sweep.next w → FitsOf n d w → FitsOf (n + 1) (play (event.handling moment d) (begun w)).0 (play (event.handling moment d) (begun w)).1
+pub event_fits : (n : ℕ) (moment : Moment) (d : DaemonState) (w : World) → n < 1048576 → Holds d.sweep.standings d.sweep.next w → FitsOf n d w → FitsOf (n + 1) (play (event.handling moment d) (begun w)).0 (play (event.handling moment d) (begun w)).1
 event_fits n moment d w lt h f =
     let u : State Judging = event.begun d moment in
     let p = sweeping policy_answer policy_later u in
@@ -191,46 +173,9 @@ event_fits n moment d w lt h f =
       few_faults = omega (arith, lt, faults, made, listed, stands, old_next, old_faults);
     })
 
--- after a line
-
-abbrev pub FitsIn : ℕ → Option Script × World → Type 0
-FitsIn n (None, w) = w.faults ≡ 0
-FitsIn n (Some s, w) = FitsOf n s.daemon w
-
-abbrev pub FitsAfter : ℕ → Outcome (Option Script × World) → Type 0
-FitsAfter n (Writes text p) = FitsIn n p
-FitsAfter n (Refused fault p) = Unit {0}
-
-when : (n : ℕ) (b : Bool) (o p : Outcome (Option Script × World)) → FitsAfter n o → FitsAfter n p → FitsAfter n (if b then o else p)
-when n true o p x y = x
-when n false o p x y = y
-
-conf_fits : (n : ℕ) (r : Result Draft SettingFault) (s : Script) (w : World) → FitsIn n (Some s, w) → FitsAfter n (conf_read r s w)
-conf_fits n (Ok draft) s w h = h
-conf_fits n (Err fault) s w h = tt
-
-taken_fits : (n : ℕ) (step : Step) (s : Script) (w : World) → n < 1048576 → HoldsIn (Some s, w) → FitsIn n (Some s, w) → FitsAfter (n + 1) (taken step s w)
-taken_fits n Skip s w lt h f = fits_more f
-taken_fits n (Rule rule) s w lt h f = when (n + 1) (s.setup && has_place s.daemon) (quiet (record s { daemon = with_rule rule s.daemon }) w) (bad s w) (fits_rule f) tt
-taken_fits n (Conf text) s w lt h f = when (n + 1) (s.setup && is_setting text) (conf_read (line_read (next_number s.settings.lines) s.settings.draft text) s w) (bad s w) (conf_fits (n + 1) (line_read (next_number s.settings.lines) s.settings.draft text) s w (fits_more f)) tt
-taken_fits n (Seed seed) s w lt h f = when (n + 1) (s.setup && is_none s.seed) (quiet (record s { seed = Some seed; daemon = with_seed seed s.daemon }) w) (bad s w) (fits_more f) tt
-taken_fits n (Zone offset) s w lt h f = when (n + 1) (s.setup && (not s.zoned && is_offset offset)) (quiet (record s { zoned = true; daemon = with_zone offset s.daemon }) w) (bad s w) (fits_more f) tt
-taken_fits n (Plug device) s w lt h f = fits_more f
-taken_fits n (Unplug name) s w lt h f = fits_more f
-taken_fits n (Schedule m) s w lt h f = fits_more f
-taken_fits n (Fail x) s w lt h f = fits_more f
-taken_fits n (Sweep moment) s w lt h f = when (n + 1) (has_numbers s.daemon w.faults 0) (after_event s (event_of moment s w)) (bad s w) (event_fits n moment s.daemon (arranged s.moves w) lt (record { told = h.told; sound = h.sound; stand = h.stand }) f) tt
-
-taken_if_fits : (n : ℕ) (step : Option Step) (s : Script) (w : World) → n < 1048576 → HoldsIn (Some s, w) → FitsIn n (Some s, w) → FitsAfter (n + 1) (taken_if step s w)
-taken_if_fits n None s w lt h f = tt
-taken_if_fits n (Some step) s w lt h f = taken_fits n step s w lt h f
-
-fresh_fits : (n : ℕ) (w : World) → w.faults ≡ 0 → FitsIn (n + 1) (Some fresh, w)
-fresh_fits n w e = record { few_events = omega arith; few_numbers = omega arith; few_ids = omega arith; few_faults = omega (arith, e) }
-
-pub step_fits : (n : ℕ) (p : Option Script × World) (line : List ℕ) → n < 1048576 → HoldsIn p → FitsIn n p → FitsAfter (n + 1) (script_step p line)
-step_fits n (None, w) line lt h f = when (n + 1) (pointwise eqb line header) (quiet fresh w) (Refused BadLine (None, w)) (fresh_fits n w f) tt
-step_fits n (Some s, w) line lt h f = taken_if_fits n (step_of_line line) s w lt h f
+-- a daemon that was not started yet
+pub started_fits : (n : ℕ) (setup : SetupState) (faults : ℕ) → length setup.rules ≤ n → faults ≤ 1099511627776 * n → Fits n 1 1 (length setup.rules + 1) faults
+started_fits n setup faults few low = record { few_events = omega arith; few_numbers = omega arith; few_ids = omega (arith, few); few_faults = omega (arith, low) }
 
 -- the numbers leave room
 

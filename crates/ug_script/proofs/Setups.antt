@@ -1,27 +1,28 @@
--- The policy of setup lines, a line at a time.
-use Rattle.std.proofs.Common.{◌≡◌, ℕ, ◌+◌, ◌<◌, ℤ, pos, false, List, [], ◌∷◌, ◌++◌, length, flat_map, Option, Some, Result, Ok, Err, refl, sym, ◌∙◌, ap, subst, arith, append_assoc, append-nil, length-append}
+-- What setup lines give, a line at a time.
+use Rattle.std.proofs.Common.{◌≡◌, ℕ, ◌+◌, ◌<◌, ◌≤◌, ℤ, pos, Bool, true, false, is_none, ◌&&◌, if◌then◌else◌, nat_lt, List, [], ◌∷◌, ◌++◌, length, flat_map, Option, Some, None, Result, Ok, Err, inl, inr, refl, sym, ◌∙◌, ap, subst, arith, append_assoc, append-nil, length-append}
+use Rattle.std.proofs.lemmas.Bool.Decides.{nat_tests}
+use Rattle.ug_types.specs.Elements.{Has, AllDistinct}
 use Rattle.ug_types.specs.declared.rule.Rule as types
-use Rattle.ug_policy.specs.declared.entry.RuleEntry.{RuleEntry}
-use Rattle.ug_policy.specs.Edits.{new_entry}
-use Rattle.ug_policy.specs.Kept.{StandsFor}
-use Rattle.ug_policy.specs.Rules.{IsNumbered}
-use Rattle.ug_policy.proofs.Numbering.{numbered_insert}
-use Rattle.ug_policy.proofs.Stands.{stands_insert}
+use Rattle.ug_cond.specs.Judgements.{IsHistory}
 use Rattle.ug_cond.specs.Words.{behind}
 use Rattle.rand_core.specs.Stream.{Stream}
-use Rattle.std.proofs.lemmas.List.Edits.{insert_end}
+use Rattle.ug_policy.specs.declared.entry.RuleEntry.{RuleEntry}
+use Rattle.ug_policy.specs.Edits.{new_entry}
+use Rattle.ug_policy.specs.Rules.{ids}
 use Rattle.ug_conf.specs.Draft.{Draft, draft_of, line_read}
 use Rattle.ug_conf.specs.Faults.{SettingFault, kind_number}
+use Rattle.ug_conf.specs.Reader.{next_number}
 use Rattle.ug_conf.specs.Settings.{defaults}
 use Rattle.ug_conf.specs.Texts.{setting_line}
 use Rattle.ug_lines.specs.LineReading.{lines_read, on_line, then_on}
-use Rattle.ug_core.specs.Settings.{classes_of}
+use Rattle.ug_start.specs.Starting.{permanent_entries}
 use Rattle.ug_core.specs.Policy.{Judging, as_given}
 use Rattle.ug_core.specs.Verdicts.{IsLater}
+use Rattle.ug_script.specs.declared.step.SetupLine.{SetupLine}
+use Rattle.ug_script.specs.declared.step.SetupLine.TheVariants.{Rule, Conf, Seed, Zone}
 use Rattle.ug_script.specs.declared.step.Step.{Step}
-use Rattle.ug_script.specs.declared.step.Step.TheVariants.{Rule, Conf, Seed, Zone}
-use Rattle.ug_script.specs.Replay.{fresh, clock_ahead, seeded, no_seed}
-use Rattle.ug_script.specs.Setup.{rule_asked, conf_asked, seed_asked, zone_asked, entries_from, first_or, IsSetup}
+use Rattle.ug_script.specs.declared.step.Step.TheVariants.{Setup}
+use Rattle.ug_script.specs.Setup.{SetupState, no_setup, is_offset, is_setting, with_draft, one_line_more, clock_ahead, seeded, no_seed, given_or, policy_of, rule_asked, conf_asked, seed_asked, zone_asked, first_or, IsSetup}
 
 pub flat_more : {X : Type 0} (f : Option Step → List X) (steps : List (Option Step)) (step : Option Step) → flat_map f (steps ++ step ∷ []) ≡ flat_map f steps ++ f step
 flat_more f [] step = append-nil (f step)
@@ -46,141 +47,209 @@ settings_more number draft [] line mid last h g =
     ap (λ (r : Result Draft SettingFault). then_on (on_line kind_number number r) (λ (more : Draft). lines_read setting_line (number + 1) more [])) read
 settings_more number draft (x ∷ lines) line mid last h g = settings_by number lines line mid last (line_read number draft x) h (λ more k. settings_more (number + 1) more lines line mid last k (let next : number + length (x ∷ lines) ≡ (number + 1) + length lines = omega arith in subst (λ (n : ℕ). line_read n mid line ≡ Ok last) next g))
 
--- one rule more
-entries_more : (id : ℕ) (rules : List types.Rule) (rule : types.Rule) → entries_from id (rules ++ rule ∷ []) ≡ entries_from id rules ++ new_entry (id + length rules) rule false ∷ []
-entries_more id [] rule = let none : id ≡ id + 0 = omega arith in ap (λ (n : ℕ). new_entry n rule false ∷ []) none
-entries_more id (r ∷ rules) rule =
-    let next : (id + 1) + length rules ≡ id + length (r ∷ rules) = omega arith in
-    ap (λ (l : List RuleEntry). new_entry id r false ∷ l) (entries_more (id + 1) rules rule) ∙ ap (λ (n : ℕ). new_entry id r false ∷ (entries_from (id + 1) rules ++ new_entry n rule false ∷ [])) next
+-- ---- what lines gave is what they ask for
 
-pub settings_then : (steps : List (Option Step)) (text : List ℕ) (mid draft : Draft) → lines_read setting_line 1 (draft_of defaults []) (flat_map conf_asked steps) ≡ Ok mid → line_read (1 + length (flat_map conf_asked steps)) mid text ≡ Ok draft → lines_read setting_line 1 (draft_of defaults []) (flat_map conf_asked (steps ++ Some (Conf text) ∷ [])) ≡ Ok draft
-settings_then steps text mid draft h read = ap (λ (l : List (List ℕ)). lines_read setting_line 1 (draft_of defaults []) l) (flat_more conf_asked steps (Some (Conf text))) ∙ settings_more 1 (draft_of defaults []) (flat_map conf_asked steps) text mid draft h read
+abbrev pub alone : {X : Type 0} → Option X → List X
+alone None = []
+alone (Some x) = x ∷ []
 
-pub settings_still : (steps : List (Option Step)) (step : Option Step) (draft : Draft) → conf_asked step ≡ [] → lines_read setting_line 1 (draft_of defaults []) (flat_map conf_asked steps) ≡ Ok draft → lines_read setting_line 1 (draft_of defaults []) (flat_map conf_asked (steps ++ step ∷ [])) ≡ Ok draft
-settings_still steps step draft none h = ap (λ (l : List (List ℕ)). lines_read setting_line 1 (draft_of defaults []) l) (flat_none conf_asked steps step none) ∙ h
+-- after no more than so many lines
+pub record IsGiven (n : ℕ) (done : List (Option Step)) (s : SetupState) : Type 0 where
+  pub rules : s.rules ≡ flat_map rule_asked done
+  pub few_rules : length s.rules ≤ n
+  pub listed : length s.rules ≤ 65536
+  pub read : lines_read setting_line 1 (draft_of defaults []) (flat_map conf_asked done) ≡ Ok s.settings.draft
+  pub lines : s.settings.lines ≡ length (flat_map conf_asked done)
+  pub few : s.settings.lines ≤ n
+  pub seeds : flat_map seed_asked done ≡ alone s.seed
+  pub zones : flat_map zone_asked done ≡ alone s.zone
+
+pub given_first : IsGiven 1 [] no_setup
+unfolding lines_read
+given_first = record { rules = refl; few_rules = omega arith; listed = omega arith; read = refl; lines = refl; few = omega arith; seeds = refl; zones = refl }
 
 -- a step that isn't one of setup
-pub setup_still : (steps : List (Option Step)) (step : Option Step) (p : Judging) → conf_asked step ≡ [] → rule_asked step ≡ [] → zone_asked step ≡ [] → seed_asked step ≡ [] → IsSetup steps p → IsSetup (steps ++ step ∷ []) p
-setup_still steps step p conf rule zone seed h = record {
-  draft = h.draft;
-  settings = settings_still steps step h.draft conf h.settings;
-  classes = h.classes;
-  rules = h.rules ∙ ap (λ (l : List types.Rule). entries_from 1 l) (sym (flat_none rule_asked steps step rule));
-  next = h.next ∙ ap (λ (l : List types.Rule). length l + 1) (sym (flat_none rule_asked steps step rule));
-  clock = h.clock ∙ ap (λ (l : List ℤ). clock_ahead (first_or (pos 0) l)) (sym (flat_none zone_asked steps step zone));
-  ctx = h.ctx;
-  words = h.words ∙ ap (λ (l : List (List ℕ)). seeded (first_or no_seed l)) (sym (flat_none seed_asked steps step seed));
+pub given_still : (n : ℕ) (done : List (Option Step)) (step : Option Step) (s : SetupState) → rule_asked step ≡ [] → conf_asked step ≡ [] → seed_asked step ≡ [] → zone_asked step ≡ [] → IsGiven n done s → IsGiven (n + 1) (done ++ step ∷ []) s
+given_still n done step s rule conf seed zone h =
+    let few_rules : length s.rules ≤ n = h.few_rules in
+    let few : s.settings.lines ≤ n = h.few in
+    record {
+      rules = h.rules ∙ sym (flat_none rule_asked done step rule);
+      few_rules = omega (arith, few_rules);
+      listed = h.listed;
+      read = ap (λ (l : List (List ℕ)). lines_read setting_line 1 (draft_of defaults []) l) (flat_none conf_asked done step conf) ∙ h.read;
+      lines = h.lines ∙ ap (λ (l : List (List ℕ)). length l) (sym (flat_none conf_asked done step conf));
+      few = omega (arith, few);
+      seeds = flat_none seed_asked done step seed ∙ h.seeds;
+      zones = flat_none zone_asked done step zone ∙ h.zones;
+    }
+
+-- of what a line gives, where it may stand there
+abbrev pub InSetup : (SetupState → Type 0) → Option SetupState → Type 0
+InSetup P None = Unit {0}
+InSetup P (Some s) = P s
+
+in_when : (P : SetupState → Type 0) (b : Bool) (o : Option SetupState) → (b ≡ true → InSetup P o) → InSetup P (if b then o else None)
+in_when P true o h = h refl
+in_when P false o h = tt
+
+none_alone : {X : Type 0} (o : Option X) → is_none o ≡ true → alone o ≡ []
+none_alone None e = refl
+none_alone (Some x) e = let none : ⊥ = cc in absurd none
+
+both : (a b : Bool) → (a && b) ≡ true → a ≡ true
+both true b e = refl
+both false b e = let none : ⊥ = cc in absurd none
+
+abbrev AfterLine : ℕ → List (Option Step) → SetupLine → SetupState → Type 0
+AfterLine n done line s = IsGiven (n + 1) (done ++ Some (Setup line) ∷ []) s
+
+given_rule : (n : ℕ) (done : List (Option Step)) (rule : types.Rule) (s : SetupState) → nat_lt (length s.rules) 65536 ≡ true → IsGiven n done s → AfterLine n done (Rule rule) (record s { rules = s.rules ++ rule ∷ [] })
+given_rule n done rule s b h =
+    let step : Option Step = Some (Setup (Rule rule)) in
+    let few_rules : length s.rules ≤ n = h.few_rules in
+    let few : s.settings.lines ≤ n = h.few in
+    let room : length s.rules < 65536 = grind (arith, nat_tests, b) in
+    let more : length (s.rules ++ rule ∷ []) ≡ length s.rules + 1 = length-append s.rules (rule ∷ []) in
+    record {
+      rules = ap (λ (l : List types.Rule). l ++ rule ∷ []) h.rules ∙ sym (flat_more rule_asked done step);
+      few_rules = omega (arith, few_rules, more);
+      listed = omega (arith, room, more);
+      read = ap (λ (l : List (List ℕ)). lines_read setting_line 1 (draft_of defaults []) l) (flat_none conf_asked done step refl) ∙ h.read;
+      lines = h.lines ∙ ap (λ (l : List (List ℕ)). length l) (sym (flat_none conf_asked done step refl));
+      few = omega (arith, few);
+      seeds = flat_none seed_asked done step refl ∙ h.seeds;
+      zones = flat_none zone_asked done step refl ∙ h.zones;
+    }
+
+-- the line of settings has the number that is next
+given_conf : (n : ℕ) (done : List (Option Step)) (text : List ℕ) (s : SetupState) (r : Result Draft SettingFault) → n < 1048576 → line_read (next_number s.settings.lines) s.settings.draft text ≡ r → IsGiven n done s → InSetup (AfterLine n done (Conf text)) (with_draft r s)
+given_conf n done text s (Err fault) lt is h = tt
+given_conf n done text s (Ok draft) lt is h =
+    let step : Option Step = Some (Setup (Conf text)) in
+    let asked : List (List ℕ) = flat_map conf_asked done in
+    let few_rules : length s.rules ≤ n = h.few_rules in
+    let few : s.settings.lines ≤ n = h.few in
+    let lines : s.settings.lines ≡ length asked = h.lines in
+    let all : flat_map conf_asked (done ++ step ∷ []) ≡ asked ++ text ∷ [] = flat_more conf_asked done step in
+    let number : next_number s.settings.lines ≡ 1 + length asked = omega (arith, few, lt, lines) in
+    let longer : length (asked ++ text ∷ []) ≡ length asked + 1 = length-append asked (text ∷ []) in
+    let count : next_number s.settings.lines ≡ length (asked ++ text ∷ []) = omega (arith, number, longer) in
+    record {
+      rules = h.rules ∙ sym (flat_none rule_asked done step refl);
+      few_rules = omega (arith, few_rules);
+      listed = h.listed;
+      read = ap (λ (l : List (List ℕ)). lines_read setting_line 1 (draft_of defaults []) l) all ∙ settings_more 1 (draft_of defaults []) asked text s.settings.draft draft h.read (subst (λ (m : ℕ). line_read m s.settings.draft text ≡ Ok draft) number is);
+      lines = count ∙ ap (λ (l : List (List ℕ)). length l) (sym all);
+      few = omega (arith, few, lt);
+      seeds = flat_none seed_asked done step refl ∙ h.seeds;
+      zones = flat_none zone_asked done step refl ∙ h.zones;
+    }
+
+given_seed : (n : ℕ) (done : List (Option Step)) (seed : List ℕ) (s : SetupState) → is_none s.seed ≡ true → IsGiven n done s → AfterLine n done (Seed seed) (record s { seed = Some seed })
+given_seed n done seed s b h =
+    let step : Option Step = Some (Setup (Seed seed)) in
+    let few_rules : length s.rules ≤ n = h.few_rules in
+    let few : s.settings.lines ≤ n = h.few in
+    record {
+      rules = h.rules ∙ sym (flat_none rule_asked done step refl);
+      few_rules = omega (arith, few_rules);
+      listed = h.listed;
+      read = ap (λ (l : List (List ℕ)). lines_read setting_line 1 (draft_of defaults []) l) (flat_none conf_asked done step refl) ∙ h.read;
+      lines = h.lines ∙ ap (λ (l : List (List ℕ)). length l) (sym (flat_none conf_asked done step refl));
+      few = omega (arith, few);
+      seeds = flat_more seed_asked done step ∙ ap (λ (l : List (List ℕ)). l ++ seed ∷ []) (h.seeds ∙ none_alone s.seed b);
+      zones = flat_none zone_asked done step refl ∙ h.zones;
+    }
+
+given_zone : (n : ℕ) (done : List (Option Step)) (offset : ℤ) (s : SetupState) → is_none s.zone ≡ true → IsGiven n done s → AfterLine n done (Zone offset) (record s { zone = Some offset })
+given_zone n done offset s b h =
+    let step : Option Step = Some (Setup (Zone offset)) in
+    let few_rules : length s.rules ≤ n = h.few_rules in
+    let few : s.settings.lines ≤ n = h.few in
+    record {
+      rules = h.rules ∙ sym (flat_none rule_asked done step refl);
+      few_rules = omega (arith, few_rules);
+      listed = h.listed;
+      read = ap (λ (l : List (List ℕ)). lines_read setting_line 1 (draft_of defaults []) l) (flat_none conf_asked done step refl) ∙ h.read;
+      lines = h.lines ∙ ap (λ (l : List (List ℕ)). length l) (sym (flat_none conf_asked done step refl));
+      few = omega (arith, few);
+      seeds = flat_none seed_asked done step refl ∙ h.seeds;
+      zones = flat_more zone_asked done step ∙ ap (λ (l : List ℤ). l ++ offset ∷ []) (h.zones ∙ none_alone s.zone b);
+    }
+
+-- a line of setup
+pub given_added : (n : ℕ) (done : List (Option Step)) (line : SetupLine) (s : SetupState) → n < 1048576 → IsGiven n done s → InSetup (AfterLine n done line) (one_line_more line s)
+given_added n done (Rule rule) s lt h = in_when (AfterLine n done (Rule rule)) (nat_lt (length s.rules) 65536) (Some (record s { rules = s.rules ++ rule ∷ [] })) (λ b. given_rule n done rule s b h)
+given_added n done (Conf text) s lt h = in_when (AfterLine n done (Conf text)) (is_setting text) (with_draft (line_read (next_number s.settings.lines) s.settings.draft text) s) (λ b. given_conf n done text s (line_read (next_number s.settings.lines) s.settings.draft text) lt refl h)
+given_added n done (Seed seed) s lt h = in_when (AfterLine n done (Seed seed)) (is_none s.seed) (Some (record s { seed = Some seed })) (λ b. given_seed n done seed s b h)
+given_added n done (Zone offset) s lt h = in_when (AfterLine n done (Zone offset)) (is_none s.zone && is_offset offset) (Some (record s { zone = Some offset })) (λ b. given_zone n done offset s (both (is_none s.zone) (is_offset offset) b) h)
+
+first_alone : {X : Type 0} (other : X) (o : Option X) → given_or other o ≡ first_or other (alone o)
+first_alone other None = refl
+first_alone other (Some x) = refl
+
+pub given_setup : (n : ℕ) (done : List (Option Step)) (s : SetupState) → IsGiven n done s → IsSetup done (policy_of s)
+given_setup n done s h = record {
+  draft = s.settings.draft;
+  settings = h.read;
+  classes = refl;
+  rules = ap (λ (l : List types.Rule). permanent_entries 1 l) h.rules;
+  next = ap (λ (l : List types.Rule). length l + 1) h.rules;
+  clock = ap (λ (z : ℤ). clock_ahead z) (first_alone (pos 0) s.zone ∙ ap (λ (l : List ℤ). first_or (pos 0) l) (sym h.zones));
+  ctx = refl;
+  words = ap (λ (z : List ℕ). seeded z) (first_alone no_seed s.seed ∙ ap (λ (l : List (List ℕ)). first_or no_seed l) (sym h.seeds));
 }
 
-abbrev pub ruled_by : types.Rule → Judging → Judging
-ruled_by rule p = record p { rules = p.rules ++ new_entry p.next rule false ∷ []; next = p.next + 1 }
+-- ---- the policy has given no verdict yet
 
--- the policy has given no verdict yet
 abbrev pub IsNew : Judging → Type 0
 IsNew p = IsLater p 0 [] p
 
-pub new_rule : (rule : types.Rule) (p : Judging) → length p.rules < 65536 → IsNew p → IsNew (ruled_by rule p)
-new_rule rule p few h =
-    let new : RuleEntry = new_entry p.next rule false in
-    record {
-      classes = refl;
-      rules = given_more p.rules new ∙ ap (λ (l : List RuleEntry). l ++ new ∷ []) h.rules;
-      next = refl;
-      clock = refl;
-      stream = h.stream;
-      numbered = subst (λ (v : List RuleEntry). IsNumbered v (p.next + 1)) (insert_end p.rules new) (numbered_insert p.rules p.next (length p.rules) new h.numbered refl (omega arith) few);
-      histories = subst (λ (v : List RuleEntry). StandsFor v (p.next + 1) []) (insert_end p.rules new) (stands_insert p.rules p.next (length p.rules) rule false [] h.histories);
-    }
-  where
-    given_more : (es : List RuleEntry) (e : RuleEntry) → as_given (es ++ e ∷ []) ≡ as_given es ++ new_entry e.id e.rule e.temporary ∷ []
-    given_more [] e = refl
-    given_more (x ∷ es) e = ap (λ (l : List RuleEntry). new_entry x.id x.rule x.temporary ∷ l) (given_more es e)
+permanent_length : (id : ℕ) (rules : List types.Rule) → length (permanent_entries id rules) ≡ length rules
+permanent_length id [] = omega arith
+permanent_length id (r ∷ rules) = omega (arith, permanent_length (id + 1) rules)
 
--- where the rules are the same
-pub new_still : (p q : Judging) → q.rules ≡ p.rules → q.next ≡ p.next → IsNew p → IsNew q
-new_still p q rules next h = record {
+rules_given : (id : ℕ) (rules : List types.Rule) → as_given (permanent_entries id rules) ≡ permanent_entries id rules
+rules_given id [] = refl
+rules_given id (r ∷ rules) = ap (λ (l : List RuleEntry). new_entry id r false ∷ l) (rules_given (id + 1) rules)
+
+ids_from : (id x : ℕ) (rules : List types.Rule) → Has (ids (permanent_entries id rules)) x → (id ≤ x) × (x < id + length rules)
+ids_from id x [] h = absurd h
+ids_from id x (r ∷ rules) (inl same) = let is : id ≡ x = same in (omega (arith, is), omega (arith, is))
+ids_from id x (r ∷ rules) (inr h) =
+    let k = ids_from (id + 1) x rules h in
+    let low : id + 1 ≤ x = k.0 in
+    let high : x < (id + 1) + length rules = k.1 in
+    (omega (arith, low), omega (arith, high))
+
+ids_differ : (id : ℕ) (rules : List types.Rule) → AllDistinct (ids (permanent_entries id rules))
+ids_differ id [] = tt
+ids_differ id (r ∷ rules) = (λ h. let low : id + 1 ≤ id = (ids_from (id + 1) id rules h).0 in let none : ⊥ = omega (arith, low) in none, ids_differ (id + 1) rules)
+
+histories_new : (id : ℕ) (rules : List types.Rule) (e : RuleEntry) → Has (permanent_entries id rules) e → IsHistory [] e.id e.history
+histories_new id [] e h = absurd h
+histories_new id (r ∷ rules) e (inl same) = subst (λ (v : RuleEntry). IsHistory [] v.id v.history) same (λ t w. absurd w.1, λ t w. absurd w.1)
+histories_new id (r ∷ rules) e (inr h) = histories_new (id + 1) rules e h
+
+pub policy_new : (s : SetupState) → length s.rules ≤ 65536 → IsNew (policy_of s)
+policy_new s few = record {
   classes = refl;
-  rules = ap (λ (l : List RuleEntry). as_given l) rules ∙ h.rules ∙ sym rules;
+  rules = rules_given 1 s.rules;
   next = refl;
   clock = refl;
-  stream = stream_first q.stream;
-  numbered = subst (λ (l : List RuleEntry). IsNumbered l q.next) (sym rules) (subst (λ (n : ℕ). IsNumbered p.rules n) (sym next) h.numbered);
-  histories = subst (λ (l : List RuleEntry). StandsFor l q.next []) (sym rules) (subst (λ (n : ℕ). StandsFor p.rules n []) (sym next) h.histories);
+  stream = stream_first (policy_of s).stream;
+  numbered = record {
+    distinct = ids_differ 1 s.rules;
+    below = λ id a. let k : id < 1 + length s.rules = (ids_from 1 id s.rules a).1 in omega (arith, k);
+    few = let same : length (permanent_entries 1 s.rules) ≡ length s.rules = permanent_length 1 s.rules in omega (arith, same, few);
+  };
+  histories = record {
+    evaluated = λ j id a. absurd a;
+    applied = λ j id a. absurd a;
+    histories = λ e a. histories_new 1 s.rules e a;
+  };
 }
   where
-    stream_first : (s : Stream) → s ≡ behind 0 s
-    stream_first s = refl
-
-pub setup_rule : (steps : List (Option Step)) (rule : types.Rule) (p : Judging) → IsSetup steps p → IsSetup (steps ++ Some (Rule rule) ∷ []) (ruled_by rule p)
-setup_rule steps rule p h =
-    let step : Option Step = Some (Rule rule) in
-    let rs : List types.Rule = flat_map rule_asked steps in
-    let all : flat_map rule_asked (steps ++ step ∷ []) ≡ rs ++ rule ∷ [] = flat_more rule_asked steps step in
-    let more : length (rs ++ rule ∷ []) ≡ length rs + 1 = length-append rs (rule ∷ []) in
-    let id : length rs + 1 ≡ 1 + length rs = omega arith in
-    record {
-      draft = h.draft;
-      settings = settings_still steps step h.draft refl h.settings;
-      classes = h.classes;
-      rules = ap (λ (l : List RuleEntry). l ++ new_entry p.next rule false ∷ []) h.rules ∙ ap (λ (n : ℕ). entries_from 1 rs ++ new_entry n rule false ∷ []) (h.next ∙ id) ∙ sym (entries_more 1 rs rule) ∙ ap (λ (l : List types.Rule). entries_from 1 l) (sym all);
-      next = ap (λ (n : ℕ). n + 1) (h.next ∙ sym more ∙ ap (λ (l : List types.Rule). length l) (sym all));
-      clock = h.clock ∙ ap (λ (l : List ℤ). clock_ahead (first_or (pos 0) l)) (sym (flat_none zone_asked steps step refl));
-      ctx = h.ctx;
-      words = h.words ∙ ap (λ (l : List (List ℕ)). seeded (first_or no_seed l)) (sym (flat_none seed_asked steps step refl));
-    }
-
-pub setup_conf : (steps : List (Option Step)) (text : List ℕ) (draft : Draft) (p : Judging) → IsSetup steps p → lines_read setting_line 1 (draft_of defaults []) (flat_map conf_asked (steps ++ Some (Conf text) ∷ [])) ≡ Ok draft → IsSetup (steps ++ Some (Conf text) ∷ []) (record p { classes = classes_of draft.settings })
-setup_conf steps text draft p h read =
-    let step : Option Step = Some (Conf text) in
-    record {
-      draft = draft;
-      settings = read;
-      classes = refl;
-      rules = h.rules ∙ ap (λ (l : List types.Rule). entries_from 1 l) (sym (flat_none rule_asked steps step refl));
-      next = h.next ∙ ap (λ (l : List types.Rule). length l + 1) (sym (flat_none rule_asked steps step refl));
-      clock = h.clock ∙ ap (λ (l : List ℤ). clock_ahead (first_or (pos 0) l)) (sym (flat_none zone_asked steps step refl));
-      ctx = h.ctx;
-      words = h.words ∙ ap (λ (l : List (List ℕ)). seeded (first_or no_seed l)) (sym (flat_none seed_asked steps step refl));
-    }
-
-pub setup_seed : (steps : List (Option Step)) (seed : List ℕ) (p : Judging) → flat_map seed_asked steps ≡ [] → IsSetup steps p → IsSetup (steps ++ Some (Seed seed) ∷ []) (record p { stream = seeded seed })
-setup_seed steps seed p none h =
-    let step : Option Step = Some (Seed seed) in
-    let all : flat_map seed_asked (steps ++ step ∷ []) ≡ seed ∷ [] = flat_more seed_asked steps step ∙ ap (λ (l : List (List ℕ)). l ++ seed ∷ []) none in
-    record {
-      draft = h.draft;
-      settings = settings_still steps step h.draft refl h.settings;
-      classes = h.classes;
-      rules = h.rules ∙ ap (λ (l : List types.Rule). entries_from 1 l) (sym (flat_none rule_asked steps step refl));
-      next = h.next ∙ ap (λ (l : List types.Rule). length l + 1) (sym (flat_none rule_asked steps step refl));
-      clock = h.clock ∙ ap (λ (l : List ℤ). clock_ahead (first_or (pos 0) l)) (sym (flat_none zone_asked steps step refl));
-      ctx = h.ctx;
-      words = ap (λ (l : List (List ℕ)). seeded (first_or no_seed l)) (sym all);
-    }
-
-pub setup_zone : (steps : List (Option Step)) (offset : ℤ) (p : Judging) → flat_map zone_asked steps ≡ [] → IsSetup steps p → IsSetup (steps ++ Some (Zone offset) ∷ []) (record p { clock = clock_ahead offset })
-setup_zone steps offset p none h =
-    let step : Option Step = Some (Zone offset) in
-    let all : flat_map zone_asked (steps ++ step ∷ []) ≡ offset ∷ [] = flat_more zone_asked steps step ∙ ap (λ (l : List ℤ). l ++ offset ∷ []) none in
-    record {
-      draft = h.draft;
-      settings = settings_still steps step h.draft refl h.settings;
-      classes = h.classes;
-      rules = h.rules ∙ ap (λ (l : List types.Rule). entries_from 1 l) (sym (flat_none rule_asked steps step refl));
-      next = h.next ∙ ap (λ (l : List types.Rule). length l + 1) (sym (flat_none rule_asked steps step refl));
-      clock = ap (λ (l : List ℤ). clock_ahead (first_or (pos 0) l)) (sym all);
-      ctx = h.ctx;
-      words = h.words ∙ ap (λ (l : List (List ℕ)). seeded (first_or no_seed l)) (sym (flat_none seed_asked steps step refl));
-    }
-
--- what no line gives
-
-pub fresh_read : lines_read setting_line 1 (draft_of defaults []) [] ≡ Ok (draft_of defaults [])
-unfolding lines_read
-fresh_read = refl
-
-pub fresh_new : IsNew fresh.daemon.sweep.judge
-fresh_new = record { classes = refl; rules = refl; next = refl; clock = refl; stream = refl; numbered = record { distinct = tt; below = λ id a. absurd a; few = omega arith }; histories = record { evaluated = λ j id a. absurd a; applied = λ j id a. absurd a; histories = λ e a. absurd a } }
-
-pub fresh_setup : IsSetup [] fresh.daemon.sweep.judge
-fresh_setup = record { draft = draft_of defaults []; settings = fresh_read; classes = refl; rules = refl; next = refl; clock = refl; ctx = refl; words = refl }
+    stream_first : (x : Stream) → x ≡ behind 0 x
+    stream_first x = refl

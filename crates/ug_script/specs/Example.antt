@@ -4,19 +4,20 @@ use Rattle.std.specs.Prelude.{ℕ, true, false, List, [], ◌∷◌, None, Some,
 use Rattle.ug_types.specs.declared.rule.Op.TheVariants.{Equals}
 use Rattle.ug_types.specs.declared.rule.Rule.{Rule}
 use Rattle.ug_types.specs.declared.verdict.Target.TheVariants.{Allow}
-use Rattle.ug_kernel.specs.declared.device.Device.{Device}
 use Rattle.ug_sysfs.specs.declared.script.Failing.{Failing}
+use Rattle.ug_sysfs.specs.declared.script.NewDevice.{NewDevice}
 use Rattle.ug_sysfs.specs.declared.script.Move.TheVariants.{Plug, Unplug}
 use Rattle.ug_sysfs.specs.declared.script.Scheduled.{Scheduled}
 use Rattle.ug_sysfs.specs.Devices.{plugged}
 use Rattle.ug_sysfs.specs.World.{World, begun, over}
 use Rattle.ug_play.specs.Play.{play}
-use Rattle.ug_core.specs.Event.{DaemonState, handling, with_rule}
-use Rattle.ug_script.specs.Replay.{fresh, with_devices}
+use Rattle.ug_core.specs.Event.{DaemonState, handling}
+use Rattle.ug_script.specs.Replay.{with_devices}
+use Rattle.ug_script.specs.Setup.{no_setup, policy_of, started}
 
 -- a device with nothing but its descriptors
-abbrev pub device_of : List ℕ → List ℕ → Device
-device_of name descriptors = record { name = name; parent = None; descriptors = descriptors; product = None; serial = None; connect = None; gone = false; on = false }
+abbrev pub device_of : List ℕ → List ℕ → NewDevice
+device_of name descriptors = record { name = name; descriptors = descriptors; product = None; serial = None; connect = None; on = false }
 
 -- a root hub, 1d6b:0002
 abbrev pub hub_bytes : List ℕ
@@ -29,13 +30,13 @@ key_bytes = 18 ∷ 1 ∷ 0 ∷ 2 ∷ 0 ∷ 0 ∷ 0 ∷ 64 ∷ 80 ∷ 16 ∷ 17 �
 abbrev pub other_bytes : List ℕ
 other_bytes = 18 ∷ 1 ∷ 0 ∷ 2 ∷ 0 ∷ 0 ∷ 0 ∷ 64 ∷ 80 ∷ 16 ∷ 18 ∷ 0 ∷ 0 ∷ 1 ∷ 0 ∷ 0 ∷ 0 ∷ 1 ∷ []
 
-abbrev pub hub : Device
+abbrev pub hub : NewDevice
 hub = record (device_of (codes "usb1") hub_bytes) { on = true }
 
-abbrev pub key : Device
+abbrev pub key : NewDevice
 key = device_of (codes "1-1") key_bytes
 
-abbrev pub other : Device
+abbrev pub other : NewDevice
 other = device_of (codes "1-1") other_bytes
 
 abbrev pub hub_world : World
@@ -61,7 +62,7 @@ key_rule = record {
 
 -- a daemon with this rule alone
 abbrev pub ruled : DaemonState
-ruled = with_rule key_rule fresh.daemon
+ruled = started (policy_of (record no_setup { rules = key_rule ∷ [] }))
 
 -- an event at that moment
 abbrev pub event_at : ℕ → DaemonState × World → DaemonState × World

@@ -2,51 +2,48 @@
 use Rattle.std.specs.Prelude.{ℕ, ℤ, ◌+◌, ◌-◌, Bool, true, false, ◌||◌, nat_eq, if◌then◌else◌, List, length, take, drop, Option, Some, None, Result, Ok, Err, codes}
 use Rattle.std.specs.List.{starts_with, ends_with, position}
 use Rattle.ug_types.specs.declared.rule.Rule as types
-use Rattle.ug_kernel.specs.declared.device.Device.{Device}
 use Rattle.ug_rule.specs.declared.fault.Fault.{Fault}
+use Rattle.ug_rule.specs.Grammar.{WellFormed}
 use Rattle.ug_rule.specs.Rules.{rule_read}
-use Rattle.ug_script.specs.declared.step.Step.{Step}
-use Rattle.ug_script.specs.declared.step.Step.TheVariants.{Skip, Rule, Conf, Seed, Zone, Plug, Unplug, Schedule, Fail, Sweep}
-use Rattle.ug_script.specs.Plugs.{device_of}
 use Rattle.ug_sysfs.specs.declared.script.Move.{Move}
 use Rattle.ug_sysfs.specs.declared.script.Move.TheVariants as move
+use Rattle.ug_sysfs.specs.declared.script.NewDevice.{NewDevice}
+use Rattle.ug_core.specs.declared.daemon.Event.{Event}
+use Rattle.ug_core.specs.declared.daemon.Event.TheVariants.{Sweep}
+use Rattle.ug_script.specs.declared.step.Plan.{Plan}
+use Rattle.ug_script.specs.declared.step.Plan.TheVariants as plan
+use Rattle.ug_script.specs.declared.step.SetupLine.{SetupLine}
+use Rattle.ug_script.specs.declared.step.SetupLine.TheVariants.{Rule, Conf, Seed, Zone}
+use Rattle.ug_script.specs.declared.step.Step.{Step}
+use Rattle.ug_script.specs.declared.step.Step.TheVariants as step
+use Rattle.ug_script.specs.Plugs.{device_of}
 use Rattle.ug_script.specs.Words.{name_of, moment_of, call_of, seed_of, offset_of}
 
--- ---- rules
+-- ---- lines that stand before all others
 
--- what a line that was read as a rule asks for
-abbrev pub step_of_rule : Result types.Rule Fault → Option Step
-step_of_rule (Ok rule) = Some (Rule rule)
-step_of_rule (Err fault) = None
+abbrev pub in_rule : Result types.Rule Fault → Option SetupLine
+in_rule (Ok rule) = Some (Rule rule)
+in_rule (Err fault) = None
 
--- ---- seeds and zones
+abbrev pub in_seed : Option (List ℕ) → Option SetupLine
+in_seed None = None
+in_seed (Some seed) = Some (Seed seed)
 
-abbrev pub seed_step : Option (List ℕ) → Option Step
-seed_step None = None
-seed_step (Some seed) = Some (Seed seed)
+abbrev pub in_zone : Option ℤ → Option SetupLine
+in_zone None = None
+in_zone (Some offset) = Some (Zone offset)
 
-abbrev pub zone_step : Option ℤ → Option Step
-zone_step None = None
-zone_step (Some offset) = Some (Zone offset)
-
--- a line that stands before all but the others of its kind
-unfoldable pub setup_step : List ℕ → Option Step
-setup_step line =
-    if starts_with nat_eq line (codes "rule ") then step_of_rule (rule_read (drop 5 line))
+unfoldable pub setup_of : List ℕ → Option SetupLine
+setup_of line =
+    if starts_with nat_eq line (codes "rule ") then in_rule (rule_read (drop 5 line))
     else if starts_with nat_eq line (codes "conf ") then Some (Conf (drop 5 line))
-    else if starts_with nat_eq line (codes "seed ") then seed_step (seed_of (drop 5 line))
-    else if starts_with nat_eq line (codes "zone ") then zone_step (offset_of (drop 5 line))
+    else if starts_with nat_eq line (codes "seed ") then in_seed (seed_of (drop 5 line))
+    else if starts_with nat_eq line (codes "zone ") then in_zone (offset_of (drop 5 line))
     else None
 
--- ---- devices
+-- ---- devices that come and go
 
-abbrev pub plug_step : Option Device → Option Step
-plug_step None = None
-plug_step (Some device) = Some (Plug device)
-
--- ---- what is scheduled
-
-abbrev pub plug_move : Option Device → Option Move
+abbrev pub plug_move : Option NewDevice → Option Move
 plug_move None = None
 plug_move (Some device) = Some (move.Plug device)
 
@@ -54,67 +51,89 @@ abbrev pub unplug_move : Option (List ℕ) → Option Move
 unplug_move None = None
 unplug_move (Some name) = Some (move.Unplug name)
 
--- a `plug` or an `unplug` line
 unfoldable pub move_of : List ℕ → Option Move
-move_of text =
-    if starts_with nat_eq text (codes "plug ") then plug_move (device_of (drop 5 text))
-    else if starts_with nat_eq text (codes "unplug ") then unplug_move (name_of (drop 7 text))
+move_of line =
+    if starts_with nat_eq line (codes "plug ") then plug_move (device_of (drop 5 line))
+    else if starts_with nat_eq line (codes "unplug ") then unplug_move (name_of (drop 7 line))
     else None
 
-abbrev pub with_move : ℕ → Bool → Option Move → Option Step
-with_move call after None = None
-with_move call after (Some action) = Some (Schedule (record { call = call; after = after; action = action }))
+-- ---- what is scheduled for a call of the next event
 
-abbrev pub with_call : Bool → Option ℕ → List ℕ → Option Step
+abbrev pub with_action : ℕ → Bool → Option Move → Option Plan
+with_action call after None = None
+with_action call after (Some action) = Some (plan.Move (record { call = call; after = after; action = action }))
+
+abbrev pub with_call : Bool → Option ℕ → List ℕ → Option Plan
 with_call after None text = None
-with_call after (Some call) text = with_move call after (move_of text)
+with_call after (Some call) text = with_action call after (move_of text)
 
-abbrev pub split_call : Bool → Option ℕ → List ℕ → Option Step
+abbrev pub split_call : Bool → Option ℕ → List ℕ → Option Plan
 split_call after None text = None
 split_call after (Some space) text = with_call after (call_of (take space text)) (drop (space + 1) text)
 
 -- `CALL MOVE`, before the effect of that call of the next event or after it
-abbrev pub schedule_of : Bool → List ℕ → Option Step
-schedule_of after text = split_call after (position (nat_eq 32) text) text
+abbrev pub move_plan : Bool → List ℕ → Option Plan
+move_plan after text = split_call after (position (nat_eq 32) text) text
 
-abbrev pub fail_step : Bool → Option ℕ → Option Step
-fail_step effect None = None
-fail_step effect (Some call) = Some (Fail (record { call = call; effect = effect }))
+abbrev pub fail_plan : Bool → Option ℕ → Option Plan
+fail_plan effect None = None
+fail_plan effect (Some call) = Some (plan.Fail (record { call = call; effect = effect }))
 
 -- `CALL`, or `CALL effect`
-unfoldable pub fail_of : List ℕ → Option Step
+unfoldable pub fail_of : List ℕ → Option Plan
 fail_of text =
-    if ends_with nat_eq text (codes " effect") then fail_step true (call_of (take (length text - 7) text))
-    else fail_step false (call_of text)
+    if ends_with nat_eq text (codes " effect") then fail_plan true (call_of (take (length text - 7) text))
+    else fail_plan false (call_of text)
 
--- a line that is for a call of the next event
-unfoldable pub call_step : List ℕ → Option Step
-call_step line =
-    if starts_with nat_eq line (codes "before ") then schedule_of false (drop 7 line)
-    else if starts_with nat_eq line (codes "after ") then schedule_of true (drop 6 line)
+unfoldable pub plan_of : List ℕ → Option Plan
+plan_of line =
+    if starts_with nat_eq line (codes "before ") then move_plan false (drop 7 line)
+    else if starts_with nat_eq line (codes "after ") then move_plan true (drop 6 line)
     else if starts_with nat_eq line (codes "fail ") then fail_of (drop 5 line)
-    else setup_step line
+    else None
 
--- ---- other steps
+-- ---- events
 
-abbrev pub unplug_step : Option (List ℕ) → Option Step
-unplug_step None = None
-unplug_step (Some name) = Some (Unplug name)
+abbrev pub sweep_at : Option ℕ → Option Event
+sweep_at None = None
+sweep_at (Some moment) = Some (Sweep (record { 0 = moment }))
 
-abbrev pub sweep_step : Option ℕ → Option Step
-sweep_step None = None
-sweep_step (Some moment) = Some (Sweep (record { 0 = moment }))
+unfoldable pub event_of : List ℕ → Option Event
+event_of line = if starts_with nat_eq line (codes "sweep ") then sweep_at (moment_of (drop 6 line)) else None
 
--- a line that is not empty, no comment and plugs nothing
-unfoldable pub other_step : List ℕ → Option Step
-other_step line =
-    if starts_with nat_eq line (codes "unplug ") then unplug_step (name_of (drop 7 line))
-    else if starts_with nat_eq line (codes "sweep ") then sweep_step (moment_of (drop 6 line))
-    else call_step line
+-- ---- all lines
+
+abbrev pub in_setup : Option SetupLine → Option Step
+in_setup None = None
+in_setup (Some line) = Some (step.Setup line)
+
+abbrev pub in_move : Option Move → Option Step
+in_move None = None
+in_move (Some action) = Some (step.Move action)
+
+abbrev pub in_plan : Option Plan → Option Step
+in_plan None = None
+in_plan (Some plan) = Some (step.Schedule plan)
+
+abbrev pub in_event : Option Event → Option Step
+in_event None = None
+in_event (Some event) = Some (step.Event event)
+
+abbrev pub first_of : Option Step → Option Step → Option Step
+first_of None other = other
+first_of (Some step) other = Some step
 
 -- what a line asks for, None where it is bad
 unfoldable pub step_of_line : List ℕ → Option Step
 step_of_line line =
-    if nat_eq (length line) 0 || starts_with nat_eq line (codes "#") then Some Skip
-    else if starts_with nat_eq line (codes "plug ") then plug_step (device_of (drop 5 line))
-    else other_step line
+    if nat_eq (length line) 0 || starts_with nat_eq line (codes "#") then Some step.Skip
+    else first_of (in_move (move_of line)) (first_of (in_plan (plan_of line)) (first_of (in_event (event_of line)) (in_setup (setup_of line))))
+
+-- the rule that is asked for, if one is, is the rule of some line
+abbrev pub AsksForRule : SetupLine → Type 0
+AsksForRule (Rule rule) = WellFormed rule
+AsksForRule line = Unit {0}
+
+abbrev pub AsksForRules : Step → Type 0
+AsksForRules (step.Setup line) = AsksForRule line
+AsksForRules other = Unit {0}

@@ -1,5 +1,5 @@
 -- What happens in a script from its first line on, and what that says of each write and of each device.
-use Rattle.std.specs.Prelude.{◌≡◌, ℕ, Bool, true, false, if◌then◌else◌, List, [], ◌∷◌, ◌++◌, flat_map, Option, Some, None, Ok}
+use Rattle.std.specs.Prelude.{◌≡◌, ℕ, Bool, true, false, ◌&&◌, if◌then◌else◌, List, [], ◌∷◌, ◌++◌, flat_map, Option, Some, None, Ok}
 use Rattle.ug_types.specs.declared.verdict.Moment.{Moment}
 use Rattle.ug_kernel.specs.declared.device.Device.{Device}
 use Rattle.ug_kernel.specs.Kernel.{Kernel, Live}
@@ -11,23 +11,33 @@ use Rattle.ug_core.specs.Event.{has_numbers}
 use Rattle.ug_core.specs.Policy.{Judging}
 use Rattle.ug_core.specs.Rulings.{Ruling, after_rulings, judgements_for, words_for}
 use Rattle.ug_core.specs.Verdicts.{IsLater}
-use Rattle.ug_core.specs.declared.daemon.Event.TheVariants as event
+use Rattle.ug_core.specs.declared.daemon.Event as event
+use Rattle.ug_core.specs.declared.daemon.Event.TheVariants.{Sweep}
 use Rattle.ug_lines.specs.Lines.{lines_of}
 use Rattle.ug_console.specs.Fold.{Outcome, Writes, Refused, Going, plays}
 use Rattle.ug_script.specs.declared.step.Step.{Step}
-use Rattle.ug_script.specs.declared.step.Step.TheVariants.{Schedule, Fail, Sweep}
+use Rattle.ug_script.specs.declared.step.Step.TheVariants.{Schedule, Event}
 use Rattle.ug_script.specs.Grammar.{step_of_line}
-use Rattle.ug_script.specs.Replay.{Script, lines_text, script_step}
-use Rattle.ug_script.specs.Laws.{event_of}
+use Rattle.ug_script.specs.Replay.{Script, can_start, daemon_in, event_of, lines_text, script_step}
 use Rattle.ug_script.specs.Setup.{steps_of, conf_asked, IsSetup, started}
 
 -- an event of that moment, with what is scheduled for it
 abbrev pub happened_at : Moment → Script → World → Happened
-happened_at moment s w = record { event = event.Sweep moment; kernel = w.kernel; before = s.daemon; kernel_after = (event_of moment s w).1.kernel; after = (event_of moment s w).0 }
+happened_at moment s w = record {
+  event = Sweep moment;
+  kernel = w.kernel;
+  before = daemon_in s;
+  kernel_after = (event_of moment s w).1.kernel;
+  after = (event_of moment s w).0;
+}
+
+abbrev pub happens_at : event.Event → Script → World → List Happened
+happens_at (Sweep moment) s w =
+    if can_start s.setup s.phase && has_numbers (daemon_in s) w.faults 0 then happened_at moment s w ∷ [] else []
 
 -- the event of a step
 abbrev pub happens_by : Option Step → Script → World → List Happened
-happens_by (Some (Sweep moment)) s w = if has_numbers s.daemon w.faults 0 then happened_at moment s w ∷ [] else []
+happens_by (Some (Event event)) s w = happens_at event s w
 happens_by step s w = []
 
 abbrev pub happens : Option Script × World → List ℕ → List Happened
@@ -51,8 +61,7 @@ pub record JudgesOnce (policy : Judging) (first : Kernel) (hs : List Happened) (
 
 -- the step schedules no move and lets no call fail
 abbrev pub is_quiet : Option Step → Bool
-is_quiet (Some (Schedule m)) = false
-is_quiet (Some (Fail f)) = false
+is_quiet (Some (Schedule plan)) = false
 is_quiet step = true
 
 abbrev pub AreQuiet : List (Option Step) → Type 0
@@ -68,8 +77,8 @@ pub record Recorded (first : World) (lines : List (List ℕ)) (text : List ℕ) 
   pub setup : IsSetup (steps_of lines) policy
   pub settings : (whole : List ℕ) → lines_of whole ≡ flat_map conf_asked (steps_of lines) → conf_read whole ≡ Ok setup.draft.settings
   pub later : (rulings : List Ruling) → IsLater policy (words_for policy rulings) (judgements_for policy rulings) (after_rulings policy rulings)
-  pub chain : Chain first.kernel (started policy) (happened (None, first) lines) w.kernel s.daemon
-  pub run : IsRun policy first.kernel (happened (None, first) lines) w.kernel s.daemon
+  pub chain : Chain first.kernel (started policy) (happened (None, first) lines) w.kernel (daemon_in s)
+  pub run : IsRun policy first.kernel (happened (None, first) lines) w.kernel (daemon_in s)
   pub written : text ≡ lines_text (journal (happened (None, first) lines))
   pub nobody : AreQuiet (steps_of lines) → first.fails ≡ [] → NameNobody (journal (happened (None, first) lines))
   pub once : AreQuiet (steps_of lines) → first.fails ≡ [] → first.moves ≡ [] → (moment : Moment) → JudgesOnce policy first.kernel (happened (None, first) lines) (happened_at moment s w)

@@ -6,16 +6,11 @@ use Rattle.ug_kernel.specs.Kernel.{IsKernel}
 use Rattle.ug_sysfs.specs.World.{World, Gives, begun}
 use Rattle.ug_table.specs.Laws.{Stand}
 use Rattle.ug_table.specs.Parts.{unsettled_names}
-use Rattle.ug_play.specs.Play.{play, tells_memory}
-use Rattle.ug_core.specs.Event.{DaemonState, handling, has_numbers}
+use Rattle.ug_play.specs.Play.{tells_memory}
+use Rattle.ug_core.specs.Event.{has_numbers}
 use Rattle.ug_core.specs.Laws.{Handled, TellsEvent}
 use Rattle.ug_console.specs.Fold.{Going, plays}
-use Rattle.ug_script.specs.Replay.{Script, script_step}
-use Rattle.ug_script.specs.Schedule.{arranged}
-
--- an event of that moment, with what is scheduled for it
-abbrev pub event_of : Moment → Script → World → DaemonState × World
-event_of moment s w = play (handling moment s.daemon) (begun (arranged s.moves w))
+use Rattle.ug_script.specs.Replay.{Script, daemon_in, event_of, script_step}
 
 abbrev pub Begins : World → World → Type 0
 Begins w u = u ≡ begun w
@@ -27,18 +22,19 @@ faults_of w = w.faults
 -- name; each that failed is told with its number and its count, and no other is; no name is told twice as unsettled; and none of its
 -- entries tells want of memory, as a script refuses none.
 pub record IsLawfulEvent (moment : Moment) (s : Script) (w : World) : Type 0 where
-  pub handled : Handled moment w.kernel s.daemon (event_of moment s w).1.kernel (event_of moment s w).0
-  pub faults : TellsEvent Begins Gives faults_of moment (arranged s.moves w) s.daemon (event_of moment s w).1 (event_of moment s w).0
+  pub handled : Handled moment w.kernel (daemon_in s) (event_of moment s w).1.kernel (event_of moment s w).0
+  pub faults : TellsEvent Begins Gives faults_of moment w (daemon_in s) (event_of moment s w).1 (event_of moment s w).0
   pub once : AllDistinct (unsettled_names (event_of moment s w).0.sweep.entries)
   pub room : tells_memory (event_of moment s w).0.sweep.entries ≡ false
 
--- The kernel is sound and each standing is of one of its devices; and so is an event, if one comes next. And where the first world
--- had no fault, the numbers leave room for one, so that the line of an event is never bad.
+-- The kernel is sound and each standing of the daemon, or of the one that an event would start, is of one of its devices; and so is an
+-- event, if one comes next. And where the first world had no fault, the numbers leave room for one, so that the line of an event is
+-- never bad.
 pub record IsLawful (first : World) (s : Script) (w : World) : Type 0 where
   pub sound : IsKernel w.kernel
-  pub stand : Stand w.kernel s.daemon.sweep.standings s.daemon.sweep.next
+  pub stand : Stand w.kernel (daemon_in s).sweep.standings (daemon_in s).sweep.next
   pub events : (moment : Moment) → IsLawfulEvent moment s w
-  pub numbers : first.faults ≡ 0 → has_numbers s.daemon w.faults 0 ≡ true
+  pub numbers : first.faults ≡ 0 → has_numbers (daemon_in s) w.faults 0 ≡ true
 
 -- wherever lines lead from a world without a daemon
 abbrev pub StaysLawful : World → Type 0

@@ -1,9 +1,8 @@
 pub mod Grammar
 pub mod Plugs
-pub mod Schedule
 pub mod Words
+pub mod Setup
 pub mod Replay
 pub mod Laws
-pub mod Setup
 pub mod Journal
 pub mod Example

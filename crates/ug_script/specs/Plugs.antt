@@ -1,11 +1,11 @@
 -- The device that a `plug` line plugs in.
 use Rattle.std.specs.Prelude.{ℕ, ◌+◌, ◌-◌, Bool, true, false, ◌&&◌, nat_eq, if◌then◌else◌, List, [], ◌∷◌, ◌++◌, length, take, drop, get_or, Option, Some, None, Ok, Err, codes}
 use Rattle.std.specs.List.{starts_with, position}
-use Rattle.ug_kernel.specs.declared.device.Device.{Device}
 use Rattle.ug_lex.specs.declared.token.Token.{Token}
 use Rattle.ug_lex.specs.declared.token.TokenKind.{TokenKind}
 use Rattle.ug_lex.specs.declared.token.TokenKind.TheVariants.{Word, Str, Open, Close, ParenOpen, ParenClose, Bang}
 use Rattle.ug_lex.specs.Lexing.{Lexed, tokens_of}
+use Rattle.ug_sysfs.specs.declared.script.NewDevice.{NewDevice}
 use Rattle.ug_script.specs.declared.plugs.Files.{Files}
 use Rattle.ug_script.specs.Words.{name_of, bytes_of}
 
@@ -61,35 +61,42 @@ files_by text (Err fault) = None
 abbrev pub files_of : List ℕ → Option Files
 files_of text = files_by text (tokens_of text)
 
-abbrev pub with_files : List ℕ → Bool → List ℕ → Option Files → Option Device
+abbrev pub with_files : List ℕ → Bool → List ℕ → Option Files → Option NewDevice
 with_files name on descriptors None = None
-with_files name on descriptors (Some files) = Some (record { name = name; parent = None; descriptors = descriptors; product = files.product; serial = files.serial; connect = files.connect; gone = false; on = on })
+with_files name on descriptors (Some files) = Some (record {
+  name = name;
+  descriptors = descriptors;
+  product = files.product;
+  serial = files.serial;
+  connect = files.connect;
+  on = on;
+})
 
-abbrev pub with_descriptors : List ℕ → Bool → Option (List ℕ) → List ℕ → Option Device
+abbrev pub with_descriptors : List ℕ → Bool → Option (List ℕ) → List ℕ → Option NewDevice
 with_descriptors name on None text = None
 with_descriptors name on (Some descriptors) text = with_files name on descriptors (files_of text)
 
 -- the descriptors stand before the first space
-abbrev pub split_descriptors : List ℕ → Bool → Option ℕ → List ℕ → Option Device
+abbrev pub split_descriptors : List ℕ → Bool → Option ℕ → List ℕ → Option NewDevice
 split_descriptors name on None text = None
 split_descriptors name on (Some space) text = with_descriptors name on (bytes_of (take space text)) (drop (space + 1) text)
 
 -- a start, the descriptors and the texts
-abbrev pub with_start : List ℕ → List ℕ → Option Device
+abbrev pub with_start : List ℕ → List ℕ → Option NewDevice
 with_start name text =
     if starts_with nat_eq text (codes "0 ") then split_descriptors name false (position (nat_eq 32) (drop 2 text)) (drop 2 text)
     else if starts_with nat_eq text (codes "1 ") then split_descriptors name true (position (nat_eq 32) (drop 2 text)) (drop 2 text)
     else None
 
-abbrev pub with_name : Option (List ℕ) → List ℕ → Option Device
+abbrev pub with_name : Option (List ℕ) → List ℕ → Option NewDevice
 with_name None text = None
 with_name (Some name) text = with_start name text
 
 -- the name stands before the first space
-abbrev pub split_name : Option ℕ → List ℕ → Option Device
+abbrev pub split_name : Option ℕ → List ℕ → Option NewDevice
 split_name None text = None
 split_name (Some space) text = with_name (name_of (take space text)) (drop (space + 1) text)
 
 -- `NAME START DESC PRODUCT SERIAL CONNECT`
-unfoldable pub device_of : List ℕ → Option Device
+unfoldable pub device_of : List ℕ → Option NewDevice
 device_of text = split_name (position (nat_eq 32) text) text

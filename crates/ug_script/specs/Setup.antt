@@ -1,19 +1,116 @@
--- The policy that a script's setup lines give.
-use Rattle.std.specs.Prelude.{◌≡◌, ℕ, ◌+◌, ℤ, pos, false, List, [], ◌∷◌, length, drop, map, flat_map, Option, Some, Ok}
+-- What a script's setup lines give, and the policy that a daemon starts with then.
+use Rattle.std.specs.Prelude.{◌≡◌, ℕ, ◌+◌, ◌≤◌, ℤ, pos, neg_ℤ, ◌+ℤ◌, int_le, unsigned_abs, replicate, Bool, false, not, is_none, ◌&&◌, ◌||◌, nat_eq, nat_lt, if◌then◌else◌, List, [], ◌∷◌, ◌++◌, length, drop, map, flat_map, find, Option, Some, None, IfSome, IsTrue, All, Result, Ok, Err}
+use Rattle.std.specs.Int.{int_rem_euclid}
+use Rattle.rand_chacha.specs.ChaCha.{next_word, of_seed}
+use Rattle.rand_core.specs.Steps.{stream_of, steps_u32}
+use Rattle.rand_core.specs.Stream.{Stream}
 use Rattle.ug_types.specs.declared.rule.Rule as types
-use Rattle.ug_policy.specs.declared.entry.RuleEntry.{RuleEntry}
-use Rattle.ug_policy.specs.Edits.{new_entry}
+use Rattle.ug_rule.specs.Grammar.{WellFormed}
+use Rattle.ug_conf.specs.Faults.{SettingFault}
 use Rattle.ug_conf.specs.Settings.{defaults}
-use Rattle.ug_conf.specs.Draft.{Draft, draft_of}
+use Rattle.ug_conf.specs.Draft.{Draft, draft_of, line_read}
+use Rattle.ug_conf.specs.Reader.{Progress, next_number}
 use Rattle.ug_conf.specs.Texts.{setting_line}
 use Rattle.ug_lines.specs.LineReading.{lines_read}
+use Rattle.ug_start.specs.Starting.{permanent_entries}
 use Rattle.ug_core.specs.Settings.{classes_of}
 use Rattle.ug_core.specs.Policy.{Judging}
 use Rattle.ug_core.specs.Event.{DaemonState}
+use Rattle.ug_script.specs.declared.step.SetupLine.{SetupLine}
+use Rattle.ug_script.specs.declared.step.SetupLine.TheVariants.{Rule, Conf, Seed, Zone}
 use Rattle.ug_script.specs.declared.step.Step.{Step}
-use Rattle.ug_script.specs.declared.step.Step.TheVariants.{Rule, Conf, Seed, Zone}
+use Rattle.ug_script.specs.declared.step.Step.TheVariants.{Setup}
+use Rattle.ug_script.specs.declared.step.StepFault.{StepFault}
+use Rattle.ug_script.specs.declared.step.StepFault.TheVariants.{Bad, Memory}
 use Rattle.ug_script.specs.Grammar.{step_of_line}
-use Rattle.ug_script.specs.Replay.{clock_ahead, seeded, no_seed}
+
+-- the rules in order, the settings so far, and the seed and the zone, where they were given
+pub record SetupState : Type 0 where
+  pub rules : List types.Rule
+  pub settings : Progress
+  pub seed : Option (List ℕ)
+  pub zone : Option ℤ
+
+abbrev pub no_setup : SetupState
+no_setup = record { rules = []; settings = record { draft = draft_of defaults []; lines = 0 }; seed = None; zone = None }
+
+-- less than a day
+abbrev pub is_offset : ℤ → Bool
+is_offset offset = int_le (neg_ℤ (pos 86399)) offset && int_le offset (pos 86399)
+
+-- no more rules than a daemon takes, each of which is the rule of some line, and a zone of less than a day
+pub record IsSetupKept (rules : List types.Rule) (zone : Option ℤ) : Type 0 where
+  pub few : length rules ≤ 65536
+  pub well_formed : All WellFormed rules
+  pub offset : IfSome zone (λ offset. IsTrue (is_offset offset))
+
+-- ---- one line more, None where it may not stand there
+
+abbrev pub one_rule_more : types.Rule → SetupState → Option SetupState
+one_rule_more rule s = if nat_lt (length s.rules) 65536 then Some (record s { rules = s.rules ++ rule ∷ [] }) else None
+
+-- neither blank nor a comment
+abbrev pub begins_setting : Option ℕ → Bool
+begins_setting None = false
+begins_setting (Some b) = not (nat_eq b 35)
+
+abbrev pub is_setting : List ℕ → Bool
+is_setting text = begins_setting (find (λ b. not (nat_eq b 32 || nat_eq b 9)) text)
+
+abbrev pub with_draft : Result Draft SettingFault → SetupState → Option SetupState
+with_draft (Ok draft) s = Some (record s { settings = record { draft = draft; lines = next_number s.settings.lines } })
+with_draft (Err fault) s = None
+
+abbrev pub one_setting_more : List ℕ → SetupState → Option SetupState
+one_setting_more text s = if is_setting text then with_draft (line_read (next_number s.settings.lines) s.settings.draft text) s else None
+
+abbrev pub one_line_more : SetupLine → SetupState → Option SetupState
+one_line_more (Rule rule) s = one_rule_more rule s
+one_line_more (Conf text) s = one_setting_more text s
+one_line_more (Seed seed) s = if is_none s.seed then Some (record s { seed = Some seed }) else None
+one_line_more (Zone offset) s = if is_none s.zone && is_offset offset then Some (record s { zone = Some offset }) else None
+
+-- what a line leaves; a line that may not stand there changes nothing
+abbrev pub Adds : Option SetupState → Result (Unit {0}) StepFault → SetupState → SetupState → Type 0
+Adds wanted (Ok done) before after = wanted ≡ Some after
+Adds wanted (Err Bad) before after = (wanted ≡ None) × (after ≡ before)
+Adds wanted (Err Memory) before after = Unit {0}
+
+-- ---- the policy
+
+-- the second of the day on a clock that is so many seconds ahead of UTC
+abbrev pub clock_ahead : ℤ → ℕ → ℕ
+clock_ahead offset second = unsigned_abs (int_rem_euclid (pos second +ℤ offset) (pos 86400))
+
+-- the words of ChaCha20 from that seed of 32 bytes
+abbrev pub seeded : List ℕ → Stream
+seeded seed = stream_of (steps_u32 (next_word 10)) (of_seed seed)
+
+-- without a seed, 32 bytes 0
+abbrev pub no_seed : List ℕ
+no_seed = replicate 32 0
+
+abbrev pub given_or : {X : Type 0} → X → Option X → X
+given_or other None = other
+given_or other (Some x) = x
+
+-- The rules have ids from 1 and no history, the clock is that of the zone or of UTC, and the words are those of the seed. No moment
+-- has come.
+abbrev pub policy_of : SetupState → Judging
+policy_of s = record {
+  classes = classes_of s.settings.draft.settings;
+  rules = permanent_entries 1 s.rules;
+  next = length s.rules + 1;
+  clock = clock_ahead (given_or (pos 0) s.zone);
+  ctx = record { moment = record { 0 = 0 }; second = 0 };
+  stream = seeded (given_or no_seed s.seed);
+}
+
+-- the daemon that judges by a policy, before its first event, which is number 1
+abbrev pub started : Judging → DaemonState
+started policy = record { sweep = record { standings = []; next = 1; listed = false; judge = policy; entries = [] }; event = 1 }
+
+-- ---- what lines ask for
 
 -- what each line behind the header asks for
 abbrev pub steps_of : List (List ℕ) → List (Option Step)
@@ -22,25 +119,20 @@ steps_of lines = map step_of_line (drop 1 lines)
 -- the rules, the lines of settings, the seeds and the zones among them, in order
 
 abbrev pub rule_asked : Option Step → List types.Rule
-rule_asked (Some (Rule rule)) = rule ∷ []
+rule_asked (Some (Setup (Rule rule))) = rule ∷ []
 rule_asked step = []
 
 abbrev pub conf_asked : Option Step → List (List ℕ)
-conf_asked (Some (Conf text)) = text ∷ []
+conf_asked (Some (Setup (Conf text))) = text ∷ []
 conf_asked step = []
 
 abbrev pub seed_asked : Option Step → List (List ℕ)
-seed_asked (Some (Seed seed)) = seed ∷ []
+seed_asked (Some (Setup (Seed seed))) = seed ∷ []
 seed_asked step = []
 
 abbrev pub zone_asked : Option Step → List ℤ
-zone_asked (Some (Zone offset)) = offset ∷ []
+zone_asked (Some (Setup (Zone offset))) = offset ∷ []
 zone_asked step = []
-
--- rules without histories, that bear ids from that one on
-abbrev pub entries_from : ℕ → List types.Rule → List RuleEntry
-entries_from id [] = []
-entries_from id (rule ∷ rules) = new_entry id rule false ∷ entries_from (id + 1) rules
 
 abbrev pub first_or : {X : Type 0} → X → List X → X
 first_or other [] = other
@@ -53,12 +145,8 @@ pub record IsSetup (steps : List (Option Step)) (policy : Judging) : Type 0 wher
   pub draft : Draft
   pub settings : lines_read setting_line 1 (draft_of defaults []) (flat_map conf_asked steps) ≡ Ok draft
   pub classes : policy.classes ≡ classes_of draft.settings
-  pub rules : policy.rules ≡ entries_from 1 (flat_map rule_asked steps)
+  pub rules : policy.rules ≡ permanent_entries 1 (flat_map rule_asked steps)
   pub next : policy.next ≡ length (flat_map rule_asked steps) + 1
   pub clock : policy.clock ≡ clock_ahead (first_or (pos 0) (flat_map zone_asked steps))
   pub ctx : policy.ctx ≡ record { moment = record { 0 = 0 }; second = 0 }
   pub words : policy.stream ≡ seeded (first_or no_seed (flat_map seed_asked steps))
-
--- the daemon that judges by it, before its first event, which is number 1
-abbrev pub started : Judging → DaemonState
-started policy = record { sweep = record { standings = []; next = 1; listed = false; judge = policy; entries = [] }; event = 1 }

@@ -1,14 +1,17 @@
 // A script of rules, devices and sweeps, run by the daemon.
 #![tactic(auto)]
 
-mod call_lines;
+mod events;
 mod laws;
+mod move_lines;
 mod parse;
+mod plan_lines;
 mod plugs;
 mod runner;
 mod running;
-mod schedule;
+mod setup;
 mod setup_lines;
+mod start;
 mod step;
 mod text;
 mod words;
@@ -16,7 +19,7 @@ mod words;
 pub use laws::{script_law, words_law, worked_law};
 pub use parse::parse_line;
 pub use runner::Runner;
-pub use step::{Step, StepFault};
+pub use step::{Plan, SetupLine, Step, StepFault};
 
 #[cfg(test)]
 mod parse_tests;

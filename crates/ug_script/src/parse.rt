@@ -1,63 +1,76 @@
 // The steps of a script's lines.
 ghost use Rattle.std.specs.Prelude.{◌≡◌};
-ghost use Rattle.ug_script.specs.Grammar.{step_of_line, plug_step, other_step};
-ghost use Rattle.ug_script.specs.Plugs.{device_of};
+ghost use Rattle.ug_script.specs.Grammar as grammar;
+ghost use Rattle.ug_script.specs.Grammar.{first_of, in_event, in_move, in_plan, in_setup, step_of_line};
 ghost use Rattle.ug_script.specs.Words.{Parses};
 
-use crate::call_lines::call_line;
-use crate::plugs::device;
+use crate::move_lines::move_line;
+use crate::plan_lines::plan_line;
+use crate::setup_lines::setup_line;
 use crate::step::{Step, StepFault};
-use crate::words::{moment, name};
+use crate::words::moment;
 use std::alloc::Global;
+use ug_core::Event;
 use ug_types::Moment;
 
-/// A line that plugs nothing.
-#[tactic(auto, unfolding(crate::specs::Grammar::other_step))]
-fn other(alloc: Global, line: &[u8]) -> Result<Step, StepFault>
-    ensures { Parses (other_step line.now) result }
+/// Reads a line for an event. `sweep` takes a moment up to 250,000,000,000.
+#[tactic(auto, unfolding(crate::specs::Grammar::event_of))]
+fn event_line(line: &[u8]) -> Option<Event>
+    ensures { result ≡ grammar.event_of line.now }
 {
-    if line.starts_with(b"unplug ") {
-        return match name(&line[7..]) {
-            None => Err(StepFault::Bad),
-            Some(name) => Ok(Step::Unplug(name)),
-        };
-    }
     if line.starts_with(b"sweep ") {
         return match moment(&line[6..]) {
-            None => Err(StepFault::Bad),
-            Some(moment) => Ok(Step::Sweep(Moment(moment))),
+            None => None,
+            Some(moment) => Some(Event::Sweep(Moment(moment))),
         };
     }
-    call_line(alloc, line)
+    None
 }
 
-fn plug(alloc: Global, text: &[u8]) -> Result<Step, StepFault>
-    ensures { Parses (plug_step (device_of text.now)) result }
+fn setup_step(alloc: Global, line: &[u8]) -> Result<Step, StepFault>
+    ensures { Parses (in_setup (grammar.setup_of line.now)) result }
 {
-    match device(alloc, text) {
-        Ok(device) => Ok(Step::Plug(device)),
-        Err(StepFault::Bad) => Err(StepFault::Bad),
+    match setup_line(alloc, line) {
+        Ok(setup) => Ok(Step::Setup(setup)),
+        Err(fault) => Err(fault),
+    }
+}
+
+fn event_or_setup(alloc: Global, line: &[u8]) -> Result<Step, StepFault>
+    ensures { Parses (first_of (in_event (grammar.event_of line.now))
+        (in_setup (grammar.setup_of line.now))) result }
+{
+    match event_line(line) {
+        Some(event) => Ok(Step::Event(event)),
+        None => setup_step(alloc, line),
+    }
+}
+
+fn plan_or_other(alloc: Global, line: &[u8]) -> Result<Step, StepFault>
+    ensures { Parses (first_of (in_plan (grammar.plan_of line.now))
+        (first_of (in_event (grammar.event_of line.now))
+        (in_setup (grammar.setup_of line.now)))) result }
+{
+    match plan_line(alloc, line) {
+        Ok(plan) => Ok(Step::Schedule(plan)),
+        Err(StepFault::Bad) => event_or_setup(alloc, line),
         Err(StepFault::Memory) => Err(StepFault::Memory),
     }
 }
 
-/// Reads a line that is not the first. An empty line and a comment are skipped.
-/// `plug` takes a name, `1` where the device starts authorised, else `0`,
-/// its descriptors in hexadecimal, and its texts, each a dash or a string. `unplug` takes a name, `sweep` a moment up to
-/// 250,000,000,000. `before`, `after` and `fail` speak of a call of the next event; `rule`,
-/// `seed` and `zone` stand before all others.
+/// Reads a line that is not the first. An empty line and a comment are skipped. `plug` and `unplug` tell what the kernel does by
+/// itself; `before`, `after` and `fail` speak of a call of the next event; `sweep` is an event; `rule`, `conf`, `seed` and `zone`
+/// stand before all others.
 #[tactic(auto, unfolding(crate::specs::Grammar::step_of_line))]
 pub fn parse_line(alloc: Global, line: &[u8]) -> Result<Step, StepFault>
     ensures { Parses (step_of_line line.now) result }
 {
-    if line.is_empty() {
+    if line.is_empty() || line.starts_with(b"#") {
         return Ok(Step::Skip);
     }
-    if line.starts_with(b"#") {
-        return Ok(Step::Skip);
+    match move_line(alloc, line) {
+        Ok(action) => Ok(Step::Move(action)),
+        Err(StepFault::Bad) => plan_or_other(alloc, line),
+        Err(StepFault::Memory) => Err(StepFault::Memory),
     }
-    if line.starts_with(b"plug ") {
-        return plug(alloc, &line[5..]);
-    }
-    other(alloc, line)
 }

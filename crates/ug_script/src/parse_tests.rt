@@ -1,9 +1,10 @@
 // Lines and what they ask for.
 use crate::parse::parse_line;
-use crate::step::{Step, StepFault};
+use crate::step::{SetupLine, Step, StepFault};
 use std::alloc::Global;
 use std::test::Fail;
-use ug_sysfs::Device;
+use ug_core::Event;
+use ug_sysfs::{Move, NewDevice};
 use ug_types::{Moment, Rule, Target};
 
 fn is_bad(alloc: Global, line: &[u8]) -> bool {
@@ -16,21 +17,21 @@ fn is_skipped(alloc: Global, line: &[u8]) -> bool {
 
 fn rule(alloc: Global, line: &[u8]) -> Option<Rule> {
     match parse_line(alloc, line) {
-        Ok(Step::Rule(rule)) => Some(rule),
+        Ok(Step::Setup(SetupLine::Rule(rule))) => Some(rule),
         _ => None,
     }
 }
 
 fn moment(alloc: Global, line: &[u8]) -> Option<Moment> {
     match parse_line(alloc, line) {
-        Ok(Step::Sweep(moment)) => Some(moment),
+        Ok(Step::Event(Event::Sweep(moment))) => Some(moment),
         _ => None,
     }
 }
 
-fn device(alloc: Global, line: &[u8]) -> Option<Device> {
+fn device(alloc: Global, line: &[u8]) -> Option<NewDevice> {
     match parse_line(alloc, line) {
-        Ok(Step::Plug(device)) => Some(device),
+        Ok(Step::Move(Move::Plug(device))) => Some(device),
         _ => None,
     }
 }
@@ -63,7 +64,12 @@ fn reads_lines(rt: HostRuntime) -> Result<(), Fail> {
     assert!(rt; hub.on);
     let port = device(alloc, b"plug 1-2.3 0 00 - - -").ok_or("no device")?;
     assert!(rt; !port.on);
-    assert!(rt; matches!(parse_line(alloc, b"unplug 1-2.3"), Ok(Step::Unplug(_))));
+    assert!(rt;
+        matches!(
+            parse_line(alloc, b"unplug 1-2.3"),
+            Ok(Step::Move(Move::Unplug(_)))
+        )
+    );
     Ok(())
 }
 

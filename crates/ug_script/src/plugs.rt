@@ -8,7 +8,7 @@ use crate::step::StepFault;
 use crate::words::{bytes, name, space};
 use std::alloc::Global;
 use ug_lex::{LexFault, Token, TokenKind, tokens};
-use ug_sysfs::Device;
+use ug_sysfs::NewDevice;
 use ug_types::{NoMemory, NodeName, Text};
 
 /// The texts of a device's files, each with its newline, where it has them.
@@ -118,24 +118,22 @@ fn described(
     on: bool,
     descriptors: Text,
     text: &[u8],
-) -> Result<Device, StepFault>
+) -> Result<NewDevice, StepFault>
     ensures { Parses (with_files name on descriptors (files_of text.now)) result }
 {
     let files = read_files(alloc, text)?;
-    Ok(Device {
+    Ok(NewDevice {
         name,
-        parent: None,
         descriptors,
         product: files.product,
         serial: files.serial,
         connect: files.connect,
-        gone: false,
         on,
     })
 }
 
 /// `DESC PRODUCT SERIAL CONNECT`, of which the first is hexadecimal.
-fn with_digits(alloc: Global, name: NodeName, on: bool, text: &[u8]) -> Result<Device, StepFault>
+fn with_digits(alloc: Global, name: NodeName, on: bool, text: &[u8]) -> Result<NewDevice, StepFault>
     ensures { Parses (split_descriptors name on (position (nat_eq 32) text.now) text.now) result }
 {
     match space(text) {
@@ -148,7 +146,7 @@ fn with_digits(alloc: Global, name: NodeName, on: bool, text: &[u8]) -> Result<D
 }
 
 /// `START DESC PRODUCT SERIAL CONNECT`.
-fn started(alloc: Global, name: NodeName, text: &[u8]) -> Result<Device, StepFault>
+fn started(alloc: Global, name: NodeName, text: &[u8]) -> Result<NewDevice, StepFault>
     ensures { Parses (with_start name text.now) result }
 {
     if text.starts_with(b"0 ") {
@@ -163,7 +161,7 @@ fn started(alloc: Global, name: NodeName, text: &[u8]) -> Result<Device, StepFau
 /// A device by its name, `1` where it starts authorised, else `0`, its descriptors in hexadecimal, and the texts of its product,
 /// its serial number and its connect type: each a dash where the device has no such file, or a string as in a rule.
 #[tactic(auto, unfolding(crate::specs::Plugs::device_of))]
-pub fn device(alloc: Global, text: &[u8]) -> Result<Device, StepFault>
+pub fn device(alloc: Global, text: &[u8]) -> Result<NewDevice, StepFault>
     ensures { Parses (device_of text.now) result }
 {
     match space(text) {

@@ -2,7 +2,6 @@
 ghost use Rattle.std.specs.Prelude.{◌≡◌, Option, None};
 ghost use Rattle.ug_script.specs.Replay.{Begins, Script, done_line, runner_state, script_step, script_end};
 
-use crate::parse::parse_line;
 use crate::running::Running;
 use crate::step::StepFault;
 use crate::text::put;
@@ -72,11 +71,7 @@ impl Machine<SimKernel> for Runner {
         out: &mut K,
     ) -> Ran {
         if let Some(running) = &mut self.running {
-            return match parse_line(alloc, line) {
-                Ok(step) => running.take(alloc, step, world, out),
-                Err(StepFault::Bad) => Ran::Bad,
-                Err(StepFault::Memory) => Ran::Memory,
-            };
+            return running.line(alloc, line, world, out);
         }
         match begin(alloc, line) {
             Ok(running) => {
@@ -91,10 +86,7 @@ impl Machine<SimKernel> for Runner {
     fn finish<K: Sink>(&self, out: &mut K) -> Ran {
         match &self.running {
             None => Ran::Bad,
-            Some(running) => put(
-                out,
-                done(running.daemon.next_event().saturating_sub(1)).bytes(),
-            ),
+            Some(running) => put(out, done(running.events()).bytes()),
         }
     }
 }

@@ -1,22 +1,21 @@
 // Lines that stand before all others: rules, settings, a seed and a time zone.
 ghost use Rattle.std.specs.Prelude.{◌≡◌, ◌≤◌, Some};
 ghost use Rattle.ug_rule.specs.Rules.{rule_read};
-ghost use Rattle.ug_script.specs.Grammar as grammar;
-ghost use Rattle.ug_script.specs.Grammar.{step_of_rule, zone_step};
+ghost use Rattle.ug_script.specs.Grammar.{in_rule, in_seed, in_zone, setup_of};
 ghost use Rattle.ug_script.specs.Words as words;
 ghost use Rattle.ug_script.specs.Words.{Parses, offset_of, seed_of, signed_by, with_minutes};
 
-use crate::step::{Step, StepFault};
+use crate::step::{SetupLine, StepFault};
 use std::alloc::Global;
 use ug_rule::{RuleFault, parse_rule};
 use ug_types::Text;
 
 /// What stands behind `rule `, read as usbguard-rules.conf(5) says.
-fn rule_line(alloc: Global, text: &[u8]) -> Result<Step, StepFault>
-    ensures { Parses (step_of_rule (rule_read text.now)) result }
+fn read_rule(alloc: Global, text: &[u8]) -> Result<SetupLine, StepFault>
+    ensures { Parses (in_rule (rule_read text.now)) result }
 {
     match parse_rule(alloc, text) {
-        Ok(rule) => Ok(Step::Rule(rule)),
+        Ok(rule) => Ok(SetupLine::Rule(rule)),
         Err(RuleFault::Bad { .. }) => Err(StepFault::Bad),
         Err(RuleFault::Memory) => Err(StepFault::Memory),
     }
@@ -88,45 +87,44 @@ fn offset(text: &[u8]) -> Option<i32>
     }
 }
 
-fn zone_line(text: &[u8]) -> Option<Step>
-    ensures { result ≡ zone_step (offset_of text.now) }
+fn read_zone(text: &[u8]) -> Option<SetupLine>
+    ensures { result ≡ in_zone (offset_of text.now) }
 {
     match offset(text) {
         None => None,
-        Some(offset) => Some(Step::Zone(offset)),
+        Some(offset) => Some(SetupLine::Zone(offset)),
     }
 }
 
-fn seed_line(text: &[u8]) -> Option<Step>
-    ensures { result ≡ grammar.seed_step (seed_of text.now) }
+fn read_seed(text: &[u8]) -> Option<SetupLine>
+    ensures { result ≡ in_seed (seed_of text.now) }
 {
     match seed(text) {
         None => None,
-        Some(seed) => Some(Step::Seed(seed)),
+        Some(seed) => Some(SetupLine::Seed(seed)),
     }
 }
 
-/// Reads a line that stands before all others. `rule` takes a rule of usbguard-rules.conf(5), `conf` a line, which is read
-/// when it is taken, `seed` 64 hexadecimal digits,
-/// `zone` an offset from UTC as `+HH:MM` or `-HH:MM`, hours to 23.
-#[tactic(auto, unfolding(crate::specs::Grammar::setup_step))]
-pub fn setup_line(alloc: Global, line: &[u8]) -> Result<Step, StepFault>
-    ensures { Parses (grammar.setup_step line.now) result }
+/// Reads a line that stands before all others. `rule` takes a rule of usbguard-rules.conf(5), `conf` a line of settings, which
+/// is read when it is taken, `seed` 64 hexadecimal digits, and `zone` an offset from UTC as `+HH:MM` or `-HH:MM`, hours to 23.
+#[tactic(auto, unfolding(crate::specs::Grammar::setup_of))]
+pub fn setup_line(alloc: Global, line: &[u8]) -> Result<SetupLine, StepFault>
+    ensures { Parses (setup_of line.now) result }
 {
     if line.starts_with(b"rule ") {
-        return rule_line(alloc, &line[5..]);
+        return read_rule(alloc, &line[5..]);
     }
     if line.starts_with(b"conf ") {
         return match Text::of(alloc, &line[5..]) {
-            Ok(text) => Ok(Step::Conf(text)),
+            Ok(text) => Ok(SetupLine::Conf(text)),
             Err(_) => Err(StepFault::Memory),
         };
     }
     if line.starts_with(b"seed ") {
-        return seed_line(&line[5..]).ok_or(StepFault::Bad);
+        return read_seed(&line[5..]).ok_or(StepFault::Bad);
     }
     if line.starts_with(b"zone ") {
-        return zone_line(&line[5..]).ok_or(StepFault::Bad);
+        return read_zone(&line[5..]).ok_or(StepFault::Bad);
     }
     Err(StepFault::Bad)
 }

@@ -1,12 +1,11 @@
 // What a line of a script asks for.
-use ug_sysfs::{Device, Failing, Scheduled};
-use ug_types::{Moment, NodeName, Rule, Text};
+use ug_core::Event;
+use ug_sysfs::{Failing, Move, Scheduled};
+use ug_types::{Rule, Text};
 
-/// One line's step.
+/// A line that stands before all others.
 #[derive(Drop)]
-pub enum Step {
-    /// An empty line or a comment.
-    Skip,
+pub enum SetupLine {
     /// One more rule behind those before.
     Rule(Rule),
     /// A line of settings: usbguard-daemon.conf(5).
@@ -15,19 +14,30 @@ pub enum Step {
     Seed([u8; 32]),
     /// How many seconds local clocks are ahead of UTC.
     Zone(i32),
-    /// A device is plugged in. It has no parent yet.
-    Plug(Device),
-    /// The device of that name is unplugged.
-    Unplug(NodeName),
-    /// A move comes at a call of the next event.
-    Schedule(Scheduled),
-    /// A call of the next event fails.
-    Fail(Failing),
-    /// A sweep at that moment.
-    Sweep(Moment),
 }
 
-/// Why a line gives no step.
+/// What is to come at a call of the next event.
+#[derive(Drop)]
+pub enum Plan {
+    /// A move comes.
+    Move(Scheduled),
+    /// The call fails.
+    Fail(Failing),
+}
+
+/// One line's step.
+#[derive(Drop)]
+pub enum Step {
+    /// An empty line or a comment.
+    Skip,
+    Setup(SetupLine),
+    /// A device is plugged in, or unplugged.
+    Move(Move),
+    Schedule(Plan),
+    Event(Event),
+}
+
+/// Why a line gives no step, or may not stand there.
 #[derive(Clone, Copy, Debug, PartialEq, Eq)]
 pub enum StepFault {
     /// The line is none of the grammar.

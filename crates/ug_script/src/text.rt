@@ -3,11 +3,12 @@ ghost use Rattle.std.specs.Prelude.{◌≡◌, ◌≤◌, ◌++◌, Some, IfOk, 
 ghost use Rattle.ug_types.specs.Ends.{Rose};
 ghost use Rattle.ug_console.specs.Runs.{Closes};
 ghost use Rattle.ug_play.specs.Play as play;
+ghost use Rattle.ug_script.specs.Replay as replay;
 ghost use Rattle.ug_script.specs.Replay.{terminated, lines_text};
 
 use std::alloc::Global;
 use ug_console::Ran;
-use ug_core::{Entry, Fault, line_of};
+use ug_core::{Entry, Fault, Report, line_of};
 use ug_types::{NoMemory, Put, Refusal, Saved, Sink};
 
 fn push_line(text: &mut Vec<u8>, entry: &Entry) -> Result<(), NoMemory>
@@ -19,7 +20,7 @@ fn push_line(text: &mut Vec<u8>, entry: &Entry) -> Result<(), NoMemory>
 }
 
 /// The lines of the entries, each with its newline.
-pub fn text_of(alloc: Global, entries: &[Entry]) -> Result<Vec<u8>, NoMemory>
+fn text_of(alloc: Global, entries: &[Entry]) -> Result<Vec<u8>, NoMemory>
     ensures { IfOk result (λ text. text.items ≡ lines_text entries.now) }
 {
     let mut text = Vec::new(alloc);
@@ -27,6 +28,14 @@ pub fn text_of(alloc: Global, entries: &[Entry]) -> Result<Vec<u8>, NoMemory>
         push_line(&mut text, entry)?;
     }
     Ok(text)
+}
+
+/// What is written of an event.
+pub fn outcome_text(alloc: Global, report: &Report) -> Result<Vec<u8>, NoMemory>
+    ensures { IfOk result (λ text. text.items
+        ≡ replay.outcome_text (record { entries = report.now.entries.entries })) }
+{
+    text_of(alloc, report.entries.as_slice())
 }
 
 fn entry_tells_memory(entry: &Entry) -> bool

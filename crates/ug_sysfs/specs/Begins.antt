@@ -5,6 +5,7 @@ use Rattle.ug_types.specs.Names.{parent_of}
 use Rattle.ug_kernel.specs.declared.device.Device.{Device}
 use Rattle.ug_kernel.specs.Kernel.{Kernel, live_count, Moved, Begins, Moves}
 use Rattle.ug_kernel.proofs.Stayed.{begins, begins_then, begins_more, begins_at}
+use Rattle.ug_sysfs.specs.declared.script.NewDevice.{NewDevice}
 use Rattle.ug_sysfs.specs.declared.script.Move.{Move}
 use Rattle.ug_sysfs.specs.declared.script.Move.TheVariants.{Plug, Unplug}
 use Rattle.ug_sysfs.specs.declared.script.Scheduled.{Scheduled}
@@ -27,19 +28,19 @@ pub begins_unplug : (o : Option ℕ) (ds : List Device) → Begins ds (unplug_at
 begins_unplug None ds = begins ds
 begins_unplug (Some i) ds = subst (λ (x : List Device). Begins x (fall i (take i ds) (drop i ds))) (take-append-drop i ds) (begins_fall i (take i ds) (drop i ds))
 
-begins_under : (d : Device) (o : Option ℕ) (ds : List Device) → Begins ds (born_under d o ds)
+begins_under : (d : NewDevice) (o : Option ℕ) (ds : List Device) → Begins ds (born_under d o ds)
 begins_under d None ds = begins ds
 begins_under d (Some i) ds = begins_more ds _
 
-begins_placed : (d : Device) (o : Option (List ℕ)) (ds : List Device) → Begins ds (placed d o ds)
+begins_placed : (d : NewDevice) (o : Option (List ℕ)) (ds : List Device) → Begins ds (placed d o ds)
 begins_placed d None ds = begins_more ds _
 begins_placed d (Some name) ds = begins_under d (find name 0 ds) ds
 
-begins_plug_at : (o : Option ℕ) (d : Device) (ds : List Device) → Begins ds (plug_at o d ds)
+begins_plug_at : (o : Option ℕ) (d : NewDevice) (ds : List Device) → Begins ds (plug_at o d ds)
 begins_plug_at None d ds = begins_placed d (parent_of d.name) ds
 begins_plug_at (Some i) d ds = begins ds
 
-begins_plug : (d : Device) (ds : List Device) → Begins ds (plugged d ds)
+begins_plug : (d : NewDevice) (ds : List Device) → Begins ds (plugged d ds)
 begins_plug d ds =
     elim (nat_lt (live_count ds) 65536) as (λ b. Begins ds (cond b (plug_at (find d.name 0 ds) d ds) ds)) [
       | true ↦ begins_plug_at (find d.name 0 ds) d ds
@@ -62,11 +63,14 @@ pub begins_all : (ms : List Scheduled) (ds : List Device) → Begins ds (happen_
 begins_all [] ds = begins ds
 begins_all (m ∷ ms) ds = begins_then _ _ _ (begins_moved m.action ds) (begins_all ms (moved m.action ds))
 
-pub plugged_moves : (d : Device) (k : Kernel) → Moves k (record k { devices = plugged d k.devices })
+pub plugged_moves : (d : NewDevice) (k : Kernel) → Moves k (record k { devices = plugged d k.devices })
 plugged_moves d k = record { devices = begins_plug d k.devices; held = refl; log = refl }
 
 pub unplugged_moves : (name : List ℕ) (k : Kernel) → Moves k (record k { devices = unplugged name k.devices })
 unplugged_moves name k = record { devices = begins_unplug (find name 0 k.devices) k.devices; held = refl; log = refl }
+
+pub moved_moves : (m : Move) (k : Kernel) → Moves k (record k { devices = moved m k.devices })
+moved_moves m k = record { devices = begins_moved m k.devices; held = refl; log = refl }
 
 pub happened_moves : (ms : List Scheduled) (k : Kernel) → Moves k (record k { devices = happen_all ms k.devices })
 happened_moves ms k = record { devices = begins_all ms k.devices; held = refl; log = refl }

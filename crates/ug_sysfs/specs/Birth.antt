@@ -5,7 +5,8 @@ use Rattle.std.proofs.lemmas.Option.{none-some, same_Some}
 use Rattle.ug_types.specs.Names.{parent_of}
 use Rattle.ug_kernel.specs.declared.device.Device.{Device}
 use Rattle.ug_kernel.specs.Kernel.{Live, live_count}
-use Rattle.ug_sysfs.specs.Devices.{find, born_under, placed, plug_at, plugged}
+use Rattle.ug_sysfs.specs.declared.script.NewDevice.{NewDevice}
+use Rattle.ug_sysfs.specs.Devices.{find, born_as, born_under, placed, plug_at, plugged}
 use Rattle.ug_sysfs.specs.Find.{find_some, find_none}
 
 -- a root hub has no parent; else it is a live device that bears the name of the name's parent
@@ -13,22 +14,22 @@ abbrev pub IsParent : Option ℕ → List ℕ → List Device → Type 0
 IsParent None name ds = parent_of name ≡ None
 IsParent (Some p) name ds = (e : Device) × Live ds p e × (parent_of name ≡ Some e.name)
 
-pub record CanBeBorn (d : Device) (ds : List Device) : Type 0 where
+pub record CanBeBorn (d : NewDevice) (ds : List Device) : Type 0 where
   pub few : live_count ds < 65536
   pub free : (i : ℕ) (e : Device) → Live ds i e → e.name ≡ d.name → ⊥
   pub parent : (o : Option ℕ) × IsParent o d.name ds
 
 -- it is the newest device, is live, and has its parent's identity
-pub record IsBorn (d : Device) (ds es : List Device) : Type 0 where
+pub record IsBorn (d : NewDevice) (ds es : List Device) : Type 0 where
   pub parent : Option ℕ
   pub who : IsParent parent d.name ds
-  pub newest : es ≡ ds ++ record d { parent = parent; gone = false } ∷ []
+  pub newest : es ≡ ds ++ born_as d parent ∷ []
 
 some_parent : (name : List ℕ) (ds : List Device) (p : List ℕ) → parent_of name ≡ Some p → (o : Option ℕ) → IsParent o name ds → (i : ℕ) × (e : Device) × Live ds i e × (e.name ≡ p)
 some_parent name ds p h None is = absurd (none-some p (sym is ∙ h))
 some_parent name ds p h (Some i) is = (i, is.0, is.1, same_Some is.0.name p (sym is.2 ∙ h))
 
-born_placed : (d : Device) (ds : List Device) (o : Option (List ℕ)) → parent_of d.name ≡ o → CanBeBorn d ds → IsBorn d ds (placed d o ds)
+born_placed : (d : NewDevice) (ds : List Device) (o : Option (List ℕ)) → parent_of d.name ≡ o → CanBeBorn d ds → IsBorn d ds (placed d o ds)
 born_placed d ds None h can = record { parent = None; who = h; newest = refl }
 born_placed d ds (Some p) h can = under (find p 0 ds) refl
   where
@@ -40,14 +41,14 @@ born_placed d ds (Some p) h can = under (find p 0 ds) refl
         let f = find_some p i ds some in
         record { parent = Some i; who = (f.device, f.live, h ∙ ap Some (sym f.named)); newest = refl }
 
-pub plugged_born : (d : Device) (ds : List Device) → CanBeBorn d ds → IsBorn d ds (plugged d ds)
+pub plugged_born : (d : NewDevice) (ds : List Device) → CanBeBorn d ds → IsBorn d ds (plugged d ds)
 plugged_born d ds can = rw (lt-ltb (live_count ds) 65536 can.few) (at (find d.name 0 ds) refl)
   where
     at : (o : Option ℕ) → find d.name 0 ds ≡ o → IsBorn d ds (plug_at o d ds)
     at None h = born_placed d ds (parent_of d.name) refl can
     at (Some i) h = let f = find_some d.name i ds h in absurd (can.free i f.device f.live f.named)
 
-pub plugged_not : (d : Device) (ds : List Device) → (CanBeBorn d ds → ⊥) → plugged d ds ≡ ds
+pub plugged_not : (d : NewDevice) (ds : List Device) → (CanBeBorn d ds → ⊥) → plugged d ds ≡ ds
 plugged_not d ds cannot = roomy (nat_lt (live_count ds) 65536) refl
   where
     under : live_count ds < 65536 → find d.name 0 ds ≡ None → (p : List ℕ) → parent_of d.name ≡ Some p → (o : Option ℕ) → find p 0 ds ≡ o → born_under d o ds ≡ ds

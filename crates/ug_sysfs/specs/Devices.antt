@@ -5,6 +5,7 @@ use Rattle.std.specs.Cmp.Lexicographic.{pointwise}
 use Rattle.ug_types.specs.Names.{parent_of}
 use Rattle.ug_kernel.specs.declared.device.Device.{Device}
 use Rattle.ug_kernel.specs.Kernel.{Live, live_count}
+use Rattle.ug_sysfs.specs.declared.script.NewDevice.{NewDevice}
 use Rattle.ug_sysfs.specs.declared.parent.Parent.{Parent}
 use Rattle.ug_sysfs.specs.declared.parent.Parent.TheVariants as parent
 
@@ -68,24 +69,37 @@ unplug_at (Some i) ds = fall i (take i ds) (drop i ds)
 abbrev pub unplugged : List ℕ → List Device → List Device
 unplugged name ds = unplug_at (find name 0 ds) ds
 
-abbrev pub born : Device → Option ℕ → List Device → List Device
-born d parent ds = ds ++ record d { parent = parent; gone = false } ∷ []
+-- a new device under that parent, live
+abbrev pub born_as : NewDevice → Option ℕ → Device
+born_as d parent = record {
+  name = d.name;
+  parent = parent;
+  descriptors = d.descriptors;
+  product = d.product;
+  serial = d.serial;
+  connect = d.connect;
+  gone = false;
+  on = d.on;
+}
 
-abbrev pub born_under : Device → Option ℕ → List Device → List Device
+abbrev pub born : NewDevice → Option ℕ → List Device → List Device
+born d parent ds = ds ++ born_as d parent ∷ []
+
+abbrev pub born_under : NewDevice → Option ℕ → List Device → List Device
 born_under d None ds = ds
 born_under d (Some i) ds = born d (Some i) ds
 
 -- a root hub has no parent; else it is the live device of the parent's name
-abbrev pub placed : Device → Option (List ℕ) → List Device → List Device
+abbrev pub placed : NewDevice → Option (List ℕ) → List Device → List Device
 placed d None ds = born d None ds
 placed d (Some name) ds = born_under d (find name 0 ds) ds
 
-abbrev pub plug_at : Option ℕ → Device → List Device → List Device
+abbrev pub plug_at : Option ℕ → NewDevice → List Device → List Device
 plug_at None d ds = placed d (parent_of d.name) ds
 plug_at (Some i) d ds = ds
 
 -- a device is born, unless its name is live, or its parent isn't, or 65,536 devices are
-abbrev pub plugged : Device → List Device → List Device
+abbrev pub plugged : NewDevice → List Device → List Device
 plugged d ds = cond (nat_lt (live_count ds) 65536) (plug_at (find d.name 0 ds) d ds) ds
 
 -- no two live devices have one name

@@ -1,6 +1,7 @@
 pub mod Reply
 pub mod Devices
 pub mod World
+pub mod Queue
 pub mod Begins
 pub mod Find
 pub mod Sound

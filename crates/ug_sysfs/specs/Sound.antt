@@ -10,12 +10,13 @@ use Rattle.ug_kernel.specs.Kernel.{Kernel, Live, live_count, IsSound, IsKernel}
 use Rattle.ug_kernel.proofs.Places.{at_push, in_front}
 use Rattle.ug_kernel.proofs.Stayed.{live_count_begins}
 use Rattle.ug_kernel.proofs.Sounds.{sound_push, Kept, sound_fewer, kernel_moves}
+use Rattle.ug_sysfs.specs.declared.script.NewDevice.{NewDevice}
 use Rattle.ug_sysfs.specs.declared.script.Move.{Move}
 use Rattle.ug_sysfs.specs.declared.script.Move.TheVariants.{Plug, Unplug}
 use Rattle.ug_sysfs.specs.declared.script.Scheduled.{Scheduled}
-use Rattle.ug_sysfs.specs.Devices.{find, gone_of, felled, falls, fall, unplug_at, unplugged, born_under, placed, plug_at, plugged}
+use Rattle.ug_sysfs.specs.Devices.{find, born_as, gone_of, felled, falls, fall, unplug_at, unplugged, born_under, placed, plug_at, plugged}
 use Rattle.ug_sysfs.specs.World.{moved, due, happen, happen_all}
-use Rattle.ug_sysfs.specs.Begins.{begins_unplug, plugged_moves, unplugged_moves, happened_moves}
+use Rattle.ug_sysfs.specs.Begins.{begins_unplug, plugged_moves, unplugged_moves, moved_moves, happened_moves}
 use Rattle.ug_sysfs.specs.Find.{find_some, find_none}
 
 kept_push : (target : ℕ) (bs : List Device) (d : Device) → Kept bs → Kept (bs ++ felled target bs d ∷ [])
@@ -64,22 +65,22 @@ sound_unplug : (o : Option ℕ) (ds : List Device) → IsSound ds → IsSound (u
 sound_unplug None ds s = s
 sound_unplug (Some i) ds s = sound_fewer ds (fall i (take i ds) (drop i ds)) s (begins_unplug (Some i) ds) (length_felled i ds) (kept_fall i (take i ds) (drop i ds) (kept_front ds i s))
 
-sound_placed : (d : Device) (o : Option (List ℕ)) (ds : List Device) → parent_of d.name ≡ o → live_count ds < 65536 → IsSound ds → ((i : ℕ) (e : Device) → Live ds i e → e.name ≡ d.name → ⊥) → IsSound (placed d o ds)
-sound_placed d None ds up few s free = sound_push ds (record d { parent = None; gone = false }) s (record { free = free; under = λ p h. absurd (none-some p h); root = λ h. up; few = few })
+sound_placed : (d : NewDevice) (o : Option (List ℕ)) (ds : List Device) → parent_of d.name ≡ o → live_count ds < 65536 → IsSound ds → ((i : ℕ) (e : Device) → Live ds i e → e.name ≡ d.name → ⊥) → IsSound (placed d o ds)
+sound_placed d None ds up few s free = sound_push ds (born_as d None) s (record { free = free; under = λ p h. absurd (none-some p h); root = λ h. up; few = few })
 sound_placed d (Some name) ds up few s free = below (find name 0 ds) refl
   where
     below : (o : Option ℕ) → find name 0 ds ≡ o → IsSound (born_under d o ds)
     below None h = s
     below (Some i) h =
         let f = find_some name i ds h in
-        sound_push ds (record d { parent = Some i; gone = false }) s (record {
+        sound_push ds (born_as d (Some i)) s (record {
           free = free;
           under = λ p e. (f.device, subst (λ (j : ℕ). Live ds j f.device) (let q : i ≡ p = cc in q) f.live, up ∙ ap Some (sym f.named));
           root = λ h. absurd (none-some i (sym h));
           few = few;
         })
 
-sound_plug : (d : Device) (ds : List Device) → IsSound ds → IsSound (plugged d ds)
+sound_plug : (d : NewDevice) (ds : List Device) → IsSound ds → IsSound (plugged d ds)
 sound_plug d ds s = roomy (nat_lt (live_count ds) 65536) refl
   where
     free : live_count ds < 65536 → (o : Option ℕ) → find d.name 0 ds ≡ o → IsSound (plug_at o d ds)
@@ -106,11 +107,14 @@ sound_all : (ms : List Scheduled) (ds : List Device) → IsSound ds → IsSound 
 sound_all [] ds s = s
 sound_all (m ∷ ms) ds s = sound_all ms (moved m.action ds) (sound_moved m.action ds s)
 
-pub plugged_sound : (d : Device) (k : Kernel) → IsKernel k → IsKernel (record k { devices = plugged d k.devices })
+pub plugged_sound : (d : NewDevice) (k : Kernel) → IsKernel k → IsKernel (record k { devices = plugged d k.devices })
 plugged_sound d k s = kernel_moves k (record k { devices = plugged d k.devices }) s (plugged_moves d k) (sound_plug d k.devices s.devices)
 
 pub unplugged_sound : (name : List ℕ) (k : Kernel) → IsKernel k → IsKernel (record k { devices = unplugged name k.devices })
 unplugged_sound name k s = kernel_moves k (record k { devices = unplugged name k.devices }) s (unplugged_moves name k) (sound_unplug (find name 0 k.devices) k.devices s.devices)
+
+pub moved_sound : (m : Move) (k : Kernel) → IsKernel k → IsKernel (record k { devices = moved m k.devices })
+moved_sound m k s = kernel_moves k (record k { devices = moved m k.devices }) s (moved_moves m k) (sound_moved m k.devices s.devices)
 
 pub happened_sound : (ms : List Scheduled) (k : Kernel) → IsKernel k → IsKernel (record k { devices = happen_all ms k.devices })
 happened_sound ms k s = kernel_moves k (record k { devices = happen_all ms k.devices }) s (happened_moves ms k) (sound_all ms k.devices s.devices)

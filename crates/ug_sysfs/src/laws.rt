@@ -4,6 +4,7 @@ ghost use Rattle.ug_kernel.specs.declared.device.Device.{Device};
 ghost use Rattle.ug_kernel.specs.Calls.{Call, Answer};
 ghost use Rattle.ug_kernel.specs.Kernel.{Kernel, Live, IsSound, IsKernel, Moves};
 ghost use Rattle.ug_sysfs.specs.declared.script.Failing.{Failing};
+ghost use Rattle.ug_sysfs.specs.declared.script.NewDevice.{NewDevice};
 ghost use Rattle.ug_sysfs.specs.Devices.{plugged, unplugged};
 ghost use Rattle.ug_sysfs.specs.Birth.{CanBeBorn, IsBorn};
 ghost use Rattle.ug_sysfs.specs.Below.{IsFelled};
@@ -11,10 +12,10 @@ ghost use Rattle.ug_sysfs.specs.World.{World, Gives, fate, over};
 
 /// A device is born wherever it can be, as the newest, and else nothing changes. It is a move, and keeps a kernel sound.
 pub fn plug_law()
-    ensures born { (d : Device) (ds : List Device) → CanBeBorn d ds → IsBorn d ds (plugged d ds) }
-    ensures refused { (d : Device) (ds : List Device) → ¬ (CanBeBorn d ds) → plugged d ds ≡ ds }
-    ensures moves { (d : Device) (k : Kernel) → Moves k (record k { devices = plugged d k.devices }) }
-    ensures sound { (d : Device) (k : Kernel) → IsKernel k → IsKernel (record k { devices = plugged d k.devices }) }
+    ensures born { (d : NewDevice) (ds : List Device) → CanBeBorn d ds → IsBorn d ds (plugged d ds) }
+    ensures refused { (d : NewDevice) (ds : List Device) → ¬ (CanBeBorn d ds) → plugged d ds ≡ ds }
+    ensures moves { (d : NewDevice) (k : Kernel) → Moves k (record k { devices = plugged d k.devices }) }
+    ensures sound { (d : NewDevice) (k : Kernel) → IsKernel k → IsKernel (record k { devices = plugged d k.devices }) }
 {}
 
 /// Unplugging takes the live device of the name and what is below it, and nothing else. It is a move, and keeps a

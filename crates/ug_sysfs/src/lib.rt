@@ -7,13 +7,14 @@ mod failures;
 mod kinds;
 mod laws;
 mod parent;
+mod queue;
 mod roster;
 mod schedule;
 mod script;
 mod sim;
 
 pub use laws::{event_law, fate_law, plug_law, ran_out_law, unplug_law};
-pub use script::{Failing, Move, Scheduled};
+pub use script::{Failing, Move, NewDevice, Scheduled};
 pub use sim::SimKernel;
 pub use ug_kernel::{
     Asked, Attr, CallRecord, Control, Device, Effect, HeldFile, Kind, Listing, Opened, Probe,

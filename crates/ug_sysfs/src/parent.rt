@@ -5,6 +5,7 @@ ghost use Rattle.ug_kernel.specs.Kernel.{live_count};
 ghost use Rattle.ug_sysfs.specs.Devices.{plugged, sought};
 
 use crate::census::Census;
+use crate::script::NewDevice;
 use ug_kernel::Device;
 use ug_types::NodeName;
 
@@ -35,7 +36,7 @@ pub fn find_parent(census: &Census, name: &NodeName) -> Parent
 
 /// A device is born, if it can be. There is room for it.
 #[tactic(auto, using(ug_kernel::proofs::Sounds::live_count_push))]
-pub fn plug(census: &mut Census, device: Device)
+pub fn plug(census: &mut Census, device: NewDevice)
     requires room { 0 < census.old.room }
     requires few { live_count census.old.devices ≤ 65536 }
     ensures devices { census.new.devices ≡ plugged device census.old.devices }
@@ -53,8 +54,14 @@ pub fn plug(census: &mut Census, device: Device)
         Parent::Live(i) => Some(i),
         Parent::Missing => return,
     };
-    let mut device = device;
-    device.parent = parent;
-    device.gone = false;
-    census.push(device);
+    census.push(Device {
+        name: device.name,
+        parent,
+        descriptors: device.descriptors,
+        product: device.product,
+        serial: device.serial,
+        connect: device.connect,
+        gone: false,
+        on: device.on,
+    });
 }

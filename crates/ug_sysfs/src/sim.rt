@@ -5,16 +5,18 @@ ghost use Rattle.ug_sysfs.specs.Devices.{plugged, unplugged};
 ghost use Rattle.ug_sysfs.specs.Count.{counts_each};
 ghost use Rattle.ug_kernel.specs.Few.{HasFew, AreDistinct};
 ghost use Rattle.ug_sysfs.specs.Law.{does_what_it_may, begins_afresh};
+ghost use Rattle.ug_sysfs.specs.Queue.{with_move};
 ghost use Rattle.ug_sysfs.specs.Noted.{notes_itself, begins_empty};
-ghost use Rattle.ug_sysfs.specs.World.{Gives, Effects, RunsOut, Puts, Ends, Enters, begun, over, fate_of, counted, told};
+ghost use Rattle.ug_sysfs.specs.World.{moved, Gives, Effects, RunsOut, Puts, Ends, Enters, begun, over, fate_of, counted, told};
 
 use crate::census::Census;
 use crate::devices::{live_held, read_file};
 use crate::failures::Failures;
 use crate::kinds::{kind_of_listing, kind_of_opened, kind_of_probe, kind_of_read, kind_of_wrote};
 use crate::parent::plug;
+use crate::queue::put_in;
 use crate::schedule::{happen, happen_all, one_more};
-use crate::script::{Failing, Move, Scheduled};
+use crate::script::{Failing, Move, NewDevice, Scheduled};
 use std::alloc::Global;
 use std::collections::VecDeque;
 use std::marker::Model;
@@ -86,16 +88,29 @@ impl SimKernel {
         }
     }
 
-    /// A device is born; the kernel sets its `parent` and `gone`. Nothing happens if its name is live, if its
-    /// parent isn't, or if 65,536 devices are.
+    /// A device is born. Nothing happens if its name is live, if its parent isn't, or if 65,536 devices are.
     #[tactic(auto, using(crate::proofs::Plugs::plugs_le))]
-    pub fn plug(&mut self, device: Device) -> Result<(), NoMemory>
+    pub fn plug(&mut self, device: NewDevice) -> Result<(), NoMemory>
         ensures ok { OnOk result (self.new ≡ record self.old { kernel = record self.old.kernel { devices = plugged device self.old.kernel.devices } }) }
         ensures err { OnErr result (self.new ≡ self.old) }
     {
         self.census.reserve(self.moves.len().saturating_add(1))?;
         plug(&mut self.census, device);
         Ok(())
+    }
+
+    /// What the kernel does by itself: a device is born, as by `plug`, or goes.
+    pub fn carry_out(&mut self, action: Move) -> Result<(), NoMemory>
+        ensures ok { OnOk result (self.new ≡ record self.old { kernel = record self.old.kernel { devices = moved action self.old.kernel.devices } }) }
+        ensures err { OnErr result (self.new ≡ self.old) }
+    {
+        match action {
+            Move::Plug(device) => self.plug(device),
+            Move::Unplug(name) => {
+                self.unplug(&name);
+                Ok(())
+            }
+        }
     }
 
     /// The live device of that name goes, and what is below it.
@@ -107,20 +122,24 @@ impl SimKernel {
         }
     }
 
-    /// A move that is to come at a call of the event, before its effect or after it. Moves happen in the order
-    /// in which they are scheduled; one whose call is past happens at the next.
+    /// A move that is to come at a call of the event, before its effect or after it. Moves of one place happen in the
+    /// order in which they are scheduled; one whose call is past happens at the next.
     #[tactic(auto, using(crate::proofs::Plugs::plugs_le))]
     pub fn schedule(&mut self, call: u64, after: bool, action: Move) -> Result<(), NoMemory>
-        ensures ok { OnOk result (self.new ≡ record self.old { moves = self.old.moves ++ record { call = call; after = after; action = action } ∷ [] }) }
+        ensures ok { OnOk result (self.new ≡ record self.old {
+          moves = with_move (record { call = call; after = after; action = action }) self.old.moves;
+        }) }
         ensures err { OnErr result (self.new ≡ self.old) }
     {
         self.census.reserve(self.moves.len().saturating_add(1))?;
-        self.moves.push_back(Scheduled {
-            call,
-            after,
-            action,
-        })?;
-        Ok(())
+        put_in(
+            &mut self.moves,
+            Scheduled {
+                call,
+                after,
+                action,
+            },
+        )
     }
 
     /// A call that is to fail. A write then has its effect, or not. The last word on a call counts.

@@ -1,10 +1,8 @@
 // A hub and a device come, are opened and written, and go.
-use crate::script::Move;
+use crate::script::{Move, NewDevice};
 use crate::sim::SimKernel;
 use std::alloc::Global;
-use ug_kernel::{
-    Attr, Control, Device, Kind, Listing, Opened, Probe, ReadOut, Sysfs, Write, Wrote,
-};
+use ug_kernel::{Attr, Control, Kind, Listing, Opened, Probe, ReadOut, Sysfs, Write, Wrote};
 use ug_types::{Held, NoMemory, NodeName, Text};
 
 fn name(text: &[u8]) -> Result<NodeName, NoMemory> {
@@ -14,15 +12,13 @@ fn name(text: &[u8]) -> Result<NodeName, NoMemory> {
     }
 }
 
-fn device(alloc: Global, text: &[u8]) -> Result<Device, NoMemory> {
-    Ok(Device {
+fn device(alloc: Global, text: &[u8]) -> Result<NewDevice, NoMemory> {
+    Ok(NewDevice {
         name: name(text)?,
-        parent: None,
         descriptors: Text::of(alloc, b"\x12\x01")?,
         product: Some(Text::of(alloc, b"Keyboard\n")?),
         serial: None,
         connect: None,
-        gone: false,
         on: false,
     })
 }

@@ -7,7 +7,7 @@ use crate::{Judge, Settled, Table};
 use std::alloc::Global;
 use std::test::Fail;
 use ug_audit::{Entries, Journal, line_of};
-use ug_sysfs::{Device, Move, SimKernel};
+use ug_sysfs::{Move, NewDevice, SimKernel};
 use ug_types::{Cause, Judged, NodeName, Target, Text};
 
 // A device descriptor alone: vendor 1050, product 11.
@@ -46,15 +46,13 @@ impl Judge for Rejecting {
     }
 }
 
-fn device(alloc: Global, name: &[u8], on: bool) -> Result<Device, Fail> {
-    Ok(Device {
+fn device(alloc: Global, name: &[u8], on: bool) -> Result<NewDevice, Fail> {
+    Ok(NewDevice {
         name: NodeName::parse(name)?,
-        parent: None,
         descriptors: Text::of(alloc, &KEY)?,
         product: None,
         serial: None,
         connect: None,
-        gone: false,
         on,
     })
 }

@@ -1,5 +1,4 @@
-use Rattle.ug_script.proofs.Stays.{stays_lawful}
-use Rattle.ug_script.proofs.Journals.{stays_recorded}
+use Rattle.ug_script.proofs.Journals.{stays_lawful, stays_recorded}
 use Rattle.ug_script.proofs.laws.script_law.Goals as goal
 
 pub returns-clause-lawful : goal.returns-clause-lawful

@@ -1,8 +1,7 @@
 use Rattle.std.proofs.Common.{refl}
 use Rattle.ug_sysfs.specs.Sound.{new_sound}
 use Rattle.ug_script.specs.Replay.{runner_state}
-use Rattle.ug_script.proofs.Journals.{stays_recorded}
-use Rattle.ug_script.proofs.Stays.{stays_lawful}
+use Rattle.ug_script.proofs.Journals.{stays_lawful, stays_recorded}
 use Rattle.ug_tool.specs.Replay.{new_world}
 use Rattle.ug_tool.proofs.replay.run_replay.Goals as goal
 

@@ -1,7 +1,6 @@
 use Rattle.std.proofs.Common.{refl, sym, ◌∙◌}
 use Rattle.ug_sysfs.specs.Sound.{new_sound}
-use Rattle.ug_script.proofs.Journals.{stays_recorded}
-use Rattle.ug_script.proofs.Stays.{stays_lawful}
+use Rattle.ug_script.proofs.Journals.{stays_lawful, stays_recorded}
 use Rattle.ug_tool.specs.Replay.{new_world}
 use Rattle.ug_tool.proofs.Words.{commands_differ, check_rules_differs, checks_and_reads_differ}
 use Rattle.ug_tool.proofs.tool.run_tool.Goals as goal

@@ -2,8 +2,8 @@ use Rattle.std.proofs.Common.{rules, ◌≡◌, ℕ, ℤ, pos, ◌+ℤ◌, unsig
 use Rattle.std.specs.Int.{int_rem_euclid}
 use Rattle.ug_core.specs.Policy.{clock_of}
 use Rattle.ug_cond.proofs.Clock.{fixed_clock}
-use Rattle.ug_script.specs.Replay.{clock_ahead}
-use Rattle.ug_script.proofs.running.zone_ahead.Goals as goal
+use Rattle.ug_script.specs.Setup.{clock_ahead}
+use Rattle.ug_script.proofs.start.zone_ahead.Goals as goal
 
 pub returns : goal.returns
 returns c =

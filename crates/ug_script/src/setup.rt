@@ -1,0 +1,134 @@
+// What the lines give that stand before all others.
+ghost use Rattle.std.specs.Prelude.{◌≡◌, ◌<◌, ◌≤◌, ◌++◌, ◌∷◌, [], ◌&&◌, ◌||◌, find, length, nat_eq, not, All, IfOk, OnOk};
+ghost use Rattle.ug_script.specs.Grammar.{AsksForRule};
+ghost use Rattle.ug_script.specs.Setup as lines;
+ghost use Rattle.ug_script.specs.Setup.{Adds, no_setup, one_line_more};
+ghost use Rattle.ug_rule.specs.Grammar.{WellFormed};
+
+use crate::step::{SetupLine, StepFault};
+use std::alloc::Global;
+use std::marker::Model;
+use ug_conf::{LineFault, SettingsReader};
+use ug_types::{NoMemory, Rule};
+
+/// The most rules that a daemon starts with.
+const MOST_RULES: usize = 65_536;
+
+/// The rules in order, the settings so far, and the seed and the zone, where they were given.
+#[derive(Drop)]
+pub struct Setup {
+    pub rules: Vec<Rule>,
+    pub settings: SettingsReader,
+    pub seed: Option<[u8; 32]>,
+    pub zone: Option<i32>,
+}
+
+impl Model for Setup {
+    ghost use Rattle.ug_script.specs.Setup.{IsSetupKept, SetupState};
+
+    ghost Value = { SetupState };
+
+    ghost view = { λ s. record { rules = s.rules.items; settings = s.settings; seed = s.seed; zone = s.zone } };
+
+    ghost invariant = { λ s. IsSetupKept s.rules.items s.zone };
+}
+
+fn is_offset(seconds: i32) -> bool
+    ensures { result ≡ lines.is_offset seconds }
+{
+    -86399 <= seconds && seconds <= 86399
+}
+
+/// The first byte that is neither a space nor a tab.
+fn first_byte(text: &[u8]) -> Option<u8>
+    ensures { result ≡ find (λ b. not (nat_eq b 32 || nat_eq b 9)) text.now }
+{
+    text.iter().copied().find(|b| *b != b' ' && *b != b'\t')
+}
+
+/// Whether a line of settings is neither blank nor a comment.
+fn is_setting(text: &[u8]) -> bool
+    ensures { result ≡ lines.is_setting text.now }
+{
+    match first_byte(text) {
+        None => false,
+        Some(b) => b != b'#',
+    }
+}
+
+#[tactic(auto, using(crate::proofs::WellFormed::well_more))]
+fn push_rule(rules: &mut Vec<Rule>, rule: Rule) -> Result<(), NoMemory>
+    requires { length rules.old.items < 65536 }
+    ensures ok { OnOk result (rules.new.items ≡ rules.old.items ++ rule ∷ []) }
+    ensures few { length rules.new.items ≤ 65536 }
+    ensures well_formed { All WellFormed rules.old.items → WellFormed rule
+        → All WellFormed rules.new.items }
+{
+    rules.push(rule)?;
+    Ok(())
+}
+
+impl Setup {
+    /// No line was taken.
+    pub fn new(alloc: Global) -> Result<Setup, NoMemory>
+        ensures { IfOk result (λ setup. setup ≡ no_setup) }
+    {
+        Ok(Setup {
+            rules: Vec::new(alloc),
+            settings: SettingsReader::new(alloc)?,
+            seed: None,
+            zone: None,
+        })
+    }
+
+    /// Takes a line, unless it may not stand there.
+    pub fn add(&mut self, line: SetupLine) -> Result<(), StepFault>
+        requires { AsksForRule line }
+        ensures { Adds (one_line_more line self.old) result self.old self.new }
+    {
+        match line {
+            SetupLine::Rule(rule) => self.add_rule(rule),
+            SetupLine::Conf(text) => self.add_setting(text.bytes()),
+            SetupLine::Seed(seed) => {
+                if self.seed.is_some() {
+                    return Err(StepFault::Bad);
+                }
+                self.seed = Some(seed);
+                Ok(())
+            }
+            SetupLine::Zone(offset) => {
+                if self.zone.is_some() || !is_offset(offset) {
+                    return Err(StepFault::Bad);
+                }
+                self.zone = Some(offset);
+                Ok(())
+            }
+        }
+    }
+
+    fn add_rule(&mut self, rule: Rule) -> Result<(), StepFault>
+        requires { WellFormed rule }
+        ensures { Adds (lines.one_rule_more rule self.old) result self.old self.new }
+    {
+        if self.rules.len() >= MOST_RULES {
+            return Err(StepFault::Bad);
+        }
+        match push_rule(&mut self.rules, rule) {
+            Ok(()) => Ok(()),
+            Err(_) => Err(StepFault::Memory),
+        }
+    }
+
+    fn add_setting(&mut self, text: &[u8]) -> Result<(), StepFault>
+        ensures { Adds (lines.one_setting_more text.now self.old) result self.old self.new }
+    {
+        if !is_setting(text) {
+            return Err(StepFault::Bad);
+        }
+        match self.settings.line(text) {
+            Ok(()) => Ok(()),
+            Err(LineFault::Bad(_)) => Err(StepFault::Bad),
+            Err(LineFault::Memory) => Err(StepFault::Memory),
+        }
+    }
+}

@@ -1,0 +1,28 @@
+-- The order in which scheduled moves are to come.
+use Rattle.std.specs.Prelude.{ℕ, ◌-◌, Bool, true, not, ◌&&◌, ◌||◌, nat_eq, nat_lt, if◌then◌else◌, List, length, insert, Option, Some, None}
+use Rattle.std.specs.List.{position, slice_get}
+use Rattle.ug_sysfs.specs.declared.script.Scheduled.{Scheduled}
+
+-- x comes later than m: at a greater call, or behind the effect of the same call that m comes before
+abbrev pub comes_later : Scheduled → Scheduled → Bool
+comes_later x m = nat_lt m.call x.call || (nat_eq m.call x.call && (x.after && not m.after))
+
+abbrev pub isnt_later : Scheduled → Option Scheduled → Bool
+isnt_later m None = true
+isnt_later m (Some x) = not (comes_later x m)
+
+-- the last doesn't come later
+abbrev pub goes_last : Scheduled → List Scheduled → Bool
+goes_last m ms = isnt_later m (slice_get ms (length ms - 1))
+
+abbrev pub or_end : Option ℕ → List Scheduled → ℕ
+or_end None ms = length ms
+or_end (Some place) ms = place
+
+-- the end, unless the last comes later; then the place of the first that does
+abbrev pub place_for : Scheduled → List Scheduled → ℕ
+place_for m ms = if goes_last m ms then length ms else or_end (position (λ x. comes_later x m) ms) ms
+
+-- behind each that comes no later, in a list that is in order
+abbrev pub with_move : Scheduled → List Scheduled → List Scheduled
+with_move m ms = insert ms (place_for m ms) m
