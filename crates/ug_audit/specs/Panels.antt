@@ -1,5 +1,5 @@
 -- The members of a panel, and what a line does to them.
-use Rattle.std.specs.Prelude.{◌≡◌, ℕ, ◌+◌, ◌*◌, Bool, true, false, List, [], ◌∷◌, Option}
+use Rattle.std.specs.Prelude.{◌≡◌, ℕ, ◌+◌, ◌*◌, Bool, true, false, List, [], ◌∷◌, Option, if◌then◌else◌}
 use Rattle.ug_types.specs.Ends.{IsCounted, Rose}
 use Rattle.ug_audit.specs.declared.auditor.Noted.TheVariants as noted
 use Rattle.ug_audit.specs.Auditors.{TakesLine}
@@ -44,3 +44,26 @@ abbrev pub members_of : {A : Type 0} → (A → Option (List ℕ)) → (A → �
 members_of text faults [] marks = []
 members_of text faults (a ∷ auditors) [] = []
 members_of text faults (a ∷ auditors) (mark ∷ marks) = record { text = text a; faults = faults a; dropped = mark } ∷ members_of text faults auditors marks
+
+-- 1 for a member that isn't dropped
+abbrev pub one_live : Bool → ℕ
+one_live false = 1
+one_live true = 0
+
+-- how many members aren't dropped
+abbrev pub live : List Member → ℕ
+live [] = 0
+live (m ∷ ms) = one_live m.dropped + live ms
+
+-- the same, by the auditors and whether these are dropped
+abbrev pub live_of : {A : Type 0} → List A → List Bool → ℕ
+live_of [] marks = 0
+live_of (a ∷ auditors) [] = 0
+live_of (a ∷ auditors) (mark ∷ marks) = one_live mark + live_of auditors marks
+
+-- the numbers, in order, of the members that are dropped now, and weren't; the first member has that number
+abbrev pub newly_dropped : ℕ → List Member → List Member → List ℕ
+newly_dropped first [] ns = []
+newly_dropped first (m ∷ ms) [] = []
+newly_dropped first (m ∷ ms) (n ∷ ns) =
+    (if is_newly m.dropped n.dropped then first ∷ newly_dropped (first + 1) ms ns else newly_dropped (first + 1) ms ns)

@@ -1,11 +1,12 @@
 // The auditors of a journal.
-ghost use Rattle.std.specs.Prelude.{◌≡◌, ◌≤◌, ◌<◌, ◌^◌, true, false, length, replicate, slice_get, Some};
+ghost use Rattle.std.specs.Prelude.{◌≡◌, ◌≤◌, ◌<◌, ◌+◌, ◌++◌, ◌^◌, false, length, replicate, slice_get, Some};
 ghost use Rattle.std.specs.Option.{option_copied};
-ghost use Rattle.ug_types.specs.Ends.{IsCounted, Rose};
+ghost use Rattle.arrayvec.specs.ArrayVec.{array_vec_len};
 ghost use Rattle.ug_audit.specs.Auditors.{IsTextTaken};
-ghost use Rattle.ug_audit.specs.Panels.{TakesAs, is_newly, NotesAll, members_of, dropped_between};
+ghost use Rattle.ug_audit.specs.Panels.{TakesAs, is_newly, live_of, newly, newly_dropped, one_live, NotesAll, members_of, dropped_between};
 
 use crate::auditor::{Auditor, Noted};
+use arrayvec::ArrayVec;
 
 /// At most 64 auditors, each of which is given each line until it fails.
 #[derive(Drop)]
@@ -19,6 +20,7 @@ pub struct Panel {
 fn give(auditor: &mut Box<dyn Auditor>, dropped: &mut bool, line: &[u8]) -> bool
     ensures taken { TakesAs dropped.old dropped.new line.now (record { text = text auditor.old; faults = faults auditor.old; dropped = dropped.old }) (record { text = text auditor.new; faults = faults auditor.new; dropped = dropped.new }) }
     ensures told { result ≡ is_newly dropped.old dropped.new }
+    ensures live { one_live dropped.new + newly dropped.old dropped.new ≡ one_live dropped.old }
 {
     if *dropped {
         return false;
@@ -32,11 +34,21 @@ fn give(auditor: &mut Box<dyn Auditor>, dropped: &mut bool, line: &[u8]) -> bool
     }
 }
 
-fn give_all(auditors: &mut [Box<dyn Auditor>], dropped: &mut [bool], line: &[u8]) -> u64
-    requires few { length auditors.old ≤ 64 }
+/// The numbers of those that fail go behind the others that are due; the first auditor has that number.
+fn give_all(
+    auditors: &mut [Box<dyn Auditor>],
+    dropped: &mut [bool],
+    line: &[u8],
+    first: u8,
+    due: &mut ArrayVec<u8, 64>,
+) -> u64
+    requires few { first + length auditors.old ≤ 64 }
     requires marks { length auditors.old ≤ length dropped.old }
+    requires room { array_vec_len due.old + live_of auditors.old dropped.old ≤ 64 }
     ensures each { NotesAll line.now (members_of (λ b. text b) (λ b. faults b) auditors.old dropped.old) (members_of (λ b. text b) (λ b. faults b) auditors.new dropped.new) }
     ensures set { result ≡ dropped_between (members_of (λ b. text b) (λ b. faults b) auditors.old dropped.old) (members_of (λ b. text b) (λ b. faults b) auditors.new dropped.new) }
+    ensures due { due.new.items ≡ due.old.items ++ newly_dropped first (members_of (λ b. text b) (λ b. faults b) auditors.old dropped.old) (members_of (λ b. text b) (λ b. faults b) auditors.new dropped.new) }
+    ensures live { live_of auditors.new dropped.new + array_vec_len due.new ≡ live_of auditors.old dropped.old + array_vec_len due.old }
     ensures small { result < 2 ^ length auditors.old }
     ensures auditors { length auditors.new ≡ length auditors.old }
     ensures dropped { length dropped.new ≡ length dropped.old }
@@ -48,7 +60,10 @@ fn give_all(auditors: &mut [Box<dyn Auditor>], dropped: &mut [bool], line: &[u8]
         return 0;
     };
     let failed = give(auditor, mark, line);
-    let later = give_all(auditors, dropped, line);
+    if failed {
+        due.push(first);
+    }
+    let later = give_all(auditors, dropped, line, first + 1, due);
     failed as u64 + 2 * later
 }
 
@@ -59,6 +74,8 @@ fn text_of(auditor: &Box<dyn Auditor>) -> Option<&[u8]>
 }
 
 impl Panel {
+    ghost use Rattle.ug_audit.specs.Journal.{live_in, members};
+
     /// The panel of these auditors, of which there are at most 64.
     pub fn new(members: Vec<Box<dyn Auditor>>) -> Panel
         requires { length members.items ≤ 64 }
@@ -74,11 +91,29 @@ impl Panel {
     /// Gives a line to each member that isn't dropped, in order, and drops those that fail. The answer is the set of these, bit i
     /// for member i. It takes no memory.
     pub fn note(&mut self, line: &[u8]) -> u64
-        ensures each { NotesAll line.now (members_of (λ b. text b) (λ b. faults b) self.old.auditors.items self.old.dropped) (members_of (λ b. text b) (λ b. faults b) self.new.auditors.items self.new.dropped) }
-        ensures set { result ≡ dropped_between (members_of (λ b. text b) (λ b. faults b) self.old.auditors.items self.old.dropped) (members_of (λ b. text b) (λ b. faults b) self.new.auditors.items self.new.dropped) }
+        ensures each { NotesAll line.now (members Auditor-box self.old) (members Auditor-box self.new) }
+        ensures set { result ≡ dropped_between (members Auditor-box self.old) (members Auditor-box self.new) }
         ensures len { length self.new.auditors.items ≡ length self.old.auditors.items }
     {
-        give_all(self.auditors.as_mut_slice(), &mut self.dropped, line)
+        self.give_line(line, &mut ArrayVec::new())
+    }
+
+    /// Notes a line; the numbers of those that fail go behind the others that are due.
+    pub(crate) fn give_line(&mut self, line: &[u8], due: &mut ArrayVec<u8, 64>) -> u64
+        requires { array_vec_len due.old + live_in self.old ≤ 64 }
+        ensures each { NotesAll line.now (members Auditor-box self.old) (members Auditor-box self.new) }
+        ensures set { result ≡ dropped_between (members Auditor-box self.old) (members Auditor-box self.new) }
+        ensures due { due.new.items ≡ due.old.items ++ newly_dropped 0 (members Auditor-box self.old) (members Auditor-box self.new) }
+        ensures live { live_in self.new + array_vec_len due.new ≡ live_in self.old + array_vec_len due.old }
+        ensures len { length self.new.auditors.items ≡ length self.old.auditors.items }
+    {
+        give_all(
+            self.auditors.as_mut_slice(),
+            &mut self.dropped,
+            line,
+            0,
+            due,
+        )
     }
 
     /// How many members there are.

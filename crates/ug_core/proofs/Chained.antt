@@ -1,9 +1,10 @@
 -- From the laws of events to those of a run.
-use Rattle.std.proofs.Common.{◌≡◌, ℕ, ◌<◌, Bool, true, false, not, ◌||◌, is_none, List, [], ◌∷◌, ◌++◌, Option, Some, slice_get, inl, inr, refl, sym, ◌∙◌, ap, subst, append_assoc, append-nil}
+use Rattle.std.proofs.Common.{◌≡◌, ℕ, ◌<◌, Bool, true, false, not, ◌||◌, is_none, List, [], ◌∷◌, ◌++◌, Option, Some, None, slice_get, inl, inr, refl, sym, ◌∙◌, ap, subst, append_assoc, append-nil}
 use Rattle.std.specs.List.{list_any}
 use Rattle.ug_types.specs.Elements.{Has}
 use Rattle.ug_types.specs.Names.{parent_of}
 use Rattle.ug_types.specs.declared.record.Judged.{Judged}
+use Rattle.ug_types.specs.declared.saved.Saved.{Saved}
 use Rattle.ug_types.specs.declared.verdict.Held.{Held}
 use Rattle.ug_types.specs.declared.verdict.Target.{Target}
 use Rattle.ug_types.specs.declared.verdict.Cause.{Cause}
@@ -19,6 +20,7 @@ use Rattle.ug_kernel.proofs.Quiet.{moves_quiet, stays_trans}
 use Rattle.ug_kernel.proofs.Stayed.{unmoving}
 use Rattle.ug_audit.specs.declared.entry.Entry.{Entry}
 use Rattle.ug_audit.specs.declared.entry.Entry.TheVariants as entry
+use Rattle.ug_store.specs.Disk.{Disk}
 use Rattle.ug_table.specs.Allowed.{allowed_records}
 use Rattle.ug_table.specs.State.{State}
 use Rattle.ug_table.specs.Laws.{IsDevice, Stand, IsTold, swept_before, wrote_entries, IsUnlisted, IsListed, IsAsJudged}
@@ -26,14 +28,15 @@ use Rattle.ug_table.specs.declared.standing.Standing.{Standing}
 use Rattle.ug_table.proofs.Devices.{device_stays, stand_stays}
 use Rattle.ug_table.proofs.Says.{account_says}
 use Rattle.ug_core.specs.Policy.{Judging, policy_answer, policy_later}
-use Rattle.ug_core.specs.Event.{DaemonState, IsStarted, moment_of}
+use Rattle.ug_core.specs.Event.{DaemonState, IsStarted, moment_of, saved_entries}
 use Rattle.ug_core.specs.InForce.{Decision, decision_of, decisions_in, or_else, last_decision, standing_decision, in_force, Agree, numbers_on, given_numbers, Follow}
 use Rattle.ug_core.specs.Laws.{Handled}
 use Rattle.ug_core.specs.Rulings.{Ruling, at_moment, ruling_answer, after_ruling, after_rulings, decision_by, decisions_by}
-use Rattle.ug_core.specs.Chain.{Happened, Chain, journal, tells_unlisted, has_listed, IsPlaced, WasJudged, IsExplained, IsJudgedOnce, IsRun}
+use Rattle.ug_core.specs.Chain.{Happened, ready_of, IsEvent, StaysOnDisk, Chain, IsKeptThroughout, journal, tells_unlisted, has_listed, IsPlaced, WasJudged, IsExplained, IsJudgedOnce, IsRun}
 use Rattle.ug_core.proofs.Verdicts.{is_verdict}
 use Rattle.ug_core.proofs.InForce.{decisions_append, decisions_more, has_decision, or_else_none, standing_found, fresh, numbers_append, follow_append, lift, lift_agree, last_has}
 use Rattle.ug_core.proofs.Walk.{after_append, decisions_then, IsAt, WasWritten, written_more, walk}
+use Rattle.ug_core.proofs.Kept.{stays_there, stays_then, kept_along}
 use Rattle.ug_core.proofs.Known.{same_device, AreKnown, known_grow, known_still, known_new, only_number}
 
 -- what the kernel does by itself, one after another
@@ -56,22 +59,33 @@ pub journal_append : (gs hs : List Happened) → journal (gs ++ hs) ≡ journal 
 journal_append [] hs = refl
 journal_append (g ∷ gs) hs = ap (λ (es : List Entry). g.after.sweep.entries ++ es) (journal_append gs hs) ∙ sym (append_assoc g.after.sweep.entries (journal gs) (journal hs))
 
--- the first entry, those of the sweep, and the last
-abbrev framed : Entry → List Entry → Entry → List Entry
-framed x rest y = x ∷ (rest ++ y ∷ [])
+-- the first entry, that of a save, those of the sweep, and the last
+abbrev framed : Entry → Option Saved → List Entry → Entry → List Entry
+framed x tried rest y = x ∷ (saved_entries tried ++ (rest ++ y ∷ []))
 
-written_framed : (number : ℕ) (moment : Moment) (before : List Standing) (rest : List Entry) (y : Entry) (k : Kernel) (e : Effect) → WasWritten before rest k e → WasWritten before (framed (entry.Event number moment) rest y) k e
-written_framed number moment before rest y k e w =
+-- a save tells no decision, and nothing of a listing
+
+saved_decisions : (tried : Option Saved) (es : List Entry) → decisions_in (saved_entries tried ++ es) ≡ decisions_in es
+saved_decisions None es = refl
+saved_decisions (Some saved) es = refl
+
+saved_listings : (tried : Option Saved) (es : List Entry) → list_any tells_unlisted (saved_entries tried ++ es) ≡ list_any tells_unlisted es
+saved_listings None es = refl
+saved_listings (Some saved) es = refl
+
+written_framed : (number : ℕ) (moment : Moment) (tried : Option Saved) (before : List Standing) (rest : List Entry) (y : Entry) (k : Kernel) (e : Effect) → WasWritten before rest k e → WasWritten before (framed (entry.Event number moment) tried rest y) k e
+written_framed number moment tried before rest y k e w =
     let m = written_more before rest (y ∷ []) k e w in
+    let two : List Entry = wrote_entries m.decision.number m.decision.name e.write m.outcome in
     record {
       decision = m.decision;
       judged = m.judged;
       outcome = m.outcome;
-      front = entry.Event number moment ∷ m.front;
+      front = entry.Event number moment ∷ (saved_entries tried ++ m.front);
       back = m.back;
-      at = ap (λ (es : List Entry). entry.Event number moment ∷ es) m.at;
+      at = ap (λ (es : List Entry). entry.Event number moment ∷ (saved_entries tried ++ es)) m.at ∙ ap (λ (es : List Entry). entry.Event number moment ∷ es) (sym (append_assoc (saved_entries tried) m.front (two ++ m.back)));
       may = m.may;
-      force = m.force;
+      force = ap (λ (ds : List Decision). or_else (last_decision ds m.decision.number) (standing_decision before m.decision.number)) (saved_decisions tried m.front) ∙ m.force;
       wanted = m.wanted;
       device = m.device;
     }
@@ -255,7 +269,7 @@ moved policy first k l hs d m so =
       known = known_grow (decisions_in (journal hs)) k l d.sweep.standings g so.known;
     }
 
-placed_new : (hs : List Happened) (h : Happened) (rest : List Entry) (r : Ruling) → h.after.sweep.entries ≡ framed (entry.Event h.before.event (moment_of h.event)) rest (entry.End h.before.event) → h.before.sweep.listed ≡ has_listed hs
+placed_new : (hs : List Happened) (h : Happened) (rest : List Entry) (r : Ruling) → h.after.sweep.entries ≡ framed (entry.Event h.before.event (moment_of h.event)) h.tried rest (entry.End h.before.event) → h.before.sweep.listed ≡ has_listed hs
     → IsAt (not h.before.sweep.listed) (moment_of h.event) h.kernel h.kernel_after h.before.sweep.standings rest r → IsPlaced (hs ++ h ∷ []) h.kernel_after r
 placed_new hs h rest r entries listed p =
     let x : Entry = entry.Event h.before.event (moment_of h.event) in
@@ -270,7 +284,7 @@ placed_new hs h rest r entries listed p =
       back = p.back ++ y ∷ [];
       verdict = p.verdict;
       cause = p.cause;
-      in_event = entries ∙ ap (λ (es : List Entry). framed x es y) p.at ∙ ap (λ (es : List Entry). x ∷ es) (append_assoc p.front (this ∷ p.back) (y ∷ []));
+      in_event = entries ∙ ap (λ (es : List Entry). framed x h.tried es y) p.at ∙ ap (λ (es : List Entry). x ∷ (saved_entries h.tried ++ es)) (append_assoc p.front (this ∷ p.back) (y ∷ []));
       moment = p.moment_is;
       present = p.present_is ∙ ap (λ (b : Bool). not b) listed;
       device = p.device;
@@ -289,7 +303,7 @@ device_of policy rs l d devices h =
     (r.device, r.judged, subst (λ (y : Decision). IsDevice l r.device y.name y.held r.judged) x.is at)
 
 -- one event more
-pub one_more : (policy : Judging) (first : Kernel) (hs : List Happened) (h : Happened) → Handled (moment_of h.event) h.kernel h.before h.kernel_after h.after → SoFar policy first h.kernel hs h.before → SoFar policy first h.kernel_after (hs ++ h ∷ []) h.after
+pub one_more : (policy : Judging) (first : Kernel) (hs : List Happened) (h : Happened) → Handled h.kernel (ready_of h) h.kernel_after h.after → SoFar policy first h.kernel hs h.before → SoFar policy first h.kernel_after (hs ++ h ∷ []) h.after
 one_more policy first hs h law so =
     let k : Kernel = h.kernel in
     let l : Kernel = h.kernel_after in
@@ -304,17 +318,17 @@ one_more policy first hs h law so =
     let ss : List Standing = d.sweep.standings in
     let w = walk present moment k l ss k.log d.sweep.judge d.sweep.next so.stand.numbers so.stand.distinct rest l.log v.judge v.next fair.account in
     let says = account_says policy_answer policy_later present swept_before k l ss k.log (at_moment moment d.sweep.judge) d.sweep.next rest l.log v.judge v.next so.stand.numbers fair.account in
-    let entries : h.after.sweep.entries ≡ framed x rest y = ap (λ (z : State Judging). z.entries) law.entries ∙ ap (λ (es : List Entry). es ++ y ∷ []) fair.entries in
+    let entries : h.after.sweep.entries ≡ framed x h.tried rest y = ap (λ (z : State Judging). z.entries) law.entries ∙ ap (λ (es : List Entry). es ++ y ∷ []) fair.entries ∙ ap (λ (es : List Entry). x ∷ es) (append_assoc (saved_entries h.tried) rest (y ∷ [])) in
     let judges : h.after.sweep.judge ≡ at_moment moment (after_rulings d.sweep.judge w.rulings) = ap (λ (z : State Judging). z.judge) law.entries ∙ w.judge_is in
     let standings : h.after.sweep.standings ≡ v.standings = ap (λ (z : State Judging). z.standings) law.entries in
     let next : h.after.sweep.next ≡ v.next = ap (λ (z : State Judging). z.next) law.entries in
-    let whole : journal (hs ++ h ∷ []) ≡ journal hs ++ framed x rest y = journal_append hs (h ∷ []) ∙ ap (λ (es : List Entry). journal hs ++ es) (append-nil h.after.sweep.entries ∙ entries) in
-    let inner : decisions_in (framed x rest y) ≡ decisions_in rest = decisions_more rest (y ∷ []) refl in
+    let whole : journal (hs ++ h ∷ []) ≡ journal hs ++ framed x h.tried rest y = journal_append hs (h ∷ []) ∙ ap (λ (es : List Entry). journal hs ++ es) (append-nil h.after.sweep.entries ∙ entries) in
+    let inner : decisions_in (framed x h.tried rest y) ≡ decisions_in rest = saved_decisions h.tried (rest ++ y ∷ []) ∙ decisions_more rest (y ∷ []) refl in
     let all : decisions_in (journal (hs ++ h ∷ [])) ≡ decisions_in (journal hs) ++ decisions_in rest =
     ap (λ (es : List Entry). decisions_in es) whole
-    ∙ decisions_append (journal hs) (framed x rest y)
+    ∙ decisions_append (journal hs) (framed x h.tried rest y)
     ∙ ap (λ (ds : List Decision). decisions_in (journal hs) ++ ds) inner in
-    let agreed : Agree ss (framed x rest y) v.standings = λ s a. ap (λ (ds : List Decision). or_else (last_decision ds s.number) (standing_decision ss s.number)) inner ∙ agree_left ss d.sweep.next v.next rest v.standings k so.stand w.numbers fair.left.told s a in
+    let agreed : Agree ss (framed x h.tried rest y) v.standings = λ s a. ap (λ (ds : List Decision). or_else (last_decision ds s.number) (standing_decision ss s.number)) inner ∙ agree_left ss d.sweep.next v.next rest v.standings k so.stand w.numbers fair.left.told s a in
     let known : AreKnown (decisions_in (journal hs) ++ decisions_in rest) l v.standings = λ c a. elim (has_cases (decisions_in (journal hs)) (decisions_in rest) c a) [
       | inl b ↦ known_still (decisions_in (journal hs)) k l ss v.standings d.sweep.next rest v.next fair.grows so.stand says fair.left so.known c b
       | inr b ↦ known_new k l ss v.standings d.sweep.next rest v.next so.stand says fair.left (λ e i. device_of d.sweep.judge w.rulings l e (λ r z. (w.placed r z).device) (subst (λ (ds : List Decision). Has ds e) w.told i)) c b
@@ -332,25 +346,25 @@ one_more policy first hs h law so =
         added = so.written.added ++ w.added;
         log = w.log_is ∙ ap (λ (es : List Effect). es ++ w.added) so.written.log ∙ append_assoc first.log so.written.added w.added;
         each = λ e a. subst (λ (es : List Entry). WasWritten [] es l e) (sym whole) (elim (has_cases so.written.added w.added e a) [
-          | inl b ↦ written_more [] (journal hs) (framed x rest y) l e (written_stays [] (journal hs) k l e fair.grows (so.written.each e b))
-          | inr b ↦ written_lifted (journal hs) ss (framed x rest y) l e so.agree (written_framed d.event moment ss rest y l e (w.each e b))
+          | inl b ↦ written_more [] (journal hs) (framed x h.tried rest y) l e (written_stays [] (journal hs) k l e fair.grows (so.written.each e b))
+          | inr b ↦ written_lifted (journal hs) ss (framed x h.tried rest y) l e so.agree (written_framed d.event moment h.tried ss rest y l e (w.each e b))
         ]);
       };
       numbers = subst (λ (n : ℕ). Follow 1 (given_numbers (journal (hs ++ h ∷ []))) n) (sym next) (subst (λ (ds : List Decision). Follow 1 (numbers_on ds) v.next) (sym all) (subst (λ (ns : List ℕ). Follow 1 ns v.next) (sym (numbers_append (decisions_in (journal hs)) (decisions_in rest))) (follow_append 1 (given_numbers (journal hs)) (given_numbers rest) d.sweep.next v.next so.numbers w.numbers)));
-      agree = subst (λ (zs : List Standing). Agree [] (journal (hs ++ h ∷ [])) zs) (sym standings) (subst (λ (es : List Entry). Agree [] es v.standings) (sym whole) (lift_agree (journal hs) ss v.standings (framed x rest y) so.agree agreed));
+      agree = subst (λ (zs : List Standing). Agree [] (journal (hs ++ h ∷ [])) zs) (sym standings) (subst (λ (es : List Entry). Agree [] es v.standings) (sym whole) (lift_agree (journal hs) ss v.standings (framed x h.tried rest y) so.agree agreed));
       listed = ap (λ (z : State Judging). z.listed) law.entries
           ∙ listed_after rest d.sweep.listed v.listed law.law.listed
-          ∙ ap (λ (b : Bool). not b || d.sweep.listed) (sym (ap (λ (es : List Entry). list_any tells_unlisted es) entries ∙ any_append rest (y ∷ []) refl))
+          ∙ ap (λ (b : Bool). not b || d.sweep.listed) (sym (ap (λ (es : List Entry). list_any tells_unlisted es) entries ∙ saved_listings h.tried (rest ++ y ∷ []) ∙ any_append rest (y ∷ []) refl))
           ∙ ap (λ (b : Bool). not (list_any tells_unlisted h.after.sweep.entries) || b) so.listed
           ∙ sym (listed_append hs h);
       known = subst (λ (zs : List Standing). AreKnown (decisions_in (journal (hs ++ h ∷ []))) l zs) (sym standings) (subst (λ (ds : List Decision). AreKnown ds l v.standings) (sym all) known);
     }
 
-pub along : (policy : Judging) (first : Kernel) (done hs : List Happened) (k : Kernel) (d : DaemonState) (l : Kernel) (e : DaemonState) → Chain k d hs l e → SoFar policy first k done d → SoFar policy first l (done ++ hs) e
-along policy first done [] k d l e c so = subst (λ (x : DaemonState). SoFar policy first l (done ++ []) x) (sym c.1) (subst (λ (x : List Happened). SoFar policy first l x d) (sym (append-nil done)) (moved policy first k l done d c.0 so))
-along policy first done (h ∷ hs) k d l e c so =
-    let start = subst (λ (x : DaemonState). SoFar policy first h.kernel done x) (sym c.1) (moved policy first k h.kernel done d c.0 so) in
-    subst (λ (x : List Happened). SoFar policy first l x e) (append_assoc done (h ∷ []) hs) (along policy first (done ++ h ∷ []) hs h.kernel_after h.after l e c.3 (one_more policy first done h c.2 start))
+pub along : (policy : Judging) (first : Kernel) (done hs : List Happened) (k : Kernel) (o : Option Disk) (d : DaemonState) (l : Kernel) (p : Option Disk) (e : DaemonState) → Chain k o d hs l p e → SoFar policy first k done d → SoFar policy first l (done ++ hs) e
+along policy first done [] k o d l p e c so = subst (λ (x : DaemonState). SoFar policy first l (done ++ []) x) (sym c.2) (subst (λ (x : List Happened). SoFar policy first l x d) (sym (append-nil done)) (moved policy first k l done d c.0 so))
+along policy first done (h ∷ hs) k o d l p e c so =
+    let start = subst (λ (x : DaemonState). SoFar policy first h.kernel done x) (sym c.2) (moved policy first k h.kernel done d c.0 so) in
+    subst (λ (x : List Happened). SoFar policy first l x e) (append_assoc done (h ∷ []) hs) (along policy first (done ++ h ∷ []) hs h.kernel_after h.disk_after h.after l p e c.4 (one_more policy first done h c.3.handled start))
 
 pub started_so : (policy : Judging) (number : ℕ) (k : Kernel) (d : DaemonState) → IsStarted policy number d → SoFar policy k k [] d
 started_so policy number k d s =
@@ -422,8 +436,8 @@ judged_once policy first k hs e so i d live a =
       once = only_number (journal hs) k e.sweep.standings e.sweep.next i d s so.stand so.known live a.standing.has a.standing.file;
     }
 
-pub run_of : (policy : Judging) (first k : Kernel) (hs : List Happened) (e : DaemonState) → SoFar policy first k hs e → IsRun policy first hs k e
-run_of policy first k hs e so = record {
+pub run_of : (policy : Judging) (first k : Kernel) (o : Option Disk) (hs : List Happened) (p : Option Disk) (e : DaemonState) → SoFar policy first k hs e → IsKeptThroughout policy.rules o hs p e.sweep.judge.rules → IsRun policy first o hs k p e
+run_of policy first k o hs p e so file = record {
   rulings = so.rulings;
   told = so.told;
   placed = so.placed;
@@ -432,17 +446,20 @@ run_of policy first k hs e so = record {
   agree = so.agree;
   listed = so.listed;
   once = judged_once policy first k hs e so;
+  file = file;
 }
 
-pub is_run : (policy : Judging) (number : ℕ) (first : Kernel) (d : DaemonState) (hs : List Happened) (k : Kernel) (e : DaemonState) → IsStarted policy number d → Chain first d hs k e → IsRun policy first hs k e
-is_run policy number first d hs k e s c = run_of policy first k hs e (along policy first [] hs first d k e c (started_so policy number first d s))
+pub is_run : (policy : Judging) (number : ℕ) (first : Kernel) (o : Option Disk) (d : DaemonState) (hs : List Happened) (k : Kernel) (p : Option Disk) (e : DaemonState) → IsStarted policy number d → Chain first o d hs k p e → IsRun policy first o hs k p e
+is_run policy number first o d hs k p e s c =
+    run_of policy first k o hs p e (along policy first [] hs first o d k p e c (started_so policy number first d s))
+    (subst (λ (j : Judging). IsKeptThroughout j.rules o hs p e.sweep.judge.rules) s.judge (kept_along first o d hs k p e c))
 
 -- a chain, and one event more
-pub chain_more : (k : Kernel) (d : DaemonState) (hs : List Happened) (l : Kernel) (e : DaemonState) (h : Happened) → Chain k d hs l e → Moves l h.kernel → h.before ≡ e → Handled (moment_of h.event) h.kernel h.before h.kernel_after h.after → Chain k d (hs ++ h ∷ []) h.kernel_after h.after
-chain_more k d [] l e h c moves before law = (moves_then k l h.kernel c.0 moves, before ∙ c.1, law, (unmoving h.kernel_after, refl))
-chain_more k d (g ∷ hs) l e h c moves before law = (c.0, c.1, c.2, chain_more g.kernel_after g.after hs l e h c.3 moves before law)
+pub chain_more : (k : Kernel) (o : Option Disk) (d : DaemonState) (hs : List Happened) (l : Kernel) (p : Option Disk) (e : DaemonState) (h : Happened) → Chain k o d hs l p e → Moves l h.kernel → StaysOnDisk p h.disk → h.before ≡ e → IsEvent h → Chain k o d (hs ++ h ∷ []) h.kernel_after h.disk_after h.after
+chain_more k o d [] l p e h c moves stays before law = (moves_then k l h.kernel c.0 moves, stays_then o p h.disk c.1 stays, before ∙ c.2, law, (unmoving h.kernel_after, stays_there h.disk_after, refl))
+chain_more k o d (g ∷ hs) l p e h c moves stays before law = (c.0, c.1, c.2, c.3, chain_more g.kernel_after g.disk_after g.after hs l p e h c.4 moves stays before law)
 
--- and the kernel moves on
-pub chain_moves : (k : Kernel) (d : DaemonState) (hs : List Happened) (l m : Kernel) (e : DaemonState) → Chain k d hs l e → Moves l m → Chain k d hs m e
-chain_moves k d [] l m e c moves = (moves_then k l m c.0 moves, c.1)
-chain_moves k d (g ∷ hs) l m e c moves = (c.0, c.1, c.2, chain_moves g.kernel_after g.after hs l m e c.3 moves)
+-- and the kernel moves on, while the disk stays
+pub chain_moves : (k : Kernel) (o : Option Disk) (d : DaemonState) (hs : List Happened) (l m : Kernel) (p q : Option Disk) (e : DaemonState) → Chain k o d hs l p e → Moves l m → StaysOnDisk p q → Chain k o d hs m q e
+chain_moves k o d [] l m p q e c moves stays = (moves_then k l m c.0 moves, stays_then o p q c.1 stays, c.2)
+chain_moves k o d (g ∷ hs) l m p q e c moves stays = (c.0, c.1, c.2, c.3, chain_moves g.kernel_after g.disk_after g.after hs l m p q e c.4 moves stays)

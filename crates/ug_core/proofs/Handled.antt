@@ -1,19 +1,33 @@
 -- From the law of a sweep to that of an event.
-use Rattle.std.proofs.Common.{◌≡◌, ◌+◌, List, [], ◌∷◌, ◌++◌, subst}
+use Rattle.std.proofs.Common.{◌≡◌, ℕ, ◌+◌, List, [], ◌∷◌, ◌++◌, Option, Some, None, refl, subst}
+use Rattle.ug_types.specs.declared.saved.Saved.{Saved}
 use Rattle.ug_types.specs.declared.verdict.Moment.{Moment}
 use Rattle.ug_kernel.specs.Kernel.{Kernel}
 use Rattle.ug_audit.specs.declared.entry.Entry.{Entry}
 use Rattle.ug_audit.specs.declared.entry.Entry.TheVariants as entry
+use Rattle.ug_table.specs.Parts.{failures_told, unsettled_names}
 use Rattle.ug_table.specs.State.{State}
 use Rattle.ug_table.specs.Laws.{Swept}
-use Rattle.ug_core.specs.Policy.{Judging, context_at, policy_answer, policy_later}
-use Rattle.ug_core.specs.Event.{DaemonState}
+use Rattle.ug_core.specs.Policy.{Judging, policy_answer, policy_later}
+use Rattle.ug_core.specs.Event.{DaemonState, saved_entries}
 use Rattle.ug_core.specs.Laws.{Handled}
 
-pub handled : (moment : Moment) (d : DaemonState) (k l : Kernel) (v : State Judging) (es : List Entry) (j : Judging) (e : DaemonState) → es ≡ entry.Event d.event moment ∷ [] → j ≡ record d.sweep.judge { ctx = context_at d.sweep.judge.clock moment } → Swept policy_answer policy_later k (record d.sweep { judge = j; entries = es }) l v → e.sweep ≡ record v { entries = v.entries ++ entry.End d.event ∷ [] } → e.event ≡ d.event + 1 → Handled moment k d l e
-handled moment d k l v es j e first told law last number = record {
+pub handled : (d : DaemonState) (k l : Kernel) (v : State Judging) (es : List Entry) (e : DaemonState) → es ≡ d.sweep.entries → Swept policy_answer policy_later k (record d.sweep { entries = es }) l v → e.sweep ≡ record v { entries = v.entries ++ entry.End d.event ∷ [] } → e.access ≡ d.access → e.pending ≡ d.pending → e.event ≡ d.event + 1 → Handled k d l e
+handled d k l v es e first law last access pending number = record {
   swept = v;
-  law = subst (λ (y : Judging). Swept policy_answer policy_later k (record d.sweep { judge = y; entries = entry.Event d.event moment ∷ [] }) l v) told (subst (λ (x : List Entry). Swept policy_answer policy_later k (record d.sweep { judge = j; entries = x }) l v) first law);
+  law = subst (λ (x : List Entry). Swept policy_answer policy_later k (record d.sweep { entries = x }) l v) first law;
   entries = last;
+  access = access;
+  pending = pending;
   event = number;
 }
+
+-- what is noted before the sweep tells no failed call and no name
+
+pub start_quiet : (number : ℕ) (moment : Moment) (tried : Option Saved) → failures_told (entry.Event number moment ∷ saved_entries tried) ≡ []
+start_quiet number moment None = refl
+start_quiet number moment (Some saved) = refl
+
+pub start_nameless : (number : ℕ) (moment : Moment) (tried : Option Saved) → unsettled_names (entry.Event number moment ∷ saved_entries tried) ≡ []
+start_nameless number moment None = refl
+start_nameless number moment (Some saved) = refl

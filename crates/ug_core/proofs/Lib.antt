@@ -4,4 +4,10 @@ pub mod Verdicts
 pub mod InForce
 pub mod Walk
 pub mod Known
+pub mod Plain
+pub mod Noted
+pub mod Kept
 pub mod Chained
+pub mod Numbering
+pub mod Readable
+pub mod Started

@@ -42,7 +42,7 @@ given_noted : (moment : Moment) (es : List RuleEntry) → as_given (noted_first 
 given_noted moment [] = refl
 given_noted moment (e ∷ es) = refl
 
-given_judged : (dev : DeviceRecord) (moment : Moment) (f : Found) → as_given (rules_judged dev moment f) ≡ as_given (f.before ++ f.rest)
+pub given_judged : (dev : DeviceRecord) (moment : Moment) (f : Found) → as_given (rules_judged dev moment f) ≡ as_given (f.before ++ f.rest)
 given_judged dev moment f =
     given_append (map (seen dev moment) f.before) (noted_first moment f.rest)
     ∙ ap (λ (v : List RuleEntry). v ++ as_given (noted_first moment f.rest)) (given_seen dev moment f.before)

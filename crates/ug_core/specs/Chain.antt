@@ -1,8 +1,9 @@
 -- A run of the daemon from its start: a chain of events, each from the state that the one before left.
-use Rattle.std.specs.Prelude.{◌≡◌, ℕ, Bool, true, false, not, is_none, ◌||◌, List, [], ◌∷◌, ◌++◌, Some}
+use Rattle.std.specs.Prelude.{◌≡◌, ℕ, Bool, true, false, not, is_none, ◌||◌, List, [], ◌∷◌, ◌++◌, Option, Some}
 use Rattle.std.specs.List.{list_any}
 use Rattle.ug_types.specs.Elements.{Has}
 use Rattle.ug_types.specs.Names.{parent_of}
+use Rattle.ug_types.specs.declared.saved.Saved.{Saved}
 use Rattle.ug_types.specs.declared.verdict.Target.{Target}
 use Rattle.ug_types.specs.declared.verdict.Cause.{Cause}
 use Rattle.ug_kernel.specs.declared.device.Device.{Device}
@@ -11,30 +12,50 @@ use Rattle.ug_kernel.specs.declared.calls.Wrote.{Wrote}
 use Rattle.ug_kernel.specs.Kernel.{Kernel, Live, Moves}
 use Rattle.ug_audit.specs.declared.entry.Entry.{Entry}
 use Rattle.ug_audit.specs.declared.entry.Entry.TheVariants as entry
+use Rattle.ug_policy.specs.declared.entry.RuleEntry.{RuleEntry}
+use Rattle.ug_store.specs.Disk.{Disk, IsAsItWas}
 use Rattle.ug_table.specs.Allowed.{allowed_records}
 use Rattle.ug_table.specs.Bring.{CallsFor}
 use Rattle.ug_table.specs.Laws.{IsDevice, IsProbed, Stand, AreLeft, AreMarkedIn, swept_before, MayHave, wrote_entries, IsJudged, IsAsJudged}
 use Rattle.ug_table.specs.declared.standing.Standing.{Standing}
 use Rattle.ug_core.specs.Policy.{Judging}
 use Rattle.ug_core.specs.Verdicts.{IsVerdict}
-use Rattle.ug_core.specs.Event.{DaemonState, IsStarted, moment_of}
+use Rattle.ug_core.specs.Durable.{IsKept, unsure_after, KeepsRules, KeepsFile}
+use Rattle.ug_core.specs.Event.{DaemonState, IsStarted, moment_of, ready, saved_entries}
 use Rattle.ug_core.specs.InForce.{Decision, decision_of, decisions_in, in_force, Agree, given_numbers, Follow}
 use Rattle.ug_core.specs.Laws.{Handled}
 use Rattle.ug_core.specs.Rulings.{Ruling, at_moment, after_rulings, decisions_by}
 use Rattle.ug_core.specs.declared.daemon.Event.{Event}
 
--- an event that was handled, with the daemon and the kernel before it and after it
+-- an event that was handled, with what was there before it and after it, and what became of a pending save. The disk is there where
+-- it was told.
 pub record Happened : Type 0 where
   pub event : Event
+  pub tried : Option Saved
   pub kernel : Kernel
+  pub disk : Option Disk
   pub before : DaemonState
   pub kernel_after : Kernel
+  pub disk_after : Option Disk
   pub after : DaemonState
 
--- between two events the kernel moves by itself, and the daemon stays as it is
-abbrev pub Chain : Kernel → DaemonState → List Happened → Kernel → DaemonState → Type 0
-Chain k d [] l e = Moves k l × (e ≡ d)
-Chain k d (h ∷ hs) l e = Moves k h.kernel × (h.before ≡ d) × Handled (moment_of h.event) h.kernel h.before h.kernel_after h.after × Chain h.kernel_after h.after hs l e
+-- what its sweep began with
+abbrev pub ready_of : Happened → DaemonState
+ready_of h = ready (moment_of h.event) h.tried h.before
+
+-- the laws of one event
+pub record IsEvent (h : Happened) : Type 0 where
+  pub handled : Handled h.kernel (ready_of h) h.kernel_after h.after
+  pub file : KeepsFile (λ (o : Option Disk). o) h.disk h.before h.disk_after h.after
+
+-- where a disk is told, one was told before, and is as it was
+abbrev pub StaysOnDisk : Option Disk → Option Disk → Type 0
+StaysOnDisk o p = (n : Disk) → p ≡ Some n → (m : Disk) × (o ≡ Some m) × IsAsItWas m n
+
+-- between two events the kernel moves by itself, and the files and the daemon stay as they are
+abbrev pub Chain : Kernel → Option Disk → DaemonState → List Happened → Kernel → Option Disk → DaemonState → Type 0
+Chain k o d [] l p e = Moves k l × StaysOnDisk o p × (e ≡ d)
+Chain k o d (h ∷ hs) l p e = Moves k h.kernel × StaysOnDisk o h.disk × (h.before ≡ d) × IsEvent h × Chain h.kernel_after h.disk_after h.after hs l p e
 
 -- all entries of a run
 abbrev pub journal : List Happened → List Entry
@@ -64,7 +85,7 @@ pub record IsPlaced (hs : List Happened) (k : Kernel) (r : Ruling) : Type 0 wher
   pub back : List Entry
   pub verdict : Target
   pub cause : Cause
-  pub in_event : event.after.sweep.entries ≡ entry.Event event.before.event (moment_of event.event) ∷ (front ++ entry.Judged r.number r.name r.held verdict cause ∷ back)
+  pub in_event : event.after.sweep.entries ≡ entry.Event event.before.event (moment_of event.event) ∷ (saved_entries event.tried ++ (front ++ entry.Judged r.number r.name r.held verdict cause ∷ back))
   pub moment : r.moment ≡ moment_of event.event
   pub present : r.present ≡ not (has_listed earlier)
   pub device : IsDevice k r.device r.name r.held r.judged
@@ -111,10 +132,33 @@ pub record IsJudgedOnce (policy : Judging) (hs : List Happened) (rulings : List 
   pub judged : WasJudged policy hs rulings k i (decision_of stands.standing.s)
   pub once : (number : ℕ) → IsJudged k (journal hs) number i → number ≡ stands.standing.s.number
 
+-- the texts that aren't sure after these events
+abbrev pub unsure_of : List (List ℕ) → List Happened → List (List ℕ)
+unsure_of unsure [] = unsure
+unsure_of unsure (h ∷ hs) = unsure_of (unsure_after unsure h.after.sweep.entries) hs
+
+-- the disk was told before the event and after it, and at each moment of it the rule file was kept
+pub record KeptIn (unsure : List (List ℕ)) (h : Happened) : Type 0 where
+  pub disk : Disk
+  pub told : h.disk ≡ Some disk
+  pub disk_after : Disk
+  pub told_after : h.disk_after ≡ Some disk_after
+  pub kept : KeepsRules h.before unsure disk h.after disk_after
+
+-- in each event
+abbrev pub EachKept : List (List ℕ) → List Happened → Type 0
+EachKept unsure [] = Unit {0}
+EachKept unsure (h ∷ hs) = KeptIn unsure h × EachKept (unsure_after unsure h.after.sweep.entries) hs
+
+-- Where a disk is told at the end, one was told at the start. Where a crash then left no text but that of the rules, or one of those that
+-- aren't sure, it is so at each moment since; and each save that is done makes sure.
+abbrev pub IsKeptThroughout : List RuleEntry → Option Disk → List Happened → Option Disk → List RuleEntry → Type 0
+IsKeptThroughout rules o hs p later = (n : Disk) → p ≡ Some n → (m : Disk) × (o ≡ Some m) × ((unsure : List (List ℕ)) → IsKept rules unsure m.left → EachKept unsure hs × IsKept later (unsure_of unsure hs) n.left)
+
 -- What holds of any run from a start with that policy. Its `judged` entries tell the decisions of rulings, each at its place, and each
 -- by the policy as those before it left it. Each effect is explained. Each new device got the next number; each standing has the
--- verdict in force; and a device that still lives and stands as judged was judged once.
-pub record IsRun (policy : Judging) (first : Kernel) (hs : List Happened) (k : Kernel) (e : DaemonState) : Type 0 where
+-- verdict in force; and a device that still lives and stands as judged was judged once. The rule file is kept.
+pub record IsRun (policy : Judging) (first : Kernel) (o : Option Disk) (hs : List Happened) (k : Kernel) (p : Option Disk) (e : DaemonState) : Type 0 where
   pub rulings : List Ruling
   pub told : decisions_in (journal hs) ≡ decisions_by policy rulings
   pub placed : (r : Ruling) → Has rulings r → IsPlaced hs k r
@@ -123,6 +167,7 @@ pub record IsRun (policy : Judging) (first : Kernel) (hs : List Happened) (k : K
   pub agree : Agree [] (journal hs) e.sweep.standings
   pub listed : e.sweep.listed ≡ has_listed hs
   pub once : (i : ℕ) (d : Device) → Live k.devices i d → IsAsJudged k e.sweep.standings i → IsJudgedOnce policy hs rulings k e.sweep.standings i
+  pub file : IsKeptThroughout policy.rules o hs p e.sweep.judge.rules
 
 abbrev pub AreRuns : Type 0
-AreRuns = (policy : Judging) (number : ℕ) (first : Kernel) (d : DaemonState) (hs : List Happened) (k : Kernel) (e : DaemonState) → IsStarted policy number d → Chain first d hs k e → IsRun policy first hs k e
+AreRuns = (policy : Judging) (number : ℕ) (first : Kernel) (o : Option Disk) (d : DaemonState) (hs : List Happened) (k : Kernel) (p : Option Disk) (e : DaemonState) → IsStarted policy number d → Chain first o d hs k p e → IsRun policy first o hs k p e

@@ -1,69 +1,93 @@
--- An event of the daemon: its first entry, the sweep, and its last.
-use Rattle.std.specs.Prelude.{◌≡◌, false, ℕ, ◌+◌, ◌-◌, ◌^◌, Bool, ◌&&◌, nat_le, nat_lt, [], ◌∷◌, ◌++◌, length}
+-- An event of the daemon, in stages, each of which is on one object: a pending save, and the sweep.
+use Rattle.std.specs.Prelude.{◌≡◌, ℕ, ◌+◌, ◌-◌, ◌^◌, Bool, true, false, ◌&&◌, nat_le, nat_lt, List, [], ◌∷◌, ◌++◌, Option, Some, None}
 use Rattle.rand_core.specs.declared.Rng.{Ghosts}
-use Rattle.rand_core.specs.Stream.{Stream}
-use Rattle.ug_types.specs.declared.rule.Rule.{Rule}
+use Rattle.ug_types.specs.declared.saved.Saved.{Saved}
+use Rattle.ug_types.specs.declared.saved.Saved.TheVariants as saved
 use Rattle.ug_types.specs.declared.verdict.Moment.{Moment}
 use Rattle.ug_kernel.specs.Calls.{Call, Answer}
 use Rattle.ug_kernel.specs.Tree.{Prog, Return, Runs, then}
+use Rattle.ug_acl.specs.Acls.{Addition}
+use Rattle.ug_audit.specs.Noting.{NotesEntries, without_drops}
+use Rattle.ug_audit.specs.Panels.{Member}
+use Rattle.ug_audit.specs.declared.entry.Entry.{Entry}
 use Rattle.ug_audit.specs.declared.entry.Entry.TheVariants as entry
-use Rattle.ug_policy.specs.Edits.{new_entry}
+use Rattle.ug_policy.specs.declared.entry.RuleEntry.{RuleEntry}
+use Rattle.ug_store.specs.Store.{DiskProg, Ended, DiskRoom, then_disk, saving, pending_after}
 use Rattle.ug_table.specs.State.{State}
 use Rattle.ug_table.specs.Sweep.{sweeping}
 use Rattle.ug_core.specs.Policy.{Judging, judging_of, context_at, policy_answer, policy_later}
-use Rattle.ug_core.specs.declared.classes.Classes.{Classes}
+use Rattle.ug_core.specs.RuleFile.{permanent_text}
 use Rattle.ug_core.specs.declared.daemon.Daemon.{Daemon}
 use Rattle.ug_core.specs.declared.daemon.Event.{Event}
 use Rattle.ug_core.specs.declared.daemon.Event.TheVariants.{Sweep}
 
--- the standings and the judge, with the entries of the last event; and the number of the next event
+-- the standings and the judge, with the entries of the last event but for the `dropped` ones; who may do what; whether a save is
+-- pending; and the number of the next event
 pub record DaemonState : Type 0 where
   pub sweep : State Judging
+  pub access : List Addition
+  pub pending : Bool
   pub event : ℕ
 
 abbrev pub daemon_of : {R : Type 0} {g : Ghosts R} → Daemon R g → DaemonState
 daemon_of {g = g} d = record {
-  sweep = record { standings = d.table.standings; next = d.table.next; listed = d.table.listed; judge = judging_of g.stream d.policy; entries = d.report.entries.entries };
+  sweep = record { standings = d.table.standings; next = d.table.next; listed = d.table.listed; judge = judging_of g.stream d.policy; entries = without_drops d.report.entries.entries };
+  access = d.acl;
+  pending = d.store;
   event = d.next_event;
 }
 
--- a daemon with another judge
-abbrev with_judge : Judging → DaemonState → DaemonState
-with_judge judge d = record d { sweep = record d.sweep { judge = judge } }
+-- First stage, on the disk alone: a pending save is tried, with the text of the rules that aren't temporary.
+abbrev pub if_text : List RuleEntry → Bool → DiskProg (Option Saved)
+if_text rules true = then_disk (saving (permanent_text rules)) (λ saved. Ended (Some saved))
+if_text rules false = Ended (Some saved.Memory)
 
--- with one rule more behind the others
-abbrev pub with_rule : Rule → DaemonState → DaemonState
-with_rule rule d = with_judge (record d.sweep.judge {
-  rules = d.sweep.judge.rules ++ new_entry d.sweep.judge.next rule false ∷ [];
-  next = d.sweep.judge.next + 1;
-}) d
+abbrev pub saving_rules : List RuleEntry → DiskProg (Option Saved)
+saving_rules rules = DiskRoom (if_text rules)
 
--- with other settings
-abbrev pub with_classes : Classes → DaemonState → DaemonState
-with_classes classes d = with_judge (record d.sweep.judge { classes = classes }) d
+abbrev pub if_pending : List RuleEntry → Bool → DiskProg (Option Saved)
+if_pending rules true = saving_rules rules
+if_pending rules false = Ended None
 
--- with another clock
-abbrev pub with_clock : (ℕ → ℕ) → DaemonState → DaemonState
-with_clock clock d = with_judge (record d.sweep.judge { clock = clock }) d
+unfoldable pub trying : DaemonState → DiskProg (Option Saved)
+trying d = if_pending d.sweep.judge.rules d.pending
 
--- with other words to come
-abbrev pub with_words : Stream → DaemonState → DaemonState
-with_words words d = with_judge (record d.sweep.judge { stream = words }) d
+abbrev pub noting : Entry → DaemonState → DaemonState
+noting e d = record d { sweep = record d.sweep { entries = d.sweep.entries ++ e ∷ [] } }
 
--- there are fewer than 65,536 rules, and an id is left
-abbrev pub has_place : DaemonState → Bool
-has_place d = nat_lt (length d.sweep.judge.rules) 65536 && nat_lt d.sweep.judge.next (2 ^ 64 - 1)
+-- what is noted of it
+abbrev pub saved_entries : Option Saved → List Entry
+saved_entries None = []
+saved_entries (Some saved) = entry.Save saved ∷ []
+
+-- a save that was done is pending no more, and one that wanted memory is as it was
+abbrev pub pending_with : Option Saved → Bool → Bool
+pending_with None was = was
+pending_with (Some saved) was = pending_after saved was
 
 -- the judge is told the moment, and the first entry is noted
-abbrev pub begun : DaemonState → Moment → State Judging
-begun d moment = record d.sweep { judge = record d.sweep.judge { ctx = context_at d.sweep.judge.clock moment }; entries = entry.Event d.event moment ∷ [] }
+abbrev pub begun : Moment → DaemonState → DaemonState
+begun moment d = record d { sweep = record d.sweep { judge = record d.sweep.judge { ctx = context_at d.sweep.judge.clock moment }; entries = entry.Event d.event moment ∷ [] } }
 
+abbrev pub tried_with : Option Saved → DaemonState → DaemonState
+tried_with tried d = record d { sweep = record d.sweep { entries = d.sweep.entries ++ saved_entries tried }; pending = pending_with tried d.pending }
+
+-- what the sweep begins with
+abbrev pub ready : Moment → Option Saved → DaemonState → DaemonState
+ready moment tried d = tried_with tried (begun moment d)
+
+-- Second stage, on the kernel alone: the sweep, and the last entry.
 abbrev pub ended : DaemonState → State Judging → Prog DaemonState
-ended d v = Return (record { sweep = record v { entries = v.entries ++ entry.End d.event ∷ [] }; event = d.event + 1 })
+ended d v = Return (record d { sweep = record v { entries = v.entries ++ entry.End d.event ∷ [] }; event = d.event + 1 })
 
--- a sweep at a moment
-unfoldable pub handling : Moment → DaemonState → Prog DaemonState
-handling moment d = then (sweeping policy_answer policy_later (begun d moment)) (ended d)
+unfoldable pub handling : DaemonState → Prog DaemonState
+handling d = then (sweeping policy_answer policy_later d.sweep) (ended d)
+
+-- some entries more were noted by the members
+pub record NotesMore (before after : List Entry) (ms ns : List Member) : Type 0 where
+  pub added : List Entry
+  pub all : after ≡ before ++ added
+  pub noted : NotesEntries added ms ns
 
 -- numbers up to this one leave room for an event
 abbrev pub is_low : ℕ → Bool
@@ -77,15 +101,16 @@ has_numbers d sysfs_faults disk_faults =
 abbrev pub moment_of : Event → Moment
 moment_of (Sweep moment) = moment
 
--- a run of an event begins with the numbering of its calls
-abbrev pub RunsEvent : {S : Type 0} → (S → S → Type 0) → (S → (call : Call) → Answer call → S → Type 0) → S → Moment → DaemonState → S → DaemonState → Type 0
-RunsEvent {S} begins gives s moment d t e = (u : S) × begins s u × Runs gives u (handling moment d) e t
+-- a run of the second stage begins with the numbering of its calls
+abbrev pub RunsSweep : {S : Type 0} → (S → S → Type 0) → (S → (call : Call) → Answer call → S → Type 0) → S → DaemonState → S → DaemonState → Type 0
+RunsSweep {S} begins gives s d t e = (u : S) × begins s u × Runs gives u (handling d) e t
 
--- a new daemon judges by that policy, has no standing, and has noted nothing
+-- a new daemon judges by that policy, has no standing, has noted nothing, and no save is pending
 pub record IsStarted (policy : Judging) (first : ℕ) (d : DaemonState) : Type 0 where
   pub judge : d.sweep.judge ≡ policy
   pub standings : d.sweep.standings ≡ []
   pub next : d.sweep.next ≡ 1
   pub listed : d.sweep.listed ≡ false
   pub entries : d.sweep.entries ≡ []
+  pub pending : d.pending ≡ false
   pub event : d.event ≡ first

@@ -1,8 +1,11 @@
 pub mod Settings
+pub mod RuleFile
 pub mod Policy
 pub mod Verdicts
 pub mod Event
+pub mod Durable
 pub mod Laws
 pub mod InForce
 pub mod Rulings
 pub mod Chain
+pub mod Starting

@@ -43,7 +43,7 @@ pub record Judging : Type 0 where
 
 -- what a policy judges by, where its generator gives these words
 abbrev pub judging_of : {R : Type 0} → (R → Stream) → Policy R → Judging
-judging_of words p = record { classes = p.classes; rules = p.rules.entries; next = p.rules.next; clock = clock_of p.zone; ctx = p.ctx; stream = words p.rng }
+judging_of words p = record { classes = p.classes; rules = p.rules.list.entries; next = p.rules.list.next; clock = clock_of p.zone; ctx = p.ctx; stream = words p.rng }
 
 -- a moment, with its second of the local day; behind the last second that the calendar has, that one counts
 abbrev pub context_at : (ℕ → ℕ) → Moment → Context

@@ -1,21 +1,22 @@
 // The daemon's calls.
-ghost use Rattle.std.specs.Prelude.{◌≡◌, ◌≤◌, ◌<◌, ◌+◌, ◌-◌, ◌*◌, ◌^◌, [], IsTrue, length, IfOk, OnOk, OnErr};
+ghost use Rattle.std.specs.Prelude.{◌≡◌, ◌≤◌, ◌<◌, ◌+◌, ◌-◌, ◌*◌, ◌^◌, [], false, IsTrue, Some, length};
 ghost use Rattle.ug_kernel.specs.Tree.{Runs};
-ghost use Rattle.ug_core.specs.Event.{daemon_of, IsStarted, moment_of, RunsEvent, handling, has_numbers, has_place, is_low, with_classes, with_clock, with_rule, with_words};
-ghost use Rattle.ug_core.specs.Policy.{clock_of, judging_of};
-ghost use Rattle.ug_core.specs.Laws.{Handles, TellsEvent, NamesOnceIn};
+ghost use Rattle.ug_audit.specs.Journal.{live_in, members};
+ghost use Rattle.ug_audit.specs.Noting.{NotesEntries, tells_drop, without_drops};
+ghost use Rattle.ug_store.specs.Store.{RunsDisk, pending_after};
+ghost use Rattle.ug_table.specs.Parts.{failures_told, unsettled_names};
+ghost use Rattle.ug_core.specs.Event.{begun, daemon_of, handling, has_numbers, is_low, noting, NotesMore, RunsSweep, saving_rules, tried_with, trying};
+ghost use Rattle.ug_core.specs.Laws.{Handles, HandlesEvent, NamesOnceIn, TellsEvent, TellsTried};
 
-use crate::classes::Classes;
 use crate::daemon::{Daemon, Event};
-use crate::policy::Policy;
 use crate::report::Report;
-use jiff::tz::TimeZone;
 use rand_core::Rng;
 use std::alloc::Global;
-use ug_audit::{Entries, Entry, Journal};
+use ug_acl::Acl;
+use ug_audit::{Auditor, Entry, Journal, Panel};
 use ug_kernel::Sysfs;
-use ug_table::Table;
-use ug_types::{Moment, NoMemory, Rule};
+use ug_store::{RuleDisk, Saved};
+use ug_types::Moment;
 
 const LOW: u64 = u64::MAX - 4194304;
 
@@ -25,69 +26,7 @@ fn low(n: u64) -> bool
     n <= LOW
 }
 
-impl<'z, R: Rng + Drop> Daemon<'z, R> {
-    /// A daemon with that policy, whose first event has that number. It makes the room of an event's entries.
-    pub fn start(
-        alloc: Global,
-        policy: Policy<'z, R>,
-        first: u64,
-    ) -> Result<Daemon<'z, R>, NoMemory>
-        ensures started { IfOk result (λ d. IsStarted (judging_of R.stream policy.entry) first (daemon_of d)) }
-        ensures number { IfOk result (λ d. d.report.event ≡ 0) }
-    {
-        let mut entries = Entries::new(alloc);
-        entries.reserve(64)?;
-        Ok(Daemon {
-            policy,
-            table: Table::new(alloc),
-            next_event: first,
-            report: Report { event: 0, entries },
-        })
-    }
-
-    /// The words to come are those of that generator.
-    pub fn set_rng(&mut self, rng: R)
-        ensures daemon { daemon_of self.new ≡ with_words (R.stream rng) (daemon_of self.old) }
-        ensures report { self.new.report ≡ self.old.report }
-    {
-        self.policy.set_rng(rng);
-    }
-}
-
 impl<'z, R: Rng> Daemon<'z, R> {
-    /// Whether there are fewer than 65,536 rules and an id is left for one more.
-    pub fn has_place(&self) -> bool
-        ensures { result ≡ has_place (daemon_of self.now) }
-    {
-        self.policy.has_place()
-    }
-
-    /// Puts a rule behind the others, which is permanent and has no history. A refusal changes nothing.
-    pub fn append_rule(&mut self, rule: Rule) -> Result<(), NoMemory>
-        requires { IsTrue (has_place (daemon_of self.old)) }
-        ensures ok { OnOk result (daemon_of self.new ≡ with_rule rule (daemon_of self.old)) }
-        ensures err { OnErr result (daemon_of self.new ≡ daemon_of self.old) }
-        ensures report { self.new.report ≡ self.old.report }
-    {
-        self.policy.append(rule)
-    }
-
-    /// Verdicts go by these settings.
-    pub fn set_classes(&mut self, classes: Classes)
-        ensures daemon { daemon_of self.new ≡ with_classes classes (daemon_of self.old) }
-        ensures report { self.new.report ≡ self.old.report }
-    {
-        self.policy.set_classes(classes);
-    }
-
-    /// The clock is that of the zone.
-    pub fn set_zone(&mut self, zone: TimeZone<'z>)
-        ensures daemon { daemon_of self.new ≡ with_clock (clock_of zone.entry) (daemon_of self.old) }
-        ensures report { self.new.report ≡ self.old.report }
-    {
-        self.policy.set_zone(zone);
-    }
-
     /// Whether the next device number, the counts of faults and the event's number leave room for an event, and an id is left for
     /// one rule more.
     pub fn has_numbers(&self, sysfs_faults: u64, disk_faults: u64) -> bool
@@ -107,6 +46,13 @@ impl<'z, R: Rng> Daemon<'z, R> {
         self.next_event
     }
 
+    /// Who may do what.
+    pub fn acl(&self) -> &Acl
+        ensures { result.now ≡ (daemon_of self.now).access }
+    {
+        &self.acl
+    }
+
     /// What was noted of the last event.
     pub fn report(&self) -> &Report
         ensures { result.now ≡ self.now.report }
@@ -114,38 +60,152 @@ impl<'z, R: Rng> Daemon<'z, R> {
         &self.report
     }
 
-    /// Handles an event, whose entries are then the report's.
-    pub fn handle<Y: Sysfs>(&mut self, alloc: Global, event: &Event, sysfs: &mut Y)
-        requires { IsTrue (has_numbers (daemon_of self.old) (Y.faults sysfs.old) 0) }
-        ensures runs { RunsEvent Y.begins Y.gives sysfs.old (moment_of event.now) (daemon_of self.old) sysfs.new (daemon_of self.new) }
-        ensures law { Handles Y.told (moment_of event.now) sysfs.old (daemon_of self.old) sysfs.new (daemon_of self.new) }
-        ensures faults { TellsEvent Y.begins Y.gives Y.faults (moment_of event.now) sysfs.old (daemon_of self.old) sysfs.new (daemon_of self.new) }
-        ensures once { NamesOnceIn Y.told sysfs.old (daemon_of self.old) sysfs.new (daemon_of self.new) }
+    /// Handles an event, whose entries are then the report's. Each entry's line is given to the panel before what comes behind it
+    /// is done; an entry tells of each member that fails.
+    pub fn handle<Y: Sysfs, D: RuleDisk>(
+        &mut self,
+        alloc: Global,
+        event: &Event,
+        sysfs: &mut Y,
+        disk: &mut D,
+        panel: &mut Panel,
+    )
+        requires { IsTrue (has_numbers (daemon_of self.old) (Y.faults sysfs.old) (D.faults disk.old)) }
+        ensures handles { HandlesEvent Y.begins Y.gives Y.told Y.faults D.keeps D.told D.faults event.now
+            sysfs.old disk.old (daemon_of self.old) sysfs.new disk.new (daemon_of self.new) }
         ensures number { self.new.report.event ≡ self.old.next_event }
+        ensures noted { NotesEntries self.new.report.entries.entries
+            (members (λ b. ⟦<dyn Auditor as Auditor>⟧ b.vtable) panel.old)
+            (members (λ b. ⟦<dyn Auditor as Auditor>⟧ b.vtable) panel.new) }
+        ensures alone { live_in panel.old ≡ 0
+            → without_drops self.new.report.entries.entries ≡ self.new.report.entries.entries }
     {
         let Event::Sweep(moment) = event;
-        self.sweep(alloc, *moment, sysfs);
+        self.handle_sweep(alloc, *moment, sysfs, disk, panel);
     }
 
-    #[tactic(auto, unfolding(crate::specs::Event::handling), using(ug_kernel::proofs::Runs::runs_then))]
-    fn sweep<Y: Sysfs>(&mut self, alloc: Global, moment: Moment, sysfs: &mut Y)
-        requires { IsTrue (has_numbers (daemon_of self.old) (Y.faults sysfs.old) 0) }
-        ensures runs { RunsEvent Y.begins Y.gives sysfs.old moment (daemon_of self.old) sysfs.new (daemon_of self.new) }
-        ensures law { Handles Y.told moment sysfs.old (daemon_of self.old) sysfs.new (daemon_of self.new) }
-        ensures faults { TellsEvent Y.begins Y.gives Y.faults moment sysfs.old (daemon_of self.old) sysfs.new (daemon_of self.new) }
-        ensures once { NamesOnceIn Y.told sysfs.old (daemon_of self.old) sysfs.new (daemon_of self.new) }
+    // A sweep at that moment.
+    fn handle_sweep<Y: Sysfs, D: RuleDisk>(
+        &mut self,
+        alloc: Global,
+        moment: Moment,
+        sysfs: &mut Y,
+        disk: &mut D,
+        panel: &mut Panel,
+    )
+        requires { IsTrue (has_numbers (daemon_of self.old) (Y.faults sysfs.old) (D.faults disk.old)) }
+        ensures handles { HandlesEvent Y.begins Y.gives Y.told Y.faults D.keeps D.told D.faults (Event.Sweep moment)
+            sysfs.old disk.old (daemon_of self.old) sysfs.new disk.new (daemon_of self.new) }
         ensures number { self.new.report.event ≡ self.old.next_event }
+        ensures noted { NotesEntries self.new.report.entries.entries
+            (members (λ b. ⟦<dyn Auditor as Auditor>⟧ b.vtable) panel.old)
+            (members (λ b. ⟦<dyn Auditor as Auditor>⟧ b.vtable) panel.new) }
+        ensures alone { live_in panel.old ≡ 0
+            → without_drops self.new.report.entries.entries ≡ self.new.report.entries.entries }
+    {
+        self.begin(moment, panel);
+        let _tried = self.save_pending(alloc, disk, panel);
+        self.sweep(alloc, sysfs, panel);
+    }
+
+    // The first entry.
+    fn begin(&mut self, moment: Moment, panel: &mut Panel)
+        ensures daemon { daemon_of self.new ≡ begun moment (daemon_of self.old) }
+        ensures spare { 8 * length self.new.table.standings + 63 + live_in panel.new
+            ≤ self.new.report.entries.spare }
+        ensures number { self.new.report.event ≡ self.old.next_event }
+        ensures noted { NotesEntries self.new.report.entries.entries
+            (members (λ b. ⟦<dyn Auditor as Auditor>⟧ b.vtable) panel.old)
+            (members (λ b. ⟦<dyn Auditor as Auditor>⟧ b.vtable) panel.new) }
+    {
+        let number = self.next_event;
+        self.policy.set_moment(moment);
+        self.report.event = number;
+        self.report.entries.clear();
+        self.note(Entry::Event { number, moment }, panel);
+    }
+
+    // Notes an entry, for which there is room.
+    fn note(&mut self, entry: Entry, panel: &mut Panel)
+        requires place { live_in panel.old < self.old.report.entries.spare }
+        requires kind { tells_drop entry ≡ false }
+        ensures daemon { daemon_of self.new ≡ noting entry (daemon_of self.old) }
+        ensures spare { self.new.report.entries.spare + 1 + live_in panel.old
+            ≡ self.old.report.entries.spare + live_in panel.new }
+        ensures number { self.new.report.event ≡ self.old.report.event }
+        ensures noted { NotesMore self.old.report.entries.entries self.new.report.entries.entries
+            (members (λ b. ⟦<dyn Auditor as Auditor>⟧ b.vtable) panel.old)
+            (members (λ b. ⟦<dyn Auditor as Auditor>⟧ b.vtable) panel.new) }
+    {
+        let mut journal = Journal::join(panel, &mut self.report.entries);
+        journal.push(entry);
+    }
+
+    // A pending save is tried.
+    #[tactic(auto, unfolding(crate::specs::Event::trying))]
+    fn save_pending<D: RuleDisk>(
+        &mut self,
+        alloc: Global,
+        disk: &mut D,
+        panel: &mut Panel,
+    ) -> Option<Saved>
+        requires { live_in panel.old < self.old.report.entries.spare }
+        ensures runs { RunsDisk D.keeps disk.old (trying (daemon_of self.old)) result disk.new }
+        ensures counted { TellsTried result (D.faults disk.old) (D.faults disk.new) }
+        ensures daemon { daemon_of self.new ≡ tried_with result (daemon_of self.old) }
+        ensures spare { self.old.report.entries.spare + live_in panel.new
+            ≤ self.new.report.entries.spare + 1 + live_in panel.old }
+        ensures number { self.new.report.event ≡ self.old.report.event }
+        ensures noted { NotesMore self.old.report.entries.entries self.new.report.entries.entries
+            (members (λ b. ⟦<dyn Auditor as Auditor>⟧ b.vtable) panel.old)
+            (members (λ b. ⟦<dyn Auditor as Auditor>⟧ b.vtable) panel.new) }
+    {
+        if !self.store.pending() {
+            return None;
+        }
+        let saved = self.save(alloc, disk);
+        self.note(Entry::Save(saved), panel);
+        Some(saved)
+    }
+
+    // Saves the rules that aren't temporary.
+    #[tactic(auto, using(ug_store::proofs::DiskRuns::runs_then_disk))]
+    fn save<D: RuleDisk>(&mut self, alloc: Global, disk: &mut D) -> Saved
+        ensures runs { RunsDisk D.keeps disk.old (saving_rules (daemon_of self.old).sweep.judge.rules) (Some result) disk.new }
+        ensures counted { TellsTried (Some result) (D.faults disk.old) (D.faults disk.new) }
+        ensures daemon { daemon_of self.new ≡ record (daemon_of self.old) { pending = pending_after result (daemon_of self.old).pending } }
+        ensures report { self.new.report ≡ self.old.report }
+    {
+        match self.policy.rules_text(alloc) {
+            Ok(text) => self.store.save(alloc, disk, text.bytes()),
+            Err(_) => Saved::Memory,
+        }
+    }
+
+    // The sweep, and the last entry.
+    #[tactic(auto, unfolding(crate::specs::Event::handling), using(ug_kernel::proofs::Runs::runs_then))]
+    fn sweep<Y: Sysfs>(&mut self, alloc: Global, sysfs: &mut Y, panel: &mut Panel)
+        requires next { (daemon_of self.old).sweep.next + 65536 < 2 ^ 64 }
+        requires event { (daemon_of self.old).event + 1 < 2 ^ 64 }
+        requires spare { 8 * length self.old.table.standings + 62 + live_in panel.old
+            ≤ self.old.report.entries.spare }
+        requires quiet { failures_told (daemon_of self.old).sweep.entries ≡ [] }
+        requires nameless { unsettled_names (daemon_of self.old).sweep.entries ≡ [] }
+        ensures runs { RunsSweep Y.begins Y.gives sysfs.old (daemon_of self.old) sysfs.new (daemon_of self.new) }
+        ensures law { Handles Y.told sysfs.old (daemon_of self.old) sysfs.new (daemon_of self.new) }
+        ensures faults { TellsEvent Y.begins Y.gives Y.faults sysfs.old (daemon_of self.old) sysfs.new (daemon_of self.new) }
+        ensures once { NamesOnceIn Y.told sysfs.old (daemon_of self.old) sysfs.new (daemon_of self.new) }
+        ensures number { self.new.report.event ≡ self.old.report.event }
+        ensures noted { NotesMore self.old.report.entries.entries self.new.report.entries.entries
+            (members (λ b. ⟦<dyn Auditor as Auditor>⟧ b.vtable) panel.old)
+            (members (λ b. ⟦<dyn Auditor as Auditor>⟧ b.vtable) panel.new) }
     {
         let number = self.next_event;
         sysfs.begin();
-        self.policy.set_moment(moment);
-        self.report.entries.clear();
-        let mut journal = Journal::join(&mut self.report.entries);
-        journal.push(Entry::Event { number, moment });
+        let mut journal = Journal::join(panel, &mut self.report.entries);
         self.table
             .sweep(alloc, sysfs, &mut self.policy, &mut journal);
         journal.push(Entry::End { number });
-        self.report.event = number;
         self.next_event += 1;
     }
 }

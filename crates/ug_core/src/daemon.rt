@@ -4,6 +4,8 @@ ghost use Rattle.std.specs.Prelude.{◌≤◌, ◌+◌, ◌*◌, length};
 use crate::policy::Policy;
 use crate::report::Report;
 use rand_core::Rng;
+use ug_acl::Acl;
+use ug_store::Store;
 use ug_table::Table;
 use ug_types::Moment;
 
@@ -14,12 +16,14 @@ pub enum Event {
     Sweep(Moment),
 }
 
-/// The policy, the standings, and the report of the last event.
+/// The policy, the standings, the store of the rule file, who may do what, and the report of the last event.
 #[derive(Drop)]
 pub struct Daemon<'z, R: Rng> {
     pub(crate) policy: Policy<'z, R>,
     pub(crate) table: Table,
+    pub(crate) store: Store,
+    pub(crate) acl: Acl,
     pub(crate) next_event: u64,
     pub(crate) report: Report,
-    ghost room: { 8 * length table.standings + 64 ≤ report.entries.room },
+    ghost room: { 8 * length table.standings + 128 ≤ report.entries.room },
 }

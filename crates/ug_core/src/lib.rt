@@ -4,15 +4,20 @@
 mod calls;
 mod classes;
 mod daemon;
+mod kept_rules;
 mod laws;
+mod load;
 mod policy;
 mod report;
+mod rules;
+mod start;
+mod start_fault;
 #[cfg(test)]
 mod tests;
 
 pub use classes::Classes;
 pub use daemon::{Daemon, Event};
 pub use laws::{run_law, verdict_law};
-pub use policy::Policy;
 pub use report::Report;
+pub use start_fault::StartFault;
 pub use ug_audit::{Entries, Entry, Fault, line_of};

@@ -1,24 +1,28 @@
 // Verdicts by the rules and the daemon's settings.
-ghost use Rattle.std.specs.Prelude.{◌≡◌, ◌<◌, ◌+◌, ◌-◌, ◌^◌, ◌++◌, ◌∷◌, [], false, OnOk, OnErr, length, nat_lt, ◌&&◌};
+ghost use Rattle.std.specs.Prelude.{◌≡◌, ◌-◌, ◌^◌, All, IfOk, Ok, nat_lt};
 ghost use Rattle.ug_policy.specs.Deciding.{find_decider};
-ghost use Rattle.ug_policy.specs.Edits.{new_entry};
+ghost use Rattle.ug_rule.specs.Files.{file_read};
 ghost use Rattle.ug_table.specs.Allowed.{allowed_records};
 ghost use Rattle.ug_core.specs.Policy.{Judging, asks, by_class, clock_of, context_at, judging_of, policy_answer, policy_later, rules_if, stream_if};
+ghost use Rattle.ug_core.specs.RuleFile.{ReadsBack, permanent_rules, permanent_text, rules_in};
 
 use crate::classes::{Class, Classes, cause_for, keep};
+use crate::kept_rules::KeptRules;
 use jiff::tz::TimeZone;
 use rand_core::Rng;
+use std::alloc::Global;
 use ug_cond::{Allowed, Context, local_second};
 use ug_conf::Present;
 use ug_policy::RuleList;
+use ug_print::RulesTextFault;
 use ug_table::{Judge, Table};
-use ug_types::{After, Cause, DeviceRecord, Judged, Moment, NoMemory, Query, Rule, Target};
+use ug_types::{Cause, DeviceRecord, Judged, Moment, Query, Target, Text};
 
 /// The settings for classes of devices, the rules in order, the local time zone, when devices are judged, and the generator of random words.
 #[derive(Drop)]
 pub struct Policy<'z, R: Rng> {
     classes: Classes,
-    rules: RuleList,
+    rules: KeptRules,
     zone: TimeZone<'z>,
     ctx: Context,
     rng: R,
@@ -41,17 +45,17 @@ impl<'a> Allowed for AllowedIn<'a> {
 /// The verdict on a device whose descriptors can be read.
 fn judge<R: Rng>(
     classes: Classes,
-    rules: &mut RuleList,
+    rules: &mut KeptRules,
     rng: &mut R,
     ctx: &Context,
     device: &DeviceRecord,
     class: Class,
     table: &Table,
 ) -> (Target, Cause)
-    ensures answer { result ≡ by_class classes (find_decider device.now ctx.now (allowed_records table.now.standings) rules.old.entries (R.stream rng.old)) class.controller class.present class.on }
-    ensures rules { rules.new.entries ≡ rules_if (asks classes class.controller class.present) rules.old.entries (find_decider device.now ctx.now (allowed_records table.now.standings) rules.old.entries (R.stream rng.old)) device.now ctx.now.moment }
-    ensures next { rules.new.next ≡ rules.old.next }
-    ensures words { R.stream rng.new ≡ stream_if (asks classes class.controller class.present) (R.stream rng.old) (find_decider device.now ctx.now (allowed_records table.now.standings) rules.old.entries (R.stream rng.old)) device.now }
+    ensures answer { result ≡ by_class classes (find_decider device.now ctx.now (allowed_records table.now.standings) rules.old.list.entries (R.stream rng.old)) class.controller class.present class.on }
+    ensures rules { rules.new.list.entries ≡ rules_if (asks classes class.controller class.present) rules.old.list.entries (find_decider device.now ctx.now (allowed_records table.now.standings) rules.old.list.entries (R.stream rng.old)) device.now ctx.now.moment }
+    ensures next { rules.new.list.next ≡ rules.old.list.next }
+    ensures words { R.stream rng.new ≡ stream_if (asks classes class.controller class.present) (R.stream rng.old) (find_decider device.now ctx.now (allowed_records table.now.standings) rules.old.list.entries (R.stream rng.old)) device.now }
 {
     match classes.choice_for(class) {
         Present::Allow => (Target::Allow, cause_for(class.present)),
@@ -65,28 +69,15 @@ fn judge<R: Rng>(
     }
 }
 
-/// Puts a rule behind the others. There are fewer than 65,536, and an id is left.
-fn append(rules: &mut RuleList, rule: Rule) -> Result<(), NoMemory>
-    requires few { length rules.old.entries < 65536 }
-    requires left { rules.old.next < 2 ^ 64 - 1 }
-    ensures rules { OnOk result (rules.new.entries ≡ rules.old.entries ++ new_entry rules.old.next rule false ∷ []) }
-    ensures next { OnOk result (rules.new.next ≡ rules.old.next + 1) }
-    ensures err { OnErr result (rules.new.entries ≡ rules.old.entries) }
-    ensures err_next { OnErr result (rules.new.next ≡ rules.old.next) }
-{
-    rules.reserve()?;
-    let _id = rules.insert(After::End, rule, false);
-    Ok(())
-}
-
 impl<'z, R: Rng> Policy<'z, R> {
     /// These settings and rules, with the clock of that zone and the words of that generator.
-    pub fn new(classes: Classes, rules: RuleList, zone: TimeZone<'z>, rng: R) -> Policy<'z, R>
-        ensures { judging_of R.stream result ≡ record { classes = classes; rules = rules.entries; next = rules.next; clock = clock_of zone.entry; ctx = record { moment = record { 0 = 0 }; second = 0 }; stream = R.stream rng } }
+    pub fn new(classes: Classes, list: RuleList, zone: TimeZone<'z>, rng: R) -> Policy<'z, R>
+        requires { All ReadsBack (rules_in list.entries) }
+        ensures { judging_of R.stream result ≡ record { classes = classes; rules = list.entries; next = list.next; clock = clock_of zone.entry; ctx = record { moment = record { 0 = 0 }; second = 0 }; stream = R.stream rng } }
     {
         Policy {
             classes,
-            rules,
+            rules: KeptRules::new(list),
             zone,
             ctx: Context {
                 moment: Moment(0),
@@ -103,35 +94,12 @@ impl<'z, R: Rng> Policy<'z, R> {
         self.rules.next_id() < u64::MAX
     }
 
-    /// Whether there are fewer than 65,536 rules and an id is left for one more.
-    pub fn has_place(&self) -> bool
-        ensures { result ≡ (nat_lt (length (judging_of R.stream self.now).rules) 65536 && nat_lt (judging_of R.stream self.now).next (2 ^ 64 - 1)) }
+    /// The text of a rule file with the rules that aren't temporary, which reads as them again.
+    pub fn rules_text(&self, alloc: Global) -> Result<Text, RulesTextFault>
+        ensures text { IfOk result (λ text. text ≡ permanent_text (judging_of R.stream self.now).rules) }
+        ensures reads { IfOk result (λ text. file_read text ≡ Ok (permanent_rules (judging_of R.stream self.now).rules)) }
     {
-        self.rules.len() < 65536 && self.has_id()
-    }
-
-    /// Puts a rule behind the others, which is permanent and has no history. A refusal changes nothing.
-    pub fn append(&mut self, rule: Rule) -> Result<(), NoMemory>
-        requires few { length (judging_of R.stream self.old).rules < 65536 }
-        requires left { (judging_of R.stream self.old).next < 2 ^ 64 - 1 }
-        ensures ok { OnOk result (judging_of R.stream self.new ≡ record (judging_of R.stream self.old) { rules = (judging_of R.stream self.old).rules ++ new_entry (judging_of R.stream self.old).next rule false ∷ []; next = (judging_of R.stream self.old).next + 1 }) }
-        ensures err { OnErr result (judging_of R.stream self.new ≡ judging_of R.stream self.old) }
-    {
-        append(&mut self.rules, rule)
-    }
-
-    /// Verdicts go by these settings.
-    pub fn set_classes(&mut self, classes: Classes)
-        ensures { judging_of R.stream self.new ≡ record (judging_of R.stream self.old) { classes = classes } }
-    {
-        self.classes = classes;
-    }
-
-    /// The clock is that of the zone.
-    pub fn set_zone(&mut self, zone: TimeZone<'z>)
-        ensures { judging_of R.stream self.new ≡ record (judging_of R.stream self.old) { clock = clock_of zone.entry } }
-    {
-        self.zone = zone;
+        self.rules.text(alloc)
     }
 
     /// The next verdicts are given at that moment.
@@ -142,15 +110,6 @@ impl<'z, R: Rng> Policy<'z, R> {
             moment,
             second: local_second(&self.zone, moment),
         };
-    }
-}
-
-impl<'z, R: Rng + Drop> Policy<'z, R> {
-    /// The words to come are those of that generator.
-    pub fn set_rng(&mut self, rng: R)
-        ensures { judging_of R.stream self.new ≡ record (judging_of R.stream self.old) { stream = R.stream rng } }
-    {
-        self.rng = rng;
     }
 }
 

@@ -1,15 +1,17 @@
 // Events over a kernel in memory: the journal's lines of each.
-use crate::{Classes, Daemon, Event, Policy, line_of};
+use crate::{Daemon, Event, StartFault, line_of};
 use jiff::tz::TimeZone;
 use rand_chacha::ChaCha20Rng;
 use rand_core::SeedableRng;
 use std::alloc::Global;
 use std::process::Abort;
 use std::test::Fail;
+use ug_acl::Acl;
+use ug_audit::Panel;
 use ug_conf::default_settings;
-use ug_policy::RuleList;
+use ug_store::{MemDisk, Mishap, RuleDisk, Saved};
 use ug_sysfs::{NewDevice, SimKernel, Sysfs};
-use ug_types::{Id, List, Moment, NodeName, Op, Query, Rule, Target, Text, Values};
+use ug_types::{Moment, NodeName, Text};
 
 // A device descriptor alone: vendor 1050, product 11.
 const KEY: [u8; 18] = [
@@ -28,42 +30,49 @@ fn device(alloc: Global, name: &[u8], on: bool) -> Result<NewDevice, Fail> {
     })
 }
 
-fn rule(alloc: Global, target: Target, product: u16) -> Result<Rule, Fail> {
-    let id = Id {
-        vendor: Some(0x1050),
-        product: Some(product),
+// Settings by default, nobody may do anything, the clock of UTC, and a seed of zeros.
+fn start(
+    alloc: Global,
+    first: u64,
+    disk: &mut MemDisk,
+) -> Result<Daemon<'static, ChaCha20Rng>, StartFault> {
+    let Ok(settings) = default_settings(alloc) else {
+        return Err(StartFault::Memory);
     };
-    let items = List::from_vec(Vec::from_slice(alloc, &[id])?);
-    let op = Op::Equals;
-    Ok(Rule {
-        target,
-        query: Query {
-            id: Some(Values { op, items }),
-            serial: None,
-            name: None,
-            hash: None,
-            parent_hash: None,
-            via_port: None,
-            interface: None,
-            connect: None,
-            label: None,
-        },
-        conds: None,
-    })
-}
-
-// Settings by default, no rules, the clock of UTC, and a seed of zeros.
-fn start(alloc: Global, first: u64) -> Result<Daemon<'static, ChaCha20Rng>, Fail> {
-    let classes = Classes::of(&default_settings(alloc)?);
     let rng = ChaCha20Rng::from_seed([0; 32]);
-    let policy = Policy::new(classes, RuleList::new(alloc), TimeZone::UTC, rng);
-    Ok(Daemon::start(alloc, policy, first)?)
+    Daemon::start(
+        alloc,
+        settings,
+        Acl::new(alloc),
+        rng,
+        TimeZone::UTC,
+        first,
+        disk,
+    )
 }
 
-fn add(rt: &impl Abort, daemon: &mut Daemon<'static, ChaCha20Rng>, rule: Rule) -> Result<(), Fail> {
-    assert!(rt; daemon.has_place());
-    daemon.append_rule(rule)?;
-    Ok(())
+// A panel without members.
+fn nobody(alloc: Global) -> Panel {
+    Panel::new(Vec::new(alloc))
+}
+
+// Handles a sweep at that second.
+fn sweep_at(
+    rt: &impl Abort,
+    alloc: Global,
+    daemon: &mut Daemon<'static, ChaCha20Rng>,
+    second: u64,
+    kernel: &mut SimKernel,
+    disk: &mut MemDisk,
+) {
+    assert!(rt; daemon.has_numbers(kernel.faults(), disk.faults()));
+    daemon.handle(
+        alloc,
+        &Event::Sweep(Moment(second)),
+        kernel,
+        disk,
+        &mut nobody(alloc),
+    );
 }
 
 fn notes(daemon: &Daemon<'static, ChaCha20Rng>, lines: &[&[u8]]) -> bool {
@@ -81,12 +90,14 @@ fn keeps_a_hub_and_allows_by_a_rule(rt: HostRuntime) -> Result<(), Fail> {
     let mut kernel = SimKernel::new(alloc);
     kernel.plug(device(alloc, b"usb1", true)?)?;
     kernel.plug(device(alloc, b"1-1", false)?)?;
-    let mut daemon = start(alloc, 7)?;
-    add(&rt, &mut daemon, rule(alloc, Target::Block, 0x12)?)?;
-    add(&rt, &mut daemon, rule(alloc, Target::Allow, 0x11)?)?;
-    add(&rt, &mut daemon, rule(alloc, Target::Block, 0x11)?)?;
-    assert!(rt; daemon.has_numbers(kernel.faults(), 0));
-    daemon.handle(alloc, &Event::Sweep(Moment(1700000000)), &mut kernel);
+    let mut disk = MemDisk::with_text(
+        alloc,
+        b"# keys\nblock 1050:0012\nallow 1050:0011\n\nblock 1050:0011",
+    )?;
+    let Ok(mut daemon) = start(alloc, 7, &mut disk) else {
+        panic!(rt; "the daemon didn't start");
+    };
+    sweep_at(&rt, alloc, &mut daemon, 1700000000, &mut kernel, &mut disk);
     let lines: [&[u8]; 6] = [
         b"event 7 sweep 1700000000",
         b"judged 1 usb1 allow keep",
@@ -105,9 +116,11 @@ fn judges_anew_after_a_replug(rt: HostRuntime) -> Result<(), Fail> {
     let mut kernel = SimKernel::new(alloc);
     kernel.plug(device(alloc, b"usb1", false)?)?;
     kernel.plug(device(alloc, b"1-1", true)?)?;
-    let mut daemon = start(alloc, 1)?;
-    assert!(rt; daemon.has_numbers(kernel.faults(), 0));
-    daemon.handle(alloc, &Event::Sweep(Moment(5)), &mut kernel);
+    let mut disk = MemDisk::new(alloc);
+    let Ok(mut daemon) = start(alloc, 1, &mut disk) else {
+        panic!(rt; "the daemon didn't start");
+    };
+    sweep_at(&rt, alloc, &mut daemon, 5, &mut kernel, &mut disk);
     let blocked: [&[u8]; 6] = [
         b"event 1 sweep 5",
         b"judged 1 usb1 block keep",
@@ -119,8 +132,7 @@ fn judges_anew_after_a_replug(rt: HostRuntime) -> Result<(), Fail> {
     assert!(rt; notes(&daemon, &blocked));
     kernel.unplug(&NodeName::parse(b"1-1")?);
     kernel.plug(device(alloc, b"1-1", true)?)?;
-    assert!(rt; daemon.has_numbers(kernel.faults(), 0));
-    daemon.handle(alloc, &Event::Sweep(Moment(6)), &mut kernel);
+    sweep_at(&rt, alloc, &mut daemon, 6, &mut kernel, &mut disk);
     let anew: [&[u8]; 6] = [
         b"event 2 sweep 6",
         b"gone 2 1-1",
@@ -130,5 +142,42 @@ fn judges_anew_after_a_replug(rt: HostRuntime) -> Result<(), Fail> {
         b"end 2",
     ];
     assert!(rt; notes(&daemon, &anew));
+    Ok(())
+}
+
+#[test]
+fn tells_what_keeps_it_from_its_start(rt: HostRuntime) -> Result<(), Fail> {
+    let alloc = rt.alloc();
+    let mut disk = MemDisk::with_text(alloc, b"allow 1d6b:0002\nallow id\n")?;
+    let Err(StartFault::BadRules(bad)) = start(alloc, 1, &mut disk) else {
+        panic!(rt; "a bad line was taken");
+    };
+    assert_eq!(rt; bad.line, 2);
+    Ok(())
+}
+
+#[test]
+fn tries_a_pending_save_before_its_sweep(rt: HostRuntime) -> Result<(), Fail> {
+    let alloc = rt.alloc();
+    let mut kernel = SimKernel::new(alloc);
+    let mut disk = MemDisk::with_text(alloc, b"block   1050:0012 # no text of ours")?;
+    let Ok(mut daemon) = start(alloc, 1, &mut disk) else {
+        panic!(rt; "the daemon didn't start");
+    };
+    disk.fail(1, Mishap::NoEffect)?;
+    let saved = daemon.store.save(alloc, &mut disk, b"allow");
+    assert_eq!(rt; saved, Saved::Failed(1));
+    disk.begin();
+    sweep_at(&rt, alloc, &mut daemon, 5, &mut kernel, &mut disk);
+    let failed: [&[u8]; 3] = [b"event 1 sweep 5", b"save failed", b"end 1"];
+    assert!(rt; notes(&daemon, &failed));
+    disk.end_event();
+    sweep_at(&rt, alloc, &mut daemon, 6, &mut kernel, &mut disk);
+    let done: [&[u8]; 3] = [b"event 2 sweep 6", b"save done", b"end 2"];
+    assert!(rt; notes(&daemon, &done));
+    assert_eq!(rt; disk.text(), b"block id 1050:0012\n".as_slice());
+    sweep_at(&rt, alloc, &mut daemon, 7, &mut kernel, &mut disk);
+    let quiet: [&[u8]; 2] = [b"event 3 sweep 7", b"end 3"];
+    assert!(rt; notes(&daemon, &quiet));
     Ok(())
 }

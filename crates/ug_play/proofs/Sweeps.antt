@@ -1,8 +1,7 @@
 -- What a sweep tells of failed calls and of want of memory: it tells each, and no other.
 use Rattle.std.proofs.Common.{◌≡◌, ℕ, Bool, true, false, not, ◌&&◌, ◌||◌, List, [], ◌∷◌, ◌++◌, refl, sym, ◌∙◌, ap, subst}
-use Rattle.std.proofs.lemmas.Bool.{or_left, or_right}
 use Rattle.std.specs.List.{list_any}
-use Rattle.std.proofs.lemmas.Bool.{or_parts}
+use Rattle.std.proofs.lemmas.Bool.{or_left, or_parts, or_right}
 use Rattle.std.proofs.lemmas.List.Folds.{list_any-append}
 use Rattle.ug_table.proofs.Common.{in_sweep_order, Held, Made, failures, FailedCall, Entry, State, Answers, Laters, farewells, AreClosings, unlisted_files, failure_in, failures_told}
 use Rattle.ug_kernel.specs.Tree.{Prog, Return, Runs, then}

@@ -1,5 +1,5 @@
 -- An event as the world fixes it.
-use Rattle.std.proofs.Common.{◌≡◌, ℕ, ◌+◌, ◌++◌, true, false, List, [], ◌∷◌, Option, Some, ◌∙◌, ap, sym, subst, refl, inl, inr}
+use Rattle.std.proofs.Common.{◌≡◌, ℕ, ◌+◌, ◌++◌, Bool, true, false, List, [], ◌∷◌, Option, Some, None, ◌∙◌, ap, sym, subst, refl, inl, inr}
 use Rattle.std.proofs.lemmas.Bool.{both_ways}
 use Rattle.ug_types.specs.declared.verdict.Moment.{Moment}
 use Rattle.ug_sysfs.specs.World.{World, Gives, begun, over}
@@ -7,12 +7,19 @@ use Rattle.ug_kernel.specs.Tree.{Runs}
 use Rattle.ug_audit.specs.declared.entry.Entry.{Entry}
 use Rattle.ug_audit.specs.declared.entry.Entry.TheVariants as entry
 use Rattle.ug_table.specs.State.{State}
+use Rattle.ug_table.specs.Sweep.{sweeping}
 use Rattle.ug_play.specs.Play.{tells_memory, IsPlayed}
 use Rattle.ug_play.proofs.Sweeps.{event_played}
 use Rattle.ug_core.specs.Event as event
 use Rattle.ug_core.specs.declared.daemon.Event as daemon
 use Rattle.ug_core.specs.Policy.{Judging, policy_answer, policy_later}
-use Rattle.ug_core.specs.Event.{DaemonState, handling, moment_of, RunsEvent}
+use Rattle.ug_store.specs.DiskCalls.{DiskCall, DiskTold}
+use Rattle.ug_store.specs.Scripted.{DiskWorld}
+use Rattle.ug_store.specs.Store.{RunsDisk}
+use Rattle.ug_types.specs.declared.saved.Saved.{Saved}
+use Rattle.ug_kernel.specs.Tree.{Prog, Return, Ask, Room, then}
+use Rattle.ug_kernel.specs.Calls.{Call, Answer}
+use Rattle.ug_core.specs.Event.{DaemonState, handling, moment_of, ready, trying, if_pending, RunsSweep}
 use Rattle.std.specs.Io.KnownBytes.{Appends, Keeps}
 use Rattle.ug_types.specs.Ends.{Puts}
 use Rattle.ug_types.specs.declared.sink.Put.TheVariants.{Failed}
@@ -21,18 +28,42 @@ use Rattle.ug_console.specs.declared.machine.Ran.{Ran}
 use Rattle.ug_console.specs.declared.machine.Ran.TheVariants.{Done, Bad, TooLong, SinkFailed, Memory}
 use Rattle.ug_core.specs.declared.daemon.Event.TheVariants.{Sweep}
 use Rattle.ug_console.specs.Fold.{Outcome, Writes, Refused}
-use Rattle.ug_script.specs.Setup.{SetupState, policy_of, started}
-use Rattle.ug_script.specs.Replay.{Script, Phase, SettingUp, Unstarted, Started, lines_text, tells, has_started, fits_file, came_of, event_from, event_by, in_script, event_taken}
+use Rattle.ug_script.specs.Setup.{SetupState, policy_of, rules_disk, started}
+use Rattle.ug_script.specs.Replay.{Script, Phase, SettingUp, Unstarted, Started, lines_text, tells, has_started, disk_in, fits_file, came_of, event_from, event_by, in_script, event_taken}
 
-pub handling_played : (moment : Moment) (d : DaemonState) (w : World) (e : DaemonState) (t : World) → RunsEvent (λ (x y : World). y ≡ begun x) Gives w moment d t e → IsPlayed tells (handling moment d) (begun w) e t
+-- where no save is pending, nothing is asked of the disk
+none_by : {S : Type 0} (keeps : S → (call : DiskCall) → DiskTold call → S → Type 0) (o : S) (d : DaemonState) (pending : Bool) (tried : Option Saved) (p : S) → pending ≡ false → RunsDisk keeps o (if_pending d.sweep.judge.rules pending) tried p → (tried ≡ None) × (p ≡ o)
+none_by keeps o d false tried p e h = h
+none_by keeps o d true tried p e h = let none : ⊥ = cc in absurd none
+
+pub none_tried : {S : Type 0} (keeps : S → (call : DiskCall) → DiskTold call → S → Type 0) (o : S) (d : DaemonState) (tried : Option Saved) (p : S) → d.pending ≡ false → RunsDisk keeps o (trying d) tried p → (tried ≡ None) × (p ≡ o)
+unfolding trying
+none_tried keeps o d tried p e h = none_by keeps o d d.pending tried p e h
+
+-- a sweep doesn't change whether a save is pending
+
+ended_pending : {S : Type 0} (gives : S → (call : Call) → Answer call → S → Type 0) (p : Prog (State Judging)) (d : DaemonState) (s : S) (e : DaemonState) (t : S) → Runs gives s (then p (event.ended d)) e t → e.pending ≡ d.pending
+ended_pending gives (Return v) d s e t h = ap (λ (x : DaemonState). x.pending) h.0
+ended_pending gives (Ask call next) d s e t h = ended_pending gives (next h.0) d h.1 e t h.3
+ended_pending gives (Room next) d s e t h = ended_pending gives (next h.0) d s e t h.1
+
+pub handled_pending : {S : Type 0} (gives : S → (call : Call) → Answer call → S → Type 0) (d : DaemonState) (s : S) (e : DaemonState) (t : S) → Runs gives s (handling d) e t → e.pending ≡ d.pending
 unfolding handling
-handling_played moment d w e t h = from_begun h.0 h.1 h.2
+handled_pending gives d s e t h = ended_pending gives (sweeping policy_answer policy_later d.sweep) d s e t h
+
+pub handling_played : (d : DaemonState) (w : World) (e : DaemonState) (t : World) → RunsSweep (λ (x y : World). y ≡ begun x) Gives w d t e → IsPlayed tells (handling d) (begun w) e t
+unfolding handling
+handling_played d w e t h = from_begun h.0 h.1 h.2
   where
-    from_begun : (u : World) → u ≡ begun w → Runs Gives u (handling moment d) e t → IsPlayed tells (handling moment d) (begun w) e t
+    from_begun : (u : World) → u ≡ begun w → Runs Gives u (handling d) e t → IsPlayed tells (handling d) (begun w) e t
     from_begun u q r =
         let end : List Entry = entry.End d.event ∷ [] in
-        let made : State Judging → DaemonState = λ v. record { sweep = record v { entries = v.entries ++ end }; event = d.event + 1 } in
-        event_played policy_answer policy_later (event.begun d moment) (event.ended d) made (λ (x : DaemonState). x.sweep.entries) end (begun w) e t (λ v. refl) (λ v. refl) (subst (λ (x : World). Runs Gives x (handling moment d) e t) q r)
+        let made : State Judging → DaemonState = λ v. record d { sweep = record v { entries = v.entries ++ end }; event = d.event + 1 } in
+        event_played policy_answer policy_later d.sweep (event.ended d) made (λ (x : DaemonState). x.sweep.entries) end (begun w) e t (λ v. refl) (λ v. refl) (subst (λ (x : World). Runs Gives x (handling d) e t) q r)
+
+-- an event of a daemon without a pending save
+pub event_runs : (moment : Moment) (d : DaemonState) (tried : Option Saved) (w : World) (e : DaemonState) (t : World) → tried ≡ None → RunsSweep (λ (x y : World). y ≡ begun x) Gives w (ready moment tried d) t e → IsPlayed tells (handling (ready moment None d)) (begun w) e t
+event_runs moment d tried w e t none h = handling_played (ready moment None d) w e t (subst (λ (x : Option Saved). RunsSweep (λ (x y : World). y ≡ begun x) Gives w (ready moment x d) t e) none h)
 
 same_places : {d e : DaemonState} {t u : World} → d ≡ e → t ≡ u → ◌≡◌ {A = DaemonState × World} (d, over t) (e, over u)
 same_places {d} {e} {t} {u} p q = ap (λ (x : DaemonState). (x, over t)) p ∙ ap (λ (y : World). (e, over y)) q
@@ -45,7 +76,7 @@ came p e t before after TooLong u v c = c
 came p e t before after SinkFailed u v c = (same_places u v, subst (λ (x : DaemonState). Puts before after (lines_text x.sweep.entries) Failed) u c)
 came p e t before after Memory u v c = c
 
-pub event_steps : {u : World} (moment : Moment) (d : DaemonState) (w : World) (e : DaemonState) (t : World) (before after : Option (List ℕ)) (r : Ran) → IsPlayed tells (handling moment d) (begun w) e t → tells_memory e.sweep.entries ≡ false → t.ran_out ≡ false → Closes (Some (lines_text e.sweep.entries)) before after r → u ≡ over t → Steps (came_of (event_from moment d w)) (e, u) before after r
+pub event_steps : {u : World} (moment : Moment) (d : DaemonState) (w : World) (e : DaemonState) (t : World) (before after : Option (List ℕ)) (r : Ran) → IsPlayed tells (handling (ready moment None d)) (begun w) e t → tells_memory e.sweep.entries ≡ false → t.ran_out ≡ false → Closes (Some (lines_text e.sweep.entries)) before after r → u ≡ over t → Steps (came_of (event_from moment d w)) (e, u) before after r
 event_steps {u = u} moment d w e t before after r played quiet ran c ended = subst (λ (x : World). Steps (came_of (event_from moment d w)) (e, x) before after r) (sym ended) (elim played [
   | inl q ↦ came (event_from moment d w) e t before after r q.0 q.1 c
   | inr x ↦ elim x [
@@ -55,7 +86,7 @@ event_steps {u = u} moment d w e t before after r played quiet ran c ended = sub
 ])
 
 abbrev place : Script → DaemonState × World → Option Script × World
-place s p = (Some (record s { phase = Started p.0 }), p.1)
+place s p = (Some (record s { phase = Started p.0 (disk_in s) }), p.1)
 
 in_script_steps : (s : Script) (o : Outcome (DaemonState × World)) (p : DaemonState × World) (before after : Option (List ℕ)) (r : Ran) → Steps o p before after r → Steps (in_script s o) (place s p) before after r
 in_script_steps s (Writes text next) p before after Done h = (ap (place s) h.0, h.1)
@@ -73,18 +104,24 @@ pub memory_steps : {M : Type 0} (o : Outcome M) (m : M) (before after : Option (
 memory_steps (Writes text next) m before after h = h
 memory_steps (Refused fault next) m before after h = h
 
+abbrev placed : SetupState → DiskWorld → DaemonState × World → Option Script × World
+placed setup disk p = (Some (record { setup = setup; phase = Started p.0 disk }), p.1)
+
 -- an event of a daemon that was started
-pub later_steps : (event : daemon.Event) (setup : SetupState) (d : DaemonState) (w : World) (p : DaemonState × World) (before after : Option (List ℕ)) (r : Ran) → Steps (event_by (moment_of event) d w) p before after r → Steps (event_taken event (record { setup = setup; phase = Started d }) w) (place (record { setup = setup; phase = Started d }) p) before after r
-later_steps (Sweep moment) setup d w p before after r h = in_script_steps (record { setup = setup; phase = Started d }) (event_by moment d w) p before after r h
+pub later_steps : (event : daemon.Event) (setup : SetupState) (d : DaemonState) (disk after_disk : DiskWorld) (w : World) (p : DaemonState × World) (before after : Option (List ℕ)) (r : Ran) → after_disk ≡ disk → Steps (event_by (moment_of event) d w) p before after r → Steps (event_taken event (record { setup = setup; phase = Started d disk }) w) (placed setup after_disk p) before after r
+later_steps (Sweep moment) setup d disk after_disk w p before after r same h = subst (λ (o : DiskWorld). Steps (event_taken (Sweep moment) (record { setup = setup; phase = Started d disk }) w) (placed setup o p) before after r) (sym same) (in_script_steps (record { setup = setup; phase = Started d disk }) (event_by moment d w) p before after r h)
 
 -- the first event
-pub first_steps : (event : daemon.Event) (setup : SetupState) (phase : Phase) (d : DaemonState) (w : World) (p : DaemonState × World) (before after : Option (List ℕ)) (r : Ran) → has_started phase ≡ false → fits_file setup ≡ true → d ≡ started (policy_of setup) → Steps (event_by (moment_of event) d w) p before after r → Steps (event_taken event (record { setup = setup; phase = phase }) w) (Some (record { setup = setup; phase = Started p.0 }), p.1) before after r
-first_steps (Sweep moment) setup SettingUp d w p before after r new fits is h = rw fits (in_script_steps (record { setup = setup; phase = SettingUp }) (event_by moment (started (policy_of setup)) w) p before after r (subst (λ (x : DaemonState). Steps (event_by moment x w) p before after r) is h))
-first_steps (Sweep moment) setup Unstarted d w p before after r new fits is h = rw fits (in_script_steps (record { setup = setup; phase = Unstarted }) (event_by moment (started (policy_of setup)) w) p before after r (subst (λ (x : DaemonState). Steps (event_by moment x w) p before after r) is h))
-first_steps (Sweep moment) setup (Started e) d w p before after r new fits is h = let none : ⊥ = cc in absurd none
+first_by : (event : daemon.Event) (setup : SetupState) (phase : Phase) (d : DaemonState) (w : World) (p : DaemonState × World) (before after : Option (List ℕ)) (r : Ran) → has_started phase ≡ false → fits_file setup ≡ true → d ≡ started (policy_of setup) → Steps (event_by (moment_of event) d w) p before after r → Steps (event_taken event (record { setup = setup; phase = phase }) w) (placed setup (rules_disk setup) p) before after r
+first_by (Sweep moment) setup SettingUp d w p before after r new fits is h = rw fits (in_script_steps (record { setup = setup; phase = SettingUp }) (event_by moment (started (policy_of setup)) w) p before after r (subst (λ (x : DaemonState). Steps (event_by moment x w) p before after r) is h))
+first_by (Sweep moment) setup Unstarted d w p before after r new fits is h = rw fits (in_script_steps (record { setup = setup; phase = Unstarted }) (event_by moment (started (policy_of setup)) w) p before after r (subst (λ (x : DaemonState). Steps (event_by moment x w) p before after r) is h))
+first_by (Sweep moment) setup (Started e disk) d w p before after r new fits is h = let none : ⊥ = cc in absurd none
+
+pub first_steps : (event : daemon.Event) (setup : SetupState) (phase : Phase) (d : DaemonState) (disk after_disk : DiskWorld) (w : World) (p : DaemonState × World) (before after : Option (List ℕ)) (r : Ran) → has_started phase ≡ false → fits_file setup ≡ true → d ≡ started (policy_of setup) → disk ≡ rules_disk setup → after_disk ≡ disk → Steps (event_by (moment_of event) d w) p before after r → Steps (event_taken event (record { setup = setup; phase = phase }) w) (placed setup after_disk p) before after r
+first_steps event setup phase d disk after_disk w p before after r new fits is on same h = subst (λ (o : DiskWorld). Steps (event_taken event (record { setup = setup; phase = phase }) w) (placed setup o p) before after r) (sym (same ∙ on)) (first_by event setup phase d w p before after r new fits is h)
 
 -- a rule file has no room for the rules
 pub long_steps : (event : daemon.Event) (setup : SetupState) (phase : Phase) (w : World) (held : Option (List ℕ)) → has_started phase ≡ false → fits_file setup ≡ false → Keeps held held → Steps (event_taken event (record { setup = setup; phase = phase }) w) (Some (record { setup = setup; phase = phase }), w) held held TooLong
 long_steps (Sweep moment) setup SettingUp w held new fits h = rw fits (refl, refl, h)
 long_steps (Sweep moment) setup Unstarted w held new fits h = rw fits (refl, refl, h)
-long_steps (Sweep moment) setup (Started e) w held new fits h = let none : ⊥ = cc in absurd none
+long_steps (Sweep moment) setup (Started e disk) w held new fits h = let none : ⊥ = cc in absurd none

@@ -25,8 +25,20 @@ use Rattle.ug_lines.specs.LineReading.{lines_read}
 use Rattle.ug_core.specs.Event as event
 use Rattle.ug_core.specs.declared.daemon.Event.TheVariants.{Sweep}
 use Rattle.ug_core.specs.Policy.{Judging, policy_answer, policy_later}
-use Rattle.ug_core.specs.Event.{DaemonState, IsStarted, handling, has_numbers}
+use Rattle.ug_core.specs.Event.{DaemonState, IsStarted, handling, has_numbers, ready, trying, if_pending}
 use Rattle.ug_core.specs.Chain.{Happened, Chain, journal}
+use Rattle.ug_store.specs.Disk.{Disk, Texts}
+use Rattle.ug_store.specs.MemLaw.{mem_did}
+use Rattle.ug_store.specs.Scripted.{DiskWorld, MemKeeps, disk_told}
+use Rattle.ug_store.specs.Store.{RunsDisk}
+use Rattle.ug_types.specs.declared.saved.Saved.{Saved}
+use Rattle.ug_print.specs.RuleTexts.{rules_text_of}
+use Rattle.ug_types.specs.declared.rule.Rule.{Rule}
+use Rattle.ug_sysfs.specs.World.{Gives}
+use Rattle.ug_play.proofs.Plays.{play_runs}
+use Rattle.ug_core.specs.Chain.{IsEvent, StaysOnDisk}
+use Rattle.ug_core.proofs.Kept.{file_kept, stays_there}
+use Rattle.ug_core.proofs.Plain.{event_keeps_rules}
 use Rattle.ug_core.proofs.Verdicts.{rulings_later}
 use Rattle.ug_core.proofs.Chained.{journal_append, is_run, chain_more, chain_moves}
 use Rattle.ug_console.specs.Fold.{Fault, BadLine, InputTooLong, Outcome, Writes, Refused, Stage, Going, Halted, is_within, stage_after, plays}
@@ -35,11 +47,11 @@ use Rattle.ug_script.specs.declared.step.Plan.TheVariants as plan
 use Rattle.ug_script.specs.declared.step.Step.{Step}
 use Rattle.ug_script.specs.declared.step.Step.TheVariants.{Skip, Setup, Move, Schedule, Event}
 use Rattle.ug_script.specs.Grammar.{step_of_line}
-use Rattle.ug_script.specs.Setup.{SetupState, no_setup, one_line_more, policy_of, started, steps_of}
-use Rattle.ug_script.specs.Replay.{Script, Phase, Started, header, fresh, takes_setup, has_started, closed_phase, with_setup_closed, daemon_by, daemon_in, can_start, terminated, lines_text, outcome_of, outcome_text, quiet, bad, line_added, with_devices, planned, came_of, event_of, in_script, taken, taken_if, script_step}
+use Rattle.ug_script.specs.Setup.{SetupState, no_setup, one_line_more, policy_of, rules_disk, started, steps_of}
+use Rattle.ug_script.specs.Replay.{Script, Phase, Started, header, fresh, takes_setup, has_started, closed_phase, with_setup_closed, daemon_by, daemon_in, disk_by, disk_in, can_start, terminated, lines_text, outcome_of, outcome_text, quiet, bad, line_added, with_devices, planned, came_of, event_of, in_script, taken, taken_if, script_step}
 use Rattle.ug_script.specs.Laws.{StaysLawful}
 use Rattle.ug_script.specs.Journal.{happened_at, happens_by, left_by, happened, JudgesOnce, is_quiet, AreQuiet, Recorded, StaysRecorded}
-use Rattle.ug_script.proofs.Lawful.{Holds, HoldsOf, plays_sweep, handled, event_holds, move_holds, plan_holds, open_unstarted, closed_daemon, closed_started, no_standing, lawful_event}
+use Rattle.ug_script.proofs.Lawful.{Holds, HoldsOf, plays_sweep, handled, event_holds, move_holds, plan_holds, open_unstarted, closed_daemon, closed_disk, closed_started, event_pending, no_standing, tells_event, lawful_event}
 use Rattle.ug_script.proofs.Numbers.{Fits, FitsOf, fits_more, event_fits, started_fits, fits_numbers}
 use Rattle.ug_script.proofs.Setups.{IsGiven, InSetup, given_first, given_still, given_added, given_setup, policy_new}
 
@@ -51,13 +63,19 @@ quiet_front : (steps : List (Option Step)) (step : Option Step) → AreQuiet (st
 quiet_front [] step q = (tt, q.0)
 quiet_front (x ∷ steps) step q = let k = quiet_front steps step q.1 in ((q.0, k.0), k.1)
 
+-- the file that holds the rules
+abbrev file_at : Script → Option Disk
+file_at s = Some (rules_disk s.setup).disk
+
 -- what holds after the header and so many lines, which asked for these steps
 record Kept (first : World) (n : ℕ) (done : List (Option Step)) (hs : List Happened) (text : List ℕ) (s : Script) (w : World) : Type 0 where
   few : n ≤ 1048576
   holds : HoldsOf (daemon_in s) w
   fits : first.faults ≡ 0 → FitsOf n (daemon_in s) w
   given : IsGiven n done s.setup
-  chain : Chain first.kernel (started (policy_of s.setup)) hs w.kernel (daemon_in s)
+  pending : (daemon_in s).pending ≡ false
+  disk : disk_in s ≡ rules_disk s.setup
+  chain : Chain first.kernel (file_at s) (started (policy_of s.setup)) hs w.kernel (disk_told (disk_in s)) (daemon_in s)
   none : has_started s.phase ≡ false → hs ≡ []
   written : text ≡ lines_text (journal hs)
   nobody : AreQuiet done → first.fails ≡ [] → NameNobody (journal hs)
@@ -80,8 +98,11 @@ setup_kept first n done hs text s w step setup lt opened h given =
     let o = open_unstarted s.phase opened in
     let none : hs ≡ [] = h.none o.0 in
     let new : daemon_by setup s.phase ≡ started (policy_of setup) = o.1 setup in
-    let before : Moves first.kernel w.kernel × (daemon_in s ≡ started (policy_of s.setup)) = subst (λ (x : List Happened). Chain first.kernel (started (policy_of s.setup)) x w.kernel (daemon_in s)) none h.chain in
-    let chain : Chain first.kernel (started (policy_of setup)) [] w.kernel (daemon_by setup s.phase) = (before.0, new) in
+    let on : disk_by setup s.phase ≡ rules_disk setup = o.2 setup in
+    let file : Option Disk = Some (rules_disk setup).disk in
+    let before : Chain first.kernel (file_at s) (started (policy_of s.setup)) [] w.kernel (disk_told (disk_in s)) (daemon_in s) = subst (λ (x : List Happened). Chain first.kernel (file_at s) (started (policy_of s.setup)) x w.kernel (disk_told (disk_in s)) (daemon_in s)) none h.chain in
+    let stays : StaysOnDisk file (disk_told (disk_by setup s.phase)) = subst (λ (x : DiskWorld). StaysOnDisk file (disk_told x)) (sym on) (stays_there file) in
+    let chain : Chain first.kernel file (started (policy_of setup)) [] w.kernel (disk_told (disk_by setup s.phase)) (daemon_by setup s.phase) = (before.0, stays, new) in
     record {
       few = omega (arith, lt);
       holds = subst (λ (d : DaemonState). HoldsOf d w) (sym new) (record { told = h.holds.told; sound = h.holds.sound; stand = no_standing w.kernel });
@@ -90,7 +111,9 @@ setup_kept first n done hs text s w step setup lt opened h given =
           let more : w.faults ≤ 1099511627776 * (n + 1) = omega (arith, low) in
           subst (λ (d : DaemonState). FitsOf (n + 1) d w) (sym new) (started_fits (n + 1) setup w.faults given.few_rules more);
       given = given;
-      chain = subst (λ (x : List Happened). Chain first.kernel (started (policy_of setup)) x w.kernel (daemon_by setup s.phase)) (sym none) chain;
+      pending = ap (λ (d : DaemonState). d.pending) new;
+      disk = on;
+      chain = subst (λ (x : List Happened). Chain first.kernel file (started (policy_of setup)) x w.kernel (disk_told (disk_by setup s.phase)) (daemon_by setup s.phase)) (sym none) chain;
       none = h.none;
       written = h.written;
       nobody = λ q. h.nobody (quiet_front done step q).0;
@@ -108,9 +131,9 @@ kept_when first n done hs text false o s w x = tt
 
 -- ---- a line that changes neither the policy nor the daemon
 
-on_kept : (first : World) (n : ℕ) (done : List (Option Step)) (hs : List Happened) (text : List ℕ) (s : Script) (w v : World) (step : Option Step) (phase : Phase) → n < 1048576 → Kept first n done hs text s w → daemon_by s.setup phase ≡ daemon_in s → has_started phase ≡ has_started s.phase → IsGiven (n + 1) (done ++ step ∷ []) s.setup → HoldsOf (daemon_in s) v → Moves w.kernel v.kernel → v.faults ≡ w.faults
+on_kept : (first : World) (n : ℕ) (done : List (Option Step)) (hs : List Happened) (text : List ℕ) (s : Script) (w v : World) (step : Option Step) (phase : Phase) → n < 1048576 → Kept first n done hs text s w → daemon_by s.setup phase ≡ daemon_in s → disk_by s.setup phase ≡ disk_in s → has_started phase ≡ has_started s.phase → IsGiven (n + 1) (done ++ step ∷ []) s.setup → HoldsOf (daemon_in s) v → Moves w.kernel v.kernel → v.faults ≡ w.faults
     → (AreQuiet (done ++ step ∷ []) → first.fails ≡ [] → v.fails ≡ []) → (AreQuiet (done ++ step ∷ []) → first.moves ≡ [] → v.moves ≡ []) → Kept first (n + 1) (done ++ step ∷ []) hs text (record s { phase = phase }) v
-on_kept first n done hs text s w v step phase lt h same begun given holds moves faults unfailing unmoved = record {
+on_kept first n done hs text s w v step phase lt h same on begun given holds moves faults unfailing unmoved = record {
   few = omega (arith, lt);
   holds = subst (λ (d : DaemonState). HoldsOf d v) (sym same) holds;
   fits = λ e.
@@ -119,7 +142,9 @@ on_kept first n done hs text s w v step phase lt h same begun given holds moves 
       let now : FitsOf (n + 1) d v = subst (λ (f : ℕ). Fits (n + 1) d.event d.sweep.next d.sweep.judge.next f) (sym faults) more in
       subst (λ (x : DaemonState). FitsOf (n + 1) x v) (sym same) now;
   given = given;
-  chain = subst (λ (d : DaemonState). Chain first.kernel (started (policy_of s.setup)) hs v.kernel d) (sym same) (chain_moves first.kernel (started (policy_of s.setup)) hs w.kernel v.kernel (daemon_in s) h.chain moves);
+  pending = ap (λ (d : DaemonState). d.pending) same ∙ h.pending;
+  disk = on ∙ h.disk;
+  chain = subst (λ (o : DiskWorld). Chain first.kernel (file_at s) (started (policy_of s.setup)) hs v.kernel (disk_told o) (daemon_by s.setup phase)) (sym on) (subst (λ (d : DaemonState). Chain first.kernel (file_at s) (started (policy_of s.setup)) hs v.kernel (disk_told (disk_in s)) d) (sym same) (chain_moves first.kernel (file_at s) (started (policy_of s.setup)) hs w.kernel v.kernel (disk_told (disk_in s)) (disk_told (disk_in s)) (daemon_in s) h.chain moves (stays_there (disk_told (disk_in s)))));
   none = λ e. h.none (sym begun ∙ e);
   written = h.written;
   nobody = λ q. h.nobody (quiet_front done step q).0;
@@ -131,24 +156,41 @@ closed_now : {X : Type 0} → false ≡ true → X
 closed_now e = let none : ⊥ = cc in absurd none
 
 skip_kept : (first : World) (n : ℕ) (done : List (Option Step)) (hs : List Happened) (text : List ℕ) (s : Script) (w : World) → n < 1048576 → Kept first n done hs text s w → Kept first (n + 1) (done ++ Some Skip ∷ []) hs text s w
-skip_kept first n done hs text s w lt h = on_kept first n done hs text s w w (Some Skip) s.phase lt h refl refl (given_still n done (Some Skip) s.setup refl refl refl refl h.given) h.holds (unmoving w.kernel) refl (λ q. h.unfailing (quiet_front done (Some Skip) q).0) (λ q. h.unmoved (quiet_front done (Some Skip) q).0)
+skip_kept first n done hs text s w lt h = on_kept first n done hs text s w w (Some Skip) s.phase lt h refl refl refl (given_still n done (Some Skip) s.setup refl refl refl refl h.given) h.holds (unmoving w.kernel) refl (λ q. h.unfailing (quiet_front done (Some Skip) q).0) (λ q. h.unmoved (quiet_front done (Some Skip) q).0)
 
 -- ---- an event
 
-nobody_in_event : (moment : Moment) (d : DaemonState) (w : World) → w.ran_out ≡ false → w.fails ≡ [] → NameNobody (play (handling moment d) (begun w)).0.sweep.entries
+nobody_in_event : (moment : Moment) (d : DaemonState) (w : World) → w.ran_out ≡ false → w.fails ≡ [] → NameNobody (play (handling (ready moment None d)) (begun w)).0.sweep.entries
 nobody_in_event moment d w run none =
-    let p = sweeping policy_answer policy_later (event.begun d moment) in
-    rw (plays_sweep moment d w) (nobody_more (play p (begun w)).0.entries (entry.End d.event ∷ []) (quiet_sweep policy_answer policy_later (event.begun d moment) (begun w) run none refl) refl)
+    let p = sweeping policy_answer policy_later ((ready moment None d).sweep) in
+    rw (plays_sweep moment d w) (nobody_more (play p (begun w)).0.entries (entry.End d.event ∷ []) (quiet_sweep policy_answer policy_later ((ready moment None d).sweep) (begun w) run none refl) refl)
+
+-- nothing is asked of the disk
+none_asked : (o : DiskWorld) (d : DaemonState) → d.pending ≡ false → RunsDisk MemKeeps o (trying d) None o
+unfolding trying
+none_asked o d e = rw e (refl, refl)
+
+-- the event keeps its laws
+is_event : (first : World) (n : ℕ) (done : List (Option Step)) (hs : List Happened) (text : List ℕ) (moment : Moment) (s : Script) (w : World) (h : Kept first n done hs text s w) → IsEvent (happened_at moment s w)
+is_event first n done hs text moment s w h =
+    let d : DaemonState = daemon_in s in
+    let o : DiskWorld = disk_in s in
+    let p = event_of moment s w in
+    let tells = tells_event moment d w in
+    record {
+      handled = handled moment d w h.holds;
+      file = file_kept Gives MemKeeps disk_told mem_did moment tells.start o d None p.1 o tells.swept p.0 (none_asked o d h.pending) tells.goes (event_keeps_rules Gives (begun w) (ready moment None d) p.0 p.1 (play_runs (handling (ready moment None d)) (begun w))) tells.entries;
+    }
 
 -- the chain with that event
-event_chain : (first : World) (n : ℕ) (done : List (Option Step)) (hs : List Happened) (text : List ℕ) (moment : Moment) (s : Script) (w : World) (h : Kept first n done hs text s w) → Chain first.kernel (started (policy_of s.setup)) (hs ++ happened_at moment s w ∷ []) (event_of moment s w).1.kernel (event_of moment s w).0
-event_chain first n done hs text moment s w h = chain_more first.kernel (started (policy_of s.setup)) hs w.kernel (daemon_in s) (happened_at moment s w) h.chain (unmoving w.kernel) refl (handled moment (daemon_in s) w h.holds)
+event_chain : (first : World) (n : ℕ) (done : List (Option Step)) (hs : List Happened) (text : List ℕ) (moment : Moment) (s : Script) (w : World) (h : Kept first n done hs text s w) → Chain first.kernel (file_at s) (started (policy_of s.setup)) (hs ++ happened_at moment s w ∷ []) (event_of moment s w).1.kernel (disk_told (disk_in s)) (event_of moment s w).0
+event_chain first n done hs text moment s w h = chain_more first.kernel (file_at s) (started (policy_of s.setup)) hs w.kernel (disk_told (disk_in s)) (daemon_in s) (happened_at moment s w) h.chain (unmoving w.kernel) (stays_there (disk_told (disk_in s))) refl (is_event first n done hs text moment s w h)
 
 journal_more : (hs : List Happened) (h : Happened) → journal (hs ++ h ∷ []) ≡ journal hs ++ h.after.sweep.entries
 journal_more hs h = journal_append hs (h ∷ []) ∙ ap (λ (es : List Entry). journal hs ++ es) (append-nil h.after.sweep.entries)
 
 event_kept : (first : World) (n : ℕ) (done : List (Option Step)) (hs : List Happened) (text : List ℕ) (moment : Moment) (s : Script) (w : World) → n < 1048576 → Kept first n done hs text s w
-    → Kept first (n + 1) (done ++ Some (Event (Sweep moment)) ∷ []) (hs ++ happened_at moment s w ∷ []) (text ++ outcome_text (outcome_of (event_of moment s w).0)) (record s { phase = Started (event_of moment s w).0 }) (over (event_of moment s w).1)
+    → Kept first (n + 1) (done ++ Some (Event (Sweep moment)) ∷ []) (hs ++ happened_at moment s w ∷ []) (text ++ outcome_text (outcome_of (event_of moment s w).0)) (record s { phase = Started (event_of moment s w).0 (disk_in s) }) (over (event_of moment s w).1)
 event_kept first n done hs text moment s w lt h =
     let p = event_of moment s w in
     let step : Option Step = Some (Event (Sweep moment)) in
@@ -160,7 +202,9 @@ event_kept first n done hs text moment s w lt h =
       holds = event_holds moment (daemon_in s) w h.holds;
       fits = λ e. event_fits n moment (daemon_in s) w lt h.holds (h.fits e);
       given = given_still n done step s.setup refl refl refl refl h.given;
-      chain = chain_moves first.kernel (started policy) (hs ++ this ∷ []) p.1.kernel (over p.1).kernel p.0 (event_chain first n done hs text moment s w h) (happened_moves p.1.moves p.1.kernel);
+      pending = event_pending moment (daemon_in s) w h.pending;
+      disk = h.disk;
+      chain = chain_moves first.kernel (file_at s) (started policy) (hs ++ this ∷ []) p.1.kernel (over p.1).kernel (disk_told (disk_in s)) (disk_told (disk_in s)) p.0 (event_chain first n done hs text moment s w h) (happened_moves p.1.moves p.1.kernel) (stays_there (disk_told (disk_in s)));
       none = λ e. closed_now (sym e);
       written = ap (λ (z : List ℕ). z ++ lines_text p.0.sweep.entries) h.written ∙ sym (lines_more (journal hs) p.0.sweep.entries) ∙ ap (λ (es : List Entry). lines_text es) (sym all);
       nobody = λ q e.
@@ -195,7 +239,7 @@ nobody_left (e ∷ es) fs n =
     ap (λ (b : Bool). b || list_any names_somebody es) x.0 ∙ nobody_left es fs x.1
 
 -- where nobody is named, each live device was judged once and stands as judged
-event_once : (first : World) (n : ℕ) (done : List (Option Step)) (hs : List Happened) (text : List ℕ) (s : Script) (w : World) (h : Kept first n done hs text s w) → AreQuiet done → first.fails ≡ [] → first.moves ≡ [] → (moment : Moment) → JudgesOnce (policy_of s.setup) first.kernel hs (happened_at moment s w)
+event_once : (first : World) (n : ℕ) (done : List (Option Step)) (hs : List Happened) (text : List ℕ) (s : Script) (w : World) (h : Kept first n done hs text s w) → AreQuiet done → first.fails ≡ [] → first.moves ≡ [] → (moment : Moment) → JudgesOnce (policy_of s.setup) first.kernel (rules_disk s.setup).disk hs (happened_at moment s w)
 event_once first n done hs text s w h quiet_lines fails moves moment =
     let policy : Judging = policy_of s.setup in
     let d : DaemonState = daemon_in s in
@@ -208,12 +252,12 @@ event_once first n done hs text s w h quiet_lines fails moves moment =
     let rest : List Entry = law.law.fair.rest in
     let all : p.0.sweep.entries ≡ ((x ∷ []) ++ rest) ++ y ∷ [] = ap (λ (z : State Judging). z.entries) law.entries ∙ ap (λ (z : List Entry). z ++ y ∷ []) law.law.fair.entries in
     let quiet : NameNobody ((x ∷ []) ++ rest) = nobody_left ((x ∷ []) ++ rest) (y ∷ []) (subst NameNobody all (nobody_in_event moment d w h.holds.told (h.unfailing quiet_lines fails))) in
-    let begins : IsStarted policy 1 (started policy) = record { judge = refl; standings = refl; next = refl; listed = refl; entries = refl; event = refl } in
-    let run = is_run policy 1 first.kernel (started policy) (hs ++ happened_at moment s w ∷ []) l p.0 begins (event_chain first n done hs text moment s w h) in
+    let begins : IsStarted policy 1 (started policy) = record { judge = refl; standings = refl; next = refl; listed = refl; entries = refl; pending = refl; event = refl } in
+    let run = is_run policy 1 first.kernel (file_at s) (started policy) (hs ++ happened_at moment s w ∷ []) l (disk_told (disk_in s)) p.0 begins (event_chain first n done hs text moment s w h) in
     record {
       run = run;
       each = λ i e live.
-          let lived = lived_in_play (handling moment d) (begun w) none law.law.fair.grows i e live in
+          let lived = lived_in_play (handling (ready moment None d)) (begun w) none law.law.fair.grows i e live in
           let as_judged : IsAsJudged l law.swept.standings i = elim (law.law.settled i lived.0 lived.1) [
             | inl a ↦ a
             | inr named ↦ elim named [
@@ -227,14 +271,16 @@ event_once first n done hs text s w h quiet_lines fails moves moment =
 recorded : (first : World) (lines : List (List ℕ)) (n : ℕ) (text : List ℕ) (s : Script) (w : World) → Kept first n (steps_of lines) (happened (None, first) lines) text s w → Recorded first lines text s w
 recorded first lines n text s w h =
     let policy : Judging = policy_of s.setup in
-    let begins : IsStarted policy 1 (started policy) = record { judge = refl; standings = refl; next = refl; listed = refl; entries = refl; event = refl } in
+    let begins : IsStarted policy 1 (started policy) = record { judge = refl; standings = refl; next = refl; listed = refl; entries = refl; pending = refl; event = refl } in
     record {
       policy = policy;
       setup = given_setup n (steps_of lines) s.setup h.given;
       settings = λ whole e. ap (λ (ls : List (List ℕ)). settled (lines_read setting_line 1 (draft_of defaults []) ls)) e ∙ ap settled (given_setup n (steps_of lines) s.setup h.given).settings;
       later = λ rs. rulings_later policy rs (policy_new s.setup h.given.listed);
+      file = (rules_disk s.setup).disk;
+      holds = (ap (λ (rs : List Rule). rules_text_of rs) h.given.rules, ap (λ (rs : List Rule). Texts (rules_text_of rs ∷ [])) h.given.rules);
       chain = h.chain;
-      run = is_run policy 1 first.kernel (started policy) (happened (None, first) lines) w.kernel (daemon_in s) begins h.chain;
+      run = is_run policy 1 first.kernel (file_at s) (started policy) (happened (None, first) lines) w.kernel (disk_told (disk_in s)) (daemon_in s) begins h.chain;
       written = h.written;
       nobody = h.nobody;
       once = event_once first n (steps_of lines) (happened (None, first) lines) text s w h;
@@ -251,7 +297,7 @@ step_kept first n done hs text (Move action) s w lt h =
     let step : Option Step = Some (Move action) in
     let v : World = with_devices (moved action w.kernel.devices) w in
     kept_still first (n + 1) (done ++ step ∷ []) hs text (with_setup_closed s) v
-    (on_kept first n done hs text s w v step (closed_phase s.phase) lt h (closed_daemon s.setup s.phase) (closed_started s.phase) (given_still n done step s.setup refl refl refl refl h.given) (move_holds action (daemon_in s) w h.holds) (moved_moves action w.kernel) refl (λ q. h.unfailing (quiet_front done step q).0) (λ q. h.unmoved (quiet_front done step q).0))
+    (on_kept first n done hs text s w v step (closed_phase s.phase) lt h (closed_daemon s.setup s.phase) (closed_disk s.setup s.phase) (closed_started s.phase) (given_still n done step s.setup refl refl refl refl h.given) (move_holds action (daemon_in s) w h.holds) (moved_moves action w.kernel) refl (λ q. h.unfailing (quiet_front done step q).0) (λ q. h.unmoved (quiet_front done step q).0))
 step_kept first n done hs text (Schedule p) s w lt h = plan_kept p
   where
     step : Option Step
@@ -261,7 +307,7 @@ step_kept first n done hs text (Schedule p) s w lt h = plan_kept p
     loud q = closed_now (quiet_front done (Some (Schedule p)) q).1
 
     by : (v : World) → HoldsOf (daemon_in s) v → Moves w.kernel v.kernel → v.faults ≡ w.faults → Kept first (n + 1) (done ++ Some (Schedule p) ∷ []) hs text (with_setup_closed s) v
-    by v holds moves faults = on_kept first n done hs text s w v (Some (Schedule p)) (closed_phase s.phase) lt h (closed_daemon s.setup s.phase) (closed_started s.phase) (given_still n done (Some (Schedule p)) s.setup refl refl refl refl h.given) holds moves faults (λ q. loud q) (λ q. loud q)
+    by v holds moves faults = on_kept first n done hs text s w v (Some (Schedule p)) (closed_phase s.phase) lt h (closed_daemon s.setup s.phase) (closed_disk s.setup s.phase) (closed_started s.phase) (given_still n done (Some (Schedule p)) s.setup refl refl refl refl h.given) holds moves faults (λ q. loud q) (λ q. loud q)
 
     plan_kept : (x : Plan) → Kept first (n + 1) (done ++ Some (Schedule p) ∷ []) (hs ++ []) (text ++ []) (with_setup_closed s) (planned x w)
     plan_kept (plan.Move m) = kept_still first (n + 1) (done ++ Some (Schedule p) ∷ []) hs text (with_setup_closed s) (planned (plan.Move m) w) (by (planned (plan.Move m) w) (plan_holds (plan.Move m) (daemon_in s) w h.holds) (unmoving w.kernel) refl)
@@ -278,7 +324,9 @@ kept_fresh first h = record {
   holds = h;
   fits = λ e. started_fits 1 no_setup first.faults (omega arith) (omega (arith, e));
   given = given_first;
-  chain = (unmoving first.kernel, refl);
+  pending = refl;
+  disk = refl;
+  chain = (unmoving first.kernel, stays_there (file_at fresh), refl);
   none = λ e. refl;
   written = refl;
   nobody = λ x e. refl;
@@ -353,5 +401,7 @@ stays_lawful first run sound lines n text s w e =
       sound = h.holds.sound;
       stand = h.holds.stand;
       events = λ moment. lawful_event moment s w h.holds;
+      pending = h.pending;
+      disk = h.disk;
       numbers = λ f. fits_numbers n (daemon_in s) w h.few (h.fits f);
     }

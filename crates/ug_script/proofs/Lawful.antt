@@ -1,5 +1,5 @@
 -- Each line keeps the kernel sound and each standing of a device.
-use Rattle.std.proofs.Common.{◌≡◌, ℕ, ◌+◌, ◌++◌, Bool, false, true, ◌||◌, List, [], ◌∷◌, Some, refl, sym, ◌∙◌, ap, subst}
+use Rattle.std.proofs.Common.{◌≡◌, ℕ, ◌+◌, ◌++◌, Bool, false, true, ◌||◌, List, [], ◌∷◌, Some, None, refl, sym, ◌∙◌, ap, subst}
 use Rattle.std.proofs.lemmas.Option.{same_Some}
 use Rattle.ug_types.specs.declared.verdict.Moment.{Moment}
 use Rattle.ug_kernel.specs.Kernel.{Kernel, IsKernel, Moves}
@@ -12,6 +12,7 @@ use Rattle.ug_sysfs.specs.Law.{does_what_it_may}
 use Rattle.ug_sysfs.specs.Begins.{moved_moves, happened_moves}
 use Rattle.ug_sysfs.specs.Sound.{moved_sound, happened_sound}
 use Rattle.ug_types.specs.Elements.{AllDistinct}
+use Rattle.ug_audit.specs.declared.entry.Entry as entries
 use Rattle.ug_audit.specs.declared.entry.Entry.TheVariants as entry
 use Rattle.ug_table.specs.State.{State}
 use Rattle.ug_table.specs.Sweep.{sweeping}
@@ -28,13 +29,13 @@ use Rattle.ug_play.proofs.Sweeps.{sure_sweep}
 use Rattle.ug_play.proofs.Plays.{play_runs, play_told, play_then}
 use Rattle.ug_core.specs.Event as event
 use Rattle.ug_core.specs.Policy.{Judging, policy_answer, policy_later}
-use Rattle.ug_core.specs.Event.{DaemonState, handling}
+use Rattle.ug_core.specs.Event.{DaemonState, handling, ready}
 use Rattle.ug_core.specs.Laws.{Handled, TellsEvent}
 use Rattle.ug_core.proofs.Failures.{event_tells, event_names}
 use Rattle.ug_script.specs.declared.step.Plan.{Plan}
 use Rattle.ug_script.specs.declared.step.Plan.TheVariants as plan
-use Rattle.ug_script.specs.Setup.{SetupState, policy_of, started}
-use Rattle.ug_script.specs.Replay.{Script, Phase, SettingUp, Unstarted, Started, takes_setup, has_started, closed_phase, daemon_by, daemon_in, event_from, with_devices, planned}
+use Rattle.ug_script.specs.Setup.{SetupState, policy_of, rules_disk, started}
+use Rattle.ug_script.specs.Replay.{Script, Phase, SettingUp, Unstarted, Started, takes_setup, has_started, closed_phase, daemon_by, daemon_in, disk_by, disk_in, event_from, with_devices, planned}
 use Rattle.ug_script.specs.Laws.{Begins, faults_of, IsLawfulEvent}
 
 abbrev calls_of : World → ℕ
@@ -51,26 +52,28 @@ HoldsOf d w = Holds d.sweep.standings d.sweep.next w
 moves_on : (ss : List Standing) (next : ℕ) (k l : Kernel) → Moves k l → Stand k ss next → Stand l ss next
 moves_on ss next k l m s = stand_stays k l ss next (quiet_grows k l (moves_quiet k l m)) s
 
-pub plays_sweep : (moment : Moment) (d : DaemonState) (w : World) → play (handling moment d) (begun w) ≡ play (event.ended d (play (sweeping policy_answer policy_later (event.begun d moment)) (begun w)).0) (play (sweeping policy_answer policy_later (event.begun d moment)) (begun w)).1
+pub plays_sweep : (moment : Moment) (d : DaemonState) (w : World) → play (handling (ready moment None d)) (begun w) ≡ play (event.ended (ready moment None d) (play (sweeping policy_answer policy_later (ready moment None d).sweep) (begun w)).0) (play (sweeping policy_answer policy_later (ready moment None d).sweep) (begun w)).1
 unfolding handling
-plays_sweep moment d w = play_then (sweeping policy_answer policy_later (event.begun d moment)) (event.ended d) (begun w)
+plays_sweep moment d w = play_then (sweeping policy_answer policy_later (ready moment None d).sweep) (event.ended (ready moment None d)) (begun w)
 
 told_at : (w : World) → w.ran_out ≡ false → told w ≡ Some w.kernel
 told_at w e = rw e refl
 
 -- an event from a kernel that is told
-pub handled : (moment : Moment) (d : DaemonState) (w : World) → Holds d.sweep.standings d.sweep.next w → Handled moment w.kernel d (play (handling moment d) (begun w)).1.kernel (play (handling moment d) (begun w)).0
+pub handled : (moment : Moment) (d : DaemonState) (w : World) → Holds d.sweep.standings d.sweep.next w → Handled w.kernel (ready moment None d) (play (handling (ready moment None d)) (begun w)).1.kernel (play (handling (ready moment None d)) (begun w)).0
 handled moment d w h =
-    let p = sweeping policy_answer policy_later (event.begun d moment) in
+    let p = sweeping policy_answer policy_later (ready moment None d).sweep in
     let v : State Judging = (play p (begun w)).0 in
     let t : World = (play p (begun w)).1 in
     let run : t.ran_out ≡ false = play_told p (begun w) h.told in
-    let swept = told_swept Gives told does_what_it_may policy_answer policy_later (begun w) (event.begun d moment) t v (play_runs p (begun w)) t.kernel (told_at t run) in
+    let swept = told_swept Gives told does_what_it_may policy_answer policy_later (begun w) (ready moment None d).sweep t v (play_runs p (begun w)) t.kernel (told_at t run) in
     let same : swept.0 ≡ w.kernel = same_Some swept.0 w.kernel (sym swept.1 ∙ told_at w h.told) in
     rw (plays_sweep moment d w) (record {
       swept = v;
-      law = subst (λ (k : Kernel). Swept policy_answer policy_later k (event.begun d moment) t.kernel v) same (swept.2 (rw same h.sound) (rw same h.stand));
+      law = subst (λ (k : Kernel). Swept policy_answer policy_later k (ready moment None d).sweep t.kernel v) same (swept.2 (rw same h.sound) (rw same h.stand));
       entries = refl;
+      access = refl;
+      pending = refl;
       event = refl;
     })
 
@@ -80,7 +83,7 @@ event_holds moment d w h =
     let p = event_from moment d w in
     let law = handled moment d w h in
     record {
-      told = play_told (handling moment d) (begun w) h.told;
+      told = play_told (handling (ready moment None d)) (begun w) h.told;
       sound = happened_sound p.1.moves p.1.kernel law.law.fair.sound;
       stand = moves_on p.0.sweep.standings p.0.sweep.next p.1.kernel (over p.1).kernel (happened_moves p.1.moves p.1.kernel) (rw law.entries law.law.fair.stand);
     }
@@ -98,48 +101,57 @@ plan_holds (plan.Move m) d w h = record { told = h.told; sound = h.sound; stand 
 plan_holds (plan.Fail f) d w h = record { told = h.told; sound = h.sound; stand = h.stand }
 
 -- while lines of setup may come, no daemon was started
-pub open_unstarted : (phase : Phase) → takes_setup phase ≡ true → (has_started phase ≡ false) × ((setup : SetupState) → daemon_by setup phase ≡ started (policy_of setup))
-open_unstarted SettingUp e = (refl, λ setup. refl)
+pub open_unstarted : (phase : Phase) → takes_setup phase ≡ true → (has_started phase ≡ false) × ((setup : SetupState) → daemon_by setup phase ≡ started (policy_of setup)) × ((setup : SetupState) → disk_by setup phase ≡ rules_disk setup)
+open_unstarted SettingUp e = (refl, λ setup. refl, λ setup. refl)
 open_unstarted Unstarted e = let none : ⊥ = cc in absurd none
-open_unstarted (Started d) e = let none : ⊥ = cc in absurd none
+open_unstarted (Started d disk) e = let none : ⊥ = cc in absurd none
 
 pub closed_daemon : (setup : SetupState) (phase : Phase) → daemon_by setup (closed_phase phase) ≡ daemon_by setup phase
 closed_daemon setup SettingUp = refl
 closed_daemon setup Unstarted = refl
-closed_daemon setup (Started d) = refl
+closed_daemon setup (Started d disk) = refl
+
+pub closed_disk : (setup : SetupState) (phase : Phase) → disk_by setup (closed_phase phase) ≡ disk_by setup phase
+closed_disk setup SettingUp = refl
+closed_disk setup Unstarted = refl
+closed_disk setup (Started d disk) = refl
+
+-- an event leaves no save that is pending
+pub event_pending : (moment : Moment) (d : DaemonState) (w : World) → d.pending ≡ false → (event_from moment d w).0.pending ≡ false
+event_pending moment d w none = rw (plays_sweep moment d w) none
 
 pub closed_started : (phase : Phase) → has_started (closed_phase phase) ≡ has_started phase
 closed_started SettingUp = refl
 closed_started Unstarted = refl
-closed_started (Started d) = refl
+closed_started (Started d disk) = refl
 
 pub no_standing : (k : Kernel) → Stand k [] 1
 no_standing k = record { devices = λ s a. absurd a; numbers = λ s a. absurd a; names = tt; order = tt; distinct = tt; removed = λ s a. absurd a }
 
 -- what the event's entries tell of its calls
-tells_event : (moment : Moment) (d : DaemonState) (w : World) → TellsEvent Begins Gives faults_of moment w d (play (handling moment d) (begun w)).1 (play (handling moment d) (begun w)).0
+pub tells_event : (moment : Moment) (d : DaemonState) (w : World) → TellsEvent Begins Gives faults_of w (ready moment None d) (play (handling (ready moment None d)) (begun w)).1 (play (handling (ready moment None d)) (begun w)).0
 tells_event moment d w =
-    let p = sweeping policy_answer policy_later (event.begun d moment) in
+    let p = sweeping policy_answer policy_later (ready moment None d).sweep in
     let v : State Judging = (play p (begun w)).0 in
     let t : World = (play p (begun w)).1 in
-    rw (plays_sweep moment d w) (event_tells Begins Gives calls_of faults_of moment w (begun w) d t v (entry.Event d.event moment ∷ []) (event.begun d moment).judge (record { sweep = record v { entries = v.entries ++ entry.End d.event ∷ [] }; event = d.event + 1 }) refl refl refl refl refl (sweeping_tells Gives calls_of faults_of counts_each policy_answer policy_later (begun w) (event.begun d moment) t v (play_runs p (begun w))) refl)
+    rw (plays_sweep moment d w) (event_tells Begins Gives calls_of faults_of w (begun w) (ready moment None d) t v (ready moment None d).sweep.entries (record (ready moment None d) { sweep = record v { entries = v.entries ++ entry.End d.event ∷ [] }; event = d.event + 1 }) refl refl refl refl refl (sweeping_tells Gives calls_of faults_of counts_each policy_answer policy_later (begun w) (ready moment None d).sweep t v (play_runs p (begun w))) refl)
 
-names_once : (moment : Moment) (d : DaemonState) (w : World) → Holds d.sweep.standings d.sweep.next w → AllDistinct (unsettled_names (play (handling moment d) (begun w)).0.sweep.entries)
+names_once : (moment : Moment) (d : DaemonState) (w : World) → Holds d.sweep.standings d.sweep.next w → AllDistinct (unsettled_names (play (handling (ready moment None d)) (begun w)).0.sweep.entries)
 names_once moment d w h =
-    let p = sweeping policy_answer policy_later (event.begun d moment) in
+    let p = sweeping policy_answer policy_later (ready moment None d).sweep in
     let v : State Judging = (play p (begun w)).0 in
     let t : World = (play p (begun w)).1 in
     let run : t.ran_out ≡ false = play_told p (begun w) h.told in
-    let once = told_once Gives told does_what_it_may policy_answer policy_later (begun w) (event.begun d moment) t v (play_runs p (begun w)) t.kernel (told_at t run) in
+    let once = told_once Gives told does_what_it_may policy_answer policy_later (begun w) (ready moment None d).sweep t v (play_runs p (begun w)) t.kernel (told_at t run) in
     let same : once.0 ≡ w.kernel = same_Some once.0 w.kernel (sym once.1 ∙ told_at w h.told) in
     let r = once.2 (rw same h.sound) (rw same h.stand) in
-    rw (plays_sweep moment d w) (event_names moment d.event v.entries r.0 (v.entries ++ entry.End d.event ∷ []) r.1 refl r.2)
+    rw (plays_sweep moment d w) (event_names d.event (ready moment None d).sweep.entries r.0 (v.entries ++ entry.End d.event ∷ []) refl (ap (λ (es : List entries.Entry). es ++ entry.End d.event ∷ []) r.1) r.2)
 
 -- a script refuses no memory
-event_sure : (moment : Moment) (d : DaemonState) (w : World) → tells_memory (play (handling moment d) (begun w)).0.sweep.entries ≡ false
+event_sure : (moment : Moment) (d : DaemonState) (w : World) → tells_memory (play (handling (ready moment None d)) (begun w)).0.sweep.entries ≡ false
 event_sure moment d w =
-    let v : State Judging = (play (sweeping policy_answer policy_later (event.begun d moment)) (begun w)).0 in
-    rw (plays_sweep moment d w) (memory_more v.entries (entry.End d.event ∷ []) ∙ ap (λ (b : Bool). b || false) (sure_sweep policy_answer policy_later (event.begun d moment) (begun w) refl))
+    let v : State Judging = (play (sweeping policy_answer policy_later (ready moment None d).sweep) (begun w)).0 in
+    rw (plays_sweep moment d w) (memory_more v.entries (entry.End d.event ∷ []) ∙ ap (λ (b : Bool). b || false) (sure_sweep policy_answer policy_later (ready moment None d).sweep (begun w) refl))
 
 pub lawful_event : (moment : Moment) (s : Script) (w : World) → HoldsOf (daemon_in s) w → IsLawfulEvent moment s w
 lawful_event moment s w h = record {

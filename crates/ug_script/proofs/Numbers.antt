@@ -24,7 +24,7 @@ use Rattle.ug_table.specs.declared.standing.Standing.{Standing}
 use Rattle.ug_play.specs.Play.{play}
 use Rattle.ug_play.proofs.Plays.{play_runs}
 use Rattle.ug_core.specs.Event as event
-use Rattle.ug_core.specs.Event.{DaemonState, has_numbers, is_low}
+use Rattle.ug_core.specs.Event.{DaemonState, has_numbers, is_low, ready}
 use Rattle.ug_core.specs.Policy.{Judging, policy_answer, policy_later}
 use Rattle.ug_script.proofs.Spent.{Spends, found, sweeping_spends}
 use Rattle.ug_script.specs.Setup.{SetupState}
@@ -149,9 +149,9 @@ abbrev pub FitsOf : ℕ → DaemonState → World → Type 0
 FitsOf n d w = Fits n d.event d.sweep.next d.sweep.judge.next w.faults
 
 -- an event
-pub event_fits : (n : ℕ) (moment : Moment) (d : DaemonState) (w : World) → n < 1048576 → Holds d.sweep.standings d.sweep.next w → FitsOf n d w → FitsOf (n + 1) (play (event.handling moment d) (begun w)).0 (play (event.handling moment d) (begun w)).1
+pub event_fits : (n : ℕ) (moment : Moment) (d : DaemonState) (w : World) → n < 1048576 → Holds d.sweep.standings d.sweep.next w → FitsOf n d w → FitsOf (n + 1) (play (event.handling (ready moment None d)) (begun w)).0 (play (event.handling (ready moment None d)) (begun w)).1
 event_fits n moment d w lt h f =
-    let u : State Judging = event.begun d moment in
+    let u : State Judging = (ready moment None d).sweep in
     let p = sweeping policy_answer policy_later u in
     let v : State Judging = (play p (begun w)).0 in
     let t : World = (play p (begun w)).1 in

@@ -14,20 +14,27 @@ use Rattle.ug_core.specs.Verdicts.{IsLater}
 use Rattle.ug_core.specs.declared.daemon.Event as event
 use Rattle.ug_core.specs.declared.daemon.Event.TheVariants.{Sweep}
 use Rattle.ug_lines.specs.Lines.{lines_of}
+use Rattle.ug_print.specs.RuleTexts.{rules_text_of}
+use Rattle.ug_store.specs.Disk.{Disk}
+use Rattle.ug_store.specs.History.{HoldsOnly}
+use Rattle.ug_store.specs.Scripted.{disk_told}
 use Rattle.ug_console.specs.Fold.{Outcome, Writes, Refused, Going, plays}
 use Rattle.ug_script.specs.declared.step.Step.{Step}
 use Rattle.ug_script.specs.declared.step.Step.TheVariants.{Schedule, Event}
 use Rattle.ug_script.specs.Grammar.{step_of_line}
-use Rattle.ug_script.specs.Replay.{Script, can_start, daemon_in, event_of, lines_text, script_step}
-use Rattle.ug_script.specs.Setup.{steps_of, conf_asked, IsSetup, started}
+use Rattle.ug_script.specs.Replay.{Script, can_start, daemon_in, disk_in, event_of, lines_text, script_step}
+use Rattle.ug_script.specs.Setup.{steps_of, conf_asked, rule_asked, IsSetup, started}
 
 -- an event of that moment, with what is scheduled for it
 abbrev pub happened_at : Moment → Script → World → Happened
 happened_at moment s w = record {
   event = Sweep moment;
+  tried = None;
   kernel = w.kernel;
+  disk = disk_told (disk_in s);
   before = daemon_in s;
   kernel_after = (event_of moment s w).1.kernel;
+  disk_after = disk_told (disk_in s);
   after = (event_of moment s w).0;
 }
 
@@ -55,8 +62,8 @@ happened p [] = []
 happened p (line ∷ lines) = happens p line ++ happened (left_by (script_step p line)) lines
 
 -- each device that is live at the end of that event was judged just once since the first kernel, and stands as judged
-pub record JudgesOnce (policy : Judging) (first : Kernel) (hs : List Happened) (h : Happened) : Type 0 where
-  pub run : IsRun policy first (hs ++ h ∷ []) h.kernel_after h.after
+pub record JudgesOnce (policy : Judging) (first : Kernel) (file : Disk) (hs : List Happened) (h : Happened) : Type 0 where
+  pub run : IsRun policy first (Some file) (hs ++ h ∷ []) h.kernel_after h.disk_after h.after
   pub each : (i : ℕ) (d : Device) → Live h.kernel_after.devices i d → IsJudgedOnce policy (hs ++ h ∷ []) run.rulings h.kernel_after h.after.sweep.standings i
 
 -- the step schedules no move and lets no call fail
@@ -69,19 +76,22 @@ AreQuiet [] = Unit {0}
 AreQuiet (step ∷ steps) = (is_quiet step ≡ true) × AreQuiet steps
 
 -- Wherever lines have led: the setup lines gave a policy, of which rulings leave what has taken just their words, and whose histories
--- stand for just their judgements; its settings are those of each text whose lines are those of the `conf` lines; the events of the lines are a chain from the daemon that started with it, with all that this says of
--- each write; and what was written is the text of their entries. Where no move was scheduled and no call was to
--- fail, nobody is named as unsettled, and after an event that comes next each live device was judged just once and stands as judged.
+-- stand for just their judgements; its settings are those of each text whose lines are those of the `conf` lines; and a file holds the canonical
+-- text of its rules, and a crash leaves no other. The events of the lines are a chain from the daemon that started with it, over that file,
+-- with all that this says of each write and of the file; and what was written is the text of their entries. Where no move was scheduled
+-- and no call was to fail, nobody is named as unsettled, and after an event that comes next each live device was judged just once and stands as judged.
 pub record Recorded (first : World) (lines : List (List ℕ)) (text : List ℕ) (s : Script) (w : World) : Type 0 where
   pub policy : Judging
   pub setup : IsSetup (steps_of lines) policy
   pub settings : (whole : List ℕ) → lines_of whole ≡ flat_map conf_asked (steps_of lines) → conf_read whole ≡ Ok setup.draft.settings
   pub later : (rulings : List Ruling) → IsLater policy (words_for policy rulings) (judgements_for policy rulings) (after_rulings policy rulings)
-  pub chain : Chain first.kernel (started policy) (happened (None, first) lines) w.kernel (daemon_in s)
-  pub run : IsRun policy first.kernel (happened (None, first) lines) w.kernel (daemon_in s)
+  pub file : Disk
+  pub holds : HoldsOnly (rules_text_of (flat_map rule_asked (steps_of lines))) file
+  pub chain : Chain first.kernel (Some file) (started policy) (happened (None, first) lines) w.kernel (disk_told (disk_in s)) (daemon_in s)
+  pub run : IsRun policy first.kernel (Some file) (happened (None, first) lines) w.kernel (disk_told (disk_in s)) (daemon_in s)
   pub written : text ≡ lines_text (journal (happened (None, first) lines))
   pub nobody : AreQuiet (steps_of lines) → first.fails ≡ [] → NameNobody (journal (happened (None, first) lines))
-  pub once : AreQuiet (steps_of lines) → first.fails ≡ [] → first.moves ≡ [] → (moment : Moment) → JudgesOnce policy first.kernel (happened (None, first) lines) (happened_at moment s w)
+  pub once : AreQuiet (steps_of lines) → first.fails ≡ [] → first.moves ≡ [] → (moment : Moment) → JudgesOnce policy first.kernel file (happened (None, first) lines) (happened_at moment s w)
 
 -- the same of all lines
 abbrev pub StaysRecorded : World → Type 0

@@ -7,10 +7,11 @@ use Rattle.ug_sysfs.specs.World.{World, Gives, begun}
 use Rattle.ug_table.specs.Laws.{Stand}
 use Rattle.ug_table.specs.Parts.{unsettled_names}
 use Rattle.ug_play.specs.Play.{tells_memory}
-use Rattle.ug_core.specs.Event.{has_numbers}
+use Rattle.ug_core.specs.Event.{has_numbers, ready}
 use Rattle.ug_core.specs.Laws.{Handled, TellsEvent}
 use Rattle.ug_console.specs.Fold.{Going, plays}
-use Rattle.ug_script.specs.Replay.{Script, daemon_in, event_of, script_step}
+use Rattle.ug_script.specs.Replay.{Script, daemon_in, disk_in, event_of, script_step}
+use Rattle.ug_script.specs.Setup.{rules_disk}
 
 abbrev pub Begins : World → World → Type 0
 Begins w u = u ≡ begun w
@@ -22,18 +23,20 @@ faults_of w = w.faults
 -- name; each that failed is told with its number and its count, and no other is; no name is told twice as unsettled; and none of its
 -- entries tells want of memory, as a script refuses none.
 pub record IsLawfulEvent (moment : Moment) (s : Script) (w : World) : Type 0 where
-  pub handled : Handled moment w.kernel (daemon_in s) (event_of moment s w).1.kernel (event_of moment s w).0
-  pub faults : TellsEvent Begins Gives faults_of moment w (daemon_in s) (event_of moment s w).1 (event_of moment s w).0
+  pub handled : Handled w.kernel (ready moment None (daemon_in s)) (event_of moment s w).1.kernel (event_of moment s w).0
+  pub faults : TellsEvent Begins Gives faults_of w (ready moment None (daemon_in s)) (event_of moment s w).1 (event_of moment s w).0
   pub once : AllDistinct (unsettled_names (event_of moment s w).0.sweep.entries)
   pub room : tells_memory (event_of moment s w).0.sweep.entries ≡ false
 
 -- The kernel is sound and each standing of the daemon, or of the one that an event would start, is of one of its devices; and so is an
--- event, if one comes next. And where the first world had no fault, the numbers leave room for one, so that the line of an event is
--- never bad.
+-- event, if one comes next. No save is pending, and the disk is as the start left it. And where the first world had no fault, the
+-- numbers leave room for one, so that the line of an event is never bad.
 pub record IsLawful (first : World) (s : Script) (w : World) : Type 0 where
   pub sound : IsKernel w.kernel
   pub stand : Stand w.kernel (daemon_in s).sweep.standings (daemon_in s).sweep.next
   pub events : (moment : Moment) → IsLawfulEvent moment s w
+  pub pending : (daemon_in s).pending ≡ false
+  pub disk : disk_in s ≡ rules_disk s.setup
   pub numbers : first.faults ≡ 0 → has_numbers (daemon_in s) w.faults 0 ≡ true
 
 -- wherever lines lead from a world without a daemon

@@ -9,7 +9,8 @@ use Rattle.ug_audit.specs.declared.entry.Entry.{Entry}
 use Rattle.ug_audit.specs.Lines.{entry_line}
 use Rattle.ug_play.specs.Play.{play, tells_memory}
 use Rattle.ug_print.specs.RuleTexts.{rules_limit, rules_text_of}
-use Rattle.ug_core.specs.Event.{DaemonState, daemon_of, handling, has_numbers}
+use Rattle.ug_store.specs.Scripted.{DiskWorld}
+use Rattle.ug_core.specs.Event.{DaemonState, daemon_of, handling, has_numbers, ready}
 use Rattle.ug_core.specs.declared.daemon.Event.{Event}
 use Rattle.ug_core.specs.declared.daemon.Event.TheVariants.{Sweep}
 use Rattle.ug_console.specs.Fold.{Outcome, Writes, Refused, BadLine, InputTooLong}
@@ -25,13 +26,13 @@ use Rattle.ug_script.specs.declared.step.Step.TheVariants as step
 use Rattle.ug_script.specs.declared.step.StepFault.{StepFault}
 use Rattle.ug_script.specs.declared.step.StepFault.TheVariants.{Bad, Memory}
 use Rattle.ug_script.specs.Grammar.{step_of_line}
-use Rattle.ug_script.specs.Setup.{SetupState, no_setup, one_line_more, policy_of, started}
+use Rattle.ug_script.specs.Setup.{SetupState, no_setup, one_line_more, policy_of, rules_disk, started}
 
--- how far a script has come: lines of setup may still come; none may, and no event came; or the daemon was started
+-- how far a script has come: lines of setup may still come; none may, and no event came; or the daemon was started from its disk
 pub data Phase : Type 0 where
   SettingUp : Phase
   Unstarted : Phase
-  Started : DaemonState → Phase
+  Started : DaemonState → DiskWorld → Phase
 
 -- A script whose first line was read: what the setup lines gave, and how far it has come.
 pub record Script : Type 0 where
@@ -41,7 +42,7 @@ pub record Script : Type 0 where
 abbrev pub phase_of : running.Phase → Phase
 phase_of at.SettingUp = SettingUp
 phase_of at.Unstarted = Unstarted
-phase_of (at.Started d) = Started (daemon_of d)
+phase_of (at.Started session) = Started (daemon_of session.daemon) session.disk
 
 abbrev pub script_of : Running → Script
 script_of r = record { setup = r.setup; phase = phase_of r.phase }
@@ -59,17 +60,17 @@ fresh = record { setup = no_setup; phase = SettingUp }
 abbrev pub takes_setup : Phase → Bool
 takes_setup SettingUp = true
 takes_setup Unstarted = false
-takes_setup (Started d) = false
+takes_setup (Started d disk) = false
 
 abbrev pub has_started : Phase → Bool
 has_started SettingUp = false
 has_started Unstarted = false
-has_started (Started d) = true
+has_started (Started d disk) = true
 
 abbrev pub closed_phase : Phase → Phase
 closed_phase SettingUp = Unstarted
 closed_phase Unstarted = Unstarted
-closed_phase (Started d) = Started d
+closed_phase (Started d disk) = Started d disk
 
 -- no line of setup may come any more
 abbrev pub with_setup_closed : Script → Script
@@ -79,10 +80,19 @@ with_setup_closed s = record s { phase = closed_phase s.phase }
 abbrev pub daemon_by : SetupState → Phase → DaemonState
 daemon_by setup SettingUp = started (policy_of setup)
 daemon_by setup Unstarted = started (policy_of setup)
-daemon_by setup (Started d) = d
+daemon_by setup (Started d disk) = d
 
 abbrev pub daemon_in : Script → DaemonState
 daemon_in s = daemon_by s.setup s.phase
+
+-- its disk
+abbrev pub disk_by : SetupState → Phase → DiskWorld
+disk_by setup SettingUp = rules_disk setup
+disk_by setup Unstarted = rules_disk setup
+disk_by setup (Started d disk) = disk
+
+abbrev pub disk_in : Script → DiskWorld
+disk_in s = disk_by s.setup s.phase
 
 -- a rule file has room for the rules
 abbrev pub fits_file : SetupState → Bool
@@ -92,7 +102,7 @@ fits_file setup = nat_le (length (rules_text_of setup.rules)) rules_limit
 abbrev pub can_start : SetupState → Phase → Bool
 can_start setup SettingUp = fits_file setup
 can_start setup Unstarted = fits_file setup
-can_start setup (Started d) = true
+can_start setup (Started d disk) = true
 
 unfoldable pub header : List ℕ
 header = codes "usbguard-replay 1"
@@ -147,9 +157,9 @@ planned (plan.Fail f) w = record w { fails = w.fails ++ f ∷ [] }
 abbrev pub tells : DaemonState → Type 0
 tells d = tells_memory d.sweep.entries ≡ true
 
--- an event of that moment, as the world fixes it
+-- An event of that moment, as the world fixes it. No save is pending, so it asks nothing of the disk.
 abbrev pub event_from : Moment → DaemonState → World → DaemonState × World
-event_from moment d w = play (handling moment d) (begun w)
+event_from moment d w = play (handling (ready moment None d)) (begun w)
 
 abbrev pub event_of : Moment → Script → World → DaemonState × World
 event_of moment s w = event_from moment (daemon_in s) w
@@ -162,9 +172,10 @@ came_of p = Writes (outcome_text (outcome_of p.0)) (p.0, over p.1)
 abbrev pub event_by : Moment → DaemonState → World → Outcome (DaemonState × World)
 event_by moment d w = if has_numbers d w.faults 0 then came_of (event_from moment d w) else Refused BadLine (d, w)
 
+-- the disk stays as it was
 abbrev pub in_script : Script → Outcome (DaemonState × World) → Outcome (Option Script × World)
-in_script s (Writes text p) = Writes text (Some (record s { phase = Started p.0 }), p.1)
-in_script s (Refused fault p) = Refused fault (Some (record s { phase = Started p.0 }), p.1)
+in_script s (Writes text p) = Writes text (Some (record s { phase = Started p.0 (disk_in s) }), p.1)
+in_script s (Refused fault p) = Refused fault (Some (record s { phase = Started p.0 (disk_in s) }), p.1)
 
 -- the first event starts the daemon
 abbrev pub event_taken : Event → Script → World → Outcome (Option Script × World)

@@ -12,10 +12,13 @@ use Rattle.ug_conf.specs.Draft.{Draft, draft_of, line_read}
 use Rattle.ug_conf.specs.Reader.{Progress, next_number}
 use Rattle.ug_conf.specs.Texts.{setting_line}
 use Rattle.ug_lines.specs.LineReading.{lines_read}
-use Rattle.ug_start.specs.Starting.{permanent_entries}
+use Rattle.ug_core.specs.Starting.{permanent_entries}
 use Rattle.ug_core.specs.Settings.{classes_of}
 use Rattle.ug_core.specs.Policy.{Judging}
 use Rattle.ug_core.specs.Event.{DaemonState}
+use Rattle.ug_print.specs.RuleTexts.{rules_text_of}
+use Rattle.ug_store.specs.DiskCalls.{Load}
+use Rattle.ug_store.specs.Scripted.{DiskWorld, disk_answer, world_at_first}
 use Rattle.ug_script.specs.declared.step.SetupLine.{SetupLine}
 use Rattle.ug_script.specs.declared.step.SetupLine.TheVariants.{Rule, Conf, Seed, Zone}
 use Rattle.ug_script.specs.declared.step.Step.{Step}
@@ -106,9 +109,13 @@ policy_of s = record {
   stream = seeded (given_or no_seed s.seed);
 }
 
--- the daemon that judges by a policy, before its first event, which is number 1
+-- the disk whose rule file holds the canonical text of the rules, behind the reading of it
+abbrev pub rules_disk : SetupState → DiskWorld
+rules_disk s = (disk_answer (world_at_first (rules_text_of s.rules)) Load).1
+
+-- the daemon that judges by a policy, before its first event, which is number 1. Nobody may do anything, and no save is pending.
 abbrev pub started : Judging → DaemonState
-started policy = record { sweep = record { standings = []; next = 1; listed = false; judge = policy; entries = [] }; event = 1 }
+started policy = record { sweep = record { standings = []; next = 1; listed = false; judge = policy; entries = [] }; access = []; pending = false; event = 1 }
 
 -- ---- what lines ask for
 

@@ -9,6 +9,7 @@ mod plan_lines;
 mod plugs;
 mod runner;
 mod running;
+mod session;
 mod setup;
 mod setup_lines;
 mod start;

@@ -9,13 +9,13 @@ ghost use Rattle.ug_script.specs.Replay.{daemon_in, event_taken, fresh, line_tak
 
 use crate::events::next_event;
 use crate::parse::parse_line;
+use crate::session::Session;
 use crate::setup::Setup;
 use crate::start::{NoStart, start_daemon};
 use crate::step::{Plan, SetupLine, Step, StepFault};
-use rand_chacha::ChaCha20Rng;
 use std::alloc::Global;
 use ug_console::Ran;
-use ug_core::{Daemon, Event};
+use ug_core::Event;
 use ug_sysfs::SimKernel;
 use ug_types::{NoMemory, Sink};
 
@@ -27,7 +27,7 @@ pub enum Phase {
     /// None may, and no event came.
     Unstarted,
     /// The first event started the daemon.
-    Started(Daemon<'static, ChaCha20Rng>),
+    Started(Session),
 }
 
 /// What the setup lines gave, and how far the script has come.
@@ -74,7 +74,7 @@ impl Running {
         ensures { result ≡ (daemon_in (script_of self.now)).event - 1 }
     {
         match &self.phase {
-            Phase::Started(daemon) => daemon.next_event().saturating_sub(1),
+            Phase::Started(session) => session.daemon.next_event().saturating_sub(1),
             _ => 0,
         }
     }
@@ -119,10 +119,10 @@ impl Running {
         ensures cause { result ≡ Ran.SinkFailed → Rose (K.faults out.old) (K.faults out.new) }
     {
         match start_daemon(alloc, &self.setup) {
-            Ok(daemon) => {
-                let mut daemon = daemon;
-                let ran = next_event(alloc, &mut daemon, event, kernel, out);
-                self.phase = Phase::Started(daemon);
+            Ok(session) => {
+                let mut session = session;
+                let ran = next_event(alloc, &mut session, event, kernel, out);
+                self.phase = Phase::Started(session);
                 ran
             }
             Err(NoStart::TooLong) => Ran::TooLong,
@@ -142,8 +142,8 @@ impl Running {
         ensures counted { K.faults out.old ≤ K.faults out.new }
         ensures cause { result ≡ Ran.SinkFailed → Rose (K.faults out.old) (K.faults out.new) }
     {
-        if let Phase::Started(daemon) = &mut self.phase {
-            return next_event(alloc, daemon, event, kernel, out);
+        if let Phase::Started(session) = &mut self.phase {
+            return next_event(alloc, session, event, kernel, out);
         }
         self.first_event(alloc, event, kernel, out)
     }

@@ -1,20 +1,26 @@
 // The daemon that a script's first event starts.
-ghost use Rattle.std.specs.Prelude.{◌≡◌, pos, true, false, Err, IfOk, IfSome, IsTrue, OnOk};
+ghost use Rattle.std.specs.Prelude.{◌≡◌, pos, true, false, Err, Ok, IfOk, IfSome, IsTrue, OnOk};
 ghost use Rattle.ug_core.specs.Event.{daemon_of};
-ghost use Rattle.ug_core.specs.Policy.{clock_of, judging_of};
-ghost use Rattle.ug_start.specs.Starting.{HoldsJust};
+ghost use Rattle.ug_core.specs.Policy.{clock_of};
+ghost use Rattle.ug_core.specs.Settings.{classes_of};
+ghost use Rattle.ug_rule.specs.Files.{file_read};
+ghost use Rattle.ug_store.specs.Scripted.{world_at_first};
+ghost use Rattle.ug_print.specs.RuleTexts.{rules_text_of};
 ghost use Rattle.ug_script.specs.Replay.{fits_file};
-ghost use Rattle.ug_script.specs.Setup.{clock_ahead, given_or, is_offset, no_seed, policy_of, started};
+ghost use Rattle.ug_script.specs.Setup.{clock_ahead, given_or, is_offset, no_seed, policy_of, rules_disk, started};
 
+use crate::session::Session;
 use crate::setup::Setup;
 use jiff::tz::{Offset, TimeZone};
 use rand_chacha::ChaCha20Rng;
 use rand_core::{Rng, SeedableRng};
 use std::alloc::Global;
-use ug_core::{Classes, Daemon, Policy};
-use ug_policy::RuleList;
+use ug_acl::Acl;
+use ug_conf::{Settings, default_settings};
+use ug_core::Daemon;
 use ug_print::{RulesTextFault, rules_text};
-use ug_start::{StartFault, rules_of_text};
+use ug_store::MemDisk;
+use ug_types::NoMemory;
 
 /// Why no daemon is started.
 #[derive(Clone, Copy, Debug, PartialEq, Eq)]
@@ -54,10 +60,37 @@ fn seed_of(seed: Option<[u8; 32]>) -> [u8; 32]
     }
 }
 
-/// The rules as they are read from the rule file that holds them.
-#[tactic(auto, using(crate::proofs::Starts::fits_by, crate::proofs::Starts::long_by, crate::proofs::Starts::holds_rules, crate::proofs::Starts::too_long_by))]
-fn rules_of(alloc: Global, setup: &Setup) -> Result<RuleList, NoStart>
-    ensures rules { IfOk result (λ list. HoldsJust setup.now.rules list) }
+fn zone_for(setup: &Setup) -> TimeZone<'static>
+    ensures { clock_of result ≡ (policy_of setup.now).clock }
+{
+    zone_of(setup.zone)
+}
+
+fn rng_for(setup: &Setup) -> ChaCha20Rng
+    ensures { ⟦<ChaCha20Rng as Rng>⟧.stream result ≡ (policy_of setup.now).stream }
+{
+    ChaCha20Rng::from_seed(seed_of(setup.seed))
+}
+
+/// Settings that judge as the lines say. The others are those of `default_settings`: a script has no use for them.
+fn settings_of(alloc: Global, setup: &Setup) -> Result<Settings, NoMemory>
+    ensures { IfOk result (λ settings. classes_of settings
+        ≡ classes_of setup.now.settings.draft.settings) }
+{
+    let given = setup.settings.so_far();
+    let mut settings = default_settings(alloc)?;
+    settings.implicit = given.implicit;
+    settings.present_device = given.present_device;
+    settings.present_controller = given.present_controller;
+    settings.inserted = given.inserted;
+    Ok(settings)
+}
+
+/// The disk whose rule file holds the rules.
+#[tactic(auto, using(crate::proofs::Starts::fits_by, crate::proofs::Starts::long_by))]
+fn disk_of(alloc: Global, setup: &Setup) -> Result<MemDisk, NoStart>
+    ensures disk { IfOk result (λ disk. disk ≡ world_at_first (rules_text_of setup.now.rules)) }
+    ensures reads { OnOk result (file_read (rules_text_of setup.now.rules) ≡ Ok setup.now.rules) }
     ensures fits { OnOk result (fits_file setup.now ≡ true) }
     ensures too_long { result ≡ Err NoStart.TooLong → fits_file setup.now ≡ false }
 {
@@ -66,32 +99,39 @@ fn rules_of(alloc: Global, setup: &Setup) -> Result<RuleList, NoStart>
         Err(RulesTextFault::TooLong) => return Err(NoStart::TooLong),
         Err(RulesTextFault::Memory) => return Err(NoStart::Memory),
     };
-    match rules_of_text(alloc, text.bytes()) {
-        Ok(list) => Ok(list),
-        Err(StartFault::TooLong) => Err(NoStart::TooLong),
+    match MemDisk::with_text(alloc, text.bytes()) {
+        Ok(disk) => Ok(disk),
         Err(_) => Err(NoStart::Memory),
     }
 }
 
-fn policy_for(setup: &Setup, rules: RuleList) -> Policy<'static, ChaCha20Rng>
-    requires { HoldsJust setup.now.rules rules }
-    ensures { judging_of ⟦<ChaCha20Rng as Rng>⟧.stream result ≡ policy_of setup.now }
+/// The daemon that reads its rules from that disk.
+fn start_on(alloc: Global, setup: &Setup, disk: MemDisk) -> Result<Session, NoMemory>
+    requires disk { disk ≡ world_at_first (rules_text_of setup.now.rules) }
+    requires reads { file_read (rules_text_of setup.now.rules) ≡ Ok setup.now.rules }
+    ensures daemon { IfOk result (λ s. daemon_of s.daemon ≡ started (policy_of setup.now)) }
+    ensures disk { IfOk result (λ s. s.disk ≡ rules_disk setup.now) }
 {
-    let classes = Classes::of(setup.settings.so_far());
-    let rng = ChaCha20Rng::from_seed(seed_of(setup.seed));
-    Policy::new(classes, rules, zone_of(setup.zone), rng)
+    let settings = settings_of(alloc, setup)?;
+    let rng = rng_for(setup);
+    let zone = zone_for(setup);
+    let mut disk = disk;
+    match Daemon::start(alloc, settings, Acl::new(alloc), rng, zone, 1, &mut disk) {
+        Ok(daemon) => Ok(Session { daemon, disk }),
+        Err(_) => Err(NoMemory),
+    }
 }
 
 /// The daemon that judges by the setup lines, before its first event, which is number 1.
-#[tactic(auto, using(crate::proofs::Starts::started_by))]
-pub fn start_daemon(alloc: Global, setup: &Setup) -> Result<Daemon<'static, ChaCha20Rng>, NoStart>
-    ensures daemon { IfOk result (λ d. daemon_of d ≡ started (policy_of setup.now)) }
+pub fn start_daemon(alloc: Global, setup: &Setup) -> Result<Session, NoStart>
+    ensures daemon { IfOk result (λ s. daemon_of s.daemon ≡ started (policy_of setup.now)) }
+    ensures disk { IfOk result (λ s. s.disk ≡ rules_disk setup.now) }
     ensures fits { OnOk result (fits_file setup.now ≡ true) }
     ensures too_long { result ≡ Err NoStart.TooLong → fits_file setup.now ≡ false }
 {
-    let rules = rules_of(alloc, setup)?;
-    match Daemon::start(alloc, policy_for(setup, rules), 1) {
-        Ok(daemon) => Ok(daemon),
+    let disk = disk_of(alloc, setup)?;
+    match start_on(alloc, setup, disk) {
+        Ok(session) => Ok(session),
         Err(_) => Err(NoStart::Memory),
     }
 }

@@ -100,8 +100,7 @@ module _ {J : Type 0} (answer : Answers J) (later : Laters J) where
       → Ways (settling_all answer later names present w) (Linked true present names w)
   settling_chain [] present w = ([], Over w)
   settling_chain (name ∷ names) present w =
-      let all : List (List ℕ) = name ∷ names in
-      let Q = Linked true present all w in
+      let Q = Linked true present (name ∷ names) w in
       ways_next (Settles answer later name present w) Q (settling answer later name present w)
       (λ (p : Settled × State J). settling_all answer later names present p.1)
       (settles answer later name present w)

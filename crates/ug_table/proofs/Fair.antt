@@ -1,7 +1,7 @@
 -- A part is fair, and so is a sweep.
 use Rattle.std.proofs.Common.{◌≡◌, ℕ, Bool, true, false, not, ◌&&◌, List, [], ◌∷◌, ◌++◌, ◌⊎◌, Some, slice_get, inl, inr, refl, sym, ◌∙◌, ap, subst, append_assoc, append-nil, ◌+◌, ◌<◌, is_none, Option, arith, cond, true≢false}
 use Rattle.std.proofs.lemmas.Bool.{and_parts, and_cases, both_ways, not-true, not-false, cond_both, cases_Bool}
-use Rattle.ug_table.proofs.Common.{Has, AllDistinct, Target, Control, Authorized, Remove, Write, Wrote, Put, Close, Told, Closing, Ask_alive, Names, Kernel, Moves, IsKernel, Live, IsWritten, IsGoneAt, says_put, Called, says_listing, Grows, Quiet, calls, Runs, RemoveHold, Entry, State, Answers, Laters, known_of, standing_of, without, with_standing, place_for, lists, farewells, Tries, IsDevice, MayHave, MayHaveNot, wrote_entries, HasRemoval, WasRemoved, IsFirst, Account, Start, Had, Had_not, AreInOrder, none_before, IsProbed, Stand, numbers_of, Judge, IsOne, IsTold, HasStanding, IsFair, IsRemoveMarked, swept_before, IsGone, Went as WentAway, gone_of, Standing, Settled, Made, answered, Along, failure_of, FailedCall, parent_of, Judged, Held, Cause, Device, Bound, Binding, Known, in_sweep_order, unlisted_files}
+use Rattle.ug_table.proofs.Common.{Has, AllDistinct, Target, Control, Authorized, Remove, Write, Wrote, Put, Close, Told, Closing, Ask_alive, Names, Kernel, Moves, IsKernel, Live, IsWritten, IsGoneAt, says_put, Called, says_listing, Grows, Quiet, calls, Runs, RemoveHold, Entry, State, Answers, Laters, known_of, standing_of, without, with_standing, place_for, lists, farewells, Tries, IsDevice, MayHave, MayHaveNot, wrote_entries, HasRemoval, WasRemoved, IsFirst, Account, Start, Had, Had_not, AreInOrder, none_before, IsProbed, Stand, numbers_of, Judge, IsOne, IsTold, HasStanding, IsFair, IsRemoveMarked, swept_before, IsGone, Went as WentAway, gone_of, Standing, Settled, Made, answered, Along, failure_of, FailedCall, parent_of, Judged, Held, Cause, Bound, Binding, Known, in_sweep_order, unlisted_files}
 use Rattle.ug_types.specs.declared.verdict.Target.TheVariants as target
 use Rattle.ug_kernel.specs.declared.device.HeldFile.{HeldFile}
 use Rattle.ug_kernel.specs.declared.device.Effect.{Effect}
@@ -147,9 +147,7 @@ removed_if a b e r = elim (and_cases a (not b) e) [ inl f ↦ absurd (both_ways 
 
 remove_first : {J : Type 0} (m : Kernel) (u : State J) (s : Standing) → Has u.standings s → s.removed ≡ false → (distinct : (t : Standing) → Has u.standings t → t.number ≡ s.number → t ≡ s) → IsFirst u.standings [] s.number write.Remove
 remove_first m u s has e one (inl b) =
-    let same : b.0 ≡ s = one b.0 b.1 b.2 in
-    let was : true ≡ false = sym b.3 ∙ ap (λ (v : Standing). v.removed) same ∙ e in
-    let none : ⊥ = cc in none
+    true≢false (sym b.3 ∙ ap (λ (v : Standing). v.removed) (one b.0 b.1 b.2) ∙ e)
 remove_first m u s has e one (inr b) = b.1
 
 -- the log has it
@@ -272,9 +270,7 @@ new_marks : (ss : List Standing) (next : ℕ) (s : Standing) (e : Entry) → s.n
 new_marks ss next s e number fresh distinct low none =
     let unmarked : WasRemoved ss (e ∷ []) s.number → ⊥ = λ w. elim w [
       | inl b ↦
-          let below = low b.0 b.1 in
-          let same = b.2 in
-          omega (arith, below, same, number)
+          omega (arith, low b.0 b.1, b.2, number)
       | inr b ↦ none s.number b.0 b.1
     ] in
     each_with (λ (v : Standing). IsRemoveMarked ss (e ∷ []) v) s ss (inr (fresh, unmarked)) (λ t a. keep_one ss (e ∷ []) t (keeps_itself ss t a) distinct (none t.number))
@@ -410,8 +406,7 @@ flat_fair {name = name} l (Tried known on failed ms es how at b) is so h a = kno
 flat_fair l (Stopped ms es rs f opening) is so h a = (opening_fair l opening so h a).fair
 flat_fair {m = m} {u = u} {name = name} l (Unbound ms ns es fs rs r how t opening way end) is so h a =
     let cut = along_split calls ms ns m l a in
-    let b = binds_fair l name ns r way (opening_fair cut.0 opening so h cut.1).fair cut.2 in
-    unbound_fair u rs es end b.3
+    unbound_fair u rs es end (binds_fair l name ns r way (opening_fair cut.0 opening so h cut.1).fair cut.2).3
 flat_fair {J} {answer} {later} {present} {tried} {k = k} {m = m} {w = w} {u = u} {name = name} l (No_place ms ns es rs b shut t opening way) is so h a =
     let last : List Made = answered (Close b.held.0) shut ∷ [] in
     let cut = along_split calls ms (ns ++ last) m l a in
@@ -449,9 +444,8 @@ pub piece_fair : {J : Type 0} {answer : Answers J} {later : Laters J} {binds pre
 piece_fair {J} {answer} {later} {present = present} {tried = tried} {name = name} {k = k} {l = l}
     {w = w}
     {u = u} {v = v} so h p a =
-    let next = next_after u p.judged in
     let judge = judge_after later present name u p.judged in
-    let is = state_is v next u.listed judge (u.entries ++ p.rest) p.next p.listed p.judge p.entries
+    let is = state_is v (next_after u p.judged) u.listed judge (u.entries ++ p.rest) p.next p.listed p.judge p.entries
     in
     subst (λ (x : State J). FairFrom answer later present tried k w l x) (sym is)
     (flat_fair l p.flat (λ ss b z g. g) so h a)
@@ -559,8 +553,7 @@ parted_fair answer later present tried m u names sound stand gone =
             let number : t.0.number ≡ s.number = cc in
             let f = filter_has listed ss s a in
             let same : t.0 ≡ s = distinct_one (λ (v : Standing). v.number) ss t.0 s stand.distinct t.1 f.0 number in
-            let was : true ≡ false = sym f.1 ∙ sym (ap (λ (v : Standing). lists names v.name) same) ∙ t.2 in
-            true≢false was;
+            true≢false (sym f.1 ∙ sym (ap (λ (v : Standing). lists names v.name) same) ∙ t.2);
         removed = keep_marks ss rs (farewells names ss) stand.distinct (λ s a. keeps_itself ss s (filter_has listed ss s a).0) (λ number name a. let t = farewell_has names ss (entry.Wrote number name write.Remove wrote.Done) a in let e = t.3 in let none : ⊥ = cc in none);
       };
       gone = farewell_distinct names ss stand.distinct;

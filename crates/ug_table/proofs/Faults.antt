@@ -35,19 +35,18 @@ next_is : {J : Type 0} (w : State J) (o : Option (List Standing × Bound))
 next_is w None = omega arith
 next_is w (Some judged) = refl
 
+given_length : (es fs : List Entry)
+    → length (numbers_given (es ++ fs)) ≡ length (numbers_given es) + length (numbers_given fs)
+given_length es fs =
+    ap length (given_more es fs) ∙ length-append (numbers_given es) (numbers_given fs)
+
 pub chain_next : {J : Type 0} {answer : Answers J} {later : Laters J} {binds present : Bool}
     {names : List (List ℕ)} {w v : State J} {ok : Bool} {ms : List Made} {es : List Entry}
     → Chain answer later binds present names w ok ms es v
     → v.next ≡ w.next + length (numbers_given es)
 chain_next (Over w) = omega arith
 chain_next (First name names how w x v ok more ms ns es p c) =
-    let rest = chain_next c in
-    let here = p.next in
-    let is = next_is w p.judged in
-    let given = flat_given p.flat in
-    let sum = ap length (given_more p.rest es) ∙ length-append (numbers_given p.rest)
-    (numbers_given es) in
-    omega (arith, rest, here, is, given, sum)
+    omega (arith, chain_next c, p.next, next_is w p.judged, flat_given p.flat, given_length p.rest es)
 
 -- one a name at most, and none where nothing is bound
 pub chain_given : {J : Type 0} {answer : Answers J} {later : Laters J} {present : Bool}
@@ -55,23 +54,14 @@ pub chain_given : {J : Type 0} {answer : Answers J} {later : Laters J} {present 
     → Chain answer later true present names w ok ms es v → length (numbers_given es) ≤ length names
 chain_given (Over w) = omega arith
 chain_given (First name names how w x v ok more ms ns es p c) =
-    let rest = chain_given c in
-    let one = (flat_is_part p.flat).given in
-    let sum = ap length (given_more p.rest es) ∙ length-append (numbers_given p.rest)
-    (numbers_given es) in
-    omega (arith, rest, one, sum)
+    omega (arith, chain_given c, (flat_is_part p.flat).given, given_length p.rest es)
 
 pub chain_none : {J : Type 0} {answer : Answers J} {later : Laters J} {present : Bool}
     {names : List (List ℕ)} {w v : State J} {ok : Bool} {ms : List Made} {es : List Entry}
     → Chain answer later false present names w ok ms es v → length (numbers_given es) ≡ 0
 chain_none (Over w) = refl
 chain_none (First name names how w x v ok more ms ns es p c) =
-    let rest = chain_none c in
-    let given = flat_given p.flat in
-    let none = flat_none refl p.flat in
-    let sum = ap length (given_more p.rest es) ∙ length-append (numbers_given p.rest)
-    (numbers_given es) in
-    omega (arith, rest, given, none, sum)
+    omega (arith, chain_none c, flat_given p.flat, flat_none refl p.flat, given_length p.rest es)
 
 -- the parts of a sweep
 pub in_parts : {S J : Type 0} {gives : S → (call : Call) → Answer call → S → Type 0}
@@ -80,8 +70,6 @@ pub in_parts : {S J : Type 0} {gives : S → (call : Call) → Answer call → S
     → GoesInParts gives s w t v
 in_parts {w = w} a (Listed found failed ok shut made es v closings c) =
     let names = in_sweep_order found in
-    let few = chain_given c in
-    let same = length-sweep_order found in
     record {
       listed = told_at (listing.Names found) failed;
       later = shut ++ made;
@@ -97,10 +85,9 @@ in_parts {w = w} a (Listed found failed ok shut made es v closings c) =
       begins = inl (refl, refl, refl, closings);
       parts = chain_parts c;
       next = chain_next c;
-      given = omega (arith, few, same);
+      given = omega (arith, chain_given c, length-sweep_order found);
     }
 in_parts {w = w} a (Unlisted list failed room why ok made es v by c) =
-    let none = chain_none c in
     record {
       listed = told_at list failed;
       later = made;
@@ -116,7 +103,7 @@ in_parts {w = w} a (Unlisted list failed room why ok made es v by c) =
       begins = unlisted_begins w.standings by;
       parts = chain_parts c;
       next = chain_next c;
-      given = omega (arith, none);
+      given = omega (arith, chain_none c);
     }
 
 -- each failed call is told in its part

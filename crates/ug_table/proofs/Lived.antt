@@ -23,7 +23,7 @@ use Rattle.ug_audit.specs.declared.entry.Fault.TheVariants as fault
 use Rattle.ug_table.specs.Settle.{tried_standings}
 use Rattle.ug_types.proofs.Elements.{has_right, has_left, has_new, has_old, cancel, filter_has, has_map}
 use Rattle.ug_table.proofs.Marks.{known_has}
-use Rattle.ug_table.specs.Sweep.{names_of, parted, sweeping}
+use Rattle.ug_table.specs.Sweep.{names_of, sweeping}
 use Rattle.ug_types.proofs.Sorting.{to_sweep_order}
 use Rattle.ug_kernel.specs.declared.calls.Listing.TheVariants as listing
 use Rattle.ug_table.proofs.Chains.{closings_quiet, Chain, Over, First, Goes, Listed, Unlisted, sweeping_run}
@@ -267,8 +267,7 @@ carried_own {name} {known} {on} i k l (And_removal ms ns es fs how go v r) sound
     let m = cut.0 in
     let g = along_grows ms k m cut.1 in
     let j = along_grows ns m l cut.2 in
-    let mid = live_mid k m l i known.held.0 on name g j live file at in
-    elim (valued_own i k m v mid file at cut.1) [
+    elim (valued_own i k m v (live_mid k m l i known.held.0 on name g j live file at) file at cut.1) [
       | inl h ↦ elim (removal_own i (wants known.verdict) m l r (along_sound ms k m sound cut.1) live (file_later k m known.held.0 i g file) h.1 cut.2) [ inl b ↦ inl b | inr n ↦ inr (n.0, has_right es fs (entry.Unsettled name n.0) n.1) ]
       | inr n ↦ inr (n.0, has_left es fs (entry.Unsettled name n.0) n.1)
     ]
@@ -366,7 +365,7 @@ well_before binds es fs gs l ss i name a (inl h) = inl (good_before es fs gs l s
 well_before binds es fs gs l ss i name a (inr h) = inr h
 
 -- no standing of its name, no standing
-none_stands : (k : Kernel) (ss : List Standing) (i : ℕ) (name : List ℕ) → Files k ss → LiveAs k i name → (Has (names_of ss) name → ⊥) → HasStanding k ss i → ⊥
+pub none_stands : (k : Kernel) (ss : List Standing) (i : ℕ) (name : List ℕ) → Files k ss → LiveAs k i name → (Has (names_of ss) name → ⊥) → HasStanding k ss i → ⊥
 none_stands k ss i name f live none h = none (subst (λ v. Has (names_of ss) v) (open_named k h.s.name name h.s.held.0 i (f h.s h.has) h.file live) (has_map (λ (v : Standing). v.name) ss h.s h.has))
 
 -- a standing that was there had the same device
@@ -440,17 +439,15 @@ chain_well {answer = answer} {later = later} {binds = binds} {present = present}
     let g = along_grows ms k u cut.1 in
     let mid = lives_between k u l i name g (along_grows ns u l cut.2) first live in
     let apart = piece_apart sound f p cut.1 in
-    let P = Well binds es k w.standings w.entries i name in
     let Q = Well binds es u x.standings x.entries i name in
     let own : n ≡ name → Q = λ e. well_before binds es w.entries x.entries u x.standings i name a
     (piece_well i sound f first mid
     (subst (λ (y : List ℕ). Piece answer later binds present y w ok ms how x) e p) cut.1) in
-    let back : binds ≡ false → HasStanding u x.standings i → HasStanding k w.standings i = λ e. stood k u w.standings x.standings i f g (flat_was e p.flat) in
     chain_well name i es (along_sound ms k u sound cut.1) apart.files mid live
     (appends_trans es w.entries x.entries a apart.entries)
-    (step P Q n name names (same_name n name) refl own
+    (step (Well binds es k w.standings w.entries i name) Q n name names (same_name n name) refl own
     (λ ne h. well_apart binds n name i es k w.standings w.entries u x.standings x.entries ne f
-    first g apart back h) c) rest cut.2
+    first g apart (λ e. stood k u w.standings x.standings i f g (flat_was e p.flat)) h) c) rest cut.2
 
 -- what is said of a device at the end of a sweep
 abbrev EndsSo : Kernel → List Standing → List Entry → ℕ → List ℕ → Type 0
@@ -494,10 +491,9 @@ goes_ended {k = k} {l = l} {w = w} {v = v} rest i name f e first live
     let j = quiet_grows m u q.1 in
     let late = lives_between k u l i name (grows_trans k m u h j) (along_grows made u l cut.2) first
     live in
-    let mid = lives_between k m u i name h j first late in
     let has : Has names name = to_sweep_order found name
     (subst (λ (n : List ℕ). Has found n) first.named
-    (b.1.says.0 i first.d (lived k m i name first mid))) in
+    (b.1.says.0 i first.d (lived k m i name first (lives_between k m u i name h j first late)))) in
     let files = files_later k u w.standings (grows_trans k m u h j) f in
     let well = chain_well name i w.entries q.0
     (λ s a. files s (filter_has (λ (v : Standing). lists names v.name) w.standings s a).0) late live

@@ -4,7 +4,8 @@ use Rattle.std.proofs.lemmas.List.{drop_more}
 use Rattle.ug_table.proofs.Common.{Entry, Standing, Call, Answer, Runs, State, Kept, Answers, Laters, Settled}
 use Rattle.ug_kernel.proofs.Runs.{runs_then}
 use Rattle.ug_audit.specs.declared.journal.Journal.{Journal}
-use Rattle.ug_audit.specs.Journal.{Notes}
+use Rattle.ug_audit.specs.Journal.{Notes, Told}
+use Rattle.ug_audit.proofs.Noting.{goes_on}
 use Rattle.ug_table.specs.Settle.{settling, resettling}
 use Rattle.ug_table.specs.Sweep.{settling_all, resettling_all}
 
@@ -22,8 +23,8 @@ resettling_more {S} gives names i name w s u p lt e h r t k =
     (runs_then gives s (resettling name w) (λ (q : Settled × Kept). resettling_all (drop (i + 1) names) q.1) p u r t h k)
 
 -- what each name notes
-pub notes_more : (each i : ℕ) (a b c : Journal) → Notes (each * i) a b → Notes each b c → Notes (each * (i + 1)) a c
-notes_more each i a b c h k = (k.0 ∙ h.0, k.1 ∙ h.1, let first = h.2 in let next = k.2 in grind (arith, first, next))
+pub notes_more : {X : Type 0} {F : X → Type 0} (told : Told X F) (each i : ℕ) (a b c : Journal X F) → Notes told (each * i) a b → Notes told each b c → Notes told (each * (i + 1)) a c
+notes_more told each i a b c h k = (goes_on told a b c h.0 k.0, k.1 ∙ h.1, let first = h.2 in let next = k.2 in grind (arith, first, next))
 
 -- a state whose fields are those of another
 pub same_state : {J : Type 0} (ss rs : List Standing) (next after : ℕ) (listed seen : Bool) (judge : J) (es : List Entry) → rs ≡ ss → after ≡ next → seen ≡ listed → let made : State J = record { standings = rs; next = after; listed = seen; judge = judge; entries = es } in let was : State J = record { standings = ss; next = next; listed = listed; judge = judge; entries = es } in made ≡ was

@@ -141,8 +141,7 @@ piece_part {w = w} {v = v} p = (flat_part w.entries v.entries p.entries p.flat, 
 pub known_has : (name : List ℕ) (ss : List Standing) (known : Known)
     → standing_of name ss ≡ Some known → Has (names_of ss) name
 known_has name ss known e =
-    let s = found name ss known e in
-    subst (λ (v : List ℕ). Has (names_of ss) v) s.named (has_map (λ (v : Standing). v.name) ss s.s s.has)
+    let s = found name ss known e in own_name ss name s.s s.has s.named
 
 tried_stands : (name : List ℕ) (ss : List Standing) (known : Known) (how : Settled) → standing_of name ss ≡ Some known → how ≡ settled.Stands → Has (names_of (tried_standings ss name how)) name
 tried_stands name ss known how at e =
@@ -478,8 +477,7 @@ pub order_new : (next : ℕ) (ss : List Standing) (s : Standing) → s.number �
 order_new next ss s is absent o =
     let none : Has (numbers_of ss) s.number → ⊥ = λ a.
     let m = map_has (λ (v : Standing). v.number) ss s.number a in
-    let below = o.numbers m.0 m.1 in
-    omega (arith, below, m.2, is) in
+    omega (arith, o.numbers m.0 m.1, m.2, is) in
     record {
       order = order_with s ss o.order absent;
       distinct = distinct_insert (λ (v : Standing). v.number) ss (place_for s.name ss) s o.distinct none;
@@ -508,7 +506,7 @@ nearer_found ss number None x e h = (
   has_right ss (x ∷ []) x (inl refl),
   grind (arith, e),
   λ s a above. elim (last_is ss x s a) [
-    | inl b ↦ let most = h s b in let none : ⊥ = omega (arith, most, above) in absurd none
+    | inl b ↦ let most = h s b in absurd (omega (arith, most, above))
     | inr is ↦ let same = ap (λ (v : Standing). v.number) is in omega (arith, same)
   ],
 )

@@ -7,11 +7,11 @@ use Rattle.ug_kernel.proofs.Told.{told_run}
 use Rattle.ug_audit.specs.declared.entry.Entry.TheVariants as entry
 use Rattle.ug_table.specs.Sweep.{names_of, sweeping}
 use Rattle.ug_types.proofs.Elements.{has_cases, cancel, has_right}
-use Rattle.ug_table.proofs.Marks.{order_distinct, ends_only, named_only}
+use Rattle.ug_table.proofs.Marks.{order_distinct, ends_only, named_only, farewell_none}
+use Rattle.ug_table.proofs.Says.{none_named}
 use Rattle.ug_table.proofs.Chains.{Chain, Over, First, Goes, Listed, Unlisted, goes_entries, sweeping_run}
 use Rattle.ug_table.proofs.OnePart.{flat_is_part}
 use Rattle.ug_table.proofs.Shapes.{told_at}
-use Rattle.ug_kernel.specs.declared.calls.Probe.TheVariants as probe
 use Rattle.ug_kernel.proofs.Grow.{some_same, called_grows, grows_trans}
 use Rattle.ug_kernel.proofs.Ways.{along_split, along_grows}
 use Rattle.ug_audit.specs.declared.entry.Fault.TheVariants as fault
@@ -64,17 +64,12 @@ chain_once d (First name names how w x v ok more ms ns es p c) =
     ] in
     subst AllDistinct (sym (names_more p.rest es)) whole
 
-farewells_name_none : (names : List (List ℕ)) (ss : List Standing)
-    → unsettled_names (farewells names ss) ≡ []
-farewells_name_none names ss =
-    farewells_by (λ es. unsettled_names es ≡ []) refl (λ number name es h. h) names ss
-
 goes_once : {J : Type 0} {answer : Answers J} {later : Laters J} {w v : State J} {ok : Bool}
     {ms : List Made} {es : List Entry} (k l : Kernel) → AllDistinct (names_of w.standings)
     → Goes answer later w ok ms es v → Along calls k ms l → AllDistinct (unsettled_names es)
 goes_once {w = w} k l d (Listed found failed ok shut made es v closings c) a =
     let names = in_sweep_order found in
-    let none = farewells_name_none names w.standings in
+    let none = farewells_by (λ x. unsettled_names x ≡ []) refl (λ number name x h. h) names w.standings in
     let same = names_more (farewells names w.standings) es
     ∙ ap (λ (x : List (List ℕ)). x ++ unsettled_names es) none in
     subst AllDistinct (sym same) (chain_once (order_distinct found a.1.says.1) c)
@@ -108,11 +103,6 @@ lives_on {name} {known} {i} {k = k} {l = l} u same g h x = record {
   last = x.last;
 }
 
--- one that lives isn't found gone
-not_gone : (name : List ℕ) (held i : ℕ) (answer : Probe) (k u : Kernel) → answer ≡ probe.Gone → says_probe held answer k u → IsFileOf u held i → LiveAs u i name → ⊥
-not_gone name held i probe.Gone k u e says file live = gone_no u held i name says file live
-not_gone name held i x k u e says file live = let none : ⊥ = cc in none
-
 -- a part that tells the name for want of memory
 part_spared : (name : List ℕ) (known : Known) (i : ℕ) (k l : Kernel) (ss rs : List Standing) (ms : List Made) (es : List Entry) → Part name ss rs ms es → Lives name known i ss k l → Along calls k ms l → Has es (entry.Unsettled name fault.Memory) → is_to_go known ≡ true
 part_spared name known i k l ss rs ms es part lives a told = elim (part.memory told) [
@@ -125,7 +115,7 @@ part_spared name known i k l ss rs ms es part lives a told = elim (part.memory t
         let step : Along calls k (answered (Ask_alive other.held.0) t ∷ gone.1) l = subst (λ (m : Made). Along calls k (m ∷ gone.1) l) gone.3.3 (subst (λ (v : List Made). Along calls k v l) gone.2 a) in
         let u = step.0 in
         let g = called_grows (Ask_alive other.held.0) t k u step.1 in
-        not_gone name other.held.0 i t.answer k u gone.3.4 step.1.says
+        gone_no u other.held.0 i name (subst (λ (p : Probe). says_probe other.held.0 p k u) gone.3.4 step.1.says)
         (subst (λ (v : Known). IsFileOf u v.held.0 i) (sym same) (file_later k u known.held.0 i g lives.file))
         (lives_between k u l i name g (along_grows gone.1 u l step.2) lives.first lives.last)
   ])
@@ -147,13 +137,12 @@ chain_spared : {J : Type 0} {answer : Answers J} {later : Laters J} {binds prese
 chain_spared d (Over w) lives a told = absurd told
 chain_spared {name = name} {known = known} {i = i} {k = k} {l = l} d
     (First n names how w x v ok more ms ns es p c) lives a told =
-    let memory = entry.Unsettled name fault.Memory in
     let cut = along_split calls ms ns k l a in
     let u = cut.0 in
     let g = along_grows ms k u cut.1 in
     let h = along_grows ns u l cut.2 in
     let part = flat_is_part p.flat in
-    elim (has_cases p.rest es memory told) [
+    elim (has_cases p.rest es (entry.Unsettled name fault.Memory) told) [
       | inl y ↦
           let is : name ≡ n = named_only n name p.rest (ends_only n p.rest part.last) (fault.Memory, y) in
           let own = subst (λ (z : List ℕ). Part z w.standings x.standings ms p.rest) (sym is) part
@@ -176,7 +165,6 @@ goes_spared : {J : Type 0} {answer : Answers J} {later : Laters J} {w v : State 
     → Has es (entry.Unsettled name fault.Memory) → is_to_go known ≡ true
 goes_spared {w = w} {name = name} {k = k} {l = l} d
     (Listed found failed ok shut made es v closings c) lives a told =
-    let memory = entry.Unsettled name fault.Memory in
     let names = in_sweep_order found in
     let bye = farewells names w.standings in
     let m = a.0 in
@@ -184,11 +172,8 @@ goes_spared {w = w} {name = name} {k = k} {l = l} d
     let u = cut.0 in
     let t = told_at (listing.Names found) failed in
     let g = grows_trans k m u (called_grows Names t k m a.1) (along_grows shut m u cut.1) in
-    elim (has_cases bye es memory told) [
-      | inl b ↦
-          let none = farewells_name_none names w.standings in
-          let has = name_told bye name fault.Memory b in
-          absurd (subst (λ (y : List (List ℕ)). Has y name) none has)
+    elim (has_cases bye es (entry.Unsettled name fault.Memory) told) [
+      | inl b ↦ absurd (none_named bye name (farewell_none names w.standings) (fault.Memory, b))
       | inr b ↦
           let has = chain_names name c (name_told es name fault.Memory b) in
           let same = listed_stand names name w.standings (listed_is names name has) in

@@ -11,7 +11,7 @@ use Rattle.ug_table.specs.Marks.{has_name, has_number, stood_removed, LeavesMark
 use Rattle.ug_table.specs.One.{resettling_numbered, NeedsRoom, failed_of, whys, why_of, GoesAsPart, LivedAs, SettledOne, SettlesOne, IsOf, ResettledOne, ResettlesOne}
 use Rattle.ug_table.specs.declared.standing.Settled.TheVariants as settled
 use Rattle.ug_types.proofs.Elements.{filter_has, map_has, has_map, distinct_one, cancel}
-use Rattle.ug_table.proofs.Marks.{names_distinct, AreIn, unnamed, flat_stands, flat_nobody}
+use Rattle.ug_table.proofs.Marks.{names_distinct, unnamed, flat_stands, flat_nobody}
 use Rattle.ug_table.proofs.Standings.{marked_other, without_with, each_with, same_is, is_same, found, missing, numbered_has, IsFileOf, file_same, file_later, LiveAs, IsOpen, or_none, open_name, open_later, open_named}
 use Rattle.ug_table.proofs.Shapes.{Opening, Fresh, Lost, Flat, Unprobed, Tried, Stopped, Unbound, No_place, Judged_so, Piece, opening_absent}
 use Rattle.ug_table.proofs.PartCalls.{failed_by}
@@ -21,7 +21,7 @@ use Rattle.ug_kernel.proofs.Grow.{grows_refl, some_same}
 use Rattle.ug_kernel.proofs.Rises.{Counting, along_numbered, along_rises}
 use Rattle.ug_kernel.proofs.Told.{told_run}
 use Rattle.ug_table.proofs.Steps.{FairFrom, had_before, fair_refl}
-use Rattle.ug_table.proofs.Lived.{lives_first, lives_last, stand_files, judged_at, piece_well, piece_own}
+use Rattle.ug_table.proofs.Lived.{none_stands, lives_first, lives_last, stand_files, judged_at, piece_well, piece_own}
 use Rattle.ug_table.proofs.Fair.{piece_fair}
 
 -- How the settling of a name leaves the marks, whatever the kernel answers.
@@ -146,9 +146,7 @@ opening_leaves {name = name} {ss = ss} {rs = rs} how opening =
 next_stood : (next : ℕ) (ss : List Standing) → StandInOrder next ss → stood_removed next ss ≡ false
 next_stood next ss o = none_stood next ss (λ a.
     let m = map_has (λ (v : Standing). v.number) ss next a in
-    let below = o.numbers m.0 m.1 in
-    let is = m.2 in
-    omega (arith, below, is))
+    omega (arith, o.numbers m.0 m.1, m.2))
 
 flat_leaves : {binds : Bool} {given : List Standing → Bound → Standing → Type 0} {name : List ℕ} {ss : List Standing} {ok : Bool} {ms : List Made} {rest : List Entry} {how : Settled} {rs : List Standing} {o : Option (List Standing × Bound)} (next : ℕ) → StandInOrder next ss → ((rs : List Standing) (b : Bound) (x : Standing) → given rs b x → x.number ≡ next) → Flat binds given name ss ok ms rest how rs o → LeavesMarks (has_name name) ss rs how
 flat_leaves {name = name} {ss = ss} next order numbered (Unprobed known failed at) = tried_leaves (of_name name) name ss ss (settled.Fault failed) (λ s a. refl) refl (λ s a o. stood_at ss s order.distinct a)
@@ -188,8 +186,7 @@ numbered_named next number ss x order at s a = by (nat_eq s.number number) refl 
         sym (is_same s.name x.name (ap (λ (v : Standing). v.name) same)) ∙ f
     by false e true f =
         let same : s ≡ x = distinct_one (λ (v : Standing). v.name) ss s x (names_distinct (names_of ss) order.order) a has (same_is s.name x.name f) in
-        let n : s.number ≡ number = ap (λ (v : Standing). v.number) same ∙ is in
-        let was : nat_eq s.number number ≡ true = grind (arith, n) in
+        let was : nat_eq s.number number ≡ true = grind (arith, ap (λ (v : Standing). v.number) same ∙ is) in
         sym e ∙ was
 
 flat_tried : {given : List Standing → Bound → Standing → Type 0} {binds : Bool} {name : List ℕ} {ss : List Standing} {ok : Bool} {ms : List Made} {rest : List Entry} {how : Settled} {rs : List Standing} {o : Option (List Standing × Bound)} → Flat binds given name ss ok ms rest how rs o → binds ≡ false → Has (names_of ss) name → rs ≡ tried_standings ss name how
@@ -251,11 +248,6 @@ settling_part gives calls faults counted answer later name present w s p t h =
     let x = settling_run gives answer later name present w s p t h in
     as_part gives calls faults counted x.so x.along
 
--- the standing of a live device of that name bears the name
-standing_named : (l : Kernel) (ss : List Standing) (next i : ℕ) (name : List ℕ) → Stand l ss next → LiveAs l i name → HasStanding l ss i → Has (names_of ss) name
-standing_named l ss next i name stand live h =
-    subst (λ (v : List ℕ). Has (names_of ss) v) (open_named l h.s.name name h.s.held.0 i (stand_files l ss next stand h.s h.has) h.file live) (has_map (λ (v : Standing). v.name) ss h.s h.has)
-
 settling_one : {J : Type 0} (answer : Answers J) (later : Laters J) (name : List ℕ) (present : Bool) (w : State J) (k l : Kernel) (p : Settled × State J) → IsKernel k → Stand k w.standings w.next → Runs calls k (settling answer later name present w) p l → SettledOne answer later present name k w l p.1 p.0
 settling_one {J} answer later name present w k l p sound stand r =
     let x = settling_run calls answer later name present w k p l r in
@@ -275,7 +267,8 @@ settling_one {J} answer later name present w k l p sound stand r =
       fair = a.fair;
       ended = ended;
       nobody = λ e i x. elim (ended i x) [
-        | inl j ↦ flat_nobody piece.flat e (standing_named l p.1.standings p.1.next i name a.fair.stand (last i x) j.standing)
+        | inl j ↦ none_stands l p.1.standings i name (stand_files l p.1.standings p.1.next a.fair.stand) (last i x)
+            (flat_nobody piece.flat e) j.standing
         | inr n ↦ unnamed a.fair.rest name (subst (λ (v : List Entry). whys v ≡ []) (added w.entries p.1.entries a.fair.rest piece.rest a.fair.entries piece.entries) (flat_whys piece.flat ∙ ap why_of e)) n
       ];
     }
@@ -302,8 +295,7 @@ one_name k a b held other i x y f g =
 dead : (l : Kernel) (i : ℕ) (name : List ℕ) → IsGone l i → LiveAs l i name → ⊥
 dead l i name gone live =
     let same : gone.0 ≡ live.d = some_same (slice_get l.devices i) gone.0 live.d gone.1 live.live.at in
-    let was : true ≡ false = sym gone.2 ∙ ap (λ (v : Device). v.gone) same ∙ live.live.here in
-    true≢false was
+    true≢false (sym gone.2 ∙ ap (λ (v : Device). v.gone) same ∙ live.live.here)
 
 resettling_one : (w : State (Unit {0})) (k l : Kernel) (p : Settled × Kept) (x : Standing) → IsKernel k → Stand k w.standings w.next → Has w.standings x → Runs calls k (resettling x.name (kept_of w.standings w.entries)) p l → ResettledOne x k w l (with_kept w p.1) p.0
 resettling_one w k l p x sound stand has r =

@@ -593,14 +593,11 @@ module _ {binds : Bool} {given : List Standing → Bound → Standing → Type 0
       let h = flat_goes f in
       let c = h.calls in
       let e = h.entries in
-      let told = tells_why name rest e.last ∙ ap failed_by e.why ∙ sym (c.failed ∙ h.failed) in
-      let given = flat_given in
-      let one = at_most_one o in
       record {
         about = c.about;
         leaves = c.left;
         ends = c.ends;
-        told = told;
+        told = tells_why name rest e.last ∙ ap failed_by e.why ∙ sym (c.failed ∙ h.failed);
         last = e.last;
         memory = λ a. elim (h.memory (tells_memory rest name how e.why a)) [
           | inl x ↦ inl x.1
@@ -612,6 +609,6 @@ module _ {binds : Bool} {given : List Standing → Bound → Standing → Type 0
         few = c.few;
         bears = e.bears;
         numbers = e.numbers;
-        given = omega (arith, given, one);
+        given = omega (arith, flat_given, at_most_one o);
         others = flat_others f;
       }

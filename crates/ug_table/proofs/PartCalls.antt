@@ -132,9 +132,6 @@ pub calls_more : {name : List ℕ} {files mid after : List OpenFile} {b : Behind
 calls_more {name} {files} {b = b} {ms = ms} {ns = ns} {ps = ps} h k =
     let about = subst (λ v. AreAbout name v ns) (sym h.left) k.about in
     let ends = subst (λ v. EndsAtFailure v ns) (sym h.failed) k.ends in
-    let few = h.few in
-    let more = k.few in
-    let sum = count_more ms ns in
     record {
       about = about_more name files ms ns h.about about;
       ends = ends_more [] ms ns h.ends ends;
@@ -143,15 +140,14 @@ calls_more {name} {files} {b = b} {ms = ms} {ns = ns} {ps = ps} h k =
       failed = failures_more ms ns ∙ ap (λ v. v ++ failures ns) h.failed ∙ k.failed;
       short = want_more ms ns ∙ ap (λ v. v || has_want ns) h.short ∙ k.short;
       puts = puts_more ms ns ∙ ap (λ v. v ++ puts_of ns) h.puts ∙ ap (λ v. ps ++ v) k.puts;
-      few = omega (arith, few, more, sum);
+      few = omega (arith, h.few, k.few, count_more ms ns);
     }
 
 pub calls_as : {name : List ℕ} {files after other : List OpenFile} {b : Behind} {ms : List Made}
     {faults : List Fault} {ps : List PutMade} {n m : ℕ} → after ≡ other → n ≤ m
     → CallsOf name files b ms after faults ps n → CallsOf name files b ms other faults ps m
 calls_as e le h =
-    let few = h.few in
-    calls_are h.about h.ends h.due (h.left ∙ e) h.failed h.short h.puts (omega (arith, few, le))
+    calls_are h.about h.ends h.due (h.left ∙ e) h.failed h.short h.puts (omega (arith, h.few, le))
 
 -- what was opened last is closed
 pub closed_first : (held : ℕ) (control : Control) (files : List OpenFile)

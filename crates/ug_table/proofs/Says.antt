@@ -43,20 +43,16 @@ plain_note e t = record {
   gone = λ number name a. one_neither e (entry.Gone number name) t a;
 }
 
-wrote_judged : (number n : ℕ) (name m : List ℕ) (write : Write) (outcome : Wrote) (held : Held) (verdict : Target) (cause : Cause) → Has (wrote_entries number name write outcome) (entry.Judged n m held verdict cause) → ⊥
-wrote_judged number n name m write outcome held verdict cause (inl e) = let none : ⊥ = cc in none
-wrote_judged number n name m write outcome held verdict cause (inr (inl e)) = let none : ⊥ = cc in none
-wrote_judged number n name m write outcome held verdict cause (inr (inr none)) = none
-
-wrote_gone : (number n : ℕ) (name m : List ℕ) (write : Write) (outcome : Wrote) → Has (wrote_entries number name write outcome) (entry.Gone n m) → ⊥
-wrote_gone number n name m write outcome (inl e) = let none : ⊥ = cc in none
-wrote_gone number n name m write outcome (inr (inl e)) = let none : ⊥ = cc in none
-wrote_gone number n name m write outcome (inr (inr none)) = none
-
 pub plain_wrote : (number : ℕ) (name : List ℕ) (write : Write) (outcome : Wrote) → Plain (wrote_entries number name write outcome)
 plain_wrote number name write outcome = record {
-  judged = λ n m held verdict cause a. wrote_judged number n name m write outcome held verdict cause a;
-  gone = λ n m a. wrote_gone number n name m write outcome a;
+  judged = λ n m held verdict cause a. elim a [
+    | inl e ↦ let none : ⊥ = cc in none
+    | inr b ↦ elim b [ inl e ↦ let none : ⊥ = cc in none | inr none ↦ none ]
+  ];
+  gone = λ n m a. elim a [
+    | inl e ↦ let none : ⊥ = cc in none
+    | inr b ↦ elim b [ inl e ↦ let none : ⊥ = cc in none | inr none ↦ none ]
+  ];
 }
 
 -- a device was judged under a number that was new
@@ -131,25 +127,20 @@ judged_as start k next0 next n name m held g verdict u cause d h e =
 one_judged : (start k : Kernel) (before : List Standing) (next0 : ℕ) (es : List Entry) (next : ℕ) (name : List ℕ) (held : Held) (verdict : Target) (cause : Cause) (number : ℕ) (n m : List ℕ) (x y : Held) (v u : Target) (c d : Cause) → Says start k before next0 es next → Has es (entry.Judged number n x v c) ⊎ (entry.Judged next name held verdict cause ≡ entry.Judged number n x v c) → Has es (entry.Judged number m y u d) ⊎ (entry.Judged next name held verdict cause ≡ entry.Judged number m y u d) → x ≡ y
 one_judged start k before next0 es next name held verdict cause number n m x y v u c d h (inl a) (inl b) = h.one number n m x y v u c d a b
 one_judged start k before next0 es next name held verdict cause number n m x y v u c d h (inl a) (inr b) =
-    let low = (h.judged number n x v c a).below in
     let same : next ≡ number = cc in
-    let none : ⊥ = omega (arith, low, same) in absurd none
+    absurd (omega (arith, (h.judged number n x v c a).below, same))
 one_judged start k before next0 es next name held verdict cause number n m x y v u c d h (inr a) (inl b) =
-    let low = (h.judged number m y u d b).below in
     let same : next ≡ number = cc in
-    let none : ⊥ = omega (arith, low, same) in absurd none
+    absurd (omega (arith, (h.judged number m y u d b).below, same))
 one_judged start k before next0 es next name held verdict cause number n m x y v u c d h (inr a) (inr b) =
-    let first : held ≡ x = cc in
-    let second : held ≡ y = cc in
-    sym first ∙ second
+    cc
 
 says_judged : (start k : Kernel) (before : List Standing) (next0 : ℕ) (es : List Entry) (next i : ℕ) (name : List ℕ) (held : Held) (judged : Judged) (on : Bool) (verdict : Target) (cause : Cause) → IsDevice k i name held judged → IsProbed start k name held.0 i on → Says start k before next0 es next → Says start k before next0 (es ++ entry.Judged next name held verdict cause ∷ []) (next + 1)
 says_judged start k before next0 es next i name held judged on verdict cause device probed h =
     let e = entry.Judged next name held verdict cause in
-    let rises = h.rises in
     let new : WasJudged start k next0 (next + 1) next name held = record { after = h.rises; below = omega arith; i = i; judged = judged; on = on; device = device; probed = probed } in
     record {
-      rises = omega (arith, rises);
+      rises = omega (arith, h.rises);
       judged = λ n m g u d a. elim (last_is es e (entry.Judged n m g u d) a) [
         | inl x ↦ judged_more start k next0 next n m g (h.judged n m g u d x)
         | inr is ↦ judged_as start k next0 next n name m held g verdict u cause d new is
@@ -192,10 +183,7 @@ AreLow before next = (s : Standing) → Has before s → s.number < next
 
 verdict_low : (start k : Kernel) (before : List Standing) (next0 : ℕ) (es : List Entry) (next number : ℕ) (name : List ℕ) (held : Held) (verdict : Target) → AreLow before next0 → Says start k before next0 es next → HasVerdict before es number name held verdict → number < next
 verdict_low start k before next0 es next number name held verdict low h (inl a) =
-    let rises = h.rises in
-    let below = low a.0 a.1 in
-    let same = a.2 in
-    omega (arith, rises, below, same)
+    omega (arith, h.rises, low a.0 a.1, a.2)
 verdict_low start k before next0 es next number name held verdict low h (inr a) = (h.judged number name held verdict a.0 a.1).below
 
 pub account_says : {J : Type 0} (answer : Answers J) (later : Laters J) (present : Bool) (tried : Tries) (start k : Kernel) (before : List Standing) (log0 : List Effect) (judge0 : J) (next0 : ℕ) (es : List Entry) (log : List Effect) (judge : J) (next : ℕ) → AreLow before next0 → Account answer later present tried start k before log0 judge0 next0 es log judge next → Says start k before next0 es next
@@ -224,15 +212,9 @@ one_held start k before next0 es next number n m x y v u low distinct h (inl a) 
     let same : a.0 ≡ b.0 = distinct_one (λ (s : Standing). s.number) before a.0 b.0 distinct a.1 b.1 (a.2 ∙ sym b.2) in
     sym a.4 ∙ subst (λ (s : Standing). a.0.held ≡ s.held) same refl ∙ b.4
 one_held start k before next0 es next number n m x y v u low distinct h (inl a) (inr b) =
-    let below = low a.0 a.1 in
-    let same = a.2 in
-    let after = (h.judged number m y u b.0 b.1).after in
-    let none : ⊥ = omega (arith, below, same, after) in absurd none
+    absurd (omega (arith, low a.0 a.1, a.2, (h.judged number m y u b.0 b.1).after))
 one_held start k before next0 es next number n m x y v u low distinct h (inr a) (inl b) =
-    let below = low b.0 b.1 in
-    let same = b.2 in
-    let after = (h.judged number n x v a.0 a.1).after in
-    let none : ⊥ = omega (arith, below, same, after) in absurd none
+    absurd (omega (arith, low b.0 b.1, b.2, (h.judged number n x v a.0 a.1).after))
 one_held start k before next0 es next number n m x y v u low distinct h (inr a) (inr b) = h.one number n m x y v u a.0 b.0 a.1 b.1
 
 -- each entry is so

@@ -10,7 +10,7 @@ use Rattle.ug_kernel.specs.declared.calls.Wrote.TheVariants as wrote
 use Rattle.ug_table.specs.Bring.{is_reject}
 use Rattle.ug_kernel.proofs.Grow.{some_same, quiet_grows, grows_trans, grows_refl}
 use Rattle.ug_kernel.proofs.Quiet.{moves_quiet, WritesNothing, quiet_refl, called_quiet}
-use Rattle.std.proofs.lemmas.Bool.{cases_Bool, both_ways, true_from_ne_false}
+use Rattle.std.proofs.lemmas.Bool.{cases_Bool, both_ways, true_from_ne_false, true≢false}
 use Rattle.ug_table.proofs.Standings.{missing_without, IsFileOf, file_same, file_later, same_is, is_same, names_marked, numbers_marked, still_removed, settled_removed, reject_removed}
 use Rattle.ug_table.proofs.Says.{Says, gone_has, gone_append, account_says, one_held, AreLow, Plain, plain_none, plain_note, plain_distinct, one_neither}
 use Rattle.ug_table.specs.Settle.{tried_standings}
@@ -160,13 +160,10 @@ removed_back before middle es fs bound number low told a (inl t) w =
     ]
 removed_back before middle es fs bound number low told a (inr new) w = elim w [
   | inl b ↦
-      let below = low b.0 b.1 in
-      let is = b.2 in
-      let none : ⊥ = omega (arith, below, is, new) in absurd none
+      absurd (omega (arith, low b.0 b.1, b.2, new))
   | inr b ↦ elim (has_cases es fs (entry.Wrote number b.0 write.Remove wrote.Done) b.1) [
     | inl x ↦
-        let below = told number b.0 write.Remove wrote.Done x in
-        let none : ⊥ = omega (arith, below, new) in absurd none
+        absurd (omega (arith, told number b.0 write.Remove wrote.Done x, new))
     | inr x ↦ inr (b.0, x)
   ]
 ]
@@ -205,9 +202,7 @@ left_trans before middle ss es fs bound first wrote below after a b = record {
     | inl x ↦ elim (b.told s h) [
       | inl t ↦ a.ended t.0 name t.1 (gone_as es s.number t.0.number name name t.2 refl x)
       | inr j ↦
-          let above = after s.number s.name s.held s.verdict s.cause j in
-          let low = below s.number name x in
-          let none : ⊥ = omega (arith, above, low) in none
+          omega (arith, after s.number s.name s.held s.verdict s.cause j, below s.number name x)
     ]
     | inr x ↦ b.ended s name h x
   ];
@@ -277,8 +272,7 @@ probed_lives m l name held i on p gone =
     let x = g.devices i gone.0 gone.1 in
     let at : slice_get before.devices i ≡ Some p.lived.opened.d = subst (λ (v : ℕ). slice_get before.devices v ≡ Some p.lived.opened.d) p.lived.is p.lived.opened.live.at in
     let same : x.0 ≡ p.lived.opened.d = some_same (slice_get before.devices i) x.0 p.lived.opened.d x.1 at in
-    let was : true ≡ false = sym (x.2.gone gone.2) ∙ ap (λ (v : Device). v.gone) same ∙ p.lived.opened.live.here in
-    let none : ⊥ = cc in none
+    true≢false (sym (x.2.gone gone.2) ∙ ap (λ (v : Device). v.gone) same ∙ p.lived.opened.live.here)
 
 judged_lives : {J : Type 0} {answer : Answers J} {later : Laters J} {present : Bool} {tried : Tries} {m l : Kernel} {u v : State J} (b : FairFrom answer later present tried m u l v) (i n : ℕ) → IsJudged l b.fair.rest n i → IsGone m i → ⊥
 judged_lives {m = m} {l = l} b i n x gone =
@@ -354,8 +348,7 @@ gone_by a b number x y =
       | inr j ↦
           let w = (says_of b).gone number q.0 q.1 in
           let after = ((says_of b).judged number q.0 w.held w.verdict j.0 j.1).after in
-          let below = ((says_of a).gone number p.0 p.1).below in
-          let none : ⊥ = omega (arith, after, below) in none
+          omega (arith, after, ((says_of a).gone number p.0 p.1).below)
     ]
 
 -- a small step, in which nothing is judged

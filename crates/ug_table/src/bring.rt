@@ -8,7 +8,7 @@ ghost use Rattle.ug_table.specs.Bring.{wants, write_of, is_reject, is_to_go, val
 
 use crate::standing::{Known, Settled};
 use std::alloc::Global;
-use ug_audit::{Entry, Fault, Journal};
+use ug_audit::{Auditor, Entry, Fault, Journal};
 use ug_kernel::{Sysfs, Write, Wrote};
 use ug_node::{RemoveHold, failed_call, hold_remove, put};
 use ug_types::{Held, NodeName, Target};
@@ -56,7 +56,7 @@ pub fn note_fault(out: &mut Journal, name: &NodeName, fault: Fault) -> Settled
     requires { 1 ≤ (noted_in out.old).spare }
     ensures settled { result ≡ stopped_by fault }
     ensures entries { (noted_in out.new).entries ≡ (noted_in out.old).entries ++ Unsettled name.now fault ∷ [] }
-    ensures journal { Notes 1 out.old out.new }
+    ensures journal { Notes (λ b. ⟦<dyn Auditor as Auditor>⟧ b.vtable) 1 out.old out.new }
 {
     out.push(Entry::Unsettled { name: *name, fault });
     fault.into()
@@ -73,7 +73,7 @@ fn set_value<Y: Sysfs>(
 ) -> Settled
     requires { 3 ≤ (noted_in out.old).spare }
     ensures runs { Runs Y.gives sysfs.old (valuing name.now known on (noted_in out.old).entries) (result, (noted_in out.new).entries) sysfs.new }
-    ensures journal { Notes 3 out.old out.new }
+    ensures journal { Notes (λ b. ⟦<dyn Auditor as Auditor>⟧ b.vtable) 3 out.old out.new }
 {
     if is_wanted(known.verdict) == on {
         return Settled::Stands;
@@ -115,7 +115,7 @@ fn write_remove<Y: Sysfs>(
 ) -> Settled
     requires { 3 ≤ (noted_in out.old).spare }
     ensures runs { Runs Y.gives sysfs.old (to_remove name.now known file.0 (noted_in out.old).entries) (result, (noted_in out.new).entries) sysfs.new }
-    ensures journal { Notes 3 out.old out.new }
+    ensures journal { Notes (λ b. ⟦<dyn Auditor as Auditor>⟧ b.vtable) 3 out.old out.new }
 {
     let number = known.number;
     let write = Write::Remove;
@@ -158,7 +158,7 @@ fn remove<Y: Sysfs>(
 ) -> Settled
     requires { 3 ≤ (noted_in out.old).spare }
     ensures runs { Runs Y.gives sysfs.old (removing name.now known (noted_in out.old).entries) (result, (noted_in out.new).entries) sysfs.new }
-    ensures journal { Notes 3 out.old out.new }
+    ensures journal { Notes (λ b. ⟦<dyn Auditor as Auditor>⟧ b.vtable) 3 out.old out.new }
 {
     match hold_remove(alloc, sysfs, name, known.held) {
         RemoveHold::Ready(file) => write_remove(sysfs, name, known, file, out),
@@ -187,7 +187,7 @@ pub fn bring<Y: Sysfs>(
 ) -> Settled
     requires { 6 ≤ (noted_in out.old).spare }
     ensures runs { Runs Y.gives sysfs.old (bringing name.now known on (noted_in out.old).entries) (result, (noted_in out.new).entries) sysfs.new }
-    ensures journal { Notes 6 out.old out.new }
+    ensures journal { Notes (λ b. ⟦<dyn Auditor as Auditor>⟧ b.vtable) 6 out.old out.new }
 {
     let settled = make_writes(alloc, sysfs, name, known, on, out);
     match settled {
@@ -212,7 +212,7 @@ fn make_writes<Y: Sysfs>(
 ) -> Settled
     requires { 6 ≤ (noted_in out.old).spare }
     ensures runs { Runs Y.gives sysfs.old (writing name.now known on (noted_in out.old).entries) (result, (noted_in out.new).entries) sysfs.new }
-    ensures journal { Notes 6 out.old out.new }
+    ensures journal { Notes (λ b. ⟦<dyn Auditor as Auditor>⟧ b.vtable) 6 out.old out.new }
 {
     match set_value(sysfs, name, known, on, out) {
         Settled::Stands => {

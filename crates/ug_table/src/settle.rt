@@ -17,7 +17,7 @@ use crate::judge::Judge;
 use crate::standing::{Known, Settled, Standing};
 use crate::table::{Table, find, forget, known_of, mark, put_in};
 use std::alloc::Global;
-use ug_audit::{Entry, Fault, Journal};
+use ug_audit::{Auditor, Entry, Fault, Journal};
 use ug_kernel::{Probe, Sysfs};
 use ug_node::{Binding, Bound, bind, failed_call, reprobe};
 use ug_record::record_of;
@@ -109,7 +109,7 @@ impl Table {
     ) -> Settled
         requires { 1 ≤ (noted_in out.old).spare }
         ensures runs { Runs Y.gives sysfs.old (no_room (state_of self.now (A.meaning judge.now) (noted_in out.old).entries) name.now held.0) (result, state_of self.now (A.meaning judge.now) (noted_in out.new).entries) sysfs.new }
-        ensures journal { Notes 1 out.old out.new }
+        ensures journal { Notes (λ b. ⟦<dyn Auditor as Auditor>⟧ b.vtable) 1 out.old out.new }
     {
         sysfs.close(held);
         note_fault(out, name, Fault::Memory)
@@ -133,7 +133,7 @@ impl Table {
         requires place { length self.old.standings < self.old.room }
         requires absent { standing_of name.now self.old.standings ≡ None }
         ensures runs { Runs Y.gives sysfs.old (to_judge A.answer A.later name.now present (state_of self.old (A.meaning judge.old) (noted_in out.old).entries) bound.now judged) (result, state_of self.new (A.meaning judge.new) (noted_in out.new).entries) sysfs.new }
-        ensures journal { Notes 7 out.old out.new }
+        ensures journal { Notes (λ b. ⟦<dyn Auditor as Auditor>⟧ b.vtable) 7 out.old out.new }
         ensures len { length self.new.standings ≤ length self.old.standings + 1 }
         ensures next { self.new.next ≤ self.old.next + 1 }
     {
@@ -173,7 +173,7 @@ impl Table {
         requires next { self.old.next < 2 ^ 64 - 1 }
         requires absent { standing_of name.now self.old.standings ≡ None }
         ensures runs { Runs Y.gives sysfs.old (admitting A.answer A.later name.now present (state_of self.old (A.meaning judge.old) (noted_in out.old).entries) bound) (result, state_of self.new (A.meaning judge.new) (noted_in out.new).entries) sysfs.new }
-        ensures journal { Notes 7 out.old out.new }
+        ensures journal { Notes (λ b. ⟦<dyn Auditor as Auditor>⟧ b.vtable) 7 out.old out.new }
         ensures len { length self.new.standings ≤ length self.old.standings + 1 }
         ensures next { self.new.next ≤ self.old.next + 1 }
     {
@@ -202,7 +202,7 @@ impl Table {
         requires next { self.old.next < 2 ^ 64 - 1 }
         requires absent { standing_of name.now self.old.standings ≡ None }
         ensures runs { Runs Y.gives sysfs.old (entering A.answer A.later name.now present (state_of self.old (A.meaning judge.old) (noted_in out.old).entries)) (result, state_of self.new (A.meaning judge.new) (noted_in out.new).entries) sysfs.new }
-        ensures journal { Notes 7 out.old out.new }
+        ensures journal { Notes (λ b. ⟦<dyn Auditor as Auditor>⟧ b.vtable) 7 out.old out.new }
         ensures len { length self.new.standings ≤ length self.old.standings + 1 }
         ensures next { self.new.next ≤ self.old.next + 1 }
     {
@@ -232,7 +232,7 @@ impl Table {
         ensures part { GoesAsPart Y.gives Y.calls Y.faults name.now sysfs.old self.old.standings (noted_in out.old).entries sysfs.new self.new.standings (noted_in out.new).entries result }
         ensures law { SettlesOne Y.told A.answer A.later present name.now sysfs.old (state_of self.old (A.meaning judge.old) (noted_in out.old).entries) sysfs.new (state_of self.new (A.meaning judge.new) (noted_in out.new).entries) result }
         ensures marks { LeavesMarks (has_name name.now) self.old.standings self.new.standings result }
-        ensures journal { Notes 8 out.old out.new }
+        ensures journal { Notes (λ b. ⟦<dyn Auditor as Auditor>⟧ b.vtable) 8 out.old out.new }
         ensures len { length self.new.standings ≤ length self.old.standings + 1 }
         ensures next { self.new.next ≤ self.old.next + 1 }
     {
@@ -257,7 +257,7 @@ impl Table {
         ensures law { ResettlesOne Y.told number sysfs.old (state_of self.old tt (noted_in out.old).entries) sysfs.new (state_of self.new tt (noted_in out.new).entries) result }
         ensures marks { LeavesMarks (has_number number) self.old.standings self.new.standings result }
         ensures memory { result ≡ Memory → NeedsRoom number self.old.standings }
-        ensures journal { Notes 6 out.old out.new }
+        ensures journal { Notes (λ b. ⟦<dyn Auditor as Auditor>⟧ b.vtable) 6 out.old out.new }
         ensures len { length self.new.standings ≤ length self.old.standings }
         ensures next { self.new.next ≡ self.old.next }
         ensures listed { self.new.listed ≡ self.old.listed }
@@ -277,7 +277,7 @@ impl Table {
     ) -> Settled
         requires { 6 ≤ (noted_in out.old).spare }
         ensures runs { Runs Y.gives sysfs.old (resettling_numbered number (kept_of self.old.standings (noted_in out.old).entries)) (result, kept_of self.new.standings (noted_in out.new).entries) sysfs.new }
-        ensures journal { Notes 6 out.old out.new }
+        ensures journal { Notes (λ b. ⟦<dyn Auditor as Auditor>⟧ b.vtable) 6 out.old out.new }
         ensures len { length self.new.standings ≤ length self.old.standings }
         ensures next { self.new.next ≡ self.old.next }
         ensures listed { self.new.listed ≡ self.old.listed }
@@ -302,7 +302,7 @@ impl Table {
         requires room { 8 ≤ (noted_in out.old).spare }
         requires next { self.old.next < 2 ^ 64 - 1 }
         ensures runs { Runs Y.gives sysfs.old (settling A.answer A.later name.now present (state_of self.old (A.meaning judge.old) (noted_in out.old).entries)) (result, state_of self.new (A.meaning judge.new) (noted_in out.new).entries) sysfs.new }
-        ensures journal { Notes 8 out.old out.new }
+        ensures journal { Notes (λ b. ⟦<dyn Auditor as Auditor>⟧ b.vtable) 8 out.old out.new }
         ensures len { length self.new.standings ≤ length self.old.standings + 1 }
         ensures next { self.new.next ≤ self.old.next + 1 }
     {
@@ -339,7 +339,7 @@ pub fn settle_known<Y: Sysfs>(
 ) -> Settled
     requires { 6 ≤ (noted_in out.old).spare }
     ensures runs { Runs Y.gives sysfs.old (resettling name.now (kept_of standings.old.items (noted_in out.old).entries)) (result, kept_of standings.new.items (noted_in out.new).entries) sysfs.new }
-    ensures journal { Notes 6 out.old out.new }
+    ensures journal { Notes (λ b. ⟦<dyn Auditor as Auditor>⟧ b.vtable) 6 out.old out.new }
     ensures keeps { KeepsOrder standings.old.items standings.new.items }
     ensures len { length standings.new.items ≤ length standings.old.items }
 {

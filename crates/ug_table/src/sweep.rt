@@ -16,7 +16,7 @@ use crate::settle::settle_known;
 use crate::standing::Standing;
 use crate::table::Table;
 use std::alloc::Global;
-use ug_audit::{Entry, Fault, Journal};
+use ug_audit::{Auditor, Entry, Fault, Journal};
 use ug_kernel::{Listing, Sysfs};
 use ug_node::failed_call;
 use ug_types::{List, NodeName, sort_names};
@@ -31,7 +31,7 @@ fn has(names: &[NodeName], name: &NodeName) -> bool
 fn bid(standings: &[Standing], names: &[NodeName], out: &mut Journal)
     requires { length standings.now ≤ (noted_in out.old).spare }
     ensures entries { (noted_in out.new).entries ≡ (noted_in out.old).entries ++ farewells names.now standings.now }
-    ensures journal { Notes (length standings.now) out.old out.new }
+    ensures journal { Notes (λ b. ⟦<dyn Auditor as Auditor>⟧ b.vtable) (length standings.now) out.old out.new }
 {
     for s in standings {
         if !has(names, &s.name) {
@@ -84,7 +84,7 @@ fn resettle_all<Y: Sysfs>(
 )
     requires { 6 * length names.now ≤ (noted_in out.old).spare }
     ensures runs { Runs Y.gives sysfs.old (resettling_all names.now (kept_of standings.old.items (noted_in out.old).entries)) (kept_of standings.new.items (noted_in out.new).entries) sysfs.new }
-    ensures journal { Notes (6 * length names.now) out.old out.new }
+    ensures journal { Notes (λ b. ⟦<dyn Auditor as Auditor>⟧ b.vtable) (6 * length names.now) out.old out.new }
     ensures keeps { KeepsOrder standings.old.items standings.new.items }
     ensures len { length standings.new.items ≤ length standings.old.items }
 {
@@ -98,7 +98,7 @@ impl Table {
     fn part<A: Judge>(&mut self, names: &[NodeName], judge: &A, out: &mut Journal)
         requires { length self.old.standings ≤ (noted_in out.old).spare }
         ensures state { state_of self.new (A.meaning judge.now) (noted_in out.new).entries ≡ parted names.now (state_of self.old (A.meaning judge.now) (noted_in out.old).entries) }
-        ensures journal { Notes (length self.old.standings) out.old out.new }
+        ensures journal { Notes (λ b. ⟦<dyn Auditor as Auditor>⟧ b.vtable) (length self.old.standings) out.old out.new }
         ensures next { self.new.next ≡ self.old.next }
         ensures len { length self.new.standings ≤ length self.old.standings }
     {
@@ -121,7 +121,7 @@ impl Table {
         requires next { self.old.next + length names.now < 2 ^ 64 }
         ensures runs { Runs Y.gives sysfs.old (settling_all A.answer A.later names.now present (state_of self.old (A.meaning judge.old) (noted_in out.old).entries)) (state_of self.new (A.meaning judge.new) (noted_in out.new).entries) sysfs.new }
         ensures next { self.new.next ≤ self.old.next + length names.now }
-        ensures journal { Notes (8 * length names.now) out.old out.new }
+        ensures journal { Notes (λ b. ⟦<dyn Auditor as Auditor>⟧ b.vtable) (8 * length names.now) out.old out.new }
         ensures len { length self.new.standings ≤ length self.old.standings + length names.now }
     {
         for name in names {
@@ -142,7 +142,7 @@ impl Table {
         requires { 6 * length self.old.standings + 2 ≤ (noted_in out.old).spare }
         ensures runs { Runs Y.gives sysfs.old (unlisted fault (state_of self.old (A.meaning judge.now) (noted_in out.old).entries)) (state_of self.new (A.meaning judge.now) (noted_in out.new).entries) sysfs.new }
         ensures next { self.new.next ≡ self.old.next }
-        ensures journal { Notes (6 * length self.old.standings + 1) out.old out.new }
+        ensures journal { Notes (λ b. ⟦<dyn Auditor as Auditor>⟧ b.vtable) (6 * length self.old.standings + 1) out.old out.new }
         ensures len { length self.new.standings ≤ length self.old.standings }
     {
         out.push(Entry::UnsettledAll { fault });
@@ -166,7 +166,7 @@ impl Table {
         ensures next { self.new.next ≤ self.old.next + 65536 }
         ensures spare { 0 < (noted_in out.new).spare }
         ensures room { 8 * length self.old.standings + 64 ≤ (noted_in out.old).room → 8 * length self.new.standings + 64 ≤ (noted_in out.new).room }
-        ensures same { SameEntries out.old out.new }
+        ensures same { SameEntries (λ b. ⟦<dyn Auditor as Auditor>⟧ b.vtable) out.old out.new }
         ensures swept { Sweeps Y.told A.answer A.later sysfs.old (state_of self.old (A.meaning judge.old) (noted_in out.old).entries) sysfs.new (state_of self.new (A.meaning judge.new) (noted_in out.new).entries) }
         ensures once { NamesOnce Y.told sysfs.old (state_of self.old (A.meaning judge.old) (noted_in out.old).entries) sysfs.new (state_of self.new (A.meaning judge.new) (noted_in out.new).entries) }
         ensures faults { TellsFaults Y.gives Y.calls Y.faults sysfs.old (state_of self.old (A.meaning judge.old) (noted_in out.old).entries) sysfs.new (state_of self.new (A.meaning judge.new) (noted_in out.new).entries) }
@@ -188,7 +188,7 @@ impl Table {
         ensures next { self.new.next ≤ self.old.next + 65536 }
         ensures spare { 0 < (noted_in out.new).spare }
         ensures room { 8 * length self.old.standings + 64 ≤ (noted_in out.old).room → 8 * length self.new.standings + 64 ≤ (noted_in out.new).room }
-        ensures same { SameEntries out.old out.new }
+        ensures same { SameEntries (λ b. ⟦<dyn Auditor as Auditor>⟧ b.vtable) out.old out.new }
     {
         let names = match sysfs.list(alloc) {
             Listing::Names(names) => sorted(names),

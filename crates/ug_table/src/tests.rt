@@ -1,12 +1,13 @@
 // Sweeps over a kernel in memory, by a judge that allows root hubs and rejects each other device: the journal's lines.
-ghost use Rattle.std.specs.Prelude.{◌≤◌, if◌then◌else◌};
+ghost use Rattle.std.specs.Prelude.{◌≡◌, ◌≤◌, if◌then◌else◌};
+ghost use Rattle.ug_audit.specs.Journal.{live_in};
 ghost use Rattle.ug_types.specs.declared.verdict.Cause.TheVariants.{Implicit};
 ghost use Rattle.ug_types.specs.declared.verdict.Target.TheVariants.{Allow, Reject};
 
 use crate::{Judge, Settled, Table};
 use std::alloc::Global;
 use std::test::Fail;
-use ug_audit::{Entries, Journal, line_of};
+use ug_audit::{Entries, Journal, Panel, line_of};
 use ug_sysfs::{Move, NewDevice, SimKernel};
 use ug_types::{Cause, Judged, NodeName, Target, Text};
 
@@ -57,6 +58,13 @@ fn device(alloc: Global, name: &[u8], on: bool) -> Result<NewDevice, Fail> {
     })
 }
 
+// A panel without members.
+fn nobody(alloc: Global) -> Panel
+    ensures { live_in result ≡ 0 }
+{
+    Panel::new(Vec::new(alloc))
+}
+
 fn notes(entries: &Entries, lines: &[&[u8]]) -> bool {
     let entries = entries.as_slice();
     let same = entries
@@ -79,7 +87,12 @@ fn again(
     if table.standing(number).is_none() {
         return None;
     }
-    Some(table.resettle(alloc, kernel, number, &mut Journal::join(entries)))
+    Some(table.resettle(
+        alloc,
+        kernel,
+        number,
+        &mut Journal::join(&mut nobody(alloc), entries),
+    ))
 }
 
 #[test]
@@ -90,12 +103,12 @@ fn removes_a_rejected_device_once(rt: HostRuntime) -> Result<(), Fail> {
     kernel.plug(device(alloc, b"1-1", true)?)?;
     let mut table = Table::new(alloc);
     let mut entries = Entries::new(alloc);
-    entries.reserve(64)?;
+    entries.reserve(128)?;
     table.sweep(
         alloc,
         &mut kernel,
         &mut Rejecting {},
-        &mut Journal::join(&mut entries),
+        &mut Journal::join(&mut nobody(alloc), &mut entries),
     );
     let removed: [&[u8]; 6] = [
         b"judged 1 usb1 allow implicit",
@@ -111,7 +124,7 @@ fn removes_a_rejected_device_once(rt: HostRuntime) -> Result<(), Fail> {
         alloc,
         &mut kernel,
         &mut Rejecting {},
-        &mut Journal::join(&mut entries),
+        &mut Journal::join(&mut nobody(alloc), &mut entries),
     );
     assert!(rt; notes(&entries, &[]));
     Ok(())
@@ -129,12 +142,12 @@ fn removes_no_stranger(rt: HostRuntime) -> Result<(), Fail> {
     kernel.schedule(17, false, Move::Plug(device(alloc, b"1-1", false)?))?;
     let mut table = Table::new(alloc);
     let mut entries = Entries::new(alloc);
-    entries.reserve(64)?;
+    entries.reserve(128)?;
     table.sweep(
         alloc,
         &mut kernel,
         &mut Rejecting {},
-        &mut Journal::join(&mut entries),
+        &mut Journal::join(&mut nobody(alloc), &mut entries),
     );
     let left: [&[u8]; 3] = [
         b"judged 1 usb1 allow implicit",
@@ -156,12 +169,12 @@ fn settles_a_standing_again(rt: HostRuntime) -> Result<(), Fail> {
     kernel.fail(17, false)?;
     let mut table = Table::new(alloc);
     let mut entries = Entries::new(alloc);
-    entries.reserve(64)?;
+    entries.reserve(128)?;
     table.sweep(
         alloc,
         &mut kernel,
         &mut Rejecting {},
-        &mut Journal::join(&mut entries),
+        &mut Journal::join(&mut nobody(alloc), &mut entries),
     );
     let failed: [&[u8]; 5] = [
         b"judged 1 usb1 allow implicit",
@@ -197,12 +210,12 @@ fn drops_a_standing_whose_device_is_gone(rt: HostRuntime) -> Result<(), Fail> {
     kernel.plug(device(alloc, b"1-1", false)?)?;
     let mut table = Table::new(alloc);
     let mut entries = Entries::new(alloc);
-    entries.reserve(64)?;
+    entries.reserve(128)?;
     table.sweep(
         alloc,
         &mut kernel,
         &mut Rejecting {},
-        &mut Journal::join(&mut entries),
+        &mut Journal::join(&mut nobody(alloc), &mut entries),
     );
     kernel.unplug(&NodeName::parse(b"1-1")?);
     entries.clear();

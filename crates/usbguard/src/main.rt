@@ -3,6 +3,12 @@
 
 use std::process::ExitCode;
 use std::{env, io};
+use ug_audit::{Auditor, Panel};
+use ug_host::{
+    ConfFolder, LocalZone, RuleFile, SecondWaiter, SysfsFolder, SystemClock, WriterAuditor,
+    read_seed,
+};
+use ug_serve::run_daemon;
 use ug_sysfs::SimKernel;
 use ug_tool::{run_replay, run_tool};
 use ug_types::{MemLink, MemSink, MemSource, Put, ReaderSource, Sink, WriterSink};
@@ -13,6 +19,42 @@ fn end_with<K: Sink>(out: &mut K, line: &[u8], status: u8) -> ExitCode {
         Put::Done => ExitCode::from(status),
         Put::Failed => ExitCode::from(5),
     }
+}
+
+/// The daemon over this machine's own devices, files, clock and zone, with its journal on standard output, and its status. The words
+/// are those behind `daemon`. Where the system has no random bytes, the status is 4.
+fn serve(rt: HostRuntime, words: &[&str]) -> u8 {
+    let alloc = rt.alloc();
+    let Ok(devices) = String::from_str(alloc, "/sys/bus/usb/devices") else {
+        return 6;
+    };
+    let Ok(announced) = String::from_str(alloc, "/sys/kernel/uevent_seqnum") else {
+        return 6;
+    };
+    let Ok(output) = Box::new(alloc, WriterAuditor::new(rt.stdout())) else {
+        return 6;
+    };
+    let mut members: Vec<Box<dyn Auditor>> = Vec::new(alloc);
+    if members.push(output).is_err() {
+        return 6;
+    }
+    let Ok(seed) = read_seed(&rt) else {
+        return 4;
+    };
+    let zone = LocalZone::read(&rt, alloc, "/etc/localtime");
+    run_daemon(
+        alloc,
+        words,
+        seed,
+        zone.time_zone(),
+        &mut SysfsFolder::new(rt, alloc, devices),
+        &mut RuleFile::new(rt, alloc),
+        &mut ConfFolder::new(rt),
+        &mut SecondWaiter::new(rt, announced),
+        &mut SystemClock::new(rt),
+        &mut Panel::new(members),
+        u64::MAX,
+    )
 }
 
 fn main(rt: HostRuntime) -> ExitCode {
@@ -39,6 +81,7 @@ fn main(rt: HostRuntime) -> ExitCode {
     }
     let mut input = ReaderSource::new(rt.reader());
     let status = match words.as_slice() {
+        ["daemon", behind @ ..] => serve(rt, behind),
         ["replay", ..] => {
             let mut kernel = SimKernel::new(alloc);
             run_replay(alloc, &words, &mut input, &mut out, &mut kernel)

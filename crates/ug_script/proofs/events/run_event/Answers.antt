@@ -7,8 +7,8 @@ use Rattle.ug_script.proofs.events.run_event.Goals as goal
 
 pub returns-in-Ok-clause-ran : goal.returns-in-Ok-clause-ran
 returns-in-Ok-clause-ran g c =
-    let e : DaemonState = daemon_of c.handle.new.daemon in
+    let e : DaemonState = daemon_of c.handle.new.session.daemon in
     let text : c.as_slice.result.now ≡ lines_text e.sweep.entries = c.as_slice.ensures.value ∙ c.in-Ok.ensures ∙ ap lines_text (search rules) in
-    event_steps (moment_of c.args.event.now) (daemon_of c.args.daemon.now) c.args.kernel.now e c.handle.new.kernel (g.K.Sink.held c.args.out.now) (g.K.Sink.held c.put.new.out) c.put.result c.handle.ensures (search rules) (search rules)
+    event_steps (moment_of c.args.event.now) (daemon_of c.args.session.now.daemon) c.args.kernel.now e c.handle.new.kernel (g.K.Sink.held c.args.out.now) (g.K.Sink.held c.put.new.out) c.put.result c.handle.ensures.played (search rules) (search rules)
     (subst (λ (x : List ℕ). Closes (Some x) (g.K.Sink.held c.args.out.now) (g.K.Sink.held c.put.new.out) c.put.result) text c.put.ensures.ran)
     (search rules)

@@ -1,10 +1,7 @@
-use Rattle.std.proofs.Common.{◌≡◌, ℕ, Bool, true, false, List, subst, ◌∙◌, ap, Option}
+use Rattle.std.proofs.Common.{true, false, subst, ◌∙◌, ap, Option}
 use Rattle.ug_types.specs.declared.record.Attrs.{Attrs}
-use Rattle.ug_types.specs.declared.record.Judged.{Judged}
-use Rattle.ug_kernel.specs.Tree.{Runs}
 use Rattle.ug_record.specs.Records.{judged_of}
-use Rattle.ug_audit.specs.declared.entry.Entry.{Entry}
-use Rattle.ug_table.specs.declared.standing.Standing.{Standing}
+use Rattle.ug_table.proofs.Common.{Judged, Runs}
 use Rattle.ug_audit.specs.Journal.{noted_in}
 use Rattle.ug_table.specs.State.{State, state_of}
 use Rattle.ug_table.specs.Settle.{no_room, to_judge, admitting}

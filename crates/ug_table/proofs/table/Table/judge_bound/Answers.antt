@@ -1,7 +1,8 @@
-use Rattle.std.proofs.Common.{false, refl, ap}
+use Rattle.std.proofs.Common.{false, refl, ap, rules, arith}
 use Rattle.ug_table.specs.Table.{TableState}
 use Rattle.ug_table.specs.declared.standing.Standing.{Standing}
 use Rattle.ug_table.proofs.Marks.{kept_more}
+use Rattle.ug_audit.proofs.Noting.{goes_on}
 use Rattle.ug_table.proofs.table.Table.judge_bound.Goals as goal
 
 pub invariant_of-self : goal.invariant_of-self
@@ -17,3 +18,6 @@ invariant_of-self g c =
       removed = false;
     } in
     kept_more c.self.inside.next _ _ _ c.self.inside.standings.items _ _ x c.bring-settled.result refl refl (ap (λ (v : TableState). v.standings) c.self.view_is) c.requires.absent (ap (λ (v : TableState). v.room) c.self.view_is) c.requires.place c.keep.ensures.standings c.keep.ensures.len c.self.invariant.0
+
+pub returns-clause-journal : goal.returns-clause-journal
+returns-clause-journal g c = search (rules, arith, goes_on)

@@ -1,12 +1,10 @@
-use Rattle.std.proofs.Common.{◌≡◌, ℕ, Bool, List, Option, Some, None, IsSome, refl, sym, subst}
-use Rattle.ug_audit.specs.declared.entry.Entry.{Entry}
-use Rattle.ug_table.specs.declared.standing.Standing.{Standing}
+use Rattle.std.proofs.Common.{◌≡◌, ℕ, List, Option, Some, None, IsSome, refl, sym, subst}
+use Rattle.ug_table.proofs.Common.{Standing, numbered}
 use Rattle.ug_audit.specs.Journal.{noted_in}
 use Rattle.ug_table.specs.State.{State, state_of}
 use Rattle.ug_table.specs.One.{ResettlesOne}
 use Rattle.ug_table.proofs.Loops.{same_state}
 use Rattle.ug_table.proofs.One.{numbered_part, told_resettles, numbered_leaves, needs_room}
-use Rattle.ug_table.specs.Standings.{numbered}
 use Rattle.ug_table.specs.Table.{TableState}
 use Rattle.ug_table.specs.Order.{StandInOrder}
 use Rattle.ug_table.proofs.table.Table.resettle.Goals as goal

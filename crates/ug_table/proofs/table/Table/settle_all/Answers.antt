@@ -7,7 +7,7 @@ loop-name-preserved g c = record {
   runs = λ r t k. c.loop-name.invariant.runs r t (settling_more g.Y.Sysfs.gives g.A.Judge.answer g.A.Judge.later c.args.names.now c.args.present c.loop-name.name-index c.name-item.result _ _ _ _ c.loop-name-test.true c.name-item.is c.settle-settled.ensures.runs r t k);
   room = omega (arith, c.settle-settled.ensures.journal.2);
   next = omega (arith, c.settle-settled.ensures.next);
-  journal = notes_more 8 c.loop-name.name-index c.args.out.now c.loop-name.out c.settle-settled.new.out c.loop-name.invariant.journal c.settle-settled.ensures.journal;
+  journal = notes_more _ 8 c.loop-name.name-index c.args.out.now c.loop-name.out c.settle-settled.new.out c.loop-name.invariant.journal c.settle-settled.ensures.journal;
   len = omega (arith, c.settle-settled.ensures.len);
   most = omega (arith, c.settle-settled.ensures.next);
 }

@@ -15,7 +15,7 @@ invariant-loop-name g l =
       runs : (r : State _) (t : _) → Runs gives l.sysfs (settling_all answer later (drop l.name-index l.names) l.present (state_of l.self (g.A.Judge.meaning l.judge) (noted_in l.out).entries)) r t → Runs gives l.fn.sysfs (settling_all answer later l.names l.present (state_of l.fn.self (g.A.Judge.meaning l.fn.judge) (noted_in l.fn.out).entries)) r t;
       room : 8 * (length l.names - l.name-index) ≤ (noted_in l.out).spare;
       next : l.self.next + (length l.names - l.name-index) < 2 ^ 64;
-      journal : Notes (8 * l.name-index) l.fn.out l.out;
+      journal : Notes (λ b. goal.Auditor-dyn g (b.vtable, b.value)) (8 * l.name-index) l.fn.out l.out;
       len : length l.self.standings ≤ length l.fn.self.standings + l.name-index;
       most : l.self.next ≤ l.fn.self.next + l.name-index;
     }

@@ -1,8 +1,9 @@
-use Rattle.std.proofs.Common.{List, not, ◌∙◌, ap}
+use Rattle.std.proofs.Common.{List, not, ◌∙◌, ap, rules, arith}
 use Rattle.ug_table.specs.Standings.{same_name, standing_of}
 use Rattle.ug_table.specs.declared.standing.Standing.{Standing}
 use Rattle.ug_table.proofs.Marks.{keeps_filter, keeps_tried, kept_as, kept_fields}
 use Rattle.ug_table.proofs.Standings.{without_own}
+use Rattle.ug_audit.proofs.Noting.{goes_on}
 use Rattle.ug_table.proofs.table.Table.settle_name.Goals as goal
 
 pub invariant_of-self-2 : goal.invariant_of-self-2
@@ -13,3 +14,6 @@ invariant_of-self g c = kept_fields _ _ _ _ (kept_as _ _ _ c.forget.ensures.stan
 
 pub enter-requires-in-Gone-clause-absent : goal.enter-requires-in-Gone-clause-absent
 enter-requires-in-Gone-clause-absent g c = ap (λ (v : List Standing). standing_of c.args.name.now v) c.forget.ensures.standings ∙ without_own c.args.name.now c.self.inside.standings.items
+
+pub returns-in-Gone-clause-journal : goal.returns-in-Gone-clause-journal
+returns-in-Gone-clause-journal g c = search (rules, arith, goes_on)

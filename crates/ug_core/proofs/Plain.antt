@@ -1,0 +1,134 @@
+-- A sweep keeps the rules as they were given, whatever is answered.
+use Rattle.std.proofs.Common.{◌≡◌, ℕ, ◌+◌, Bool, true, false, not, is_none, List, [], ◌∷◌, ◌++◌, Option, Some, None, refl, sym, ◌∙◌, subst}
+use Rattle.ug_types.specs.Names.{parent_of}
+use Rattle.ug_types.specs.Sweep.{in_sweep_order}
+use Rattle.ug_types.specs.declared.record.Judged.{Judged}
+use Rattle.ug_kernel.specs.declared.calls.FailedCall.{FailedCall}
+use Rattle.ug_kernel.specs.declared.calls.Listing.{Listing}
+use Rattle.ug_kernel.specs.declared.calls.Listing.TheVariants as listing
+use Rattle.ug_kernel.specs.declared.calls.Probe.{Probe}
+use Rattle.ug_kernel.specs.declared.calls.Probe.TheVariants as probe
+use Rattle.ug_kernel.specs.Calls.{Call, Answer}
+use Rattle.ug_kernel.specs.Tree.{Prog, Return, Ask, Room, Runs, then}
+use Rattle.ug_kernel.specs.Along.{failure_of}
+use Rattle.ug_node.specs.Bind.{binding}
+use Rattle.ug_node.specs.declared.identity.Bound.{Bound}
+use Rattle.ug_node.specs.declared.identity.Binding.{Binding}
+use Rattle.ug_node.specs.declared.identity.Binding.TheVariants as bound
+use Rattle.ug_record.specs.Records.{judged_of}
+use Rattle.ug_audit.specs.declared.entry.Entry.TheVariants as entry
+use Rattle.ug_audit.specs.declared.entry.Fault.{Fault}
+use Rattle.ug_audit.specs.declared.entry.Fault.TheVariants as fault
+use Rattle.ug_table.specs.Allowed.{allowed_records}
+use Rattle.ug_table.specs.Bring.{bringing}
+use Rattle.ug_table.specs.Settle.{to_keep, known_in, judged_entry, standing_for, to_judge, if_place, if_record, admitting, after_bind, entering, to_mark, dropped, after_known, from_standing, settling}
+use Rattle.ug_table.specs.Standings.{standing_of}
+use Rattle.ug_table.specs.State.{State, kept_of}
+use Rattle.ug_table.specs.Sweep.{settling_all, resettling_all, closing_unlisted, parted, marked_listed, unlisted, if_room, after_list, names_of, resumed, sweeping}
+use Rattle.ug_table.specs.declared.standing.Known.{Known}
+use Rattle.ug_table.specs.declared.standing.Settled.{Settled}
+use Rattle.ug_core.specs.Event.{DaemonState, ended, handling}
+use Rattle.ug_core.specs.Policy.{Judging, as_given, policy_answer, policy_later}
+use Rattle.ug_core.proofs.Verdicts.{rules_stay}
+
+-- each end of a tree is so
+abbrev EndsSo : {R : Type 0} → (R → Type 0) → Prog R → Type 0
+EndsSo p (Return value) = p value
+EndsSo p (Ask call next) = (a : Answer call) → EndsSo p (next a)
+EndsSo p (Room next) = (b : Bool) → EndsSo p (next b)
+
+ends_run : {S R : Type 0} (gives : S → (call : Call) → Answer call → S → Type 0) (p : R → Type 0) (t : Prog R) (s : S) (r : R) (u : S) → EndsSo p t → Runs gives s t r u → p r
+ends_run gives p (Return value) s r u e h = subst (λ (x : _). p x) (sym h.0) e
+ends_run gives p (Ask call next) s r u e h = ends_run gives p (next h.0) h.1 r u (e h.0) h.3
+ends_run gives p (Room next) s r u e h = ends_run gives p (next h.0) s r u (e h.0) h.1
+
+ends_then : {A B : Type 0} (p : A → Type 0) (q : B → Type 0) (t : Prog A) (f : A → Prog B) → EndsSo p t → ((a : A) → p a → EndsSo q (f a)) → EndsSo q (then t f)
+ends_then p q (Return value) f e g = g value e
+ends_then p q (Ask call next) f e g = λ a. ends_then p q (next a) f (e a) g
+ends_then p q (Room next) f e g = λ b. ends_then p q (next b) f (e b) g
+
+ends_after : {A B : Type 0} (q : B → Type 0) (t : Prog A) (f : A → Prog B) → ((a : A) → EndsSo q (f a)) → EndsSo q (then t f)
+ends_after q (Return value) f g = g value
+ends_after q (Ask call next) f g = λ a. ends_after q (next a) f g
+ends_after q (Room next) f g = λ b. ends_after q (next b) f g
+
+-- the judge has the same rules, but for their histories
+abbrev pub SameRules : Judging → State Judging → Type 0
+SameRules j w = as_given w.judge.rules ≡ as_given j.rules
+
+abbrev SameAfter : Judging → Settled × State Judging → Type 0
+SameAfter j p = SameRules j p.1
+
+judge_so : (j : Judging) (name : List ℕ) (present : Bool) (w : State Judging) (b : Bound) (judged : Judged) → SameRules j w → EndsSo (SameAfter j) (to_judge policy_answer policy_later name present w b judged)
+judge_so j name present w b judged h =
+    let given = policy_answer w.judge judged (is_none (parent_of name)) present b.on w.standings in
+    let later : Judging = policy_later w.judge judged (is_none (parent_of name)) present b.on w.standings in
+    let same : as_given later.rules ≡ as_given j.rules = rules_stay w.judge (allowed_records w.standings) judged (is_none (parent_of name)) present ∙ h in
+    ends_after (SameAfter j) (bringing name (known_in w b.held.0 given) b.on (w.entries ++ judged_entry w name b.held.0 given ∷ []))
+    (to_keep (record w { next = w.next + 1; judge = later }) (standing_for w name b.held.0 judged given))
+    (λ p. same)
+
+place_so : (j : Judging) (name : List ℕ) (present : Bool) (w : State Judging) (b : Bound) (judged : Judged) (place : Bool) → SameRules j w → EndsSo (SameAfter j) (if_place policy_answer policy_later name present w b judged place)
+place_so j name present w b judged true h = judge_so j name present w b judged h
+place_so j name present w b judged false h = λ closed. h
+
+record_so : (j : Judging) (name : List ℕ) (present : Bool) (w : State Judging) (b : Bound) (room : Bool) → SameRules j w → EndsSo (SameAfter j) (if_record policy_answer policy_later name present w b room)
+record_so j name present w b true h = λ place. place_so j name present w b (judged_of name b.attrs b.parent) place h
+record_so j name present w b false h = λ closed. h
+
+bind_so : (j : Judging) (name : List ℕ) (present : Bool) (w : State Judging) (found : Binding) → SameRules j w → EndsSo (SameAfter j) (after_bind policy_answer policy_later name present w found)
+unfolding admitting
+bind_so j name present w (bound.Bound b) h = λ room. record_so j name present w b room h
+bind_so j name present w bound.Absent h = h
+bind_so j name present w bound.Vanished h = h
+bind_so j name present w (bound.Failed failed) h = h
+bind_so j name present w bound.Memory h = h
+
+enter_so : (j : Judging) (name : List ℕ) (present : Bool) (w : State Judging) → SameRules j w → EndsSo (SameAfter j) (entering policy_answer policy_later name present w)
+unfolding entering
+enter_so j name present w h = ends_after (SameAfter j) (binding name (parent_of name)) (after_bind policy_answer policy_later name present w) (λ found. bind_so j name present w found h)
+
+known_so : (j : Judging) (name : List ℕ) (present : Bool) (w : State Judging) (known : Known) (a : Probe) (failed : FailedCall) → SameRules j w → EndsSo (SameAfter j) (after_known policy_answer policy_later name present w known a failed)
+known_so j name present w known (probe.Alive on) failed h = ends_after (SameAfter j) (bringing name known on w.entries) (to_mark w name) (λ p. h)
+known_so j name present w known probe.Gone failed h = λ closed. enter_so j name present (dropped w name known.number) h
+known_so j name present w known probe.Failed failed h = h
+
+standing_so : (j : Judging) (name : List ℕ) (present : Bool) (w : State Judging) (found : Option Known) → SameRules j w → EndsSo (SameAfter j) (from_standing policy_answer policy_later name present w found)
+standing_so j name present w (Some known) h = λ t. known_so j name present w known t.answer (failure_of t) h
+standing_so j name present w None h = enter_so j name present w h
+
+settle_so : (j : Judging) (name : List ℕ) (present : Bool) (w : State Judging) → SameRules j w → EndsSo (SameAfter j) (settling policy_answer policy_later name present w)
+unfolding settling
+settle_so j name present w h = standing_so j name present w (standing_of name w.standings) h
+
+all_so : (j : Judging) (names : List (List ℕ)) (present : Bool) (w : State Judging) → SameRules j w → EndsSo (SameRules j) (settling_all policy_answer policy_later names present w)
+all_so j [] present w h = h
+all_so j (name ∷ names) present w h =
+    ends_then (SameAfter j) (SameRules j) (settling policy_answer policy_later name present w) (λ p. settling_all policy_answer policy_later names present p.1)
+    (settle_so j name present w h)
+    (λ p k. all_so j names present p.1 k)
+
+unlisted_so : (j : Judging) (why : Fault) (w : State Judging) → SameRules j w → EndsSo (SameRules j) (unlisted why w)
+unlisted_so j why w h = ends_after (SameRules j) (resettling_all (names_of w.standings) (kept_of w.standings (w.entries ++ entry.UnsettledAll why ∷ []))) (resumed w) (λ k. h)
+
+room_so : (j : Judging) (names : List (List ℕ)) (w : State Judging) (room : Bool) → SameRules j w → EndsSo (SameRules j) (if_room policy_answer policy_later names w room)
+room_so j names w true h =
+    ends_after (SameRules j) (closing_unlisted names w.standings) (λ closed. settling_all policy_answer policy_later names (not w.listed) (marked_listed (parted names w)))
+    (λ closed. all_so j names (not w.listed) (marked_listed (parted names w)) h)
+room_so j names w false h = unlisted_so j fault.Memory w h
+
+list_so : (j : Judging) (w : State Judging) (a : Listing) (failed : FailedCall) → SameRules j w → EndsSo (SameRules j) (after_list policy_answer policy_later w a failed)
+list_so j w (listing.Names names) failed h = λ room. room_so j (in_sweep_order names) w room h
+list_so j w listing.Failed failed h = unlisted_so j (fault.Call failed) w h
+list_so j w listing.Memory failed h = unlisted_so j fault.Memory w h
+
+sweep_so : (w : State Judging) → EndsSo (SameRules w.judge) (sweeping policy_answer policy_later w)
+unfolding sweeping
+sweep_so w = λ t. list_so w.judge w t.answer (failure_of t) refl
+
+handle_so : (d : DaemonState) → EndsSo (λ (e : DaemonState). SameRules d.sweep.judge e.sweep) (handling d)
+unfolding handling
+handle_so d = ends_then (SameRules d.sweep.judge) (λ (e : DaemonState). SameRules d.sweep.judge e.sweep) (sweeping policy_answer policy_later d.sweep) (ended d) (sweep_so d.sweep) (λ v h. h)
+
+pub event_keeps_rules : {S : Type 0} (gives : S → (call : Call) → Answer call → S → Type 0) (s : S) (d e : DaemonState) (t : S) → Runs gives s (handling d) e t → SameRules d.sweep.judge e.sweep
+event_keeps_rules gives s d e t h = ends_run gives (λ (x : DaemonState). SameRules d.sweep.judge x.sweep) (handling d) s e t (handle_so d) h

@@ -1,0 +1,98 @@
+// The daemon's start.
+ghost use Rattle.std.specs.Prelude.{◌≡◌, [], false, All, IfErr, IfOk};
+ghost use Rattle.ug_store.specs.Store.{seen_by};
+ghost use Rattle.ug_core.specs.Event.{daemon_of};
+ghost use Rattle.ug_core.specs.Policy.{clock_of};
+ghost use Rattle.ug_core.specs.RuleFile.{ReadsBack, rules_in};
+ghost use Rattle.ug_core.specs.Settings.{classes_of};
+ghost use Rattle.ug_core.specs.Starting.{Starts, StartsWithRules};
+ghost use Rattle.ug_core.specs.Verdicts.{IsLater};
+
+use crate::classes::Classes;
+use crate::daemon::Daemon;
+use crate::load::load_rules;
+use crate::policy::Policy;
+use crate::report::Report;
+use crate::start_fault::StartFault;
+use jiff::tz::TimeZone;
+use rand_core::Rng;
+use std::alloc::Global;
+use ug_acl::Acl;
+use ug_audit::Entries;
+use ug_conf::Settings;
+use ug_policy::RuleList;
+use ug_store::{RuleDisk, Store};
+use ug_table::Table;
+
+/// The room of the entries that belong to no standing, and a place for each member of a panel.
+const ROOM: usize = 128;
+
+// What a daemon is started with, beside its rules.
+#[derive(Drop)]
+struct Beside<'z, R> {
+    classes: Classes,
+    acl: Acl,
+    rng: R,
+    zone: TimeZone<'z>,
+    first: u64,
+}
+
+impl<'z, R: Rng + Drop> Beside<'z, R> {
+    fn start(self, alloc: Global, loaded: (Store, RuleList)) -> Result<Daemon<'z, R>, StartFault>
+        requires readable { All ReadsBack (rules_in loaded.1.entries) }
+        requires unsaved { loaded.0 ≡ false }
+        ensures ok { IfOk result (λ d. StartsWithRules (record {
+          classes = self.entry.classes;
+          access = self.entry.acl;
+          clock = clock_of self.entry.zone;
+          words = R.stream self.entry.rng;
+          first = self.entry.first;
+        }) loaded (daemon_of d)) }
+        ensures err { IfErr result (λ e. e ≡ StartFault.Memory) }
+        ensures number { IfOk result (λ d. d.report.event ≡ 0) }
+    {
+        let mut entries = Entries::new(alloc);
+        entries.reserve(ROOM)?;
+        Ok(Daemon {
+            policy: Policy::new(self.classes, loaded.1, self.zone, self.rng),
+            table: Table::new(alloc),
+            store: loaded.0,
+            acl: self.acl,
+            next_event: self.first,
+            report: Report { event: 0, entries },
+        })
+    }
+}
+
+impl<'z, R: Rng + Drop> Daemon<'z, R> {
+    /// A daemon with the rules of the disk's rule file, whose first event has that number. It makes the room of an event's entries.
+    pub fn start<D: RuleDisk>(
+        alloc: Global,
+        settings: Settings,
+        acl: Acl,
+        rng: R,
+        zone: TimeZone<'z>,
+        first: u64,
+        disk: &mut D,
+    ) -> Result<Daemon<'z, R>, StartFault>
+        ensures starts { Starts D.keeps D.told D.faults (record {
+          classes = classes_of settings;
+          access = acl;
+          clock = clock_of zone.entry;
+          words = R.stream rng;
+          first = first;
+        }) disk.old (seen_by (λ d. daemon_of d) result) disk.new }
+        ensures new { IfOk result (λ d. IsLater (daemon_of d).sweep.judge 0 [] (daemon_of d).sweep.judge) }
+        ensures number { IfOk result (λ d. d.report.event ≡ 0) }
+    {
+        let loaded = load_rules(alloc, disk)?;
+        let beside = Beside {
+            classes: Classes::of(&settings),
+            acl,
+            rng,
+            zone,
+            first,
+        };
+        beside.start(alloc, loaded)
+    }
+}

@@ -1,0 +1,6 @@
+pub mod Words
+pub mod Lines
+pub mod Turns
+pub mod Telling
+pub mod Opening
+pub mod Serving

@@ -1,0 +1,170 @@
+// The top call of the daemon.
+ghost use Rattle.std.specs.Prelude.{◌≡◌, ◌≤◌, List, map, Some};
+ghost use Rattle.ug_types.specs.Ends.{Rose};
+ghost use Rattle.ug_audit.specs.Journal.{members};
+ghost use Rattle.ug_audit.specs.Noting.{NotesEntries};
+ghost use Rattle.ug_audit.specs.declared.entry.Entry.{Entry};
+ghost use Rattle.ug_core.specs.Policy.{clock_of};
+ghost use Rattle.ug_serve.specs.Opening.{words_of_seed};
+ghost use Rattle.ug_serve.specs.Serving.{Serves, turns_status};
+ghost use Rattle.ug_serve.specs.Telling.{TurnsTell};
+ghost use Rattle.ug_serve.specs.Turns.{objects};
+ghost use Rattle.ug_serve.specs.Words.{conf_path};
+
+use crate::not_started::NotStarted;
+use crate::noting::{entries_of_start, note_refusal};
+use crate::start::start;
+use crate::turn::{TurnEnd, serve_turns};
+use crate::words::conf_path;
+use jiff::tz::TimeZone;
+use std::alloc::Global;
+use ug_audit::{Auditor, Entries, Panel};
+use ug_conf::ConfFiles;
+use ug_kernel::Sysfs;
+use ug_store::RuleDisk;
+use ug_types::{Clock, Waiter};
+
+fn status_of(end: TurnEnd) -> u8
+    ensures { result ≡ turns_status end }
+{
+    match end {
+        TurnEnd::Done => 0,
+        TurnEnd::Numbers => 10,
+        TurnEnd::WaitFailed => 11,
+    }
+}
+
+/// The daemon with the settings at that path, and with room for an entry of its start.
+fn serve_from<Y: Sysfs, D: RuleDisk, F: ConfFiles, W: Waiter, C: Clock>(
+    alloc: Global,
+    path: &[u8],
+    seed: [u8; 32],
+    zone: TimeZone<'_>,
+    sysfs: &mut Y,
+    disk: &mut D,
+    files: &mut F,
+    waiter: &mut W,
+    clock: &mut C,
+    panel: &mut Panel,
+    entries: &mut Entries,
+    turns: u64,
+) -> u8
+    requires { 65 ≤ entries.old.room }
+    ensures served { (journal : List Entry)
+        × Serves F.gives Y.begins Y.gives Y.told Y.faults D.keeps D.told D.faults W.gives C.gives turns
+        (clock_of zone.entry) (words_of_seed seed)
+        files.old (objects sysfs.old disk.old waiter.old clock.old
+        (members (λ b. ⟦<dyn Auditor as Auditor>⟧ b.vtable) panel.old)) (Some path.now) journal result
+        files.new (objects sysfs.new disk.new waiter.new clock.new
+        (members (λ b. ⟦<dyn Auditor as Auditor>⟧ b.vtable) panel.new))
+        × NotesEntries journal (members (λ b. ⟦<dyn Auditor as Auditor>⟧ b.vtable) panel.old)
+        (members (λ b. ⟦<dyn Auditor as Auditor>⟧ b.vtable) panel.new) }
+    ensures files_failed { result ≡ 4 → Rose (F.faults files.old) (F.faults files.new) }
+    ensures disk_failed { result ≡ 9 → Rose (D.faults disk.old) (D.faults disk.new) }
+    ensures wait_failed { result ≡ 11 → Rose (W.faults waiter.old) (W.faults waiter.new) }
+{
+    match start(alloc, path, seed, zone, disk, files, panel, entries) {
+        Ok(mut daemon) => status_of(serve_turns(
+            alloc,
+            turns,
+            &mut daemon,
+            sysfs,
+            disk,
+            waiter,
+            clock,
+            panel,
+        )),
+        Err(why) => {
+            note_refusal(panel, entries, why);
+            why.status()
+        }
+    }
+}
+
+/// The daemon with the settings at that path.
+fn serve<Y: Sysfs, D: RuleDisk, F: ConfFiles, W: Waiter, C: Clock>(
+    alloc: Global,
+    path: &[u8],
+    seed: [u8; 32],
+    zone: TimeZone<'_>,
+    sysfs: &mut Y,
+    disk: &mut D,
+    files: &mut F,
+    waiter: &mut W,
+    clock: &mut C,
+    panel: &mut Panel,
+    turns: u64,
+) -> u8
+    ensures served { (journal : List Entry)
+        × Serves F.gives Y.begins Y.gives Y.told Y.faults D.keeps D.told D.faults W.gives C.gives turns
+        (clock_of zone.entry) (words_of_seed seed)
+        files.old (objects sysfs.old disk.old waiter.old clock.old
+        (members (λ b. ⟦<dyn Auditor as Auditor>⟧ b.vtable) panel.old)) (Some path.now) journal result
+        files.new (objects sysfs.new disk.new waiter.new clock.new
+        (members (λ b. ⟦<dyn Auditor as Auditor>⟧ b.vtable) panel.new))
+        × NotesEntries journal (members (λ b. ⟦<dyn Auditor as Auditor>⟧ b.vtable) panel.old)
+        (members (λ b. ⟦<dyn Auditor as Auditor>⟧ b.vtable) panel.new) }
+    ensures files_failed { result ≡ 4 → Rose (F.faults files.old) (F.faults files.new) }
+    ensures disk_failed { result ≡ 9 → Rose (D.faults disk.old) (D.faults disk.new) }
+    ensures wait_failed { result ≡ 11 → Rose (W.faults waiter.old) (W.faults waiter.new) }
+{
+    match entries_of_start(alloc) {
+        Ok(mut entries) => serve_from(
+            alloc,
+            path,
+            seed,
+            zone,
+            sysfs,
+            disk,
+            files,
+            waiter,
+            clock,
+            panel,
+            &mut entries,
+            turns,
+        ),
+        Err(_) => NotStarted::Memory.status(),
+    }
+}
+
+/// The daemon. The words are those of the command line behind `daemon`: `--conf PATH` names the settings, or none, which are then those
+/// of `/etc/usbguard/usbguard-daemon.conf`. It reads the settings, starts from the rule file that they name, and makes that many turns.
+/// Settings that open the daemon to a user or a group aren't taken, since no session is served. The status is 0; 1 for other words; 3
+/// where the settings' file is absent, or settings or rules aren't taken; 4 where a file of the configuration couldn't be read; 6 for
+/// want of memory before the first turn; 9 where the rule file couldn't be read; 10 where the numbers leave no room for an event; 11
+/// where a wait failed. The auditors are given the journal.
+pub fn run_daemon<Y: Sysfs, D: RuleDisk, F: ConfFiles, W: Waiter, C: Clock>(
+    alloc: Global,
+    words: &[&str],
+    seed: [u8; 32],
+    zone: TimeZone<'_>,
+    sysfs: &mut Y,
+    disk: &mut D,
+    files: &mut F,
+    waiter: &mut W,
+    clock: &mut C,
+    panel: &mut Panel,
+    turns: u64,
+) -> u8
+    ensures served { (journal : List Entry)
+        × Serves F.gives Y.begins Y.gives Y.told Y.faults D.keeps D.told D.faults W.gives C.gives turns
+        (clock_of zone.entry) (words_of_seed seed)
+        files.old (objects sysfs.old disk.old waiter.old clock.old
+        (members (λ b. ⟦<dyn Auditor as Auditor>⟧ b.vtable) panel.old))
+        (conf_path (map (λ word. word.now) words.now)) journal result
+        files.new (objects sysfs.new disk.new waiter.new clock.new
+        (members (λ b. ⟦<dyn Auditor as Auditor>⟧ b.vtable) panel.new))
+        × NotesEntries journal (members (λ b. ⟦<dyn Auditor as Auditor>⟧ b.vtable) panel.old)
+        (members (λ b. ⟦<dyn Auditor as Auditor>⟧ b.vtable) panel.new) }
+    ensures files_failed { result ≡ 4 → Rose (F.faults files.old) (F.faults files.new) }
+    ensures disk_failed { result ≡ 9 → Rose (D.faults disk.old) (D.faults disk.new) }
+    ensures wait_failed { result ≡ 11 → Rose (W.faults waiter.old) (W.faults waiter.new) }
+    ensures carries { TurnsTell Y.begins Y.gives Y.told Y.faults D.keeps D.told D.faults W.gives C.gives W.told C.told }
+{
+    match conf_path(words) {
+        None => 1,
+        Some(path) => serve(
+            alloc, path, seed, zone, sysfs, disk, files, waiter, clock, panel, turns,
+        ),
+    }
+}

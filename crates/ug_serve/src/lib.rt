@@ -1,0 +1,17 @@
+// The daemon: its start, and its turns.
+#![tactic(auto)]
+
+mod daemon;
+mod handle;
+mod not_started;
+mod noting;
+mod settings;
+mod start;
+mod turn;
+mod words;
+
+pub use daemon::run_daemon;
+pub use turn::{TurnEnd, serve_turn};
+
+#[cfg(test)]
+mod tests;
