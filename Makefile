@@ -1,0 +1,71 @@
+# Installs the program with its manual pages, settings and service, and makes a
+# Debian package of them. It builds nothing: README.md says how the program is
+# built.
+#
+#   make install DESTDIR=/somewhere
+#   make deb
+
+PROGRAM = crates/usbguard/out/usbguard
+DESTDIR =
+
+PACKAGE = usbguard-rattle
+# No release has been made: the date and the id of the commit.
+VERSION = 0~$(shell git log -1 --date=format:%Y%m%d --format=%cd.%h --abbrev=7)
+
+prefix = /usr
+sysconfdir = /etc
+bindir = $(prefix)/bin
+mandir = $(prefix)/share/man
+docdir = $(prefix)/share/doc/$(PACKAGE)
+unitdir = $(prefix)/lib/systemd/system
+bashdir = $(prefix)/share/bash-completion/completions
+zshdir = $(prefix)/share/zsh/vendor-completions
+
+confdir = $(sysconfdir)/usbguard
+INSTALL = install
+DOCS = README.md CHANGELOG.md $(addprefix docs/,boot.md commands.md journal.md locked-out.md moving.md \
+	real-kernel.md rules.md)
+
+all:
+	@echo "make install DESTDIR=FOLDER, or make deb"
+
+# The program, where it isn't built yet.
+$(PROGRAM):
+	@echo "make: there is no program at $@." >&2
+	@echo "Build it with bin/usbguard, or name another: make PROGRAM=PATH" >&2
+	@exit 1
+
+install: $(PROGRAM)
+	$(INSTALL) -d -m 755 "$(DESTDIR)$(bindir)" "$(DESTDIR)$(mandir)/man1" "$(DESTDIR)$(mandir)/man5"
+	$(INSTALL) -d -m 755 "$(DESTDIR)$(unitdir)" "$(DESTDIR)$(bashdir)" "$(DESTDIR)$(zshdir)"
+	$(INSTALL) -d -m 755 "$(DESTDIR)$(docdir)" "$(DESTDIR)$(docdir)/docs" "$(DESTDIR)$(docdir)/examples"
+	$(INSTALL) -m 755 "$(PROGRAM)" "$(DESTDIR)$(bindir)/usbguard"
+	$(INSTALL) -m 755 bin/usbguard-script "$(DESTDIR)$(bindir)/usbguard-script"
+	$(INSTALL) -m 644 man/usbguard.1 "$(DESTDIR)$(mandir)/man1/usbguard.1"
+	ln -sf usbguard.1 "$(DESTDIR)$(mandir)/man1/usbguard-script.1"
+	$(INSTALL) -m 644 man/usbguard-daemon.conf.5 man/usbguard-replay.5 man/usbguard-rules.conf.5 \
+		"$(DESTDIR)$(mandir)/man5"
+	sed 's|/usr/bin/|$(bindir)/|' packaging/usbguard.service > "$(DESTDIR)$(unitdir)/usbguard.service"
+	chmod 644 "$(DESTDIR)$(unitdir)/usbguard.service"
+	$(INSTALL) -m 644 packaging/usbguard.bash "$(DESTDIR)$(bashdir)/usbguard"
+	ln -sf usbguard "$(DESTDIR)$(bashdir)/usbguard-script"
+	$(INSTALL) -m 644 packaging/usbguard.zsh "$(DESTDIR)$(zshdir)/_usbguard"
+	$(INSTALL) -m 644 $(filter-out docs/%,$(DOCS)) "$(DESTDIR)$(docdir)"
+	$(INSTALL) -m 644 $(filter docs/%,$(DOCS)) "$(DESTDIR)$(docdir)/docs"
+	$(INSTALL) -m 644 examples/* "$(DESTDIR)$(docdir)/examples"
+	$(MAKE) --no-print-directory install-conf
+
+# Settings and rules that are there stay as they are.
+install-conf:
+	$(INSTALL) -d -m 755 "$(DESTDIR)$(confdir)"
+	[ -d "$(DESTDIR)$(confdir)/IPCAccessControl.d" ] || \
+		$(INSTALL) -d -m 700 "$(DESTDIR)$(confdir)/IPCAccessControl.d"
+	[ -e "$(DESTDIR)$(confdir)/usbguard-daemon.conf" ] || \
+		$(INSTALL) -m 600 packaging/usbguard-daemon.conf "$(DESTDIR)$(confdir)/usbguard-daemon.conf"
+	[ -e "$(DESTDIR)$(confdir)/rules.conf" ] || \
+		$(INSTALL) -m 600 packaging/rules.conf "$(DESTDIR)$(confdir)/rules.conf"
+
+deb: $(PROGRAM)
+	PROGRAM="$(PROGRAM)" packaging/make-deb.sh "$(PACKAGE)" "$(VERSION)"
+
+.PHONY: all install install-conf deb

@@ -1,0 +1,50 @@
+#!/bin/sh
+# Makes a Debian package of what `make install` installs: out/NAME_VERSION_ARCHITECTURE.deb.
+# Used by `make deb`: PROGRAM=path packaging/make-deb.sh NAME VERSION
+set -eu
+export LC_ALL=C
+umask 022
+cd "$(dirname "$0")/.."
+name=$1
+version=$2
+architecture=$(dpkg --print-architecture)
+root=out/deb/root
+file=out/${name}_${version}_$architecture.deb
+
+rm -rf out/deb
+mkdir -p "$root/DEBIAN"
+make --no-print-directory install PROGRAM="$PROGRAM" PACKAGE="$name" DESTDIR="$root" >/dev/null
+gzip -9 -n "$root"/usr/share/man/man5/*.5 "$root/usr/share/man/man1/usbguard.1"
+ln -sf usbguard.1.gz "$root/usr/share/man/man1/usbguard-script.1.gz"
+rm "$root/usr/share/man/man1/usbguard-script.1"
+
+# The packages of the libraries that ldd names, which is libc6 alone. The program needs the version of glibc whose symbols it cites.
+packages=
+for library in $(ldd "$PROGRAM" | grep -o '/[^ ]*'); do
+    owner=$(dpkg -S "$library" 2>/dev/null || dpkg -S "$(realpath "$library")")
+    packages="$packages ${owner%%:*}"
+done
+glibc=$(grep -ao 'GLIBC_2\.[0-9.]*' "$PROGRAM" | cut -d _ -f 2 | sort -V | tail -n 1)
+depends=$(printf '%s\n' $packages | sort -u | sed "s/^libc6\$/libc6 (>= $glibc)/" | paste -sd , | sed 's/,/, /g')
+
+cat >"$root/DEBIAN/control" <<END
+Package: $name
+Version: $version
+Architecture: $architecture
+Maintainer: $(git log -1 --format='%an <%ae>')
+Installed-Size: $(du -ks "$root" | cut -f 1)
+Depends: $depends
+Conflicts: usbguard
+Replaces: usbguard
+Section: utils
+Priority: optional
+Description: USB device authorisation by rules
+ The daemon judges USB devices by the rules of usbguard-rules.conf(5), and notes
+ each verdict and each write in its journal. A policy can be rehearsed before the
+ daemon is started. The service is neither enabled nor started by this package.
+END
+printf '/etc/usbguard/%s\n' rules.conf usbguard-daemon.conf >"$root/DEBIAN/conffiles"
+install -m 755 packaging/prerm "$root/DEBIAN/prerm"
+(cd "$root" && find usr etc -type f -exec md5sum {} +) >"$root/DEBIAN/md5sums"
+
+SOURCE_DATE_EPOCH=$(git log -1 --format=%ct) dpkg-deb --root-owner-group --build "$root" "$file"
