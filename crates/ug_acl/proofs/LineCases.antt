@@ -1,15 +1,16 @@
 -- A line is skipped, grants something, or is bad, and is read so.
-use Rattle.std.proofs.Common.{◌≡◌, ℕ, ◌+◌, ◌-◌, ◌≤◌, ◌⊎◌, inl, inr, Bool, true, false, cond, nat_eq, List, [], ◌∷◌, ◌++◌, length, drop, Option, Some, None, Result, Ok, Err, refl, sym, ap, subst, ◌∙◌, arith}
-use Rattle.std.proofs.lemmas.Bool.{false≢true}
-use Rattle.std.proofs.lemmas.Bool.Decides.{nat_tests}
+use Rattle.std.proofs.Common.{◌≡◌, ℕ, ◌+◌, ◌-◌, ◌≤◌, ◌⊎◌, inl, inr, Bool, true, false, cond, List, [], ◌∷◌, ◌++◌, length, Option, Some, None, Result, Ok, Err, refl, sym, ap, subst, ◌∙◌, arith}
 use Rattle.std.proofs.lemmas.Option.{none-some}
 use Rattle.ug_types.specs.Access.{section_word, section_of}
 use Rattle.ug_types.specs.Elements.{Has}
 use Rattle.ug_types.proofs.AccessWords.{section_written, section_read as word_read}
 use Rattle.ug_types.specs.declared.access.Section.{Section}
-use Rattle.ug_lines.specs.Blanks.{without_front, without_end}
+use Rattle.ug_lines.specs.Blanks.{without_front}
 use Rattle.ug_lines.specs.Equations.{IsTextOf, IsSkipped, IsEquation}
-use Rattle.ug_lines.proofs.Signs.{sign, sign_missing, Parts, parts, equation, value_place}
+use Rattle.ug_lines.proofs.Signs.{value_place}
+use Rattle.ug_equations.specs.Cuts.{EquationCut, Skip, NoSign, Sides, IsEquationCut}
+use Rattle.ug_equations.specs.Entries.{IsSkippedLine}
+use Rattle.ug_equations.proofs.Cutting.{cut_so, cut_some, sides_so}
 use Rattle.ug_lines.proofs.Trimming as trimming
 use Rattle.ug_acl.specs.declared.draft.Given.{Given}
 use Rattle.ug_acl.specs.declared.fault.FaultKind.{FaultKind}
@@ -18,8 +19,9 @@ use Rattle.ug_acl.specs.declared.privileges.Privileges.{Privileges}
 use Rattle.ug_types.specs.TextFaults.{fault_of_kind}
 use Rattle.ug_lines.specs.LineReading.{then_on}
 use Rattle.ug_acl.specs.Faults.{GrantFault}
-use Rattle.ug_acl.specs.Grammar.{IsSkippedGrant, IsGrant, AreParts, ArePrivileges, width_of, IsBadList, IsBadGrantLine, IsAccessLine, Skipped, Grants, Wrong}
-use Rattle.ug_acl.specs.Lines.{parts_of, parts_read, trimmed, sections_of, has_section, unless_given, section_read, given_to, sides_read, sides_read_at, equation_given, text_given, line_given}
+use Rattle.ug_acl.specs.Grammar.{IsGrant, AreParts, ArePrivileges, width_of, IsBadList, IsBadGrantLine, IsAccessLine, Skipped, Grants, Wrong}
+use Rattle.ug_acl.specs.Lines.{parts_of, parts_read, trimmed, sections_of, has_section, unless_given, section_read, given_to, cut_given, line_given}
+use Rattle.ug_acl.specs.Lines as lines
 use Rattle.ug_acl.specs.Words.{given_by_words}
 use Rattle.ug_acl.proofs.Parts.{parts_found, are_parts}
 use Rattle.ug_acl.proofs.PartsRead.{good_parts, bad_parts, FirstBadPart, part_case}
@@ -28,36 +30,16 @@ use Rattle.ug_acl.proofs.SeenSections.{section_seen, seen_section, is_seen}
 abbrev Outcome : Type 0
 Outcome = Result (List Given) GrantFault
 
--- the text of a line decides
-on_text : (given : List Given) (line text : List ℕ) → IsTextOf line text → line_given given line ≡ text_given given text
-on_text given line text t = ap (text_given given) (trimming.text_read line text t)
+-- the cut of a line decides
+on_cut : (given : List Given) (line : List ℕ) (cut : EquationCut) → IsEquationCut line cut → line_given given line ≡ cut_given given cut
+on_cut given line cut h = ap (cut_given given) (cut_so line cut h)
 
-pub skipped_read : (given : List Given) (line : List ℕ) → IsSkippedGrant line → line_given given line ≡ Ok given
-skipped_read given line h = on_text given line h.0 h.1 ∙ by h.0 h.2
-  where
-    by : (text : List ℕ) → IsSkipped text → text_given given text ≡ Ok given
-    by [] k = refl
-    by (b ∷ bytes) k = ap (λ (c : ℕ). if_comment c) k
-      where
-        if_comment : ℕ → Outcome
-        if_comment c = cond (nat_eq c 35) (Ok given) (equation_given given (b ∷ bytes))
+pub skipped_read : (given : List Given) (line : List ℕ) → IsSkippedLine line → line_given given line ≡ Ok given
+skipped_read given line h = on_cut given line Skip h
 
-shown_read : (given : List Given) (text : List ℕ) → ¬ IsSkipped text → text_given given text ≡ equation_given given text
-shown_read given [] h = absurd (h tt)
-shown_read given (b ∷ bytes) h =
-    let t : nat_eq b 35 ≡ false = grind (arith, nat_tests) in
-    rw t refl
-
--- an equation is read by its word and its value
-sides_found : (given : List Given) (text word value : List ℕ) → IsEquation text word value → equation_given given text ≡ sides_read given text word value
-sides_found given text word value e =
-    let p : Parts text word value = parts text word value e in
-    ap (sides_read_at given text) p.found
-    ∙ ap (λ (w : List ℕ). sides_read given text w (without_front (drop (p.at + 1) text))) p.word_is
-    ∙ ap (sides_read given text word) p.value_is
-
-line_sides : (given : List Given) (line text word value : List ℕ) → IsTextOf line text → ¬ IsSkipped text → IsEquation text word value → line_given given line ≡ sides_read given text word value
-line_sides given line text word value t s e = on_text given line text t ∙ shown_read given text s ∙ sides_found given text word value e
+line_sides : (given : List Given) (line text word value : List ℕ) → IsTextOf line text → ¬ IsSkipped text → IsEquation text word value
+    → line_given given line ≡ lines.grant_read given word value (length text - length value)
+line_sides given line text word value t s e = ap (cut_given given) (sides_so line text word value t s e)
 
 abbrev after_section : List Given → List ℕ → ℕ → Result Section GrantFault → Outcome
 after_section given value place read = then_on read (λ section. then_on (parts_read section place (parts_of value)) (λ privileges. Ok (given ++ given_to section privileges ∷ [])))
@@ -94,8 +76,7 @@ unknown word h = by (section_of word) refl
 
 pub bad_read : (given : List Given) (line : List ℕ) (kind : FaultKind) (place : ℕ) → IsBadGrantLine (sections_of given) line kind place → line_given given line ≡ Err (fault_of_kind kind place)
 bad_read given line NoEquals place h =
-    on_text given line h.0 h.1 ∙ shown_read given h.0 h.2
-    ∙ ap (sides_read_at given h.0) (sign_missing h.0 h.3.1) ∙ ap (λ (p : ℕ). Err (fault_of_kind NoEquals p)) (sym h.3.0)
+    on_cut given line NoSign (h.0, h.1, h.2, h.3.1) ∙ ap (λ (p : ℕ). Err (fault_of_kind NoEquals p)) (sym h.3.0)
 bad_read given line UnknownSection place h =
     let b = h.3 in
     line_sides given line h.0 b.1 b.2 h.1 h.2 b.3
@@ -118,14 +99,6 @@ bad_read given line BadPrivilege place h =
     ∙ ap (after_parts given b.0) (bad_parts b.0 from l.good l.words l.bad l.behind l.word l.blanks l.rest l.are_privileges l.text_of l.no_privilege l.front l.front_blank l.begins)
     ∙ ap (λ (p : ℕ). Err (fault_of_kind BadPrivilege p)) where_
 bad_read given line BadName place h = absurd h.3
-
-skip : (text : List ℕ) → IsSkipped text ⊎ (¬ IsSkipped text)
-skip [] = inl tt
-skip (b ∷ bytes) = by (nat_eq b 35) refl
-  where
-    by : (v : Bool) → nat_eq b 35 ≡ v → (b ≡ 35) ⊎ (¬ (b ≡ 35))
-    by true e = inl (grind (arith, nat_tests))
-    by false e = inr (λ k. (let none : ⊥ = grind (arith, nat_tests) in none))
 
 bad_list : (section : Section) (value : List ℕ) → FirstBadPart section (parts_of value) → (at : ℕ) × IsBadList section value at
 bad_list section value b =
@@ -183,13 +156,9 @@ of_word seen line text word value t s e = by (section_of word) refl
     by None f = Wrong UnknownSection 0 (text, t, s, (refl, word, value, e, λ section k. none-some section (sym f ∙ ap section_of k ∙ word_read section)))
 
 pub line_case : (seen : List Section) (line : List ℕ) → IsAccessLine seen line
-line_case seen line =
-    let text : List ℕ = without_end (without_front line) in
-    let t : IsTextOf line text = trimming.text_of line in
-    elim (skip text) [
-      | inl s ↦ Skipped (text, t, s)
-      | inr s ↦ elim (sign text) [
-        | inl g ↦ of_word seen line text (without_end g.word) (without_front g.rest) t s (equation text g)
-        | inr n ↦ Wrong NoEquals 0 (text, t, s, (refl, n))
-      ]
-    ]
+line_case seen line = let c = cut_some line in by c.0 c.1
+  where
+    by : (cut : EquationCut) → IsEquationCut line cut → IsAccessLine seen line
+    by Skip h = Skipped h
+    by NoSign h = Wrong NoEquals 0 (h.0, h.1, h.2, (refl, h.3))
+    by (Sides word value place) h = of_word seen line h.0 word value h.1 h.2 h.3

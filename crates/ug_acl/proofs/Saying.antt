@@ -1,64 +1,32 @@
 -- A text reads as what it gives.
-use Rattle.std.proofs.Common.{◌≡◌, ℕ, ◌+◌, ◌⊎◌, inl, inr, List, [], length, Result, Ok, Err, refl, sym, ap, subst, ◌∙◌, arith}
+use Rattle.std.proofs.Common.{◌≡◌, ℕ, ◌⊎◌, inl, inr, List, [], Ok, Err, refl, sym, ap, ◌∙◌}
 use Rattle.ug_lines.proofs.Meanings as meanings
-use Rattle.ug_lines.specs.Lines.{lines_of}
 use Rattle.ug_types.specs.declared.text_fault.TextFault.{TextFault}
-use Rattle.ug_types.specs.TextFaults.{fault_in_line, fault_of_kind}
+use Rattle.ug_equations.proofs.EntriesRead as lines
+use Rattle.ug_acl.specs.declared.draft.Given.{Given}
 use Rattle.ug_acl.specs.Faults.{number_of_kind}
-use Rattle.ug_acl.specs.Grammar.{GivesAccess, IsFirstBadGrant}
+use Rattle.ug_acl.specs.Grammar.{GivesAccess, GivesGrant, IsBadGrantLine, IsFirstBadGrant}
+use Rattle.ug_acl.specs.Lines.{sections_of, line_given}
 use Rattle.ug_acl.specs.Pairs.{Pair}
 use Rattle.ug_acl.specs.Texts.{access_read, as_pairs, pairs_given}
-use Rattle.ug_acl.proofs.Entries.{FirstBad, Decided, decide, good_lines_read, bad_lines_read}
+use Rattle.ug_acl.proofs.Entries.{with_grant, reads, all_given}
 
 said_read : (text : List ℕ) (pairs : List Pair) → GivesAccess text pairs → access_read text ≡ Ok pairs
-said_read text pairs h = ap as_pairs (good_lines_read 1 [] (lines_of text) h.given h.lines h.once) ∙ ap Ok (sym h.is)
-
-abbrev fault_of : (text : List ℕ) → FirstBad [] (lines_of text) → TextFault
-fault_of text b = fault_in_line number_of_kind (1 + length b.before) (fault_of_kind b.kind b.place)
-
-bad_text : (text : List ℕ) → (b : FirstBad [] (lines_of text)) → access_read text ≡ Err (fault_of text b)
-bad_text text b = ap as_pairs (bad_lines_read 1 [] (lines_of text) b)
-
-first_bad : (text : List ℕ) → (b : FirstBad [] (lines_of text)) → IsFirstBadGrant text (fault_of text b)
-first_bad text b = record {
-  before = b.before;
-  line = b.line;
-  behind = b.behind;
-  given = b.more;
-  kind = b.kind;
-  lines = b.parts;
-  good = b.good;
-  once = b.once;
-  bad = b.bad;
-  number = omega arith;
-  kind_is = refl;
-}
+said_read text pairs h =
+    ap as_pairs (lines.good_text GivesGrant (λ g. g.section) IsBadGrantLine sections_of with_grant (λ number given line. line_given given line) number_of_kind reads [] refl text h.given h.lines h.once)
+    ∙ ap (λ (given : List Given). Ok (pairs_given given)) (all_given h.given [])
+    ∙ ap Ok (sym h.is)
 
 bad_read : (text : List ℕ) (fault : TextFault) → IsFirstBadGrant text fault → access_read text ≡ Err fault
 bad_read text fault h =
-    let b : FirstBad [] (lines_of text) = record {
-      before = h.before;
-      line = h.line;
-      behind = h.behind;
-      more = h.given;
-      kind = h.kind;
-      place = fault.place;
-      parts = h.lines;
-      good = h.good;
-      once = h.once;
-      bad = h.bad;
-    } in
-    let number : 1 + length h.before ≡ fault.line = omega (arith, h.number) in
-    let same : fault_of text b ≡ fault = λ i. record { line = number i; kind = (sym h.kind_is) i; place = fault.place } in
-    bad_text text b ∙ ap Err same
+    ap as_pairs (lines.bad_text GivesGrant (λ g. g.section) IsBadGrantLine sections_of with_grant (λ number given line. line_given given line) number_of_kind reads [] refl text fault h)
 
 -- each text gives pairs or has a first bad line
 pub some_meaning : (text : List ℕ) → ((pairs : List Pair) × GivesAccess text pairs) ⊎ ((fault : TextFault) × IsFirstBadGrant text fault)
-some_meaning text = by (decide (lines_of text) [] tt)
-  where
-    by : Decided [] (lines_of text) → ((pairs : List Pair) × GivesAccess text pairs) ⊎ ((fault : TextFault) × IsFirstBadGrant text fault)
-    by (inl g) = inl (pairs_given g.0, record { given = g.0; lines = g.1; once = g.2; is = refl })
-    by (inr b) = inr (fault_of text b, first_bad text b)
+some_meaning text = elim (lines.some_text GivesGrant (λ g. g.section) IsBadGrantLine sections_of with_grant (λ number given line. line_given given line) number_of_kind reads [] refl text) [
+  | inl g ↦ inl (pairs_given g.0, record { given = g.0; lines = g.1; once = g.2; is = refl })
+  | inr b ↦ inr b
+]
 
 module _ (text : List ℕ) where
   pub one_list : (s t : List Pair) → GivesAccess text s → GivesAccess text t → s ≡ t

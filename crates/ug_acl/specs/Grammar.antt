@@ -1,8 +1,9 @@
 -- Access files as relations: what they give, and their first bad line.
-use Rattle.std.specs.Prelude.{◌≡◌, ◌≢◌, ◌⊎◌, ℕ, ◌+◌, List, [], ◌∷◌, ◌++◌, length}
+use Rattle.std.specs.Prelude.{◌≡◌, ◌≢◌, ℕ, ◌+◌, List, [], ◌∷◌, ◌++◌, length}
 use Rattle.std.specs.List.{join_with_byte}
 use Rattle.ug_lines.specs.Equations.{AreBlanks, BeginsBare, IsTextOf, IsSkipped, IsEquation}
 use Rattle.ug_lines.specs.Lines.{lines_of}
+use Rattle.ug_equations.specs.Entries.{AreEntries, IsFirstBad, IsSkippedLine}
 use Rattle.ug_types.specs.Access.{section_word}
 use Rattle.ug_types.specs.Elements.{Has, AllDistinct}
 use Rattle.ug_types.specs.declared.access.Section.{Section}
@@ -32,10 +33,6 @@ abbrev pub ArePrivileges : Section → List (List ℕ) → List (List ℕ) → T
 ArePrivileges section [] words = words ≡ []
 ArePrivileges section (part ∷ parts) words =
     (word : List ℕ) × (more : List (List ℕ)) × (words ≡ word ∷ more) × IsTextOf part word × IsPrivilegeOf section word × ArePrivileges section parts more
-
--- a line that is skipped
-abbrev pub IsSkippedGrant : List ℕ → Type 0
-IsSkippedGrant line = (text : List ℕ) × IsTextOf line text × IsSkipped text
 
 -- a line `Section=privilege,privilege` and what it gives
 pub record IsGrant (line : List ℕ) (section : Section) (privileges : Privileges) : Type 0 where
@@ -88,34 +85,21 @@ IsBadGrantLine seen line kind place = (text : List ℕ) × IsTextOf line text ×
 
 -- what a line is behind lines that have some sections: skipped, a grant in another section, or bad
 pub data IsAccessLine (seen : List Section) (line : List ℕ) : Type 0 where
-  Skipped : IsSkippedGrant line → IsAccessLine seen line
+  Skipped : IsSkippedLine line → IsAccessLine seen line
   Grants : (section : Section) (privileges : Privileges) → IsGrant line section privileges → ¬ Has seen section → IsAccessLine seen line
   Wrong : (kind : FaultKind) (place : ℕ) → IsBadGrantLine seen line kind place → IsAccessLine seen line
 
--- what lines give, each of which is skipped or a grant
-abbrev pub AreGrants : List (List ℕ) → List Given → Type 0
-AreGrants [] given = given ≡ []
-AreGrants (line ∷ lines) given =
-    (IsSkippedGrant line × AreGrants lines given)
-    ⊎ ((first : Given) × (others : List Given) × (given ≡ first ∷ others) × IsGrant line first.section first.privileges × AreGrants lines others)
+-- what a line gives
+abbrev pub GivesGrant : ℕ → List ℕ → Given → Type 0
+GivesGrant number line given = IsGrant line given.section given.privileges
 
 -- a text gives these: each line another section, and all that some line gives
 pub record GivesAccess (text : List ℕ) (pairs : List Pair) : Type 0 where
   pub given : List Given
-  pub lines : AreGrants (lines_of text) given
+  pub lines : AreEntries GivesGrant 1 (lines_of text) given
   pub once : AllDistinct (sections_of given)
   pub is : pairs ≡ pairs_given given
 
 -- the lines before are good and have each another section, and this one is bad
-pub record IsFirstBadGrant (text : List ℕ) (fault : TextFault) : Type 0 where
-  pub before : List (List ℕ)
-  pub line : List ℕ
-  pub behind : List (List ℕ)
-  pub given : List Given
-  pub kind : FaultKind
-  pub lines : lines_of text ≡ before ++ line ∷ behind
-  pub good : AreGrants before given
-  pub once : AllDistinct (sections_of given)
-  pub bad : IsBadGrantLine (sections_of given) line kind fault.place
-  pub number : fault.line ≡ length before + 1
-  pub kind_is : fault.kind ≡ number_of_kind kind
+abbrev pub IsFirstBadGrant : List ℕ → TextFault → Type 0
+IsFirstBadGrant text fault = IsFirstBad GivesGrant (λ given. given.section) IsBadGrantLine number_of_kind text fault

@@ -1,8 +1,9 @@
 -- What a line of an access file gives, behind other lines.
-use Rattle.std.specs.Prelude.{◌≡◌, ℕ, ◌+◌, ◌-◌, Bool, nat_eq, if◌then◌else◌, List, [], ◌∷◌, ◌++◌, length, map, take, drop, Option, Some, None, Result, Ok, Err}
-use Rattle.std.specs.List.{list_any, position, slice_split}
+use Rattle.std.specs.Prelude.{◌≡◌, ℕ, ◌+◌, ◌-◌, Bool, nat_eq, if◌then◌else◌, List, [], ◌∷◌, ◌++◌, length, map, Option, Some, None, Result, Ok, Err}
+use Rattle.std.specs.List.{list_any, slice_split}
 use Rattle.ug_types.specs.Access.{section_of}
 use Rattle.ug_types.specs.declared.access.Section.{Section}
+use Rattle.ug_equations.specs.Cuts.{EquationCut, Skip, NoSign, Sides, cut_of}
 use Rattle.ug_lines.specs.Blanks.{without_front, without_end}
 use Rattle.ug_acl.specs.declared.draft.Given.{Given}
 use Rattle.ug_acl.specs.declared.fault.FaultKind.TheVariants.{NoEquals, UnknownSection, BadPrivilege, Repeated}
@@ -57,25 +58,15 @@ abbrev pub grant_read : List Given → List ℕ → List ℕ → ℕ → Result 
 grant_read given word text place =
     then_on (section_read given word) (λ section. then_on (parts_read section place (parts_of text)) (λ privileges. Ok (given ++ given_to section privileges ∷ [])))
 
-abbrev pub sides_read : List Given → List ℕ → List ℕ → List ℕ → Result (List Given) GrantFault
-sides_read given text word value = grant_read given word value (length text - length value)
-
-abbrev pub sides_read_at : List Given → List ℕ → Option ℕ → Result (List Given) GrantFault
-sides_read_at given text None = Err (fault_of_kind NoEquals 0)
-sides_read_at given text (Some at) = sides_read given text (without_end (take at text)) (without_front (drop (at + 1) text))
-
--- a section, an equals sign, and a list that begins behind the blanks
-abbrev pub equation_given : List Given → List ℕ → Result (List Given) GrantFault
-equation_given given text = sides_read_at given text (position (nat_eq 61) text)
-
--- a line without its blanks
-abbrev pub text_given : List Given → List ℕ → Result (List Given) GrantFault
-text_given given [] = Ok given
-text_given given (b ∷ bytes) = if nat_eq b 35 then Ok given else equation_given given (b ∷ bytes)
+-- what a line's cut gives
+abbrev pub cut_given : List Given → EquationCut → Result (List Given) GrantFault
+cut_given given Skip = Ok given
+cut_given given NoSign = Err (fault_of_kind NoEquals 0)
+cut_given given (Sides word value place) = grant_read given word value place
 
 -- what was given before with what the line gives, or what is wrong with the line
 abbrev pub line_given : List Given → List ℕ → Result (List Given) GrantFault
-line_given given line = text_given given (trimmed line)
+line_given given line = cut_given given (cut_of line)
 
 -- a call's answer, and what it leaves; a refusal changes nothing
 abbrev pub LeavesGrants : Result (Unit {0}) GrantLineFault → List Given → List Given → Result (List Given) GrantFault → Type 0

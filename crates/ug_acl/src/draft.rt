@@ -1,13 +1,13 @@
 // What the lines so far give.
-ghost use Rattle.std.specs.Prelude.{◌≡◌, ◌+◌, ◌≤◌, ◌<◌, ◌^◌, IfOk, length, map, nat_eq};
-ghost use Rattle.std.specs.List.{position};
+ghost use Rattle.std.specs.Prelude.{◌≡◌, ◌+◌, ◌≤◌, ◌<◌, ◌^◌, IfOk, length, map};
 ghost use Rattle.ug_types.specs.TextFaults.{IsLineRead};
 ghost use Rattle.ug_acl.specs.Lines as lines;
-ghost use Rattle.ug_acl.specs.Lines.{parts_of, parts_read, section_read, grant_read, equation_given, line_given, LeavesGrants};
+ghost use Rattle.ug_acl.specs.Lines.{parts_of, parts_read, section_read, grant_read, line_given, LeavesGrants};
 
 use crate::fault::FaultKind;
 use crate::privileges::Privileges;
 use std::alloc::{AllocError, Global};
+use ug_equations::{LineCut, cut_line};
 use ug_lines::{without_end, without_front};
 use ug_types::{LineFault, Section};
 
@@ -108,27 +108,6 @@ fn add_grant(
     }
 }
 
-fn equals_in(text: &[u8]) -> Option<usize>
-    ensures { result ≡ position (nat_eq 61) text.now }
-{
-    text.iter().position(|byte| b'=' == *byte)
-}
-
-// Takes a line that is neither empty nor a comment, without its blanks.
-fn add_text(alloc: Global, given: &mut Vec<Given>, text: &[u8]) -> Result<(), LineFault<FaultKind>>
-    ensures { LeavesGrants result given.old.items given.new.items (equation_given given.old.items text.now) }
-{
-    match equals_in(text) {
-        Some(at) => {
-            let word = without_end(&text[..at]);
-            let value = without_front(&text[at + 1..]);
-            let place = (text.len() - value.len()) as u64;
-            add_grant(alloc, given, word, value, place)
-        }
-        None => Err(LineFault::at(FaultKind::NoEquals, 0)),
-    }
-}
-
 /// Takes a line. A refusal changes nothing.
 pub fn add_line(
     alloc: Global,
@@ -137,12 +116,9 @@ pub fn add_line(
 ) -> Result<(), LineFault<FaultKind>>
     ensures { LeavesGrants result given.old.items given.new.items (line_given given.old.items line.now) }
 {
-    let text = without_end(without_front(line));
-    if text.is_empty() {
-        return Ok(());
+    match cut_line(line) {
+        LineCut::Skipped => Ok(()),
+        LineCut::NoSign => Err(LineFault::at(FaultKind::NoEquals, 0)),
+        LineCut::Equation { word, value, place } => add_grant(alloc, given, word, value, place),
     }
-    if text[0] == b'#' {
-        return Ok(());
-    }
-    add_text(alloc, given, text)
 }

@@ -6,7 +6,8 @@ ghost use Rattle.ug_types.specs.Principals.{Named};
 ghost use Rattle.ug_types.specs.declared.text_fault.TextFault.{TextFault};
 ghost use Rattle.ug_acl.specs.Acls.{Addition, is_allowed};
 ghost use Rattle.ug_types.specs.TextFaults.{fault_of_kind};
-ghost use Rattle.ug_acl.specs.Grammar.{IsAccessLine, IsSkippedGrant, IsGrant, IsBadGrantLine, GivesAccess, IsFirstBadGrant};
+ghost use Rattle.ug_equations.specs.Entries.{IsSkippedLine};
+ghost use Rattle.ug_acl.specs.Grammar.{IsAccessLine, IsGrant, IsBadGrantLine, GivesAccess, IsFirstBadGrant};
 ghost use Rattle.ug_acl.specs.Lines.{given_to, line_given, sections_of};
 ghost use Rattle.ug_acl.specs.Pairs.{Pair, all_pairs, holds};
 ghost use Rattle.ug_acl.specs.Printed.{printed};
@@ -20,7 +21,7 @@ use ug_types::{Privilege, Section};
 /// A line is skipped, grants something in another section, or is bad, and is read so.
 pub fn access_lines_law()
     ensures each { (seen : List Section) (line : List ℕ) → IsAccessLine seen line }
-    ensures skipped { (given : List Given) (line : List ℕ) → IsSkippedGrant line → line_given given line ≡ Ok given }
+    ensures skipped { (given : List Given) (line : List ℕ) → IsSkippedLine line → line_given given line ≡ Ok given }
     ensures grants { (given : List Given) (line : List ℕ) (section : Section) (privileges : Privileges) → IsGrant line section privileges → ¬ Has (sections_of given) section → line_given given line ≡ Ok (given ++ given_to section privileges ∷ []) }
     ensures bad { (given : List Given) (line : List ℕ) (kind : FaultKind) (place : ℕ) → IsBadGrantLine (sections_of given) line kind place → line_given given line ≡ Err (fault_of_kind kind place) }
 {}

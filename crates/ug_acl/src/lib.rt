@@ -8,8 +8,6 @@ mod grants;
 mod laws;
 mod print;
 mod privileges;
-#[cfg(test)]
-mod tests;
 mod texts;
 
 pub use acl::Acl;

@@ -12,6 +12,7 @@ use Rattle.ug_types.specs.declared.saved.Saved.{Saved}
 use Rattle.ug_types.specs.declared.saved.Saved.TheVariants as saved
 use Rattle.ug_types.specs.declared.verdict.Target.{Target}
 use Rattle.ug_types.specs.declared.verdict.Target.TheVariants as target
+use Rattle.ug_types.specs.Targets.{target_word}
 use Rattle.ug_types.specs.declared.verdict.Cause.{Cause}
 use Rattle.ug_types.specs.declared.verdict.Cause.TheVariants as cause
 use Rattle.ug_types.specs.declared.control.Write.{Write}
@@ -29,7 +30,7 @@ use Rattle.ug_audit.specs.declared.entry.ConfigPart.{ConfigPart}
 use Rattle.ug_audit.specs.declared.entry.ConfigPart.TheVariants as part
 use Rattle.ug_audit.specs.declared.entry.Entry.{Entry}
 use Rattle.ug_audit.specs.declared.entry.Entry.TheVariants as entry
-use Rattle.ug_audit.specs.Lines.{and_words, target_word, write_word, wrote_word, saved_word, change_word, part_word, cause_words, fault_words, entry_line}
+use Rattle.ug_audit.specs.Lines.{and_words, write_word, wrote_word, saved_word, change_word, part_word, cause_words, fault_words, entry_line}
 use Rattle.ug_audit.specs.Printed.{IsCause, IsUnsettling, IsEntry, as_printed}
 
 -- ---- a line and its words
@@ -126,7 +127,6 @@ entry_read words =
 -- ---- each word is read back
 
 target_back : (t : Target) → (is_graphic (target_word t) ≡ true) × (target_read (target_word t) ≡ t)
-unfolding target_word
 target_back target.Allow = (refl, refl)
 target_back target.Block = (refl, refl)
 target_back target.Reject = (refl, refl)

@@ -1,15 +1,12 @@
 -- Entries that are noted one after another.
-use Rattle.std.proofs.Common.{◌≡◌, ℕ, ◌+◌, ◌≤◌, ◌<◌, Bool, true, false, List, [], ◌∷◌, ◌++◌, length, refl, sym, ap, ◌∙◌, subst, append_assoc, length-append, arith, add_assoc}
-use Rattle.std.specs.Prelude.{Option, Some, None, if◌then◌else◌}
-use Rattle.std.specs.Io.KnownBytes.{Appends}
+use Rattle.std.proofs.Common.{◌≡◌, ℕ, ◌+◌, ◌≤◌, Bool, true, false, List, [], ◌∷◌, ◌++◌, length, refl, sym, ap, ◌∙◌, subst, append_assoc, arith}
+use Rattle.std.specs.Prelude.{Option, if◌then◌else◌}
 use Rattle.std.proofs.lemmas.List.{append-nil}
-use Rattle.ug_types.specs.Ends.{IsCounted, Rose}
 use Rattle.ug_audit.specs.declared.entry.Entry.{Entry}
-use Rattle.ug_audit.specs.declared.entry.Entry.TheVariants as entry
 use Rattle.ug_audit.specs.declared.journal.Journal.{Journal}
-use Rattle.ug_audit.specs.Journal.{Told, members, noted_in, SameEntries, Notes}
+use Rattle.ug_audit.specs.Journal.{Told, members, SameEntries}
 use Rattle.ug_audit.specs.Lines.{entry_line}
-use Rattle.ug_audit.specs.Noting.{tells_drop, without_drops, IsNext, due_behind, NotesEach, NotesEntries}
+use Rattle.ug_audit.specs.Noting.{tells_drop, without_drops, IsNext, due_behind, NotesEach}
 use Rattle.ug_audit.specs.Panels.{Member, TakesAs, NotesAll, is_newly, one_live, live, live_of, newly_dropped, members_of}
 
 pub notes_on : (due : List ℕ) (es more : List Entry) (before between after : List Member) (mid later : List ℕ) → NotesEach due es before mid between → NotesEach mid more between later after → NotesEach due (es ++ more) before later after
@@ -68,9 +65,3 @@ live_falls first line [] (n ∷ ns) h = absurd h
 live_falls first line (m ∷ ms) [] h = absurd h
 live_falls first line (m ∷ ms) (n ∷ ns) h =
     one_falls m.dropped n.dropped line m n first (newly_dropped (first + 1) ms ns) (live ms) (live ns) h.0 (live_falls (first + 1) line ms ns h.1)
-
-pub places_fall : (before after : List Member) (line due new : List ℕ) (l k : ℕ) → NotesAll line before after → new ≡ due ++ newly_dropped 0 before after → live before ≡ l → live after ≡ k → k + length new ≡ l + length due
-places_fall before after line due new l k h e p q =
-    let falls = live_falls 0 line before after h in
-    let len : length new ≡ length due + length (newly_dropped 0 before after) = ap (λ (xs : List ℕ). length xs) e ∙ length-append due (newly_dropped 0 before after) in
-    omega (arith, falls, len, p, q)

@@ -1,13 +1,13 @@
 -- An entry that is pushed, and the `dropped` entries behind it.
-use Rattle.std.proofs.Common.{◌≡◌, ℕ, ◌+◌, ◌≤◌, Bool, true, false, List, [], ◌∷◌, ◌++◌, length, if◌then◌else◌, refl, sym, ap, ◌∙◌, subst, append_assoc}
+use Rattle.std.proofs.Common.{◌≡◌, ℕ, Bool, false, List, [], ◌∷◌, ◌++◌, if◌then◌else◌, refl, sym, ap, ◌∙◌, subst, append_assoc}
 use Rattle.std.proofs.lemmas.List.{append-nil}
 use Rattle.ug_audit.specs.declared.entry.Entry.{Entry}
 use Rattle.ug_audit.specs.declared.entry.Entry.TheVariants as entry
 use Rattle.ug_audit.specs.declared.journal.Journal.{Journal}
-use Rattle.ug_audit.specs.Journal.{Told, members, SameEntries}
+use Rattle.ug_audit.specs.Journal.{Told, members}
 use Rattle.ug_audit.specs.Lines.{entry_line}
-use Rattle.ug_audit.specs.Noting.{tells_drop, without_drops, due_behind, NotesEach, IsNext}
-use Rattle.ug_audit.specs.Panels.{Member, NotesAll, newly_dropped}
+use Rattle.ug_audit.specs.Noting.{tells_drop, without_drops, NotesEach}
+use Rattle.ug_audit.specs.Panels.{NotesAll, newly_dropped}
 use Rattle.ug_audit.proofs.Noting.{notes_on, note_one, drops_append}
 
 pub record IsPushed {X : Type 0} {F : X → Type 0} (told : Told X F) (e : Entry) (before : Journal X F) (due : List ℕ) (after : Journal X F) : Type 0 where
@@ -36,15 +36,6 @@ next_pushed told e i before due rest a b c p is all h d = record {
       let from = subst (λ (l : List ℕ). NotesEach [] p.added (members told a.panel.now) l (members told b.panel.now)) is p.noted in
       let one = subst (λ (l : List ℕ). NotesEach (i ∷ rest) (entry.Dropped i ∷ []) (members told b.panel.now) l (members told c.panel.now)) (sym d) (note_one (i ∷ rest) (entry.Dropped i) (members told b.panel.now) (members told c.panel.now) refl h) in
       notes_on [] p.added (entry.Dropped i ∷ []) (members told a.panel.now) (members told b.panel.now) (members told c.panel.now) (i ∷ rest) due from one;
-}
-
-pub pushed_all : {X : Type 0} {F : X → Type 0} (told : Told X F) (e : Entry) (due : List ℕ) (a b : Journal X F) → IsPushed told e a due b → due ≡ [] → b.panel.ghost_name ≡ a.panel.ghost_name → b.entries.ghost_name ≡ a.entries.ghost_name → SameEntries told a b
-pushed_all told e due a b p is same_panel same_entries = record {
-  panel = same_panel;
-  entries = same_entries;
-  added = p.added;
-  all = p.all;
-  noted = subst (λ (l : List ℕ). NotesEach [] p.added (members told a.panel.now) l (members told b.panel.now)) is p.noted;
 }
 
 pub pushed_one : {X : Type 0} {F : X → Type 0} (told : Told X F) (e : Entry) (due : List ℕ) (a b : Journal X F) → IsPushed told e a due b → without_drops b.entries.now.entries ≡ without_drops a.entries.now.entries ++ e ∷ []

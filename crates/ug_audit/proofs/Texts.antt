@@ -1,12 +1,12 @@
 -- What the members took of entries that were noted.
-use Rattle.std.proofs.Common.{◌≡◌, ℕ, ◌+◌, ◌≤◌, ◌<◌, ◌^◌, ◌-◌, Bool, true, false, List, [], ◌∷◌, ◌++◌, length, refl, sym, ap, ◌∙◌, subst, append_assoc, arith}
+use Rattle.std.proofs.Common.{◌≡◌, ℕ, ◌≤◌, Bool, true, false, List, [], ◌∷◌, ◌++◌, length, refl, sym, ap, ◌∙◌, subst, append_assoc, arith}
 use Rattle.std.specs.Prelude.{Option, Some, None, if◌then◌else◌}
 use Rattle.std.specs.Io.KnownBytes.{Appends}
 use Rattle.std.proofs.lemmas.List.{append-nil}
 use Rattle.ug_types.specs.Ends.{Rose}
 use Rattle.ug_audit.specs.declared.entry.Entry.{Entry}
 use Rattle.ug_audit.specs.Lines.{entry_line}
-use Rattle.ug_audit.specs.Noting.{tells_drop, without_drops, due_behind, NotesEach, NotesEntries}
+use Rattle.ug_audit.specs.Noting.{without_drops, due_behind, NotesEach, NotesEntries}
 use Rattle.ug_audit.specs.Panels.{Member, TakesAs, NotesAll, live, newly_dropped}
 use Rattle.ug_audit.specs.Texts.{text_of, TookAs, TookAll}
 use Rattle.ug_audit.proofs.Noting.{live_falls}
@@ -23,9 +23,6 @@ appends_both (Some a) (Some b) (Some c) xs ys h k = k ∙ ap (λ (l : List ℕ).
 
 rose_by : (a b c : ℕ) → a ≤ b → b ≤ c → Rose b c → Rose a c
 rose_by a b c le more rose lt = grind (arith, le, more, rose, lt)
-
-rose_on : (a b c : ℕ) → Rose a b → b ≤ c → Rose a c
-rose_on a b c rose more lt = let up = rose lt in omega (arith, up, more)
 
 took_one_none : (was : Bool) (m : Member) → TookAs was was [] m m
 took_one_none true m = refl

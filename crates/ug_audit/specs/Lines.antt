@@ -4,8 +4,7 @@ use Rattle.ug_types.specs.Principals.{principal_text}
 use Rattle.ug_types.specs.Refusals.{refusal_words}
 use Rattle.ug_types.specs.declared.saved.Saved.{Saved}
 use Rattle.ug_types.specs.declared.saved.Saved.TheVariants as saved
-use Rattle.ug_types.specs.declared.verdict.Target.{Target}
-use Rattle.ug_types.specs.declared.verdict.Target.TheVariants as target
+use Rattle.ug_types.specs.Targets.{target_word}
 use Rattle.ug_types.specs.declared.verdict.Cause.{Cause}
 use Rattle.ug_types.specs.declared.verdict.Cause.TheVariants as cause
 use Rattle.ug_types.specs.declared.control.Write.{Write}
@@ -25,11 +24,6 @@ use Rattle.ug_audit.specs.declared.entry.Entry.TheVariants as entry
 abbrev pub and_words : List ℕ → List (List ℕ) → List ℕ
 and_words text [] = text
 and_words text (word ∷ words) = and_words (text ++ 32 ∷ word) words
-
-unfoldable pub target_word : Target → List ℕ
-target_word target.Allow = codes "allow"
-target_word target.Block = codes "block"
-target_word target.Reject = codes "reject"
 
 unfoldable pub write_word : Write → List ℕ
 write_word write.On = codes "on"

@@ -8,8 +8,6 @@ mod journal;
 mod laws;
 mod lines;
 mod panel;
-#[cfg(test)]
-mod tests;
 mod text_auditor;
 
 pub use auditor::{Auditor, Noted};

@@ -1,9 +1,10 @@
 // The text of an entry.
 ghost use Rattle.std.specs.Prelude.{◌≡◌, ◌≤◌, ◌<◌, ◌+◌, ◌++◌, [], ◌∷◌, length, codes, decimal};
-ghost use Rattle.ug_audit.specs.Lines.{and_words, cause_words, change_word, entry_line, fault_words, part_word, saved_word, target_word, wrote_word};
+ghost use Rattle.ug_audit.specs.Lines.{and_words, cause_words, change_word, entry_line, fault_words, part_word, saved_word, wrote_word};
 ghost use Rattle.ug_audit.specs.Lines as lines;
 ghost use Rattle.ug_types.specs.Principals.{principal_text};
 ghost use Rattle.ug_types.specs.Refusals.{refusal_words};
+ghost use Rattle.ug_types.specs.Targets.{target_word};
 
 use crate::entry::{ConfigPart, Entry, Fault, RuleChange};
 use itoa::Buffer;
@@ -58,18 +59,6 @@ fn push_principal(line: &mut Line, who: &Principal)
 {
     let text = who.text();
     push_word(line, text.bytes());
-}
-
-#[tactic(auto, unfolding(crate::specs::Lines::target_word))]
-fn word_of_target(target: Target) -> &'static [u8]
-    ensures text { result.now ≡ target_word target }
-    ensures length { length result.now ≤ 6 }
-{
-    match target {
-        Target::Allow => b"allow",
-        Target::Block => b"block",
-        Target::Reject => b"reject",
-    }
 }
 
 #[tactic(auto, unfolding(crate::specs::Lines::write_word))]
@@ -223,7 +212,7 @@ fn line_of_verdict(number: u64, name: &NodeName, verdict: Target, cause: Cause) 
     ensures { result ≡ and_words (codes "judged") (decimal number ∷ name.now ∷ target_word verdict ∷ cause_words cause) }
 {
     let mut line = of_device(b"judged", number, name);
-    push_word(&mut line, word_of_target(verdict));
+    push_word(&mut line, verdict.word());
     push_cause(&mut line, cause);
     line
 }

@@ -20,7 +20,7 @@ impl Machine<u64> for Echo {
 
     ghost step_of = { λ p line. if nat_eq (length line) 3 then Refused BadLine p else if nat_eq (length line) 4 then Refused InputTooLong p else Writes line (record { begun = true }, length line) };
 
-    ghost closing = { λ m. if m.begun then Some (codes "done\n") else None };
+    ghost closing = { λ p. if p.0.begun then Some (codes "done\n") else None };
 
     ghost keeps = { λ m w. Unit {0} };
 
@@ -39,7 +39,7 @@ impl Machine<u64> for Echo {
         }
     }
 
-    fn finish<K: Sink>(&self, out: &mut K) -> Ran {
+    fn finish<K: Sink>(&self, _alloc: Global, _world: &u64, out: &mut K) -> Ran {
         if !self.begun {
             return Ran::Bad;
         }

@@ -2,6 +2,7 @@
 #![tactic(auto)]
 
 mod control;
+mod disks;
 mod echo;
 mod entries;
 mod inputs;
@@ -37,6 +38,15 @@ fn tell_of_rules(alloc: Global, kind: &str, case: &Case) -> Result<Option<Vec<u8
         "saved-rules" => rules::tell_saved(alloc, &case.input)?,
         "policy" => policies::tell(alloc, line)?,
         "local-second" => zones::tell(alloc, line)?,
+        _ => return Ok(None),
+    }))
+}
+
+fn tell_of_disks(alloc: Global, kind: &str, case: &Case) -> Result<Option<Vec<u8>>, NoMemory> {
+    Ok(Some(match kind {
+        "start" => disks::tell(alloc, &case.input)?,
+        "kept-rules" => disks::tell_kept(alloc, &case.input)?,
+        "saves" => disks::tell_saves(alloc, case.line_given())?,
         _ => return Ok(None),
     }))
 }
@@ -86,6 +96,9 @@ impl Teller for Cases {
     fn tell(&self, alloc: Global, case: &Case) -> Result<Vec<u8>, NoMemory> {
         let kind = str::from_utf8(&case.kind).unwrap_or("");
         if let Some(told) = tell_of_rules(alloc, kind, case)? {
+            return Ok(told);
+        }
+        if let Some(told) = tell_of_disks(alloc, kind, case)? {
             return Ok(told);
         }
         if let Some(told) = tell_of_settings(alloc, kind, case)? {

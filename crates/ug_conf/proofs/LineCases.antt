@@ -1,61 +1,41 @@
 -- A line is skipped, sets a key, or is bad, and is read so.
-use Rattle.std.proofs.Common.{◌≡◌, ℕ, ◌+◌, ◌-◌, ◌≤◌, ◌⊎◌, inl, inr, Bool, true, false, cond, nat_eq, List, [], ◌∷◌, ◌++◌, length, drop, Option, Some, None, Result, Ok, Err, refl, sym, ap, subst, ◌∙◌, arith}
+use Rattle.std.proofs.Common.{◌≡◌, ℕ, ◌+◌, ◌-◌, ◌≤◌, Bool, true, false, cond, List, [], ◌∷◌, ◌++◌, length, Option, Some, None, Result, Ok, Err, refl, sym, ap, subst, ◌∙◌, arith}
 use Rattle.std.proofs.lemmas.Bool.{false≢true}
-use Rattle.std.proofs.lemmas.Bool.Decides.{nat_tests}
 use Rattle.std.proofs.lemmas.Option.{none-some}
 use Rattle.ug_types.specs.Elements.{Has}
 use Rattle.ug_conf.specs.declared.fault.FaultKind.{FaultKind}
 use Rattle.ug_conf.specs.declared.fault.FaultKind.TheVariants.{NoEquals, UnknownKey, BadValue, Repeated}
 use Rattle.ug_conf.specs.declared.keys.Key.{Key}
 use Rattle.ug_conf.specs.declared.values.Setting.{Setting}
-use Rattle.ug_lines.specs.Blanks.{without_front, without_end}
-use Rattle.ug_conf.specs.Draft.{Draft, draft_of, with_setting, has_key, unless_seen, or_bad, key_read, value_read, set_by_sides, set_at_sign, equation_read, text_read, line_read}
+use Rattle.ug_conf.specs.Draft.{Draft, draft_of, with_setting, has_key, unless_seen, or_bad, key_read, value_read, assigned, cut_read, line_read}
 use Rattle.ug_types.specs.TextFaults.{fault_of_kind}
 use Rattle.ug_lines.specs.LineReading.{then_on}
 use Rattle.ug_conf.specs.Faults.{SettingFault}
 use Rattle.ug_conf.specs.Keys.{key_of}
 use Rattle.ug_conf.specs.Values.{setting_of}
-use Rattle.ug_conf.specs.Grammar.{word_of, IsValue, IsSkippedLine, IsSetting, IsBadSetting, IsSettingsLine, Skipped, SetsKey, Bad}
+use Rattle.ug_conf.specs.Grammar.{word_of, IsValue, IsSetting, IsBadSetting, IsSettingsLine, Skipped, SetsKey, Bad}
 use Rattle.ug_lines.specs.Equations.{IsTextOf, IsSkipped, IsEquation}
+use Rattle.ug_equations.specs.Cuts.{EquationCut, Skip, NoSign, Sides, IsEquationCut}
+use Rattle.ug_equations.specs.Entries.{IsSkippedLine}
+use Rattle.ug_equations.proofs.Cutting.{cut_so, cut_some, sides_so}
 use Rattle.ug_conf.proofs.Assigning as values
 use Rattle.ug_conf.proofs.SeenKeys.{key_seen, seen_key}
-use Rattle.ug_lines.proofs.Signs.{sign, sign_missing, Parts, parts, equation, value_place}
+use Rattle.ug_lines.proofs.Signs.{value_place}
 use Rattle.ug_conf.proofs.Tables.{key_written, key_read as word_read}
-use Rattle.ug_lines.proofs.Trimming as trimming
 
 abbrev Outcome : Type 0
 Outcome = Result Draft SettingFault
 
--- the text of a line decides
-on_text : (number : ℕ) (draft : Draft) (line text : List ℕ) → IsTextOf line text → line_read number draft line ≡ text_read number draft text
-on_text number draft line text t = ap (text_read number draft) (trimming.text_read line text t)
+-- the cut of a line decides
+on_cut : (number : ℕ) (draft : Draft) (line : List ℕ) (cut : EquationCut) → IsEquationCut line cut → line_read number draft line ≡ cut_read number draft cut
+on_cut number draft line cut h = ap (cut_read number draft) (cut_so line cut h)
 
 pub skipped_read : (number : ℕ) (draft : Draft) (line : List ℕ) → IsSkippedLine line → line_read number draft line ≡ Ok draft
-skipped_read number draft line h = on_text number draft line h.0 h.1 ∙ by h.0 h.2
-  where
-    by : (text : List ℕ) → IsSkipped text → text_read number draft text ≡ Ok draft
-    by [] k = refl
-    by (b ∷ bytes) k = ap (λ (c : ℕ). if_comment c) k
-      where
-        if_comment : ℕ → Outcome
-        if_comment c = cond (nat_eq c 35) (Ok draft) (equation_read number draft (b ∷ bytes))
+skipped_read number draft line h = on_cut number draft line Skip h
 
-shown_read : (number : ℕ) (draft : Draft) (text : List ℕ) → ¬ IsSkipped text → text_read number draft text ≡ equation_read number draft text
-shown_read number draft [] h = absurd (h tt)
-shown_read number draft (b ∷ bytes) h =
-    let t : nat_eq b 35 ≡ false = grind (arith, nat_tests) in
-    rw t refl
-
--- an equation is read by its word and its value
-parted_read : (number : ℕ) (draft : Draft) (text word value : List ℕ) → IsEquation text word value → equation_read number draft text ≡ set_by_sides number draft text word value
-parted_read number draft text word value e =
-    let p : Parts text word value = parts text word value e in
-    ap (set_at_sign number draft text) p.found
-    ∙ ap (λ (w : List ℕ). set_by_sides number draft text w (without_front (drop (p.at + 1) text))) p.word_is
-    ∙ ap (set_by_sides number draft text word) p.value_is
-
-line_parted : (number : ℕ) (draft : Draft) (line text word value : List ℕ) → IsTextOf line text → ¬ IsSkipped text → IsEquation text word value → line_read number draft line ≡ set_by_sides number draft text word value
-line_parted number draft line text word value t s e = on_text number draft line text t ∙ shown_read number draft text s ∙ parted_read number draft text word value e
+line_assigned : (number : ℕ) (draft : Draft) (line text word value : List ℕ) → IsTextOf line text → ¬ IsSkipped text → IsEquation text word value
+    → line_read number draft line ≡ assigned number draft word value (length text - length value)
+line_assigned number draft line text word value t s e = ap (cut_read number draft) (sides_so line text word value t s e)
 
 abbrev after_key : ℕ → Draft → List ℕ → ℕ → Result Key SettingFault → Outcome
 after_key number draft value place read = then_on read (λ key. then_on (value_read place key value) (λ set. Ok (draft_of (with_setting number set draft.settings) (draft.seen ++ key ∷ []))))
@@ -74,7 +54,7 @@ pub setting_read : (number : ℕ) (draft : Draft) (line : List ℕ) (key : Key) 
     → line_read number draft line ≡ Ok (draft_of (with_setting number set draft.settings) (draft.seen ++ key ∷ []))
 setting_read number draft line key set s n =
     let place : ℕ = length s.text - length s.value in
-    line_parted number draft line s.text (word_of key) s.value s.text_of s.shown s.equation
+    line_assigned number draft line s.text (word_of key) s.value s.text_of s.shown s.equation
     ∙ ap (after_key number draft s.value place) (new_key draft.seen key n)
     ∙ ap (λ (o : Option Setting). then_on (or_bad place o) (λ set. Ok (draft_of (with_setting number set draft.settings) (draft.seen ++ key ∷ [])))) (values.value_read key s.value set s.has_value)
 
@@ -94,33 +74,24 @@ valueless key value h = by (setting_of key value) refl
 
 pub bad_read : (number : ℕ) (draft : Draft) (line : List ℕ) (kind : FaultKind) (place : ℕ) → IsBadSetting draft.seen line kind place → line_read number draft line ≡ Err (fault_of_kind kind place)
 bad_read number draft line NoEquals place h =
-    on_text number draft line h.0 h.1 ∙ shown_read number draft h.0 h.2
-    ∙ ap (set_at_sign number draft h.0) (sign_missing h.0 h.3.1) ∙ ap (λ (p : ℕ). Err (fault_of_kind NoEquals p)) (sym h.3.0)
+    on_cut number draft line NoSign (h.0, h.1, h.2, h.3.1) ∙ ap (λ (p : ℕ). Err (fault_of_kind NoEquals p)) (sym h.3.0)
 bad_read number draft line UnknownKey place h =
     let b = h.3 in
-    line_parted number draft line h.0 b.1 b.2 h.1 h.2 b.3
+    line_assigned number draft line h.0 b.1 b.2 h.1 h.2 b.3
     ∙ ap (λ (o : Option Key). after_key number draft b.2 (length h.0 - length b.2) (unless_seen draft.seen o)) (unknown b.1 b.4)
     ∙ ap (λ (p : ℕ). Err (fault_of_kind UnknownKey p)) (sym b.0)
 bad_read number draft line Repeated place h =
     let b = h.3 in
-    line_parted number draft line h.0 (word_of b.1) b.2 h.1 h.2 b.3
+    line_assigned number draft line h.0 (word_of b.1) b.2 h.1 h.2 b.3
     ∙ ap (after_key number draft b.2 (length h.0 - length b.2)) (old_key draft.seen b.1 b.4)
     ∙ ap (λ (p : ℕ). Err (fault_of_kind Repeated p)) (sym b.0)
 bad_read number draft line BadValue place h =
     let b = h.3 in
     let where_ : length h.0 - length b.1 ≡ place = omega (arith, b.5) in
-    line_parted number draft line h.0 (word_of b.0) b.1 h.1 h.2 b.2
+    line_assigned number draft line h.0 (word_of b.0) b.1 h.1 h.2 b.2
     ∙ ap (after_key number draft b.1 (length h.0 - length b.1)) (new_key draft.seen b.0 b.3)
     ∙ ap (λ (o : Option Setting). then_on (or_bad (length h.0 - length b.1) o) (λ set. Ok (draft_of (with_setting number set draft.settings) (draft.seen ++ b.0 ∷ [])))) (valueless b.0 b.1 b.4)
     ∙ ap (λ (p : ℕ). Err (fault_of_kind BadValue p)) where_
-
-skip : (text : List ℕ) → IsSkipped text ⊎ (¬ IsSkipped text)
-skip [] = inl tt
-skip (b ∷ bytes) = by (nat_eq b 35) refl
-  where
-    by : (v : Bool) → nat_eq b 35 ≡ v → (b ≡ 35) ⊎ (¬ (b ≡ 35))
-    by true e = inl (grind (arith, nat_tests))
-    by false e = inr (λ k. (let none : ⊥ = grind (arith, nat_tests) in none))
 
 of_value : (seen : List Key) (line text value : List ℕ) (key : Key) → IsTextOf line text → ¬ IsSkipped text → IsEquation text (word_of key) value → ¬ Has seen key → IsSettingsLine seen line
 of_value seen line text value key t s e n = by (setting_of key value) refl
@@ -146,13 +117,9 @@ of_word seen line text word value t s e = by (key_of word) refl
     by None f = Bad UnknownKey 0 (text, t, s, (refl, word, value, e, λ key k. none-some key (sym f ∙ ap key_of k ∙ word_read key)))
 
 pub line_case : (seen : List Key) (line : List ℕ) → IsSettingsLine seen line
-line_case seen line =
-    let text : List ℕ = without_end (without_front line) in
-    let t : IsTextOf line text = trimming.text_of line in
-    elim (skip text) [
-      | inl s ↦ Skipped (text, t, s)
-      | inr s ↦ elim (sign text) [
-        | inl g ↦ of_word seen line text (without_end g.word) (without_front g.rest) t s (equation text g)
-        | inr n ↦ Bad NoEquals 0 (text, t, s, (refl, n))
-      ]
-    ]
+line_case seen line = let c = cut_some line in by c.0 c.1
+  where
+    by : (cut : EquationCut) → IsEquationCut line cut → IsSettingsLine seen line
+    by Skip h = Skipped h
+    by NoSign h = Bad NoEquals 0 (h.0, h.1, h.2, (refl, h.3))
+    by (Sides word value place) h = of_word seen line h.0 word value h.1 h.2 h.3

@@ -1,13 +1,13 @@
 -- What lines of settings set, one after the other: usbguard-daemon.conf(5).
-use Rattle.std.specs.Prelude.{◌≡◌, ℕ, ◌+◌, ◌-◌, Bool, nat_eq, if◌then◌else◌, List, [], ◌∷◌, ◌++◌, length, take, drop, Option, Some, None, Result, Ok, Err}
-use Rattle.std.specs.List.{position, list_any}
+use Rattle.std.specs.Prelude.{◌≡◌, ℕ, Bool, if◌then◌else◌, List, [], ◌∷◌, ◌++◌, Option, Some, None, Result, Ok, Err}
+use Rattle.std.specs.List.{list_any}
 use Rattle.ug_conf.specs.declared.fault.FaultKind.TheVariants.{NoEquals, UnknownKey, BadValue, Repeated}
 use Rattle.ug_types.specs.declared.text_fault.LineFault.TheVariants.{Bad, Memory}
 use Rattle.ug_conf.specs.declared.keys.Key.{Key}
 use Rattle.ug_conf.specs.declared.settings.Settings.{Settings}
 use Rattle.ug_conf.specs.declared.values.Setting.{Setting}
 use Rattle.ug_conf.specs.declared.values.Setting.TheVariants as setting
-use Rattle.ug_lines.specs.Blanks.{without_front, without_end}
+use Rattle.ug_equations.specs.Cuts.{EquationCut, Skip, NoSign, Sides, cut_of}
 use Rattle.ug_types.specs.TextFaults.{fault_of_kind}
 use Rattle.ug_lines.specs.LineReading.{then_on}
 use Rattle.ug_conf.specs.Faults.{SettingFault, SettingLineFault}
@@ -60,25 +60,15 @@ abbrev pub assigned : ℕ → Draft → List ℕ → List ℕ → ℕ → Result
 assigned number draft word text place =
     then_on (key_read draft.seen word) (λ key. then_on (value_read place key text) (λ setting. Ok (draft_of (with_setting number setting draft.settings) (draft.seen ++ key ∷ []))))
 
-abbrev pub set_by_sides : ℕ → Draft → List ℕ → List ℕ → List ℕ → Result Draft SettingFault
-set_by_sides number draft text word value = assigned number draft word value (length text - length value)
-
-abbrev pub set_at_sign : ℕ → Draft → List ℕ → Option ℕ → Result Draft SettingFault
-set_at_sign number draft text None = Err (fault_of_kind NoEquals 0)
-set_at_sign number draft text (Some at) = set_by_sides number draft text (without_end (take at text)) (without_front (drop (at + 1) text))
-
--- a key, an equals sign, and a value that begins behind the blanks
-abbrev pub equation_read : ℕ → Draft → List ℕ → Result Draft SettingFault
-equation_read number draft text = set_at_sign number draft text (position (nat_eq 61) text)
-
--- a line without its blanks
-abbrev pub text_read : ℕ → Draft → List ℕ → Result Draft SettingFault
-text_read number draft [] = Ok draft
-text_read number draft (b ∷ bytes) = if nat_eq b 35 then Ok draft else equation_read number draft (b ∷ bytes)
+-- what a line's cut sets
+abbrev pub cut_read : ℕ → Draft → EquationCut → Result Draft SettingFault
+cut_read number draft Skip = Ok draft
+cut_read number draft NoSign = Err (fault_of_kind NoEquals 0)
+cut_read number draft (Sides word value place) = assigned number draft word value place
 
 -- what was set before with what the line of that number sets, or what is wrong with the line
 abbrev pub line_read : ℕ → Draft → List ℕ → Result Draft SettingFault
-line_read number draft line = text_read number draft (without_end (without_front line))
+line_read number draft line = cut_read number draft (cut_of line)
 
 -- a call's answer, and what it leaves; a refusal changes nothing
 abbrev pub LeavesDraft : Result (Unit {0}) SettingLineFault → Draft → Draft → Result Draft SettingFault → Type 0

@@ -2,6 +2,7 @@
 use Rattle.std.specs.Prelude.{◌≡◌, ◌≢◌, ℕ, ◌+◌, Bool, true, false, IsTrue, List, [], ◌∷◌, ◌++◌, length, map, codes}
 use Rattle.ug_lines.specs.Equations.{IsBlank, AreBlanks, IsTextOf, IsSkipped, IsEquation}
 use Rattle.ug_types.specs.Elements.{Has}
+use Rattle.ug_equations.specs.Entries.{IsSkippedLine}
 use Rattle.ug_types.specs.declared.verdict.Target.{Target}
 use Rattle.ug_types.specs.Targets.{target_word}
 use Rattle.ug_conf.specs.declared.fault.FaultKind.{FaultKind}
@@ -103,10 +104,6 @@ IsValue key.DeviceManagerBackend value set = set ≡ setting.Unused
 IsValue key.AuditBackend value set = set ≡ setting.Unused
 IsValue key.AuditFilePath value set = set ≡ setting.Unused
 IsValue key.HidePii value set = set ≡ setting.Unused
-
--- a line that is skipped
-abbrev pub IsSkippedLine : List ℕ → Type 0
-IsSkippedLine line = (text : List ℕ) × IsTextOf line text × IsSkipped text
 
 -- a line that sets a key
 pub record IsSetting (line : List ℕ) (key : Key) (set : Setting) : Type 0 where

@@ -1,16 +1,16 @@
 -- Texts of settings as relations: what they set, and their first bad line.
-use Rattle.std.specs.Prelude.{◌≡◌, ℕ, ◌+◌, ◌⊎◌, Bool, true, false, List, [], ◌∷◌, ◌++◌, length, map, filter}
+use Rattle.std.specs.Prelude.{◌≡◌, ℕ, ◌⊎◌, Bool, true, false, List, [], ◌++◌, map, filter}
 use Rattle.ug_lines.specs.Lines.{lines_of}
+use Rattle.ug_equations.specs.Entries.{AreEntries, IsFirstBad}
 use Rattle.ug_types.specs.Elements.{Has, AllDistinct}
 use Rattle.ug_types.specs.declared.text_fault.TextFault.{TextFault}
-use Rattle.ug_conf.specs.declared.fault.FaultKind.{FaultKind}
 use Rattle.ug_conf.specs.declared.keys.Key.{Key}
 use Rattle.ug_conf.specs.declared.keys.Key.TheVariants as key
 use Rattle.ug_conf.specs.declared.settings.Settings.{Settings}
 use Rattle.ug_conf.specs.declared.values.Setting.{Setting}
 use Rattle.ug_conf.specs.declared.values.Setting.TheVariants as setting
 use Rattle.ug_conf.specs.Faults.{kind_number}
-use Rattle.ug_conf.specs.Grammar.{IsSkippedLine, IsSetting, IsBadSetting}
+use Rattle.ug_conf.specs.Grammar.{IsSetting, IsBadSetting}
 use Rattle.ug_types.specs.Principals.{Named}
 use Rattle.ug_conf.specs.Settings.{defaults}
 
@@ -20,12 +20,9 @@ pub record Entry : Type 0 where
   pub key : Key
   pub set : Setting
 
--- what lines that are numbered from a number on set, each of which is skipped or sets a key
-abbrev pub AreEntries : ℕ → List (List ℕ) → List Entry → Type 0
-AreEntries number [] entries = entries ≡ []
-AreEntries number (line ∷ lines) entries =
-    (IsSkippedLine line × AreEntries (number + 1) lines entries)
-    ⊎ ((entry : Entry) × (others : List Entry) × (entries ≡ entry ∷ others) × (entry.number ≡ number) × IsSetting line entry.key entry.set × AreEntries (number + 1) lines others)
+-- what the line of that number sets
+abbrev pub GivesEntry : ℕ → List ℕ → Entry → Type 0
+GivesEntry number line entry = (entry.number ≡ number) × IsSetting line entry.key entry.set
 
 -- keys whose lines set nothing yet, and are noted
 abbrev pub is_noted : Key → Bool
@@ -69,18 +66,8 @@ pub record AreSettingsOf (entries : List Entry) (settings : Settings) : Type 0 w
 
 -- a text gives these settings
 abbrev pub GivesSettings : List ℕ → Settings → Type 0
-GivesSettings text settings = (entries : List Entry) × AreEntries 1 (lines_of text) entries × AreSettingsOf entries settings
+GivesSettings text settings = (entries : List Entry) × AreEntries GivesEntry 1 (lines_of text) entries × AreSettingsOf entries settings
 
 -- the lines before are good and set each another key, and this one is bad
-pub record IsFirstBadSetting (text : List ℕ) (fault : TextFault) : Type 0 where
-  pub before : List (List ℕ)
-  pub line : List ℕ
-  pub behind : List (List ℕ)
-  pub entries : List Entry
-  pub kind : FaultKind
-  pub lines : lines_of text ≡ before ++ line ∷ behind
-  pub good : AreEntries 1 before entries
-  pub once : AllDistinct (keys_of entries)
-  pub bad : IsBadSetting (keys_of entries) line kind fault.place
-  pub number : fault.line ≡ length before + 1
-  pub kind_is : fault.kind ≡ kind_number kind
+abbrev pub IsFirstBadSetting : List ℕ → TextFault → Type 0
+IsFirstBadSetting text fault = IsFirstBad GivesEntry (λ entry. entry.key) IsBadSetting kind_number text fault

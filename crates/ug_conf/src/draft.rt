@@ -1,8 +1,6 @@
 // What the lines so far set.
-ghost use Rattle.std.specs.Prelude.{◌≡◌, ◌++◌, IfOk, OnOk, OnErr, nat_eq};
-ghost use Rattle.std.specs.List.{position};
+ghost use Rattle.std.specs.Prelude.{◌≡◌, ◌++◌, IfOk, OnOk, OnErr};
 ghost use Rattle.ug_types.specs.TextFaults.{IsLineRead};
-ghost use Rattle.ug_conf.specs.Draft as drafts;
 ghost use Rattle.ug_conf.specs.Draft.{draft_of, with_setting, key_read, value_read, assigned, line_read, LeavesDraft};
 
 use crate::fault::FaultKind;
@@ -10,7 +8,7 @@ use crate::keys::{Key, known_key};
 use crate::settings::Settings;
 use crate::values::{Setting, make_setting};
 use std::alloc::Global;
-use ug_lines::{without_end, without_front};
+use ug_equations::{LineCut, cut_line};
 use ug_types::{LineFault, List, NoMemory, Principal};
 
 // Both, one behind the other.
@@ -110,33 +108,6 @@ fn add_assignment(
     Ok(())
 }
 
-fn equals_in(text: &[u8]) -> Option<usize>
-    ensures { result ≡ position (nat_eq 61) text.now }
-{
-    text.iter().position(|byte| b'=' == *byte)
-}
-
-// Takes a line that is neither empty nor a comment, without its blanks.
-fn add_text(
-    alloc: Global,
-    settings: &mut Settings,
-    seen: &mut Vec<Key>,
-    number: u64,
-    text: &[u8],
-) -> Result<(), LineFault<FaultKind>>
-    ensures { LeavesDraft result (draft_of settings.old seen.old.items) (draft_of settings.new seen.new.items) (drafts.equation_read number (draft_of settings.old seen.old.items) text.now) }
-{
-    match equals_in(text) {
-        Some(at) => {
-            let word = without_end(&text[..at]);
-            let value = without_front(&text[at + 1..]);
-            let place = (text.len() - value.len()) as u64;
-            add_assignment(alloc, settings, seen, number, word, value, place)
-        }
-        None => Err(LineFault::at(FaultKind::NoEquals, 0)),
-    }
-}
-
 /// Takes the line of that number. A refusal changes nothing.
 pub fn add_line(
     alloc: Global,
@@ -147,12 +118,11 @@ pub fn add_line(
 ) -> Result<(), LineFault<FaultKind>>
     ensures { LeavesDraft result (draft_of settings.old seen.old.items) (draft_of settings.new seen.new.items) (line_read number (draft_of settings.old seen.old.items) line.now) }
 {
-    let text = without_end(without_front(line));
-    if text.is_empty() {
-        return Ok(());
+    match cut_line(line) {
+        LineCut::Skipped => Ok(()),
+        LineCut::NoSign => Err(LineFault::at(FaultKind::NoEquals, 0)),
+        LineCut::Equation { word, value, place } => {
+            add_assignment(alloc, settings, seen, number, word, value, place)
+        }
     }
-    if text[0] == b'#' {
-        return Ok(());
-    }
-    add_text(alloc, settings, seen, number, text)
 }

@@ -4,7 +4,8 @@ ghost use Rattle.ug_types.specs.Elements.{Has};
 ghost use Rattle.ug_types.specs.declared.text_fault.TextFault.{TextFault};
 ghost use Rattle.ug_conf.specs.Draft.{Draft, draft_of, line_read, with_setting};
 ghost use Rattle.ug_types.specs.TextFaults.{fault_of_kind};
-ghost use Rattle.ug_conf.specs.Grammar.{IsSettingsLine, IsSkippedLine, IsSetting, IsBadSetting};
+ghost use Rattle.ug_equations.specs.Entries.{IsSkippedLine};
+ghost use Rattle.ug_conf.specs.Grammar.{IsSettingsLine, IsSetting, IsBadSetting};
 ghost use Rattle.ug_conf.specs.Meaning.{GivesSettings, IsFirstBadSetting};
 ghost use Rattle.ug_conf.specs.Texts.{conf_read};
 

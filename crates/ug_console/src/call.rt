@@ -1,7 +1,7 @@
 // The call that reads a text and writes what its lines write.
 ghost use Rattle.std.specs.Prelude.{◌≡◌, ◌≢◌, ◌≤◌, ◌+◌, ◌*◌, ◌++◌, ℕ, List, Some, [], ◌∷◌, length, vec_len};
 ghost use Rattle.ug_types.specs.Ends.{Rose};
-ghost use Rattle.ug_console.specs.Fold.{bad_line, of_first};
+ghost use Rattle.ug_console.specs.Fold.{bad_line};
 ghost use Rattle.ug_console.specs.Runs.{words_of, ended_of, Says, Finishes, Replays};
 ghost use Rattle.ug_console.specs.Statuses.{status_of, Answers};
 
@@ -50,14 +50,14 @@ fn finish<K: Sink, W, M: Machine<W>>(
     world: &mut W,
 ) -> Ended
     requires { M.keeps (M.state machine.old) world.old }
-    ensures told { Finishes M.step_of (of_first M.closing) splitter.old.line.items splitter.old.lines (M.state machine.old, world.old) (K.held out.old) (K.held out.new) (M.state machine.new, world.new) result }
+    ensures told { Finishes M.step_of M.closing splitter.old.line.items splitter.old.lines (M.state machine.old, world.old) (K.held out.old) (K.held out.new) (M.state machine.new, world.new) result }
     ensures not_read { result ≢ Ended.ReadFault }
     ensures counted { K.faults out.old ≤ K.faults out.new }
     ensures cause { result ≡ Ended.WriteFault → Rose (K.faults out.old) (K.faults out.new) }
 {
     match splitter.last(alloc, machine, world, out) {
         Ran::Done => {
-            let ran = machine.finish(out);
+            let ran = machine.finish(alloc, world, out);
             conclude(out, ran, splitter.lines)
         }
         other => conclude(out, other, splitter.lines),
@@ -75,7 +75,7 @@ pub fn replay<S: Source, K: Sink, W, M: Machine<W>>(
     world: &mut W,
 ) -> Ended
     requires { M.keeps (M.state machine.old) world.old }
-    ensures told { Replays M.step_of (of_first M.closing) (M.state machine.old, world.old) (S.left input.old) (S.left input.new) (K.held out.old) (K.held out.new) (M.state machine.new, world.new) result }
+    ensures told { Replays M.step_of M.closing (M.state machine.old, world.old) (S.left input.old) (S.left input.new) (K.held out.old) (K.held out.new) (M.state machine.new, world.new) result }
     ensures read { result ≡ Ended.ReadFault → Rose (S.faults input.old) (S.faults input.new) }
     ensures written { result ≡ Ended.WriteFault → Rose (K.faults out.old) (K.faults out.new) }
 {
@@ -104,7 +104,7 @@ pub fn run<S: Source, K: Sink, W, M: Machine<W>>(
 ) -> u8
     requires { M.keeps (M.state machine.old) world.old }
     ensures answers { (all : List ℕ) (base : List ℕ) → S.left input.old ≡ Some all → K.held out.old ≡ Some base
-        → Answers M.step_of (of_first M.closing) (M.state machine.old, world.old) all base (S.left input.new) (K.held out.new) (M.state machine.new, world.new) result }
+        → Answers M.step_of M.closing (M.state machine.old, world.old) all base (S.left input.new) (K.held out.new) (M.state machine.new, world.new) result }
     ensures read { result ≡ 4 → Rose (S.faults input.old) (S.faults input.new) }
     ensures written { result ≡ 5 → Rose (K.faults out.old) (K.faults out.new) }
     ensures others { (ended : Ended) × (result ≡ status_of ended) }

@@ -2,6 +2,7 @@
 ghost use Rattle.std.specs.Prelude.{◌≡◌, ◌≢◌, ◌<◌, ◌≤◌, ◌+◌, ◌-◌, ◌*◌, ℕ, List, [], ◌∷◌, length, take, vec_len};
 ghost use Rattle.ug_types.specs.Ends.{Rose};
 ghost use Rattle.ug_lines.specs.Splitting.{IsLine};
+ghost use Rattle.ug_console.specs.Fold as fold;
 ghost use Rattle.ug_console.specs.Runs.{Extends, Feeds, Lasts};
 
 use crate::machine::{Machine, Ran};
@@ -13,6 +14,13 @@ pub const MAX_LINE: usize = 1048576;
 
 /// The greatest number of lines.
 pub const MAX_LINES: u64 = 1048576;
+
+/// Whether a line may come behind so many lines: there may be 1,048,576 lines of at most 1,048,576 bytes.
+pub fn is_within(lines: u64, line: &[u8]) -> bool
+    ensures { result ≡ fold.is_within lines line.now }
+{
+    lines < MAX_LINES && line.len() <= MAX_LINE
+}
 
 /// The number of lines that were taken, and the line that has begun.
 #[derive(Drop)]

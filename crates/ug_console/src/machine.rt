@@ -32,7 +32,7 @@ pub trait Machine<W> {
     ghost step_of: { State × W → List ℕ → Outcome (State × W) };
 
     /// What is written behind the last line, unless more lines are wanted.
-    ghost closing: { State → Option (List ℕ) };
+    ghost closing: { State × W → Option (List ℕ) };
 
     /// What joins a machine and its world before each line.
     ghost keeps: { State → W → Type 0 };
@@ -46,8 +46,8 @@ pub trait Machine<W> {
         ensures cause { result ≡ Ran.SinkFailed → Rose (K.faults out.old) (K.faults out.new) };
 
     /// Writes the text behind the last line.
-    fn finish<K: Sink>(&self, out: &mut K) -> Ran
-        ensures ran { Closes (closing (state self.now)) (K.held out.old) (K.held out.new) result }
+    fn finish<K: Sink>(&self, alloc: Global, world: &W, out: &mut K) -> Ran
+        ensures ran { Closes (closing (state self.now, world.now)) (K.held out.old) (K.held out.new) result }
         ensures counted { K.faults out.old ≤ K.faults out.new }
         ensures cause { result ≡ Ran.SinkFailed → Rose (K.faults out.old) (K.faults out.new) };
 }

@@ -21,13 +21,3 @@ handled d k l v es e first law last access pending number = record {
   pending = pending;
   event = number;
 }
-
--- what is noted before the sweep tells no failed call and no name
-
-pub start_quiet : (number : ℕ) (moment : Moment) (tried : Option Saved) → failures_told (entry.Event number moment ∷ saved_entries tried) ≡ []
-start_quiet number moment None = refl
-start_quiet number moment (Some saved) = refl
-
-pub start_nameless : (number : ℕ) (moment : Moment) (tried : Option Saved) → unsettled_names (entry.Event number moment ∷ saved_entries tried) ≡ []
-start_nameless number moment None = refl
-start_nameless number moment (Some saved) = refl

@@ -1,6 +1,7 @@
 pub mod Settings
 pub mod RuleFile
 pub mod Policy
+pub mod Privileges
 pub mod Verdicts
 pub mod Event
 pub mod Durable

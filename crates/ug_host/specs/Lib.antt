@@ -2,3 +2,4 @@ pub mod Content
 pub mod Names
 pub mod Untold
 pub mod Zones
+pub mod RuleFiles

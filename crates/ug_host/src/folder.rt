@@ -5,6 +5,7 @@ use crate::file::{
     Content, FileFault, join, open_to_write, read_file, read_first, read_number, word_of,
     write_byte,
 };
+use crate::hubs::Hubs;
 use crate::names::list_devices;
 use crate::port::read_connect_type;
 use std::alloc::Global;
@@ -17,6 +18,7 @@ use ug_types::{Attr, Control, Held, NodeName, Write};
 #[derive(Drop)]
 struct OpenControl<F> {
     file: F,
+    name: NodeName,
     devnum_path: String,
     devnum: u32,
 }
@@ -28,6 +30,7 @@ pub struct Folder<R: Files> {
     root: String,
     open: BTreeMap<u64, OpenControl<R::File>>,
     next: u64,
+    hubs: Hubs,
 }
 
 impl<R: Files + AllocGlobal + Clone + Drop> Folder<R> {
@@ -37,6 +40,7 @@ impl<R: Files + AllocGlobal + Clone + Drop> Folder<R> {
             root,
             open: BTreeMap::new(alloc),
             next: 0,
+            hubs: Hubs::new(alloc),
         }
     }
 
@@ -67,6 +71,7 @@ impl<R: Files + AllocGlobal + Clone + Drop> Folder<R> {
         let devnum = read_number(&self.rt, devnum_path.as_str())?;
         Ok(OpenControl {
             file,
+            name: *name,
             devnum_path,
             devnum,
         })
@@ -105,20 +110,37 @@ impl<R: Files + AllocGlobal + Clone + Drop> Folder<R> {
 
     pub fn open_control(&mut self, alloc: Global, name: &NodeName, control: Control) -> Opened {
         match self.open_file(alloc, name, control) {
-            Ok(file) => self.hold(file),
+            Ok(file) => {
+                let opened = self.hold(file);
+                if let (Opened::Token(held), Control::Authorized) = (opened, control) {
+                    self.hubs.hold(name, held.0);
+                }
+                opened
+            }
             Err(FileFault::Missing) => Opened::Absent,
             Err(FileFault::Failed) => Opened::Failed,
             Err(FileFault::Memory) => Opened::Memory,
         }
     }
 
-    pub fn read(&self, alloc: Global, name: &NodeName, attr: Attr) -> ReadOut {
-        match self.read_attr(alloc, name, attr) {
-            Ok(Content::Whole(text)) => ReadOut::Bytes(text),
-            Ok(Content::TooLong) => ReadOut::TooLong,
-            Err(FileFault::Missing) => ReadOut::Absent,
-            Err(FileFault::Failed) => ReadOut::Failed,
-            Err(FileFault::Memory) => ReadOut::Memory,
+    /// Reads a file by its device's name, unless it was read of a hub that its control tells to be there still.
+    pub fn read(&mut self, alloc: Global, name: &NodeName, attr: Attr) -> ReadOut {
+        if let Some(answer) = self.read_kept(alloc, name, attr) {
+            return answer;
+        }
+        let answer = read_out_of(self.read_attr(alloc, name, attr));
+        if let ReadOut::Bytes(text) = &answer {
+            self.hubs.keep(alloc, name, attr, text.bytes());
+        }
+        answer
+    }
+
+    fn read_kept(&mut self, alloc: Global, name: &NodeName, attr: Attr) -> Option<ReadOut> {
+        let held = self.hubs.held(name, attr)?;
+        match self.probe(Held(held)) {
+            Probe::Alive(_) => self.hubs.text(alloc, name, attr),
+            Probe::Gone => None,
+            Probe::Failed => Some(ReadOut::Failed),
         }
     }
 
@@ -137,7 +159,19 @@ impl<R: Files + AllocGlobal + Clone + Drop> Folder<R> {
     }
 
     pub fn close(&mut self, held: Held) {
-        let _closed = self.open.remove(&held.0);
+        if let Some(control) = self.open.remove(&held.0) {
+            self.hubs.release(&control.name, held.0);
+        }
+    }
+}
+
+fn read_out_of(read: Result<Content, FileFault>) -> ReadOut {
+    match read {
+        Ok(Content::Whole(text)) => ReadOut::Bytes(text),
+        Ok(Content::TooLong) => ReadOut::TooLong,
+        Err(FileFault::Missing) => ReadOut::Absent,
+        Err(FileFault::Failed) => ReadOut::Failed,
+        Err(FileFault::Memory) => ReadOut::Memory,
     }
 }
 

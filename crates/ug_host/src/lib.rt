@@ -8,6 +8,7 @@ mod entries;
 mod file;
 mod folder;
 mod fresh;
+mod hubs;
 mod linked;
 mod names;
 mod plain;
@@ -26,10 +27,3 @@ pub use seed::read_seed;
 pub use sysfs::SysfsFolder;
 pub use waiter::SecondWaiter;
 pub use zone::LocalZone;
-
-#[cfg(test)]
-mod file_tests;
-#[cfg(test)]
-mod journal_tests;
-#[cfg(test)]
-mod tests;

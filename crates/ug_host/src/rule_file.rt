@@ -2,6 +2,7 @@
 ghost use Rattle.std.specs.Prelude.{◌≡◌, ◌≤◌, ◌<◌, ◌+◌, ◌-◌, ◌^◌, true, None};
 ghost use Rattle.ug_types.specs.Ends.{IsCounted, Rose};
 ghost use Rattle.ug_store.specs.DiskCalls.{CountsOnDisk, FitsFile, NeedsNoMemory, failed_load, failed_answer};
+ghost use Rattle.ug_host.specs.RuleFiles.{CallsAt, moved};
 ghost use Rattle.ug_host.specs.Untold.{untold};
 
 use crate::file::{Content, FileFault};
@@ -39,6 +40,7 @@ impl<R: Files> RuleFile<R> {
     fn count(&mut self, failed: bool)
         ensures counted { IsCounted self.old.faults self.new.faults }
         ensures cause { failed ≡ true → Rose self.old.faults self.new.faults }
+        ensures path { self.new.path ≡ self.old.path }
     {
         if failed {
             self.faults = self.faults.saturating_add(1);
@@ -62,7 +64,8 @@ impl<R: Files> RuleFile<R> {
     }
 
     fn write(&mut self, alloc: Global, text: &[u8]) -> Result<(), FileFault>
-        ensures { self.new.faults ≡ self.old.faults }
+        ensures faults { self.new.faults ≡ self.old.faults }
+        ensures path { self.new.path ≡ self.old.path }
     {
         self.fresh = None;
         let path = text_of(self.path.bytes())?;
@@ -102,15 +105,19 @@ fn is_failed(answer: DiskAnswer) -> bool
 }
 
 impl<R: Files> RuleDisk for RuleFile<R> {
-    ghost keeps = { λ s call answer t. CountsOnDisk call answer s.faults t.faults };
+    ghost keeps = { λ s call answer t. CallsAt call answer s.path s.faults t.path t.faults };
 
     ghost told = { λ s. None };
 
     ghost faults = { λ s. s.faults };
 
+    ghost aimed = { λ s path. s.path ≡ path };
+
     ghost did = { λ s call answer t n keeps told. untold n told };
 
-    ghost counted = { λ s call answer t keeps. keeps };
+    ghost counted = { λ s call answer t keeps. keeps.counts };
+
+    ghost stays = { λ s call answer t path keeps aimed. moved s.path t.path path keeps.same aimed };
 
     fn aim(&mut self, alloc: Global, path: &[u8]) -> Result<(), NoMemory> {
         self.path = Text::of(alloc, path)?;

@@ -6,7 +6,6 @@ pub mod Sounds
 pub mod Stayed
 pub mod Runs
 pub mod Told
-pub mod Kernels
 pub mod Counted
 pub mod Ways
 pub mod Rises

@@ -111,10 +111,6 @@ pub failures_more : (ms ns : List Made) → failures (ms ++ ns) ≡ failures ms 
 failures_more [] ns = refl
 failures_more (m ∷ ms) ns = ap (λ (v : List FailedCall). failure m.call m.answer ++ v) (failures_more ms ns) ∙ sym (append_assoc (failure m.call m.answer) (failures ms) (failures ns))
 
-pub along_more : {S : Type 0} (gives : S → (call : Call) → Answer call → S → Type 0) (ms ns : List Made) (s u t : S) → Along gives s ms u → Along gives u ns t → Along gives s (ms ++ ns) t
-along_more gives [] ns s u t a b = subst (λ v. Along gives v ns t) a b
-along_more gives (m ∷ ms) ns s u t a b = (a.0, a.1, along_more gives ms ns a.0 u t a.2 b)
-
 pub along_split : {S : Type 0} (gives : S → (call : Call) → Answer call → S → Type 0) (ms ns : List Made) (s t : S) → Along gives s (ms ++ ns) t → (u : S) × Along gives s ms u × Along gives u ns t
 along_split gives [] ns s t a = (s, refl, a)
 along_split gives (m ∷ ms) ns s t a = let k = along_split gives ms ns a.0 t a.2 in (k.0, (a.0, a.1, k.1), k.2)

@@ -4,7 +4,8 @@ use Rattle.std.specs.Prelude.{codes, decimal, if◌then◌else◌}
 use Rattle.std.specs.Cmp.Lexicographic.{pointwise}
 use Rattle.std.proofs.lemmas.Bool.{false≢true}
 use Rattle.std.proofs.lemmas.List.{append-nil}
-use Rattle.ug_audit.specs.Lines.{and_words, cause_words, fault_words, target_word, entry_line}
+use Rattle.ug_audit.specs.Lines.{and_words, cause_words, fault_words, entry_line}
+use Rattle.ug_types.specs.Targets.{target_word}
 use Rattle.ug_audit.specs.declared.entry.Entry.{Entry}
 use Rattle.ug_audit.specs.declared.entry.Entry.TheVariants as entry
 use Rattle.ug_proto.specs.declared.reply.Reply.{Reply}

@@ -3,7 +3,6 @@ pub mod BadRequests
 pub mod Begun
 pub mod Frames
 pub mod Lines
-pub mod Numbers
 pub mod Privileges
 pub mod RefusalParts
 pub mod Replies

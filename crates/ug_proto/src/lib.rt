@@ -3,7 +3,6 @@
 
 mod framer;
 mod laws;
-mod numbers;
 mod parse;
 mod print;
 mod read;
@@ -12,8 +11,6 @@ mod request;
 mod scan;
 mod spelled;
 mod split;
-#[cfg(test)]
-mod tests;
 
 pub use framer::{FrameFault, Framer};
 pub use laws::{

@@ -2,12 +2,12 @@
 ghost use Rattle.std.specs.Prelude.{◌≡◌, ◌≤◌, ◌<◌, IfOk, IfErr, Ok, length};
 ghost use Rattle.ug_proto.specs.Requests as requests;
 ghost use Rattle.ug_proto.specs.Requests.{unless_empty, after_in, kind_in, permanence_in, get_read, set_read, permanence_read, device_read, rule_read, append_read, remove_read, named_read, request_read, IsWrongAt};
-ghost use Rattle.ug_proto.specs.Numbers.{number_in};
+ghost use Rattle.ug_decimals.specs.Numbers.{number_in};
 
-use crate::numbers::number;
 use crate::request::{Request, RequestFault};
 use crate::split::{behind_word, first_word};
 use std::alloc::Global;
+use ug_decimals::parse_decimal;
 use ug_types::{After, Target, Text};
 
 // The next word of a line of that length, of which the rest begins with a space where it isn't empty.
@@ -66,7 +66,7 @@ fn next_number(total: usize, rest: &[u8]) -> Result<u64, RequestFault>
     ensures err { IfErr result (λ fault. IsWrongAt fault (requests.next_read total rest.now number_in)) }
 {
     let word = next_word(total, rest)?;
-    match number(word) {
+    match parse_decimal(word) {
         Some(number) => Ok(number),
         None => Err(bad_next(total, rest)),
     }
@@ -79,7 +79,7 @@ fn after(word: &[u8]) -> Option<After>
     if word == b"end".as_slice() {
         return Some(After::End);
     }
-    match number(word) {
+    match parse_decimal(word) {
         Some(0) => Some(After::Front),
         Some(id) => Some(After::Rule(id)),
         None => None,

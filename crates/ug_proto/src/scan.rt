@@ -4,7 +4,7 @@ ghost use Rattle.ug_types.specs.Elements.{Has};
 ghost use Rattle.ug_proto.specs.Scanning.{IsTextThen, IsStop};
 ghost use Rattle.ug_proto.specs.RefusalParts.{number_then, IsNumberIn};
 
-use crate::numbers::number;
+use ug_decimals::parse_decimal;
 use ug_types::NoMemory;
 
 /// Why no part was taken.
@@ -62,7 +62,7 @@ fn bounded_number(word: &[u8], least: u64, most: u64) -> Option<u64>
     ensures some { IfSome result (λ n. IsNumberIn least most n × (word.now ≡ decimal n)) }
     ensures none { IfNone result ((n : ℕ) → IsNumberIn least most n → word.now ≡ decimal n → ⊥) }
 {
-    match number(word) {
+    match parse_decimal(word) {
         Some(number) => {
             if number < least {
                 return None;

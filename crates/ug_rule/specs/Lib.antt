@@ -1,8 +1,6 @@
 pub mod Conditions
-pub mod FaultKinds
 pub mod Faults
 pub mod Files
-pub mod FirstFault
 pub mod Grammar
 pub mod Queries
 pub mod Rules

@@ -3,20 +3,17 @@ ghost use Rattle.std.specs.Prelude.{◌≡◌, ◌↔◌, ◌⊎◌, ℕ, List, 
 ghost use Rattle.ug_lex.specs.declared.token.Token.{Token};
 ghost use Rattle.ug_lines.specs.Lines.{lines_of};
 ghost use Rattle.ug_lines.specs.Splitting.{AreLinesOf};
-ghost use Rattle.ug_types.specs.declared.text_fault.TextFault.{TextFault};
 ghost use Rattle.ug_rule.specs.declared.fault.Ending.{Ending};
 ghost use Rattle.ug_rule.specs.declared.fault.Fault.{Fault};
 ghost use Rattle.ug_rule.specs.Conditions.{conditions_of};
-ghost use Rattle.ug_rule.specs.FaultKinds.{query_early_kind, query_stray_kind, rule_early_kind, rule_stray_kind};
 ghost use Rattle.ug_rule.specs.Files.{file_read, line_read};
-ghost use Rattle.ug_rule.specs.FirstFault.{AreQuery, AreRule, FirstFault, IsBadLine, IsBlankLine};
 ghost use Rattle.ug_rule.specs.Grammar.{AllAttributes, Asks, IsConditions, IsQuery, IsRule, IsValue, Says, WellFormed};
 ghost use Rattle.ug_rule.specs.Queries.{attributes_of};
 ghost use Rattle.ug_rule.specs.Rules.{rule_of, rule_read, whole_query, query_read};
-ghost use Rattle.ug_rule.specs.Texts.{AreRules, IsFirstBadRule};
+ghost use Rattle.ug_rule.specs.Texts.{AreRules, IsBlankLine};
 ghost use Rattle.ug_rule.specs.Values.{id_in, interface_in, string_in, value_of};
 
-use ug_types::{Conds, Id, Iface, Query, Rule, TextFault, Values};
+use ug_types::{Conds, Id, Iface, Query, Rule, Values};
 
 /// A value is read exactly as its tokens are cut into one item, or an operator or none and items in braces.
 pub fn values_law()
@@ -49,27 +46,17 @@ pub fn lines_law()
     ensures well_formed { (rule : Rule) → WellFormed rule ↔ ((line : List ℕ) × (rule_read line ≡ Ok rule)) }
 {}
 
-/// A line that is no rule has its fault at the first token with which the tokens so far go on to no rule, or where it ends
-/// too early, at its outermost open brace or else at its length. What is wrong there hangs on what the tokens before ask
-/// for. Faults of the tokens themselves come first. So it is with queries.
-pub fn first_fault_law()
-    ensures rules { (line : List ℕ) (fault : Fault) → (rule_read line ≡ Err fault) ↔ FirstFault AreRule rule_stray_kind rule_early_kind line fault }
-    ensures queries { (line : List ℕ) (fault : Fault) → (query_read line ≡ Err fault) ↔ FirstFault AreQuery query_stray_kind query_early_kind line fault }
-{}
-
-/// A line of a text is blank or a comment exactly where it has no token; else it is a rule, or has a first fault.
+/// A line of a text is blank or a comment exactly where it has no token; and it is read as a rule exactly where it is one.
 pub fn text_lines_law()
     ensures blank { (line : List ℕ) → (line_read line ≡ Ok None) ↔ IsBlankLine line }
     ensures rules { (line : List ℕ) (rule : Rule) → (line_read line ≡ Ok (Some rule)) ↔ Says line rule }
-    ensures faults { (line : List ℕ) (fault : Fault) → (line_read line ≡ Err fault) ↔ IsBadLine line fault }
 {}
 
 /// A text splits into its lines and in no other way. It is read exactly where each line is a rule, blank or a comment, and
-/// then its rules are those of the lines, in their order; a fault is that of its first bad line.
+/// then its rules are those of the lines, in their order.
 pub fn text_law()
     ensures lines { (text : List ℕ) (lines : List (List ℕ)) → (lines_of text ≡ lines) ↔ AreLinesOf text lines }
     ensures rules { (text : List ℕ) (rules : List Rule) → (file_read text ≡ Ok rules) ↔ AreRules (lines_of text) rules }
-    ensures fault { (text : List ℕ) (fault : TextFault) → (file_read text ≡ Err fault) ↔ IsFirstBadRule (lines_of text) fault }
 {}
 
 /// A line is one rule, or has one first fault, and never both. So it is with queries.

@@ -13,7 +13,7 @@ mod values;
 pub use fault::RuleFault;
 pub use files::{count_rules, parse_file};
 pub use laws::{
-    attributes_law, conditions_law, first_fault_law, lines_law, one_meaning, rules_law, text_law,
-    text_lines_law, values_law,
+    attributes_law, conditions_law, lines_law, one_meaning, rules_law, text_law, text_lines_law,
+    values_law,
 };
 pub use rules::{parse_query, parse_rule};

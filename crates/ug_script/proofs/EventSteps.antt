@@ -1,5 +1,5 @@
 -- An event as the world fixes it.
-use Rattle.std.proofs.Common.{◌≡◌, ℕ, ◌+◌, ◌++◌, Bool, true, false, List, [], ◌∷◌, Option, Some, None, ◌∙◌, ap, sym, subst, refl, inl, inr}
+use Rattle.std.proofs.Common.{◌≡◌, ℕ, ◌+◌, ◌++◌, Bool, true, false, List, [], ◌∷◌, Option, Some, None, ◌⊎◌, ◌∙◌, ap, sym, subst, refl, inl, inr}
 use Rattle.std.proofs.lemmas.Bool.{both_ways}
 use Rattle.ug_types.specs.declared.verdict.Moment.{Moment}
 use Rattle.ug_sysfs.specs.World.{World, Gives, begun, over}
@@ -21,6 +21,7 @@ use Rattle.ug_kernel.specs.Tree.{Prog, Return, Ask, Room, then}
 use Rattle.ug_kernel.specs.Calls.{Call, Answer}
 use Rattle.ug_core.specs.Event.{DaemonState, handling, moment_of, ready, trying, if_pending, RunsSweep}
 use Rattle.std.specs.Io.KnownBytes.{Appends, Keeps}
+use Rattle.std.proofs.KnownBytes.{Appends-nil, Keeps-refl}
 use Rattle.ug_types.specs.Ends.{Puts}
 use Rattle.ug_types.specs.declared.sink.Put.TheVariants.{Failed}
 use Rattle.ug_console.specs.Runs.{Steps, Closes}
@@ -28,8 +29,10 @@ use Rattle.ug_console.specs.declared.machine.Ran.{Ran}
 use Rattle.ug_console.specs.declared.machine.Ran.TheVariants.{Done, Bad, TooLong, SinkFailed, Memory}
 use Rattle.ug_core.specs.declared.daemon.Event.TheVariants.{Sweep}
 use Rattle.ug_console.specs.Fold.{Outcome, Writes, Refused}
-use Rattle.ug_script.specs.Setup.{SetupState, policy_of, rules_disk, started}
-use Rattle.ug_script.specs.Replay.{Script, Phase, SettingUp, Unstarted, Started, lines_text, tells, has_started, disk_in, fits_file, came_of, event_from, event_by, in_script, event_taken}
+use Rattle.ug_script.specs.Setup.{SetupState, after_reading, policy_of, rules_disk, started}
+use Rattle.ug_script.proofs.Phases.{open_unstarted}
+use Rattle.ug_script.specs.Script.{Script, Phase, SettingUp, Unstarted, Started, HoldsRules, IsOnDisk, takes_setup, has_started, disk_in, fits_file}
+use Rattle.ug_script.specs.Replay.{lines_text, tells, quiet, with_restart, restart_taken, came_of, event_from, event_by, in_script, event_taken}
 
 -- where no save is pending, nothing is asked of the disk
 none_by : {S : Type 0} (keeps : S → (call : DiskCall) → DiskTold call → S → Type 0) (o : S) (d : DaemonState) (pending : Bool) (tried : Option Saved) (p : S) → pending ≡ false → RunsDisk keeps o (if_pending d.sweep.judge.rules pending) tried p → (tried ≡ None) × (p ≡ o)
@@ -125,3 +128,57 @@ pub long_steps : (event : daemon.Event) (setup : SetupState) (phase : Phase) (w 
 long_steps (Sweep moment) setup SettingUp w held new fits h = rw fits (refl, refl, h)
 long_steps (Sweep moment) setup Unstarted w held new fits h = rw fits (refl, refl, h)
 long_steps (Sweep moment) setup (Started e disk) w held new fits h = let none : ⊥ = cc in absurd none
+
+-- ---- a restart
+
+quiet_steps : (s t : Script) (w : World) (held : Option (List ℕ)) (r : Ran) → (r ≡ Done → t ≡ s) → (r ≡ Done) ⊎ (r ≡ Memory) → Steps (quiet s w) (Some t, w) held held r
+quiet_steps s t w held Done is h = (ap (λ (x : Script). (Some x, w)) (is refl), Appends-nil held)
+quiet_steps s t w held Bad is h = elim h [ inl e ↦ let none : ⊥ = cc in absurd none | inr e ↦ let none : ⊥ = cc in absurd none ]
+quiet_steps s t w held TooLong is h = elim h [ inl e ↦ let none : ⊥ = cc in absurd none | inr e ↦ let none : ⊥ = cc in absurd none ]
+quiet_steps s t w held SinkFailed is h = elim h [ inl e ↦ let none : ⊥ = cc in absurd none | inr e ↦ let none : ⊥ = cc in absurd none ]
+quiet_steps s t w held Memory is h = Keeps-refl held
+
+-- a daemon was started
+pub restart_later : (setup : SetupState) (d : DaemonState) (disk : DiskWorld) (t : Script) (w : World) (held : Option (List ℕ)) (r : Ran) → (r ≡ Done → t ≡ with_restart (record { setup = setup; phase = Started d disk })) → (r ≡ Done) ⊎ (r ≡ Memory) → Steps (restart_taken (record { setup = setup; phase = Started d disk }) w) (Some t, w) held held r
+restart_later setup d disk t w held r is h = quiet_steps (with_restart (record { setup = setup; phase = Started d disk })) t w held r is h
+
+-- none was, and the first one is started before
+pub restart_first : (setup : SetupState) (phase : Phase) (d : DaemonState) (disk : DiskWorld) (t : Script) (w : World) (held : Option (List ℕ)) (r : Ran) → has_started phase ≡ false → fits_file setup ≡ true → d ≡ started (policy_of setup) → disk ≡ rules_disk setup → (r ≡ Done → t ≡ with_restart (record { setup = setup; phase = Started d disk })) → (r ≡ Done) ⊎ (r ≡ Memory) → Steps (restart_taken (record { setup = setup; phase = phase }) w) (Some t, w) held held r
+restart_first setup phase d disk t w held r new fits is on to h = by_phase phase new
+  where
+    begun : r ≡ Done → t ≡ with_restart (record { setup = setup; phase = Started (started (policy_of setup)) (rules_disk setup) })
+    begun e = to e ∙ ap (λ (x : DaemonState). with_restart (record { setup = setup; phase = Started x disk })) is ∙ ap (λ (x : DiskWorld). with_restart (record { setup = setup; phase = Started (started (policy_of setup)) x })) on
+
+    by_phase : (p : Phase) → has_started p ≡ false → Steps (restart_taken (record { setup = setup; phase = p }) w) (Some t, w) held held r
+    by_phase SettingUp e = rw fits (quiet_steps (with_restart (record { setup = setup; phase = SettingUp })) t w held r begun h)
+    by_phase Unstarted e = rw fits (quiet_steps (with_restart (record { setup = setup; phase = Unstarted })) t w held r begun h)
+    by_phase (Started x y) e = let none : ⊥ = cc in absurd none
+
+-- a rule file has no room for the rules
+pub long_restart : (setup : SetupState) (phase : Phase) (w : World) (held : Option (List ℕ)) → has_started phase ≡ false → fits_file setup ≡ false → Steps (restart_taken (record { setup = setup; phase = phase }) w) (Some (record { setup = setup; phase = phase }), w) held held TooLong
+long_restart setup SettingUp w held new fits = rw fits (refl, refl, Keeps-refl held)
+long_restart setup Unstarted w held new fits = rw fits (refl, refl, Keeps-refl held)
+long_restart setup (Started e disk) w held new fits = let none : ⊥ = cc in absurd none
+
+-- ---- what the disk holds
+
+pub not_on_disk : (setup : SetupState) (phase : Phase) → has_started phase ≡ false → IsOnDisk setup phase
+not_on_disk setup phase new = record { text = λ e. absurd (both_ways (has_started phase) new e); reads = λ e. absurd (both_ways (has_started phase) new e); fits = λ e. absurd (both_ways (has_started phase) new e) }
+
+pub open_not_on_disk : (setup : SetupState) (phase : Phase) → takes_setup phase ≡ true → IsOnDisk setup phase
+open_not_on_disk setup phase opened = not_on_disk setup phase (open_unstarted phase opened).0
+
+pub closed_on_disk : (setup : SetupState) → IsOnDisk setup Unstarted
+closed_on_disk setup = not_on_disk setup Unstarted refl
+
+pub started_on_disk : (setup : SetupState) (d : DaemonState) (o u : DiskWorld) → HoldsRules setup o → u ≡ o → IsOnDisk setup (Started d u)
+started_on_disk setup d o u h same = record { text = λ e. ap (λ (x : DiskWorld). x.disk.text) same ∙ h.text; reads = λ e. h.reads; fits = λ e. h.fits }
+
+pub read_on_disk : (setup : SetupState) (d : DaemonState) (o u : DiskWorld) → HoldsRules setup o → u ≡ after_reading o → IsOnDisk setup (Started d u)
+read_on_disk setup d o u h same = record { text = λ e. ap (λ (x : DiskWorld). x.disk.text) same ∙ h.text; reads = λ e. h.reads; fits = λ e. h.fits }
+
+pub on_disk_holds : (setup : SetupState) (d : DaemonState) (o : DiskWorld) → IsOnDisk setup (Started d o) → HoldsRules setup o
+on_disk_holds setup d o h = record { text = h.text refl; reads = h.reads refl; fits = h.fits refl }
+
+pub next_on_disk : (setup : SetupState) (d e : DaemonState) (o u : DiskWorld) → IsOnDisk setup (Started d o) → u ≡ o → IsOnDisk setup (Started e u)
+next_on_disk setup d e o u h same = started_on_disk setup e o u (on_disk_holds setup d o h) same

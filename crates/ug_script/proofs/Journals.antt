@@ -22,16 +22,15 @@ use Rattle.ug_conf.specs.Draft.{draft_of}
 use Rattle.ug_conf.specs.Settings.{defaults}
 use Rattle.ug_conf.specs.Texts.{setting_line, settled}
 use Rattle.ug_lines.specs.LineReading.{lines_read}
-use Rattle.ug_core.specs.Event as event
 use Rattle.ug_core.specs.declared.daemon.Event.TheVariants.{Sweep}
 use Rattle.ug_core.specs.Policy.{Judging, policy_answer, policy_later}
-use Rattle.ug_core.specs.Event.{DaemonState, IsStarted, handling, has_numbers, ready, trying, if_pending}
+use Rattle.ug_core.specs.Event.{DaemonState, handling, has_numbers, ready, trying}
 use Rattle.ug_core.specs.Chain.{Happened, Chain, journal}
-use Rattle.ug_store.specs.Disk.{Disk, Texts}
+use Rattle.ug_store.specs.Disk.{Disk}
 use Rattle.ug_store.specs.MemLaw.{mem_did}
-use Rattle.ug_store.specs.Scripted.{DiskWorld, MemKeeps, disk_told}
+use Rattle.ug_store.specs.History.{HoldsOnly}
+use Rattle.ug_store.specs.Scripted.{DiskWorld, MemKeeps, disk_told, forgetting}
 use Rattle.ug_store.specs.Store.{RunsDisk}
-use Rattle.ug_types.specs.declared.saved.Saved.{Saved}
 use Rattle.ug_print.specs.RuleTexts.{rules_text_of}
 use Rattle.ug_types.specs.declared.rule.Rule.{Rule}
 use Rattle.ug_sysfs.specs.World.{Gives}
@@ -45,13 +44,15 @@ use Rattle.ug_console.specs.Fold.{Fault, BadLine, InputTooLong, Outcome, Writes,
 use Rattle.ug_script.specs.declared.step.Plan.{Plan}
 use Rattle.ug_script.specs.declared.step.Plan.TheVariants as plan
 use Rattle.ug_script.specs.declared.step.Step.{Step}
-use Rattle.ug_script.specs.declared.step.Step.TheVariants.{Skip, Setup, Move, Schedule, Event}
+use Rattle.ug_script.specs.declared.step.Step.TheVariants.{Skip, Setup, Move, Schedule, Event, Restart}
 use Rattle.ug_script.specs.Grammar.{step_of_line}
-use Rattle.ug_script.specs.Setup.{SetupState, no_setup, one_line_more, policy_of, rules_disk, started, steps_of}
-use Rattle.ug_script.specs.Replay.{Script, Phase, Started, header, fresh, takes_setup, has_started, closed_phase, with_setup_closed, daemon_by, daemon_in, disk_by, disk_in, can_start, terminated, lines_text, outcome_of, outcome_text, quiet, bad, line_added, with_devices, planned, came_of, event_of, in_script, taken, taken_if, script_step}
+use Rattle.ug_script.specs.Setup.{SetupState, no_setup, one_line_more, after_reading, policy_of, rules_disk, started, started_at, steps_of}
+use Rattle.ug_script.specs.Script.{Script, Phase, Started, fresh, takes_setup, has_started, closed_phase, with_setup_closed, daemon_by, daemon_in, disk_by, disk_in, can_start}
+use Rattle.ug_script.specs.Replay.{header, terminated, lines_text, outcome_of, outcome_text, quiet, bad, line_added, with_devices, with_restart, planned, came_of, event_of, in_script, taken, taken_if, script_step}
 use Rattle.ug_script.specs.Laws.{StaysLawful}
-use Rattle.ug_script.specs.Journal.{happened_at, happens_by, left_by, happened, JudgesOnce, is_quiet, AreQuiet, Recorded, StaysRecorded}
-use Rattle.ug_script.proofs.Lawful.{Holds, HoldsOf, plays_sweep, handled, event_holds, move_holds, plan_holds, open_unstarted, closed_daemon, closed_disk, closed_started, event_pending, no_standing, tells_event, lawful_event}
+use Rattle.ug_script.specs.Journal.{happened_at, left_by, EventsOfRuns, no_events, with_events, runs_by, runs_after, runs_in, journals, journal_of, IsDaemonRun, EndedRun, AreSuccessive, JudgesOnce, is_quiet, AreQuiet, Recorded, StaysRecorded}
+use Rattle.ug_script.proofs.Phases.{open_unstarted, closed_daemon, closed_disk, closed_started}
+use Rattle.ug_script.proofs.Lawful.{Holds, HoldsOf, plays_sweep, handled, event_holds, move_holds, plan_holds, event_pending, no_standing, tells_event, lawful_event}
 use Rattle.ug_script.proofs.Numbers.{Fits, FitsOf, fits_more, event_fits, started_fits, fits_numbers}
 use Rattle.ug_script.proofs.Setups.{IsGiven, InSetup, given_first, given_still, given_added, given_setup, policy_new}
 
@@ -63,57 +64,64 @@ quiet_front : (steps : List (Option Step)) (step : Option Step) → AreQuiet (st
 quiet_front [] step q = (tt, q.0)
 quiet_front (x ∷ steps) step q = let k = quiet_front steps step q.1 in ((q.0, k.0), k.1)
 
--- the file that holds the rules
-abbrev file_at : Script → Option Disk
-file_at s = Some (rules_disk s.setup).disk
-
--- what holds after the header and so many lines, which asked for these steps
-record Kept (first : World) (n : ℕ) (done : List (Option Step)) (hs : List Happened) (text : List ℕ) (s : Script) (w : World) : Type 0 where
+-- what holds after the header and so many lines, which asked for these steps; and with what the last run of the daemon began
+record Kept (first : World) (n : ℕ) (done : List (Option Step)) (runs : EventsOfRuns) (text : List ℕ) (s : Script) (w : World) : Type 0 where
   few : n ≤ 1048576
   holds : HoldsOf (daemon_in s) w
   fits : first.faults ≡ 0 → FitsOf n (daemon_in s) w
   given : IsGiven n done s.setup
   pending : (daemon_in s).pending ≡ false
-  disk : disk_in s ≡ rules_disk s.setup
-  chain : Chain first.kernel (file_at s) (started (policy_of s.setup)) hs w.kernel (disk_told (disk_in s)) (daemon_in s)
-  none : has_started s.phase ≡ false → hs ≡ []
-  written : text ≡ lines_text (journal hs)
-  nobody : AreQuiet done → first.fails ≡ [] → NameNobody (journal hs)
+  disk : forgetting (disk_in s) ≡ forgetting (rules_disk s.setup)
+  number : ℕ
+  kernel : Kernel
+  file : Disk
+  only : HoldsOnly (rules_text_of s.setup.rules) file
+  ended : AreSuccessive (policy_of s.setup) (rules_text_of s.setup.rules) 1 first.kernel runs.ended number kernel
+  chain : Chain kernel (Some file) (started_at number (policy_of s.setup)) runs.last w.kernel (disk_told (disk_in s)) (daemon_in s)
+  none : has_started s.phase ≡ false → runs ≡ no_events
+  written : text ≡ lines_text (journal_of runs)
+  nobody : AreQuiet done → first.fails ≡ [] → NameNobody (journal_of runs)
   unfailing : AreQuiet done → first.fails ≡ [] → w.fails ≡ []
   unmoved : AreQuiet done → first.moves ≡ [] → w.moves ≡ []
 
-abbrev KeptAfter : World → ℕ → List (Option Step) → List Happened → List ℕ → Outcome (Option Script × World) → Type 0
-KeptAfter first n done hs text (Writes more (Some s, w)) = Kept first n done hs (text ++ more) s w
-KeptAfter first n done hs text (Writes more (None, w)) = ⊥
-KeptAfter first n done hs text (Refused fault p) = Unit {0}
+abbrev KeptAfter : World → ℕ → List (Option Step) → EventsOfRuns → List ℕ → Outcome (Option Script × World) → Type 0
+KeptAfter first n done runs text (Writes more (Some s, w)) = Kept first n done runs (text ++ more) s w
+KeptAfter first n done runs text (Writes more (None, w)) = ⊥
+KeptAfter first n done runs text (Refused fault p) = Unit {0}
 
 -- no event, and no text
-kept_still : (first : World) (n : ℕ) (done : List (Option Step)) (hs : List Happened) (text : List ℕ) (s : Script) (w : World) → Kept first n done hs text s w → Kept first n done (hs ++ []) (text ++ []) s w
-kept_still first n done hs text s w h = subst (λ (x : List Happened). Kept first n done x (text ++ []) s w) (sym (append-nil hs)) (subst (λ (x : List ℕ). Kept first n done hs x s w) (sym (append-nil text)) h)
+kept_still : (first : World) (n : ℕ) (done : List (Option Step)) (runs : EventsOfRuns) (text : List ℕ) (s : Script) (w : World) → Kept first n done runs text s w → Kept first n done (with_events [] runs) (text ++ []) s w
+kept_still first n done runs text s w h = subst (λ (x : List Happened). Kept first n done (record runs { last = x }) (text ++ []) s w) (sym (append-nil runs.last)) (subst (λ (x : List ℕ). Kept first n done runs x s w) (sym (append-nil text)) h)
 
 -- ---- a line of setup: another policy, before any event
 
-setup_kept : (first : World) (n : ℕ) (done : List (Option Step)) (hs : List Happened) (text : List ℕ) (s : Script) (w : World) (step : Option Step) (setup : SetupState) → n < 1048576 → takes_setup s.phase ≡ true → Kept first n done hs text s w → IsGiven (n + 1) (done ++ step ∷ []) setup → Kept first (n + 1) (done ++ step ∷ []) hs text (record s { setup = setup }) w
-setup_kept first n done hs text s w step setup lt opened h given =
+setup_kept : (first : World) (n : ℕ) (done : List (Option Step)) (runs : EventsOfRuns) (text : List ℕ) (s : Script) (w : World) (step : Option Step) (setup : SetupState) → n < 1048576 → takes_setup s.phase ≡ true → Kept first n done runs text s w → IsGiven (n + 1) (done ++ step ∷ []) setup → Kept first (n + 1) (done ++ step ∷ []) runs text (record s { setup = setup }) w
+setup_kept first n done runs text s w step setup lt opened h given =
     let o = open_unstarted s.phase opened in
-    let none : hs ≡ [] = h.none o.0 in
+    let none : runs ≡ no_events = h.none o.0 in
     let new : daemon_by setup s.phase ≡ started (policy_of setup) = o.1 setup in
     let on : disk_by setup s.phase ≡ rules_disk setup = o.2 setup in
     let file : Option Disk = Some (rules_disk setup).disk in
-    let before : Chain first.kernel (file_at s) (started (policy_of s.setup)) [] w.kernel (disk_told (disk_in s)) (daemon_in s) = subst (λ (x : List Happened). Chain first.kernel (file_at s) (started (policy_of s.setup)) x w.kernel (disk_told (disk_in s)) (daemon_in s)) none h.chain in
+    let begun : (h.number ≡ 1) × (h.kernel ≡ first.kernel) = subst (λ (x : EventsOfRuns). AreSuccessive (policy_of s.setup) (rules_text_of s.setup.rules) 1 first.kernel x.ended h.number h.kernel) none h.ended in
+    let before : Chain h.kernel (Some h.file) (started_at h.number (policy_of s.setup)) [] w.kernel (disk_told (disk_in s)) (daemon_in s) = subst (λ (x : EventsOfRuns). Chain h.kernel (Some h.file) (started_at h.number (policy_of s.setup)) x.last w.kernel (disk_told (disk_in s)) (daemon_in s)) none h.chain in
+    let moves : Moves first.kernel w.kernel = subst (λ (k : Kernel). Moves k w.kernel) begun.1 before.0 in
     let stays : StaysOnDisk file (disk_told (disk_by setup s.phase)) = subst (λ (x : DiskWorld). StaysOnDisk file (disk_told x)) (sym on) (stays_there file) in
-    let chain : Chain first.kernel file (started (policy_of setup)) [] w.kernel (disk_told (disk_by setup s.phase)) (daemon_by setup s.phase) = (before.0, stays, new) in
     record {
       few = omega (arith, lt);
       holds = subst (λ (d : DaemonState). HoldsOf d w) (sym new) (record { told = h.holds.told; sound = h.holds.sound; stand = no_standing w.kernel });
       fits = λ e.
           let low : w.faults ≤ 1099511627776 * n = (h.fits e).few_faults in
           let more : w.faults ≤ 1099511627776 * (n + 1) = omega (arith, low) in
-          subst (λ (d : DaemonState). FitsOf (n + 1) d w) (sym new) (started_fits (n + 1) setup w.faults given.few_rules more);
+          subst (λ (d : DaemonState). FitsOf (n + 1) d w) (sym new) (started_fits (n + 1) 1 setup w.faults (omega arith) given.few_rules more);
       given = given;
       pending = ap (λ (d : DaemonState). d.pending) new;
-      disk = on;
-      chain = subst (λ (x : List Happened). Chain first.kernel file (started (policy_of setup)) x w.kernel (disk_told (disk_by setup s.phase)) (daemon_by setup s.phase)) (sym none) chain;
+      disk = ap (λ (x : DiskWorld). forgetting x) on;
+      number = 1;
+      kernel = first.kernel;
+      file = (rules_disk setup).disk;
+      only = (refl, refl);
+      ended = subst (λ (x : EventsOfRuns). AreSuccessive (policy_of setup) (rules_text_of setup.rules) 1 first.kernel x.ended 1 first.kernel) (sym none) (refl, refl);
+      chain = subst (λ (x : EventsOfRuns). Chain first.kernel file (started (policy_of setup)) x.last w.kernel (disk_told (disk_by setup s.phase)) (daemon_by setup s.phase)) (sym none) (moves, stays, new);
       none = h.none;
       written = h.written;
       nobody = λ q. h.nobody (quiet_front done step q).0;
@@ -121,42 +129,49 @@ setup_kept first n done hs text s w step setup lt opened h given =
       unmoved = λ q. h.unmoved (quiet_front done step q).0;
     }
 
-added_kept : (first : World) (n : ℕ) (done : List (Option Step)) (hs : List Happened) (text : List ℕ) (s : Script) (w : World) (step : Option Step) (o : Option SetupState) → n < 1048576 → takes_setup s.phase ≡ true → Kept first n done hs text s w → InSetup (IsGiven (n + 1) (done ++ step ∷ [])) o → KeptAfter first (n + 1) (done ++ step ∷ []) (hs ++ []) text (line_added o s w)
-added_kept first n done hs text s w step None lt opened h given = tt
-added_kept first n done hs text s w step (Some setup) lt opened h given = kept_still first (n + 1) (done ++ step ∷ []) hs text (record s { setup = setup }) w (setup_kept first n done hs text s w step setup lt opened h given)
+added_kept : (first : World) (n : ℕ) (done : List (Option Step)) (runs : EventsOfRuns) (text : List ℕ) (s : Script) (w : World) (step : Option Step) (o : Option SetupState) → n < 1048576 → takes_setup s.phase ≡ true → Kept first n done runs text s w → InSetup (IsGiven (n + 1) (done ++ step ∷ [])) o → KeptAfter first (n + 1) (done ++ step ∷ []) (with_events [] runs) text (line_added o s w)
+added_kept first n done runs text s w step None lt opened h given = tt
+added_kept first n done runs text s w step (Some setup) lt opened h given = kept_still first (n + 1) (done ++ step ∷ []) runs text (record s { setup = setup }) w (setup_kept first n done runs text s w step setup lt opened h given)
 
-kept_when : (first : World) (n : ℕ) (done : List (Option Step)) (hs : List Happened) (text : List ℕ) (b : Bool) (o : Outcome (Option Script × World)) (s : Script) (w : World) → (b ≡ true → KeptAfter first n done hs text o) → KeptAfter first n done hs text (cond b o (bad s w))
-kept_when first n done hs text true o s w x = x refl
-kept_when first n done hs text false o s w x = tt
+kept_when : (first : World) (n : ℕ) (done : List (Option Step)) (runs : EventsOfRuns) (text : List ℕ) (b : Bool) (o : Outcome (Option Script × World)) (s : Script) (w : World) → (b ≡ true → KeptAfter first n done runs text o) → KeptAfter first n done runs text (cond b o (bad s w))
+kept_when first n done runs text true o s w x = x refl
+kept_when first n done runs text false o s w x = tt
 
 -- ---- a line that changes neither the policy nor the daemon
 
-on_kept : (first : World) (n : ℕ) (done : List (Option Step)) (hs : List Happened) (text : List ℕ) (s : Script) (w v : World) (step : Option Step) (phase : Phase) → n < 1048576 → Kept first n done hs text s w → daemon_by s.setup phase ≡ daemon_in s → disk_by s.setup phase ≡ disk_in s → has_started phase ≡ has_started s.phase → IsGiven (n + 1) (done ++ step ∷ []) s.setup → HoldsOf (daemon_in s) v → Moves w.kernel v.kernel → v.faults ≡ w.faults
-    → (AreQuiet (done ++ step ∷ []) → first.fails ≡ [] → v.fails ≡ []) → (AreQuiet (done ++ step ∷ []) → first.moves ≡ [] → v.moves ≡ []) → Kept first (n + 1) (done ++ step ∷ []) hs text (record s { phase = phase }) v
-on_kept first n done hs text s w v step phase lt h same on begun given holds moves faults unfailing unmoved = record {
-  few = omega (arith, lt);
-  holds = subst (λ (d : DaemonState). HoldsOf d v) (sym same) holds;
-  fits = λ e.
-      let d : DaemonState = daemon_in s in
-      let more : Fits (n + 1) d.event d.sweep.next d.sweep.judge.next w.faults = fits_more (h.fits e) in
-      let now : FitsOf (n + 1) d v = subst (λ (f : ℕ). Fits (n + 1) d.event d.sweep.next d.sweep.judge.next f) (sym faults) more in
-      subst (λ (x : DaemonState). FitsOf (n + 1) x v) (sym same) now;
-  given = given;
-  pending = ap (λ (d : DaemonState). d.pending) same ∙ h.pending;
-  disk = on ∙ h.disk;
-  chain = subst (λ (o : DiskWorld). Chain first.kernel (file_at s) (started (policy_of s.setup)) hs v.kernel (disk_told o) (daemon_by s.setup phase)) (sym on) (subst (λ (d : DaemonState). Chain first.kernel (file_at s) (started (policy_of s.setup)) hs v.kernel (disk_told (disk_in s)) d) (sym same) (chain_moves first.kernel (file_at s) (started (policy_of s.setup)) hs w.kernel v.kernel (disk_told (disk_in s)) (disk_told (disk_in s)) (daemon_in s) h.chain moves (stays_there (disk_told (disk_in s)))));
-  none = λ e. h.none (sym begun ∙ e);
-  written = h.written;
-  nobody = λ q. h.nobody (quiet_front done step q).0;
-  unfailing = unfailing;
-  unmoved = unmoved;
-}
+on_kept : (first : World) (n : ℕ) (done : List (Option Step)) (runs : EventsOfRuns) (text : List ℕ) (s : Script) (w v : World) (step : Option Step) (phase : Phase) → n < 1048576 → Kept first n done runs text s w → daemon_by s.setup phase ≡ daemon_in s → disk_by s.setup phase ≡ disk_in s → has_started phase ≡ has_started s.phase → IsGiven (n + 1) (done ++ step ∷ []) s.setup → HoldsOf (daemon_in s) v → Moves w.kernel v.kernel → v.faults ≡ w.faults
+    → (AreQuiet (done ++ step ∷ []) → first.fails ≡ [] → v.fails ≡ []) → (AreQuiet (done ++ step ∷ []) → first.moves ≡ [] → v.moves ≡ []) → Kept first (n + 1) (done ++ step ∷ []) runs text (record s { phase = phase }) v
+on_kept first n done runs text s w v step phase lt h same on begun given holds moves faults unfailing unmoved =
+    let new : DaemonState = started_at h.number (policy_of s.setup) in
+    record {
+      few = omega (arith, lt);
+      holds = subst (λ (d : DaemonState). HoldsOf d v) (sym same) holds;
+      fits = λ e.
+          let d : DaemonState = daemon_in s in
+          let more : Fits (n + 1) d.event d.sweep.next d.sweep.judge.next w.faults = fits_more (h.fits e) in
+          let now : FitsOf (n + 1) d v = subst (λ (f : ℕ). Fits (n + 1) d.event d.sweep.next d.sweep.judge.next f) (sym faults) more in
+          subst (λ (x : DaemonState). FitsOf (n + 1) x v) (sym same) now;
+      given = given;
+      pending = ap (λ (d : DaemonState). d.pending) same ∙ h.pending;
+      disk = ap (λ (x : DiskWorld). forgetting x) on ∙ h.disk;
+      number = h.number;
+      kernel = h.kernel;
+      file = h.file;
+      only = h.only;
+      ended = h.ended;
+      chain = subst (λ (o : DiskWorld). Chain h.kernel (Some h.file) new runs.last v.kernel (disk_told o) (daemon_by s.setup phase)) (sym on) (subst (λ (d : DaemonState). Chain h.kernel (Some h.file) new runs.last v.kernel (disk_told (disk_in s)) d) (sym same) (chain_moves h.kernel (Some h.file) new runs.last w.kernel v.kernel (disk_told (disk_in s)) (disk_told (disk_in s)) (daemon_in s) h.chain moves (stays_there (disk_told (disk_in s)))));
+      none = λ e. h.none (sym begun ∙ e);
+      written = h.written;
+      nobody = λ q. h.nobody (quiet_front done step q).0;
+      unfailing = unfailing;
+      unmoved = unmoved;
+    }
 
 closed_now : {X : Type 0} → false ≡ true → X
 closed_now e = let none : ⊥ = cc in absurd none
 
-skip_kept : (first : World) (n : ℕ) (done : List (Option Step)) (hs : List Happened) (text : List ℕ) (s : Script) (w : World) → n < 1048576 → Kept first n done hs text s w → Kept first (n + 1) (done ++ Some Skip ∷ []) hs text s w
-skip_kept first n done hs text s w lt h = on_kept first n done hs text s w w (Some Skip) s.phase lt h refl refl refl (given_still n done (Some Skip) s.setup refl refl refl refl h.given) h.holds (unmoving w.kernel) refl (λ q. h.unfailing (quiet_front done (Some Skip) q).0) (λ q. h.unmoved (quiet_front done (Some Skip) q).0)
+skip_kept : (first : World) (n : ℕ) (done : List (Option Step)) (runs : EventsOfRuns) (text : List ℕ) (s : Script) (w : World) → n < 1048576 → Kept first n done runs text s w → Kept first (n + 1) (done ++ Some Skip ∷ []) runs text s w
+skip_kept first n done runs text s w lt h = on_kept first n done runs text s w w (Some Skip) s.phase lt h refl refl refl (given_still n done (Some Skip) s.setup refl refl refl refl h.given) h.holds (unmoving w.kernel) refl (λ q. h.unfailing (quiet_front done (Some Skip) q).0) (λ q. h.unmoved (quiet_front done (Some Skip) q).0)
 
 -- ---- an event
 
@@ -171,8 +186,8 @@ unfolding trying
 none_asked o d e = rw e (refl, refl)
 
 -- the event keeps its laws
-is_event : (first : World) (n : ℕ) (done : List (Option Step)) (hs : List Happened) (text : List ℕ) (moment : Moment) (s : Script) (w : World) (h : Kept first n done hs text s w) → IsEvent (happened_at moment s w)
-is_event first n done hs text moment s w h =
+is_event : (first : World) (n : ℕ) (done : List (Option Step)) (runs : EventsOfRuns) (text : List ℕ) (moment : Moment) (s : Script) (w : World) (h : Kept first n done runs text s w) → IsEvent (happened_at moment s w)
+is_event first n done runs text moment s w h =
     let d : DaemonState = daemon_in s in
     let o : DiskWorld = disk_in s in
     let p = event_of moment s w in
@@ -183,20 +198,21 @@ is_event first n done hs text moment s w h =
     }
 
 -- the chain with that event
-event_chain : (first : World) (n : ℕ) (done : List (Option Step)) (hs : List Happened) (text : List ℕ) (moment : Moment) (s : Script) (w : World) (h : Kept first n done hs text s w) → Chain first.kernel (file_at s) (started (policy_of s.setup)) (hs ++ happened_at moment s w ∷ []) (event_of moment s w).1.kernel (disk_told (disk_in s)) (event_of moment s w).0
-event_chain first n done hs text moment s w h = chain_more first.kernel (file_at s) (started (policy_of s.setup)) hs w.kernel (disk_told (disk_in s)) (daemon_in s) (happened_at moment s w) h.chain (unmoving w.kernel) (stays_there (disk_told (disk_in s))) refl (is_event first n done hs text moment s w h)
+event_chain : (first : World) (n : ℕ) (done : List (Option Step)) (runs : EventsOfRuns) (text : List ℕ) (moment : Moment) (s : Script) (w : World) (h : Kept first n done runs text s w) → Chain h.kernel (Some h.file) (started_at h.number (policy_of s.setup)) (runs.last ++ happened_at moment s w ∷ []) (event_of moment s w).1.kernel (disk_told (disk_in s)) (event_of moment s w).0
+event_chain first n done runs text moment s w h = chain_more h.kernel (Some h.file) (started_at h.number (policy_of s.setup)) runs.last w.kernel (disk_told (disk_in s)) (daemon_in s) (happened_at moment s w) h.chain (unmoving w.kernel) (stays_there (disk_told (disk_in s))) refl (is_event first n done runs text moment s w h)
 
-journal_more : (hs : List Happened) (h : Happened) → journal (hs ++ h ∷ []) ≡ journal hs ++ h.after.sweep.entries
-journal_more hs h = journal_append hs (h ∷ []) ∙ ap (λ (es : List Entry). journal hs ++ es) (append-nil h.after.sweep.entries)
+journal_more : (runs : EventsOfRuns) (h : Happened) → journal_of (with_events (h ∷ []) runs) ≡ journal_of runs ++ h.after.sweep.entries
+journal_more runs h =
+    ap (λ (es : List Entry). journals runs.ended ++ es) (journal_append runs.last (h ∷ []) ∙ ap (λ (es : List Entry). journal runs.last ++ es) (append-nil h.after.sweep.entries))
+    ∙ sym (append_assoc (journals runs.ended) (journal runs.last) h.after.sweep.entries)
 
-event_kept : (first : World) (n : ℕ) (done : List (Option Step)) (hs : List Happened) (text : List ℕ) (moment : Moment) (s : Script) (w : World) → n < 1048576 → Kept first n done hs text s w
-    → Kept first (n + 1) (done ++ Some (Event (Sweep moment)) ∷ []) (hs ++ happened_at moment s w ∷ []) (text ++ outcome_text (outcome_of (event_of moment s w).0)) (record s { phase = Started (event_of moment s w).0 (disk_in s) }) (over (event_of moment s w).1)
-event_kept first n done hs text moment s w lt h =
+event_kept : (first : World) (n : ℕ) (done : List (Option Step)) (runs : EventsOfRuns) (text : List ℕ) (moment : Moment) (s : Script) (w : World) → n < 1048576 → Kept first n done runs text s w
+    → Kept first (n + 1) (done ++ Some (Event (Sweep moment)) ∷ []) (with_events (happened_at moment s w ∷ []) runs) (text ++ outcome_text (outcome_of (event_of moment s w).0)) (record s { phase = Started (event_of moment s w).0 (disk_in s) }) (over (event_of moment s w).1)
+event_kept first n done runs text moment s w lt h =
     let p = event_of moment s w in
     let step : Option Step = Some (Event (Sweep moment)) in
     let this : Happened = happened_at moment s w in
-    let policy : Judging = policy_of s.setup in
-    let all : journal (hs ++ this ∷ []) ≡ journal hs ++ p.0.sweep.entries = journal_more hs this in
+    let all : journal_of (with_events (this ∷ []) runs) ≡ journal_of runs ++ p.0.sweep.entries = journal_more runs this in
     record {
       few = omega (arith, lt);
       holds = event_holds moment (daemon_in s) w h.holds;
@@ -204,22 +220,100 @@ event_kept first n done hs text moment s w lt h =
       given = given_still n done step s.setup refl refl refl refl h.given;
       pending = event_pending moment (daemon_in s) w h.pending;
       disk = h.disk;
-      chain = chain_moves first.kernel (file_at s) (started policy) (hs ++ this ∷ []) p.1.kernel (over p.1).kernel (disk_told (disk_in s)) (disk_told (disk_in s)) p.0 (event_chain first n done hs text moment s w h) (happened_moves p.1.moves p.1.kernel) (stays_there (disk_told (disk_in s)));
+      number = h.number;
+      kernel = h.kernel;
+      file = h.file;
+      only = h.only;
+      ended = h.ended;
+      chain = chain_moves h.kernel (Some h.file) (started_at h.number (policy_of s.setup)) (runs.last ++ this ∷ []) p.1.kernel (over p.1).kernel (disk_told (disk_in s)) (disk_told (disk_in s)) p.0 (event_chain first n done runs text moment s w h) (happened_moves p.1.moves p.1.kernel) (stays_there (disk_told (disk_in s)));
       none = λ e. closed_now (sym e);
-      written = ap (λ (z : List ℕ). z ++ lines_text p.0.sweep.entries) h.written ∙ sym (lines_more (journal hs) p.0.sweep.entries) ∙ ap (λ (es : List Entry). lines_text es) (sym all);
+      written = ap (λ (z : List ℕ). z ++ lines_text p.0.sweep.entries) h.written ∙ sym (lines_more (journal_of runs) p.0.sweep.entries) ∙ ap (λ (es : List Entry). lines_text es) (sym all);
       nobody = λ q e.
           let quiet = (quiet_front done step q).0 in
-          subst NameNobody (sym all) (nobody_more (journal hs) p.0.sweep.entries (h.nobody quiet e) (nobody_in_event moment (daemon_in s) w h.holds.told (h.unfailing quiet e)));
+          subst NameNobody (sym all) (nobody_more (journal_of runs) p.0.sweep.entries (h.nobody quiet e) (nobody_in_event moment (daemon_in s) w h.holds.told (h.unfailing quiet e)));
       unfailing = λ q e. refl;
       unmoved = λ q e. refl;
     }
 
-event_if : (first : World) (n : ℕ) (done : List (Option Step)) (hs : List Happened) (text : List ℕ) (moment : Moment) (s : Script) (w : World) (can has : Bool)
-    → KeptAfter first n done (hs ++ happened_at moment s w ∷ []) text (in_script s (came_of (event_of moment s w)))
-    → KeptAfter first n done (hs ++ cond (can && has) (happened_at moment s w ∷ []) []) text (cond can (in_script s (cond has (came_of (event_of moment s w)) (Refused BadLine (daemon_in s, w)))) (Refused InputTooLong (Some s, w)))
-event_if first n done hs text moment s w true true k = k
-event_if first n done hs text moment s w true false k = tt
-event_if first n done hs text moment s w false has k = tt
+event_if : (first : World) (n : ℕ) (done : List (Option Step)) (runs : EventsOfRuns) (text : List ℕ) (moment : Moment) (s : Script) (w : World) (can has : Bool)
+    → KeptAfter first n done (with_events (happened_at moment s w ∷ []) runs) text (in_script s (came_of (event_of moment s w)))
+    → KeptAfter first n done (with_events (cond (can && has) (happened_at moment s w ∷ []) []) runs) text (cond can (in_script s (cond has (came_of (event_of moment s w)) (Refused BadLine (daemon_in s, w)))) (Refused InputTooLong (Some s, w)))
+event_if first n done runs text moment s w true true k = k
+event_if first n done runs text moment s w true false k = tt
+event_if first n done runs text moment s w false has k = tt
+
+-- ---- a restart
+
+-- a run, from its start to where it came
+daemon_run : (policy : Judging) (text : List ℕ) (number : ℕ) (first : Kernel) (file : Disk) (hs : List Happened) (k : Kernel) (p : Option Disk) (e : DaemonState) → HoldsOnly text file → Chain first (Some file) (started_at number policy) hs k p e → IsDaemonRun policy text number first hs k p e
+daemon_run policy text number first file hs k p e only chain = record {
+  file = file;
+  holds = only;
+  chain = chain;
+  run = is_run policy number first (Some file) (started_at number policy) hs k p e (record { judge = refl; standings = refl; next = refl; listed = refl; entries = refl; pending = refl; event = refl }) chain;
+}
+
+-- one run more has ended
+run_ended : (policy : Judging) (text : List ℕ) (number : ℕ) (first : Kernel) (runs : List (List Happened)) (next : ℕ) (k : Kernel) (hs : List Happened) (r : EndedRun policy text next k hs) → AreSuccessive policy text number first runs next k → AreSuccessive policy text number first (runs ++ hs ∷ []) r.daemon.event r.kernel
+run_ended policy text number first [] next k hs r h = run_first first number k next hs r h.1 h.0
+  where
+    run_first : (first : Kernel) (number : ℕ) (k : Kernel) (next : ℕ) (hs : List Happened) (r : EndedRun policy text next k hs) → k ≡ first → next ≡ number → AreSuccessive policy text number first (hs ∷ []) r.daemon.event r.kernel
+    run_first first number k next hs r same number_is = (record { kernel = r.kernel; disk = r.disk; daemon = r.daemon; is = subst (λ (m : ℕ). IsDaemonRun policy text m first hs r.kernel r.disk r.daemon) number_is (subst (λ (l : Kernel). IsDaemonRun policy text next l hs r.kernel r.disk r.daemon) same r.is) }, (refl, refl))
+run_ended policy text number first (gs ∷ runs) next k hs r h = (h.0, run_ended policy text h.0.daemon.event h.0.kernel runs next k hs r h.1)
+
+-- the disk that was read has the same text, and a crash leaves the same
+read_only : (rules : List ℕ) (o u : DiskWorld) → forgetting o ≡ forgetting u → HoldsOnly rules (after_reading u).disk → HoldsOnly rules (after_reading o).disk
+read_only rules o u same h = (ap (λ (x : DiskWorld). x.disk.text) same ∙ h.0, ap (λ (x : DiskWorld). x.disk.left) same ∙ h.1)
+
+told_reading : (o : DiskWorld) → o.ran_out ≡ false → disk_told (after_reading o) ≡ Some (after_reading o).disk
+told_reading o none = rw none refl
+
+journals_append : (xs : List (List Happened)) (hs : List Happened) → journals (xs ++ hs ∷ []) ≡ journals xs ++ journal hs
+journals_append [] hs = append-nil (journal hs)
+journals_append (gs ∷ xs) hs = ap (λ (es : List Entry). journal gs ++ es) (journals_append xs hs) ∙ sym (append_assoc (journal gs) (journals xs) (journal hs))
+
+journal_ended : (runs : EventsOfRuns) → journal_of (record { ended = runs.ended ++ runs.last ∷ []; last = [] }) ≡ journal_of runs
+journal_ended runs = append-nil (journals (runs.ended ++ runs.last ∷ [])) ∙ journals_append runs.ended runs.last
+
+restart_kept : (first : World) (n : ℕ) (done : List (Option Step)) (runs : EventsOfRuns) (text : List ℕ) (s : Script) (w : World) → n < 1048576 → Kept first n done runs text s w
+    → Kept first (n + 1) (done ++ Some Restart ∷ []) (record { ended = runs.ended ++ runs.last ∷ []; last = [] }) (text ++ []) (with_restart s) w
+restart_kept first n done runs text s w lt h =
+    let step : Option Step = Some Restart in
+    let d : DaemonState = daemon_in s in
+    let o : DiskWorld = disk_in s in
+    let policy : Judging = policy_of s.setup in
+    let rules : List ℕ = rules_text_of s.setup.rules in
+    let this : EndedRun policy rules h.number h.kernel runs.last = record { kernel = w.kernel; disk = disk_told o; daemon = d; is = daemon_run policy rules h.number h.kernel h.file runs.last w.kernel (disk_told o) d h.only h.chain } in
+    let file : Disk = (after_reading o).disk in
+    let ran : o.ran_out ≡ false = ap (λ (x : DiskWorld). x.ran_out) h.disk in
+    let given : IsGiven (n + 1) (done ++ step ∷ []) s.setup = given_still n done step s.setup refl refl refl refl h.given in
+    let same : journal_of (record { ended = runs.ended ++ runs.last ∷ []; last = [] }) ≡ journal_of runs = journal_ended runs in
+    record {
+      few = omega (arith, lt);
+      holds = record { told = h.holds.told; sound = h.holds.sound; stand = no_standing w.kernel };
+      fits = λ e.
+          let low : w.faults ≤ 1099511627776 * n = (h.fits e).few_faults in
+          let events : d.event ≤ n + 1 = (h.fits e).few_events in
+          started_fits (n + 1) d.event s.setup w.faults (omega (arith, events)) given.few_rules (omega (arith, low));
+      given = given;
+      pending = refl;
+      disk = h.disk;
+      number = d.event;
+      kernel = w.kernel;
+      file = file;
+      only = read_only rules o (rules_disk s.setup) h.disk (refl, refl);
+      ended = run_ended policy rules 1 first.kernel runs.ended h.number h.kernel runs.last this h.ended;
+      chain = (unmoving w.kernel, subst (λ (x : Option Disk). StaysOnDisk (Some file) x) (sym (told_reading o ran)) (stays_there (Some file)), refl);
+      none = λ e. closed_now (sym e);
+      written = append-nil text ∙ h.written ∙ ap (λ (es : List Entry). lines_text es) (sym same);
+      nobody = λ q e. subst NameNobody (sym same) (h.nobody (quiet_front done step q).0 e);
+      unfailing = λ q. h.unfailing (quiet_front done step q).0;
+      unmoved = λ q. h.unmoved (quiet_front done step q).0;
+    }
+
+restart_if : (first : World) (n : ℕ) (done : List (Option Step)) (runs : EventsOfRuns) (text : List ℕ) (s : Script) (w : World) (can : Bool) → KeptAfter first n done runs text (quiet (with_restart s) w) → KeptAfter first n done runs text (cond can (quiet (with_restart s) w) (Refused InputTooLong (Some s, w)))
+restart_if first n done runs text s w true k = k
+restart_if first n done runs text s w false k = tt
 
 neither : (a b : Bool) → (a || b) ≡ false → (a ≡ false) × (b ≡ false)
 neither false b e = (refl, e)
@@ -239,8 +333,9 @@ nobody_left (e ∷ es) fs n =
     ap (λ (b : Bool). b || list_any names_somebody es) x.0 ∙ nobody_left es fs x.1
 
 -- where nobody is named, each live device was judged once and stands as judged
-event_once : (first : World) (n : ℕ) (done : List (Option Step)) (hs : List Happened) (text : List ℕ) (s : Script) (w : World) (h : Kept first n done hs text s w) → AreQuiet done → first.fails ≡ [] → first.moves ≡ [] → (moment : Moment) → JudgesOnce (policy_of s.setup) first.kernel (rules_disk s.setup).disk hs (happened_at moment s w)
-event_once first n done hs text s w h quiet_lines fails moves moment =
+event_once : (first : World) (n : ℕ) (done : List (Option Step)) (runs : EventsOfRuns) (text : List ℕ) (s : Script) (w : World) (h : Kept first n done runs text s w) → AreQuiet done → first.fails ≡ [] → first.moves ≡ [] → (moment : Moment) → JudgesOnce (policy_of s.setup) h.kernel h.file runs.last (happened_at moment s w)
+unfolding daemon_run
+event_once first n done runs text s w h quiet_lines fails moves moment =
     let policy : Judging = policy_of s.setup in
     let d : DaemonState = daemon_in s in
     let p = event_of moment s w in
@@ -252,8 +347,7 @@ event_once first n done hs text s w h quiet_lines fails moves moment =
     let rest : List Entry = law.law.fair.rest in
     let all : p.0.sweep.entries ≡ ((x ∷ []) ++ rest) ++ y ∷ [] = ap (λ (z : State Judging). z.entries) law.entries ∙ ap (λ (z : List Entry). z ++ y ∷ []) law.law.fair.entries in
     let quiet : NameNobody ((x ∷ []) ++ rest) = nobody_left ((x ∷ []) ++ rest) (y ∷ []) (subst NameNobody all (nobody_in_event moment d w h.holds.told (h.unfailing quiet_lines fails))) in
-    let begins : IsStarted policy 1 (started policy) = record { judge = refl; standings = refl; next = refl; listed = refl; entries = refl; pending = refl; event = refl } in
-    let run = is_run policy 1 first.kernel (file_at s) (started policy) (hs ++ happened_at moment s w ∷ []) l (disk_told (disk_in s)) p.0 begins (event_chain first n done hs text moment s w h) in
+    let run = (daemon_run policy (rules_text_of s.setup.rules) h.number h.kernel h.file (runs.last ++ happened_at moment s w ∷ []) l (disk_told (disk_in s)) p.0 h.only (event_chain first n done runs text moment s w h)).run in
     record {
       run = run;
       each = λ i e live.
@@ -268,37 +362,45 @@ event_once first n done hs text s w h quiet_lines fails moves moment =
           run.once i e live (subst (λ (z : State Judging). IsAsJudged l z.standings i) (sym law.entries) as_judged);
     }
 
-recorded : (first : World) (lines : List (List ℕ)) (n : ℕ) (text : List ℕ) (s : Script) (w : World) → Kept first n (steps_of lines) (happened (None, first) lines) text s w → Recorded first lines text s w
+recorded : (first : World) (lines : List (List ℕ)) (n : ℕ) (text : List ℕ) (s : Script) (w : World) → Kept first n (steps_of lines) (runs_in first lines) text s w → Recorded first lines text s w
+unfolding daemon_run
 recorded first lines n text s w h =
     let policy : Judging = policy_of s.setup in
-    let begins : IsStarted policy 1 (started policy) = record { judge = refl; standings = refl; next = refl; listed = refl; entries = refl; pending = refl; event = refl } in
+    let runs : EventsOfRuns = runs_in first lines in
     record {
       policy = policy;
       setup = given_setup n (steps_of lines) s.setup h.given;
       settings = λ whole e. ap (λ (ls : List (List ℕ)). settled (lines_read setting_line 1 (draft_of defaults []) ls)) e ∙ ap settled (given_setup n (steps_of lines) s.setup h.given).settings;
       later = λ rs. rulings_later policy rs (policy_new s.setup h.given.listed);
-      file = (rules_disk s.setup).disk;
-      holds = (ap (λ (rs : List Rule). rules_text_of rs) h.given.rules, ap (λ (rs : List Rule). Texts (rules_text_of rs ∷ [])) h.given.rules);
-      chain = h.chain;
-      run = is_run policy 1 first.kernel (file_at s) (started policy) (happened (None, first) lines) w.kernel (disk_told (disk_in s)) (daemon_in s) begins h.chain;
+      runs = record {
+        number = h.number;
+        kernel = h.kernel;
+        ended = subst (λ (rs : List Rule). AreSuccessive policy (rules_text_of rs) 1 first.kernel runs.ended h.number h.kernel) h.given.rules h.ended;
+        last = record {
+          file = h.file;
+          holds = subst (λ (rs : List Rule). HoldsOnly (rules_text_of rs) h.file) h.given.rules h.only;
+          chain = h.chain;
+          run = (daemon_run policy (rules_text_of s.setup.rules) h.number h.kernel h.file runs.last w.kernel (disk_told (disk_in s)) (daemon_in s) h.only h.chain).run;
+        };
+      };
       written = h.written;
       nobody = h.nobody;
-      once = event_once first n (steps_of lines) (happened (None, first) lines) text s w h;
+      once = event_once first n (steps_of lines) runs text s w h;
     }
 
 -- ---- a line
 
-step_kept : (first : World) (n : ℕ) (done : List (Option Step)) (hs : List Happened) (text : List ℕ) (step : Step) (s : Script) (w : World) → n < 1048576 → Kept first n done hs text s w → KeptAfter first (n + 1) (done ++ Some step ∷ []) (hs ++ happens_by (Some step) s w) text (taken step s w)
-step_kept first n done hs text Skip s w lt h = kept_still first (n + 1) (done ++ Some Skip ∷ []) hs text s w (skip_kept first n done hs text s w lt h)
-step_kept first n done hs text (Setup line) s w lt h =
+step_kept : (first : World) (n : ℕ) (done : List (Option Step)) (runs : EventsOfRuns) (text : List ℕ) (step : Step) (s : Script) (w : World) → n < 1048576 → Kept first n done runs text s w → KeptAfter first (n + 1) (done ++ Some step ∷ []) (runs_by (Some step) s w runs) text (taken step s w)
+step_kept first n done runs text Skip s w lt h = kept_still first (n + 1) (done ++ Some Skip ∷ []) runs text s w (skip_kept first n done runs text s w lt h)
+step_kept first n done runs text (Setup line) s w lt h =
     let step : Option Step = Some (Setup line) in
-    kept_when first (n + 1) (done ++ step ∷ []) (hs ++ []) text (takes_setup s.phase) (line_added (one_line_more line s.setup) s w) s w (λ opened. added_kept first n done hs text s w step (one_line_more line s.setup) lt opened h (given_added n done line s.setup lt h.given))
-step_kept first n done hs text (Move action) s w lt h =
+    kept_when first (n + 1) (done ++ step ∷ []) (with_events [] runs) text (takes_setup s.phase) (line_added (one_line_more line s.setup) s w) s w (λ opened. added_kept first n done runs text s w step (one_line_more line s.setup) lt opened h (given_added n done line s.setup lt h.given))
+step_kept first n done runs text (Move action) s w lt h =
     let step : Option Step = Some (Move action) in
     let v : World = with_devices (moved action w.kernel.devices) w in
-    kept_still first (n + 1) (done ++ step ∷ []) hs text (with_setup_closed s) v
-    (on_kept first n done hs text s w v step (closed_phase s.phase) lt h (closed_daemon s.setup s.phase) (closed_disk s.setup s.phase) (closed_started s.phase) (given_still n done step s.setup refl refl refl refl h.given) (move_holds action (daemon_in s) w h.holds) (moved_moves action w.kernel) refl (λ q. h.unfailing (quiet_front done step q).0) (λ q. h.unmoved (quiet_front done step q).0))
-step_kept first n done hs text (Schedule p) s w lt h = plan_kept p
+    kept_still first (n + 1) (done ++ step ∷ []) runs text (with_setup_closed s) v
+    (on_kept first n done runs text s w v step (closed_phase s.phase) lt h (closed_daemon s.setup s.phase) (closed_disk s.setup s.phase) (closed_started s.phase) (given_still n done step s.setup refl refl refl refl h.given) (move_holds action (daemon_in s) w h.holds) (moved_moves action w.kernel) refl (λ q. h.unfailing (quiet_front done step q).0) (λ q. h.unmoved (quiet_front done step q).0))
+step_kept first n done runs text (Schedule p) s w lt h = plan_kept p
   where
     step : Option Step
     step = Some (Schedule p)
@@ -306,27 +408,33 @@ step_kept first n done hs text (Schedule p) s w lt h = plan_kept p
     loud : {X : Type 0} → AreQuiet (done ++ Some (Schedule p) ∷ []) → X
     loud q = closed_now (quiet_front done (Some (Schedule p)) q).1
 
-    by : (v : World) → HoldsOf (daemon_in s) v → Moves w.kernel v.kernel → v.faults ≡ w.faults → Kept first (n + 1) (done ++ Some (Schedule p) ∷ []) hs text (with_setup_closed s) v
-    by v holds moves faults = on_kept first n done hs text s w v (Some (Schedule p)) (closed_phase s.phase) lt h (closed_daemon s.setup s.phase) (closed_disk s.setup s.phase) (closed_started s.phase) (given_still n done (Some (Schedule p)) s.setup refl refl refl refl h.given) holds moves faults (λ q. loud q) (λ q. loud q)
+    by : (v : World) → HoldsOf (daemon_in s) v → Moves w.kernel v.kernel → v.faults ≡ w.faults → Kept first (n + 1) (done ++ Some (Schedule p) ∷ []) runs text (with_setup_closed s) v
+    by v holds moves faults = on_kept first n done runs text s w v (Some (Schedule p)) (closed_phase s.phase) lt h (closed_daemon s.setup s.phase) (closed_disk s.setup s.phase) (closed_started s.phase) (given_still n done (Some (Schedule p)) s.setup refl refl refl refl h.given) holds moves faults (λ q. loud q) (λ q. loud q)
 
-    plan_kept : (x : Plan) → Kept first (n + 1) (done ++ Some (Schedule p) ∷ []) (hs ++ []) (text ++ []) (with_setup_closed s) (planned x w)
-    plan_kept (plan.Move m) = kept_still first (n + 1) (done ++ Some (Schedule p) ∷ []) hs text (with_setup_closed s) (planned (plan.Move m) w) (by (planned (plan.Move m) w) (plan_holds (plan.Move m) (daemon_in s) w h.holds) (unmoving w.kernel) refl)
-    plan_kept (plan.Fail f) = kept_still first (n + 1) (done ++ Some (Schedule p) ∷ []) hs text (with_setup_closed s) (planned (plan.Fail f) w) (by (planned (plan.Fail f) w) (plan_holds (plan.Fail f) (daemon_in s) w h.holds) (unmoving w.kernel) refl)
-step_kept first n done hs text (Event (Sweep moment)) s w lt h = event_if first (n + 1) (done ++ Some (Event (Sweep moment)) ∷ []) hs text moment s w (can_start s.setup s.phase) (has_numbers (daemon_in s) w.faults 0) (event_kept first n done hs text moment s w lt h)
+    plan_kept : (x : Plan) → Kept first (n + 1) (done ++ Some (Schedule p) ∷ []) (with_events [] runs) (text ++ []) (with_setup_closed s) (planned x w)
+    plan_kept (plan.Move m) = kept_still first (n + 1) (done ++ Some (Schedule p) ∷ []) runs text (with_setup_closed s) (planned (plan.Move m) w) (by (planned (plan.Move m) w) (plan_holds (plan.Move m) (daemon_in s) w h.holds) (unmoving w.kernel) refl)
+    plan_kept (plan.Fail f) = kept_still first (n + 1) (done ++ Some (Schedule p) ∷ []) runs text (with_setup_closed s) (planned (plan.Fail f) w) (by (planned (plan.Fail f) w) (plan_holds (plan.Fail f) (daemon_in s) w h.holds) (unmoving w.kernel) refl)
+step_kept first n done runs text (Event (Sweep moment)) s w lt h = event_if first (n + 1) (done ++ Some (Event (Sweep moment)) ∷ []) runs text moment s w (can_start s.setup s.phase) (has_numbers (daemon_in s) w.faults 0) (event_kept first n done runs text moment s w lt h)
+step_kept first n done runs text Restart s w lt h = restart_if first (n + 1) (done ++ Some Restart ∷ []) (record { ended = runs.ended ++ runs.last ∷ []; last = [] }) text s w (can_start s.setup s.phase) (restart_kept first n done runs text s w lt h)
 
-line_kept : (first : World) (n : ℕ) (done : List (Option Step)) (hs : List Happened) (text : List ℕ) (step : Option Step) (s : Script) (w : World) → n < 1048576 → Kept first n done hs text s w → KeptAfter first (n + 1) (done ++ step ∷ []) (hs ++ happens_by step s w) text (taken_if step s w)
-line_kept first n done hs text None s w lt h = tt
-line_kept first n done hs text (Some step) s w lt h = step_kept first n done hs text step s w lt h
+line_kept : (first : World) (n : ℕ) (done : List (Option Step)) (runs : EventsOfRuns) (text : List ℕ) (step : Option Step) (s : Script) (w : World) → n < 1048576 → Kept first n done runs text s w → KeptAfter first (n + 1) (done ++ step ∷ []) (runs_by step s w runs) text (taken_if step s w)
+line_kept first n done runs text None s w lt h = tt
+line_kept first n done runs text (Some step) s w lt h = step_kept first n done runs text step s w lt h
 
-kept_fresh : (first : World) → Holds [] 1 first → Kept first 1 [] [] [] fresh first
+kept_fresh : (first : World) → Holds [] 1 first → Kept first 1 [] no_events [] fresh first
 kept_fresh first h = record {
   few = omega arith;
   holds = h;
-  fits = λ e. started_fits 1 no_setup first.faults (omega arith) (omega (arith, e));
+  fits = λ e. started_fits 1 1 no_setup first.faults (omega arith) (omega arith) (omega (arith, e));
   given = given_first;
   pending = refl;
   disk = refl;
-  chain = (unmoving first.kernel, stays_there (file_at fresh), refl);
+  number = 1;
+  kernel = first.kernel;
+  file = (rules_disk no_setup).disk;
+  only = (refl, refl);
+  ended = (refl, refl);
+  chain = (unmoving first.kernel, stays_there (Some (rules_disk no_setup).disk), refl);
   none = λ e. refl;
   written = refl;
   nobody = λ x e. refl;
@@ -345,10 +453,10 @@ never : (fault : Fault) (n : ℕ) (text : List ℕ) (p : Option Script × World)
 never fault n text p lines m out q e = let h : Halted fault n text p ≡ Going m out q = sym (halted fault n text p lines) ∙ e in let none : ⊥ = cc in none
 
 -- what holds at a stage
-abbrev KeptAt : World → List (Option Step) → List Happened → Stage (Option Script × World) → Type 0
-KeptAt first done hs (Going n text (Some s, w)) = Kept first n done hs text s w
-KeptAt first done hs (Going n text (None, w)) = ⊥
-KeptAt first done hs (Halted fault n text p) = Unit {0}
+abbrev KeptAt : World → List (Option Step) → EventsOfRuns → Stage (Option Script × World) → Type 0
+KeptAt first done runs (Going n text (Some s, w)) = Kept first n done runs text s w
+KeptAt first done runs (Going n text (None, w)) = ⊥
+KeptAt first done runs (Halted fault n text p) = Unit {0}
 
 both : (a b : Bool) → (a && b) ≡ true → a ≡ true
 both true b e = refl
@@ -357,27 +465,26 @@ both false b e = let none : ⊥ = cc in absurd none
 within : (n : ℕ) (line : List ℕ) → is_within n line ≡ true → n < 1048576
 within n line e = let t : nat_lt n 1048576 ≡ true = both (nat_lt n 1048576) (nat_le (length line) 1048576) e in grind (arith, nat_tests, t)
 
-rest_kept : (first : World) (done : List (Option Step)) (hs : List Happened) (n : ℕ) (text : List ℕ) (p : Option Script × World) (step : Option Step) (new : List Happened) (lines : List (List ℕ)) (m : ℕ) (out : List ℕ) (t : Script) (v : World)
-    → ((more : List ℕ) (s : Script) (w : World) → Kept first (n + 1) (done ++ step ∷ []) (hs ++ new) more s w → plays script_step (Going (n + 1) more (Some s, w)) lines ≡ Going m out (Some t, v) → Kept first m ((done ++ step ∷ []) ++ map step_of_line lines) ((hs ++ new) ++ happened (Some s, w) lines) out t v)
-    → (b : Bool) (o : Outcome (Option Script × World)) → (b ≡ true → KeptAfter first (n + 1) (done ++ step ∷ []) (hs ++ new) text o) → plays script_step (cond b (stage_after n text o) (Halted BadLine n text p)) lines ≡ Going m out (Some t, v) → Kept first m (done ++ (step ∷ map step_of_line lines)) (hs ++ (new ++ happened (left_by o) lines)) out t v
-rest_kept first done hs n text p step new lines m out t v again true (Writes more (Some s, w)) k e =
-    subst (λ (x : List (Option Step)). Kept first m x (hs ++ (new ++ happened (Some s, w) lines)) out t v) (append_assoc done (step ∷ []) (map step_of_line lines))
-    (subst (λ (x : List Happened). Kept first m ((done ++ step ∷ []) ++ map step_of_line lines) x out t v) (append_assoc hs new (happened (Some s, w) lines)) (again (text ++ more) s w (k refl) e))
-rest_kept first done hs n text p step new lines m out t v again true (Writes more (None, w)) k e = absurd (k refl)
-rest_kept first done hs n text p step new lines m out t v again true (Refused fault next) k e = absurd (never fault n text next lines m out (Some t, v) e)
-rest_kept first done hs n text p step new lines m out t v again false o k e = absurd (never BadLine n text p lines m out (Some t, v) e)
+rest_kept : (first : World) (done : List (Option Step)) (n : ℕ) (text : List ℕ) (p : Option Script × World) (step : Option Step) (runs : EventsOfRuns) (lines : List (List ℕ)) (m : ℕ) (out : List ℕ) (t : Script) (v : World)
+    → ((more : List ℕ) (s : Script) (w : World) → Kept first (n + 1) (done ++ step ∷ []) runs more s w → plays script_step (Going (n + 1) more (Some s, w)) lines ≡ Going m out (Some t, v) → Kept first m ((done ++ step ∷ []) ++ map step_of_line lines) (runs_after runs (Some s, w) lines) out t v)
+    → (b : Bool) (o : Outcome (Option Script × World)) → (b ≡ true → KeptAfter first (n + 1) (done ++ step ∷ []) runs text o) → plays script_step (cond b (stage_after n text o) (Halted BadLine n text p)) lines ≡ Going m out (Some t, v) → Kept first m (done ++ (step ∷ map step_of_line lines)) (runs_after runs (left_by o) lines) out t v
+rest_kept first done n text p step runs lines m out t v again true (Writes more (Some s, w)) k e =
+    subst (λ (x : List (Option Step)). Kept first m x (runs_after runs (Some s, w) lines) out t v) (append_assoc done (step ∷ []) (map step_of_line lines)) (again (text ++ more) s w (k refl) e)
+rest_kept first done n text p step runs lines m out t v again true (Writes more (None, w)) k e = absurd (k refl)
+rest_kept first done n text p step runs lines m out t v again true (Refused fault next) k e = absurd (never fault n text next lines m out (Some t, v) e)
+rest_kept first done n text p step runs lines m out t v again false o k e = absurd (never BadLine n text p lines m out (Some t, v) e)
 
-lines_kept : (first : World) (lines : List (List ℕ)) (done : List (Option Step)) (hs : List Happened) (n : ℕ) (text : List ℕ) (s : Script) (w : World) (m : ℕ) (out : List ℕ) (t : Script) (v : World) → Kept first n done hs text s w → plays script_step (Going n text (Some s, w)) lines ≡ Going m out (Some t, v) → Kept first m (done ++ map step_of_line lines) (hs ++ happened (Some s, w) lines) out t v
-lines_kept first [] done hs n text s w m out t v h e =
-    subst (λ (x : List (Option Step)). Kept first m x (hs ++ []) out t v) (sym (append-nil done)) (subst (λ (x : List Happened). Kept first m done x out t v) (sym (append-nil hs)) (subst (λ (x : Stage (Option Script × World)). KeptAt first done hs x) e h))
-lines_kept first (line ∷ lines) done hs n text s w m out t v h e =
+lines_kept : (first : World) (lines : List (List ℕ)) (done : List (Option Step)) (runs : EventsOfRuns) (n : ℕ) (text : List ℕ) (s : Script) (w : World) (m : ℕ) (out : List ℕ) (t : Script) (v : World) → Kept first n done runs text s w → plays script_step (Going n text (Some s, w)) lines ≡ Going m out (Some t, v) → Kept first m (done ++ map step_of_line lines) (runs_after runs (Some s, w) lines) out t v
+lines_kept first [] done runs n text s w m out t v h e =
+    subst (λ (x : List (Option Step)). Kept first m x runs out t v) (sym (append-nil done)) (subst (λ (x : Stage (Option Script × World)). KeptAt first done runs x) e h)
+lines_kept first (line ∷ lines) done runs n text s w m out t v h e =
     let step : Option Step = step_of_line line in
-    rest_kept first done hs n text (Some s, w) step (happens_by step s w) lines m out t v (λ more r u k f. lines_kept first lines (done ++ step ∷ []) (hs ++ happens_by step s w) (n + 1) more r u m out t v k f) (is_within n line) (script_step (Some s, w) line) (λ b. line_kept first n done hs text step s w (within n line b) h) e
+    rest_kept first done n text (Some s, w) step (runs_by step s w runs) lines m out t v (λ more r u k f. lines_kept first lines (done ++ step ∷ []) (runs_by step s w runs) (n + 1) more r u m out t v k f) (is_within n line) (script_step (Some s, w) line) (λ b. line_kept first n done runs text step s w (within n line b) h) e
 
 -- the header, and the lines behind it
 header_kept : (first : World) (lines : List (List ℕ)) (m : ℕ) (out : List ℕ) (t : Script) (v : World) (b c : Bool) → Holds [] 1 first → plays script_step (cond b (stage_after 0 [] (cond c (quiet fresh first) (Refused BadLine (None, first)))) (Halted BadLine 0 [] (None, first))) lines ≡ Going m out (Some t, v)
-    → Kept first m (map step_of_line lines) (happened (left_by (cond c (quiet fresh first) (Refused BadLine (None, first)))) lines) out t v
-header_kept first lines m out t v true true h e = lines_kept first lines [] [] 1 [] fresh first m out t v (kept_fresh first h) e
+    → Kept first m (map step_of_line lines) (runs_after no_events (left_by (cond c (quiet fresh first) (Refused BadLine (None, first)))) lines) out t v
+header_kept first lines m out t v true true h e = lines_kept first lines [] no_events 1 [] fresh first m out t v (kept_fresh first h) e
 header_kept first lines m out t v true false h e = absurd (never BadLine 0 [] (None, first) lines m out (Some t, v) e)
 header_kept first lines m out t v false c h e = absurd (never BadLine 0 [] (None, first) lines m out (Some t, v) e)
 
@@ -387,7 +494,7 @@ BeforeHeader (Going n text (None, w)) = Unit {0}
 BeforeHeader (Going n text (Some s, w)) = ⊥
 BeforeHeader (Halted fault n text p) = Unit {0}
 
-kept_all : (first : World) → first.ran_out ≡ false → IsKernel first.kernel → (lines : List (List ℕ)) (n : ℕ) (text : List ℕ) (s : Script) (w : World) → plays script_step (Going 0 [] (None, first)) lines ≡ Going n text (Some s, w) → Kept first n (steps_of lines) (happened (None, first) lines) text s w
+kept_all : (first : World) → first.ran_out ≡ false → IsKernel first.kernel → (lines : List (List ℕ)) (n : ℕ) (text : List ℕ) (s : Script) (w : World) → plays script_step (Going 0 [] (None, first)) lines ≡ Going n text (Some s, w) → Kept first n (steps_of lines) (runs_in first lines) text s w
 kept_all first run sound [] n text s w e = absurd (subst (λ (x : Stage (Option Script × World)). BeforeHeader x) e tt)
 kept_all first run sound (line ∷ lines) n text s w e = header_kept first lines n text s w (is_within 0 line) (pointwise nat_eq line header) (record { told = run; sound = sound; stand = no_standing first.kernel }) e
 
@@ -396,7 +503,7 @@ stays_recorded first run sound lines n text s w e = recorded first lines n text 
 
 pub stays_lawful : (w : World) → w.ran_out ≡ false → IsKernel w.kernel → StaysLawful w
 stays_lawful first run sound lines n text s w e =
-    let h : Kept first n (steps_of lines) (happened (None, first) lines) text s w = kept_all first run sound lines n text s w e in
+    let h : Kept first n (steps_of lines) (runs_in first lines) text s w = kept_all first run sound lines n text s w e in
     record {
       sound = h.holds.sound;
       stand = h.holds.stand;

@@ -1,5 +1,5 @@
 -- Each line keeps the kernel sound and each standing of a device.
-use Rattle.std.proofs.Common.{◌≡◌, ℕ, ◌+◌, ◌++◌, Bool, false, true, ◌||◌, List, [], ◌∷◌, Some, None, refl, sym, ◌∙◌, ap, subst}
+use Rattle.std.proofs.Common.{◌≡◌, ℕ, ◌+◌, ◌++◌, Bool, false, ◌||◌, List, [], ◌∷◌, Some, None, refl, sym, ◌∙◌, ap, subst}
 use Rattle.std.proofs.lemmas.Option.{same_Some}
 use Rattle.ug_types.specs.declared.verdict.Moment.{Moment}
 use Rattle.ug_kernel.specs.Kernel.{Kernel, IsKernel, Moves}
@@ -34,8 +34,8 @@ use Rattle.ug_core.specs.Laws.{Handled, TellsEvent}
 use Rattle.ug_core.proofs.Failures.{event_tells, event_names}
 use Rattle.ug_script.specs.declared.step.Plan.{Plan}
 use Rattle.ug_script.specs.declared.step.Plan.TheVariants as plan
-use Rattle.ug_script.specs.Setup.{SetupState, policy_of, rules_disk, started}
-use Rattle.ug_script.specs.Replay.{Script, Phase, SettingUp, Unstarted, Started, takes_setup, has_started, closed_phase, daemon_by, daemon_in, disk_by, disk_in, event_from, with_devices, planned}
+use Rattle.ug_script.specs.Script.{Script, daemon_in}
+use Rattle.ug_script.specs.Replay.{event_from, with_devices, planned}
 use Rattle.ug_script.specs.Laws.{Begins, faults_of, IsLawfulEvent}
 
 abbrev calls_of : World → ℕ
@@ -100,30 +100,9 @@ pub plan_holds : (p : Plan) (d : DaemonState) (w : World) → HoldsOf d w → Ho
 plan_holds (plan.Move m) d w h = record { told = h.told; sound = h.sound; stand = h.stand }
 plan_holds (plan.Fail f) d w h = record { told = h.told; sound = h.sound; stand = h.stand }
 
--- while lines of setup may come, no daemon was started
-pub open_unstarted : (phase : Phase) → takes_setup phase ≡ true → (has_started phase ≡ false) × ((setup : SetupState) → daemon_by setup phase ≡ started (policy_of setup)) × ((setup : SetupState) → disk_by setup phase ≡ rules_disk setup)
-open_unstarted SettingUp e = (refl, λ setup. refl, λ setup. refl)
-open_unstarted Unstarted e = let none : ⊥ = cc in absurd none
-open_unstarted (Started d disk) e = let none : ⊥ = cc in absurd none
-
-pub closed_daemon : (setup : SetupState) (phase : Phase) → daemon_by setup (closed_phase phase) ≡ daemon_by setup phase
-closed_daemon setup SettingUp = refl
-closed_daemon setup Unstarted = refl
-closed_daemon setup (Started d disk) = refl
-
-pub closed_disk : (setup : SetupState) (phase : Phase) → disk_by setup (closed_phase phase) ≡ disk_by setup phase
-closed_disk setup SettingUp = refl
-closed_disk setup Unstarted = refl
-closed_disk setup (Started d disk) = refl
-
 -- an event leaves no save that is pending
 pub event_pending : (moment : Moment) (d : DaemonState) (w : World) → d.pending ≡ false → (event_from moment d w).0.pending ≡ false
 event_pending moment d w none = rw (plays_sweep moment d w) none
-
-pub closed_started : (phase : Phase) → has_started (closed_phase phase) ≡ has_started phase
-closed_started SettingUp = refl
-closed_started Unstarted = refl
-closed_started (Started d disk) = refl
 
 pub no_standing : (k : Kernel) → Stand k [] 1
 no_standing k = record { devices = λ s a. absurd a; numbers = λ s a. absurd a; names = tt; order = tt; distinct = tt; removed = λ s a. absurd a }

@@ -1,9 +1,10 @@
-pub mod Digits
 pub mod Moments
 pub mod NamesRead
 pub mod Readable
 pub mod WellFormed
+pub mod Phases
 pub mod EventSteps
+pub mod SingleLines
 pub mod Starts
 pub mod Lawful
 pub mod Spent

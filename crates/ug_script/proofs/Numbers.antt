@@ -173,9 +173,9 @@ event_fits n moment d w lt h f =
       few_faults = omega (arith, lt, faults, made, listed, stands, old_next, old_faults);
     })
 
--- a daemon that was not started yet
-pub started_fits : (n : ℕ) (setup : SetupState) (faults : ℕ) → length setup.rules ≤ n → faults ≤ 1099511627776 * n → Fits n 1 1 (length setup.rules + 1) faults
-started_fits n setup faults few low = record { few_events = omega arith; few_numbers = omega arith; few_ids = omega (arith, few); few_faults = omega (arith, low) }
+-- a daemon that has had no event, or isn't there yet
+pub started_fits : (n event : ℕ) (setup : SetupState) (faults : ℕ) → event ≤ n + 1 → length setup.rules ≤ n → faults ≤ 1099511627776 * n → Fits n event 1 (length setup.rules + 1) faults
+started_fits n event setup faults first few low = record { few_events = omega (arith, first); few_numbers = omega arith; few_ids = omega (arith, few); few_faults = omega (arith, low) }
 
 -- the numbers leave room
 

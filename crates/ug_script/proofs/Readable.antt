@@ -1,6 +1,7 @@
 -- Each rule that a script's line asks for is the rule of some line.
 use Rattle.std.proofs.Common.{◌≡◌, ℕ, ℤ, Bool, true, false, ◌||◌, if◌then◌else◌, nat_eq, List, length, drop, Option, Some, None, Result, Ok, Err, refl, subst}
 use Rattle.std.specs.Prelude.{codes}
+use Rattle.std.specs.Cmp.Lexicographic.{pointwise}
 use Rattle.std.specs.List.{starts_with}
 use Rattle.ug_types.specs.declared.rule.Rule as types
 use Rattle.ug_rule.specs.declared.fault.Fault.{Fault}
@@ -12,7 +13,7 @@ use Rattle.ug_script.specs.declared.step.Plan.{Plan}
 use Rattle.ug_script.specs.declared.step.SetupLine.{SetupLine}
 use Rattle.ug_script.specs.declared.step.SetupLine.TheVariants.{Conf}
 use Rattle.ug_script.specs.declared.step.Step.{Step}
-use Rattle.ug_script.specs.declared.step.Step.TheVariants.{Skip}
+use Rattle.ug_script.specs.declared.step.Step.TheVariants.{Skip, Restart}
 use Rattle.ug_script.specs.Words.{seed_of, offset_of}
 use Rattle.ug_script.specs.Grammar.{in_rule, in_seed, in_zone, setup_of, move_of, plan_of, event_of, in_setup, in_move, in_plan, in_event, first_of, step_of_line, AsksForRule, AsksForRules}
 
@@ -71,9 +72,9 @@ firsts : (a b : Option Step) → IsReadStep a → IsReadStep b → IsReadStep (f
 firsts None b x y = y
 firsts (Some step) b x y = x
 
-step_when : (b : Bool) (o : Option Step) → IsReadStep o → IsReadStep (if b then Some Skip else o)
-step_when true o x = tt
-step_when false o x = x
+step_when : (step : Step) (b : Bool) (o : Option Step) → AsksForRules step → IsReadStep o → IsReadStep (if b then Some step else o)
+step_when step true o x y = x
+step_when step false o x y = y
 
 steps_read : (line : List ℕ) → IsReadStep (step_of_line line)
 unfolding step_of_line
@@ -81,10 +82,12 @@ steps_read line =
     let setup : Option Step = in_setup (setup_of line) in
     let event : Option Step = first_of (in_event (event_of line)) setup in
     let plan : Option Step = first_of (in_plan (plan_of line)) event in
-    step_when (nat_eq (length line) 0 || starts_with nat_eq line (codes "#")) (first_of (in_move (move_of line)) plan)
+    let other : Option Step = first_of (in_move (move_of line)) plan in
+    step_when Skip (nat_eq (length line) 0 || starts_with nat_eq line (codes "#")) (if pointwise nat_eq line (codes "restart") then Some Restart else other) tt
+    (step_when Restart (pointwise nat_eq line (codes "restart")) other tt
     (firsts (in_move (move_of line)) plan (in_moves (move_of line))
     (firsts (in_plan (plan_of line)) event (in_plans (plan_of line))
-    (firsts (in_event (event_of line)) setup (in_events (event_of line)) (in_setups (setup_of line) (setup_lines line)))))
+    (firsts (in_event (event_of line)) setup (in_events (event_of line)) (in_setups (setup_of line) (setup_lines line))))))
 
 pub line_asks : (line : List ℕ) (step : Step) → step_of_line line ≡ Some step → AsksForRules step
 line_asks line step e = subst IsReadStep e (steps_read line)

@@ -1,5 +1,5 @@
 -- The start of a script's daemon.
-use Rattle.std.proofs.Common.{◌≡◌, ℕ, ◌+◌, ◌<◌, ◌≤◌, Bool, true, false, if◌then◌else◌, nat_le, List, [], ◌∷◌, length, Result, Ok, Err, inl, inr, refl, sym, ◌∙◌, ap, subst, arith}
+use Rattle.std.proofs.Common.{◌≡◌, ℕ, ◌<◌, ◌≤◌, Bool, true, false, if◌then◌else◌, nat_le, List, [], ◌∷◌, length, Result, Ok, Err, inl, inr, refl, sym, ◌∙◌, ap, subst, arith}
 use Rattle.std.proofs.lemmas.Bool.Decides.{nat_tests}
 use Rattle.ug_types.specs.declared.rule.Rule.{Rule}
 use Rattle.ug_types.specs.declared.text_fault.TextFault.{TextFault}
@@ -16,20 +16,22 @@ use Rattle.ug_store.specs.Store.{RunsDisk, after_load, recovering}
 use Rattle.ug_store.specs.declared.disk.Loaded.{Loaded}
 use Rattle.ug_store.specs.declared.disk.Loaded.TheVariants as loaded
 use Rattle.ug_store.specs.declared.store.RecoverFault.{RecoverFault}
+use Rattle.ug_store.specs.declared.store.RecoverFault.TheVariants as recover
 use Rattle.ug_core.specs.Event.{DaemonState, IsStarted}
 use Rattle.rand_core.specs.Stream.{Stream}
 use Rattle.ug_core.specs.Policy.{Judging}
 use Rattle.ug_core.specs.declared.classes.Classes.{Classes}
-use Rattle.ug_core.specs.Starting.{Starts, Loads, StartsAfter, StartsFrom, StartsWithRules, HoldsJust, HasRulesOf, Outset, permanent_entries, policy_at}
+use Rattle.ug_core.specs.Starting.{Starts, Loads, StartsWith, StartsAfter, StartsFrom, fault_of_recovery, StartsWithRules, HoldsJust, HasRulesOf, Outset, policy_at}
 use Rattle.ug_core.specs.declared.start_fault.StartFault.{StartFault}
-use Rattle.ug_script.specs.Setup.{SetupState, policy_of, rules_disk, started}
-use Rattle.ug_script.specs.Replay.{fits_file}
+use Rattle.ug_core.specs.declared.start_fault.StartFault.TheVariants as fault
+use Rattle.ug_script.specs.Setup.{SetupState, after_reading, policy_of, rules_disk, started_at}
+use Rattle.ug_script.specs.Script.{HoldsRules, IsWantOfMemory, fits_file}
 
 abbrev made : List Standing → ℕ → Bool → Judging → List Entry → List Addition → Bool → ℕ → DaemonState
 made ss next listed judge es access pending number = record { sweep = record { standings = ss; next = next; listed = listed; judge = judge; entries = es }; access = access; pending = pending; event = number }
 
-started_is : (p : Judging) (d : DaemonState) → IsStarted p 1 d → d.access ≡ [] → d ≡ started p
-started_is p d h nobody =
+started_is : (p : Judging) (number : ℕ) (d : DaemonState) → IsStarted p number d → d.access ≡ [] → d ≡ started_at number p
+started_is p number d h nobody =
     ap (λ (x : List Standing). made x d.sweep.next d.sweep.listed d.sweep.judge d.sweep.entries d.access d.pending d.event) h.standings
     ∙ ap (λ (x : ℕ). made [] x d.sweep.listed d.sweep.judge d.sweep.entries d.access d.pending d.event) h.next
     ∙ ap (λ (x : Bool). made [] 1 x d.sweep.judge d.sweep.entries d.access d.pending d.event) h.listed
@@ -56,68 +58,91 @@ long_by setup lt = grind (arith, nat_tests, lt)
 
 -- ---- the reading of a disk in memory
 
--- the text was read, and the disk is as the reading left it
-abbrev IsRead : List ℕ → List ℕ → DiskWorld → DiskWorld → Type 0
-IsRead text got u t = (got ≡ text) × (t ≡ u)
+-- the text was read, and the disk is as the reading left it; or the text is longer than a file
+abbrev GivesText : List ℕ → DiskWorld → Result (List ℕ) RecoverFault → DiskWorld → Type 0
+GivesText text u (Ok got) t = (got ≡ text) × (t ≡ u)
+GivesText text u (Err recover.TooLong) t = file_limit < length text
+GivesText text u (Err (recover.Failed count)) t = Unit {0}
+GivesText text u (Err recover.Memory) t = Unit {0}
 
-read_text : (text got : List ℕ) (count : ℕ) (u t : DiskWorld) → RunsDisk MemKeeps u (after_load (text_or_absent text) count) (Ok got) t → IsRead text got u t
-read_text [] got count u t h = let same : got ≡ [] = cc in (same, h.1)
-read_text (b ∷ bs) got count u t h = let same : got ≡ b ∷ bs = cc in (same, h.1)
+read_text : (text : List ℕ) (r : Result (List ℕ) RecoverFault) (count : ℕ) (u t : DiskWorld) → RunsDisk MemKeeps u (after_load (text_or_absent text) count) r t → GivesText text u r t
+read_text [] r count u t h = subst (λ (x : Result (List ℕ) RecoverFault). GivesText [] u x t) (sym h.0) (refl, h.1)
+read_text (b ∷ bs) r count u t h = subst (λ (x : Result (List ℕ) RecoverFault). GivesText (b ∷ bs) u x t) (sym h.0) (refl, h.1)
 
-read_within : (text got : List ℕ) (fits : Bool) (count : ℕ) (u t : DiskWorld) → RunsDisk MemKeeps u (after_load (if fits then text_or_absent text else loaded.TooLong) count) (Ok got) t → IsRead text got u t
-read_within text got true count u t h = read_text text got count u t h
-read_within text got false count u t h = let none : ⊥ = cc in absurd none
+read_within : (text : List ℕ) (r : Result (List ℕ) RecoverFault) (fits : Bool) (count : ℕ) (u t : DiskWorld) → nat_le (length text) file_limit ≡ fits → RunsDisk MemKeeps u (after_load (if fits then text_or_absent text else loaded.TooLong) count) r t → GivesText text u r t
+read_within text r true count u t is h = read_text text r count u t h
+read_within text r false count u t is h =
+    let long : file_limit < length text = grind (arith, nat_tests, is) in
+    subst (λ (x : Result (List ℕ) RecoverFault). GivesText text u x t) (sym h.0) long
 
-read_short : (text got : List ℕ) (answer : Loaded) (count : ℕ) (u v t : DiskWorld) → answer ≡ loaded.Memory → RunsDisk MemKeeps u (after_load answer count) (Ok got) t → IsRead text got v t
-read_short text got answer count u v t e h =
-    let k : RunsDisk MemKeeps u (after_load loaded.Memory count) (Ok got) t = subst (λ (x : Loaded). RunsDisk MemKeeps u (after_load x count) (Ok got) t) e h in
-    let none : ⊥ = cc in absurd none
+read_short : (text : List ℕ) (r : Result (List ℕ) RecoverFault) (answer : Loaded) (count : ℕ) (u v t : DiskWorld) → answer ≡ loaded.Memory → RunsDisk MemKeeps u (after_load answer count) r t → GivesText text v r t
+read_short text r answer count u v t e h =
+    let k : RunsDisk MemKeeps u (after_load loaded.Memory count) r t = subst (λ (x : Loaded). RunsDisk MemKeeps u (after_load x count) r t) e h in
+    subst (λ (x : Result (List ℕ) RecoverFault). GivesText text v x t) (sym k.0) tt
 
-read_failed : (text got : List ℕ) (answer : Loaded) (count : ℕ) (u v t : DiskWorld) → answer ≡ loaded.Failed → RunsDisk MemKeeps u (after_load answer count) (Ok got) t → IsRead text got v t
-read_failed text got answer count u v t e h =
-    let k : RunsDisk MemKeeps u (after_load loaded.Failed count) (Ok got) t = subst (λ (x : Loaded). RunsDisk MemKeeps u (after_load x count) (Ok got) t) e h in
-    let none : ⊥ = cc in absurd none
+read_failed : (text : List ℕ) (r : Result (List ℕ) RecoverFault) (answer : Loaded) (count : ℕ) (u v t : DiskWorld) → answer ≡ loaded.Failed → RunsDisk MemKeeps u (after_load answer count) r t → GivesText text v r t
+read_failed text r answer count u v t e h =
+    let k : RunsDisk MemKeeps u (after_load loaded.Failed count) r t = subst (λ (x : Loaded). RunsDisk MemKeeps u (after_load x count) r t) e h in
+    subst (λ (x : Result (List ℕ) RecoverFault). GivesText text v x t) (sym k.0) tt
 
-abbrev first_answer : List ℕ → DiskTold Load × DiskWorld
-first_answer text = disk_answer (world_at_first text) Load
+answer_of : (o : DiskWorld) → o.ran_out ≡ false → ((disk_answer o Load).0.answer ≡ loaded_of o.disk.text) × ((disk_answer o Load).1 ≡ after_reading o)
+answer_of o e = rw e (refl, refl)
 
-read_told : (text got : List ℕ) (a : DiskTold Load) (u t : DiskWorld) → MemKeeps (world_at_first text) Load a u → RunsDisk MemKeeps u (after_load a.answer a.count) (Ok got) t → IsRead text got (first_answer text).1 t
-read_told text got a u t keeps h = elim keeps [
-  | inl x ↦
-      let k : RunsDisk MemKeeps u (after_load (loaded_of text) a.count) (Ok got) t = subst (λ (y : DiskTold Load). RunsDisk MemKeeps u (after_load y.answer a.count) (Ok got) t) x.0 h in
-      let r : IsRead text got u t = read_within text got (nat_le (length text) file_limit) a.count u t k in
-      (r.0, r.1 ∙ x.1)
+no_answer : (o : DiskWorld) → o.ran_out ≡ true → (disk_answer o Load).0.answer ≡ loaded.Failed
+no_answer o e = rw e refl
+
+-- a disk that has run out gives no text
+read_told : (o : DiskWorld) (r : Result (List ℕ) RecoverFault) (a : DiskTold Load) (u t : DiskWorld) → MemKeeps o Load a u → RunsDisk MemKeeps u (after_load a.answer a.count) r t → GivesText o.disk.text (after_reading o) r t
+read_told o r a u t keeps h = elim keeps [
+  | inl x ↦ by_script o.ran_out refl x
   | inr y ↦ elim y [
-    | inl z ↦ read_short text got a.answer a.count u (first_answer text).1 t z.memory h
-    | inr z ↦ read_failed text got a.answer a.count u (first_answer text).1 t (ap (λ (b : DiskTold Load). b.answer) z.answer) h
+    | inl z ↦ read_short o.disk.text r a.answer a.count u (after_reading o) t z.memory h
+    | inr z ↦ read_failed o.disk.text r a.answer a.count u (after_reading o) t (ap (λ (b : DiskTold Load). b.answer) z.answer) h
   ]
 ]
+  where
+    by_script : (out : Bool) → o.ran_out ≡ out → (a ≡ (disk_answer o Load).0) × (u ≡ (disk_answer o Load).1) → GivesText o.disk.text (after_reading o) r t
+    by_script true e x = read_failed o.disk.text r a.answer a.count u (after_reading o) t (ap (λ (b : DiskTold Load). b.answer) x.0 ∙ no_answer o e) h
+    by_script false e x =
+        let is = answer_of o e in
+        let k : RunsDisk MemKeeps u (after_load (loaded_of o.disk.text) a.count) r t = subst (λ (y : Loaded). RunsDisk MemKeeps u (after_load y a.count) r t) (ap (λ (b : DiskTold Load). b.answer) x.0 ∙ is.0) h in
+        let l : RunsDisk MemKeeps (after_reading o) (after_load (loaded_of o.disk.text) a.count) r t = subst (λ (y : DiskWorld). RunsDisk MemKeeps y (after_load (loaded_of o.disk.text) a.count) r t) (x.1 ∙ is.1) k in
+        read_within o.disk.text r (nat_le (length o.disk.text) file_limit) a.count (after_reading o) t refl l
 
-read_whole : (text got : List ℕ) (t : DiskWorld) → RunsDisk MemKeeps (world_at_first text) recovering (Ok got) t → IsRead text got (first_answer text).1 t
+read_whole : (o : DiskWorld) (r : Result (List ℕ) RecoverFault) (t : DiskWorld) → RunsDisk MemKeeps o recovering r t → GivesText o.disk.text (after_reading o) r t
 unfolding recovering
-read_whole text got t h = read_told text got h.0 h.1 t h.2 h.3
+read_whole o r t h = read_told o r h.0 h.1 t h.2 h.3
 
 -- ---- the start
+
+pub holds_rules_of : (setup : SetupState) (o : DiskWorld) → o ≡ world_at_first (rules_text_of setup.rules) → file_read (rules_text_of setup.rules) ≡ Ok setup.rules → fits_file setup ≡ true → HoldsRules setup o
+holds_rules_of setup o is reads fits = record { text = ap (λ (x : DiskWorld). x.disk.text) is; reads = reads; fits = fits }
+
+pub holds_rules_disk : (setup : SetupState) → file_read (rules_text_of setup.rules) ≡ Ok setup.rules → fits_file setup ≡ true → HoldsRules setup (rules_disk setup)
+holds_rules_disk setup reads fits = record { text = refl; reads = reads; fits = fits }
+
+pub holds_on : (setup : SetupState) (o u : DiskWorld) → HoldsRules setup o → u ≡ o → HoldsRules setup u
+holds_on setup o u h same = subst (λ (x : DiskWorld). HoldsRules setup x) (sym same) h
 
 -- what a script's daemon is started with
 abbrev IsOutset : SetupState → Outset → Type 0
 IsOutset setup outset = (list : Rules) → HoldsJust setup.rules list → policy_at outset list ≡ policy_of setup
 
-abbrev pub IsSession : SetupState → DaemonState → DiskWorld → Type 0
-IsSession setup d t = (d ≡ started (policy_of setup)) × (t ≡ rules_disk setup)
+abbrev pub IsSession : SetupState → ℕ → DiskWorld → DaemonState → DiskWorld → Type 0
+IsSession setup number o d t = (d ≡ started_at number (policy_of setup)) × (t ≡ after_reading o)
 
-loaded_session : (setup : SetupState) (outset : Outset) (read : Result (List ℕ) RecoverFault) (now : Bool × Rules) (d : DaemonState) (t : DiskWorld) → IsOutset setup outset → outset.access ≡ [] → outset.first ≡ 1 → file_read (rules_text_of setup.rules) ≡ Ok setup.rules → RunsDisk MemKeeps (world_at_first (rules_text_of setup.rules)) recovering read t → StartsAfter read (Ok now) → StartsWithRules outset now d → IsSession setup d t
-loaded_session setup outset (Ok got) now d t is nobody first reads runs after with =
-    let r = read_whole (rules_text_of setup.rules) got t runs in
-    let has : HasRulesOf (rules_text_of setup.rules) now.1 = subst (λ (x : List ℕ). HasRulesOf x now.1) r.0 after.1 in
-    let policy : policy_at outset now.1 ≡ policy_of setup = is now.1 (holds_rules setup.rules (rules_text_of setup.rules) now.1 reads has) in
-    let new : IsStarted (policy_of setup) 1 d = subst (λ (n : ℕ). IsStarted (policy_of setup) n d) first (subst (λ (p : Judging). IsStarted p outset.first d) policy with.started) in
-    (started_is (policy_of setup) d new (with.access ∙ nobody), r.1)
-loaded_session setup outset (Err e) now d t is nobody first reads runs after with = let none : ⊥ = cc in absurd none
+loaded_session : (setup : SetupState) (outset : Outset) (o : DiskWorld) (read : Result (List ℕ) RecoverFault) (now : Bool × Rules) (d : DaemonState) (t : DiskWorld) → IsOutset setup outset → outset.access ≡ [] → HoldsRules setup o → RunsDisk MemKeeps o recovering read t → StartsAfter read (Ok now) → StartsWithRules outset now d → IsSession setup outset.first o d t
+loaded_session setup outset o (Ok got) now d t is nobody on runs after with =
+    let r = read_whole o (Ok got) t runs in
+    let has : HasRulesOf (rules_text_of setup.rules) now.1 = subst (λ (x : List ℕ). HasRulesOf x now.1) (r.0 ∙ on.text) after.1 in
+    let policy : policy_at outset now.1 ≡ policy_of setup = is now.1 (holds_rules setup.rules (rules_text_of setup.rules) now.1 on.reads has) in
+    let new : IsStarted (policy_of setup) outset.first d = subst (λ (p : Judging). IsStarted p outset.first d) policy with.started in
+    (started_is (policy_of setup) outset.first d new (with.access ∙ nobody), r.1)
+loaded_session setup outset o (Err e) now d t is nobody on runs after with = let none : ⊥ = cc in absurd none
 
-from_loads : (setup : SetupState) (outset : Outset) (faults : DiskWorld → ℕ) (loaded : Result (Bool × Rules) StartFault) (d : DaemonState) (t : DiskWorld) → IsOutset setup outset → outset.access ≡ [] → outset.first ≡ 1 → file_read (rules_text_of setup.rules) ≡ Ok setup.rules → Loads MemKeeps disk_told faults (world_at_first (rules_text_of setup.rules)) loaded t → StartsFrom outset loaded (Ok d) → IsSession setup d t
-from_loads setup outset faults (Ok now) d t is nobody first reads loads starts = loaded_session setup outset loads.read now d t is nobody first reads loads.runs loads.starts starts
-from_loads setup outset faults (Err e) d t is nobody first reads loads starts = let none : ⊥ = cc in absurd none
+from_loads : (setup : SetupState) (outset : Outset) (faults : DiskWorld → ℕ) (o : DiskWorld) (loaded : Result (Bool × Rules) StartFault) (d : DaemonState) (t : DiskWorld) → IsOutset setup outset → outset.access ≡ [] → HoldsRules setup o → Loads MemKeeps disk_told faults o loaded t → StartsFrom outset loaded (Ok d) → IsSession setup outset.first o d t
+from_loads setup outset faults o (Ok now) d t is nobody on loads starts = loaded_session setup outset o loads.read now d t is nobody on loads.runs loads.starts starts
+from_loads setup outset faults o (Err e) d t is nobody on loads starts = let none : ⊥ = cc in absurd none
 
 -- what a start sees of the settings, the clock and the words is what the setup lines gave
 outset_is : (setup : SetupState) (outset : Outset) → outset.classes ≡ (policy_of setup).classes → outset.clock ≡ (policy_of setup).clock → outset.words ≡ (policy_of setup).stream → IsOutset setup outset
@@ -128,7 +153,47 @@ outset_is setup outset classes clock words list h =
     ∙ ap (λ (es : List RuleEntry). record (policy_of setup) { rules = es; next = list.next }) h.entries
     ∙ ap (λ (n : ℕ). record (policy_of setup) { next = n }) h.next
 
-pub starts_session : (setup : SetupState) (outset : Outset) (faults : DiskWorld → ℕ) (o : DiskWorld) (d : DaemonState) (t : DiskWorld) → outset.classes ≡ (policy_of setup).classes → outset.clock ≡ (policy_of setup).clock → outset.words ≡ (policy_of setup).stream → outset.access ≡ [] → outset.first ≡ 1 → file_read (rules_text_of setup.rules) ≡ Ok setup.rules → o ≡ world_at_first (rules_text_of setup.rules) → Starts MemKeeps disk_told faults outset o (Ok d) t → IsSession setup d t
-starts_session setup outset faults o d t classes clock words nobody first reads on h =
-    let k : Starts MemKeeps disk_told faults outset (world_at_first (rules_text_of setup.rules)) (Ok d) t = subst (λ (x : DiskWorld). Starts MemKeeps disk_told faults outset x (Ok d) t) on h in
-    from_loads setup outset faults k.loaded d t (outset_is setup outset classes clock words) nobody first reads k.loads k.starts
+pub starts_session : (setup : SetupState) (outset : Outset) (faults : DiskWorld → ℕ) (o : DiskWorld) (d : DaemonState) (t : DiskWorld) → outset.classes ≡ (policy_of setup).classes → outset.clock ≡ (policy_of setup).clock → outset.words ≡ (policy_of setup).stream → outset.access ≡ [] → HoldsRules setup o → Starts MemKeeps disk_told faults outset o (Ok d) t → IsSession setup outset.first o d t
+starts_session setup outset faults o d t classes clock words nobody on h = from_loads setup outset faults o h.loaded d t (outset_is setup outset classes clock words) nobody on h.loads h.starts
+
+-- ---- a start that is refused
+
+long_not : (setup : SetupState) → fits_file setup ≡ true → file_limit < length (rules_text_of setup.rules) → ⊥
+long_not setup fits long =
+    let le : length (rules_text_of setup.rules) ≤ rules_limit = grind (arith, nat_tests, fits) in
+    omega (arith, le, long)
+
+refused_text : (setup : SetupState) (o : DiskWorld) (e : StartFault) → HoldsRules setup o → length setup.rules ≤ 65536 → StartsWith (rules_text_of setup.rules) (Err e) → IsWantOfMemory e
+refused_text setup o (fault.Disk count) on few h = tt
+refused_text setup o (fault.BadRules bad) on few h =
+    let same : Ok setup.rules ≡ Err bad = sym on.reads ∙ h in
+    let none : ⊥ = cc in none
+refused_text setup o fault.TooLong on few h =
+    let same : h.rules ≡ setup.rules = same_rules setup.rules h.rules (file_read (rules_text_of setup.rules)) on.reads h.reads in
+    long_not setup on.fits (subst (λ (rs : List Rule). file_limit < length (rules_text_of rs)) same h.long)
+refused_text setup o fault.TooMany on few h =
+    let same : h.0 ≡ setup.rules = same_rules setup.rules h.0 (file_read (rules_text_of setup.rules)) on.reads h.1 in
+    let many : 65536 < length setup.rules = subst (λ (rs : List Rule). 65536 < length rs) same h.2 in
+    omega (arith, few, many)
+refused_text setup o fault.Memory on few h = tt
+
+refused_reading : (setup : SetupState) (o t : DiskWorld) (g : RecoverFault) → HoldsRules setup o → GivesText o.disk.text (after_reading o) (Err g) t → IsWantOfMemory (fault_of_recovery g)
+refused_reading setup o t (recover.Failed count) on h = tt
+refused_reading setup o t recover.TooLong on h = long_not setup on.fits (subst (λ (x : List ℕ). file_limit < length x) on.text h)
+refused_reading setup o t recover.Memory on h = tt
+
+refused_after : (setup : SetupState) (o t : DiskWorld) (read : Result (List ℕ) RecoverFault) (e : StartFault) → HoldsRules setup o → length setup.rules ≤ 65536 → GivesText o.disk.text (after_reading o) read t → StartsAfter read (Err e) → IsWantOfMemory e
+refused_after setup o t (Ok got) e on few gives h = refused_text setup o e on few (subst (λ (x : List ℕ). StartsWith x (Err e)) (gives.0 ∙ on.text) h)
+refused_after setup o t (Err g) e on few gives h =
+    let same : e ≡ fault_of_recovery g = cc in
+    subst IsWantOfMemory (sym same) (refused_reading setup o t g on gives)
+
+refused_loading : (setup : SetupState) (outset : Outset) (faults : DiskWorld → ℕ) (o : DiskWorld) (loaded : Result (Bool × Rules) StartFault) (e : StartFault) (t : DiskWorld) → HoldsRules setup o → length setup.rules ≤ 65536 → Loads MemKeeps disk_told faults o loaded t → StartsFrom outset loaded (Err e) → IsWantOfMemory e
+refused_loading setup outset faults o (Ok now) e t on few loads h = subst IsWantOfMemory (sym h) tt
+refused_loading setup outset faults o (Err f) e t on few loads h =
+    let same : e ≡ f = cc in
+    subst IsWantOfMemory (sym same) (refused_after setup o t loads.read f on few (read_whole o loads.read t loads.runs) loads.starts)
+
+-- a start from a disk with the rules of a setup is refused for nothing else
+pub start_refused : (setup : SetupState) (outset : Outset) (faults : DiskWorld → ℕ) (o : DiskWorld) (e : StartFault) (t : DiskWorld) → HoldsRules setup o → length setup.rules ≤ 65536 → Starts MemKeeps disk_told faults outset o (Err e) t → IsWantOfMemory e
+start_refused setup outset faults o e t on few h = refused_loading setup outset faults o h.loaded e t on few h.loads h.starts

@@ -1,5 +1,6 @@
 -- What each line of a script asks for.
 use Rattle.std.specs.Prelude.{ℕ, ℤ, ◌+◌, ◌-◌, Bool, true, false, ◌||◌, nat_eq, if◌then◌else◌, List, length, take, drop, Option, Some, None, Result, Ok, Err, codes}
+use Rattle.std.specs.Cmp.Lexicographic.{pointwise}
 use Rattle.std.specs.List.{starts_with, ends_with, position}
 use Rattle.ug_types.specs.declared.rule.Rule as types
 use Rattle.ug_rule.specs.declared.fault.Fault.{Fault}
@@ -127,6 +128,7 @@ first_of (Some step) other = Some step
 unfoldable pub step_of_line : List ℕ → Option Step
 step_of_line line =
     if nat_eq (length line) 0 || starts_with nat_eq line (codes "#") then Some step.Skip
+    else if pointwise nat_eq line (codes "restart") then Some step.Restart
     else first_of (in_move (move_of line)) (first_of (in_plan (plan_of line)) (first_of (in_event (event_of line)) (in_setup (setup_of line))))
 
 -- the rule that is asked for, if one is, is the rule of some line

@@ -4,10 +4,11 @@ use Rattle.ug_types.specs.declared.verdict.Moment.{Moment}
 use Rattle.ug_kernel.specs.declared.device.Device.{Device}
 use Rattle.ug_kernel.specs.Kernel.{Kernel, Live}
 use Rattle.ug_sysfs.specs.World.{World}
+use Rattle.ug_audit.specs.declared.entry.Entry.{Entry}
 use Rattle.ug_play.specs.Play.{NameNobody}
 use Rattle.ug_conf.specs.Texts.{conf_read}
 use Rattle.ug_core.specs.Chain.{Happened, Chain, journal, IsRun, IsJudgedOnce}
-use Rattle.ug_core.specs.Event.{has_numbers}
+use Rattle.ug_core.specs.Event.{DaemonState, has_numbers}
 use Rattle.ug_core.specs.Policy.{Judging}
 use Rattle.ug_core.specs.Rulings.{Ruling, after_rulings, judgements_for, words_for}
 use Rattle.ug_core.specs.Verdicts.{IsLater}
@@ -20,10 +21,11 @@ use Rattle.ug_store.specs.History.{HoldsOnly}
 use Rattle.ug_store.specs.Scripted.{disk_told}
 use Rattle.ug_console.specs.Fold.{Outcome, Writes, Refused, Going, plays}
 use Rattle.ug_script.specs.declared.step.Step.{Step}
-use Rattle.ug_script.specs.declared.step.Step.TheVariants.{Schedule, Event}
+use Rattle.ug_script.specs.declared.step.Step.TheVariants.{Schedule, Event, Restart}
 use Rattle.ug_script.specs.Grammar.{step_of_line}
-use Rattle.ug_script.specs.Replay.{Script, can_start, daemon_in, disk_in, event_of, lines_text, script_step}
-use Rattle.ug_script.specs.Setup.{steps_of, conf_asked, rule_asked, IsSetup, started}
+use Rattle.ug_script.specs.Script.{Script, can_start, daemon_in, disk_in}
+use Rattle.ug_script.specs.Replay.{event_of, lines_text, script_step}
+use Rattle.ug_script.specs.Setup.{steps_of, conf_asked, rule_asked, IsSetup, started_at}
 
 -- an event of that moment, with what is scheduled for it
 abbrev pub happened_at : Moment → Script → World → Happened
@@ -47,19 +49,74 @@ abbrev pub happens_by : Option Step → Script → World → List Happened
 happens_by (Some (Event event)) s w = happens_at event s w
 happens_by step s w = []
 
-abbrev pub happens : Option Script × World → List ℕ → List Happened
-happens (None, w) line = []
-happens (Some s, w) line = happens_by (step_of_line line) s w
-
 -- where a line leads
 abbrev pub left_by : {M : Type 0} → Outcome M → M
 left_by (Writes text next) = next
 left_by (Refused fault next) = next
 
--- the events of lines, in order
-abbrev pub happened : Option Script × World → List (List ℕ) → List Happened
-happened p [] = []
-happened p (line ∷ lines) = happens p line ++ happened (left_by (script_step p line)) lines
+-- the events of lines, in the runs of the daemon: those of each run that a `restart` ended, and those since the last start
+pub record EventsOfRuns : Type 0 where
+  pub ended : List (List Happened)
+  pub last : List Happened
+
+abbrev pub no_events : EventsOfRuns
+no_events = record { ended = []; last = [] }
+
+abbrev pub with_events : List Happened → EventsOfRuns → EventsOfRuns
+with_events hs runs = record runs { last = runs.last ++ hs }
+
+-- what a step adds
+abbrev pub runs_by : Option Step → Script → World → EventsOfRuns → EventsOfRuns
+runs_by (Some Restart) s w runs = record { ended = runs.ended ++ runs.last ∷ []; last = [] }
+runs_by step s w runs = with_events (happens_by step s w) runs
+
+abbrev pub runs_with : Option Script × World → List ℕ → EventsOfRuns → EventsOfRuns
+runs_with (None, w) line runs = runs
+runs_with (Some s, w) line runs = runs_by (step_of_line line) s w runs
+
+-- what lines add, one after another
+abbrev pub runs_after : EventsOfRuns → Option Script × World → List (List ℕ) → EventsOfRuns
+runs_after runs p [] = runs
+runs_after runs p (line ∷ lines) = runs_after (runs_with p line runs) (left_by (script_step p line)) lines
+
+abbrev pub runs_in : World → List (List ℕ) → EventsOfRuns
+runs_in first lines = runs_after no_events (None, first) lines
+
+-- the entries of runs, one after another
+abbrev pub journals : List (List Happened) → List Entry
+journals [] = []
+journals (hs ∷ runs) = journal hs ++ journals runs
+
+abbrev pub journal_of : EventsOfRuns → List Entry
+journal_of runs = journals runs.ended ++ journal runs.last
+
+-- A run of the daemon from its start: it began with that policy and no device, and its first event has that number. Its rule file held
+-- that text, and a crash left no other. Its events are a chain from there, over the kernel as it was at the start, with all that this
+-- says of each write and of the file.
+pub record IsDaemonRun (policy : Judging) (text : List ℕ) (number : ℕ) (first : Kernel) (hs : List Happened) (k : Kernel) (p : Option Disk) (e : DaemonState) : Type 0 where
+  pub file : Disk
+  pub holds : HoldsOnly text file
+  pub chain : Chain first (Some file) (started_at number policy) hs k p e
+  pub run : IsRun policy first (Some file) hs k p e
+
+-- a run that was ended, where it came to
+pub record EndedRun (policy : Judging) (text : List ℕ) (number : ℕ) (first : Kernel) (hs : List Happened) : Type 0 where
+  pub kernel : Kernel
+  pub disk : Option Disk
+  pub daemon : DaemonState
+  pub is : IsDaemonRun policy text number first hs kernel disk daemon
+
+-- runs one after another, each over the kernel that the one before came to, and with the number of the event that was next then
+abbrev pub AreSuccessive : Judging → List ℕ → ℕ → Kernel → List (List Happened) → ℕ → Kernel → Type 0
+AreSuccessive policy text number first [] next l = (next ≡ number) × (l ≡ first)
+AreSuccessive policy text number first (hs ∷ runs) next l = (r : EndedRun policy text number first hs) × AreSuccessive policy text r.daemon.event r.kernel runs next l
+
+-- all runs of a script: those that were ended, one after another from the first kernel and number 1, and the last one
+pub record AreDaemonRuns (policy : Judging) (text : List ℕ) (first : Kernel) (runs : EventsOfRuns) (k : Kernel) (p : Option Disk) (e : DaemonState) : Type 0 where
+  pub number : ℕ
+  pub kernel : Kernel
+  pub ended : AreSuccessive policy text 1 first runs.ended number kernel
+  pub last : IsDaemonRun policy text number kernel runs.last k p e
 
 -- each device that is live at the end of that event was judged just once since the first kernel, and stands as judged
 pub record JudgesOnce (policy : Judging) (first : Kernel) (file : Disk) (hs : List Happened) (h : Happened) : Type 0 where
@@ -76,22 +133,19 @@ AreQuiet [] = Unit {0}
 AreQuiet (step ∷ steps) = (is_quiet step ≡ true) × AreQuiet steps
 
 -- Wherever lines have led: the setup lines gave a policy, of which rulings leave what has taken just their words, and whose histories
--- stand for just their judgements; its settings are those of each text whose lines are those of the `conf` lines; and a file holds the canonical
--- text of its rules, and a crash leaves no other. The events of the lines are a chain from the daemon that started with it, over that file,
--- with all that this says of each write and of the file; and what was written is the text of their entries. Where no move was scheduled
--- and no call was to fail, nobody is named as unsettled, and after an event that comes next each live device was judged just once and stands as judged.
+-- stand for just their judgements; and its settings are those of each text whose lines are those of the `conf` lines. The events of the
+-- lines are those of runs of the daemon, of which each began with this policy over a file with the canonical text of its rules; and what
+-- was written is the text of the entries of all. Where no move was scheduled and no call was to fail, nobody is named as unsettled, and
+-- after an event that comes next each live device was judged just once since the last start and stands as judged.
 pub record Recorded (first : World) (lines : List (List ℕ)) (text : List ℕ) (s : Script) (w : World) : Type 0 where
   pub policy : Judging
   pub setup : IsSetup (steps_of lines) policy
   pub settings : (whole : List ℕ) → lines_of whole ≡ flat_map conf_asked (steps_of lines) → conf_read whole ≡ Ok setup.draft.settings
   pub later : (rulings : List Ruling) → IsLater policy (words_for policy rulings) (judgements_for policy rulings) (after_rulings policy rulings)
-  pub file : Disk
-  pub holds : HoldsOnly (rules_text_of (flat_map rule_asked (steps_of lines))) file
-  pub chain : Chain first.kernel (Some file) (started policy) (happened (None, first) lines) w.kernel (disk_told (disk_in s)) (daemon_in s)
-  pub run : IsRun policy first.kernel (Some file) (happened (None, first) lines) w.kernel (disk_told (disk_in s)) (daemon_in s)
-  pub written : text ≡ lines_text (journal (happened (None, first) lines))
-  pub nobody : AreQuiet (steps_of lines) → first.fails ≡ [] → NameNobody (journal (happened (None, first) lines))
-  pub once : AreQuiet (steps_of lines) → first.fails ≡ [] → first.moves ≡ [] → (moment : Moment) → JudgesOnce policy first.kernel file (happened (None, first) lines) (happened_at moment s w)
+  pub runs : AreDaemonRuns policy (rules_text_of (flat_map rule_asked (steps_of lines))) first.kernel (runs_in first lines) w.kernel (disk_told (disk_in s)) (daemon_in s)
+  pub written : text ≡ lines_text (journal_of (runs_in first lines))
+  pub nobody : AreQuiet (steps_of lines) → first.fails ≡ [] → NameNobody (journal_of (runs_in first lines))
+  pub once : AreQuiet (steps_of lines) → first.fails ≡ [] → first.moves ≡ [] → (moment : Moment) → JudgesOnce policy runs.kernel runs.last.file (runs_in first lines).last (happened_at moment s w)
 
 -- the same of all lines
 abbrev pub StaysRecorded : World → Type 0

@@ -9,8 +9,10 @@ use Rattle.ug_table.specs.Parts.{unsettled_names}
 use Rattle.ug_play.specs.Play.{tells_memory}
 use Rattle.ug_core.specs.Event.{has_numbers, ready}
 use Rattle.ug_core.specs.Laws.{Handled, TellsEvent}
+use Rattle.ug_store.specs.Scripted.{forgetting}
 use Rattle.ug_console.specs.Fold.{Going, plays}
-use Rattle.ug_script.specs.Replay.{Script, daemon_in, disk_in, event_of, script_step}
+use Rattle.ug_script.specs.Script.{Script, daemon_in, disk_in}
+use Rattle.ug_script.specs.Replay.{event_of, script_step}
 use Rattle.ug_script.specs.Setup.{rules_disk}
 
 abbrev pub Begins : World → World → Type 0
@@ -29,14 +31,14 @@ pub record IsLawfulEvent (moment : Moment) (s : Script) (w : World) : Type 0 whe
   pub room : tells_memory (event_of moment s w).0.sweep.entries ≡ false
 
 -- The kernel is sound and each standing of the daemon, or of the one that an event would start, is of one of its devices; and so is an
--- event, if one comes next. No save is pending, and the disk is as the start left it. And where the first world had no fault, the
+-- event, if one comes next. No save is pending, and the disk is as the start left it, but for what a crash might have left in calls that are past. And where the first world had no fault, the
 -- numbers leave room for one, so that the line of an event is never bad.
 pub record IsLawful (first : World) (s : Script) (w : World) : Type 0 where
   pub sound : IsKernel w.kernel
   pub stand : Stand w.kernel (daemon_in s).sweep.standings (daemon_in s).sweep.next
   pub events : (moment : Moment) → IsLawfulEvent moment s w
   pub pending : (daemon_in s).pending ≡ false
-  pub disk : disk_in s ≡ rules_disk s.setup
+  pub disk : forgetting (disk_in s) ≡ forgetting (rules_disk s.setup)
   pub numbers : first.faults ≡ 0 → has_numbers (daemon_in s) w.faults 0 ≡ true
 
 -- wherever lines lead from a world without a daemon

@@ -2,6 +2,7 @@ pub mod Grammar
 pub mod Plugs
 pub mod Words
 pub mod Setup
+pub mod Script
 pub mod Replay
 pub mod Laws
 pub mod Journal

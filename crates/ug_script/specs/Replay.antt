@@ -1,5 +1,5 @@
 -- What each line of a script writes, and what it leaves.
-use Rattle.std.specs.Prelude.{◌≡◌, ℕ, ◌-◌, Bool, true, false, nat_eq, nat_le, if◌then◌else◌, List, [], ◌∷◌, ◌++◌, length, codes, decimal, Option, Some, None, Result, Ok, Err, flat_map}
+use Rattle.std.specs.Prelude.{◌≡◌, ℕ, ◌+◌, ◌-◌, true, false, nat_eq, if◌then◌else◌, List, [], ◌∷◌, ◌++◌, codes, decimal, Option, Some, None, Result, Ok, Err, flat_map}
 use Rattle.std.specs.Cmp.Lexicographic.{pointwise}
 use Rattle.ug_types.specs.declared.verdict.Moment.{Moment}
 use Rattle.ug_kernel.specs.declared.device.Device.{Device}
@@ -8,16 +8,16 @@ use Rattle.ug_sysfs.specs.World.{World, begun, moved, over}
 use Rattle.ug_audit.specs.declared.entry.Entry.{Entry}
 use Rattle.ug_audit.specs.Lines.{entry_line}
 use Rattle.ug_play.specs.Play.{play, tells_memory}
-use Rattle.ug_print.specs.RuleTexts.{rules_limit, rules_text_of}
-use Rattle.ug_store.specs.Scripted.{DiskWorld}
-use Rattle.ug_core.specs.Event.{DaemonState, daemon_of, handling, has_numbers, ready}
+use Rattle.ug_core.specs.Event.{DaemonState, handling, has_numbers, ready}
 use Rattle.ug_core.specs.declared.daemon.Event.{Event}
 use Rattle.ug_core.specs.declared.daemon.Event.TheVariants.{Sweep}
-use Rattle.ug_console.specs.Fold.{Outcome, Writes, Refused, BadLine, InputTooLong}
+use Rattle.ug_console.specs.Fold.{Outcome, Writes, Refused, BadLine, InputTooLong, is_within}
+use Rattle.ug_console.specs.Runs.{Steps}
+use Rattle.ug_console.specs.declared.machine.Ran.{Ran}
+use Rattle.ug_console.specs.declared.machine.Ran.TheVariants as ran
+use Rattle.ug_script.specs.declared.interpreter.Interpreter.{Interpreter}
 use Rattle.ug_script.specs.declared.runner.Runner.{Runner}
-use Rattle.ug_script.specs.declared.running.Running.{Running}
-use Rattle.ug_script.specs.declared.running.Phase as running
-use Rattle.ug_script.specs.declared.running.Phase.TheVariants as at
+use Rattle.ug_script.specs.declared.progress.Running.{Running}
 use Rattle.ug_script.specs.declared.step.Plan.{Plan}
 use Rattle.ug_script.specs.declared.step.Plan.TheVariants as plan
 use Rattle.ug_script.specs.declared.step.SetupLine.{SetupLine}
@@ -26,23 +26,8 @@ use Rattle.ug_script.specs.declared.step.Step.TheVariants as step
 use Rattle.ug_script.specs.declared.step.StepFault.{StepFault}
 use Rattle.ug_script.specs.declared.step.StepFault.TheVariants.{Bad, Memory}
 use Rattle.ug_script.specs.Grammar.{step_of_line}
-use Rattle.ug_script.specs.Setup.{SetupState, no_setup, one_line_more, policy_of, rules_disk, started}
-
--- how far a script has come: lines of setup may still come; none may, and no event came; or the daemon was started from its disk
-pub data Phase : Type 0 where
-  SettingUp : Phase
-  Unstarted : Phase
-  Started : DaemonState → DiskWorld → Phase
-
--- A script whose first line was read: what the setup lines gave, and how far it has come.
-pub record Script : Type 0 where
-  pub setup : SetupState
-  pub phase : Phase
-
-abbrev pub phase_of : running.Phase → Phase
-phase_of at.SettingUp = SettingUp
-phase_of at.Unstarted = Unstarted
-phase_of (at.Started session) = Started (daemon_of session.daemon) session.disk
+use Rattle.ug_script.specs.Script.{Script, Started, takes_setup, with_setup_closed, daemon_in, disk_in, can_start, fresh, phase_of}
+use Rattle.ug_script.specs.Setup.{SetupState, one_line_more, after_reading, policy_of, started_at}
 
 abbrev pub script_of : Running → Script
 script_of r = record { setup = r.setup; phase = phase_of r.phase }
@@ -51,58 +36,8 @@ abbrev pub script_in : Option Running → Option Script
 script_in None = None
 script_in (Some r) = Some (script_of r)
 
-abbrev pub runner_state : Runner → Option Script
-runner_state runner = script_in runner.running
-
-abbrev pub fresh : Script
-fresh = record { setup = no_setup; phase = SettingUp }
-
-abbrev pub takes_setup : Phase → Bool
-takes_setup SettingUp = true
-takes_setup Unstarted = false
-takes_setup (Started d disk) = false
-
-abbrev pub has_started : Phase → Bool
-has_started SettingUp = false
-has_started Unstarted = false
-has_started (Started d disk) = true
-
-abbrev pub closed_phase : Phase → Phase
-closed_phase SettingUp = Unstarted
-closed_phase Unstarted = Unstarted
-closed_phase (Started d disk) = Started d disk
-
--- no line of setup may come any more
-abbrev pub with_setup_closed : Script → Script
-with_setup_closed s = record s { phase = closed_phase s.phase }
-
--- the daemon, or the one that an event would start
-abbrev pub daemon_by : SetupState → Phase → DaemonState
-daemon_by setup SettingUp = started (policy_of setup)
-daemon_by setup Unstarted = started (policy_of setup)
-daemon_by setup (Started d disk) = d
-
-abbrev pub daemon_in : Script → DaemonState
-daemon_in s = daemon_by s.setup s.phase
-
--- its disk
-abbrev pub disk_by : SetupState → Phase → DiskWorld
-disk_by setup SettingUp = rules_disk setup
-disk_by setup Unstarted = rules_disk setup
-disk_by setup (Started d disk) = disk
-
-abbrev pub disk_in : Script → DiskWorld
-disk_in s = disk_by s.setup s.phase
-
--- a rule file has room for the rules
-abbrev pub fits_file : SetupState → Bool
-fits_file setup = nat_le (length (rules_text_of setup.rules)) rules_limit
-
--- a daemon was started, or can be
-abbrev pub can_start : SetupState → Phase → Bool
-can_start setup SettingUp = fits_file setup
-can_start setup Unstarted = fits_file setup
-can_start setup (Started d disk) = true
+abbrev pub interpreter_state : Interpreter → Option Script
+interpreter_state interpreter = script_in interpreter.running
 
 unfoldable pub header : List ℕ
 header = codes "usbguard-replay 1"
@@ -183,6 +118,18 @@ event_taken (Sweep moment) s w =
     if can_start s.setup s.phase then in_script s (event_by moment (daemon_in s) w)
     else Refused InputTooLong (Some s, w)
 
+-- ---- a new daemon
+
+-- The rule file still holds the rules: nothing was saved. The new daemon reads it again, judges by the policy of the setup lines, with
+-- no histories and with the words of the seed from the first one on, knows no device, and counts its devices from 1. The numbers of
+-- events go on. The kernel, its open files and what is scheduled for the next event stay as they are.
+abbrev pub with_restart : Script → Script
+with_restart s = record s { phase = Started (started_at (daemon_in s).event (policy_of s.setup)) (after_reading (disk_in s)) }
+
+-- the first daemon is started before, if none was
+abbrev pub restart_taken : Script → World → Outcome (Option Script × World)
+restart_taken s w = if can_start s.setup s.phase then quiet (with_restart s) w else Refused InputTooLong (Some s, w)
+
 -- ---- all lines
 
 abbrev pub taken : Step → Script → World → Outcome (Option Script × World)
@@ -191,6 +138,7 @@ taken (step.Setup line) s w = line_taken line s w
 taken (step.Move action) s w = quiet (with_setup_closed s) (with_devices (moved action w.kernel.devices) w)
 taken (step.Schedule plan) s w = quiet (with_setup_closed s) (planned plan w)
 taken (step.Event event) s w = event_taken event s w
+taken step.Restart s w = restart_taken s w
 
 abbrev pub taken_if : Option Step → Script → World → Outcome (Option Script × World)
 taken_if None s w = bad s w
@@ -211,6 +159,35 @@ done_line events = codes "done " ++ decimal events ++ 10 ∷ []
 abbrev pub script_end : Option Script → Option (List ℕ)
 script_end None = None
 script_end (Some s) = Some (done_line ((daemon_in s).event - 1))
+
+-- ---- single lines
+
+-- a script that is run by single lines: how many were taken, and how the last call ended
+pub record RunnerState : Type 0 where
+  pub script : Option Script
+  pub lines : ℕ
+  pub so_far : Ran
+
+abbrev pub runner_state : Runner → RunnerState
+runner_state r = record { script = interpreter_state r.interpreter; lines = r.lines; so_far = r.so_far }
+
+-- what a line comes to behind so many lines; one that is past a limit may not stand there
+abbrev pub step_behind : ℕ → Option Script × World → List ℕ → Outcome (Option Script × World)
+step_behind n p line = if is_within n line then script_step p line else Refused BadLine p
+
+-- one line more was taken, unless it was refused or there was a fault
+abbrev pub lines_after : Ran → ℕ → ℕ
+lines_after ran.Done n = n + 1
+lines_after ran.Bad n = n
+lines_after ran.TooLong n = n
+lines_after ran.SinkFailed n = n
+lines_after ran.Memory n = n
+
+-- a line was taken as it stands there, and how that ended is kept
+pub record TakesLine (r : RunnerState) (w : World) (line : List ℕ) (before after : Option (List ℕ)) (answer : Ran) (s : RunnerState) (v : World) : Type 0 where
+  pub steps : Steps (step_behind r.lines (r.script, w) line) (s.script, v) before after answer
+  pub lines : s.lines ≡ lines_after answer r.lines
+  pub kept : s.so_far ≡ answer
 
 -- what a first line leads to
 abbrev pub Begins : List ℕ → Result Running StepFault → Type 0

@@ -18,7 +18,7 @@ use Rattle.ug_core.specs.Policy.{Judging}
 use Rattle.ug_core.specs.Event.{DaemonState}
 use Rattle.ug_print.specs.RuleTexts.{rules_text_of}
 use Rattle.ug_store.specs.DiskCalls.{Load}
-use Rattle.ug_store.specs.Scripted.{DiskWorld, disk_answer, world_at_first}
+use Rattle.ug_store.specs.Scripted.{DiskWorld, past_within, world_at_first}
 use Rattle.ug_script.specs.declared.step.SetupLine.{SetupLine}
 use Rattle.ug_script.specs.declared.step.SetupLine.TheVariants.{Rule, Conf, Seed, Zone}
 use Rattle.ug_script.specs.declared.step.Step.{Step}
@@ -109,13 +109,21 @@ policy_of s = record {
   stream = seeded (given_or no_seed s.seed);
 }
 
+-- a disk behind a reading of its rule file: the moment within that call is past
+abbrev pub after_reading : DiskWorld → DiskWorld
+after_reading o = record o { disk = past_within Load o.disk }
+
 -- the disk whose rule file holds the canonical text of the rules, behind the reading of it
 abbrev pub rules_disk : SetupState → DiskWorld
-rules_disk s = (disk_answer (world_at_first (rules_text_of s.rules)) Load).1
+rules_disk s = after_reading (world_at_first (rules_text_of s.rules))
 
--- the daemon that judges by a policy, before its first event, which is number 1. Nobody may do anything, and no save is pending.
+-- the daemon that judges by a policy, before its first event, which has that number. Nobody may do anything, and no save is pending.
+abbrev pub started_at : ℕ → Judging → DaemonState
+started_at number policy = record { sweep = record { standings = []; next = 1; listed = false; judge = policy; entries = [] }; access = []; pending = false; event = number }
+
+-- the first one, whose events are numbered from 1
 abbrev pub started : Judging → DaemonState
-started policy = record { sweep = record { standings = []; next = 1; listed = false; judge = policy; entries = [] }; access = []; pending = false; event = 1 }
+started policy = started_at 1 policy
 
 -- ---- what lines ask for
 

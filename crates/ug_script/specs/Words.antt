@@ -3,6 +3,7 @@ use Rattle.std.specs.Prelude.{◌≡◌, ℕ, ◌+◌, ◌-◌, ◌*◌, ℤ, po
 use Rattle.std.specs.List.{fold}
 use Rattle.hex.specs.Hex.{decode_of, decode_sized}
 use Rattle.hex.specs.declared.error.FromHexError.{FromHexError}
+use Rattle.ug_decimals.specs.Numbers.{number_in}
 use Rattle.ug_types.specs.Reading.{after, ends_name}
 use Rattle.ug_types.specs.declared.reading.Reading.{Reading}
 use Rattle.ug_types.specs.declared.reading.Reading.TheVariants.{Start}
@@ -25,20 +26,13 @@ is_whole (Some reading) = ends_name reading
 unfoldable pub name_of : List ℕ → Option (List ℕ)
 name_of text = if is_whole (reading_of text) && nat_le (length text) 31 then Some text else None
 
--- one more decimal digit, up to the limit
-abbrev pub with_digit : Option ℕ → ℕ → Option ℕ
-with_digit None b = None
-with_digit (Some n) b = if nat_le 48 b && nat_le b 57 && nat_le (n * 10 + (b - 48)) 250000000000 then Some (n * 10 + (b - 48)) else None
-
-abbrev pub number_of : List ℕ → Option ℕ
-number_of digits = fold with_digit (Some 0) digits
+abbrev pub moment_in : Option ℕ → Option ℕ
+moment_in None = None
+moment_in (Some n) = if nat_le n 250000000000 then Some n else None
 
 -- a decimal number without sign or leading zero, up to the limit
 unfoldable pub moment_of : List ℕ → Option ℕ
-moment_of text =
-    if nat_eq (length text) 0 then None
-    else if nat_eq (get_or text 0 0) 48 then if nat_eq (length text) 1 then Some 0 else None
-    else number_of text
+moment_of text = moment_in (number_in text)
 
 abbrev pub call_in : Option ℕ → Option ℕ
 call_in None = None

@@ -2,11 +2,13 @@
 #![tactic(auto)]
 
 mod events;
+mod interpreter;
 mod laws;
 mod move_lines;
 mod parse;
 mod plan_lines;
 mod plugs;
+mod progress;
 mod runner;
 mod running;
 mod session;
@@ -17,10 +19,8 @@ mod step;
 mod text;
 mod words;
 
+pub use interpreter::Interpreter;
 pub use laws::{script_law, words_law, worked_law};
 pub use parse::parse_line;
 pub use runner::Runner;
 pub use step::{Plan, SetupLine, Step, StepFault};
-
-#[cfg(test)]
-mod parse_tests;

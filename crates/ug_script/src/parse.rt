@@ -59,7 +59,7 @@ fn plan_or_other(alloc: Global, line: &[u8]) -> Result<Step, StepFault>
 }
 
 /// Reads a line that is not the first. An empty line and a comment are skipped. `plug` and `unplug` tell what the kernel does by
-/// itself; `before`, `after` and `fail` speak of a call of the next event; `sweep` is an event; `rule`, `conf`, `seed` and `zone`
+/// itself; `before`, `after` and `fail` speak of a call of the next event; `sweep` is an event; `restart` begins another run of the daemon; `rule`, `conf`, `seed` and `zone`
 /// stand before all others.
 #[tactic(auto, unfolding(crate::specs::Grammar::step_of_line))]
 pub fn parse_line(alloc: Global, line: &[u8]) -> Result<Step, StepFault>
@@ -67,6 +67,9 @@ pub fn parse_line(alloc: Global, line: &[u8]) -> Result<Step, StepFault>
 {
     if line.is_empty() || line.starts_with(b"#") {
         return Ok(Step::Skip);
+    }
+    if line == b"restart".as_slice() {
+        return Ok(Step::Restart);
     }
     match move_line(alloc, line) {
         Ok(action) => Ok(Step::Move(action)),

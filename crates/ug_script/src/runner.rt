@@ -1,92 +1,99 @@
-// The machine that takes a script's lines.
-ghost use Rattle.std.specs.Prelude.{◌≡◌, Option, None};
-ghost use Rattle.ug_script.specs.Replay.{Begins, Script, done_line, runner_state, script_step, script_end};
+// The run of a script by single lines.
+ghost use Rattle.std.specs.Prelude.{◌≡◌, ◌≢◌, ◌≤◌, None};
+ghost use Rattle.ug_types.specs.Ends.{Rose};
+ghost use Rattle.ug_console.specs.Runs.{Closes};
+ghost use Rattle.ug_script.specs.Replay.{TakesLine, runner_state, script_end};
 
-use crate::running::Running;
-use crate::step::StepFault;
-use crate::text::put;
-use itoa::Buffer;
+use crate::interpreter::Interpreter;
 use std::alloc::Global;
-use ug_console::{Machine, Ran};
+use ug_console::{Machine, Ran, is_within};
 use ug_sysfs::SimKernel;
-use ug_types::{Line, Sink};
+use ug_types::Sink;
 
-/// The run of a script, over the kernel that it is lent.
+/// The run of a script whose lines are handed to it one by one, without their newlines. It takes 1,048,576 lines of at most
+/// 1,048,576 bytes. After an answer other than `Done` each later call gives the same answer and changes nothing.
 #[derive(Drop)]
 pub struct Runner {
-    running: Option<Running>,
+    alloc: Global,
+    interpreter: Interpreter,
+    lines: u64,
+    so_far: Ran,
 }
 
 impl Runner {
     /// No line was taken. It takes no memory.
-    pub fn new() -> Runner
-        ensures { runner_state result ≡ None }
+    pub fn new(alloc: Global) -> Runner
+        ensures { runner_state result ≡ record { script = None; lines = 0; so_far = Ran.Done } }
     {
-        Runner { running: None }
-    }
-}
-
-/// The first line is the header, behind which the daemon starts.
-#[tactic(auto, unfolding(crate::specs::Replay::header))]
-fn begin(alloc: Global, line: &[u8]) -> Result<Running, StepFault>
-    ensures { Begins line.now result }
-{
-    if line != b"usbguard-replay 1".as_slice() {
-        return Err(StepFault::Bad);
-    }
-    match Running::start(alloc) {
-        Ok(running) => Ok(running),
-        Err(_) => Err(StepFault::Memory),
-    }
-}
-
-/// The last line, which tells the number of events.
-fn done(events: u64) -> Line
-    ensures { result ≡ done_line events }
-{
-    let mut line = Line::new();
-    let mut digits = Buffer::new();
-    line.push(b"done ");
-    line.push(digits.format(events).as_bytes());
-    line.push(b"\n");
-    line
-}
-
-impl Machine<SimKernel> for Runner {
-    ghost State = { Option Script };
-
-    ghost state = { runner_state };
-
-    ghost step_of = { script_step };
-
-    ghost closing = { script_end };
-
-    ghost keeps = { λ m w. Unit {0} };
-
-    fn step<K: Sink>(
-        &mut self,
-        alloc: Global,
-        world: &mut SimKernel,
-        line: &[u8],
-        out: &mut K,
-    ) -> Ran {
-        if let Some(running) = &mut self.running {
-            return running.line(alloc, line, world, out);
+        Runner {
+            alloc,
+            interpreter: Interpreter::new(),
+            lines: 0,
+            so_far: Ran::Done,
         }
-        match begin(alloc, line) {
-            Ok(running) => {
-                self.running = Some(running);
-                Ran::Done
+    }
+
+    fn take<K: Sink>(&mut self, kernel: &mut SimKernel, line: &[u8], out: &mut K) -> Ran
+        requires { self.old.so_far ≡ Ran.Done }
+        ensures taken { TakesLine (runner_state self.old) kernel.old line.now
+            (K.held out.old) (K.held out.new) result (runner_state self.new) kernel.new }
+        ensures counted { K.faults out.old ≤ K.faults out.new }
+        ensures cause { result ≡ Ran.SinkFailed → Rose (K.faults out.old) (K.faults out.new) }
+    {
+        if !is_within(self.lines, line) {
+            self.so_far = Ran::Bad;
+            return Ran::Bad;
+        }
+        let ran = self.interpreter.step(self.alloc, kernel, line, out);
+        self.so_far = ran;
+        if matches!(ran, Ran::Done) {
+            self.lines += 1;
+        }
+        ran
+    }
+
+    /// Takes the next line, and writes what it adds to the output. The first call is given a new kernel, and each later one
+    /// the same kernel.
+    pub fn step<K: Sink>(&mut self, kernel: &mut SimKernel, line: &[u8], out: &mut K) -> Ran
+        ensures taken { (runner_state self.old).so_far ≡ Ran.Done
+            → TakesLine (runner_state self.old) kernel.old line.now
+            (K.held out.old) (K.held out.new) result (runner_state self.new) kernel.new }
+        ensures counted { K.faults out.old ≤ K.faults out.new }
+        ensures cause { (runner_state self.old).so_far ≡ Ran.Done → result ≡ Ran.SinkFailed
+            → Rose (K.faults out.old) (K.faults out.new) }
+
+        ensures ended { (runner_state self.old).so_far ≢ Ran.Done
+            → result ≡ (runner_state self.old).so_far }
+        ensures unchanged { (runner_state self.old).so_far ≢ Ran.Done → self.new ≡ self.old }
+        ensures unmoved { (runner_state self.old).so_far ≢ Ran.Done → kernel.new ≡ kernel.old }
+        ensures unwritten { (runner_state self.old).so_far ≢ Ran.Done → out.new ≡ out.old }
+    {
+        if matches!(self.so_far, Ran::Done) {
+            self.take(kernel, line, out)
+        } else {
+            self.so_far
+        }
+    }
+
+    /// Writes the last line, which tells the number of events. It is `Bad` where no line was taken.
+    pub fn finish<K: Sink>(&mut self, out: &mut K) -> Ran
+        ensures closed { (runner_state self.old).so_far ≡ Ran.Done
+            → Closes (script_end (runner_state self.old).script) (K.held out.old) (K.held out.new) result }
+        ensures counted { K.faults out.old ≤ K.faults out.new }
+        ensures cause { (runner_state self.old).so_far ≡ Ran.Done → result ≡ Ran.SinkFailed
+            → Rose (K.faults out.old) (K.faults out.new) }
+        ensures kept { runner_state self.new ≡ record (runner_state self.old) { so_far = result } }
+
+        ensures ended { (runner_state self.old).so_far ≢ Ran.Done
+            → result ≡ (runner_state self.old).so_far }
+        ensures unwritten { (runner_state self.old).so_far ≢ Ran.Done → out.new ≡ out.old }
+    {
+        match self.so_far {
+            Ran::Done => {
+                self.so_far = self.interpreter.close(out);
+                self.so_far
             }
-            Err(StepFault::Bad) => Ran::Bad,
-            Err(StepFault::Memory) => Ran::Memory,
-        }
-    }
-
-    fn finish<K: Sink>(&self, out: &mut K) -> Ran {
-        match &self.running {
-            None => Ran::Bad,
-            Some(running) => put(out, done(running.events()).bytes()),
+            other => other,
         }
     }
 }

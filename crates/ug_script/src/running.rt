@@ -1,44 +1,30 @@
 // A script whose first line was read.
-ghost use Rattle.std.specs.Prelude.{◌≡◌, ◌≤◌, ◌-◌, ℕ, false, List, Option, Some, IfOk, OnOk};
+ghost use Rattle.std.specs.Prelude.{◌≡◌, ◌⊎◌, ◌≤◌, ◌-◌, ℕ, false, List, Option, Some, IfOk, OnOk};
 ghost use Rattle.ug_types.specs.Ends.{Rose};
 ghost use Rattle.ug_console.specs.Runs.{Steps};
 ghost use Rattle.ug_sysfs.specs.World.{World};
 ghost use Rattle.ug_script.specs.Grammar.{AsksForRule, AsksForRules, step_of_line};
 ghost use Rattle.ug_script.specs.Replay as replay;
-ghost use Rattle.ug_script.specs.Replay.{daemon_in, event_taken, fresh, line_taken, phase_of, script_of, taken, taken_if, with_setup_closed};
+ghost use Rattle.ug_script.specs.Script as script;
+ghost use Rattle.ug_script.specs.Script.{HoldsRules, daemon_in, fresh, phase_of, with_setup_closed};
+ghost use Rattle.ug_script.specs.Replay.{event_taken, line_taken, restart_taken, script_of, taken, taken_if, with_restart};
 
 use crate::events::next_event;
 use crate::parse::parse_line;
+use crate::progress::{Phase, Running};
 use crate::session::Session;
 use crate::setup::Setup;
-use crate::start::{NoStart, start_daemon};
+use crate::start::{NoStart, restart_daemon, start_daemon};
 use crate::step::{Plan, SetupLine, Step, StepFault};
 use std::alloc::Global;
+use std::mem;
 use ug_console::Ran;
 use ug_core::Event;
 use ug_sysfs::SimKernel;
 use ug_types::{NoMemory, Sink};
 
-/// How far a script has come.
-#[derive(Drop)]
-pub enum Phase {
-    /// Lines of setup may still come.
-    SettingUp,
-    /// None may, and no event came.
-    Unstarted,
-    /// The first event started the daemon.
-    Started(Session),
-}
-
-/// What the setup lines gave, and how far the script has come.
-#[derive(Drop)]
-pub struct Running {
-    pub setup: Setup,
-    pub phase: Phase,
-}
-
 fn takes_setup(phase: &Phase) -> bool
-    ensures { result ≡ replay.takes_setup (phase_of phase.now) }
+    ensures { result ≡ script.takes_setup (phase_of phase.now) }
 {
     matches!(phase, Phase::SettingUp)
 }
@@ -112,7 +98,7 @@ impl Running {
         kernel: &mut SimKernel,
         out: &mut K,
     ) -> Ran
-        requires { replay.has_started (phase_of self.old.phase) ≡ false }
+        requires { script.has_started (phase_of self.old.phase) ≡ false }
         ensures ran { Steps (event_taken event.now (script_of self.old) kernel.old)
             (Some (script_of self.new), kernel.new) (K.held out.old) (K.held out.new) result }
         ensures counted { K.faults out.old ≤ K.faults out.new }
@@ -127,6 +113,51 @@ impl Running {
             }
             Err(NoStart::TooLong) => Ran::TooLong,
             Err(NoStart::Memory) => Ran::Memory,
+        }
+    }
+
+    /// Another daemon in place of that one.
+    fn restart_from(&mut self, alloc: Global, session: Session) -> Ran
+        requires unstarted { script.has_started (phase_of self.old.phase) ≡ false }
+        requires rules { HoldsRules self.old.setup session.disk }
+        ensures done { result ≡ Ran.Done → script_of self.new ≡ with_restart (record (script_of self.old) { phase = phase_of (Phase.Started session) }) }
+        ensures answers { (result ≡ Ran.Done) ⊎ (result ≡ Ran.Memory) }
+    {
+        match restart_daemon(alloc, &self.setup, session) {
+            Ok(session) => {
+                self.phase = Phase::Started(session);
+                Ran::Done
+            }
+            Err(_) => Ran::Memory,
+        }
+    }
+
+    /// Starts the first daemon, and then another in its place.
+    fn first_restart(&mut self, alloc: Global) -> Ran
+        requires { script.has_started (phase_of self.old.phase) ≡ false }
+        ensures silent { ¬ (result ≡ Ran.SinkFailed) }
+        ensures ran { (w : World) (held : Option (List ℕ)) → Steps (restart_taken (script_of self.old) w)
+            (Some (script_of self.new), w) held held result }
+    {
+        match start_daemon(alloc, &self.setup) {
+            Ok(session) => self.restart_from(alloc, session),
+            Err(NoStart::TooLong) => Ran::TooLong,
+            Err(NoStart::Memory) => Ran::Memory,
+        }
+    }
+
+    /// Another daemon over the same disk, in place of the one that there is, or of the first one.
+    fn restart(&mut self, alloc: Global) -> Ran
+        ensures silent { ¬ (result ≡ Ran.SinkFailed) }
+        ensures ran { (w : World) (held : Option (List ℕ)) → Steps (restart_taken (script_of self.old) w)
+            (Some (script_of self.new), w) held held result }
+    {
+        match mem::replace(&mut self.phase, Phase::Unstarted) {
+            Phase::Started(session) => self.restart_from(alloc, session),
+            other => {
+                self.phase = other;
+                self.first_restart(alloc)
+            }
         }
     }
 
@@ -200,6 +231,7 @@ impl Running {
                 }
             }
             Step::Event(event) => self.event(alloc, &event, kernel, out),
+            Step::Restart => self.restart(alloc),
         }
     }
 }

@@ -1,13 +1,13 @@
-// The daemon that a script's first event starts.
-ghost use Rattle.std.specs.Prelude.{◌≡◌, pos, true, false, Err, Ok, IfOk, IfSome, IsTrue, OnOk};
+// The daemons that a script starts.
+ghost use Rattle.std.specs.Prelude.{◌≡◌, ◌≤◌, length, pos, true, false, Err, Ok, IfOk, IfSome, IsTrue, OnOk};
 ghost use Rattle.ug_core.specs.Event.{daemon_of};
 ghost use Rattle.ug_core.specs.Policy.{clock_of};
 ghost use Rattle.ug_core.specs.Settings.{classes_of};
 ghost use Rattle.ug_rule.specs.Files.{file_read};
 ghost use Rattle.ug_store.specs.Scripted.{world_at_first};
 ghost use Rattle.ug_print.specs.RuleTexts.{rules_text_of};
-ghost use Rattle.ug_script.specs.Replay.{fits_file};
-ghost use Rattle.ug_script.specs.Setup.{clock_ahead, given_or, is_offset, no_seed, policy_of, rules_disk, started};
+ghost use Rattle.ug_script.specs.Script.{HoldsRules, IsWantOfMemory, fits_file};
+ghost use Rattle.ug_script.specs.Setup.{after_reading, clock_ahead, given_or, is_offset, no_seed, policy_of, rules_disk, started, started_at};
 
 use crate::session::Session;
 use crate::setup::Setup;
@@ -17,7 +17,7 @@ use rand_core::{Rng, SeedableRng};
 use std::alloc::Global;
 use ug_acl::Acl;
 use ug_conf::{Settings, default_settings};
-use ug_core::Daemon;
+use ug_core::{Daemon, StartFault};
 use ug_print::{RulesTextFault, rules_text};
 use ug_store::MemDisk;
 use ug_types::NoMemory;
@@ -105,20 +105,49 @@ fn disk_of(alloc: Global, setup: &Setup) -> Result<MemDisk, NoStart>
     }
 }
 
-/// The daemon that reads its rules from that disk.
-fn start_on(alloc: Global, setup: &Setup, disk: MemDisk) -> Result<Session, NoMemory>
-    requires disk { disk ≡ world_at_first (rules_text_of setup.now.rules) }
-    requires reads { file_read (rules_text_of setup.now.rules) ≡ Ok setup.now.rules }
-    ensures daemon { IfOk result (λ s. daemon_of s.daemon ≡ started (policy_of setup.now)) }
-    ensures disk { IfOk result (λ s. s.disk ≡ rules_disk setup.now) }
+/// A disk in memory fails only where an entry of its calls finds no memory.
+fn want_of_memory(fault: StartFault) -> NoMemory
+    requires { IsWantOfMemory fault }
 {
+    match fault {
+        StartFault::Disk(_) | StartFault::Memory => NoMemory,
+        StartFault::BadRules(_) | StartFault::TooLong | StartFault::TooMany => unreachable!(),
+    }
+}
+
+/// Whether the rules are no more than a daemon takes, as those of a setup are.
+fn are_few(setup: &Setup) -> bool
+    ensures few { length setup.now.rules ≤ 65536 }
+    ensures is { result ≡ true }
+{
+    setup.rules.len() <= 65_536
+}
+
+/// A daemon that reads its rules from that disk, whose first event has that number.
+fn start_on(alloc: Global, setup: &Setup, first: u64, disk: MemDisk) -> Result<Session, NoMemory>
+    requires rules { HoldsRules setup.now disk }
+    requires faultless { disk.faults ≡ 0 }
+    ensures daemon { IfOk result (λ s. daemon_of s.daemon
+        ≡ started_at first (policy_of setup.now)) }
+    ensures disk { IfOk result (λ s. s.disk ≡ after_reading disk) }
+{
+    let few = are_few(setup);
+    prove!(few);
     let settings = settings_of(alloc, setup)?;
     let rng = rng_for(setup);
     let zone = zone_for(setup);
     let mut disk = disk;
-    match Daemon::start(alloc, settings, Acl::new(alloc), rng, zone, 1, &mut disk) {
+    match Daemon::start(
+        alloc,
+        settings,
+        Acl::new(alloc),
+        rng,
+        zone,
+        first,
+        &mut disk,
+    ) {
         Ok(daemon) => Ok(Session { daemon, disk }),
-        Err(_) => Err(NoMemory),
+        Err(fault) => Err(want_of_memory(fault)),
     }
 }
 
@@ -126,12 +155,23 @@ fn start_on(alloc: Global, setup: &Setup, disk: MemDisk) -> Result<Session, NoMe
 pub fn start_daemon(alloc: Global, setup: &Setup) -> Result<Session, NoStart>
     ensures daemon { IfOk result (λ s. daemon_of s.daemon ≡ started (policy_of setup.now)) }
     ensures disk { IfOk result (λ s. s.disk ≡ rules_disk setup.now) }
-    ensures fits { OnOk result (fits_file setup.now ≡ true) }
+    ensures rules { OnOk result (HoldsRules setup.now (rules_disk setup.now)) }
     ensures too_long { result ≡ Err NoStart.TooLong → fits_file setup.now ≡ false }
 {
     let disk = disk_of(alloc, setup)?;
-    match start_on(alloc, setup, disk) {
+    match start_on(alloc, setup, 1, disk) {
         Ok(session) => Ok(session),
         Err(_) => Err(NoStart::Memory),
     }
+}
+
+/// A new daemon over the same disk, whose first event has the number that the daemon before would have given it.
+pub fn restart_daemon(alloc: Global, setup: &Setup, session: Session) -> Result<Session, NoMemory>
+    requires { HoldsRules setup.now session.disk }
+    ensures daemon { IfOk result (λ s. daemon_of s.daemon
+        ≡ started_at (daemon_of session.daemon).event (policy_of setup.now)) }
+    ensures disk { IfOk result (λ s. s.disk ≡ after_reading session.disk) }
+{
+    let first = session.daemon.next_event();
+    start_on(alloc, setup, first, session.disk)
 }

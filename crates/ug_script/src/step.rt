@@ -35,6 +35,8 @@ pub enum Step {
     Move(Move),
     Schedule(Plan),
     Event(Event),
+    /// A new daemon over the same disk and kernel.
+    Restart,
 }
 
 /// Why a line gives no step, or may not stand there.

@@ -1,10 +1,11 @@
 // Names, numbers and hexadecimal words of a script's lines.
 ghost use Rattle.std.specs.Prelude.{◌≡◌, Some, nat_eq};
 ghost use Rattle.std.specs.List.{position};
-ghost use Rattle.ug_script.specs.Words.{name_of, with_digit, number_of, moment_of, bytes_of, Parses};
+ghost use Rattle.ug_script.specs.Words.{name_of, moment_of, bytes_of, Parses};
 
 use crate::step::StepFault;
 use std::alloc::Global;
+use ug_decimals::parse_decimal;
 use ug_types::{NodeName, Text};
 
 /// A node name of at most 31 bytes.
@@ -17,52 +18,21 @@ pub fn name(text: &[u8]) -> Option<NodeName>
     }
 }
 
-/// The number with one more digit, up to the limit of a moment.
-fn digit_onto(number: u64, byte: u8) -> Option<u64>
-    ensures { result ≡ with_digit (Some number) byte }
-{
-    if byte < b'0' {
-        return None;
-    }
-    if byte > b'9' {
-        return None;
-    }
-    if number > 250_000_000_000 {
-        return None;
-    }
-    let longer = number * 10 + u64::from(byte - b'0');
-    if longer > 250_000_000_000 {
-        return None;
-    }
-    Some(longer)
-}
-
-/// The number that the digits write.
-fn number(digits: &[u8]) -> Option<u64>
-    ensures { result ≡ number_of digits.now }
-{
-    let mut number: u64 = 0;
-    for byte in digits {
-        match digit_onto(number, *byte) {
-            Some(longer) => number = longer,
-            None => return None,
-        }
-    }
-    Some(number)
-}
-
 /// A decimal number without sign or leading zero, up to 250,000,000,000.
 #[tactic(auto, unfolding(crate::specs::Words::moment_of))]
 pub fn moment(text: &[u8]) -> Option<u64>
     ensures { result ≡ moment_of text.now }
 {
-    if text.is_empty() {
-        return None;
+    match parse_decimal(text) {
+        Some(number) => {
+            if number <= 250_000_000_000 {
+                Some(number)
+            } else {
+                None
+            }
+        }
+        None => None,
     }
-    if text[0] == b'0' {
-        return if text.len() == 1 { Some(0) } else { None };
-    }
-    number(text)
 }
 
 /// Where the first space is.

@@ -19,7 +19,7 @@ fn words<'a>(alloc: Global, case: &'a Case, word: &'a str) -> Result<Vec<&'a str
     Ok(words)
 }
 
-fn numbers(alloc: Global, case: &Case, key: &[u8]) -> Result<Vec<u64>, NoMemory> {
+pub fn numbers(alloc: Global, case: &Case, key: &[u8]) -> Result<Vec<u64>, NoMemory> {
     let mut numbers = Vec::new(alloc);
     let line = case.setting(key).unwrap_or(&[]);
     for part in line.split(|byte| *byte == b' ') {

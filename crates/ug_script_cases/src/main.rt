@@ -4,6 +4,7 @@
 mod calls;
 mod commands;
 mod each_call;
+mod single_lines;
 
 use std::alloc::Global;
 use std::io;
@@ -26,6 +27,7 @@ impl Teller for Cases {
             "read-descriptor" => commands::tell_tool(alloc, "read-descriptor", case),
             "read-descriptor-counts" => commands::count_tool(alloc, "read-descriptor", case),
             "tool" => commands::tell_tool(alloc, "", case),
+            "single-lines" => single_lines::tell(alloc, case),
             "each-call" => each_call::tell(alloc, case),
             "each-two-calls" => each_call::tell_pairs(alloc, case),
             _ => Ok(Vec::from_slice(alloc, b"no such kind")?),

@@ -1,3 +1,4 @@
 pub mod Noted
 pub mod Running
 pub mod Served
+pub mod Refused

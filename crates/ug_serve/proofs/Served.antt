@@ -1,6 +1,8 @@
 -- From a start and its turns to the whole run.
-use Rattle.std.proofs.Common.{◌≡◌, ℕ, List, [], ◌++◌, Option, Some, Ok, Err, refl, sym, subst}
+use Rattle.std.proofs.Common.{◌≡◌, ℕ, List, [], ◌∷◌, ◌++◌, length, Option, Some, None, Ok, Err, inl, inr, refl, sym, subst, arith}
+use Rattle.std.specs.Prelude.{◌↔◌}
 use Rattle.rand_core.specs.Stream.{Stream}
+use Rattle.ug_types.specs.Elements.{Has}
 use Rattle.ug_types.specs.declared.verdict.Moment.{Moment}
 use Rattle.ug_types.specs.Waits.{Waited}
 use Rattle.ug_conf.specs.Files.{FileStep}
@@ -9,43 +11,152 @@ use Rattle.ug_store.specs.Disk.{Disk}
 use Rattle.ug_kernel.specs.Calls.{Call, Answer}
 use Rattle.ug_kernel.specs.Kernel.{Kernel}
 use Rattle.ug_audit.specs.declared.entry.Entry.{Entry}
-use Rattle.ug_audit.specs.Noting.{NotesEntries}
+use Rattle.ug_audit.specs.Noting.{without_drops}
 use Rattle.ug_audit.proofs.Noting.{notes_on}
 use Rattle.ug_audit.specs.Panels.{Member}
 use Rattle.ug_core.specs.Event.{DaemonState}
 use Rattle.ug_serve.specs.Lines.{AreNoted}
 use Rattle.ug_serve.specs.Opening.{start_status, refusal_entries, Opens}
-use Rattle.ug_serve.specs.Serving.{Serves, No_room, Not_started, Served, turns_status}
+use Rattle.ug_serve.specs.Serving.{Serves, Bad_words, No_room, Not_started, Served, TellsRefusal, RunsDaemon, turns_status, daemon_statuses}
 use Rattle.ug_serve.specs.Turns.{Turned, turns_entries, Objects, objects, ServesTurns}
 use Rattle.ug_serve.specs.declared.not_started.NotStarted.{NotStarted}
-use Rattle.ug_serve.specs.declared.not_started.NotStarted.TheVariants.{Memory}
+use Rattle.ug_serve.specs.declared.not_started.NotStarted.TheVariants as why
 use Rattle.ug_serve.specs.declared.turn.TurnEnd.{TurnEnd}
+use Rattle.ug_serve.specs.declared.turn.TurnEnd.TheVariants as end
 use Rattle.ug_serve.proofs.Noted.{both_noted}
 use Rattle.ug_serve.proofs.Running.{serves_noted}
 
+-- ---- the statuses
+
+is_start_status : (fault : NotStarted) → Has daemon_statuses (start_status fault)
+is_start_status (why.Refused part bad) = inr (inr (inl refl))
+is_start_status why.FilesFailed = inr (inr (inr (inl refl)))
+is_start_status why.Memory = inr (inr (inr (inr (inl refl))))
+is_start_status why.DiskFailed = inr (inr (inr (inr (inr (inl refl)))))
+
+is_turns_status : (ended : TurnEnd) → Has daemon_statuses (turns_status ended)
+is_turns_status end.Done = inl refl
+is_turns_status end.Numbers = inr (inr (inr (inr (inr (inr (inl refl))))))
+is_turns_status end.WaitFailed = inr (inr (inr (inr (inr (inr (inr (inl refl)))))))
+
+start_not_one : (fault : NotStarted) → start_status fault ≡ 1 → ⊥
+start_not_one (why.Refused part bad) e = omega (arith, e)
+start_not_one why.FilesFailed e = omega (arith, e)
+start_not_one why.Memory e = omega (arith, e)
+start_not_one why.DiskFailed e = omega (arith, e)
+
+turns_not_one : (ended : TurnEnd) → turns_status ended ≡ 1 → ⊥
+turns_not_one end.Done e = omega (arith, e)
+turns_not_one end.Numbers e = omega (arith, e)
+turns_not_one end.WaitFailed e = omega (arith, e)
+
+start_not_zero : (fault : NotStarted) → start_status fault ≡ 0 → ⊥
+start_not_zero (why.Refused part bad) e = omega (arith, e)
+start_not_zero why.FilesFailed e = omega (arith, e)
+start_not_zero why.Memory e = omega (arith, e)
+start_not_zero why.DiskFailed e = omega (arith, e)
+
+pub turns_not_three : (ended : TurnEnd) → turns_status ended ≡ 3 → ⊥
+turns_not_three end.Done e = omega (arith, e)
+turns_not_three end.Numbers e = omega (arith, e)
+turns_not_three end.WaitFailed e = omega (arith, e)
+
+tells_refusal : (fault : NotStarted) (noted journal : List Entry) → without_drops journal ≡ noted ++ refusal_entries fault → start_status fault ≡ 3 → TellsRefusal journal
+tells_refusal (why.Refused part bad) noted journal all e = (noted, part, bad, all)
+tells_refusal why.FilesFailed noted journal all e = absurd (omega (arith, e))
+tells_refusal why.Memory noted journal all e = absurd (omega (arith, e))
+tells_refusal why.DiskFailed noted journal all e = absurd (omega (arith, e))
+
+-- none other than 0, 6 and 10, where words and texts are taken and nothing failed
+pub completes : (n : ℕ) → Has daemon_statuses n → (n ≡ 1 → ⊥) → (n ≡ 3 → ⊥) → (n ≡ 4 → ⊥) → (n ≡ 9 → ⊥) → (n ≡ 11 → ⊥) → Has (0 ∷ 6 ∷ 10 ∷ []) n
+completes n (inl e) one three four nine eleven = inl e
+completes n (inr (inl e)) one three four nine eleven = absurd (one (sym e))
+completes n (inr (inr (inl e))) one three four nine eleven = absurd (three (sym e))
+completes n (inr (inr (inr (inl e)))) one three four nine eleven = absurd (four (sym e))
+completes n (inr (inr (inr (inr (inl e))))) one three four nine eleven = inr (inl e)
+completes n (inr (inr (inr (inr (inr (inl e)))))) one three four nine eleven = absurd (nine (sym e))
+completes n (inr (inr (inr (inr (inr (inr (inl e))))))) one three four nine eleven = inr (inr (inl e))
+completes n (inr (inr (inr (inr (inr (inr (inr (inl e)))))))) one three four nine eleven = absurd (eleven (sym e))
+completes n (inr (inr (inr (inr (inr (inr (inr (inr e)))))))) one three four nine eleven = absurd e
+
 module _ {F Y D W C : Type 0} (reads : F → FileStep → F → Type 0) (begins : Y → Y → Type 0) (gives : Y → (call : Call) → Answer call → Y → Type 0) (told : Y → Option Kernel) (faults : Y → ℕ)
-    (keeps : D → (call : DiskCall) → DiskTold call → D → Type 0) (disk_told : D → Option Disk) (disk_faults : D → ℕ) (waits : W → Waited → W → Type 0) (clocks : C → Moment → C → Type 0)
-    (turns : ℕ) (clock : ℕ → ℕ) (words : Stream) (f : F) (s : Objects Y D W C) (path : List ℕ) where
-  abbrev pub Ends : ℕ → F → Objects Y D W C → Type 0
-  Ends status g t = (all : List Entry) × Serves reads begins gives told faults keeps disk_told disk_faults waits clocks turns clock words f s (Some path) all status g t × NotesEntries all s.members t.members
+    (keeps : D → (call : DiskCall) → DiskTold call → D → Type 0) (disk_told : D → Option Disk) (disk_faults : D → ℕ) (aimed : D → List ℕ → Type 0) (waits : W → Waited → W → Type 0) (clocks : C → Moment → C → Type 0)
+    (turns : ℕ) (clock : ℕ → ℕ) (words : Stream) (f : F) (s : Objects Y D W C) where
+  abbrev Done : Option (List ℕ) → List Entry → List Turned → ℕ → F → Objects Y D W C → Type 0
+  Done path journal made status g t = Serves reads begins gives told faults keeps disk_told disk_faults aimed waits clocks turns clock words f s path journal made status g t
 
-  pub ends_without_room : (status : ℕ) → status ≡ start_status Memory → Ends status f s
-  ends_without_room status is = subst (λ (n : ℕ). Ends n f s) (sym is) ([], No_room path, (refl, refl))
+  abbrev pub Runs : Option (List ℕ) → ℕ → F → Objects Y D W C → Type 0
+  Runs path status g t = RunsDaemon reads begins gives told faults keeps disk_told disk_faults aimed waits clocks turns clock words f s path status g t
 
-  pub ends_refused : (entries : List Entry) (fault : NotStarted) (g : F) (d : D) (ms ns : List Member) (status : ℕ)
-      → Opens reads keeps disk_told disk_faults path clock words f s.disk entries (Err fault) g d
+  -- ---- what follows from the cases
+
+  pub has_status : (path : Option (List ℕ)) (journal : List Entry) (made : List Turned) (status : ℕ) (g : F) (t : Objects Y D W C) → Done path journal made status g t → Has daemon_statuses status
+  has_status _ _ _ _ _ _ Bad_words = inr (inl refl)
+  has_status _ _ _ _ _ _ (No_room path) = is_start_status why.Memory
+  has_status _ _ _ _ _ _ (Not_started path entries fault journal g d ms opens all notes) = is_start_status fault
+  has_status _ _ _ _ _ _ (Served path entries first c g d ms made ended e t opens all notes serves) = is_turns_status ended
+
+  pub bad_words : (path : Option (List ℕ)) (journal : List Entry) (made : List Turned) (status : ℕ) (g : F) (t : Objects Y D W C) → Done path journal made status g t → (status ≡ 1) ↔ (path ≡ None)
+  bad_words _ _ _ _ _ _ Bad_words = (λ e. refl, λ e. refl)
+  bad_words _ _ _ _ _ _ (No_room path) = (λ e. absurd (start_not_one why.Memory e), λ e. let no : ⊥ = cc in absurd no)
+  bad_words _ _ _ _ _ _ (Not_started path entries fault journal g d ms opens all notes) = (λ e. absurd (start_not_one fault e), λ e. let no : ⊥ = cc in absurd no)
+  bad_words _ _ _ _ _ _ (Served path entries first c g d ms made ended e t opens all notes serves) = (λ h. absurd (turns_not_one ended h), λ h. let no : ⊥ = cc in absurd no)
+
+  all_turns : (c : DaemonState) (u : Objects Y D W C) (made : List Turned) (ended : TurnEnd) (e : DaemonState) (t : Objects Y D W C)
+      → ServesTurns begins gives told faults keeps disk_told disk_faults waits clocks turns c u made ended e t → turns_status ended ≡ 0 → length made ≡ turns
+  all_turns c u made end.Done e t h z = h.0
+  all_turns c u made end.Numbers e t h z = absurd (omega (arith, z))
+  all_turns c u made end.WaitFailed e t h z = absurd (omega (arith, z))
+
+  -- ---- the runs
+
+  pub runs_without_words : Runs None 1 f s
+  runs_without_words = record {
+    journal = [];
+    made = [];
+    serves = Bad_words;
+    noted = (refl, refl);
+    all_made = λ e. absurd (omega (arith, e));
+    told_refused = λ e. absurd (omega (arith, e));
+  }
+
+  pub runs_without_room : (path : List ℕ) (status : ℕ) → status ≡ start_status why.Memory → Runs (Some path) status f s
+  runs_without_room path status is = subst (λ (n : ℕ). Runs (Some path) n f s) (sym is) (record {
+    journal = [];
+    made = [];
+    serves = No_room path;
+    noted = (refl, refl);
+    all_made = λ e. absurd (omega (arith, e));
+    told_refused = λ e. absurd (omega (arith, e));
+  })
+
+  pub runs_refused : (path : List ℕ) (entries : List Entry) (fault : NotStarted) (g : F) (d : D) (ms ns : List Member) (status : ℕ)
+      → Opens reads keeps disk_told disk_faults aimed path clock words f s.disk entries (Err fault) g d
       → AreNoted entries s.members ms → AreNoted (refusal_entries fault) ms ns → status ≡ start_status fault
-      → Ends status g (objects s.sysfs d s.waiter s.clock ns)
-  ends_refused entries fault g d ms ns status starts noted refused is =
+      → Runs (Some path) status g (objects s.sysfs d s.waiter s.clock ns)
+  runs_refused path entries fault g d ms ns status opens noted refused is =
       let all = both_noted entries (refusal_entries fault) s.members ms ns noted refused in
-      subst (λ (n : ℕ). Ends n g (objects s.sysfs d s.waiter s.clock ns)) (sym is) (all.noted, Not_started path entries fault all.noted g d ns starts all.all all.notes, all.notes)
+      subst (λ (n : ℕ). Runs (Some path) n g (objects s.sysfs d s.waiter s.clock ns)) (sym is) (record {
+        journal = all.noted;
+        made = [];
+        serves = Not_started path entries fault all.noted g d ns opens all.all all.notes;
+        noted = all.notes;
+        all_made = λ e. absurd (start_not_zero fault e);
+        told_refused = tells_refusal fault entries all.noted all.all;
+      })
 
-  pub ends_served : (entries : List Entry) (c : DaemonState) (g : F) (d : D) (ms : List Member) (made : List Turned) (ended : TurnEnd) (e : DaemonState) (t : Objects Y D W C) (status : ℕ)
-      → Opens reads keeps disk_told disk_faults path clock words f s.disk entries (Ok c) g d
+  pub runs_served : (path : List ℕ) (entries : List Entry) (c : DaemonState) (g : F) (d : D) (ms : List Member) (made : List Turned) (ended : TurnEnd) (e : DaemonState) (t : Objects Y D W C) (status : ℕ)
+      → Opens reads keeps disk_told disk_faults aimed path clock words f s.disk entries (Ok c) g d
       → AreNoted entries s.members ms
       → ServesTurns begins gives told faults keeps disk_told disk_faults waits clocks turns c (objects s.sysfs d s.waiter s.clock ms) made ended e t → status ≡ turns_status ended
-      → Ends status g t
-  ends_served entries c g d ms made ended e t status starts noted serves is =
+      → Runs (Some path) status g t
+  runs_served path entries c g d ms made ended e t status opens noted serves is =
       let later = serves_noted begins gives told faults keeps disk_told disk_faults waits clocks turns c (objects s.sysfs d s.waiter s.clock ms) made ended e t serves in
-      subst (λ (n : ℕ). Ends n g t) (sym is)
-      (noted.noted ++ turns_entries made, Served path entries noted.noted c g d ms made ended e t starts noted.all noted.notes serves, notes_on [] noted.noted (turns_entries made) s.members ms t.members [] [] noted.notes later)
+      subst (λ (n : ℕ). Runs (Some path) n g t) (sym is) (record {
+        journal = noted.noted ++ turns_entries made;
+        made = made;
+        serves = Served path entries noted.noted c g d ms made ended e t opens noted.all noted.notes serves;
+        noted = notes_on [] noted.noted (turns_entries made) s.members ms t.members [] [] noted.notes later;
+        all_made = all_turns c (objects s.sysfs d s.waiter s.clock ms) made ended e t serves;
+        told_refused = λ h. absurd (turns_not_three ended h);
+      })

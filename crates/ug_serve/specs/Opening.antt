@@ -102,19 +102,31 @@ abbrev pub with_cause : Result DaemonState StartFault → Result DaemonState Not
 with_cause (Ok d) = Ok d
 with_cause (Err e) = Err (refusal_of_rules e)
 
--- the disk is told which file is the rule file
-pub record IsAimed {D : Type 0} (told : D → Option Disk) (faults : D → ℕ) (s t : D) : Type 0 where
+-- the disk is what it was, but for the file that it is aimed at
+pub record IsSameDisk {D : Type 0} (told : D → Option Disk) (faults : D → ℕ) (s t : D) : Type 0 where
   pub same : told t ≡ told s
   pub counts : faults t ≡ faults s
 
+-- the disk's later calls are on the rule file at that path
+pub record IsAimed {D : Type 0} (told : D → Option Disk) (faults : D → ℕ) (aimed : D → List ℕ → Type 0) (path : List ℕ) (s t : D) : Type 0 where
+  pub disk : IsSameDisk told faults s t
+  pub at : aimed t path
+
 -- The steps of a start, of which the first that isn't done ends it: the settings are read; no session is to be served; the disk is aimed
--- at the rule file; and the daemon starts from it. The entries tell of the settings' lines that aren't used, once they are read.
-pub data Opens {F D : Type 0} (reads : F → FileStep → F → Type 0) (keeps : D → (call : DiskCall) → DiskTold call → D → Type 0) (told : D → Option Disk) (faults : D → ℕ) (path : List ℕ) (clock : ℕ → ℕ) (words : Stream) (f : F) (d : D)
+-- at the rule file that the settings name; and the daemon starts from it. The entries tell of the settings' lines that aren't used, once
+-- they are read.
+pub data Opens {F D : Type 0} (reads : F → FileStep → F → Type 0) (keeps : D → (call : DiskCall) → DiskTold call → D → Type 0) (told : D → Option Disk) (faults : D → ℕ) (aimed : D → List ℕ → Type 0)
+    (path : List ℕ) (clock : ℕ → ℕ) (words : Stream) (f : F) (d : D)
     : List Entry → Result DaemonState NotStarted → F → D → Type 0 where
-  Unread : (cause : NotStarted) (g : F) → ReadsSettings reads path f (Err cause) g → Opens reads keeps told faults path clock words f d [] (Err cause) g d
-  To_somebody : (settings : Settings) (cause : NotStarted) (g h : F) → ReadsSettings reads path f (Ok settings) g → OpensToNobody reads settings.users settings.access_folder g (Err cause) h
-      → Opens reads keeps told faults path clock words f d (unused_entries settings.unused) (Err cause) h d
-  Unaimed : (settings : Settings) (g h : F) (a : D) → ReadsSettings reads path f (Ok settings) g → OpensToNobody reads settings.users settings.access_folder g (Ok tt) h → IsAimed told faults d a
-      → Opens reads keeps told faults path clock words f d (unused_entries settings.unused) (Err why.Memory) h a
-  From_rules : (settings : Settings) (g h : F) (a b : D) (result : Result DaemonState StartFault) → ReadsSettings reads path f (Ok settings) g → OpensToNobody reads settings.users settings.access_folder g (Ok tt) h → IsAimed told faults d a
-      → Starts keeps told faults (outset_of settings clock words) a result b → Opens reads keeps told faults path clock words f d (unused_entries settings.unused) (with_cause result) h b
+  Unread : (cause : NotStarted) (g : F) → ReadsSettings reads path f (Err cause) g
+      → Opens reads keeps told faults aimed path clock words f d [] (Err cause) g d
+  To_somebody : (settings : Settings) (cause : NotStarted) (g h : F) → ReadsSettings reads path f (Ok settings) g
+      → OpensToNobody reads settings.users settings.access_folder g (Err cause) h
+      → Opens reads keeps told faults aimed path clock words f d (unused_entries settings.unused) (Err cause) h d
+  Unaimed : (settings : Settings) (g h : F) (a : D) → ReadsSettings reads path f (Ok settings) g
+      → OpensToNobody reads settings.users settings.access_folder g (Ok tt) h → IsSameDisk told faults d a
+      → Opens reads keeps told faults aimed path clock words f d (unused_entries settings.unused) (Err why.Memory) h a
+  From_rules : (settings : Settings) (g h : F) (a b : D) (result : Result DaemonState StartFault) → ReadsSettings reads path f (Ok settings) g
+      → OpensToNobody reads settings.users settings.access_folder g (Ok tt) h → IsAimed told faults aimed settings.rule_file d a
+      → Starts keeps told faults (outset_of settings clock words) a result b
+      → Opens reads keeps told faults aimed path clock words f d (unused_entries settings.unused) (with_cause result) h b

@@ -1,12 +1,12 @@
 // The top call of the daemon.
-ghost use Rattle.std.specs.Prelude.{◌≡◌, ◌≤◌, List, map, Some};
+ghost use Rattle.std.specs.Prelude.{◌≡◌, ◌↔◌, ◌≤◌, [], ◌∷◌, map, Some, None};
+ghost use Rattle.ug_types.specs.Elements.{Has};
 ghost use Rattle.ug_types.specs.Ends.{Rose};
 ghost use Rattle.ug_audit.specs.Journal.{members};
-ghost use Rattle.ug_audit.specs.Noting.{NotesEntries};
-ghost use Rattle.ug_audit.specs.declared.entry.Entry.{Entry};
 ghost use Rattle.ug_core.specs.Policy.{clock_of};
 ghost use Rattle.ug_serve.specs.Opening.{words_of_seed};
-ghost use Rattle.ug_serve.specs.Serving.{Serves, turns_status};
+ghost use Rattle.ug_serve.specs.Refusals.{IsStatusByTexts};
+ghost use Rattle.ug_serve.specs.Serving.{RunsDaemon, daemon_statuses, turns_status};
 ghost use Rattle.ug_serve.specs.Telling.{TurnsTell};
 ghost use Rattle.ug_serve.specs.Turns.{objects};
 ghost use Rattle.ug_serve.specs.Words.{conf_path};
@@ -50,15 +50,13 @@ fn serve_from<Y: Sysfs, D: RuleDisk, F: ConfFiles, W: Waiter, C: Clock>(
     turns: u64,
 ) -> u8
     requires { 65 ≤ entries.old.room }
-    ensures served { (journal : List Entry)
-        × Serves F.gives Y.begins Y.gives Y.told Y.faults D.keeps D.told D.faults W.gives C.gives turns
-        (clock_of zone.entry) (words_of_seed seed)
+    ensures runs { RunsDaemon F.gives Y.begins Y.gives Y.told Y.faults
+        D.keeps D.told D.faults D.aimed W.gives C.gives turns (clock_of zone.entry) (words_of_seed seed)
         files.old (objects sysfs.old disk.old waiter.old clock.old
-        (members (λ b. ⟦<dyn Auditor as Auditor>⟧ b.vtable) panel.old)) (Some path.now) journal result
+        (members (λ b. ⟦<dyn Auditor as Auditor>⟧ b.vtable) panel.old))
+        (Some path.now) result
         files.new (objects sysfs.new disk.new waiter.new clock.new
-        (members (λ b. ⟦<dyn Auditor as Auditor>⟧ b.vtable) panel.new))
-        × NotesEntries journal (members (λ b. ⟦<dyn Auditor as Auditor>⟧ b.vtable) panel.old)
-        (members (λ b. ⟦<dyn Auditor as Auditor>⟧ b.vtable) panel.new) }
+        (members (λ b. ⟦<dyn Auditor as Auditor>⟧ b.vtable) panel.new)) }
     ensures files_failed { result ≡ 4 → Rose (F.faults files.old) (F.faults files.new) }
     ensures disk_failed { result ≡ 9 → Rose (D.faults disk.old) (D.faults disk.new) }
     ensures wait_failed { result ≡ 11 → Rose (W.faults waiter.old) (W.faults waiter.new) }
@@ -95,15 +93,13 @@ fn serve<Y: Sysfs, D: RuleDisk, F: ConfFiles, W: Waiter, C: Clock>(
     panel: &mut Panel,
     turns: u64,
 ) -> u8
-    ensures served { (journal : List Entry)
-        × Serves F.gives Y.begins Y.gives Y.told Y.faults D.keeps D.told D.faults W.gives C.gives turns
-        (clock_of zone.entry) (words_of_seed seed)
+    ensures runs { RunsDaemon F.gives Y.begins Y.gives Y.told Y.faults
+        D.keeps D.told D.faults D.aimed W.gives C.gives turns (clock_of zone.entry) (words_of_seed seed)
         files.old (objects sysfs.old disk.old waiter.old clock.old
-        (members (λ b. ⟦<dyn Auditor as Auditor>⟧ b.vtable) panel.old)) (Some path.now) journal result
+        (members (λ b. ⟦<dyn Auditor as Auditor>⟧ b.vtable) panel.old))
+        (Some path.now) result
         files.new (objects sysfs.new disk.new waiter.new clock.new
-        (members (λ b. ⟦<dyn Auditor as Auditor>⟧ b.vtable) panel.new))
-        × NotesEntries journal (members (λ b. ⟦<dyn Auditor as Auditor>⟧ b.vtable) panel.old)
-        (members (λ b. ⟦<dyn Auditor as Auditor>⟧ b.vtable) panel.new) }
+        (members (λ b. ⟦<dyn Auditor as Auditor>⟧ b.vtable) panel.new)) }
     ensures files_failed { result ≡ 4 → Rose (F.faults files.old) (F.faults files.new) }
     ensures disk_failed { result ≡ 9 → Rose (D.faults disk.old) (D.faults disk.new) }
     ensures wait_failed { result ≡ 11 → Rose (W.faults waiter.old) (W.faults waiter.new) }
@@ -146,20 +142,29 @@ pub fn run_daemon<Y: Sysfs, D: RuleDisk, F: ConfFiles, W: Waiter, C: Clock>(
     panel: &mut Panel,
     turns: u64,
 ) -> u8
-    ensures served { (journal : List Entry)
-        × Serves F.gives Y.begins Y.gives Y.told Y.faults D.keeps D.told D.faults W.gives C.gives turns
-        (clock_of zone.entry) (words_of_seed seed)
+    ensures runs { RunsDaemon F.gives Y.begins Y.gives Y.told Y.faults
+        D.keeps D.told D.faults D.aimed W.gives C.gives turns (clock_of zone.entry) (words_of_seed seed)
         files.old (objects sysfs.old disk.old waiter.old clock.old
         (members (λ b. ⟦<dyn Auditor as Auditor>⟧ b.vtable) panel.old))
-        (conf_path (map (λ word. word.now) words.now)) journal result
+        (conf_path (map (λ word. word.now) words.now)) result
         files.new (objects sysfs.new disk.new waiter.new clock.new
-        (members (λ b. ⟦<dyn Auditor as Auditor>⟧ b.vtable) panel.new))
-        × NotesEntries journal (members (λ b. ⟦<dyn Auditor as Auditor>⟧ b.vtable) panel.old)
-        (members (λ b. ⟦<dyn Auditor as Auditor>⟧ b.vtable) panel.new) }
+        (members (λ b. ⟦<dyn Auditor as Auditor>⟧ b.vtable) panel.new)) }
+
+    ensures statuses { Has daemon_statuses result }
+    ensures bad_words { (result ≡ 1) ↔ (conf_path (map (λ word. word.now) words.now) ≡ None) }
+    ensures refused { IsStatusByTexts F.told D.told (conf_path (map (λ word. word.now) words.now))
+        disk.old result files.new disk.new }
+    ensures complete { ¬ (conf_path (map (λ word. word.now) words.now) ≡ None) → ¬ (result ≡ 3)
+        → ¬ (Rose (F.faults files.old) (F.faults files.new))
+        → ¬ (Rose (D.faults disk.old) (D.faults disk.new))
+        → ¬ (Rose (W.faults waiter.old) (W.faults waiter.new)) → Has (0 ∷ 6 ∷ 10 ∷ []) result }
+
     ensures files_failed { result ≡ 4 → Rose (F.faults files.old) (F.faults files.new) }
     ensures disk_failed { result ≡ 9 → Rose (D.faults disk.old) (D.faults disk.new) }
     ensures wait_failed { result ≡ 11 → Rose (W.faults waiter.old) (W.faults waiter.new) }
-    ensures carries { TurnsTell Y.begins Y.gives Y.told Y.faults D.keeps D.told D.faults W.gives C.gives W.told C.told }
+
+    ensures carries { TurnsTell Y.begins Y.gives Y.told Y.faults D.keeps D.told D.faults
+        W.gives C.gives W.told C.told }
 {
     match conf_path(words) {
         None => 1,

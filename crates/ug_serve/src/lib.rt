@@ -2,7 +2,6 @@
 #![tactic(auto)]
 
 mod daemon;
-mod handle;
 mod not_started;
 mod noting;
 mod settings;
@@ -12,6 +11,3 @@ mod words;
 
 pub use daemon::run_daemon;
 pub use turn::{TurnEnd, serve_turn};
-
-#[cfg(test)]
-mod tests;

@@ -32,7 +32,8 @@ fn start_daemon<'z, D: RuleDisk>(
     zone: TimeZone<'z>,
     disk: &mut D,
 ) -> Result<Daemon<'z, ChaCha20Rng>, StartFault>
-    ensures starts { Starts D.keeps D.told D.faults (outset_of settings (clock_of zone.entry) (words_of_seed seed))
+    ensures starts { Starts D.keeps D.told D.faults
+        (outset_of settings (clock_of zone.entry) (words_of_seed seed))
         disk.old (seen_by (λ d. daemon_of d) result) disk.new }
 {
     let rng = ChaCha20Rng::from_seed(seed);
@@ -54,7 +55,8 @@ pub fn start<'z, F: ConfFiles, D: RuleDisk>(
     requires { 65 ≤ entries.old.room }
     ensures room { entries.new.room ≡ entries.old.room }
     ensures starts { (told : List Entry)
-        × Opens F.gives D.keeps D.told D.faults path.now (clock_of zone.entry) (words_of_seed seed)
+        × Opens F.gives D.keeps D.told D.faults D.aimed path.now
+        (clock_of zone.entry) (words_of_seed seed)
         files.old disk.old told (seen_by (λ d. daemon_of d) result) files.new disk.new
         × AreNoted told (members (λ b. ⟦<dyn Auditor as Auditor>⟧ b.vtable) panel.old)
         (members (λ b. ⟦<dyn Auditor as Auditor>⟧ b.vtable) panel.new) }

@@ -5,7 +5,6 @@ ghost use Rattle.ug_audit.specs.Journal.{members};
 ghost use Rattle.ug_core.specs.Event.{daemon_of, has_numbers};
 ghost use Rattle.ug_serve.specs.Turns.{EndsTurn, ServesTurns, Turned, objects};
 
-use crate::handle::has_room;
 use rand_chacha::ChaCha20Rng;
 use std::alloc::Global;
 use ug_audit::{Auditor, Panel};
@@ -21,6 +20,13 @@ pub enum TurnEnd {
     /// The numbers leave no room for an event.
     Numbers,
     WaitFailed,
+}
+
+// Whether the numbers leave room for an event.
+fn has_room<Y: Sysfs, D: RuleDisk>(daemon: &Daemon<'_, ChaCha20Rng>, sysfs: &Y, disk: &D) -> bool
+    ensures { result ≡ has_numbers (daemon_of daemon.now) (Y.faults sysfs.now) (D.faults disk.now) }
+{
+    daemon.has_numbers(sysfs.faults(), disk.faults())
 }
 
 /// One turn: it waits, takes the moment, and handles one sweep, whose entries the auditors note while it goes on.
@@ -68,7 +74,8 @@ pub fn serve_turns<Y: Sysfs, D: RuleDisk, W: Waiter, C: Clock>(
     clock: &mut C,
     panel: &mut Panel,
 ) -> TurnEnd
-    ensures turns { (made : List Turned) × ServesTurns Y.begins Y.gives Y.told Y.faults D.keeps D.told D.faults W.gives C.gives turns
+    ensures turns { (made : List Turned)
+        × ServesTurns Y.begins Y.gives Y.told Y.faults D.keeps D.told D.faults W.gives C.gives turns
         (daemon_of daemon.old) (objects sysfs.old disk.old waiter.old clock.old
         (members (λ b. ⟦<dyn Auditor as Auditor>⟧ b.vtable) panel.old)) made result
         (daemon_of daemon.new) (objects sysfs.new disk.new waiter.new clock.new

@@ -22,9 +22,6 @@ Counted r before after = (before ≤ after) × TellsSaveFault r before after
 counted_as : (r q : Saved) (before after : ℕ) → r ≡ q → Counted q before after → Counted r before after
 counted_as r q before after e h = subst (λ (v : Saved). Counted v before after) (sym e) h
 
-step_counted : {call : DiskCall} (a : DiskTold call) (f g : ℕ) → CountsOnDisk call a f g → (f ≤ g) × (a.count ≡ g)
-step_counted a f g h = (h.counted.0, h.count)
-
 -- a call that failed after others, and its count
 failed_at : (s u t count : ℕ) → s ≤ u → u ≤ t → count ≡ t → Rose u t → Counted (saved.Failed count) s t
 failed_at s u t count le more is rose = (omega (arith, le, more), (is, rose_from s u t le more rose))

@@ -48,12 +48,6 @@ same_disk (Write_new text) s = refl
 same_disk Sync_new s = refl
 same_disk Swap s = refl
 
-same_out : (call : DiskCall) (s : DiskWorld) → (with_number call s).ran_out ≡ s.ran_out
-same_out Load s = refl
-same_out (Write_new text) s = refl
-same_out Sync_new s = refl
-same_out Swap s = refl
-
 same_faults : (call : DiskCall) (s : DiskWorld) → (with_number call s).faults ≡ s.faults
 same_faults Load s = refl
 same_faults (Write_new text) s = refl

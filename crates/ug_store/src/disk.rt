@@ -1,5 +1,5 @@
 // The trait of the outside: the disk that holds the rule file.
-ghost use Rattle.std.specs.Prelude.{◌≡◌, ℕ, Option, Some};
+ghost use Rattle.std.specs.Prelude.{◌≡◌, ℕ, List, Option, Some, OnOk};
 ghost use Rattle.ug_store.specs.DiskCalls.{DiskCall, Load, Write_new, Sync_new, Swap, DiskTold, FitsFile, NeedsNoMemory, CountsOnDisk};
 ghost use Rattle.ug_store.specs.Disk.{Disk, FollowsOnDisk};
 
@@ -40,10 +40,14 @@ pub trait RuleDisk {
     /// How many calls have failed.
     ghost faults: { Self → ℕ };
 
-    /// Names the rule file. A disk that is told has one rule file, and keeps it.
+    /// Whether the calls are on the rule file at that path. A disk that has one rule file alone is aimed at each path.
+    ghost aimed: { Self → (path : List ℕ) → Type 0 };
+
+    /// Names the rule file that the later calls are on. A disk that is told has one rule file, and keeps it.
     fn aim(&mut self, alloc: Global, path: &[u8]) -> Result<(), NoMemory>
         ensures told { told self.new ≡ told self.old }
-        ensures faults { faults self.new ≡ faults self.old };
+        ensures faults { faults self.new ≡ faults self.old }
+        ensures aimed { OnOk result (aimed self.new path.now) };
 
     /// The rule file's text.
     fn load(&mut self, alloc: Global) -> Loaded
@@ -75,4 +79,8 @@ pub trait RuleDisk {
     /// Each failure is counted.
     ghost counted: { (s : Self) (call : DiskCall) (answer : DiskTold call) (t : Self)
         → keeps s call answer t → CountsOnDisk call answer (faults s) (faults t) };
+
+    /// A call leaves the disk aimed at the same file.
+    ghost stays: { (s : Self) (call : DiskCall) (answer : DiskTold call) (t : Self) (path : List ℕ)
+        → keeps s call answer t → aimed s path → aimed t path };
 }

@@ -13,6 +13,3 @@ pub use mem_disk::MemDisk;
 pub use mishap::Mishap;
 pub use store::{RecoverFault, Store};
 pub use ug_types::Saved;
-
-#[cfg(test)]
-mod tests;

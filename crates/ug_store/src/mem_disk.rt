@@ -298,9 +298,13 @@ impl RuleDisk for MemDisk {
 
     ghost faults = { λ w. w.faults };
 
+    ghost aimed = { λ w path. Unit {0} };
+
     ghost did = { mem_did };
 
     ghost counted = { mem_counted };
+
+    ghost stays = { λ s call answer t path keeps aimed. aimed };
 
     /// It changes nothing.
     fn aim(&mut self, _alloc: Global, _path: &[u8]) -> Result<(), NoMemory>
@@ -308,6 +312,7 @@ impl RuleDisk for MemDisk {
         ensures same { self.new ≡ self.old }
         ensures told { disk_told self.new ≡ disk_told self.old }
         ensures faults { self.new.faults ≡ self.old.faults }
+        ensures aimed { OnOk result (Unit {0}) }
     {
         Ok(())
     }

@@ -5,7 +5,7 @@ use Rattle.std.proofs.lemmas.Option.{none-some, same_Some}
 use Rattle.std.specs.List.{slice_get}
 use Rattle.std.specs.Cmp.Lexicographic.{pointwise}
 use Rattle.ug_kernel.specs.declared.device.Device.{Device}
-use Rattle.ug_kernel.specs.Kernel.{Live, live_count}
+use Rattle.ug_kernel.specs.Kernel.{Live}
 use Rattle.ug_kernel.proofs.Places.{at_push}
 use Rattle.ug_sysfs.specs.Devices.{IsDistinct, is_named, find}
 use Rattle.ug_sysfs.specs.Find.{live_named, find_none}
@@ -120,12 +120,3 @@ distinct_switched ds i d on at s = distinct_back ds (set ds i (record d { on = o
   | inl p ↦ (d, record { at = ap (slice_get ds) p.0 ∙ at; here = ap (λ (y : Device). y.gone) p.1 ∙ a.here }, ap (λ (y : Device). y.name) p.1)
   | inr p ↦ (e, record { at = p; here = a.here }, refl)
 ])
-
-pub live_count_born : (ds : List Device) (d : Device) → d.gone ≡ false → live_count (ds ++ d ∷ []) ≡ live_count ds + 1
-live_count_born [] d g = rw g (omega arith)
-live_count_born (e ∷ ds) d g = omega (arith, live_count_born ds d g)
-
-pub live_count_gone : (ds : List Device) (i : ℕ) (d : Device) → slice_get ds i ≡ Some d → d.gone ≡ false → live_count ds ≡ live_count (set ds i (record d { gone = true })) + 1
-live_count_gone [] i d a g = absurd (none-some d a)
-live_count_gone (e ∷ ds) zero d a g = rw (ap (λ (x : Device). x.gone) (same_Some e d a) ∙ g) (omega arith)
-live_count_gone (e ∷ ds) (suc i) d a g = omega (arith, live_count_gone ds i d a g)

@@ -20,6 +20,3 @@ pub use ug_kernel::{
     Asked, Attr, CallRecord, Control, Device, Effect, HeldFile, Kind, Listing, Opened, Probe,
     ReadOut, Sysfs, Write, Wrote,
 };
-
-#[cfg(test)]
-mod tests;

@@ -29,7 +29,7 @@ use Rattle.ug_record.specs.Records.{judged_of}
 use Rattle.ug_node.specs.Bind.{binding}
 use Rattle.ug_node.specs.Bound.{attrs_of, IsBound, BindSays}
 use Rattle.ug_node.specs.declared.identity.Binding.TheVariants as bound
-use Rattle.ug_table.specs.Settle.{standing_for, judged_entry, tried_standings, dropped}
+use Rattle.ug_table.specs.Settle.{unsettled_by, standing_for, judged_entry, tried_standings, dropped}
 use Rattle.ug_table.specs.Sweep.{names_of, parted, marked_listed, sweeping}
 use Rattle.ug_table.proofs.Marks.{order_new, names_distinct, order_filter, sweep_in_order, AreIn, dropped_in, AreSplit, AreFresh, split_in, parted_split, parted_fresh, part_split, part_fresh, piece_part, order_distinct}
 use Rattle.std.specs.List.{filter}
@@ -124,7 +124,7 @@ three_more {answer = answer} {later = later} {present = present} {tried = tried}
 value_fair : {J : Type 0} {answer : Answers J} {later : Laters J} {present : Bool} {tried : Tries} {k m : Kernel} {w : State J} {t : Told Wrote} {es : List Entry} {how : Settled} (u : State J) (n : Kernel) (s : Standing) (after : Settled → List Standing) (what : Write) → Written s.name s.number what t es how → Has u.standings s → Afters u.standings s after → says_put s.held.0 t.answer n m → FairFrom answer later present tried k w m (with_write u s what t.answer) → FairFrom answer later present tried k w m (more u (mid u after how) es)
 value_fair u n s after what (Done failed) has a says h = two_more u u.standings _ _ h
 value_fair u n s after what (Went failed) has a says h = three_more u (after settled.Nobody) _ _ _ (then_went s (after settled.Nobody) has (a settled.Nobody) says h)
-value_fair u n s after what (Broke failed) has a says h = three_more u (after (settled.Fault failed)) _ _ _ (let after_fault = a (settled.Fault failed) in then_same (after (settled.Fault failed)) after_fault.0 after_fault.1 (then_note (entry.Unsettled s.name (fault.Call failed)) tt h))
+value_fair u n s after what (Broke failed) has a says h = two_more u (after (settled.Fault failed)) _ _ (let after_fault = a (settled.Fault failed) in then_same (after (settled.Fault failed)) after_fault.0 after_fault.1 h)
 
 none_more : {J : Type 0} {answer : Answers J} {later : Laters J} {present : Bool} {tried : Tries} {k l : Kernel} {w : State J} (u : State J) → FairFrom answer later present tried k w l u → FairFrom answer later present tried k w l (more u u.standings [])
 none_more {answer = answer} {later = later} {present = present} {tried = tried} {k = k} {l = l} {w = w} u h = subst (λ (v : List Entry). FairFrom answer later present tried k w l (record u { entries = v })) (sym (append-nil u.entries)) h
@@ -189,12 +189,12 @@ put_on_fair {m = m} {u = u} x y s i file after shut (Broke failed) at of reject 
     let first = remove_first m u s at.0 fresh (λ t b e. distinct_one (λ (v : Standing). v.number) u.standings t s h.fair.stand.distinct b at.0 e) in
     let put = put_fair x s i file Remove write.Remove wrote.Failed failed at of (reject_calls s.verdict reject) first (put_no_removal s write.Remove wrote.Failed (λ e f. let none : ⊥ = cc in none)) c h in
     let mark = a (settled.Fault failed) in
-    three_more u (after (settled.Fault failed)) _ _ _ (then_same (after (settled.Fault failed)) mark.0 mark.1 (then_note (entry.Unsettled s.name (fault.Call failed)) tt (then_called (Close file) shut y tt d put)))
+    two_more u (after (settled.Fault failed)) _ _ (then_same (after (settled.Fault failed)) mark.0 mark.1 (then_called (Close file) shut y tt d put))
 
 unheld_fair : {J : Type 0} {answer : Answers J} {later : Laters J} {present : Bool} {tried : Tries} {k m : Kernel} {w u : State J} {r : RemoveHold} {es : List Entry} {how : Settled} (s : Standing) (i : ℕ) (after : Settled → List Standing) → Unheld s.name s.number r es how → Has u.standings s → RemoveSays s.held.0 i m r → Afters u.standings s after → FairFrom answer later present tried k w m u → FairFrom answer later present tried k w m (more u (after how) es)
 unheld_fair s i after Gone_by has says a h = then_went s (after settled.Nobody) has (a settled.Nobody) says h
-unheld_fair s i after (Failed_by failed) has says a h = let mark = a (settled.Fault failed) in then_same (after (settled.Fault failed)) mark.0 mark.1 (then_note (entry.Unsettled s.name (fault.Call failed)) tt h)
-unheld_fair s i after Short_by has says a h = let short = a settled.Memory in then_same (after settled.Memory) short.0 short.1 (then_note (entry.Unsettled s.name fault.Memory) tt h)
+unheld_fair {u = u} s i after (Failed_by failed) has says a h = let mark = a (settled.Fault failed) in none_more (record u { standings = after (settled.Fault failed) }) (then_same (after (settled.Fault failed)) mark.0 mark.1 h)
+unheld_fair {u = u} s i after Short_by has says a h = let short = a settled.Memory in none_more (record u { standings = after settled.Memory }) (then_same (after settled.Memory) short.0 short.1 h)
 
 -- the `remove` file of the standing's device
 held_fair : {J : Type 0} {answer : Answers J} {later : Laters J} {present : Bool} {tried : Tries} {k m : Kernel} {w u : State J} (l : Kernel) (s : Standing) (ms : List Made) (r : RemoveHold) → Has u.standings s → Way (holding_remove s.name s.held.0) ms r → Along calls m ms l → FairFrom answer later present tried k w m u → (i : ℕ) × IsDevice l i s.name s.held s.judged × RemoveSays s.held.0 i l r × FairFrom answer later present tried k w l u
@@ -342,12 +342,28 @@ bound_fair {J} {answer} {later} {present} {tried} {k} {n} {w} {u} m name b sound
     fair_by h step (subst (λ (v : List Effect). Account answer later present tried k m w.standings k.log w.judge w.next (h.fair.rest ++ judged_entry u name b.held.0 (given_of answer u name judged present b.on) ∷ []) v now.judge now.next) (sym q.log) whole)
 
 -- a known device is brought to its verdict
-known_brought : {J : Type 0} {answer : Answers J} {later : Laters J} {present : Bool} {tried : Tries} {k m : Kernel} {w u : State J} {ms : List Made} {es : List Entry} {how : Settled} (l : Kernel) (name : List ℕ) (known : Known) (on : Bool) → standing_of name u.standings ≡ Some known → FairFrom answer later present tried k w m u → Brought name known on ms es how → Along calls m ms l → FairFrom answer later present tried k w l (record u { standings = tried_standings u.standings name how; entries = u.entries ++ es })
+pub known_brought : {J : Type 0} {answer : Answers J} {later : Laters J} {present : Bool} {tried : Tries} {k m : Kernel} {w u : State J} {ms : List Made} {es : List Entry} {how : Settled} (l : Kernel) (name : List ℕ) (known : Known) (on : Bool) → standing_of name u.standings ≡ Some known → FairFrom answer later present tried k w m u → Brought name known on ms es how → Along calls m ms l → FairFrom answer later present tried k w l (record u { standings = tried_standings u.standings name how; entries = u.entries ++ es })
 known_brought {m = m} {u = u} {ms = ms} {es = es} {how = how} l name known on at h b along =
     let f = found name u.standings known at in
     let named : Brought f.s.name known on ms es how = subst (λ (v : List ℕ). Brought v known on ms es how) (sym f.named) b in
     let own : Brought f.s.name (known_of f.s) on ms es how = subst (λ (v : Known). Brought f.s.name v on ms es how) (sym f.known) named in
     brought_fair l f.s (tried_standings u.standings name) own f.has (λ how. tried_after m u.standings u.next name f.s how f.has f.named h.fair.stand) h along
+
+-- and the name is told where it ends unsettled
+told_fair : {J : Type 0} {answer : Answers J} {later : Laters J} {present : Bool} {tried : Tries} {k l : Kernel} {w : State J} (u : State J) (rs : List Standing) (es : List Entry) (name : List ℕ) (how : Settled) → FairFrom answer later present tried k w l (record u { standings = rs; entries = u.entries ++ es }) → FairFrom answer later present tried k w l (record u { standings = rs; entries = u.entries ++ (es ++ unsettled_by name how) })
+told_fair {J} {answer} {later} {present} {tried} {k} {l} {w} u rs es name how h = subst (λ (v : List Entry). FairFrom answer later present tried k w l (record u { standings = rs; entries = v })) (append_assoc u.entries es (unsettled_by name how)) (by how)
+  where
+    v : State J
+    v = record u { standings = rs; entries = u.entries ++ es }
+
+    by : (x : Settled) → FairFrom answer later present tried k w l (record v { entries = v.entries ++ unsettled_by name x })
+    by settled.Stands = none_more v h
+    by settled.Nobody = none_more v h
+    by (settled.Fault failed) = then_note (entry.Unsettled name (fault.Call failed)) tt h
+    by settled.Memory = then_note (entry.Unsettled name fault.Memory) tt h
+
+known_settled : {J : Type 0} {answer : Answers J} {later : Laters J} {present : Bool} {tried : Tries} {k m : Kernel} {w u : State J} {ms : List Made} {es : List Entry} {how : Settled} (l : Kernel) (name : List ℕ) (known : Known) (on : Bool) → standing_of name u.standings ≡ Some known → FairFrom answer later present tried k w m u → Brought name known on ms es how → Along calls m ms l → FairFrom answer later present tried k w l (record u { standings = tried_standings u.standings name how; entries = u.entries ++ (es ++ unsettled_by name how) })
+known_settled {u = u} {es = es} {how = how} l name known on at h b along = told_fair u (tried_standings u.standings name how) es name how (known_brought l name known on at h b along)
 
 -- a known device that is gone loses its standing
 then_dropped : {J : Type 0} {answer : Answers J} {later : Laters J} {present : Bool} {tried : Tries} {k m : Kernel} {w u : State J} (name : List ℕ) (known : Known) → standing_of name u.standings ≡ Some known → IsGoneAt known.held.0 m → FairFrom answer later present tried k w m u → FairFrom answer later present tried k w m (dropped u name known.number)
@@ -402,7 +418,7 @@ binds_fair {n = n} m name ns r way h a =
 
 flat_fair : {J : Type 0} {answer : Answers J} {later : Laters J} {present : Bool} {tried : Tries} {binds : Bool} {given : List Standing → Bound → Standing → Type 0} {k m : Kernel} {w u : State J} {name : List ℕ} {ok : Bool} {ms : List Made} {rest : List Entry} {how : Settled} {rs : List Standing} {o : Option (List Standing × Bound)} (l : Kernel) → Flat binds given name u.standings ok ms rest how rs o → ((ss : List Standing) (b : Bound) (x : Standing) → given ss b x → IsGiven answer present name u ss b x) → (binds ≡ true → AreIn tried name w u) → FairFrom answer later present tried k w m u → Along calls m ms l → FairFrom answer later present tried k w l (ended_as later present name u o rs rest)
 flat_fair {name = name} l (Unprobed known failed at) is so h a = fair_end l _ refl a.2 (then_failed name known failed at (then_called (Ask_alive known.held.0) (told_at probe.Failed failed) a.0 tt a.1 h))
-flat_fair {name = name} l (Tried known on failed ms es how at b) is so h a = known_brought l name known on at (then_called (Ask_alive known.held.0) (told_at (probe.Alive on) failed) a.0 tt a.1 h) b a.2
+flat_fair {name = name} l (Tried known on failed ms es how at b) is so h a = known_settled l name known on at (then_called (Ask_alive known.held.0) (told_at (probe.Alive on) failed) a.0 tt a.1 h) b a.2
 flat_fair l (Stopped ms es rs f opening) is so h a = (opening_fair l opening so h a).fair
 flat_fair {m = m} {u = u} {name = name} l (Unbound ms ns es fs rs r how t opening way end) is so h a =
     let cut = along_split calls ms ns m l a in
@@ -426,10 +442,10 @@ flat_fair {J} {answer} {later} {present} {tried} {k = k} {m = m} {w = w} {u = u}
     let now = just_judged answer later v name b.held.0 judged present b.on in
     let s = new_standing answer v name b.held.0 judged present b.on in
     let e = judged_entry v name b.held.0 (given_of answer v name judged present b.on) in
-    let E : Standing → State J = λ z. ended_as later present name u (Some (rs, b)) (tried_standings (with_standing z rs) name how) (es ++ entry.Judged z.number name z.held z.verdict z.cause ∷ fs) in
+    let E : Standing → State J = λ z. ended_as later present name u (Some (rs, b)) (tried_standings (with_standing z rs) name how) (es ++ entry.Judged z.number name z.held z.verdict z.cause ∷ (fs ++ unsettled_by name how)) in
     let T : Standing → Type 0 = λ z. Brought name (known_of z) b.on os fs how → FairFrom answer later present tried k w l (E z) in
-    let own : T s = λ br. subst (λ (q : List Entry). FairFrom answer later present tried k w l (record now { standings = tried_standings (with_standing s rs) name how; entries = q })) (append_assoc v.entries (e ∷ []) fs ∙ append_assoc u.entries es (e ∷ fs))
-    (known_brought l name (known_of s) b.on (with_own name s rs refl (opening_none opening)) first br far.2) in
+    let own : T s = λ br. subst (λ (q : List Entry). FairFrom answer later present tried k w l (record now { standings = tried_standings (with_standing s rs) name how; entries = q })) (append_assoc v.entries (e ∷ []) (fs ++ unsettled_by name how) ∙ append_assoc u.entries es (e ∷ (fs ++ unsettled_by name how)))
+    (known_settled l name (known_of s) b.on (with_own name s rs refl (opening_none opening)) first br far.2) in
     (subst T (sym (is rs b x given)) own) brought
 
 state_is : {J : Type 0} (v : State J) (next : ℕ) (listed : Bool) (judge : J) (es : List Entry) → v.next ≡ next → v.listed ≡ listed → v.judge ≡ judge → v.entries ≡ es → let made : State J = record { standings = v.standings; next = next; listed = listed; judge = judge; entries = es } in v ≡ made

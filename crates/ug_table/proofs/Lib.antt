@@ -16,3 +16,4 @@ pub mod OnePart
 pub mod Faults
 pub mod Once
 pub mod One
+pub mod Ordered

@@ -20,7 +20,7 @@ use Rattle.ug_kernel.specs.declared.calls.Wrote.TheVariants as wrote
 use Rattle.ug_kernel.proofs.Held.{live_before}
 use Rattle.ug_audit.specs.declared.entry.Entry.TheVariants as entry
 use Rattle.ug_audit.specs.declared.entry.Fault.TheVariants as fault
-use Rattle.ug_table.specs.Settle.{tried_standings}
+use Rattle.ug_table.specs.Settle.{unsettled_by, tried_standings}
 use Rattle.ug_types.proofs.Elements.{has_right, has_left, has_new, has_old, cancel, filter_has, has_map}
 use Rattle.ug_table.proofs.Marks.{known_has}
 use Rattle.ug_table.specs.Sweep.{names_of, sweeping}
@@ -129,7 +129,7 @@ flat_apart {name = name} {ss = ss} k l xs ys e sound f (Tried known on failed ms
     let q = called_quiet (Ask_alive known.held.0) (told_at (probe.Alive on) failed) k a.0 tt a.1 in
     let g = quiet_grows k a.0 q in
     let o = open_later k a.0 name known.held.0 g (open_found name ss known k at f) in
-    record { others = others_trans name k a.0 l g (others_quiet name k a.0 q) (brought_apart a.0 l b a.1.sound o a.2); rest = λ s h ne. tried_has ss name how s h ne; entries = (es, e); files = tried_files l ss name how (files_later a.0 l ss (along_grows ms a.0 l a.2) (files_later k a.0 ss g f)) }
+    record { others = others_trans name k a.0 l g (others_quiet name k a.0 q) (brought_apart a.0 l b a.1.sound o a.2); rest = λ s h ne. tried_has ss name how s h ne; entries = (_, e); files = tried_files l ss name how (files_later a.0 l ss (along_grows ms a.0 l a.2) (files_later k a.0 ss g f)) }
 flat_apart {name = name} k l xs ys e sound f (Stopped ms es rs b opening) a =
     let o = opening_quiet k l opening sound f a in
     record { others = others_quiet name k l o.quiet; rest = o.rest; entries = (es, e); files = o.files }
@@ -210,30 +210,30 @@ open_of k l i held on name g live file v =
     record { i = i; d = v.0; file = file; device = v.1; named = sym x.2.name ∙ ap (λ (d : Device). d.name) same ∙ live.named }
 
 -- it stands with that value, or the name is told
-abbrev Ends : List Entry → Kernel → Settled → ℕ → List ℕ → Bool → Type 0
-Ends es l how i name on = ((how ≡ settled.Stands) × Value l i on) ⊎ IsNamed es name
+abbrev pub Ends : Kernel → Settled → ℕ → List ℕ → Bool → Type 0
+Ends l how i name on = ((how ≡ settled.Stands) × Value l i on) ⊎ IsNamed (unsettled_by name how) name
 
 -- where the file's device is live at the end
-valued_own : {name : List ℕ} {known : Known} {on : Bool} {ms : List Made} {es : List Entry} {how : Settled} (i : ℕ) (k l : Kernel) → Valued name known on ms es how → LiveAs l i name → IsFileOf k known.held.0 i → Value k i on → Along calls k ms l → Ends es l how i name (wants known.verdict)
+valued_own : {name : List ℕ} {known : Known} {on : Bool} {ms : List Made} {es : List Entry} {how : Settled} (i : ℕ) (k l : Kernel) → Valued name known on ms es how → LiveAs l i name → IsFileOf k known.held.0 i → Value k i on → Along calls k ms l → Ends l how i name (wants known.verdict)
 valued_own {on = on} i k l (Same e) live file v a = inl (refl, subst (λ b. Value l i b) (sym e) (subst (λ x. Value x i on) (sym a) v))
 valued_own {known = known} i k l (Set t es how e (Done failed)) live file v a = inl (refl, subst (λ x. Value x i (wants known.verdict)) (sym a.2) (done_value known.held.0 i known.verdict failed k a.0 file a.1))
 valued_own {name} {known} i k l (Set t es how e (Went failed)) live file v a =
     let g = called_grows (Put known.held.0 (write_of known.verdict)) (told_at wrote.Gone failed) k a.0 a.1 in
     absurd (gone_no a.0 known.held.0 i name a.1.says (file_later k a.0 known.held.0 i g file) (subst (λ x. LiveAs x i name) a.2 live))
-valued_own i k l (Set t es how e (Broke failed)) live file v a = inr (fault.Call failed, inr (inr (inl refl)))
+valued_own i k l (Set t es how e (Broke failed)) live file v a = inr (fault.Call failed, inl refl)
 
-unheld_own : {name : List ℕ} {number : ℕ} {r : RemoveHold} {es : List Entry} {how : Settled} (held i : ℕ) (on : Bool) (k l : Kernel) → Unheld name number r es how → LiveAs l i name → IsFileOf k held i → Value k i on → Grows k l → RemoveSays held i k r → Ends es l how i name on
+unheld_own : {name : List ℕ} {number : ℕ} {r : RemoveHold} {es : List Entry} {how : Settled} (held i : ℕ) (on : Bool) (k l : Kernel) → Unheld name number r es how → LiveAs l i name → IsFileOf k held i → Value k i on → Grows k l → RemoveSays held i k r → Ends l how i name on
 unheld_own {name} held i on k l Gone_by live file v g says = absurd (dead_no held i Authorized k l name v.0 file says g v.1 live)
 unheld_own held i on k l (Failed_by failed) live file v g says = inr (fault.Call failed, inl refl)
 unheld_own held i on k l Short_by live file v g says = inr (fault.Memory, inl refl)
 
-put_own : {name : List ℕ} {number : ℕ} {t : Told Wrote} {es : List Entry} {how : Settled} (i file : ℕ) (on : Bool) (shut : Closing) (k x l : Kernel) → Written name number write.Remove t es how → LiveAs l i name → IsHeldAs k file i Remove → Value k i on → Called (Put file write.Remove) t k x → Called (Close file) shut x l → Ends es l how i name on
+put_own : {name : List ℕ} {number : ℕ} {t : Told Wrote} {es : List Entry} {how : Settled} (i file : ℕ) (on : Bool) (shut : Closing) (k x l : Kernel) → Written name number write.Remove t es how → LiveAs l i name → IsHeldAs k file i Remove → Value k i on → Called (Put file write.Remove) t k x → Called (Close file) shut x l → Ends l how i name on
 put_own i file on shut k x l (Done failed) live of v c d = inl (refl, quiet_value x l i on (called_quiet (Close file) shut x l tt d) (removal_value file i on failed k x of c v))
 put_own {name} i file on shut k x l (Went failed) live of v c d =
     let g = called_grows (Put file write.Remove) (told_at wrote.Gone failed) k x c in
     let e = g.devices i v.0 v.1 in
     absurd (dead_no file i Remove x l name e.0 (g.held file (record { device = i; control = Remove }) of) c.says (called_grows (Close file) shut x l d) e.1 live)
-put_own i file on shut k x l (Broke failed) live of v c d = inr (fault.Call failed, inr (inr (inl refl)))
+put_own i file on shut k x l (Broke failed) live of v c d = inr (fault.Call failed, inl refl)
 
 -- the `remove` file is the device's
 hold_own : (name : List ℕ) (held i : ℕ) (on : Bool) (r : RemoveHold) (ms : List Made) (k m l : Kernel) → Way (holding_remove name held) ms r → IsKernel k → LiveAs l i name → IsFileOf k held i → Value k i on → Along calls k ms m → Grows m l → IsFileOf m held i × (Value m i on × RemoveSays held i m r)
@@ -243,7 +243,7 @@ hold_own name held i on r ms k m l way sound live file v a g =
     let is : x.1.0.i ≡ i = file_same m held x.1.0.i i x.1.0.file later in
     (later, (quiet_value k m i on x.0 v, subst (λ (j : ℕ). RemoveSays held j m r) is x.1.1))
 
-removal_own : {name : List ℕ} {known : Known} {ms : List Made} {es : List Entry} {how : Settled} (i : ℕ) (on : Bool) (k l : Kernel) → Removal name known ms es how → IsKernel k → LiveAs l i name → IsFileOf k known.held.0 i → Value k i on → Along calls k ms l → Ends es l how i name on
+removal_own : {name : List ℕ} {known : Known} {ms : List Made} {es : List Entry} {how : Settled} (i : ℕ) (on : Bool) (k l : Kernel) → Removal name known ms es how → IsKernel k → LiveAs l i name → IsFileOf k known.held.0 i → Value k i on → Along calls k ms l → Ends l how i name on
 removal_own {name} {known} i on k l (Not_held ms r es how way u) sound live file v a =
     let x = hold_own name known.held.0 i on r ms k l l way sound live file v a (grows_refl l) in
     unheld_own known.held.0 i on l l u live x.0 x.1.0 (grows_refl l) x.1.1
@@ -260,7 +260,7 @@ live_mid k m l i held on name g j live file at =
     let x = g.devices i at.0 at.1 in
     record { d = x.0; live = (live_before m l i x.0 live.d j x.1 live.live).0; named = x.2.name ∙ open_name k name held i at.0 o at.1 file }
 
-carried_own : {name : List ℕ} {known : Known} {on : Bool} {ms : List Made} {es : List Entry} {how : Settled} (i : ℕ) (k l : Kernel) → Carried name known on ms es how → IsKernel k → LiveAs l i name → IsFileOf k known.held.0 i → Value k i on → Along calls k ms l → Ends es l how i name (wants known.verdict)
+carried_own : {name : List ℕ} {known : Known} {on : Bool} {ms : List Made} {es : List Entry} {how : Settled} (i : ℕ) (k l : Kernel) → Carried name known on ms es how → IsKernel k → LiveAs l i name → IsFileOf k known.held.0 i → Value k i on → Along calls k ms l → Ends l how i name (wants known.verdict)
 carried_own i k l (By_value ms es how v f) sound live file at a = valued_own i k l v live file at a
 carried_own {name} {known} {on} i k l (And_removal ms ns es fs how go v r) sound live file at a =
     let cut = along_split calls ms ns k l a in
@@ -268,11 +268,11 @@ carried_own {name} {known} {on} i k l (And_removal ms ns es fs how go v r) sound
     let g = along_grows ms k m cut.1 in
     let j = along_grows ns m l cut.2 in
     elim (valued_own i k m v (live_mid k m l i known.held.0 on name g j live file at) file at cut.1) [
-      | inl h ↦ elim (removal_own i (wants known.verdict) m l r (along_sound ms k m sound cut.1) live (file_later k m known.held.0 i g file) h.1 cut.2) [ inl b ↦ inl b | inr n ↦ inr (n.0, has_right es fs (entry.Unsettled name n.0) n.1) ]
-      | inr n ↦ inr (n.0, has_left es fs (entry.Unsettled name n.0) n.1)
+      | inl h ↦ removal_own i (wants known.verdict) m l r (along_sound ms k m sound cut.1) live (file_later k m known.held.0 i g file) h.1 cut.2
+      | inr none ↦ absurd none.1
     ]
 
-brought_own : {name : List ℕ} {known : Known} {on : Bool} {ms : List Made} {es : List Entry} {how : Settled} (i : ℕ) (k l : Kernel) → Brought name known on ms es how → IsKernel k → LiveAs l i name → IsFileOf k known.held.0 i → Value k i on → Along calls k ms l → Ends es l how i name (wants known.verdict)
+pub brought_own : {name : List ℕ} {known : Known} {on : Bool} {ms : List Made} {es : List Entry} {how : Settled} (i : ℕ) (k l : Kernel) → Brought name known on ms es how → IsKernel k → LiveAs l i name → IsFileOf k known.held.0 i → Value k i on → Along calls k ms l → Ends l how i name (wants known.verdict)
 brought_own i k l (Left_open ms es how c n) sound live file at a = carried_own i k l c sound live file at a
 brought_own {name} {known} {on} i k l (Let_go ms es shut c) sound live file at a =
     let last : List Made = answered (Close known.held.0) shut ∷ [] in
@@ -315,7 +315,7 @@ flat_own {name = name} {ss = ss} i k l sound f first live (Tried known on failed
     let x = probed_own name known.held.0 i on failed k a.0 sound (open_found name ss known k at f) first a.1 in
     inl (elim (brought_own i a.0 l b a.1.sound live x.0 x.1 a.2) [
       | inl h ↦ let t = tried_new ss name how s.s h.0 s.named s.has in inl (as_judged l (tried_standings ss name how) i known.held known.verdict t.0 t.1 (t.2 ∙ ap (λ (v : Known). v.held) s.known) (t.3 ∙ ap (λ (v : Known). v.verdict) s.known) (file_later a.0 l known.held.0 i (along_grows ms a.0 l a.2) x.0) h.1 t.4)
-      | inr n ↦ inr n
+      | inr n ↦ inr (named_later es (unsettled_by name how) name n)
     ])
 flat_own i k l sound f first live (Stopped ms es rs b opening) a = inr (b, opening_absent opening)
 flat_own {name = name} i k l sound f first live (Unbound ms ns es fs rs r how t opening way end) a =
@@ -338,7 +338,7 @@ flat_own {name = name} i k l sound f first live (Judged_so ms ns os es fs rs b x
     let file : IsFileOf m x.held.0 i = subst (λ (v : Held). IsFileOf m v.0 i) (sym new.held) (subst (λ j. IsFileOf m b.held.0 j) is says.file) in
     inl (elim (brought_own i m l brought h.0.sound live file (subst (λ j. Value m j b.on) is (says.d, says.device, says.value)) cut.2) [
       | inl y ↦ let u = tried_new (with_standing x rs) name how x y.0 new.named (has_new rs (place_for x.name rs) x) in inl (as_judged l (tried_standings (with_standing x rs) name how) i x.held x.verdict u.0 u.1 u.2 u.3 (file_later m l x.held.0 i g file) y.1 u.4)
-      | inr y ↦ inr (named_later es (entry.Judged x.number name x.held x.verdict x.cause ∷ fs) name (y.0, inr y.1))
+      | inr y ↦ let z = named_later fs (unsettled_by name how) name y in inr (named_later es (entry.Judged x.number name x.held x.verdict x.cause ∷ (fs ++ unsettled_by name how)) name (z.0, inr z.1))
     ])
 
 -- the device of that name is as judged, or the name is told; or it has no standing where nothing is bound

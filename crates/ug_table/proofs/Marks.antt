@@ -3,12 +3,12 @@ use Rattle.std.proofs.Common.{◌≡◌, ℕ, Bool, true, false, not, cond, List
 use Rattle.ug_table.proofs.Common.{Has, AllDistinct, Bound, Binding, Entry, State, Answers, Laters, same_name, without, marked, place_for, with_standing, known_of, standing_of, lists, farewells, IsNamed, IsMarked, IsUnlisted, IsListed, swept_before, AreInOrder, Tries, IsMarkedIn, AreMarkedIn, numbers_of, Standing, Known, Settled, Made, Along, Fault, EndsUnsettled, sweep_cmp, in_place, in_sweep_order, sweep_total, sweep_exact, Kernel, Runs, calls}
 use Rattle.ug_audit.specs.declared.entry.Entry.TheVariants as entry
 use Rattle.ug_audit.specs.declared.entry.Fault.TheVariants as fault
-use Rattle.ug_table.specs.Settle.{kept_standings, tried_standings, dropped}
+use Rattle.ug_table.specs.Settle.{unsettled_by, kept_standings, tried_standings, dropped}
 use Rattle.ug_table.specs.Sweep.{names_of, parted, sweeping}
 use Rattle.ug_table.specs.declared.standing.Settled.TheVariants as settled
 use Rattle.ug_types.proofs.Elements.{has_left, has_right, has_cases, filter_has, map_has, has_map, cancel, last_is, distinct_filter, distinct_insert}
 use Rattle.ug_table.proofs.Shapes.{Piece, Unbound_end, Absent_so, Flat, Unprobed, Tried, Stopped, Unbound, No_place, Judged_so, opening_absent, opening_less, new_known}
-use Rattle.ug_table.proofs.Standings.{kept_tried, each_with, farewells_by, is_same, missing, missing_without, found, marked_other, tried_own, lists_has, either_listed, same_is, names_marked, numbers_marked}
+use Rattle.ug_table.proofs.Standings.{kept_tried, each_with, farewells_by, is_same, missing, missing_without, found, marked_other, tried_own, lists_has, either_listed, same_is, fields_stay}
 use Rattle.ug_table.specs.One.{whys, why_of}
 use Rattle.ug_table.proofs.OnePart.{flat_is_part, flat_whys, told_in}
 use Rattle.ug_table.proofs.Says.{Each, NamesOnly, each_has, each_append, each_map, NamesNone, none_named}
@@ -116,7 +116,7 @@ flat_others {name = name} (Judged_so ms ns os es fs rs b x how t opening way giv
 
 flat_mark : {binds : Bool} {given : List Standing → Bound → Standing → Type 0} {name : List ℕ} {ss : List Standing} {ok : Bool} {ms : List Made} {rest : List Entry} {how : Settled} {rs : List Standing} {o : Option (List Standing × Bound)} → Tells how name rest → Flat binds given name ss ok ms rest how rs o → (s : Standing) → Has rs s → s.name ≡ name → IsMarked rest s
 flat_mark {name = name} {ss = ss} t (Unprobed known failed at) s a is = tried_mark ss name (settled.Fault failed) (entry.Unsettled name (fault.Call failed) ∷ []) s t a is
-flat_mark {name = name} {ss = ss} t (Tried known on failed ms es how at b) s a is = tried_mark ss name how es s t a is
+flat_mark {name = name} {ss = ss} t (Tried known on failed ms es how at b) s a is = tried_mark ss name how (es ++ unsettled_by name how) s t a is
 flat_mark {name = name} t (Stopped ms es rs f opening) s a is = absurd (opening_absent opening (own_name rs name s a is))
 flat_mark {name = name} t (Unbound ms ns es fs rs r how f opening way end) s a is = absurd (opening_absent opening (own_name rs name s a is))
 flat_mark {name = name} t (No_place ms ns es rs b shut f opening way) s a is = absurd (opening_absent opening (own_name rs name s a is))
@@ -148,7 +148,7 @@ tried_stands name ss known how at e =
     let k = tried_own name ss how known at (λ n. let none : ⊥ = cc in none) in
     known_has name (tried_standings ss name how) k.0 k.1
 
-tried_nobody : (ss : List Standing) (name : List ℕ) (how : Settled) → how ≡ settled.Nobody → Has (names_of (tried_standings ss name how)) name → ⊥
+pub tried_nobody : (ss : List Standing) (name : List ℕ) (how : Settled) → how ≡ settled.Nobody → Has (names_of (tried_standings ss name how)) name → ⊥
 tried_nobody ss name settled.Nobody e = missing_without name ss
 tried_nobody ss name how e = let none : ⊥ = cc in absurd none
 
@@ -459,12 +459,16 @@ keeps_filter test ss next o = record {
   numbers = λ s a. o.numbers s (filter_has test ss s a).0;
 }
 
-keeps_marked : (name : List ℕ) (mark : Bool) (ss : List Standing) → KeepsOrder ss (map (marked name mark) ss)
-keeps_marked name mark ss next o = record {
-  order = subst (λ (v : List (List ℕ)). AreInOrder v) (sym (names_marked name mark ss)) o.order;
-  distinct = subst (λ (v : List ℕ). AllDistinct v) (sym (numbers_marked name mark ss)) o.distinct;
-  numbers = λ s a. let m = map_has (marked name mark) ss s a in subst (λ (v : ℕ). v < next) (ap (λ (v : Standing). v.number) m.2) (o.numbers m.0 m.1);
+-- what is done to each leaves its name and number
+pub keeps_map : (f : Standing → Standing) (ss : List Standing) → ((s : Standing) → (f s).name ≡ s.name) → ((s : Standing) → (f s).number ≡ s.number) → KeepsOrder ss (map f ss)
+keeps_map f ss named numbered next o = record {
+  order = subst (λ (v : List (List ℕ)). AreInOrder v) (sym (fields_stay f (λ (s : Standing). s.name) ss named)) o.order;
+  distinct = subst (λ (v : List ℕ). AllDistinct v) (sym (fields_stay f (λ (s : Standing). s.number) ss numbered)) o.distinct;
+  numbers = λ s a. let m = map_has f ss s a in subst (λ (v : ℕ). v < next) (sym (numbered m.0) ∙ ap (λ (v : Standing). v.number) m.2) (o.numbers m.0 m.1);
 }
+
+keeps_marked : (name : List ℕ) (mark : Bool) (ss : List Standing) → KeepsOrder ss (map (marked name mark) ss)
+keeps_marked name mark ss = keeps_map (marked name mark) ss (λ s. refl) (λ s. refl)
 
 -- one that is tried again
 pub keeps_tried : (name : List ℕ) (how : Settled) (ss : List Standing) → KeepsOrder ss (tried_standings ss name how)

@@ -34,7 +34,7 @@ none_stood number (s ∷ ss) n =
     ap (λ (b : Bool). (b && s.removed) || stood_removed number ss) (false_from_ne_true (nat_eq s.number number) (λ e. n (inl (let is : s.number ≡ number = grind (arith, e) in is))))
     ∙ none_stood number ss (λ a. n (inr a))
 
-stood_at : (ss : List Standing) (s : Standing) → AllDistinct (numbers_of ss) → Has ss s → stood_removed s.number ss ≡ s.removed
+pub stood_at : (ss : List Standing) (s : Standing) → AllDistinct (numbers_of ss) → Has ss s → stood_removed s.number ss ≡ s.removed
 stood_at [] s d a = absurd a
 stood_at (t ∷ ss) s d (inl e) =
     let same : nat_eq t.number s.number ≡ true = let is = ap (λ (v : Standing). v.number) e in grind (arith, is) in
@@ -45,21 +45,21 @@ stood_at (t ∷ ss) s d (inr a) =
     ap (λ (b : Bool). (b && t.removed) || stood_removed s.number ss) other ∙ stood_at ss s d.1 a
 
 -- those that are meant, by name and number
-abbrev Test : Type 0
+abbrev pub Test : Type 0
 Test = List ℕ → ℕ → Bool
 
-abbrev own : Test → Standing → Bool
+abbrev pub own : Test → Standing → Bool
 own test s = test s.name s.number
 
-abbrev rest_of : Test → List Standing → List Standing
+abbrev pub rest_of : Test → List Standing → List Standing
 rest_of test ss = filter (λ (s : Standing). not (own test s)) ss
 
 -- among these standings, they are those of that name
-abbrev AreNamed : Test → List ℕ → List Standing → Type 0
+abbrev pub AreNamed : Test → List ℕ → List Standing → Type 0
 AreNamed test name ss = (s : Standing) → Has ss s → own test s ≡ same_name s.name name
 
 -- those that are meant were marked as removed before as they are now
-abbrev AreStood : Test → List Standing → List Standing → Type 0
+abbrev pub AreStood : Test → List Standing → List Standing → Type 0
 AreStood test before ss = (s : Standing) → Has ss s → own test s ≡ true → stood_removed s.number before ≡ s.removed
 
 marked_rest : (test : Test) (name : List ℕ) (mark : Bool) (ss : List Standing) → AreNamed test name ss → rest_of test (map (marked name mark) ss) ≡ rest_of test ss
@@ -121,7 +121,7 @@ without_leaves test name before ss how named rest =
         let f = filter_has (λ (v : Standing). not (same_name v.name name)) ss s a in
         true≢false (sym f.1 ∙ ap not (sym (named s f.0) ∙ o))
 
-tried_leaves : (test : Test) (name : List ℕ) (before ss : List Standing) (how : Settled) → AreNamed test name ss → rest_of test ss ≡ rest_of test before → AreStood test before ss → LeavesMarks (own test) before (tried_standings ss name how) how
+pub tried_leaves : (test : Test) (name : List ℕ) (before ss : List Standing) (how : Settled) → AreNamed test name ss → rest_of test ss ≡ rest_of test before → AreStood test before ss → LeavesMarks (own test) before (tried_standings ss name how) how
 tried_leaves test name before ss settled.Nobody named rest stood = without_leaves test name before ss settled.Nobody named rest
 tried_leaves test name before ss settled.Stands named rest stood = marked_leaves test name before ss true settled.Stands refl named rest stood
 tried_leaves test name before ss how named rest stood = marked_leaves test name before ss false how refl named rest stood
@@ -165,10 +165,10 @@ run_leaves gives answer later name present w s p t order r = flat_leaves w.next 
 
 -- a number
 
-abbrev of_number : ℕ → Test
+abbrev pub of_number : ℕ → Test
 of_number number = λ name other. nat_eq other number
 
-numbered_named : (next number : ℕ) (ss : List Standing) (x : Standing) → StandInOrder next ss → numbered number ss ≡ Some x → AreNamed (of_number number) x.name ss
+pub numbered_named : (next number : ℕ) (ss : List Standing) (x : Standing) → StandInOrder next ss → numbered number ss ≡ Some x → AreNamed (of_number number) x.name ss
 numbered_named next number ss x order at s a = by (nat_eq s.number number) refl (same_name s.name x.name) refl
   where
     has : Has ss x
@@ -216,7 +216,7 @@ needs_room gives next number k x s p t order at r e =
 added : (es fs xs ys : List Entry) → fs ≡ es ++ xs → fs ≡ es ++ ys → ys ≡ xs
 added es fs xs ys e f = cancel es ys xs (sym f ∙ e)
 
-told_of : (how : Settled) → failed_by (why_of how) ≡ failed_of how
+pub told_of : (how : Settled) → failed_by (why_of how) ≡ failed_of how
 told_of settled.Stands = refl
 told_of how = refl
 
@@ -297,6 +297,21 @@ dead l i name gone live =
     let same : gone.0 ≡ live.d = some_same (slice_get l.devices i) gone.0 live.d gone.1 live.live.at in
     true≢false (sym gone.2 ∙ ap (λ (v : Device). v.gone) same ∙ live.live.here)
 
+-- the device of a standing from before has one, or is gone
+stands_or_gone : {J : Type 0} {answer : Answers J} {later : Laters J} {present : Bool} {tried : Tries} {k l : Kernel} {w v : State J} (x : Standing) → Has w.standings x → FairFrom answer later present tried k w l v → (i : ℕ) → IsOf k x i → HasStanding l v.standings i ⊎ IsGone l i
+stands_or_gone {k = k} {l = l} x has a i file = had_before a l i x.number x.name x.held x.verdict (grows_refl l) (inl (x, has, refl, refl, refl, refl)) (file_later k l x.held.0 i a.fair.grows file)
+
+-- and is gone where none of its name is left
+pub left_gone : {J : Type 0} {answer : Answers J} {later : Laters J} {present : Bool} {tried : Tries} {k l : Kernel} {w v : State J} (x : Standing) → Has w.standings x → FairFrom answer later present tried k w l v → (Has (names_of v.standings) x.name → ⊥) → (i : ℕ) → IsOf k x i → IsGone l i
+left_gone {k = k} {l = l} {w = w} {v = v} x has a none i file =
+    let g = a.fair.grows in
+    elim (stands_or_gone x has a i file) [
+      | inl s ↦
+          let same : s.s.name ≡ x.name = one_name l s.s.name x.name s.s.held.0 x.held.0 i (stand_files l v.standings v.next a.fair.stand s.s s.has) (open_later k l x.name x.held.0 g (stand_files k w.standings w.next a.stood x has)) s.file (file_later k l x.held.0 i g file) in
+          absurd (none (subst (λ (n : List ℕ). Has (names_of v.standings) n) same (has_map (λ (v : Standing). v.name) v.standings s.s s.has)))
+      | inr gone ↦ gone
+    ]
+
 resettling_one : (w : State (Unit {0})) (k l : Kernel) (p : Settled × Kept) (x : Standing) → IsKernel k → Stand k w.standings w.next → Has w.standings x → Runs calls k (resettling x.name (kept_of w.standings w.entries)) p l → ResettledOne x k w l (with_kept w p.1) p.0
 resettling_one w k l p x sound stand has r =
     let kept = kept_of w.standings w.entries in
@@ -310,7 +325,6 @@ resettling_one w k l p x sound stand has r =
     let a = fair no_verdict no_later false none_before in
     let g = a.fair.grows in
     let files = stand_files k w.standings w.next stand in
-    let stood : (i : ℕ) → IsOf k x i → HasStanding l p.1.standings i ⊎ IsGone l i = λ i file. had_before a l i x.number x.name x.held x.verdict (grows_refl l) (inl (x, has, refl, refl, refl, refl)) (file_later k l x.held.0 i g file) in
     record {
       fair = λ answer later present tried. (fair answer later present tried).fair;
       ended = λ i d file lives.
@@ -320,17 +334,12 @@ resettling_one w k l p x sound stand has r =
           elim (piece_well i sound files first last piece y.along) [
             | inl (inl good) ↦ inl (judged_at l p.1.standings w.next i a.fair.stand good)
             | inl (inr n) ↦ inr n
-            | inr none ↦ elim (stood i file) [
+            | inr none ↦ elim (stands_or_gone x has a i file) [
               | inl s ↦ absurd (none.1 s)
               | inr gone ↦ absurd (dead l i x.name gone last)
             ]
           ];
-      nobody = λ e i file. elim (stood i file) [
-        | inl s ↦
-            let same : s.s.name ≡ x.name = one_name l s.s.name x.name s.s.held.0 x.held.0 i (stand_files l p.1.standings w.next a.fair.stand s.s s.has) (open_later k l x.name x.held.0 g (files x has)) s.file (file_later k l x.held.0 i g file) in
-            absurd (flat_nobody piece.flat e (subst (λ (v : List ℕ). Has (names_of p.1.standings) v) same (has_map (λ (v : Standing). v.name) p.1.standings s.s s.has)))
-        | inr gone ↦ gone
-      ];
+      nobody = λ e. left_gone x has a (flat_nobody piece.flat e);
     }
 
 pub told_resettles : {S : Type 0} (gives : S → (call : Call) → Answer call → S → Type 0) (told : S → Option Kernel) (did : (s : S) (call : Call) (answer : Answer call) (t : S) (l : Kernel) → gives s call answer t → told t ≡ Some l → Follows call answer (told s) l) (number : ℕ) (s : S) (w : State (Unit {0})) (t : S) (p : Settled × Kept) → Runs gives s (resettling_numbered number (kept_of w.standings w.entries)) p t → ResettlesOne told number s w t (with_kept w p.1) p.0

@@ -9,12 +9,12 @@ use Rattle.ug_node.specs.declared.removal.RemoveHold.TheVariants as hold
 use Rattle.ug_node.proofs.BindShapes.{way_binds, Holds_by, way_holds}
 use Rattle.ug_audit.specs.declared.entry.Entry.TheVariants as entry
 use Rattle.ug_audit.specs.declared.entry.Fault.TheVariants as fault
-use Rattle.ug_table.specs.Settle.{tried_standings}
+use Rattle.ug_table.specs.Settle.{unsettled_by, tried_standings}
 use Rattle.ug_table.specs.Bring.{wants, write_of, is_to_go}
 use Rattle.ug_table.specs.One.{why_in, whys, why_of}
 use Rattle.ug_table.specs.declared.standing.Settled.TheVariants as settled
 use Rattle.ug_types.proofs.Elements.{has_right}
-use Rattle.ug_table.proofs.Shapes.{Written, Done, Went, Broke, Valued, Same, Set, Unheld, Gone_by, Short_by, Removal, Not_held, Put_on, Carried, By_value, And_removal, Brought, Left_open, Let_go, Opening, Fresh, Lost, Unbound_end, Absent_so, Vanished_so, Flat, Unprobed, Tried, Stopped, Unbound, No_place, Judged_so, told_at, opening_none, new_known}
+use Rattle.ug_table.proofs.Shapes.{Written, Done, Went, Valued, Same, Set, Unheld, Gone_by, Short_by, Removal, Not_held, Put_on, Carried, By_value, And_removal, Brought, Left_open, Let_go, Opening, Fresh, Lost, Unbound_end, Absent_so, Vanished_so, Flat, Unprobed, Tried, Stopped, Unbound, No_place, Judged_so, told_at, opening_none, new_known}
 use Rattle.ug_table.proofs.Standings.{OthersStand, others_stand, without_stand, with_stand, not_named, tried_stand, stands_file, stands_number, without_own, tried_own}
 use Rattle.ug_table.proofs.PartCalls.{has_want, failed_by, are_short, behind_after, CallsOf, calls_are, calls_more, calls_as, closed_first, binding_faults, binding_files, binds_calls, IsFound, bound_found, hold_faults, hold_files, holds_calls, ready_due, IsShort, hold_short}
 
@@ -40,14 +40,14 @@ whys_more (e ∷ es) fs =
 
 -- Entries of the name: they begin and end with the numbers of its standings; the faults that they tell, the last of them; the writes;
 -- and the numbers that they give out.
-record EntriesOf (name : List ℕ) (from : Option ℕ) (es : List Entry) (to : Option ℕ)
+pub record EntriesOf (name : List ℕ) (from : Option ℕ) (es : List Entry) (to : Option ℕ)
     (faults : List Fault) (ps : List PutMade) (ns : List ℕ) : Type 0 where
-  numbers : AreOfNumber from es to
-  why : whys es ≡ faults
-  writes : TellsWrites name ps (writes_in es)
-  last : EndsUnsettled name es
-  bears : AllBear name es
-  given : numbers_given es ≡ ns
+  pub numbers : AreOfNumber from es to
+  pub why : whys es ≡ faults
+  pub writes : TellsWrites name ps (writes_in es)
+  pub last : EndsUnsettled name es
+  pub bears : AllBear name es
+  pub given : numbers_given es ≡ ns
 
 entries_are : {name : List ℕ} {from to : Option ℕ} {es : List Entry} {faults : List Fault}
     {ps : List PutMade} {ns : List ℕ} → AreOfNumber from es to → whys es ≡ faults
@@ -123,11 +123,11 @@ entries_to {name} {from} {es = es} {faults = faults} {ps = ps} {ns = ns} e h =
 
 -- the file and the number of a standing, which end where its device is gone
 
-abbrev ended_files : Settled → ℕ → List OpenFile
+abbrev pub ended_files : Settled → ℕ → List OpenFile
 ended_files settled.Nobody held = []
 ended_files how held = open_file held Authorized ∷ []
 
-abbrev ended_number : Settled → ℕ → Option ℕ
+abbrev pub ended_number : Settled → ℕ → Option ℕ
 ended_number settled.Nobody number = None
 ended_number how number = Some number
 
@@ -157,35 +157,32 @@ single_both ps qs (inr h) (inr k) =
     (subst (λ v. AtMostOneEach (h.0 ∷ v)) (sym k.1) (apart, (λ a. a, tt)))
 
 -- Calls and entries of what is brought about for it, with P of the writes, and with Q where it ends for want of memory.
-record Goes (P : List PutMade → Type 0) (Q : Type 0) (name : List ℕ) (known : Known)
+pub record Goes (P : List PutMade → Type 0) (Q : Type 0) (name : List ℕ) (known : Known)
     (files : List OpenFile)
     (b : Behind) (ms : List Made) (es : List Entry) (how : Settled) (after : List OpenFile) (n : ℕ)
     : Type 0 where
-  ps : List PutMade
-  calls : CallsOf name files b ms after (why_of how) ps n
-  entries : EntriesOf name (Some known.number) es (ended_number how known.number) (why_of how) ps []
-  single : P ps
-  short : how ≡ settled.Memory → Q
+  pub ps : List PutMade
+  pub calls : CallsOf name files b ms after (why_of how) ps n
+  pub entries : EntriesOf name (Some known.number) es (ended_number how known.number) [] ps []
+  pub single : P ps
+  pub short : how ≡ settled.Memory → Q
 
 goes_are : {P : List PutMade → Type 0} {Q : Type 0} {name : List ℕ} {known : Known}
     {files after : List OpenFile} {b : Behind} {ms : List Made} {es : List Entry} {how : Settled}
     {n : ℕ} {ps : List PutMade} → CallsOf name files b ms after (why_of how) ps n
-    → EntriesOf name (Some known.number) es (ended_number how known.number) (why_of how) ps []
+    → EntriesOf name (Some known.number) es (ended_number how known.number) [] ps []
     → P ps → (how ≡ settled.Memory → Q) → Goes P Q name known files b ms es how after n
 goes_are {ps = ps} c e p q = record { ps = ps; calls = c; entries = e; single = p; short = q }
 
 written_entries : {name : List ℕ} {number : ℕ} {what : Write} {t : Told Wrote} {es : List Entry}
     {how : Settled} → Written name number what t es how
-    → EntriesOf name (Some number) es (ended_number how number) (why_of how)
+    → EntriesOf name (Some number) es (ended_number how number) []
     (record { write = what; outcome = t.answer } ∷ []) []
 written_entries {number = n} (Went failed) =
     entries_are (refl, (refl, (refl, refl))) refl (n, [], refl, refl) (tt, (tt, (tt, tt)))
     (refl, (refl, (refl, tt))) refl
-written_entries {number = n} (Done failed) =
+written_entries {number = n} x =
     entries_are (refl, (refl, refl)) refl (n, [], refl, refl) (tt, (tt, tt)) (refl, (refl, tt)) refl
-written_entries {number = n} (Broke failed) =
-    entries_are (refl, (refl, refl)) refl (n, [], refl, refl) (tt, (tt, ((refl, refl), tt)))
-    (refl, (refl, (refl, tt))) refl
 
 -- a write, and a closing behind it
 written_faults : {name : List ℕ} {number : ℕ} {what : Write} {t : Told Wrote} {es : List Entry}
@@ -241,9 +238,9 @@ unheld_calls x c = c
 
 unheld_entries : {name : List ℕ} {number : ℕ} {r : RemoveHold} {es : List Entry} {how : Settled}
     → Unheld name number r es how
-    → EntriesOf name (Some number) es (ended_number how number) (why_of how) [] []
+    → EntriesOf name (Some number) es (ended_number how number) [] [] []
 unheld_entries Gone_by = entries_are (refl, refl) refl refl (tt, tt) (refl, tt) refl
-unheld_entries x = entries_are refl refl refl ((refl, refl), tt) (refl, tt) refl
+unheld_entries x = entries_are refl refl refl tt tt refl
 
 unheld_short : {name : List ℕ} {held number : ℕ} {ms : List Made} {r : RemoveHold} {es : List Entry}
     {how : Settled} → Holds_by name held ms r → Unheld name number r es how → how ≡ settled.Memory
@@ -274,7 +271,7 @@ removal_goes {name} {known} b (Put_on ms file t shut es how way w) =
 
 -- both
 
-abbrev ToGo : Known → List Made → Type 0
+abbrev pub ToGo : Known → List Made → Type 0
 ToGo known ms = (is_to_go known ≡ true) × IsShort ms
 
 carried_goes : {name : List ℕ} {known : Known} {on : Bool} {ms : List Made} {es : List Entry}
@@ -299,7 +296,7 @@ still_open : (how : Settled) (held : ℕ) → (how ≡ settled.Nobody → ⊥)
 still_open settled.Nobody held n = absurd (n refl)
 still_open how held n = refl
 
-brought_goes : {name : List ℕ} {known : Known} {on : Bool} {ms : List Made} {es : List Entry}
+pub brought_goes : {name : List ℕ} {known : Known} {on : Bool} {ms : List Made} {es : List Entry}
     {how : Settled} (b : Behind) → IsFound b known.held.0 on → Brought name known on ms es how
     → let own = open_file known.held.0 Authorized ∷ [] in
     Goes AtMostOneEach (ToGo known ms) name known own b ms es how (ended_files how known.held.0) 4
@@ -319,6 +316,24 @@ brought_goes {name} {known} b f (Let_go ms es shut c) =
     goes_are (subst (λ v. CallsOf name own b (ms ++ last) [] [] v 4) (append-nil h.ps) all)
     h.entries h.single
     (λ e. let none : ⊥ = cc in absurd none)
+
+-- the name is told behind them where it ended unsettled
+told_entries : {name : List ℕ} {from : Option ℕ} {es : List Entry} {ps : List PutMade}
+    {ns : List ℕ} (number : ℕ) (how : Settled)
+    → EntriesOf name from es (ended_number how number) [] ps ns
+    → EntriesOf name from (es ++ unsettled_by name how) (ended_number how number) (why_of how) ps ns
+told_entries {name} {from} {es} {ps} {ns} number how h =
+    let all = es ++ unsettled_by name how in
+    let end = ended_number how number in
+    subst (λ v. EntriesOf name from all end (why_of how) v ns) (append-nil ps)
+    (subst (λ v. EntriesOf name from all end (why_of how) (ps ++ []) v) (append-nil ns)
+    (entries_more h (by how)))
+  where
+    by : (x : Settled) → EntriesOf name (ended_number x number) (unsettled_by name x)
+        (ended_number x number) (why_of x) [] []
+    by settled.Stands = entries_are refl refl refl tt tt refl
+    by settled.Nobody = entries_are refl refl refl tt tt refl
+    by x = entries_are refl refl refl ((refl, refl), tt) (refl, tt) refl
 
 -- a name
 
@@ -368,7 +383,7 @@ unbound_entries x = entries_are refl refl refl ((refl, refl), tt) (refl, tt) ref
 
 -- the file and the number of the standing that is left
 
-tried_so : (name : List ℕ) (ss : List Standing) (how : Settled) (known : Known)
+pub tried_so : (name : List ℕ) (ss : List Standing) (how : Settled) (known : Known)
     → standing_of name ss ≡ Some known
     → (ended_files how known.held.0 ≡ known_files (standing_of name (tried_standings ss name how)))
     × (ended_number how known.number ≡ number_of (standing_of name (tried_standings ss name how)))
@@ -448,9 +463,10 @@ flat_goes {binds} {name = name} {ss = ss} {rs = rs} (Tried known on failed ms es
     let h = brought_goes (behind_more start m) (t, refl, refl) brought in
     let one : CallsOf name own start (m ∷ []) own [] [] 1 =
     calls_are (inl refl, tt) (inl refl, tt) (tt, tt) refl refl refl refl (omega arith) in
-    subst (λ o. FlatGoes binds name o (standing_of name rs) true (m ∷ ms) es how 0) (sym at)
+    let all = es ++ unsettled_by name how in
+    subst (λ o. FlatGoes binds name o (standing_of name rs) true (m ∷ ms) all how 0) (sym at)
     (flat_are (calls_as so.0 (omega arith) (calls_more one h.calls))
-    (entries_to so.1 h.entries)
+    (entries_to so.1 (told_entries known.number how h.entries))
     h.single refl refl
     (λ e. let x = h.short e in inr ((known, refl, x.0), (x.1.0, x.1.1, inr x.1.2, x.1.3))) refl)
 flat_goes (Stopped ms es rs f opening) =
@@ -494,7 +510,8 @@ flat_goes {name = name} (Judged_so ms ns os es fs rs v x how t opening way given
     entries_are (refl, refl) refl refl (tt, tt) (refl, tt) refl in
     let bound = calls_as {m = 9} held (omega arith) (binds_calls [] c by) in
     flat_are (calls_as so.0 (omega arith) (calls_more h.calls (calls_more bound k.calls)))
-    (entries_to so.1 (entries_more h.entries (entries_more given k.entries)))
+    (entries_to so.1
+    (entries_more h.entries (entries_more given (told_entries x.number how k.entries))))
     k.single refl refl (λ e. inl (t, h.anew (ns ++ os))) refl
 
 -- and the standings of other names stay

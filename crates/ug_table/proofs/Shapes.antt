@@ -12,7 +12,7 @@ use Rattle.ug_node.specs.declared.removal.RemoveHold.TheVariants as hold
 use Rattle.ug_audit.specs.declared.entry.Entry.TheVariants as entry
 use Rattle.ug_audit.specs.declared.entry.Fault.TheVariants as fault
 use Rattle.ug_table.specs.Bring.{wants, write_of, after_write, to_value, valuing, after_hold, removing, is_to_go, if_to_go, after_value, writing, close_gone, bringing}
-use Rattle.ug_table.specs.Settle.{kept_standings, to_keep, no_room, standing_for, known_in, judged_entry, if_place, if_record, admitting, after_bind, entering, tried_standings, to_mark, after_known, from_standing, settling, to_keep_mark, after_again, again, resettling}
+use Rattle.ug_table.specs.Settle.{unsettled_by, kept_standings, to_keep, no_room, standing_for, known_in, judged_entry, if_place, if_record, admitting, after_bind, entering, tried_standings, to_mark, after_known, from_standing, settling, to_keep_mark, after_again, again, resettling}
 use Rattle.ug_table.specs.declared.standing.Settled.TheVariants as settled
 use Rattle.ug_kernel.proofs.Ways.{Ways, Sure, Way, ways_more, behind_sure, sure_last}
 use Rattle.ug_node.proofs.BindShapes.{sure_binding, sure_hold}
@@ -27,7 +27,7 @@ pub use Rattle.ug_table.proofs.Standings.{told_at}
 pub data Written (name : List ℕ) (number : ℕ) (what : Write) : Told Wrote → List Entry → Settled → Type 0 where
   Done : (failed : FailedCall) → Written name number what (told_at wrote.Done failed) (entry.Intent number name what ∷ entry.Wrote number name what wrote.Done ∷ []) settled.Stands
   Went : (failed : FailedCall) → Written name number what (told_at wrote.Gone failed) (entry.Intent number name what ∷ entry.Wrote number name what wrote.Gone ∷ entry.Gone number name ∷ []) settled.Nobody
-  Broke : (failed : FailedCall) → Written name number what (told_at wrote.Failed failed) (entry.Intent number name what ∷ entry.Wrote number name what wrote.Failed ∷ entry.Unsettled name (fault.Call failed) ∷ []) (settled.Fault failed)
+  Broke : (failed : FailedCall) → Written name number what (told_at wrote.Failed failed) (entry.Intent number name what ∷ entry.Wrote number name what wrote.Failed ∷ []) (settled.Fault failed)
 
 -- the value is as wanted, or is written
 pub data Valued (name : List ℕ) (known : Known) (on : Bool) : List Made → List Entry → Settled → Type 0 where
@@ -37,8 +37,8 @@ pub data Valued (name : List ℕ) (known : Known) (on : Bool) : List Made → Li
 -- the `remove` file isn't held
 pub data Unheld (name : List ℕ) (number : ℕ) : RemoveHold → List Entry → Settled → Type 0 where
   Gone_by : Unheld name number hold.Gone (entry.Gone number name ∷ []) settled.Nobody
-  Failed_by : (failed : FailedCall) → Unheld name number (hold.Failed failed) (entry.Unsettled name (fault.Call failed) ∷ []) (settled.Fault failed)
-  Short_by : Unheld name number hold.Memory (entry.Unsettled name fault.Memory ∷ []) settled.Memory
+  Failed_by : (failed : FailedCall) → Unheld name number (hold.Failed failed) [] (settled.Fault failed)
+  Short_by : Unheld name number hold.Memory [] settled.Memory
 
 pub data Removal (name : List ℕ) (known : Known) : List Made → List Entry → Settled → Type 0 where
   Not_held : (ms : List Made) (answer : RemoveHold) (es : List Entry) (how : Settled) → Way (holding_remove name known.held.0) ms answer → Unheld name known.number answer es how → Removal name known ms es how
@@ -93,11 +93,11 @@ new_known {name} {rs = rs} {x = x} opening new = with_own name x rs new.named (o
 -- beside which standings, if one was. Only a settling binds; `given` is what is known of a new standing.
 pub data Flat (binds : Bool) (given : List Standing → Bound → Standing → Type 0) (name : List ℕ) (ss : List Standing) : Bool → List Made → List Entry → Settled → List Standing → Option (List Standing × Bound) → Type 0 where
   Unprobed : (known : Known) (failed : FailedCall) → standing_of name ss ≡ Some known → Flat binds given name ss true (answered (Ask_alive known.held.0) (told_at probe.Failed failed) ∷ []) (entry.Unsettled name (fault.Call failed) ∷ []) (settled.Fault failed) (tried_standings ss name (settled.Fault failed)) None
-  Tried : (known : Known) (on : Bool) (failed : FailedCall) (ms : List Made) (es : List Entry) (how : Settled) → standing_of name ss ≡ Some known → Brought name known on ms es how → Flat binds given name ss true (answered (Ask_alive known.held.0) (told_at (probe.Alive on) failed) ∷ ms) es how (tried_standings ss name how) None
+  Tried : (known : Known) (on : Bool) (failed : FailedCall) (ms : List Made) (es : List Entry) (how : Settled) → standing_of name ss ≡ Some known → Brought name known on ms es how → Flat binds given name ss true (answered (Ask_alive known.held.0) (told_at (probe.Alive on) failed) ∷ ms) (es ++ unsettled_by name how) how (tried_standings ss name how) None
   Stopped : (ms : List Made) (es : List Entry) (rs : List Standing) → binds ≡ false → Opening name ss ms es rs → Flat binds given name ss true ms es settled.Nobody rs None
   Unbound : (ms ns : List Made) (es fs : List Entry) (rs : List Standing) (r : Binding) (how : Settled) → binds ≡ true → Opening name ss ms es rs → Way (binding name (parent_of name)) ns r → Unbound_end name r fs how → Flat binds given name ss true (ms ++ ns) (es ++ fs) how rs None
   No_place : (ms ns : List Made) (es : List Entry) (rs : List Standing) (b : Bound) (shut : Closing) → binds ≡ true → Opening name ss ms es rs → Way (binding name (parent_of name)) ns (bound.Bound b) → Flat binds given name ss false (ms ++ (ns ++ answered (Close b.held.0) shut ∷ [])) (es ++ entry.Unsettled name fault.Memory ∷ []) settled.Memory rs None
-  Judged_so : (ms ns os : List Made) (es fs : List Entry) (rs : List Standing) (b : Bound) (x : Standing) (how : Settled) → binds ≡ true → Opening name ss ms es rs → Way (binding name (parent_of name)) ns (bound.Bound b) → given rs b x → IsNew name b x → Brought name (known_of x) b.on os fs how → Flat binds given name ss true (ms ++ (ns ++ os)) (es ++ entry.Judged x.number name x.held x.verdict x.cause ∷ fs) how (tried_standings (with_standing x rs) name how) (Some (rs, b))
+  Judged_so : (ms ns os : List Made) (es fs : List Entry) (rs : List Standing) (b : Bound) (x : Standing) (how : Settled) → binds ≡ true → Opening name ss ms es rs → Way (binding name (parent_of name)) ns (bound.Bound b) → given rs b x → IsNew name b x → Brought name (known_of x) b.on os fs how → Flat binds given name ss true (ms ++ (ns ++ os)) (es ++ entry.Judged x.number name x.held x.verdict x.cause ∷ (fs ++ unsettled_by name how)) how (tried_standings (with_standing x rs) name how) (Some (rs, b))
 
 -- the walk
 
@@ -111,7 +111,7 @@ behind a e b = append_assoc a (e ∷ []) b
 written : (name : List ℕ) (number : ℕ) (what : Write) (entries : List Entry) (outcome : Wrote) (failed : FailedCall) (P : Bool → List Made → Settled × List Entry → Type 0) → ((es fs : List Entry) (how : Settled) → fs ≡ entries ++ es → Written name number what (told_at outcome failed) es how → P true [] (how, fs)) → Ways (after_write name number what (entries ++ entry.Intent number name what ∷ []) outcome failed) P
 written name number what entries wrote.Done failed P k = k _ _ _ (behind entries (entry.Intent number name what) (entry.Wrote number name what wrote.Done ∷ [])) (Done failed)
 written name number what entries wrote.Gone failed P k = k _ _ _ (behind (entries ++ entry.Intent number name what ∷ []) (entry.Wrote number name what wrote.Gone) (entry.Gone number name ∷ []) ∙ behind entries (entry.Intent number name what) _) (Went failed)
-written name number what entries wrote.Failed failed P k = k _ _ _ (behind (entries ++ entry.Intent number name what ∷ []) (entry.Wrote number name what wrote.Failed) (entry.Unsettled name (fault.Call failed) ∷ []) ∙ behind entries (entry.Intent number name what) _) (Broke failed)
+written name number what entries wrote.Failed failed P k = k _ _ _ (behind entries (entry.Intent number name what) (entry.Wrote number name what wrote.Failed ∷ [])) (Broke failed)
 
 valued : (name : List ℕ) (known : Known) (on : Bool) (entries : List Entry) → Ways (valuing name known on entries) (Sure (Adds entries (Valued name known on)))
 unfolding valuing
@@ -136,8 +136,8 @@ removed name known entries = behind_sure (Way (holding_remove name known.held.0)
     by : (ms : List Made) (a : RemoveHold) → Way (holding_remove name known.held.0) ms a → Ways (after_hold name known entries a) (Sure (λ ns p. Adds entries (Removal name known) (ms ++ ns) p))
     by ms (hold.Ready file) way = λ t shut. written name known.number write.Remove entries t.answer (failure_of t) (Sure (λ ns p. Adds entries (Removal name known) (ms ++ answered (Put file.0 write.Remove) t ∷ answered (Close file.0) shut ∷ ns) p)) (λ es fs how is w. (refl, (es, is, Put_on ms file t shut es how way w)))
     by ms hold.Gone way = at_end ms _ (_, refl, Not_held ms hold.Gone _ _ way Gone_by)
-    by ms (hold.Failed failed) way = at_end ms _ (_, refl, Not_held ms (hold.Failed failed) _ _ way (Failed_by failed))
-    by ms hold.Memory way = at_end ms _ (_, refl, Not_held ms hold.Memory _ _ way Short_by)
+    by ms (hold.Failed failed) way = at_end ms _ ([], sym (append-nil entries), Not_held ms (hold.Failed failed) _ _ way (Failed_by failed))
+    by ms hold.Memory way = at_end ms _ ([], sym (append-nil entries), Not_held ms hold.Memory _ _ way Short_by)
 
 carried : (name : List ℕ) (known : Known) (on : Bool) (entries : List Entry) → Ways (writing name known on entries) (Sure (Adds entries (Carried name known on)))
 unfolding writing
@@ -167,6 +167,10 @@ brought name known on entries = behind_sure (Adds entries (Carried name known on
     by : (ms : List Made) (how : Settled) (fs es : List Entry) → fs ≡ entries ++ es → Carried name known on ms es how → Ways (close_gone known.held.0 fs how) (Sure (λ ns p. Adds entries (Brought name known on) (ms ++ ns) p))
     by ms settled.Nobody fs es e c = λ shut. (refl, (es, e, Let_go ms es shut c))
     by ms how fs es e c = stays ms how fs es e c (λ s. let none : ⊥ = cc in none)
+
+-- where the name is told as unsettled behind them
+adds_told : (entries fs es : List Entry) (name : List ℕ) (how : Settled) → fs ≡ entries ++ es → fs ++ unsettled_by name how ≡ entries ++ (es ++ unsettled_by name how)
+adds_told entries fs es name how e = ap (λ (v : List Entry). v ++ unsettled_by name how) e ∙ append_assoc entries es (unsettled_by name how)
 
 -- a settling
 
@@ -220,12 +224,12 @@ entered {J} answer later name present w ms es fs rs same opening = behind_sure (
         let x : Standing = standing_for w name b.held.0 dev given in
         let e : Entry = judged_entry w name b.held.0 given in
         let after : J = later w.judge dev (is_none (parent_of name)) present b.on rs in
-        sure_last (Adds (fs ++ e ∷ []) (Brought name (known_of x) b.on)) (λ ok os p. Settles answer later name present w ok (ms ++ (ns ++ os)) p) (bringing name (known_in u b.held.0 given) b.on (fs ++ e ∷ [])) (to_keep (record u { next = w.next + 1; judge = after }) x) (λ (q : Settled × List Entry). (q.0, record u { standings = kept_standings rs x q.0; next = w.next + 1; judge = after; entries = q.1 })) (λ q. refl) (brought name (known_of x) b.on (fs ++ e ∷ []))
+        sure_last (Adds (fs ++ e ∷ []) (Brought name (known_of x) b.on)) (λ ok os p. Settles answer later name present w ok (ms ++ (ns ++ os)) p) (bringing name (known_in u b.held.0 given) b.on (fs ++ e ∷ [])) (to_keep (record u { next = w.next + 1; judge = after }) x) (λ (q : Settled × List Entry). (q.0, record u { standings = kept_standings rs x q.0; next = w.next + 1; judge = after; entries = q.1 ++ unsettled_by name q.0 })) (λ q. refl) (brought name (known_of x) b.on (fs ++ e ∷ []))
         (λ os q h. record {
-          rest = es ++ e ∷ h.0;
+          rest = es ++ e ∷ (h.0 ++ unsettled_by name q.0);
           judged = Some (rs, b);
-          flat = subst (λ v. Flat true (IsGiven answer present name w) name w.standings true (ms ++ (ns ++ os)) (es ++ e ∷ h.0) q.0 v (Some (rs, b))) (sym (kept_tried rs x q.0 refl (opening_none opening))) (Judged_so ms ns os es h.0 rs b x q.0 refl opening way refl (record { named = refl; held = refl; fresh = refl; stays = refl }) h.2);
-          entries = more q.1 (e ∷ h.0) (h.1 ∙ behind fs e h.0);
+          flat = subst (λ v. Flat true (IsGiven answer present name w) name w.standings true (ms ++ (ns ++ os)) (es ++ e ∷ (h.0 ++ unsettled_by name q.0)) q.0 v (Some (rs, b))) (sym (kept_tried rs x q.0 refl (opening_none opening))) (Judged_so ms ns os es h.0 rs b x q.0 refl opening way refl (record { named = refl; held = refl; fresh = refl; stays = refl }) h.2);
+          entries = more _ (e ∷ (h.0 ++ unsettled_by name q.0)) (adds_told (fs ++ e ∷ []) q.1 h.0 name q.0 h.1 ∙ behind fs e (h.0 ++ unsettled_by name q.0));
           listed = refl;
           next = refl;
           judge = refl;
@@ -252,8 +256,8 @@ settles {J} answer later name present w = from (standing_of name w.standings) re
   where
     known_by : (known : Known) → standing_of name w.standings ≡ Some known → (r : Probe) (failed : FailedCall) → Ways (after_known answer later name present w known r failed) (λ ok ms p. Settles answer later name present w ok (answered (Ask_alive known.held.0) (told_at r failed) ∷ ms) p)
     known_by known e (probe.Alive on) failed =
-        sure_last (Adds w.entries (Brought name known on)) (λ ok ms p. Settles answer later name present w ok (answered (Ask_alive known.held.0) (told_at (probe.Alive on) failed) ∷ ms) p) (bringing name known on w.entries) (to_mark w name) (λ (q : Settled × List Entry). (q.0, record w { standings = tried_standings w.standings name q.0; entries = q.1 })) (λ q. refl) (brought name known on w.entries)
-        (λ ms q h. record { rest = h.0; judged = None; flat = Tried known on failed ms h.0 q.0 e h.2; entries = h.1; listed = refl; next = refl; judge = refl })
+        sure_last (Adds w.entries (Brought name known on)) (λ ok ms p. Settles answer later name present w ok (answered (Ask_alive known.held.0) (told_at (probe.Alive on) failed) ∷ ms) p) (bringing name known on w.entries) (to_mark w name) (λ (q : Settled × List Entry). (q.0, record w { standings = tried_standings w.standings name q.0; entries = q.1 ++ unsettled_by name q.0 })) (λ q. refl) (brought name known on w.entries)
+        (λ ms q h. record { rest = h.0 ++ unsettled_by name q.0; judged = None; flat = Tried known on failed ms h.0 q.0 e h.2; entries = adds_told w.entries q.1 h.0 name q.0 h.1; listed = refl; next = refl; judge = refl })
     known_by known e probe.Gone failed = λ shut. entered answer later name present w (answered (Ask_alive known.held.0) (told_at probe.Gone failed) ∷ answered (Close known.held.0) shut ∷ []) (entry.Gone known.number name ∷ []) (w.entries ++ entry.Gone known.number name ∷ []) (without name w.standings) refl (Lost known failed shut e)
     known_by known e probe.Failed failed = record { rest = _; judged = None; flat = Unprobed known failed e; entries = refl; listed = refl; next = refl; judge = refl }
 
@@ -276,8 +280,8 @@ resettles {J} answer later name present w k = from (standing_of name k.standings
 
     known_by : (known : Known) → standing_of name k.standings ≡ Some known → (r : Probe) (failed : FailedCall) → Ways (after_again name k known r failed) (λ ok ms p. R ok (answered (Ask_alive known.held.0) (told_at r failed) ∷ ms) p)
     known_by known e (probe.Alive on) failed =
-        sure_last (Adds k.entries (Brought name known on)) (λ ok ms p. R ok (answered (Ask_alive known.held.0) (told_at (probe.Alive on) failed) ∷ ms) p) (bringing name known on k.entries) (to_keep_mark k name) (λ (q : Settled × List Entry). (q.0, record { standings = tried_standings k.standings name q.0; entries = q.1 })) (λ q. refl) (brought name known on k.entries)
-        (λ ms q h. record { rest = h.0; judged = None; flat = Tried known on failed ms h.0 q.0 e h.2; entries = h.1; listed = refl; next = refl; judge = refl })
+        sure_last (Adds k.entries (Brought name known on)) (λ ok ms p. R ok (answered (Ask_alive known.held.0) (told_at (probe.Alive on) failed) ∷ ms) p) (bringing name known on k.entries) (to_keep_mark k name) (λ (q : Settled × List Entry). (q.0, record { standings = tried_standings k.standings name q.0; entries = q.1 ++ unsettled_by name q.0 })) (λ q. refl) (brought name known on k.entries)
+        (λ ms q h. record { rest = h.0 ++ unsettled_by name q.0; judged = None; flat = Tried known on failed ms h.0 q.0 e h.2; entries = adds_told k.entries q.1 h.0 name q.0 h.1; listed = refl; next = refl; judge = refl })
     known_by known e probe.Gone failed = λ shut. record { rest = _; judged = None; flat = Stopped _ _ _ refl (Lost known failed shut e); entries = refl; listed = refl; next = refl; judge = refl }
     known_by known e probe.Failed failed = record { rest = _; judged = None; flat = Unprobed known failed e; entries = refl; listed = refl; next = refl; judge = refl }
 

@@ -1,5 +1,5 @@
 -- Standings, and the devices of their held files.
-use Rattle.std.proofs.Common.{◌≡◌, ◌↔◌, ℕ, nat_eq, Option, option_copied, IsNone, Bor, sym, Bool, true, false, not, ◌∙◌, ◌||◌, List, [], ◌∷◌, Some, None, map, cond, ◌⊎◌, inl, inr, refl, ap, subst, arith, slice_get, ◌&&◌, ◌++◌, take, drop}
+use Rattle.std.proofs.Common.{◌≡◌, ◌↔◌, ℕ, nat_eq, Option, option_copied, IsNone, IsSome, Bor, sym, Bool, true, false, not, ◌∙◌, ◌||◌, List, [], ◌∷◌, Some, None, map, cond, ◌⊎◌, inl, inr, refl, ap, subst, arith, slice_get, ◌&&◌, ◌++◌, take, drop}
 use Rattle.std.proofs.lemmas.Bool.{or_right, or_cases, cases_Bool, cond_both, cond-false, both_ways, not-true, not-false, false_from_ne_true}
 use Rattle.std.specs.Cmp.Lexicographic.{bytes_decides}
 use Rattle.ug_table.proofs.Common.{Has, AllDistinct, same_name, known_of, standing_of, numbered, without, marked, lists, removed_of, place_for, with_standing, settled_standing, numbers_of, Standing, Known, Target, Device, Control, Authorized, Remove, Write, Wrote, Told, Put, Kernel, Live, IsKernel, Lived, value_after, does_put, IsWritten, IsGoneAt, IsAlive, Called, Quiet, Grows, FailedCall, Settled, Held, open_file, known_files, number_of, Entry, farewells}
@@ -104,18 +104,26 @@ unnumbered number (y ∷ ss) s h a n = cond_both (nat_eq y.number number) (Some 
       | inr b ↦ unnumbered number ss s f b n
     ]) h
 
+-- the standing of the number is there
+pub stands_at : (number : ℕ) (ss : List Standing) (o : Option Standing) → numbered number ss ≡ o → IsSome o → (x : Standing) × (numbered number ss ≡ Some x)
+stands_at number ss (Some x) e is = (x, e)
+stands_at number ss None e is = let none : ⊥ = cc in absurd none
+
 -- none is found exactly where no standing has it
 pub none_numbered : (o : Option (Bor Standing)) (number : ℕ) (ss : List Standing) → option_copied o ≡ numbered number ss → IsNone o ↔ ((s : Standing) → Has ss s → s.number ≡ number → ⊥)
 none_numbered None number ss e = (λ n s a m. unnumbered number ss s (sym e) a m, λ f. refl)
 none_numbered (Some x) number ss e = (λ n. let none : ⊥ = cc in absurd none, λ f. let k = numbered_has number ss x.now (sym e) in absurd (f x.now k.0 k.1))
 
+-- what is done to each standing leaves a field that it keeps
+pub fields_stay : {X : Type 0} (f : Standing → Standing) (field : Standing → X) (ss : List Standing) → ((s : Standing) → field (f s) ≡ field s) → map field (map f ss) ≡ map field ss
+fields_stay f field [] e = refl
+fields_stay {X} f field (s ∷ ss) e = ap (λ (v : X). v ∷ map field (map f ss)) (e s) ∙ ap (λ (v : List X). field s ∷ v) (fields_stay f field ss e)
+
 pub names_marked : (name : List ℕ) (mark : Bool) (ss : List Standing) → names_of (map (marked name mark) ss) ≡ names_of ss
-names_marked name mark [] = refl
-names_marked name mark (s ∷ ss) = ap (λ (v : List (List ℕ)). s.name ∷ v) (names_marked name mark ss)
+names_marked name mark ss = fields_stay (marked name mark) (λ (s : Standing). s.name) ss (λ s. refl)
 
 pub numbers_marked : (name : List ℕ) (mark : Bool) (ss : List Standing) → numbers_of (map (marked name mark) ss) ≡ numbers_of ss
-numbers_marked name mark [] = refl
-numbers_marked name mark (s ∷ ss) = ap (λ (v : List ℕ). s.number ∷ v) (numbers_marked name mark ss)
+numbers_marked name mark ss = fields_stay (marked name mark) (λ (s : Standing). s.number) ss (λ s. refl)
 
 -- the marks of removed devices
 

@@ -538,9 +538,17 @@ After x ss settled.Nobody rs = Less x ss rs
 After x ss settled.Stands rs = Same ss rs × Marks x ss rs
 After x ss how rs = Same ss rs × KeepMarks ss rs
 
+marked_one : (ss : List Standing) (name : List ℕ) (mark : Bool) (s : Standing) → Has (map (marked name mark) ss) s → IsOne ss s
+marked_one ss name mark s a = let m = map_has (marked name mark) ss s a in (m.0, m.1, ap (λ (v : Standing). v.number) (sym m.2), ap (λ (v : Standing). v.name) (sym m.2), ap (λ (v : Standing). v.held) (sym m.2), ap (λ (v : Standing). v.judged) (sym m.2), ap (λ (v : Standing). v.verdict) (sym m.2), ap (λ (v : Standing). v.cause) (sym m.2))
+
+pub tried_one : (ss : List Standing) (name : List ℕ) (how : Settled) (s : Standing) → Has (tried_standings ss name how) s → IsOne ss s
+tried_one ss name settled.Nobody s a = one_itself ss s (filter_has (λ (v : Standing). not (same_name v.name name)) ss s a).0
+tried_one ss name settled.Stands s a = marked_one ss name true s a
+tried_one ss name how s a = marked_one ss name false s a
+
 marked_same : (k : Kernel) (ss : List Standing) (next : ℕ) (name : List ℕ) (mark : Bool) → Stand k ss next → Same ss (map (marked name mark) ss)
 marked_same k ss next name mark stand = record {
-  there = λ s a. let m = map_has (marked name mark) ss s a in (m.0, m.1, ap (λ (v : Standing). v.number) (sym m.2), ap (λ (v : Standing). v.name) (sym m.2), ap (λ (v : Standing). v.held) (sym m.2), ap (λ (v : Standing). v.judged) (sym m.2), ap (λ (v : Standing). v.verdict) (sym m.2), ap (λ (v : Standing). v.cause) (sym m.2));
+  there = marked_one ss name mark;
   kept = λ s a. (marked name mark s, has_map (marked name mark) ss s a, refl, refl, refl, refl, refl, refl);
   names = subst (λ (v : List (List ℕ)). AllDistinct v) (sym (names_marked name mark ss)) stand.names;
   order = subst (λ (v : List (List ℕ)). AreInOrder v) (sym (names_marked name mark ss)) stand.order;

@@ -15,7 +15,6 @@ use Rattle.ug_node.specs.declared.removal.RemoveHold.{RemoveHold}
 use Rattle.ug_node.specs.declared.removal.RemoveHold.TheVariants as hold
 use Rattle.ug_audit.specs.declared.entry.Entry.{Entry}
 use Rattle.ug_audit.specs.declared.entry.Entry.TheVariants as entry
-use Rattle.ug_audit.specs.declared.entry.Fault.TheVariants as fault
 use Rattle.ug_table.specs.declared.standing.Known.{Known}
 use Rattle.ug_table.specs.declared.standing.Settled.{Settled}
 use Rattle.ug_table.specs.declared.standing.Settled.TheVariants as settled
@@ -52,7 +51,7 @@ CallsFor target.Reject write.Remove = Unit {0}
 abbrev pub after_write : List ℕ → ℕ → Write → List Entry → Wrote → FailedCall → Prog (Settled × List Entry)
 after_write name number what entries wrote.Done failed = Return (settled.Stands, entries ++ entry.Wrote number name what wrote.Done ∷ [])
 after_write name number what entries wrote.Gone failed = Return (settled.Nobody, (entries ++ entry.Wrote number name what wrote.Gone ∷ []) ++ entry.Gone number name ∷ [])
-after_write name number what entries wrote.Failed failed = Return (settled.Fault failed, (entries ++ entry.Wrote number name what wrote.Failed ∷ []) ++ entry.Unsettled name (fault.Call failed) ∷ [])
+after_write name number what entries wrote.Failed failed = Return (settled.Fault failed, entries ++ entry.Wrote number name what wrote.Failed ∷ [])
 
 abbrev pub to_write : List ℕ → Known → Write → List Entry → Prog (Settled × List Entry)
 to_write name known what entries = Ask (Put known.held.0 what) (λ t. after_write name known.number what (entries ++ entry.Intent known.number name what ∷ []) t.answer (failure_of t))
@@ -74,8 +73,8 @@ to_remove name known file entries = Ask (Put file write.Remove) (λ t. Ask (Clos
 abbrev pub after_hold : List ℕ → Known → List Entry → RemoveHold → Prog (Settled × List Entry)
 after_hold name known entries (hold.Ready file) = to_remove name known file.0 entries
 after_hold name known entries hold.Gone = Return (settled.Nobody, entries ++ entry.Gone known.number name ∷ [])
-after_hold name known entries (hold.Failed failed) = Return (settled.Fault failed, entries ++ entry.Unsettled name (fault.Call failed) ∷ [])
-after_hold name known entries hold.Memory = Return (settled.Memory, entries ++ entry.Unsettled name fault.Memory ∷ [])
+after_hold name known entries (hold.Failed failed) = Return (settled.Fault failed, entries)
+after_hold name known entries hold.Memory = Return (settled.Memory, entries)
 
 -- the removal
 unfoldable pub removing : List ℕ → Known → List Entry → Prog (Settled × List Entry)

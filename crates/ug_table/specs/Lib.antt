@@ -10,3 +10,4 @@ pub mod Order
 pub mod Marks
 pub mod Parts
 pub mod One
+pub mod Orders

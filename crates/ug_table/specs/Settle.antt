@@ -33,6 +33,13 @@ stands (settled.Fault failed) = false
 stands settled.Nobody = false
 stands settled.Memory = false
 
+-- the entry that tells a name as unsettled, where its part ended so
+abbrev pub unsettled_by : List ℕ → Settled → List Entry
+unsettled_by name settled.Stands = []
+unsettled_by name settled.Nobody = []
+unsettled_by name (settled.Fault failed) = entry.Unsettled name (fault.Call failed) ∷ []
+unsettled_by name settled.Memory = entry.Unsettled name fault.Memory ∷ []
+
 -- a new standing is kept, unless its device is gone
 abbrev pub kept_standings : List Standing → Standing → Settled → List Standing
 kept_standings ss s settled.Nobody = ss
@@ -41,7 +48,7 @@ kept_standings ss s (settled.Fault failed) = with_standing s ss
 kept_standings ss s settled.Memory = with_standing s ss
 
 abbrev pub to_keep : {J : Type 0} → State J → Standing → Settled × List Entry → Prog (Settled × State J)
-to_keep w s p = Return (p.0, record w { standings = kept_standings w.standings s p.0; entries = p.1 })
+to_keep w s p = Return (p.0, record w { standings = kept_standings w.standings s p.0; entries = p.1 ++ unsettled_by s.name p.0 })
 
 -- how a name ends whose settling a fault stopped
 abbrev pub stopped_by : Fault → Settled
@@ -114,7 +121,7 @@ tried_standings ss name (settled.Fault failed) = map (marked name false) ss
 tried_standings ss name settled.Memory = map (marked name false) ss
 
 abbrev pub to_mark : {J : Type 0} → State J → List ℕ → Settled × List Entry → Prog (Settled × State J)
-to_mark w name p = Return (p.0, record w { standings = tried_standings w.standings name p.0; entries = p.1 })
+to_mark w name p = Return (p.0, record w { standings = tried_standings w.standings name p.0; entries = p.1 ++ unsettled_by name p.0 })
 
 -- a device that is gone loses its standing, and its held file is closed
 abbrev pub dropped : {J : Type 0} → State J → List ℕ → ℕ → State J
@@ -137,7 +144,7 @@ unfoldable pub settling : {J : Type 0} → Answers J → Laters J → List ℕ �
 settling answer later name present w = from_standing answer later name present w (standing_of name w.standings)
 
 abbrev pub to_keep_mark : Kept → List ℕ → Settled × List Entry → Prog (Settled × Kept)
-to_keep_mark k name p = Return (p.0, record { standings = tried_standings k.standings name p.0; entries = p.1 })
+to_keep_mark k name p = Return (p.0, record { standings = tried_standings k.standings name p.0; entries = p.1 ++ unsettled_by name p.0 })
 
 abbrev pub after_again : List ℕ → Kept → Known → Probe → FailedCall → Prog (Settled × Kept)
 after_again name k known (probe.Alive on) failed = then (bringing name known on k.entries) (to_keep_mark k name)

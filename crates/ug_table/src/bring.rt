@@ -1,14 +1,13 @@
 // Brings a device to its verdict.
-ghost use Rattle.std.specs.Prelude.{◌≡◌, ◌≤◌, ◌+◌, ◌++◌, ◌∷◌, []};
+ghost use Rattle.std.specs.Prelude.{◌≡◌, ◌≤◌, ◌+◌};
 ghost use Rattle.ug_kernel.specs.Tree.{Runs};
 ghost use Rattle.ug_audit.specs.Journal.{Notes, noted_in};
-ghost use Rattle.ug_audit.specs.declared.entry.Entry.TheVariants.{Unsettled};
-ghost use Rattle.ug_table.specs.Settle.{stopped_by};
+ghost use Rattle.ug_table.specs.declared.standing.Settled.TheVariants.{Stands};
 ghost use Rattle.ug_table.specs.Bring.{wants, write_of, is_reject, is_to_go, valuing, to_remove, removing, writing, bringing};
 
 use crate::standing::{Known, Settled};
 use std::alloc::Global;
-use ug_audit::{Auditor, Entry, Fault, Journal};
+use ug_audit::{Auditor, Entry, Journal};
 use ug_kernel::{Sysfs, Write, Wrote};
 use ug_node::{RemoveHold, failed_call, hold_remove, put};
 use ug_types::{Held, NodeName, Target};
@@ -51,17 +50,6 @@ fn is_to_go(known: Known) -> bool
     is_reject(known.verdict) && !known.removed
 }
 
-/// Notes what stopped the settling of a name, which ends so.
-pub fn note_fault(out: &mut Journal, name: &NodeName, fault: Fault) -> Settled
-    requires { 1 ≤ (noted_in out.old).spare }
-    ensures settled { result ≡ stopped_by fault }
-    ensures entries { (noted_in out.new).entries ≡ (noted_in out.old).entries ++ Unsettled name.now fault ∷ [] }
-    ensures journal { Notes (λ b. ⟦<dyn Auditor as Auditor>⟧ b.vtable) 1 out.old out.new }
-{
-    out.push(Entry::Unsettled { name: *name, fault });
-    fault.into()
-}
-
 /// Writes where the value differs from the one that the verdict wants.
 #[tactic(auto, unfolding(crate::specs::Bring::valuing))]
 fn set_value<Y: Sysfs>(
@@ -74,6 +62,7 @@ fn set_value<Y: Sysfs>(
     requires { 3 ≤ (noted_in out.old).spare }
     ensures runs { Runs Y.gives sysfs.old (valuing name.now known on (noted_in out.old).entries) (result, (noted_in out.new).entries) sysfs.new }
     ensures journal { Notes (λ b. ⟦<dyn Auditor as Auditor>⟧ b.vtable) 3 out.old out.new }
+    ensures stands { result ≡ Stands → (noted_in out.old).spare ≤ (noted_in out.new).spare + 2 }
 {
     if is_wanted(known.verdict) == on {
         return Settled::Stands;
@@ -101,7 +90,7 @@ fn set_value<Y: Sysfs>(
             });
             Settled::Nobody
         }
-        Wrote::Failed => note_fault(out, name, Fault::Call(failed_call(sysfs))),
+        Wrote::Failed => Settled::Fault(failed_call(sysfs)),
     }
 }
 
@@ -143,7 +132,7 @@ fn write_remove<Y: Sysfs>(
             });
             Settled::Nobody
         }
-        Wrote::Failed => note_fault(out, name, Fault::Call(failed)),
+        Wrote::Failed => Settled::Fault(failed),
     }
 }
 
@@ -169,8 +158,8 @@ fn remove<Y: Sysfs>(
             });
             Settled::Nobody
         }
-        RemoveHold::Failed(failed) => note_fault(out, name, Fault::Call(failed)),
-        RemoveHold::Memory => note_fault(out, name, Fault::Memory),
+        RemoveHold::Failed(failed) => Settled::Fault(failed),
+        RemoveHold::Memory => Settled::Memory,
     }
 }
 
@@ -185,9 +174,9 @@ pub fn bring<Y: Sysfs>(
     on: bool,
     out: &mut Journal,
 ) -> Settled
-    requires { 6 ≤ (noted_in out.old).spare }
+    requires { 5 ≤ (noted_in out.old).spare }
     ensures runs { Runs Y.gives sysfs.old (bringing name.now known on (noted_in out.old).entries) (result, (noted_in out.new).entries) sysfs.new }
-    ensures journal { Notes (λ b. ⟦<dyn Auditor as Auditor>⟧ b.vtable) 6 out.old out.new }
+    ensures journal { Notes (λ b. ⟦<dyn Auditor as Auditor>⟧ b.vtable) 5 out.old out.new }
 {
     let settled = make_writes(alloc, sysfs, name, known, on, out);
     match settled {
@@ -210,9 +199,9 @@ fn make_writes<Y: Sysfs>(
     on: bool,
     out: &mut Journal,
 ) -> Settled
-    requires { 6 ≤ (noted_in out.old).spare }
+    requires { 5 ≤ (noted_in out.old).spare }
     ensures runs { Runs Y.gives sysfs.old (writing name.now known on (noted_in out.old).entries) (result, (noted_in out.new).entries) sysfs.new }
-    ensures journal { Notes (λ b. ⟦<dyn Auditor as Auditor>⟧ b.vtable) 6 out.old out.new }
+    ensures journal { Notes (λ b. ⟦<dyn Auditor as Auditor>⟧ b.vtable) 5 out.old out.new }
 {
     match set_value(sysfs, name, known, on, out) {
         Settled::Stands => {

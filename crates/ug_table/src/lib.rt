@@ -3,12 +3,11 @@
 
 mod bring;
 mod judge;
+mod order;
 mod settle;
 mod standing;
 mod sweep;
 mod table;
-#[cfg(test)]
-mod tests;
 
 pub use judge::Judge;
 pub use standing::{Known, Settled, Standing};

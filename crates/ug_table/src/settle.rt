@@ -1,8 +1,9 @@
 // The settling of one name.
-ghost use Rattle.std.specs.Prelude.{◌≡◌, ◌≤◌, ◌<◌, ◌+◌, ◌-◌, ◌^◌, length, vec_capacity, is_none, IsSome, OnOk, Some, None};
+ghost use Rattle.std.specs.Prelude.{◌≡◌, ◌≤◌, ◌<◌, ◌+◌, ◌++◌, ◌∷◌, [], ◌-◌, ◌^◌, length, vec_capacity, is_none, IsSome, OnOk, Some, None};
 ghost use Rattle.ug_types.specs.Names.{parent_of};
 ghost use Rattle.ug_kernel.specs.Tree.{Runs};
 ghost use Rattle.ug_audit.specs.Journal.{Notes, noted_in};
+ghost use Rattle.ug_audit.specs.declared.entry.Entry.TheVariants.{Unsettled};
 ghost use Rattle.ug_table.specs.State.{state_of, kept_of};
 ghost use Rattle.ug_table.specs.Order.{KeepsOrder};
 ghost use Rattle.ug_table.specs.Standings.{numbered, standing_of};
@@ -10,9 +11,9 @@ ghost use Rattle.ug_table.specs.One.{resettling_numbered, GoesAsPart, SettlesOne
 ghost use Rattle.ug_table.specs.Marks.{LeavesMarks, has_name, has_number};
 ghost use Rattle.ug_table.specs.declared.standing.Standing.{Standing};
 ghost use Rattle.ug_table.specs.declared.standing.Settled.TheVariants.{Memory};
-ghost use Rattle.ug_table.specs.Settle.{stands, kept_standings, tried_standings, no_room, to_judge, admitting, entering, settling, resettling};
+ghost use Rattle.ug_table.specs.Settle.{stopped_by, unsettled_by, stands, kept_standings, tried_standings, no_room, to_judge, admitting, entering, settling, resettling};
 
-use crate::bring::{bring, is_reject, note_fault};
+use crate::bring::{bring, is_reject};
 use crate::judge::Judge;
 use crate::standing::{Known, Settled, Standing};
 use crate::table::{Table, find, forget, known_of, mark, put_in};
@@ -70,7 +71,7 @@ fn entry_of(s: &Standing) -> Entry
 }
 
 /// Notes how a standing was settled.
-fn remember(standings: &mut Vec<Standing>, name: &NodeName, settled: Settled)
+pub fn remember(standings: &mut Vec<Standing>, name: &NodeName, settled: Settled)
     ensures standings { standings.new.items ≡ tried_standings standings.old.items name.now settled }
     ensures len { length standings.new.items ≤ length standings.old.items }
 {
@@ -78,6 +79,32 @@ fn remember(standings: &mut Vec<Standing>, name: &NodeName, settled: Settled)
         Settled::Nobody => forget(standings, name),
         _ => mark(standings, name, is_stands(settled)),
     }
+}
+
+/// Notes what stopped the settling of a name, which ends so.
+pub fn note_fault(out: &mut Journal, name: &NodeName, fault: Fault) -> Settled
+    requires { 1 ≤ (noted_in out.old).spare }
+    ensures settled { result ≡ stopped_by fault }
+    ensures entries { (noted_in out.new).entries ≡ (noted_in out.old).entries ++ Unsettled name.now fault ∷ [] }
+    ensures journal { Notes (λ b. ⟦<dyn Auditor as Auditor>⟧ b.vtable) 1 out.old out.new }
+{
+    out.push(Entry::Unsettled { name: *name, fault });
+    fault.into()
+}
+
+// Tells a name as unsettled where its part ended so.
+fn note_unsettled(out: &mut Journal, name: &NodeName, settled: Settled)
+    requires { 1 ≤ (noted_in out.old).spare }
+    ensures entries { (noted_in out.new).entries ≡ (noted_in out.old).entries ++ unsettled_by name.now settled }
+    ensures journal { Notes (λ b. ⟦<dyn Auditor as Auditor>⟧ b.vtable) 1 out.old out.new }
+{
+    let fault = match settled {
+        Settled::Stands => return,
+        Settled::Nobody => return,
+        Settled::Fault(failed) => Fault::Call(failed),
+        Settled::Memory => Fault::Memory,
+    };
+    out.push(Entry::Unsettled { name: *name, fault });
 }
 
 impl Table {
@@ -153,6 +180,7 @@ impl Table {
         };
         out.push(entry_of(&standing));
         let settled = bring(alloc, sysfs, name, known_of(&standing), bound.on, out);
+        note_unsettled(out, name, settled);
         keep(&mut self.standings, standing, settled);
         settled
     }
@@ -311,7 +339,11 @@ impl Table {
             None => return self.enter(alloc, sysfs, name, present, judge, out),
         };
         let settled = match reprobe(sysfs, known.held) {
-            Probe::Alive(on) => bring(alloc, sysfs, name, known, on, out),
+            Probe::Alive(on) => {
+                let settled = bring(alloc, sysfs, name, known, on, out);
+                note_unsettled(out, name, settled);
+                settled
+            }
             Probe::Failed => note_fault(out, name, Fault::Call(failed_call(sysfs))),
             Probe::Gone => {
                 out.push(Entry::Gone {
@@ -348,7 +380,11 @@ pub fn settle_known<Y: Sysfs>(
         None => return Settled::Nobody,
     };
     let settled = match reprobe(sysfs, known.held) {
-        Probe::Alive(on) => bring(alloc, sysfs, name, known, on, out),
+        Probe::Alive(on) => {
+            let settled = bring(alloc, sysfs, name, known, on, out);
+            note_unsettled(out, name, settled);
+            settled
+        }
         Probe::Failed => note_fault(out, name, Fault::Call(failed_call(sysfs))),
         Probe::Gone => {
             out.push(Entry::Gone {

@@ -6,6 +6,7 @@ ghost use Rattle.ug_table.specs.Order.{StandInOrder, IsNextNumbered, is_nearer};
 ghost use Rattle.std.specs.List.{filter, list_any};
 ghost use Rattle.ug_match.specs.Queries.{query_matches};
 ghost use Rattle.ug_table.specs.Allowed.{allowed_of, allowed_records};
+ghost use Rattle.ug_table.specs.Orders.{with_order, verdict_by, cause_by};
 ghost use Rattle.ug_table.specs.Standings.{known_of, standing_of, numbered, without, marked, mark_of, removed_of, with_standing, place_for};
 
 use crate::bring::is_reject;
@@ -13,7 +14,7 @@ use crate::standing::{Known, Standing};
 use std::alloc::Global;
 use std::marker::Model;
 use ug_match::matches;
-use ug_types::{Judged, NodeName, Query, Target};
+use ug_types::{Cause, Judged, NodeName, Principal, Query, Target};
 
 /// The standings, seen as their list in sweep order of their names, the number of the next, whether a listing has
 /// succeeded, and for how many standings there is room.
@@ -115,7 +116,8 @@ fn find_next(standings: &[Standing], number: u64) -> Option<&Standing>
     next
 }
 
-fn find_numbered(standings: &[Standing], number: u64) -> Option<&Standing>
+/// The standing of a number.
+pub fn find_numbered(standings: &[Standing], number: u64) -> Option<&Standing>
     ensures { option_copied result ≡ numbered number standings.now }
 {
     standings.iter().find(|s| s.number == number)
@@ -194,6 +196,37 @@ fn removed_for(s: &Standing, name: &NodeName, settled: bool) -> bool
         s.removed || (settled && is_reject(s.verdict))
     } else {
         s.removed
+    }
+}
+
+/// Gives the standing of a number the verdict that a user or group ordered.
+#[tactic(auto, using(std::proofs::lemmas::List::Edits::map_over_more))]
+pub fn set_verdict(standings: &mut [Standing], number: u64, verdict: Target, who: Principal)
+    ensures { standings.new ≡ with_order number verdict who standings.old }
+{
+    for s in standings.iter_mut() {
+        s.cause = cause_for(s, number, who);
+        s.verdict = verdict_for(s, number, verdict);
+    }
+}
+
+fn verdict_for(s: &Standing, number: u64, verdict: Target) -> Target
+    ensures { result ≡ verdict_by number verdict s.now }
+{
+    if s.number == number {
+        verdict
+    } else {
+        s.verdict
+    }
+}
+
+fn cause_for(s: &Standing, number: u64, who: Principal) -> Cause
+    ensures { result ≡ cause_by number who s.now }
+{
+    if s.number == number {
+        Cause::Order(who)
+    } else {
+        s.cause
     }
 }
 

@@ -4,14 +4,15 @@ ghost use Rattle.ug_types.specs.Ends.{Rose};
 ghost use Rattle.ug_console.specs.Fold.{of_first};
 ghost use Rattle.ug_console.specs.Statuses.{Answers, status_of};
 ghost use Rattle.ug_console.specs.declared.results.Ended.{Ended};
-ghost use Rattle.ug_script.specs.Replay.{Script, script_step, script_end};
+ghost use Rattle.ug_script.specs.Script.{Script};
+ghost use Rattle.ug_script.specs.Replay.{script_step, script_end};
 ghost use Rattle.ug_script.specs.Journal.{StaysRecorded};
 ghost use Rattle.ug_script.specs.Laws.{StaysLawful};
 ghost use Rattle.ug_tool.specs.Replay.{new_world, replay_words, IsRefused};
 
 use std::alloc::Global;
 use ug_console::run;
-use ug_script::Runner;
+use ug_script::Interpreter;
 use ug_sysfs::SimKernel;
 use ug_types::{Put, Sink, Source};
 
@@ -60,6 +61,6 @@ pub fn run_replay<S: Source, K: Sink>(
     if !is_replay(words) {
         return refuse(out);
     }
-    let mut runner = Runner::new();
-    run(alloc, input, out, &mut runner, kernel)
+    let mut interpreter = Interpreter::new();
+    run(alloc, input, out, &mut interpreter, kernel)
 }

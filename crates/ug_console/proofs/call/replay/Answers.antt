@@ -1,12 +1,12 @@
 use Rattle.std.proofs.Common.{arith, take, refl}
-use Rattle.ug_console.specs.Fold.{of_first, read_fault}
+use Rattle.ug_console.specs.Fold.{read_fault}
 use Rattle.ug_console.proofs.Faults.{rose-after, rose-concluded}
 use Rattle.ug_console.proofs.Ending.{reads-none, reads-piece, replay-stopped, replay-fault, replay-end}
 use Rattle.ug_console.proofs.call.replay.Goals as goal
 
 pub pieces-init : goal.pieces-init
 pieces-init g c = record {
-  reads = reads-none g.M.Machine.step_of (of_first g.M.Machine.closing) (g.M.Machine.state c.args.machine.now, c.args.world.now) (g.S.Source.left c.args.input.now) (g.K.Sink.held c.args.out.now) c.new-splitter.result.line.items c.new-splitter.result.lines c.new-splitter.ensures.line c.new-splitter.ensures.lines;
+  reads = reads-none g.M.Machine.step_of g.M.Machine.closing (g.M.Machine.state c.args.machine.now, c.args.world.now) (g.S.Source.left c.args.input.now) (g.K.Sink.held c.args.out.now) c.new-splitter.result.line.items c.new-splitter.result.lines c.new-splitter.ensures.line c.new-splitter.ensures.lines;
   kept = c.requires;
   source = omega arith;
   sink = omega arith;
@@ -14,7 +14,7 @@ pieces-init g c = record {
 
 pub pieces-preserved : goal.pieces-preserved
 pieces-preserved g c = record {
-  reads = reads-piece g.M.Machine.step_of (of_first g.M.Machine.closing) (g.M.Machine.state c.args.machine.now, c.args.world.now) (g.S.Source.left c.args.input.now) (g.S.Source.left c.pieces.input) (g.S.Source.left c.take.new.self)
+  reads = reads-piece g.M.Machine.step_of g.M.Machine.closing (g.M.Machine.state c.args.machine.now, c.args.world.now) (g.S.Source.left c.args.input.now) (g.S.Source.left c.pieces.input) (g.S.Source.left c.take.new.self)
       (g.K.Sink.held c.args.out.now) (g.K.Sink.held c.pieces.out) (g.K.Sink.held c.feed.new.out) c.pieces.splitter.line.items c.pieces.splitter.lines (g.M.Machine.state c.pieces.machine, c.pieces.world) (take c.in-Bytes.n c.take.new.into)
       c.feed.new.self.line.items c.feed.new.self.lines (g.M.Machine.state c.feed.new.machine, c.feed.new.world) c.pieces.invariant.reads c.in-Bytes.ensures.bytes c.in-Done.ensures.fed;
   kept = c.in-Done.ensures.kept refl;
@@ -24,7 +24,7 @@ pieces-preserved g c = record {
 
 pub returns-in_default : goal.returns-in_default
 returns-in_default g c = record {
-  told = replay-stopped g.M.Machine.step_of (of_first g.M.Machine.closing) (g.M.Machine.state c.args.machine.now, c.args.world.now) (g.S.Source.left c.args.input.now) (g.S.Source.left c.pieces.input) (g.S.Source.left c.take.new.self)
+  told = replay-stopped g.M.Machine.step_of g.M.Machine.closing (g.M.Machine.state c.args.machine.now, c.args.world.now) (g.S.Source.left c.args.input.now) (g.S.Source.left c.pieces.input) (g.S.Source.left c.take.new.self)
       (g.K.Sink.held c.args.out.now) (g.K.Sink.held c.pieces.out) (g.K.Sink.held c.feed.new.out) (g.K.Sink.held c.conclude.new.out) c.pieces.splitter.line.items c.pieces.splitter.lines (g.M.Machine.state c.pieces.machine, c.pieces.world) (take c.in-Bytes.n c.take.new.into)
       c.feed.result c.feed.new.self.line.items c.feed.new.self.lines (g.M.Machine.state c.feed.new.machine, c.feed.new.world) c.conclude.result c.in_default.not-Done c.pieces.invariant.reads c.in-Bytes.ensures.bytes c.feed.ensures.fed c.conclude.ensures.told;
   read = λ e. absurd (c.conclude.ensures.not_read e);
@@ -33,11 +33,11 @@ returns-in_default g c = record {
 }
 
 pub returns-in-End-clause-told : goal.returns-in-End-clause-told
-returns-in-End-clause-told g c = replay-end g.M.Machine.step_of (of_first g.M.Machine.closing) (g.M.Machine.state c.args.machine.now, c.args.world.now) (g.S.Source.left c.args.input.now) (g.S.Source.left c.pieces.input) (g.S.Source.left c.take.new.self)
+returns-in-End-clause-told g c = replay-end g.M.Machine.step_of g.M.Machine.closing (g.M.Machine.state c.args.machine.now, c.args.world.now) (g.S.Source.left c.args.input.now) (g.S.Source.left c.pieces.input) (g.S.Source.left c.take.new.self)
     (g.K.Sink.held c.args.out.now) (g.K.Sink.held c.pieces.out) (g.K.Sink.held c.finish.new.out) c.pieces.splitter.line.items c.pieces.splitter.lines (g.M.Machine.state c.pieces.machine, c.pieces.world) (g.M.Machine.state c.finish.new.machine, c.finish.new.world) c.finish.result
     c.pieces.invariant.reads c.in-End.ensures.bytes.0 c.in-End.ensures.bytes.1 c.finish.ensures.told
 
 pub returns-in-Failed-clause-told : goal.returns-in-Failed-clause-told
 unfolding read_fault
-returns-in-Failed-clause-told g c = replay-fault g.M.Machine.step_of (of_first g.M.Machine.closing) (g.M.Machine.state c.args.machine.now, c.args.world.now) (g.S.Source.left c.args.input.now) (g.S.Source.left c.pieces.input) (g.S.Source.left c.take.new.self)
+returns-in-Failed-clause-told g c = replay-fault g.M.Machine.step_of g.M.Machine.closing (g.M.Machine.state c.args.machine.now, c.args.world.now) (g.S.Source.left c.args.input.now) (g.S.Source.left c.pieces.input) (g.S.Source.left c.take.new.self)
     (g.K.Sink.held c.args.out.now) (g.K.Sink.held c.pieces.out) (g.K.Sink.held c.write_result.new.out) c.pieces.splitter.line.items c.pieces.splitter.lines (g.M.Machine.state c.pieces.machine, c.pieces.world) c.write_result.result c.pieces.invariant.reads c.in-Failed.ensures.bytes c.write_result.ensures.told

@@ -1,4 +1,4 @@
-use Rattle.std.proofs.Common.{rules, ◌≡◌, Option, None, ap, sym, ◌∙◌, subst}
+use Rattle.std.proofs.Common.{Option, ap, ◌∙◌}
 use Rattle.ug_sysfs.specs.World.{Gives}
 use Rattle.ug_types.specs.declared.saved.Saved.{Saved}
 use Rattle.ug_store.specs.Scripted.{DiskWorld, MemKeeps}

@@ -1,6 +1,6 @@
 use Rattle.std.proofs.Common.{refl}
 use Rattle.ug_sysfs.specs.Sound.{new_sound}
-use Rattle.ug_script.specs.Replay.{runner_state}
+use Rattle.ug_script.specs.Replay.{interpreter_state}
 use Rattle.ug_script.proofs.Journals.{stays_lawful, stays_recorded}
 use Rattle.ug_tool.specs.Replay.{new_world}
 use Rattle.ug_tool.proofs.replay.run_replay.Goals as goal
@@ -9,7 +9,7 @@ pub returns-then-not-is_replay-clause-laws : goal.returns-then-not-is_replay-cla
 returns-then-not-is_replay-clause-laws g c = stays_lawful new_world refl new_sound
 
 pub returns-clause-replayed : goal.returns-clause-replayed
-returns-clause-replayed g c = λ is all base a b. (runner_state c.run.new.machine, rw c.new-runner.ensures at (rw c.requires at (c.run.ensures.answers all base a b)))
+returns-clause-replayed g c = λ is all base a b. (interpreter_state c.run.new.machine, rw c.new-interpreter.ensures at (rw c.requires at (c.run.ensures.answers all base a b)))
 
 pub returns-clause-laws : goal.returns-clause-laws
 returns-clause-laws g c = stays_lawful new_world refl new_sound

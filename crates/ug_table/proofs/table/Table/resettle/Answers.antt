@@ -1,9 +1,9 @@
-use Rattle.std.proofs.Common.{◌≡◌, ℕ, List, Option, Some, None, IsSome, refl, sym, subst}
-use Rattle.ug_table.proofs.Common.{Standing, numbered}
+use Rattle.std.proofs.Common.{refl, sym, subst}
 use Rattle.ug_audit.specs.Journal.{noted_in}
 use Rattle.ug_table.specs.State.{State, state_of}
 use Rattle.ug_table.specs.One.{ResettlesOne}
 use Rattle.ug_table.proofs.Loops.{same_state}
+use Rattle.ug_table.proofs.Standings.{stands_at}
 use Rattle.ug_table.proofs.One.{numbered_part, told_resettles, numbered_leaves, needs_room}
 use Rattle.ug_table.specs.Table.{TableState}
 use Rattle.ug_table.specs.Order.{StandInOrder}
@@ -19,11 +19,6 @@ returns-clause-law g c =
     subst (λ (v : State (Unit {0})). ResettlesOne g.Y.Sysfs.told c.args.number c.args.sysfs.now w h.new.sysfs v h.result)
     (sym (same_state h.new.self.standings h.new.self.standings _ _ _ _ tt (noted_in h.new.out).entries refl h.ensures.next h.ensures.listed))
     (told_resettles g.Y.Sysfs.gives g.Y.Sysfs.told g.met.Y.Sysfs.did c.args.number _ w _ _ h.ensures.runs)
-
--- the standing of the number is there
-stands_at : (number : ℕ) (ss : List Standing) (o : Option Standing) → numbered number ss ≡ o → IsSome o → (x : Standing) × (numbered number ss ≡ Some x)
-stands_at number ss (Some x) e is = (x, e)
-stands_at number ss None e is = let none : ⊥ = cc in absurd none
 
 pub returns-clause-marks : goal.returns-clause-marks
 returns-clause-marks g c =

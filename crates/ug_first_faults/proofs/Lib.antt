@@ -1,0 +1,15 @@
+pub mod BadLines
+pub mod BadTexts
+pub mod Completions
+pub mod ContextKinds
+pub mod Contexts
+pub mod Fillers
+pub mod FirstFaults
+pub mod KeywordsApart
+pub mod Machine
+pub mod MachineAttributes
+pub mod MachineConditions
+pub mod MachineRules
+pub mod MachineRuns
+pub mod MachineValues
+pub mod OpenBraces

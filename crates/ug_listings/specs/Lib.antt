@@ -1,0 +1,3 @@
+pub mod DeviceRows
+pub mod Rows
+pub mod RuleRows

@@ -1,5 +1,0 @@
-use Rattle.ug_script.proofs.Readable.{line_asks}
-use Rattle.ug_script.proofs.running.Running.line.Goals as goal
-
-pub take-requires : goal.take-requires
-take-requires g c = line_asks c.args.line.now c.in-Ok.step c.in-Ok.ensures

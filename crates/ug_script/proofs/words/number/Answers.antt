@@ -1,6 +1,0 @@
-use Rattle.std.proofs.Common.{sym, ◌∙◌}
-use Rattle.ug_script.proofs.Digits.{number-stops}
-use Rattle.ug_script.proofs.words.number.Goals as goal
-
-pub returns-in-None : goal.returns-in-None
-returns-in-None c = number-stops c.args.digits.now c.loop-byte.byte-index c.loop-byte.number c.loop-byte-test.true c.loop-byte.invariant (sym c.in-None.is ∙ c.digit_onto.ensures)

@@ -1,0 +1,105 @@
+// The machine that takes a script's lines.
+ghost use Rattle.std.specs.Prelude.{◌≡◌, ◌≤◌, Option, None};
+ghost use Rattle.ug_console.specs.Fold.{of_first};
+ghost use Rattle.ug_console.specs.Runs.{Closes};
+ghost use Rattle.ug_types.specs.Ends.{Rose};
+ghost use Rattle.ug_script.specs.Script.{Script};
+ghost use Rattle.ug_script.specs.Replay.{Begins, done_line, interpreter_state, script_step, script_end};
+
+use crate::progress::Running;
+use crate::step::StepFault;
+use crate::text::put;
+use itoa::Buffer;
+use std::alloc::Global;
+use ug_console::{Machine, Ran};
+use ug_sysfs::SimKernel;
+use ug_types::{Line, Sink};
+
+/// A machine of `ug_console` that takes a script's lines, over the kernel that it is lent. It keeps neither limits nor its end:
+/// who hands it lines does.
+#[derive(Drop)]
+pub struct Interpreter {
+    running: Option<Running>,
+}
+
+impl Interpreter {
+    /// No line was taken. It takes no memory.
+    pub fn new() -> Interpreter
+        ensures { interpreter_state result ≡ None }
+    {
+        Interpreter { running: None }
+    }
+
+    /// Writes the last line, which tells the number of events.
+    pub fn close<K: Sink>(&self, out: &mut K) -> Ran
+        ensures ran { Closes (script_end (interpreter_state self.now)) (K.held out.old) (K.held out.new) result }
+        ensures counted { K.faults out.old ≤ K.faults out.new }
+        ensures cause { result ≡ Ran.SinkFailed → Rose (K.faults out.old) (K.faults out.new) }
+    {
+        match &self.running {
+            None => Ran::Bad,
+            Some(running) => put(out, done(running.events()).bytes()),
+        }
+    }
+}
+
+/// The first line is the header.
+#[tactic(auto, unfolding(crate::specs::Replay::header))]
+fn begin(alloc: Global, line: &[u8]) -> Result<Running, StepFault>
+    ensures { Begins line.now result }
+{
+    if line != b"usbguard-replay 1".as_slice() {
+        return Err(StepFault::Bad);
+    }
+    match Running::start(alloc) {
+        Ok(running) => Ok(running),
+        Err(_) => Err(StepFault::Memory),
+    }
+}
+
+fn done(events: u64) -> Line
+    ensures { result ≡ done_line events }
+{
+    let mut line = Line::new();
+    let mut digits = Buffer::new();
+    line.push(b"done ");
+    line.push(digits.format(events).as_bytes());
+    line.push(b"\n");
+    line
+}
+
+impl Machine<SimKernel> for Interpreter {
+    ghost State = { Option Script };
+
+    ghost state = { interpreter_state };
+
+    ghost step_of = { script_step };
+
+    ghost closing = { of_first script_end };
+
+    ghost keeps = { λ m w. Unit {0} };
+
+    fn step<K: Sink>(
+        &mut self,
+        alloc: Global,
+        world: &mut SimKernel,
+        line: &[u8],
+        out: &mut K,
+    ) -> Ran {
+        if let Some(running) = &mut self.running {
+            return running.line(alloc, line, world, out);
+        }
+        match begin(alloc, line) {
+            Ok(running) => {
+                self.running = Some(running);
+                Ran::Done
+            }
+            Err(StepFault::Bad) => Ran::Bad,
+            Err(StepFault::Memory) => Ran::Memory,
+        }
+    }
+
+    fn finish<K: Sink>(&self, _alloc: Global, _world: &SimKernel, out: &mut K) -> Ran {
+        self.close(out)
+    }
+}

@@ -1,0 +1,251 @@
+-- What the files and the disk tell of a start that was refused.
+use Rattle.std.proofs.Common.{◌≡◌, ℕ, ◌≤◌, ◌<◌, nat_le, Bool, true, false, List, [], ◌∷◌, length, Option, Some, None, Result, Ok, Err, inl, inr, if◌then◌else◌, refl, sym, ◌∙◌, ap, subst, arith}
+use Rattle.rand_core.specs.Stream.{Stream}
+use Rattle.ug_types.specs.Principals.{Named}
+use Rattle.ug_types.specs.declared.verdict.Moment.{Moment}
+use Rattle.ug_types.specs.declared.rule.Rule.{Rule}
+use Rattle.ug_types.specs.Waits.{Waited}
+use Rattle.ug_rule.specs.Files.{file_read}
+use Rattle.ug_print.specs.RuleTexts.{rules_text_of}
+use Rattle.ug_conf.specs.Files.{FileStep, Read_at, Listed_at, Tree, text_at, names_at, conf_limit, Says, SaysText, SaysNames}
+use Rattle.ug_conf.specs.Texts.{conf_read}
+use Rattle.ug_conf.specs.declared.files.FileRead.{FileRead}
+use Rattle.ug_conf.specs.declared.files.FileRead.TheVariants as file
+use Rattle.ug_conf.specs.declared.files.FolderRead.{FolderRead}
+use Rattle.ug_conf.specs.declared.files.FolderRead.TheVariants as folder
+use Rattle.ug_conf.specs.declared.settings.Settings.{Settings}
+use Rattle.ug_store.specs.DiskCalls.{DiskCall, DiskTold, file_limit}
+use Rattle.ug_store.specs.Disk.{Disk}
+use Rattle.ug_store.specs.Store.{RecoversFrom}
+use Rattle.ug_store.specs.declared.store.RecoverFault.{RecoverFault}
+use Rattle.ug_store.specs.declared.store.RecoverFault.TheVariants as recover
+use Rattle.ug_policy.specs.Rules.{Rules}
+use Rattle.ug_kernel.specs.Calls.{Call, Answer}
+use Rattle.ug_kernel.specs.Kernel.{Kernel}
+use Rattle.ug_audit.specs.declared.entry.Entry.{Entry}
+use Rattle.ug_audit.specs.declared.entry.ConfigPart.TheVariants as part
+use Rattle.ug_core.specs.Event.{DaemonState}
+use Rattle.ug_core.specs.Starting.{Outset, StartsAfter, StartsFrom, StartsWith}
+use Rattle.ug_core.specs.declared.start_fault.StartFault.{StartFault}
+use Rattle.ug_core.specs.declared.start_fault.StartFault.TheVariants as fault
+use Rattle.ug_serve.specs.Opening.{refused_whole, refusal_of_rules, outset_of, SettingsIn, SettingsOf, no_access, OpensToNobody, with_cause, Opens, Unread, To_somebody, Unaimed, From_rules, start_status}
+use Rattle.ug_serve.specs.Refusals.{settings_read, settings_of_text, refusal_of_access, refusal_of_read, refusal_of_rules_text, first_refusal, refusal_behind, refusal_of_texts, IsStatusFor, IsStatusByTexts}
+use Rattle.ug_serve.specs.Serving.{Serves, Bad_words, No_room, Not_started, Served, turns_status}
+use Rattle.ug_serve.specs.Turns.{Turned, Objects, objects, Turns, ServesTurns}
+use Rattle.ug_serve.specs.declared.not_started.NotStarted.{NotStarted}
+use Rattle.ug_serve.specs.declared.not_started.NotStarted.TheVariants as why
+use Rattle.ug_serve.specs.declared.turn.TurnEnd.{TurnEnd}
+use Rattle.ug_serve.specs.declared.turn.TurnEnd.TheVariants as end
+use Rattle.ug_serve.proofs.Served.{turns_not_three}
+
+-- the texts refuse the part that wasn't taken
+abbrev pub Refuses : Option NotStarted → NotStarted → Type 0
+Refuses texts (why.Refused what bad) = texts ≡ Some (why.Refused what bad)
+Refuses texts why.FilesFailed = Unit {0}
+Refuses texts why.DiskFailed = Unit {0}
+Refuses texts why.Memory = Unit {0}
+
+-- where all is taken, they refuse none
+abbrev pub Told : {A : Type 0} → Option NotStarted → Result A NotStarted → Type 0
+Told texts (Ok value) = texts ≡ None
+Told texts (Err cause) = Refuses texts cause
+
+-- ---- the settings
+
+abbrev Read : Result Settings NotStarted → Result Settings NotStarted → Type 0
+Read texts (Ok settings) = texts ≡ Ok settings
+Read texts (Err (why.Refused what bad)) = texts ≡ Err (why.Refused what bad)
+Read texts (Err why.FilesFailed) = Unit {0}
+Read texts (Err why.DiskFailed) = Unit {0}
+Read texts (Err why.Memory) = Unit {0}
+
+read_of : (text : List ℕ) (r : Result Settings NotStarted) → SettingsOf text r → Read (settings_read (conf_read text)) r
+read_of text (Ok settings) h = ap settings_read h
+read_of text (Err (why.Refused what bad)) h = ap settings_read h.1 ∙ ap (λ p. Err (why.Refused p bad)) (sym h.0)
+read_of text (Err why.FilesFailed) h = tt
+read_of text (Err why.DiskFailed) h = tt
+read_of text (Err why.Memory) h = tt
+
+within : (n limit : ℕ) → n ≤ limit → nat_le n limit ≡ true
+within n limit le = grind (arith, le)
+
+beyond : (n limit : ℕ) → limit < n → nat_le n limit ≡ false
+beyond n limit lt = grind (arith, lt)
+
+fits_text : (text : List ℕ) → length text ≤ conf_limit → settings_of_text (Some text) ≡ settings_read (conf_read text)
+fits_text text le = ap (λ (b : Bool). if b then settings_read (conf_read text) else Err (refused_whole part.Settings)) (within (length text) conf_limit le)
+
+too_long_text : (text : List ℕ) → conf_limit < length text → settings_of_text (Some text) ≡ Err (refused_whole part.Settings)
+too_long_text text lt = ap (λ (b : Bool). if b then settings_read (conf_read text) else Err (refused_whole part.Settings)) (beyond (length text) conf_limit lt)
+
+read_told : (text : Option (List ℕ)) (answer : FileRead) (r : Result Settings NotStarted) → SaysText text answer → SettingsIn answer r → Read (settings_of_text text) r
+read_told text (file.Bytes bytes) r says h =
+    subst (λ (x : Result Settings NotStarted). Read x r) (sym (ap settings_of_text says.0 ∙ fits_text bytes says.1)) (read_of bytes r h)
+read_told text file.Absent r says h =
+    subst (λ (x : Result Settings NotStarted). Read (settings_of_text text) x) (sym h) (ap settings_of_text says)
+read_told text file.TooLong r says h =
+    subst (λ (x : Result Settings NotStarted). Read (settings_of_text text) x) (sym h) (ap settings_of_text says.1 ∙ too_long_text says.0 says.2)
+read_told text file.Failed r says h = subst (λ (x : Result Settings NotStarted). Read (settings_of_text text) x) (sym h) tt
+read_told text file.Memory r says h = subst (λ (x : Result Settings NotStarted). Read (settings_of_text text) x) (sym h) tt
+
+refused_settings : (tree : Tree) (rules : List ℕ) (texts : Result Settings NotStarted) (cause : NotStarted) → Read texts (Err cause) → Refuses (refusal_behind tree rules texts) cause
+refused_settings tree rules texts (why.Refused what bad) h = ap (refusal_behind tree rules) h
+refused_settings tree rules texts why.FilesFailed h = tt
+refused_settings tree rules texts why.DiskFailed h = tt
+refused_settings tree rules texts why.Memory h = tt
+
+-- ---- the access files
+
+access_told : (names : Option (List (List ℕ))) (answer : FolderRead) → SaysNames names answer → Told (refusal_of_access [] names) (no_access answer)
+access_told names (folder.Names []) says = ap (refusal_of_access []) says
+access_told names (folder.Names (name ∷ rest)) says = ap (refusal_of_access []) says
+access_told names folder.Absent says = ap (refusal_of_access []) says
+access_told names folder.Failed says = tt
+access_told names folder.Memory says = tt
+
+refused_access : (access later : Option NotStarted) (cause : NotStarted) → Refuses access cause → Refuses (first_refusal access later) cause
+refused_access access later (why.Refused what bad) h = ap (λ (x : Option NotStarted). first_refusal x later) h
+refused_access access later why.FilesFailed h = tt
+refused_access access later why.DiskFailed h = tt
+refused_access access later why.Memory h = tt
+
+-- ---- the rules
+
+read_rules : (text : List ℕ) → length text ≤ file_limit → refusal_of_rules_text text ≡ refusal_of_read (file_read text)
+read_rules text le = ap (λ (b : Bool). if b then refusal_of_read (file_read text) else Some (refused_whole part.Rules)) (within (length text) file_limit le)
+
+few_rules : (rules : List Rule) → length rules ≤ 65536
+    → refusal_of_read (Ok rules) ≡ (if nat_le (length (rules_text_of rules)) file_limit then None else Some (refused_whole part.Rules))
+few_rules rules few =
+    ap (λ (b : Bool). if b then (if nat_le (length (rules_text_of rules)) file_limit then None else Some (refused_whole part.Rules)) else Some (refused_whole part.Rules)) (within (length rules) 65536 few)
+
+few_fit : (rules : List Rule) → length rules ≤ 65536 → length (rules_text_of rules) ≤ file_limit → refusal_of_read (Ok rules) ≡ None
+few_fit rules few fits = few_rules rules few ∙ ap (λ (b : Bool). if b then None else Some (refused_whole part.Rules)) (within (length (rules_text_of rules)) file_limit fits)
+
+few_long : (rules : List Rule) → length rules ≤ 65536 → file_limit < length (rules_text_of rules) → refusal_of_read (Ok rules) ≡ Some (refused_whole part.Rules)
+few_long rules few long = few_rules rules few ∙ ap (λ (b : Bool). if b then None else Some (refused_whole part.Rules)) (beyond (length (rules_text_of rules)) file_limit long)
+
+many : (rules : List Rule) → 65536 < length rules → refusal_of_read (Ok rules) ≡ Some (refused_whole part.Rules)
+many rules more =
+    ap (λ (b : Bool). if b then (if nat_le (length (rules_text_of rules)) file_limit then None else Some (refused_whole part.Rules)) else Some (refused_whole part.Rules)) (beyond (length rules) 65536 more)
+
+abbrev Loaded : {A : Type 0} → Option NotStarted → Result A StartFault → Type 0
+Loaded texts (Ok value) = texts ≡ None
+Loaded texts (Err e) = Refuses texts (refusal_of_rules e)
+
+-- the rules of a text that was read
+rules_told : (text : List ℕ) (r : Result Rules StartFault) → length text ≤ file_limit → StartsWith text r → Loaded (refusal_of_rules_text text) r
+rules_told text (Ok list) le h = read_rules text le ∙ (ap refusal_of_read h.reads ∙ few_fit h.rules h.few h.fits)
+rules_told text (Err (fault.BadRules bad)) le h = read_rules text le ∙ ap refusal_of_read h
+rules_told text (Err fault.TooMany) le h = read_rules text le ∙ (ap refusal_of_read h.1 ∙ many h.0 h.2)
+rules_told text (Err fault.TooLong) le h = read_rules text le ∙ (ap refusal_of_read h.reads ∙ few_long h.rules h.few h.long)
+rules_told text (Err fault.Memory) le h = tt
+rules_told text (Err (fault.Disk count)) le h = tt
+
+text_fits : (text whole : List ℕ) → text ≡ whole → length whole ≤ file_limit → length text ≤ file_limit
+text_fits text whole e le = subst (λ (x : List ℕ). length x ≤ file_limit) (sym e) le
+
+long_file : (text : List ℕ) → file_limit < length text → refusal_of_rules_text text ≡ Some (refused_whole part.Rules)
+long_file text lt = ap (λ (b : Bool). if b then refusal_of_read (file_read text) else Some (refused_whole part.Rules)) (beyond (length text) file_limit lt)
+
+after_told : (whole : List ℕ) (read : Result (List ℕ) RecoverFault) (loaded : Result (Bool × Rules) StartFault) → RecoversFrom read whole → StartsAfter read loaded → Loaded (refusal_of_rules_text whole) loaded
+after_told whole (Ok text) (Ok started) r h =
+    subst (λ (x : List ℕ). refusal_of_rules_text x ≡ None) r.0 (rules_told text (Ok started.1) (text_fits text whole r.0 r.1) h.1)
+after_told whole (Ok text) (Err e) r h =
+    subst (λ (x : List ℕ). Refuses (refusal_of_rules_text x) (refusal_of_rules e)) r.0 (rules_told text (Err e) (text_fits text whole r.0 r.1) h)
+after_told whole (Err recover.TooLong) loaded r h =
+    subst (λ (x : Result (Bool × Rules) StartFault). Loaded (refusal_of_rules_text whole) x) (sym h) (long_file whole r)
+after_told whole (Err (recover.Failed count)) loaded r h = subst (λ (x : Result (Bool × Rules) StartFault). Loaded (refusal_of_rules_text whole) x) (sym h) tt
+after_told whole (Err recover.Memory) loaded r h = subst (λ (x : Result (Bool × Rules) StartFault). Loaded (refusal_of_rules_text whole) x) (sym h) tt
+
+from_told : (texts : Option NotStarted) (outset : Outset) (loaded : Result (Bool × Rules) StartFault) (result : Result DaemonState StartFault) → Loaded texts loaded → StartsFrom outset loaded result → Told texts (with_cause result)
+from_told texts outset (Ok l) (Ok d) k h = k
+from_told texts outset (Ok l) (Err e) k h = subst (λ (x : StartFault). Refuses texts (refusal_of_rules x)) (sym h) tt
+from_told texts outset (Err e) result k h = subst (λ (r : Result DaemonState StartFault). Told texts (with_cause r)) (sym h) k
+
+-- ---- the status
+
+status_for : (texts : Option NotStarted) (cause : NotStarted) → Refuses texts cause → IsStatusFor texts (start_status cause)
+status_for texts (why.Refused what bad) h = subst (λ (x : Option NotStarted). IsStatusFor x 3) (sym h) (inl refl)
+status_for None why.FilesFailed h = λ e. omega (arith, e)
+status_for (Some c) why.FilesFailed h = inr (inl refl)
+status_for None why.Memory h = λ e. omega (arith, e)
+status_for (Some c) why.Memory h = inr (inr (inl refl))
+status_for None why.DiskFailed h = λ e. omega (arith, e)
+status_for (Some c) why.DiskFailed h = inr (inr (inr (inl refl)))
+
+module _ {F Y D W C : Type 0} (reads : F → FileStep → F → Type 0) (begins : Y → Y → Type 0) (gives : Y → (call : Call) → Answer call → Y → Type 0) (told : Y → Option Kernel) (faults : Y → ℕ)
+    (keeps : D → (call : DiskCall) → DiskTold call → D → Type 0) (disk_told : D → Option Disk) (disk_faults : D → ℕ) (aimed : D → List ℕ → Type 0) (waits : W → Waited → W → Type 0) (clocks : C → Moment → C → Type 0)
+    (files_told : F → Option Tree) (files_tell : (s : F) (step : FileStep) (t : F) (tree : Tree) → reads s step t → files_told t ≡ Some tree → (files_told s ≡ Some tree) × Says tree step) where
+  open_told : (users : List Named) (at : List ℕ) (g : F) (r : Result (Unit {0}) NotStarted) (h : F) (tree : Tree) → OpensToNobody reads users at g r h → files_told h ≡ Some tree
+      → (files_told g ≡ Some tree) × Told (refusal_of_access users (names_at tree at)) r
+  open_told (who ∷ users) at g r h tree o is = (
+    ap files_told (sym o.1) ∙ is,
+    subst (λ (x : Result (Unit {0}) NotStarted). Told (refusal_of_access (who ∷ users) (names_at tree at)) x) (sym o.0) refl,
+  )
+  open_told [] at g r h tree o is =
+      let t = files_tell g (Listed_at at o.0) h tree o.1 is in (
+        t.0,
+        subst (λ (x : Result (Unit {0}) NotStarted). Told (refusal_of_access [] (names_at tree at)) x) (sym o.2) (access_told (names_at tree at) o.0 t.1),
+      )
+
+  opens_told : (path : List ℕ) (clock : ℕ → ℕ) (words : Stream) (f : F) (d : D) (entries : List Entry) (result : Result DaemonState NotStarted) (g : F) (e : D) (tree : Tree) (n : Disk)
+      → Opens reads keeps disk_told disk_faults aimed path clock words f d entries result g e → files_told g ≡ Some tree → disk_told e ≡ Some n
+      → (m : Disk) × (disk_told d ≡ Some m) × Told (refusal_of_texts tree m.text path) result
+  opens_told path clock words f d _ _ _ _ tree n (Unread cause g r) is on =
+      let says = files_tell f (Read_at path r.answer) g tree r.read is in
+      (n, on, refused_settings tree n.text (settings_of_text (text_at tree path)) cause (read_told (text_at tree path) r.answer (Err cause) says.1 r.settings))
+  opens_told path clock words f d _ _ _ _ tree n (To_somebody settings cause g h r o) is on =
+      let access = open_told settings.users settings.access_folder g (Err cause) h tree o is in
+      let says = files_tell f (Read_at path r.answer) g tree r.read access.0 in
+      let read = read_told (text_at tree path) r.answer (Ok settings) says.1 r.settings in (
+        n,
+        on,
+        subst (λ (x : Result Settings NotStarted). Refuses (refusal_behind tree n.text x) cause) (sym read)
+            (refused_access (refusal_of_access settings.users (names_at tree settings.access_folder)) (refusal_of_rules_text n.text) cause access.1),
+      )
+  opens_told path clock words f d _ _ _ _ tree n (Unaimed settings g h a r o same) is on = (n, sym same.same ∙ on, tt)
+  opens_told path clock words f d _ _ _ _ tree n (From_rules settings g h a b result r o aim starts) is on =
+      let access = open_told settings.users settings.access_folder g (Ok tt) h tree o is in
+      let says = files_tell f (Read_at path r.answer) g tree r.read access.0 in
+      let read = read_told (text_at tree path) r.answer (Ok settings) says.1 r.settings in
+      let back = starts.loads.law n on in
+      let rules = from_told (refusal_of_rules_text back.0.text) (outset_of settings clock words) starts.loaded result (after_told back.0.text starts.loads.read starts.loaded back.2.file starts.loads.starts) starts.starts in (
+        back.0,
+        sym aim.disk.same ∙ back.1,
+        subst (λ (x : Result Settings NotStarted). Told (refusal_behind tree back.0.text x) (with_cause result)) (sym read)
+            (subst (λ (x : Option NotStarted). Told (first_refusal x (refusal_of_rules_text back.0.text)) (with_cause result)) (sym access.1) rules),
+      )
+
+  turns_disk : (d : DaemonState) (s : Objects Y D W C) (turns : List Turned) (e : DaemonState) (t : Objects Y D W C) (n : Disk)
+      → Turns begins gives told faults keeps disk_told disk_faults waits clocks d s turns e t → disk_told t.disk ≡ Some n → (m : Disk) × (disk_told s.disk ≡ Some m)
+  turns_disk d s [] e t n h is = (n, ap (λ (x : Objects Y D W C). disk_told x.disk) (sym h.1) ∙ is)
+  turns_disk d s (turn ∷ turns) e t n h is =
+      let later = turns_disk turn.after h.0 turns e t n h.2 is in
+      let now = h.1.handled.file later.0 later.1 in
+      (now.0, now.1)
+
+  serves_disk : (k : ℕ) (d : DaemonState) (s : Objects Y D W C) (made : List Turned) (ended : TurnEnd) (e : DaemonState) (t : Objects Y D W C) (n : Disk)
+      → ServesTurns begins gives told faults keeps disk_told disk_faults waits clocks k d s made ended e t → disk_told t.disk ≡ Some n → (m : Disk) × (disk_told s.disk ≡ Some m)
+  serves_disk k d s made end.Done e t n h is = turns_disk d s made e t n h.1 is
+  serves_disk k d s made end.Numbers e t n h is = turns_disk d s made h.1 h.2 n h.3 (ap (λ (x : Objects Y D W C). disk_told x.disk) (sym h.4.same) ∙ is)
+  serves_disk k d s made end.WaitFailed e t n h is = turns_disk d s made h.1 h.2 n h.3 (ap disk_told (sym h.4.disk) ∙ is)
+
+  same_path : (p path : List ℕ) → Some p ≡ Some path → p ≡ path
+  same_path p path e = cc
+
+  pub status_told : (turns : ℕ) (clock : ℕ → ℕ) (words : Stream) (f : F) (s : Objects Y D W C) (path : Option (List ℕ)) (journal : List Entry) (made : List Turned) (status : ℕ) (g : F) (t : Objects Y D W C)
+      → Serves reads begins gives told faults keeps disk_told disk_faults aimed waits clocks turns clock words f s path journal made status g t
+      → IsStatusByTexts files_told disk_told path s.disk status g t.disk
+  status_told turns clock words f s _ _ _ _ _ _ Bad_words = λ at tree n e is on. let no : ⊥ = cc in absurd no
+  status_told turns clock words f s _ _ _ _ _ _ (No_room path) = λ at tree n e is on. (n, on, status_for (refusal_of_texts tree n.text at) why.Memory tt)
+  status_told turns clock words f s _ _ _ _ _ _ (Not_started path entries cause journal g d ms opens all notes) =
+      λ at tree n e is on.
+      let told_so = opens_told path clock words f s.disk entries (Err cause) g d tree n opens is on in
+      (told_so.0, told_so.1, subst (λ (x : List ℕ). IsStatusFor (refusal_of_texts tree told_so.0.text x) (start_status cause)) (same_path path at e) (status_for (refusal_of_texts tree told_so.0.text path) cause told_so.2))
+  status_told turns clock words f s _ _ _ _ _ _ (Served path entries first c g d ms made ended e t opens all notes serves) =
+      λ at tree n p is on.
+      let back = serves_disk turns c (objects s.sysfs d s.waiter s.clock ms) made ended e t n serves on in
+      let told_so = opens_told path clock words f s.disk entries (Ok c) g d tree back.0 opens is back.1 in
+      let none = ap (refusal_of_texts tree told_so.0.text) (sym (same_path path at p)) ∙ told_so.2 in
+      (told_so.0, told_so.1, subst (λ (x : Option NotStarted). IsStatusFor x (turns_status ended)) (sym none) (turns_not_three ended))

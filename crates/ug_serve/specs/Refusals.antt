@@ -1,0 +1,71 @@
+-- What of a configuration isn't taken, by the texts of its files.
+use Rattle.std.specs.Prelude.{◌≡◌, ℕ, nat_le, List, [], ◌∷◌, length, Option, Some, None, Result, Ok, Err, if◌then◌else◌}
+use Rattle.ug_types.specs.Elements.{Has}
+use Rattle.ug_types.specs.Principals.{Named}
+use Rattle.ug_types.specs.declared.rule.Rule.{Rule}
+use Rattle.ug_types.specs.declared.text_fault.TextFault.{TextFault}
+use Rattle.ug_rule.specs.Files.{file_read}
+use Rattle.ug_print.specs.RuleTexts.{rules_text_of}
+use Rattle.ug_conf.specs.Files.{Tree, text_at, names_at, conf_limit}
+use Rattle.ug_conf.specs.Texts.{conf_read}
+use Rattle.ug_conf.specs.declared.settings.Settings.{Settings}
+use Rattle.ug_store.specs.Disk.{Disk}
+use Rattle.ug_store.specs.DiskCalls.{file_limit}
+use Rattle.ug_audit.specs.declared.entry.ConfigPart.TheVariants as part
+use Rattle.ug_serve.specs.Opening.{refused_whole}
+use Rattle.ug_serve.specs.declared.not_started.NotStarted.{NotStarted}
+use Rattle.ug_serve.specs.declared.not_started.NotStarted.TheVariants as why
+
+abbrev pub settings_read : Result Settings TextFault → Result Settings NotStarted
+settings_read (Ok settings) = Ok settings
+settings_read (Err bad) = Err (why.Refused part.Settings bad)
+
+-- the settings of a file: one that is absent or too long isn't taken
+abbrev pub settings_of_text : Option (List ℕ) → Result Settings NotStarted
+settings_of_text None = Err (refused_whole part.Settings)
+settings_of_text (Some text) =
+    if nat_le (length text) conf_limit then settings_read (conf_read text) else Err (refused_whole part.Settings)
+
+-- settings that name a user or a group aren't taken, and neither is an access folder that has a file
+abbrev pub refusal_of_access : List Named → Option (List (List ℕ)) → Option NotStarted
+refusal_of_access (who ∷ users) names = Some (refused_whole part.Settings)
+refusal_of_access [] (Some (name ∷ names)) = Some (refused_whole part.Access)
+refusal_of_access [] (Some []) = None
+refusal_of_access [] None = None
+
+-- at most 65,536 rules, whose canonical text fits into a rule file
+abbrev pub refusal_of_read : Result (List Rule) TextFault → Option NotStarted
+refusal_of_read (Err bad) = Some (why.Refused part.Rules bad)
+refusal_of_read (Ok rules) =
+    if nat_le (length rules) 65536
+    then (if nat_le (length (rules_text_of rules)) file_limit then None else Some (refused_whole part.Rules))
+    else Some (refused_whole part.Rules)
+
+abbrev pub refusal_of_rules_text : List ℕ → Option NotStarted
+refusal_of_rules_text text =
+    if nat_le (length text) file_limit then refusal_of_read (file_read text) else Some (refused_whole part.Rules)
+
+-- the first of two refusals
+abbrev pub first_refusal : Option NotStarted → Option NotStarted → Option NotStarted
+first_refusal (Some cause) later = Some cause
+first_refusal None later = later
+
+abbrev pub refusal_behind : Tree → List ℕ → Result Settings NotStarted → Option NotStarted
+refusal_behind tree rules (Err cause) = Some cause
+refusal_behind tree rules (Ok settings) =
+    first_refusal (refusal_of_access settings.users (names_at tree settings.access_folder)) (refusal_of_rules_text rules)
+
+-- The first part that isn't taken of the settings at that path, the access files and the text of the rule file.
+abbrev pub refusal_of_texts : Tree → List ℕ → List ℕ → Option NotStarted
+refusal_of_texts tree rules path = refusal_behind tree rules (settings_of_text (text_at tree path))
+
+-- the exit status is 3 exactly where a part isn't taken, unless a file or memory failed
+abbrev pub IsStatusFor : Option NotStarted → ℕ → Type 0
+IsStatusFor None status = status ≡ 3 → ⊥
+IsStatusFor (Some cause) status = Has (3 ∷ 4 ∷ 6 ∷ 9 ∷ []) status
+
+-- The status of a daemon with the settings at that path, where the files and the disk are told.
+abbrev pub IsStatusByTexts : {F D : Type 0} → (F → Option Tree) → (D → Option Disk) → Option (List ℕ) → D → ℕ → F → D → Type 0
+IsStatusByTexts files_told disk_told words_path d status g e =
+    (path : List ℕ) (tree : Tree) (n : Disk) → words_path ≡ Some path → files_told g ≡ Some tree → disk_told e ≡ Some n
+    → (m : Disk) × (disk_told d ≡ Some m) × IsStatusFor (refusal_of_texts tree m.text path) status

@@ -1,0 +1,33 @@
+// Unit tests of the libraries, over their public calls.
+#![tactic(auto)]
+
+#[cfg(test)]
+mod acl;
+#[cfg(test)]
+mod audit;
+#[cfg(test)]
+mod devices;
+#[cfg(test)]
+mod events;
+#[cfg(test)]
+mod folders;
+#[cfg(test)]
+mod host_busy;
+#[cfg(test)]
+mod host_devices;
+#[cfg(test)]
+mod host_files;
+#[cfg(test)]
+mod host_hubs;
+#[cfg(test)]
+mod host_journal;
+#[cfg(test)]
+mod intent;
+#[cfg(test)]
+mod serve;
+#[cfg(test)]
+mod store;
+#[cfg(test)]
+mod sysfs;
+#[cfg(test)]
+mod table;
