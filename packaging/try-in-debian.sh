@@ -11,7 +11,7 @@ usage='usage: packaging/try-in-debian.sh PACKAGE.deb [FOLDER]'
 package=$(realpath -e "${1:?$usage}")
 root=${2:-$(mktemp -d /tmp/usbguard-debian-XXXXXX)/root}
 suite=${SUITE:-bookworm}
-mirror=${MIRROR:-http://deb.debian.org/debian}
+mirror=${MIRROR:-}
 [ ! -e "$root" ] || { echo "try-in-debian: $root is there already" >&2; exit 1; }
 trap 'rm -rf --one-file-system "$root"; rmdir "${root%/root}" 2>/dev/null || :' EXIT
 
@@ -45,7 +45,7 @@ echo "== A clean Debian $suite"
 if [ -n "${BASE:-}" ]; then
     cp -a "$BASE" "$root"
 else
-    debootstrap --variant=minbase --include=bash-completion,man-db,mandoc,zsh "$suite" "$root" "$mirror" >"$root.log" 2>&1 ||
+    debootstrap --variant=minbase --include=bash-completion,man-db,mandoc,zsh "$suite" "$root" ${mirror:+"$mirror"} >"$root.log" 2>&1 ||
         { cat "$root.log"; exit 1; }
     rm -f "$root.log"
 fi
