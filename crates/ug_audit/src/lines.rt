@@ -7,40 +7,8 @@ ghost use Rattle.ug_types.specs.Refusals.{refusal_words};
 ghost use Rattle.ug_types.specs.Targets.{target_word};
 
 use crate::entry::{ConfigPart, Entry, Fault, RuleChange};
-use itoa::Buffer;
 use ug_kernel::{Write, Wrote};
 use ug_types::{Cause, Line, Moment, NodeName, Principal, Refusal, Saved, Target};
-
-/// A line that is one word.
-fn first_word(word: &[u8]) -> Line
-    requires { length word.now ≤ 512 }
-    ensures text { result ≡ word.now }
-    ensures length { length result ≡ length word.now }
-{
-    let mut line = Line::new();
-    line.push(word);
-    line
-}
-
-/// Appends a space and a word.
-fn push_word(line: &mut Line, word: &[u8])
-    requires { length line.old + length word.now < 512 }
-    ensures text { line.new ≡ line.old ++ 32 ∷ word.now }
-    ensures length { length line.new ≡ length line.old + length word.now + 1 }
-{
-    line.push(b" ");
-    line.push(word);
-}
-
-/// Appends a space and a number.
-fn push_number(line: &mut Line, number: u64)
-    requires { length line.old + 20 < 512 }
-    ensures text { line.new ≡ line.old ++ 32 ∷ decimal number }
-    ensures length { length line.new ≤ length line.old + 21 }
-{
-    let mut digits = Buffer::new();
-    push_word(line, digits.format(number).as_bytes());
-}
 
 /// Appends a space and a name.
 fn push_name(line: &mut Line, name: &NodeName)
@@ -49,7 +17,7 @@ fn push_name(line: &mut Line, name: &NodeName)
     ensures length { length line.new ≤ length line.old + 32 }
 {
     let _short = name.len();
-    push_word(line, name.bytes());
+    line.push_word(name.bytes());
 }
 
 /// Appends a space and a user, or `:` and a group.
@@ -58,7 +26,7 @@ fn push_principal(line: &mut Line, who: &Principal)
     ensures { line.new ≡ line.old ++ 32 ∷ principal_text who.now }
 {
     let text = who.text();
-    push_word(line, text.bytes());
+    line.push_word(text.bytes());
 }
 
 #[tactic(auto, unfolding(crate::specs::Lines::write_word))]
@@ -129,20 +97,20 @@ fn push_cause(line: &mut Line, cause: Cause)
 {
     match cause {
         Cause::Rule(id) => {
-            push_word(line, b"rule");
-            push_number(line, id);
+            line.push_word(b"rule");
+            line.push_number(id);
         }
-        Cause::Implicit => push_word(line, b"implicit"),
-        Cause::Present => push_word(line, b"present"),
-        Cause::Keep => push_word(line, b"keep"),
-        Cause::Inserted => push_word(line, b"inserted"),
+        Cause::Implicit => line.push_word(b"implicit"),
+        Cause::Present => line.push_word(b"present"),
+        Cause::Keep => line.push_word(b"keep"),
+        Cause::Inserted => line.push_word(b"inserted"),
         Cause::Malformed { kind, place } => {
-            push_word(line, b"malformed");
-            push_number(line, kind as u64);
-            push_number(line, place);
+            line.push_word(b"malformed");
+            line.push_number(kind as u64);
+            line.push_number(place);
         }
         Cause::Order(who) => {
-            push_word(line, b"order");
+            line.push_word(b"order");
             push_principal(line, &who);
         }
     }
@@ -156,11 +124,11 @@ fn push_fault(line: &mut Line, fault: Fault)
 {
     match fault {
         Fault::Call(failed) => {
-            push_word(line, b"fault");
-            push_number(line, failed.call);
-            push_number(line, failed.count);
+            line.push_word(b"fault");
+            line.push_number(failed.call);
+            line.push_number(failed.count);
         }
-        Fault::Memory => push_word(line, b"memory"),
+        Fault::Memory => line.push_word(b"memory"),
     }
 }
 
@@ -170,8 +138,8 @@ fn of_device(word: &[u8], number: u64, name: &NodeName) -> Line
     ensures text { result ≡ and_words word.now (decimal number ∷ name.now ∷ []) }
     ensures length { length result ≤ 63 }
 {
-    let mut line = first_word(word);
-    push_number(&mut line, number);
+    let mut line = Line::of(word);
+    line.push_number(number);
     push_name(&mut line, name);
     line
 }
@@ -179,20 +147,20 @@ fn of_device(word: &[u8], number: u64, name: &NodeName) -> Line
 fn line_of_event(number: u64, moment: Moment) -> Line
     ensures { result ≡ and_words (codes "event") (decimal number ∷ codes "sweep" ∷ decimal moment.0 ∷ []) }
 {
-    let mut line = first_word(b"event");
-    push_number(&mut line, number);
-    push_word(&mut line, b"sweep");
-    push_number(&mut line, moment.0);
+    let mut line = Line::of(b"event");
+    line.push_number(number);
+    line.push_word(b"sweep");
+    line.push_number(moment.0);
     line
 }
 
 fn line_of_order(number: u64, moment: Moment, who: &Principal) -> Line
     ensures { result ≡ and_words (codes "event") (decimal number ∷ codes "order" ∷ decimal moment.0 ∷ principal_text who.now ∷ []) }
 {
-    let mut line = first_word(b"event");
-    push_number(&mut line, number);
-    push_word(&mut line, b"order");
-    push_number(&mut line, moment.0);
+    let mut line = Line::of(b"event");
+    line.push_number(number);
+    line.push_word(b"order");
+    line.push_number(moment.0);
     push_principal(&mut line, who);
     line
 }
@@ -203,8 +171,8 @@ fn of_words(first: &[u8], second: &[u8]) -> Line
     requires second { length second.now ≤ 10 }
     ensures { result ≡ and_words first.now (second.now ∷ []) }
 {
-    let mut line = first_word(first);
-    push_word(&mut line, second);
+    let mut line = Line::of(first);
+    line.push_word(second);
     line
 }
 
@@ -212,7 +180,7 @@ fn line_of_verdict(number: u64, name: &NodeName, verdict: Target, cause: Cause) 
     ensures { result ≡ and_words (codes "judged") (decimal number ∷ name.now ∷ target_word verdict ∷ cause_words cause) }
 {
     let mut line = of_device(b"judged", number, name);
-    push_word(&mut line, verdict.word());
+    line.push_word(verdict.word());
     push_cause(&mut line, cause);
     line
 }
@@ -221,7 +189,7 @@ fn line_of_intent(number: u64, name: &NodeName, write: Write) -> Line
     ensures { result ≡ and_words (codes "intent") (decimal number ∷ name.now ∷ lines.write_word write ∷ []) }
 {
     let mut line = of_device(b"intent", number, name);
-    push_word(&mut line, word_of_write(write));
+    line.push_word(word_of_write(write));
     line
 }
 
@@ -229,15 +197,15 @@ fn line_of_outcome(number: u64, name: &NodeName, write: Write, outcome: Wrote) -
     ensures { result ≡ and_words (codes "wrote") (decimal number ∷ name.now ∷ lines.write_word write ∷ wrote_word outcome ∷ []) }
 {
     let mut line = of_device(b"wrote", number, name);
-    push_word(&mut line, word_of_write(write));
-    push_word(&mut line, word_of_outcome(outcome));
+    line.push_word(word_of_write(write));
+    line.push_word(word_of_outcome(outcome));
     line
 }
 
 fn line_of_unsettled(name: &NodeName, fault: Fault) -> Line
     ensures { result ≡ and_words (codes "unsettled") (name.now ∷ fault_words fault) }
 {
-    let mut line = first_word(b"unsettled");
+    let mut line = Line::of(b"unsettled");
     push_name(&mut line, name);
     push_fault(&mut line, fault);
     line
@@ -246,8 +214,8 @@ fn line_of_unsettled(name: &NodeName, fault: Fault) -> Line
 fn line_of_all_unsettled(fault: Fault) -> Line
     ensures { result ≡ and_words (codes "unsettled") (codes "*" ∷ fault_words fault) }
 {
-    let mut line = first_word(b"unsettled");
-    push_word(&mut line, b"*");
+    let mut line = Line::of(b"unsettled");
+    line.push_word(b"*");
     push_fault(&mut line, fault);
     line
 }
@@ -255,9 +223,9 @@ fn line_of_all_unsettled(fault: Fault) -> Line
 fn line_of_change(change: RuleChange, id: u64) -> Line
     ensures { result ≡ and_words (codes "rules") (change_word change ∷ decimal id ∷ []) }
 {
-    let mut line = first_word(b"rules");
-    push_word(&mut line, word_of_change(change));
-    push_number(&mut line, id);
+    let mut line = Line::of(b"rules");
+    line.push_word(word_of_change(change));
+    line.push_number(id);
     line
 }
 
@@ -265,8 +233,8 @@ fn line_of_refusal(refusal: &Refusal) -> Line
     ensures { result ≡ and_words (codes "reply") (refusal_words refusal.now ∷ []) }
 {
     let words = refusal.words();
-    let mut line = first_word(b"reply");
-    push_word(&mut line, words.bytes());
+    let mut line = Line::of(b"reply");
+    line.push_word(words.bytes());
     line
 }
 
@@ -275,28 +243,28 @@ fn of_number(word: &[u8], number: u64) -> Line
     requires { length word.now ≤ 10 }
     ensures { result ≡ and_words word.now (decimal number ∷ []) }
 {
-    let mut line = first_word(word);
-    push_number(&mut line, number);
+    let mut line = Line::of(word);
+    line.push_number(number);
     line
 }
 
 fn line_of_unused(number: u64) -> Line
     ensures { result ≡ and_words (codes "note") (codes "unused-key" ∷ decimal number ∷ []) }
 {
-    let mut line = first_word(b"note");
-    push_word(&mut line, b"unused-key");
-    push_number(&mut line, number);
+    let mut line = Line::of(b"note");
+    line.push_word(b"unused-key");
+    line.push_number(number);
     line
 }
 
 fn line_of_start_refused(part: ConfigPart, number: u64, kind: u8, place: u64) -> Line
     ensures { result ≡ and_words (codes "start-refused") (part_word part ∷ decimal number ∷ decimal kind ∷ decimal place ∷ []) }
 {
-    let mut line = first_word(b"start-refused");
-    push_word(&mut line, word_of_part(part));
-    push_number(&mut line, number);
-    push_number(&mut line, kind as u64);
-    push_number(&mut line, place);
+    let mut line = Line::of(b"start-refused");
+    line.push_word(word_of_part(part));
+    line.push_number(number);
+    line.push_number(kind as u64);
+    line.push_number(place);
     line
 }
 

@@ -1,7 +1,7 @@
 -- The lines about descriptors.
-use Rattle.std.specs.Prelude.{ℕ, ◌/◌, ◌%◌, List, [], ◌∷◌, ◌++◌, codes, decimal}
+use Rattle.std.specs.Prelude.{ℕ, List, [], ◌∷◌, ◌++◌, codes, decimal}
 use Rattle.std.specs.List.{flat_map}
-use Rattle.hex.specs.Hex.{encode_lower}
+use Rattle.ug_hex.specs.Digits.{hex_two, hex_four}
 use Rattle.ug_types.specs.declared.record.Triple.{Triple}
 use Rattle.ug_descr.specs.declared.descriptors.Descr.{Descr}
 use Rattle.ug_descr.specs.declared.descriptors.Config.{Config}
@@ -15,12 +15,12 @@ line_with text (word ∷ words) = line_with (text ++ 32 ∷ word) words
 -- vendor and product, four hexadecimal digits each
 abbrev pub id_text : ℕ → ℕ → List ℕ
 id_text vendor product =
-    encode_lower (vendor / 256 ∷ vendor % 256 ∷ []) ++ 58 ∷ encode_lower (product / 256 ∷ product % 256 ∷ [])
+    hex_four vendor ++ 58 ∷ hex_four product
 
 -- class, subclass and protocol, two hexadecimal digits each
 abbrev pub triple_text : Triple → List ℕ
 triple_text triple =
-    encode_lower (triple.class ∷ []) ++ 58 ∷ encode_lower (triple.subclass ∷ []) ++ 58 ∷ encode_lower (triple.protocol ∷ [])
+    hex_two triple.class ++ 58 ∷ hex_two triple.subclass ++ 58 ∷ hex_two triple.protocol
 
 unfoldable pub device_line : Descr → List ℕ
 device_line descr =

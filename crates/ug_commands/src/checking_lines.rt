@@ -2,7 +2,6 @@
 ghost use Rattle.std.specs.Prelude.{◌≡◌};
 ghost use Rattle.ug_commands.specs.CheckingLines.{rules_line, bad_rules_line};
 
-use itoa::Buffer;
 use ug_types::{Line, TextFault};
 
 /// `rules N`.
@@ -10,10 +9,8 @@ use ug_types::{Line, TextFault};
 pub fn line_of_count(count: u64) -> Line
     ensures { result ≡ rules_line count }
 {
-    let mut line = Line::new();
-    let mut digits = Buffer::new();
-    line.push(b"rules ");
-    line.push(digits.format(count).as_bytes());
+    let mut line = Line::of(b"rules ");
+    line.push_decimal(count);
     line.push(b"\n");
     line
 }
@@ -23,14 +20,12 @@ pub fn line_of_count(count: u64) -> Line
 pub fn line_of_bad_rules(fault: TextFault) -> Line
     ensures { result ≡ bad_rules_line fault }
 {
-    let mut line = Line::new();
-    let mut digits = Buffer::new();
-    line.push(b"bad rules line ");
-    line.push(digits.format(fault.line).as_bytes());
+    let mut line = Line::of(b"bad rules line ");
+    line.push_decimal(fault.line);
     line.push(b" kind ");
-    line.push(digits.format(fault.kind).as_bytes());
+    line.push_decimal(fault.kind);
     line.push(b" place ");
-    line.push(digits.format(fault.place).as_bytes());
+    line.push_decimal(fault.place);
     line.push(b"\n");
     line
 }

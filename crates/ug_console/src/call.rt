@@ -8,7 +8,6 @@ ghost use Rattle.ug_console.specs.Statuses.{status_of, Answers};
 use crate::feed::Splitter;
 use crate::machine::{Machine, Ran};
 use crate::results::{Ended, status, write_result};
-use itoa::Buffer;
 use std::alloc::Global;
 use ug_types::{Line, Sink, Source, Taken};
 
@@ -16,10 +15,8 @@ use ug_types::{Line, Sink, Source, Taken};
 fn line_of_fault(n: u64) -> Line
     ensures { result ≡ bad_line n }
 {
-    let mut line = Line::new();
-    let mut digits = Buffer::new();
-    line.push(b"bad script line ");
-    line.push(digits.format(n).as_bytes());
+    let mut line = Line::of(b"bad script line ");
+    line.push_decimal(n);
     line.push(b"\n");
     line
 }

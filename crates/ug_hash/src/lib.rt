@@ -2,6 +2,5 @@
 #![tactic(auto)]
 
 mod device;
-mod hex;
 
 pub use device::device_hash;

@@ -9,7 +9,6 @@ ghost use Rattle.ug_script.specs.Replay.{Begins, done_line, interpreter_state, s
 use crate::progress::Running;
 use crate::step::StepFault;
 use crate::text::put;
-use itoa::Buffer;
 use std::alloc::Global;
 use ug_console::{Machine, Ran};
 use ug_sysfs::SimKernel;
@@ -60,10 +59,8 @@ fn begin(alloc: Global, line: &[u8]) -> Result<Running, StepFault>
 fn done(events: u64) -> Line
     ensures { result ≡ done_line events }
 {
-    let mut line = Line::new();
-    let mut digits = Buffer::new();
-    line.push(b"done ");
-    line.push(digits.format(events).as_bytes());
+    let mut line = Line::of(b"done ");
+    line.push_decimal(events);
     line.push(b"\n");
     line
 }

@@ -1,7 +1,8 @@
 // A short line.
-ghost use Rattle.std.specs.Prelude.{◌≡◌, ◌≤◌, ◌+◌, ◌++◌, [], length};
+ghost use Rattle.std.specs.Prelude.{◌≡◌, ◌≤◌, ◌<◌, ◌+◌, ◌++◌, [], ◌∷◌, length, decimal};
 
 use arrayvec::ArrayVec;
+use itoa::Buffer;
 use std::marker::Model;
 
 /// A text of at most 512 bytes that takes no memory.
@@ -41,5 +42,45 @@ impl Line {
         ensures { self.new ≡ self.old ++ more.now }
     {
         let _done = self.bytes.try_extend_from_slice(more);
+    }
+    /// A line of these bytes.
+    pub fn of(bytes: &[u8]) -> Line
+        requires { length bytes.now ≤ 512 }
+        ensures text { result ≡ bytes.now }
+        ensures length { length result ≡ length bytes.now }
+    {
+        let mut line = Line::new();
+        line.push(bytes);
+        line
+    }
+
+    /// Appends a number in decimal digits.
+    pub fn push_decimal(&mut self, number: u64)
+        requires { length self.old + 20 ≤ 512 }
+        ensures text { self.new ≡ self.old ++ decimal number }
+        ensures length { length self.new ≤ length self.old + 20 }
+    {
+        let mut digits = Buffer::new();
+        self.push(digits.format(number).as_bytes());
+    }
+
+    /// Appends a space and a word.
+    pub fn push_word(&mut self, word: &[u8])
+        requires { length self.old + length word.now < 512 }
+        ensures text { self.new ≡ self.old ++ 32 ∷ word.now }
+        ensures length { length self.new ≡ length self.old + length word.now + 1 }
+    {
+        self.push(b" ");
+        self.push(word);
+    }
+
+    /// Appends a space and a number in decimal digits.
+    pub fn push_number(&mut self, number: u64)
+        requires { length self.old + 20 < 512 }
+        ensures text { self.new ≡ self.old ++ 32 ∷ decimal number }
+        ensures length { length self.new ≤ length self.old + 21 }
+    {
+        self.push(b" ");
+        self.push_decimal(number);
     }
 }

@@ -4,7 +4,6 @@ ghost use Rattle.ug_types.specs.Refusals.{refusal_words};
 
 use crate::access::{Privilege, Section};
 use crate::line::Line;
-use itoa::Buffer;
 
 /// Why an order was refused. Where several causes stand together, the first of BadRequest, Denied, BadRule, NoDevice for a
 /// number that no device has, ProbeFault, NoDevice for a device that has gone, and then the others from NoRule to
@@ -68,10 +67,8 @@ fn with_number(words: &[u8], number: u64) -> Line
     ensures text { result ≡ words.now ++ decimal number }
     ensures length { length result ≤ 60 }
 {
-    let mut digits = Buffer::new();
-    let mut line = Line::new();
-    line.push(words);
-    line.push(digits.format(number).as_bytes());
+    let mut line = Line::of(words);
+    line.push_decimal(number);
     line
 }
 
@@ -81,20 +78,8 @@ fn with_numbers(words: &[u8], first: u64, second: u64) -> Line
     ensures text { result ≡ words.now ++ (decimal first ++ 32 ∷ decimal second) }
     ensures length { length result ≤ 81 }
 {
-    let mut digits = Buffer::new();
     let mut line = with_number(words, first);
-    line.push(b" ");
-    line.push(digits.format(second).as_bytes());
-    line
-}
-
-fn alone(words: &[u8]) -> Line
-    requires { length words.now ≤ 40 }
-    ensures text { result ≡ words.now }
-    ensures length { length result ≤ 40 }
-{
-    let mut line = Line::new();
-    line.push(words);
+    line.push_number(second);
     line
 }
 
@@ -103,10 +88,9 @@ fn denied(section: Section, privilege: Privilege) -> Line
     ensures text { result ≡ refusal_words (Refusal.Denied section privilege) }
     ensures length { length result ≤ 81 }
 {
-    let mut line = alone(b"refused 2 denied ");
-    line.push(section.word());
-    line.push(b" ");
-    line.push(privilege.word());
+    let mut line = Line::of(b"refused 2 denied");
+    line.push_word(section.word());
+    line.push_word(privilege.word());
     line
 }
 
@@ -125,18 +109,18 @@ impl Refusal {
             }
             Refusal::NoDevice { number } => with_number(b"refused 4 no-device ", *number),
             Refusal::NoRule { id } => with_number(b"refused 5 no-rule ", *id),
-            Refusal::BadParameter => alone(b"refused 6 bad-parameter"),
-            Refusal::BadValue => alone(b"refused 7 bad-value"),
+            Refusal::BadParameter => Line::of(b"refused 6 bad-parameter"),
+            Refusal::BadValue => Line::of(b"refused 7 bad-value"),
             Refusal::MalformedDevice { number } => {
                 with_number(b"refused 8 malformed-device ", *number)
             }
-            Refusal::RulesFull => alone(b"refused 9 rules-full"),
+            Refusal::RulesFull => Line::of(b"refused 9 rules-full"),
             Refusal::StoreFault { count } => with_number(b"refused 10 store-fault ", *count),
             Refusal::DeviceFault { call, count } => {
                 with_numbers(b"refused 11 device-fault ", *call, *count)
             }
-            Refusal::Memory { stands: false } => alone(b"refused 12 memory 0"),
-            Refusal::Memory { stands: true } => alone(b"refused 12 memory 1"),
+            Refusal::Memory { stands: false } => Line::of(b"refused 12 memory 0"),
+            Refusal::Memory { stands: true } => Line::of(b"refused 12 memory 1"),
             Refusal::ProbeFault { count } => with_number(b"refused 13 probe-fault ", *count),
         }
     }

@@ -1,4 +1,3 @@
-pub mod Digits
 pub mod Keywords
 pub mod WordGrammar
 pub mod Words

@@ -2,7 +2,7 @@
 ghost use Rattle.std.specs.Prelude.{◌≡◌, ◌↔◌, ℕ, ◌<◌, ◌^◌, List, Some, decimal};
 ghost use Rattle.ug_words.specs.declared.words.Clock.{Clock};
 ghost use Rattle.ug_words.specs.declared.words.DaySpan.{DaySpan};
-ghost use Rattle.ug_words.specs.Digits.{hex_four, hex_two};
+ghost use Rattle.ug_hex.specs.Digits.{hex_four, hex_two};
 ghost use Rattle.ug_words.specs.WordGrammar.{IsChance, IsId, IsInterface, IsPast, IsSpan, IsTime};
 ghost use Rattle.ug_words.specs.Words.{chance_of, four_of, id_of, interface_of, number_of, past_of, span_of, time_of, two_of};
 
