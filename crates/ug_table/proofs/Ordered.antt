@@ -10,12 +10,12 @@ use Rattle.ug_table.specs.Bring.{bringing}
 use Rattle.ug_table.specs.Marks.{has_number, stood_removed, LeavesMarks}
 use Rattle.ug_table.specs.One.{NeedsRoom}
 use Rattle.ug_table.specs.Order.{StandInOrder, KeepsOrder}
+use Rattle.ug_table.specs.Parts.{AllBear}
 use Rattle.ug_table.specs.Orders.{to_probe, probing, ProbesOne, with_verdict, ordered_standing, with_order, verdict_entry, to_tried, to_order, ordering, behind_probe, GoesAsOrder, HasOrdered, IsStopped, just_ordered, OrderedOne, OrdersOne}
 use Rattle.ug_table.specs.Settle.{unsettled_by, tried_standings}
 use Rattle.ug_table.specs.Sweep.{names_of}
 use Rattle.ug_table.specs.declared.standing.Settled.TheVariants as settled
 use Rattle.ug_types.proofs.Elements.{cancel, has_left, has_right, last_is, map_has, has_map, distinct_one}
-use Rattle.ug_table.proofs.Chains.{no_verdict, no_later}
 use Rattle.ug_kernel.proofs.Quiet.{called_quiet}
 use Rattle.ug_kernel.proofs.Rises.{Counting, along_numbered, along_rises}
 use Rattle.ug_kernel.proofs.Runs.{runs_then}
@@ -51,12 +51,12 @@ told_probes gives told did number ss s r t h = λ l e.
 
 -- the standings with the verdict
 
-ordered_is : (number : ℕ) (verdict : Target) (who : Named) (x : Standing) → x.number ≡ number → ordered_standing number verdict who x ≡ with_verdict verdict who x
+pub ordered_is : (number : ℕ) (verdict : Target) (who : Named) (x : Standing) → x.number ≡ number → ordered_standing number verdict who x ≡ with_verdict verdict who x
 ordered_is number verdict who x e =
     let same : nat_eq x.number number ≡ true = grind (arith, e) in
     ap (λ (t : Bool). let v : Standing = record x { verdict = cond t verdict x.verdict; cause = cond t (cause.Order who) x.cause } in v) same
 
-ordered_other : (number : ℕ) (verdict : Target) (who : Named) (x : Standing) → nat_eq x.number number ≡ false → ordered_standing number verdict who x ≡ x
+pub ordered_other : (number : ℕ) (verdict : Target) (who : Named) (x : Standing) → nat_eq x.number number ≡ false → ordered_standing number verdict who x ≡ x
 ordered_other number verdict who x e = ap (λ (t : Bool). let v : Standing = record x { verdict = cond t verdict x.verdict; cause = cond t (cause.Order who) x.cause } in v) e
 
 pub keeps_ordered : (number : ℕ) (verdict : Target) (who : Named) (ss : List Standing) → KeepsOrder ss (with_order number verdict who ss)
@@ -90,12 +90,12 @@ ordered_rest number verdict who (s ∷ ss) = by (nat_eq s.number number) refl (o
 
 -- the standing of that number is there, with the verdict
 
-has_ordered : (number : ℕ) (verdict : Target) (who : Named) (ss : List Standing) (x : Standing) → numbered number ss ≡ Some x → Has (with_order number verdict who ss) (with_verdict verdict who x)
+pub has_ordered : (number : ℕ) (verdict : Target) (who : Named) (ss : List Standing) (x : Standing) → numbered number ss ≡ Some x → Has (with_order number verdict who ss) (with_verdict verdict who x)
 has_ordered number verdict who ss x at =
     let was = numbered_has number ss x at in
     subst (λ (v : Standing). Has (with_order number verdict who ss) v) (ordered_is number verdict who x was.1) (has_map (ordered_standing number verdict who) ss x was.0)
 
-numbered_now : (number : ℕ) (verdict : Target) (who : Named) (ss : List Standing) (x : Standing) → numbered number ss ≡ Some x → numbered number (with_order number verdict who ss) ≡ Some (with_verdict verdict who x)
+pub numbered_now : (number : ℕ) (verdict : Target) (who : Named) (ss : List Standing) (x : Standing) → numbered number ss ≡ Some x → numbered number (with_order number verdict who ss) ≡ Some (with_verdict verdict who x)
 numbered_now number verdict who ss x at =
     numbered_ordered number verdict who ss x at ∙ ap (λ (v : Standing). Some v) (ordered_is number verdict who x (numbered_has number ss x at).1)
 
@@ -209,7 +209,7 @@ order_short gives number verdict who on k x s p t at r e =
 
 -- in the words of devices
 
-stand_ordered : (k : Kernel) (ss : List Standing) (next number : ℕ) (verdict : Target) (who : Named) → Stand k ss next → Stand k (with_order number verdict who ss) next
+pub stand_ordered : (k : Kernel) (ss : List Standing) (next number : ℕ) (verdict : Target) (who : Named) → Stand k ss next → Stand k (with_order number verdict who ss) next
 stand_ordered k ss next number verdict who stand =
     let f = ordered_standing number verdict who in
     let o = keeps_ordered number verdict who ss next (record { order = stand.order; distinct = stand.distinct; numbers = stand.numbers }) in
@@ -270,8 +270,8 @@ stopped how name n = tt
 kept_is : (v : Kept) (ss : List Standing) (es : List Entry) → v.standings ≡ ss → v.entries ≡ es → let made : Kept = record { standings = ss; entries = es } in v ≡ made
 kept_is v ss es a b = λ i. record { standings = a i; entries = b i }
 
-order_one : (number : ℕ) (verdict : Target) (who : Named) (on : Bool) (w : State (Unit {0})) (k l : Kernel) (p : Settled × Kept) (x : Standing) → IsKernel k → Stand k w.standings w.next → numbered number w.standings ≡ Some x → Runs calls k (ordering number verdict who on (kept_of w.standings w.entries)) p l → OrderedOne number verdict who on x k w l (with_kept w p.1) p.0
-order_one number verdict who on w k l p x sound stand at r =
+pub order_one : {J : Type 0} (number : ℕ) (verdict : Target) (who : Named) (on : Bool) (w : State J) (k l : Kernel) (p : Settled × Kept) (x : Standing) → IsKernel k → Stand k w.standings w.next → numbered number w.standings ≡ Some x → Runs calls k (ordering number verdict who on (kept_of w.standings w.entries)) p l → OrderedOne number verdict who on x k w l (with_kept w p.1) p.0
+order_one {J} number verdict who on w k l p x sound stand at r =
     let run = ordering_run calls number verdict who on (kept_of w.standings w.entries) x k p l at r in
     let o = run.so.1 in
     let y = with_verdict verdict who x in
@@ -282,10 +282,10 @@ order_one number verdict who on w k l p x sound stand at r =
     let was = numbered_has number w.standings x at in
     let one = stands_one y.name ss y stands.names mine refl in
     let added : p.1.entries ≡ u.entries ++ o.rest = o.entries ∙ sym (append_assoc w.entries (verdict_entry y ∷ []) o.rest) in
-    let fair : (answer : Answers (Unit {0})) (later : Laters (Unit {0})) (present : Bool) (tried : Tries) → FairFrom answer later present tried k u l (with_kept w p.1) = λ answer later present tried.
+    let fair : (answer : Answers J) (later : Laters J) (present : Bool) (tried : Tries) → FairFrom answer later present tried k u l (with_kept w p.1) = λ answer later present tried.
     subst (λ (v : Kept). FairFrom answer later present tried k u l (with_kept w v)) (sym (kept_is p.1 (tried_standings ss y.name p.0) (u.entries ++ o.rest) o.standings added))
     (known_brought l y.name (known_of y) on one (fair_refl answer later present tried k u sound stands) o.brought run.along) in
-    let a = fair no_verdict no_later false none_before in
+    let a = fair (λ judge dev controller present on ss. (x.verdict, x.cause)) (λ judge dev controller present on ss. judge) false none_before in
     let g = a.fair.grows in
     let files = stand_files k w.standings w.next stand in
     let t = told_at (probe.Alive on) (record { call = 0; count = 0 }) in
@@ -310,7 +310,15 @@ order_one number verdict who on w k l p x sound stand at r =
       nobody = λ e i file. left_gone y mine a (subst (λ (v : List Standing). Has (names_of v) y.name → ⊥) (sym o.standings) (tried_nobody ss y.name p.0 e)) i file;
     }
 
-pub told_orders : {S : Type 0} (gives : S → (call : Call) → Answer call → S → Type 0) (told : S → Option Kernel) (did : (s : S) (call : Call) (answer : Answer call) (t : S) (l : Kernel) → gives s call answer t → told t ≡ Some l → Follows call answer (told s) l) (number : ℕ) (verdict : Target) (who : Named) (on : Bool) (s : S) (w : State (Unit {0})) (t : S) (p : Settled × Kept) → Runs gives s (ordering number verdict who on (kept_of w.standings w.entries)) p t → OrdersOne told number verdict who on s w t (with_kept w p.1) p.0
+-- no number is given out
+pub order_rest : {S : Type 0} (gives : S → (call : Call) → Answer call → S → Type 0) (number : ℕ) (verdict : Target) (who : Named) (on : Bool) (k : Kept) (x : Standing) (s : S) (p : Settled × Kept) (t : S) → numbered number k.standings ≡ Some x → Runs gives s (ordering number verdict who on k) p t → (rest : List Entry) × (p.1.entries ≡ k.entries ++ verdict_entry (with_verdict verdict who x) ∷ rest) × AllBear x.name rest × (numbers_given rest ≡ [])
+order_rest gives number verdict who on k x s p t at r =
+    let o = (ordering_run gives number verdict who on k x s p t at r).so.1 in
+    let found = told_at (probe.Alive on) (record { call = 0; count = 0 }) in
+    let told = (brought_goes (behind_probe x.held.0 found) (found, refl, refl) o.brought).entries in
+    (o.rest, o.entries, told.bears, told.given)
+
+pub told_orders : {S J : Type 0} (gives : S → (call : Call) → Answer call → S → Type 0) (told : S → Option Kernel) (did : (s : S) (call : Call) (answer : Answer call) (t : S) (l : Kernel) → gives s call answer t → told t ≡ Some l → Follows call answer (told s) l) (number : ℕ) (verdict : Target) (who : Named) (on : Bool) (s : S) (w : State J) (t : S) (p : Settled × Kept) → Runs gives s (ordering number verdict who on (kept_of w.standings w.entries)) p t → OrdersOne told number verdict who on s w t (with_kept w p.1) p.0
 told_orders gives told did number verdict who on s w t p r = λ l e.
     let m = told_run gives told did (ordering number verdict who on (kept_of w.standings w.entries)) s p t l r e in
     (m.kernel, m.was, λ sound stand x at. order_one number verdict who on w m.kernel l p x sound stand at (m.run sound).0)
