@@ -25,6 +25,8 @@ use Rattle.ug_kernel.proofs.Told.{told_run}
 use Rattle.ug_acl.specs.Acls.{Addition}
 use Rattle.ug_audit.specs.declared.entry.Entry.{Entry}
 use Rattle.ug_audit.specs.declared.entry.Entry.TheVariants as entry
+use Rattle.ug_types.proofs.Elements.{has_left}
+use Rattle.ug_proto.specs.declared.reply.Reply.{Reply}
 use Rattle.ug_proto.specs.declared.request.Request.{Request}
 use Rattle.ug_proto.specs.declared.request.Request.TheVariants as request
 use Rattle.ug_proto.specs.Privileges.{needs}
@@ -35,7 +37,7 @@ use Rattle.ug_table.specs.Order.{StandInOrder}
 use Rattle.ug_table.specs.Orders.{with_verdict, verdict_entry, ordering}
 use Rattle.ug_table.specs.Parts.{AllBear, failures_told, told_in_reply, unsettled_names}
 use Rattle.ug_table.specs.Standings.{numbered}
-use Rattle.ug_table.specs.State.{Kept, kept_of}
+use Rattle.ug_table.specs.State.{State, Kept, kept_of}
 use Rattle.ug_table.specs.declared.standing.Settled.{Settled}
 use Rattle.ug_table.specs.declared.standing.Settled.TheVariants as settled
 use Rattle.ug_table.specs.declared.standing.Standing.{Standing}
@@ -46,8 +48,8 @@ use Rattle.ug_table.proofs.Ordered.{order_one, order_part, order_rest}
 use Rattle.ug_table.proofs.Standings.{numbered_has}
 use Rattle.ug_core.specs.Answering.{by_probe, by_standing, by_privilege, by_request, if_read, asking, answer_to, keeping, answered_with, acting, answering}
 use Rattle.ug_core.specs.Event.{DaemonState, noting, ready}
-use Rattle.ug_core.specs.Laws.{RefusesOrder, CarriesOut, AnswersEvent, Answers, GoesAsAnswer}
-use Rattle.ug_core.specs.Policy.{policy_answer, policy_later}
+use Rattle.ug_core.specs.Laws.{RefusesOrder, CarriesOut, AnswersEvent, Answers, GoesAsAnswer, Replies, TellsSweep}
+use Rattle.ug_core.specs.Policy.{Judging, policy_answer, policy_later}
 use Rattle.ug_core.specs.Privileges.{first_denied, is_granted}
 use Rattle.ug_core.specs.declared.daemon.Event.{Event}
 use Rattle.ug_core.specs.declared.daemon.Event.TheVariants.{Sweep, Order}
@@ -301,3 +303,12 @@ answered_stands (Order moment who line) k d l a sound stand (inl h) = (h.sound, 
 answered_stands (Order moment who line) k d l a sound stand (inr h) =
     let fair = h.law.fair policy_answer policy_later false swept_before in
     (fair.sound, subst (λ (x : DaemonState). Stand l x.sweep.standings x.sweep.next) (sym h.state) fair.stand)
+
+-- what the sweep adds leaves the reply
+pub replies_more : {S : Type 0} (gives : S → (call : Call) → Answer call → S → Type 0) (calls faults : S → ℕ) (event : Event) (m : S) (a : DaemonState) (t : S) (e : DaemonState) (said later : Option Reply) → TellsSweep gives calls faults m a t e → later ≡ said → Replies event a.sweep.entries said → Replies event e.sweep.entries later
+replies_more gives calls faults (Sweep moment) m a t e said later h same r = same ∙ r
+replies_more gives calls faults (Order moment who line) m a t e said later h same r =
+    let both : List Entry = h.tells.goes.head ++ h.tells.goes.rest in
+    let last : List Entry = entry.End a.event ∷ [] in
+    let has = has_left (a.sweep.entries ++ both) last (entry.Reply r.0) (has_left a.sweep.entries both (entry.Reply r.0) r.1) in
+    (r.0, subst (λ (es : List Entry). Has es (entry.Reply r.0)) (sym (ap (λ (v : State Judging). v.entries) h.entries ∙ ap (λ (es : List Entry). es ++ last) h.tells.goes.entries)) has, same ∙ r.2)
