@@ -604,10 +604,10 @@ module _ (policy : Judging) (first : Kernel) (hs : List Happened) (h : Happened)
       let last = noted_so policy first h.kernel_after (hs ++ h ∷ []) ((journal hs ++ a.entries) ++ fair.rest) (y ∷ []) v h.after.sweep refl (ap (λ (z : State Judging). z.standings) law.entries) (ap (λ (z : State Judging). z.next) law.entries) (λ m. ap (λ (z : State Judging). at_moment m z.judge) law.entries) swept in (
         subst (λ (es : List Entry). SoFar policy first h.kernel_after (hs ++ h ∷ []) es h.after.sweep) whole last,
         ap (λ (z : State Judging). z.listed) law.entries
-        ∙ listed_after fair.rest a.listed v.listed law.law.listed
-        ∙ ap (λ (t : Bool). not t || a.listed) (sym (ap (λ (es : List Entry). list_any tells_unlisted es) entries ∙ any_front a.entries (fair.rest ++ y ∷ []) b.silent ∙ any_append fair.rest (y ∷ []) refl))
-        ∙ ap (λ (t : Bool). not (list_any tells_unlisted h.after.sweep.entries) || t) (b.listed ∙ listed)
-        ∙ sym (listed_append hs h),
+            ∙ listed_after fair.rest a.listed v.listed law.law.listed
+            ∙ ap (λ (t : Bool). not t || a.listed) (sym (ap (λ (es : List Entry). list_any tells_unlisted es) entries ∙ any_front a.entries (fair.rest ++ y ∷ []) b.silent ∙ any_append fair.rest (y ∷ []) refl))
+            ∙ ap (λ (t : Bool). not (list_any tells_unlisted h.after.sweep.entries) || t) (b.listed ∙ listed)
+            ∙ sym (listed_append hs h),
       )
 
 moved : (policy : Judging) (first k l : Kernel) (hs : List Happened) (w : State Judging) → Moves k l → SoFar policy first k hs (journal hs) w → SoFar policy first l hs (journal hs) w

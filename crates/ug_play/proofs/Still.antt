@@ -11,7 +11,7 @@ use Rattle.ug_sysfs.specs.World.{World, happen, opened_at, switched_to, put_at, 
 use Rattle.ug_play.specs.Play.{play}
 use Rattle.ug_play.proofs.Plays.{unless_cases}
 
-record Still (s t : World) : Type 0 where
+pub record Still (s t : World) : Type 0 where
   pub moves : t.moves ≡ []
   pub devices : length t.kernel.devices ≡ length s.kernel.devices
 
@@ -64,7 +64,7 @@ still_unless s call e =
     let same : Still s s = record { moves = e; devices = refl } in
     unless_cases (λ call (p : Answer call × World). Still s p.1) s.ran_out s (λ held. same) (λ call t. record { moves = e; devices = refl }) (λ call f. still_answer s call e) call
 
-play_still : {R : Type 0} (p : Prog R) (s : World) → s.moves ≡ [] → Still s (play p s).1
+pub play_still : {R : Type 0} (p : Prog R) (s : World) → s.moves ≡ [] → Still s (play p s).1
 play_still (Return value) s e = record { moves = e; devices = refl }
 play_still (Ask call next) s e =
     let x = still_unless s call e in

@@ -25,7 +25,7 @@ pub record Sums (es : List Entry) (ok : Bool) (ms : List Made) (fs : List Entry)
   pub wants : tells_memory rest ≡ refused ok ms
   pub faults : failures_told rest ≡ failures ms
 
-refused_more : (a b x y : Bool) → ((not a || x) || (not b || y)) ≡ (not (a && b) || (x || y))
+pub refused_more : (a b x y : Bool) → ((not a || x) || (not b || y)) ≡ (not (a && b) || (x || y))
 refused_more true true x y = refl
 refused_more true false x y = or_right x true refl
 refused_more false b x y = refl
@@ -109,11 +109,11 @@ sure_sweep {J} answer later w s n =
 pub nobody_more : (es fs : List Entry) → NameNobody es → NameNobody fs → NameNobody (es ++ fs)
 nobody_more es fs a b = list_any-append names_somebody es fs ∙ ap (λ (v : Bool). v || list_any names_somebody fs) a ∙ b
 
-nothing_behind : (xs ys : List FailedCall) → xs ++ ys ≡ [] → ys ≡ []
+pub nothing_behind : (xs ys : List FailedCall) → xs ++ ys ≡ [] → ys ≡ []
 nothing_behind [] ys e = e
 nothing_behind (x ∷ xs) ys e = let none : ⊥ = cc in absurd none
 
-nobody_told : (es : List Entry) → tells_memory es ≡ false → failures_told es ≡ [] → NameNobody es
+pub nobody_told : (es : List Entry) → tells_memory es ≡ false → failures_told es ≡ [] → NameNobody es
 nobody_told [] m f = refl
 nobody_told (entry.Unsettled name (fault.Call failed) ∷ es) m f = let none : ⊥ = cc in absurd none
 nobody_told (entry.Unsettled name fault.Memory ∷ es) m f = let none : ⊥ = cc in absurd none

@@ -1,25 +1,22 @@
 -- An event as the world fixes it.
-use Rattle.std.proofs.Common.{◌≡◌, ℕ, ◌+◌, ◌++◌, Bool, true, false, List, [], ◌∷◌, Option, Some, None, ◌⊎◌, ◌∙◌, ap, sym, subst, refl, inl, inr}
+use Rattle.std.proofs.Common.{◌≡◌, ℕ, ◌+◌, ◌++◌, Bool, true, false, ◌||◌, List, [], ◌∷◌, Option, Some, None, ◌⊎◌, ◌∙◌, ap, sym, subst, refl, inl, inr}
 use Rattle.std.proofs.lemmas.Bool.{both_ways}
-use Rattle.ug_types.specs.declared.verdict.Moment.{Moment}
 use Rattle.ug_sysfs.specs.World.{World, Gives, begun, over}
 use Rattle.ug_kernel.specs.Tree.{Runs}
 use Rattle.ug_audit.specs.declared.entry.Entry.{Entry}
-use Rattle.ug_audit.specs.declared.entry.Entry.TheVariants as entry
-use Rattle.ug_table.specs.State.{State}
-use Rattle.ug_table.specs.Sweep.{sweeping}
 use Rattle.ug_play.specs.Play.{tells_memory, IsPlayed}
-use Rattle.ug_play.proofs.Sweeps.{event_played}
-use Rattle.ug_core.specs.Event as event
+use Rattle.ug_play.proofs.Plays.{TellsWant, played}
+use Rattle.ug_play.proofs.Wants.{memory_more}
+use Rattle.ug_kernel.proofs.Runs.{runs_then}
+use Rattle.ug_kernel.proofs.Ways.{Ways, ways_more, ways_run}
+use Rattle.ug_script.proofs.Answers.{EventSo, event_ways}
 use Rattle.ug_core.specs.declared.daemon.Event as daemon
-use Rattle.ug_core.specs.Policy.{Judging, policy_answer, policy_later}
 use Rattle.ug_store.specs.DiskCalls.{DiskCall, DiskTold}
 use Rattle.ug_store.specs.Scripted.{DiskWorld}
 use Rattle.ug_store.specs.Store.{RunsDisk}
 use Rattle.ug_types.specs.declared.saved.Saved.{Saved}
-use Rattle.ug_kernel.specs.Tree.{Prog, Return, Ask, Room, then}
-use Rattle.ug_kernel.specs.Calls.{Call, Answer}
-use Rattle.ug_core.specs.Event.{DaemonState, handling, moment_of, ready, trying, if_pending, RunsSweep}
+use Rattle.ug_core.specs.Answering.{answering}
+use Rattle.ug_core.specs.Event.{DaemonState, handling, ready, trying, if_pending}
 use Rattle.std.specs.Io.KnownBytes.{Appends, Keeps}
 use Rattle.std.proofs.KnownBytes.{Appends-nil, Keeps-refl}
 use Rattle.ug_types.specs.Ends.{Puts}
@@ -27,12 +24,11 @@ use Rattle.ug_types.specs.declared.sink.Put.TheVariants.{Failed}
 use Rattle.ug_console.specs.Runs.{Steps, Closes}
 use Rattle.ug_console.specs.declared.machine.Ran.{Ran}
 use Rattle.ug_console.specs.declared.machine.Ran.TheVariants.{Done, Bad, TooLong, SinkFailed, Memory}
-use Rattle.ug_core.specs.declared.daemon.Event.TheVariants.{Sweep}
 use Rattle.ug_console.specs.Fold.{Outcome, Writes, Refused}
 use Rattle.ug_script.specs.Setup.{SetupState, after_reading, rules_disk, started}
 use Rattle.ug_script.proofs.Phases.{open_unstarted}
 use Rattle.ug_script.specs.Script.{Script, Phase, SettingUp, Unstarted, Started, HoldsRules, IsOnDisk, takes_setup, has_started, disk_in, fits_file}
-use Rattle.ug_script.specs.Replay.{lines_text, tells, quiet, with_restart, restart_taken, came_of, event_from, event_by, in_script, event_taken}
+use Rattle.ug_script.specs.Replay.{outcome_of, outcome_text, tells, quiet, with_restart, restart_taken, came_of, event_tree, event_from, event_by, in_script, event_taken}
 
 -- where no save is pending, nothing is asked of the disk
 none_by : {S : Type 0} (keeps : S → (call : DiskCall) → DiskTold call → S → Type 0) (o : S) (d : DaemonState) (pending : Bool) (tried : Option Saved) (p : S) → pending ≡ false → RunsDisk keeps o (if_pending d.sweep.judge.rules pending) tried p → (tried ≡ None) × (p ≡ o)
@@ -43,45 +39,38 @@ pub none_tried : {S : Type 0} (keeps : S → (call : DiskCall) → DiskTold call
 unfolding trying
 none_tried keeps o d tried p e h = none_by keeps o d d.pending tried p e h
 
--- a sweep doesn't change whether a save is pending
+-- an event that was handled is as its script fixes it, unless it tells want of memory
 
-ended_pending : {S : Type 0} (gives : S → (call : Call) → Answer call → S → Type 0) (p : Prog (State Judging)) (d : DaemonState) (s : S) (e : DaemonState) (t : S) → Runs gives s (then p (event.ended d)) e t → e.pending ≡ d.pending
-ended_pending gives (Return v) d s e t h = ap (λ (x : DaemonState). x.pending) h.0
-ended_pending gives (Ask call next) d s e t h = ended_pending gives (next h.0) d h.1 e t h.3
-ended_pending gives (Room next) d s e t h = ended_pending gives (next h.0) d s e t h.1
+-- both runs are one of the whole tree
+event_run : (event : daemon.Event) (d : DaemonState) (s : World) (a : DaemonState) (m : World) (e : DaemonState) (t : World) → Runs Gives s (answering (ready event None d) event) a m → Runs Gives m (handling a) e t → Runs Gives s (event_tree event d) e t
+event_run event d s a m e t h k = runs_then Gives s (answering (ready event None d) event) handling a m e t h k
 
-pub handled_pending : {S : Type 0} (gives : S → (call : Call) → Answer call → S → Type 0) (d : DaemonState) (s : S) (e : DaemonState) (t : S) → Runs gives s (handling d) e t → e.pending ≡ d.pending
-unfolding handling
-handled_pending gives d s e t h = ended_pending gives (sweeping policy_answer policy_later d.sweep) d s e t h
+pub event_pends : (event : daemon.Event) (d : DaemonState) (s : World) (a : DaemonState) (m : World) (e : DaemonState) (t : World) → Runs Gives s (answering (ready event None d) event) a m → Runs Gives m (handling a) e t → e.pending ≡ d.pending
+event_pends event d s a m e t h k = (ways_run Gives (EventSo (ready event None d)) (event_tree event d) s e t (event_ways event (ready event None d)) (event_run event d s a m e t h k)).so.pending
 
-pub handling_played : (d : DaemonState) (w : World) (e : DaemonState) (t : World) → RunsSweep (λ (x y : World). y ≡ begun x) Gives w d t e → IsPlayed tells (handling d) (begun w) e t
-unfolding handling
-handling_played d w e t h = from_begun h.0 h.1 h.2
+pub event_plays : (event : daemon.Event) (d : DaemonState) (w u : World) (a : DaemonState) (m : World) (e : DaemonState) (t : World) → u ≡ begun w → Runs Gives u (answering (ready event None d) event) a m → Runs Gives m (handling a) e t → IsPlayed tells (event_tree event d) (begun w) e t
+event_plays event d w u a m e t q h k =
+    let wants : Ways (event_tree event d) (TellsWant tells) = ways_more (EventSo (ready event None d)) (TellsWant tells) (event_tree event d) (λ ok ms x so f. ap (λ (es : List Entry). tells_memory es) so.entries ∙ memory_more (ready event None d).sweep.entries so.rest ∙ or_last (tells_memory (ready event None d).sweep.entries) (tells_memory so.rest) (so.wants ∙ f)) (event_ways event (ready event None d)) in
+    played tells (event_tree event d) (begun w) e t wants (subst (λ (x : World). Runs Gives x (event_tree event d) e t) q (event_run event d u a m e t h k))
   where
-    from_begun : (u : World) → u ≡ begun w → Runs Gives u (handling d) e t → IsPlayed tells (handling d) (begun w) e t
-    from_begun u q r =
-        let end : List Entry = entry.End d.event ∷ [] in
-        let made : State Judging → DaemonState = λ v. record d { sweep = record v { entries = v.entries ++ end }; event = d.event + 1 } in
-        event_played policy_answer policy_later d.sweep (event.ended d) made (λ (x : DaemonState). x.sweep.entries) end (begun w) e t (λ v. refl) (λ v. refl) (subst (λ (x : World). Runs Gives x (handling d) e t) q r)
-
--- an event of a daemon without a pending save
-pub event_runs : (moment : Moment) (d : DaemonState) (tried : Option Saved) (w : World) (e : DaemonState) (t : World) → tried ≡ None → RunsSweep (λ (x y : World). y ≡ begun x) Gives w (ready moment tried d) t e → IsPlayed tells (handling (ready moment None d)) (begun w) e t
-event_runs moment d tried w e t none h = handling_played (ready moment None d) w e t (subst (λ (x : Option Saved). RunsSweep (λ (x y : World). y ≡ begun x) Gives w (ready moment x d) t e) none h)
+    or_last : (x y : Bool) → y ≡ true → (x || y) ≡ true
+    or_last true y h = refl
+    or_last false y h = h
 
 same_places : {d e : DaemonState} {t u : World} → d ≡ e → t ≡ u → ◌≡◌ {A = DaemonState × World} (d, over t) (e, over u)
 same_places {d} {e} {t} {u} p q = ap (λ (x : DaemonState). (x, over t)) p ∙ ap (λ (y : World). (e, over y)) q
 
 -- the event's text was written, or it was cut
-came : (p : DaemonState × World) (e : DaemonState) (t : World) (before after : Option (List ℕ)) (r : Ran) → e ≡ p.0 → t ≡ p.1 → Closes (Some (lines_text e.sweep.entries)) before after r → Steps (came_of p) (e, over t) before after r
-came p e t before after Done u v c = (same_places u v, subst (λ (x : DaemonState). Appends before after (lines_text x.sweep.entries)) u c)
+came : (p : DaemonState × World) (e : DaemonState) (t : World) (before after : Option (List ℕ)) (r : Ran) → e ≡ p.0 → t ≡ p.1 → Closes (Some (outcome_text (outcome_of e))) before after r → Steps (came_of p) (e, over t) before after r
+came p e t before after Done u v c = (same_places u v, subst (λ (x : DaemonState). Appends before after (outcome_text (outcome_of x))) u c)
 came p e t before after Bad u v c = c
 came p e t before after TooLong u v c = c
-came p e t before after SinkFailed u v c = (same_places u v, subst (λ (x : DaemonState). Puts before after (lines_text x.sweep.entries) Failed) u c)
+came p e t before after SinkFailed u v c = (same_places u v, subst (λ (x : DaemonState). Puts before after (outcome_text (outcome_of x)) Failed) u c)
 came p e t before after Memory u v c = c
 
-pub event_steps : {u : World} (moment : Moment) (d : DaemonState) (w : World) (e : DaemonState) (t : World) (before after : Option (List ℕ)) (r : Ran) → IsPlayed tells (handling (ready moment None d)) (begun w) e t → tells_memory e.sweep.entries ≡ false → t.ran_out ≡ false → Closes (Some (lines_text e.sweep.entries)) before after r → u ≡ over t → Steps (came_of (event_from moment d w)) (e, u) before after r
-event_steps {u = u} moment d w e t before after r played quiet ran c ended = subst (λ (x : World). Steps (came_of (event_from moment d w)) (e, x) before after r) (sym ended) (elim played [
-  | inl q ↦ came (event_from moment d w) e t before after r q.0 q.1 c
+pub event_steps : {u : World} (event : daemon.Event) (d : DaemonState) (w : World) (e : DaemonState) (t : World) (before after : Option (List ℕ)) (r : Ran) → IsPlayed tells (event_tree event d) (begun w) e t → tells_memory e.sweep.entries ≡ false → t.ran_out ≡ false → Closes (Some (outcome_text (outcome_of e))) before after r → u ≡ over t → Steps (came_of (event_from event d w)) (e, u) before after r
+event_steps {u = u} event d w e t before after r played quiet ran c ended = subst (λ (x : World). Steps (came_of (event_from event d w)) (e, x) before after r) (sym ended) (elim played [
+  | inl q ↦ came (event_from event d w) e t before after r q.0 q.1 c
   | inr x ↦ elim x [
     | inl y ↦ absurd (both_ways (tells_memory e.sweep.entries) quiet y)
     | inr y ↦ absurd (both_ways t.ran_out ran y)
@@ -111,23 +100,23 @@ abbrev placed : SetupState → DiskWorld → DaemonState × World → Option Scr
 placed setup disk p = (Some (record { setup = setup; phase = Started p.0 disk }), p.1)
 
 -- an event of a daemon that was started
-pub later_steps : (event : daemon.Event) (setup : SetupState) (d : DaemonState) (disk after_disk : DiskWorld) (w : World) (p : DaemonState × World) (before after : Option (List ℕ)) (r : Ran) → after_disk ≡ disk → Steps (event_by (moment_of event) d w) p before after r → Steps (event_taken event (record { setup = setup; phase = Started d disk }) w) (placed setup after_disk p) before after r
-later_steps (Sweep moment) setup d disk after_disk w p before after r same h = subst (λ (o : DiskWorld). Steps (event_taken (Sweep moment) (record { setup = setup; phase = Started d disk }) w) (placed setup o p) before after r) (sym same) (in_script_steps (record { setup = setup; phase = Started d disk }) (event_by moment d w) p before after r h)
+pub later_steps : (event : daemon.Event) (setup : SetupState) (d : DaemonState) (disk after_disk : DiskWorld) (w : World) (p : DaemonState × World) (before after : Option (List ℕ)) (r : Ran) → after_disk ≡ disk → Steps (event_by event d w) p before after r → Steps (event_taken event (record { setup = setup; phase = Started d disk }) w) (placed setup after_disk p) before after r
+later_steps event setup d disk after_disk w p before after r same h = subst (λ (o : DiskWorld). Steps (event_taken event (record { setup = setup; phase = Started d disk }) w) (placed setup o p) before after r) (sym same) (in_script_steps (record { setup = setup; phase = Started d disk }) (event_by event d w) p before after r h)
 
 -- the first event
-first_by : (event : daemon.Event) (setup : SetupState) (phase : Phase) (d : DaemonState) (w : World) (p : DaemonState × World) (before after : Option (List ℕ)) (r : Ran) → has_started phase ≡ false → fits_file setup ≡ true → d ≡ started setup → Steps (event_by (moment_of event) d w) p before after r → Steps (event_taken event (record { setup = setup; phase = phase }) w) (placed setup (rules_disk setup) p) before after r
-first_by (Sweep moment) setup SettingUp d w p before after r new fits is h = rw fits (in_script_steps (record { setup = setup; phase = SettingUp }) (event_by moment (started setup) w) p before after r (subst (λ (x : DaemonState). Steps (event_by moment x w) p before after r) is h))
-first_by (Sweep moment) setup Unstarted d w p before after r new fits is h = rw fits (in_script_steps (record { setup = setup; phase = Unstarted }) (event_by moment (started setup) w) p before after r (subst (λ (x : DaemonState). Steps (event_by moment x w) p before after r) is h))
-first_by (Sweep moment) setup (Started e disk) d w p before after r new fits is h = let none : ⊥ = cc in absurd none
+first_by : (event : daemon.Event) (setup : SetupState) (phase : Phase) (d : DaemonState) (w : World) (p : DaemonState × World) (before after : Option (List ℕ)) (r : Ran) → has_started phase ≡ false → fits_file setup ≡ true → d ≡ started setup → Steps (event_by event d w) p before after r → Steps (event_taken event (record { setup = setup; phase = phase }) w) (placed setup (rules_disk setup) p) before after r
+first_by event setup SettingUp d w p before after r new fits is h = rw fits (in_script_steps (record { setup = setup; phase = SettingUp }) (event_by event (started setup) w) p before after r (subst (λ (x : DaemonState). Steps (event_by event x w) p before after r) is h))
+first_by event setup Unstarted d w p before after r new fits is h = rw fits (in_script_steps (record { setup = setup; phase = Unstarted }) (event_by event (started setup) w) p before after r (subst (λ (x : DaemonState). Steps (event_by event x w) p before after r) is h))
+first_by event setup (Started e disk) d w p before after r new fits is h = let none : ⊥ = cc in absurd none
 
-pub first_steps : (event : daemon.Event) (setup : SetupState) (phase : Phase) (d : DaemonState) (disk after_disk : DiskWorld) (w : World) (p : DaemonState × World) (before after : Option (List ℕ)) (r : Ran) → has_started phase ≡ false → fits_file setup ≡ true → d ≡ started setup → disk ≡ rules_disk setup → after_disk ≡ disk → Steps (event_by (moment_of event) d w) p before after r → Steps (event_taken event (record { setup = setup; phase = phase }) w) (placed setup after_disk p) before after r
+pub first_steps : (event : daemon.Event) (setup : SetupState) (phase : Phase) (d : DaemonState) (disk after_disk : DiskWorld) (w : World) (p : DaemonState × World) (before after : Option (List ℕ)) (r : Ran) → has_started phase ≡ false → fits_file setup ≡ true → d ≡ started setup → disk ≡ rules_disk setup → after_disk ≡ disk → Steps (event_by event d w) p before after r → Steps (event_taken event (record { setup = setup; phase = phase }) w) (placed setup after_disk p) before after r
 first_steps event setup phase d disk after_disk w p before after r new fits is on same h = subst (λ (o : DiskWorld). Steps (event_taken event (record { setup = setup; phase = phase }) w) (placed setup o p) before after r) (sym (same ∙ on)) (first_by event setup phase d w p before after r new fits is h)
 
 -- a rule file has no room for the rules
 pub long_steps : (event : daemon.Event) (setup : SetupState) (phase : Phase) (w : World) (held : Option (List ℕ)) → has_started phase ≡ false → fits_file setup ≡ false → Keeps held held → Steps (event_taken event (record { setup = setup; phase = phase }) w) (Some (record { setup = setup; phase = phase }), w) held held TooLong
-long_steps (Sweep moment) setup SettingUp w held new fits h = rw fits (refl, refl, h)
-long_steps (Sweep moment) setup Unstarted w held new fits h = rw fits (refl, refl, h)
-long_steps (Sweep moment) setup (Started e disk) w held new fits h = let none : ⊥ = cc in absurd none
+long_steps event setup SettingUp w held new fits h = rw fits (refl, refl, h)
+long_steps event setup Unstarted w held new fits h = rw fits (refl, refl, h)
+long_steps event setup (Started e disk) w held new fits h = let none : ⊥ = cc in absurd none
 
 -- ---- a restart
 

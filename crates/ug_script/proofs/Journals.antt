@@ -6,25 +6,28 @@ use Rattle.std.specs.Cmp.Lexicographic.{pointwise}
 use Rattle.std.specs.List.{list_any}
 use Rattle.ug_types.specs.Elements.{Has}
 use Rattle.ug_types.specs.declared.verdict.Moment.{Moment}
-use Rattle.ug_kernel.specs.Kernel.{Kernel, IsKernel, Moves}
+use Rattle.ug_kernel.specs.Kernel.{Kernel, IsKernel, Live, Moves}
 use Rattle.ug_kernel.proofs.Stayed.{unmoving}
 use Rattle.ug_sysfs.specs.World.{World, begun, moved, over}
 use Rattle.ug_sysfs.specs.Begins.{moved_moves, happened_moves}
 use Rattle.ug_audit.specs.declared.entry.Entry.{Entry}
 use Rattle.ug_audit.specs.declared.entry.Entry.TheVariants as entry
 use Rattle.ug_table.specs.State.{State}
-use Rattle.ug_table.specs.Sweep.{sweeping}
 use Rattle.ug_table.specs.Laws.{IsAsJudged}
 use Rattle.ug_play.specs.Play.{play, names_somebody, NameNobody}
-use Rattle.ug_play.proofs.Sweeps.{quiet_sweep, nobody_more}
-use Rattle.ug_play.proofs.Still.{lived_in_play}
+use Rattle.ug_play.proofs.Sweeps.{nobody_more}
+use Rattle.ug_play.proofs.Still.{lived_in_play, play_still}
 use Rattle.ug_acl.specs.Acls.{Addition}
 use Rattle.ug_conf.specs.Draft.{draft_of}
 use Rattle.ug_conf.specs.Settings.{defaults}
 use Rattle.ug_conf.specs.Texts.{setting_line, settled}
 use Rattle.ug_lines.specs.LineReading.{lines_read}
-use Rattle.ug_core.specs.declared.daemon.Event.TheVariants.{Sweep}
-use Rattle.ug_core.specs.Policy.{Judging, policy_answer, policy_later}
+use Rattle.ug_core.specs.Answering.{answering}
+use Rattle.ug_core.specs.declared.daemon.Event as events
+use Rattle.ug_core.specs.declared.daemon.Event.TheVariants.{Sweep, Order}
+use Rattle.ug_kernel.specs.Called.{Lived}
+use Rattle.ug_kernel.specs.Quiet.{Grows}
+use Rattle.ug_core.specs.Policy.{Judging}
 use Rattle.ug_core.specs.Event.{DaemonState, handling, has_numbers, ready, trying}
 use Rattle.ug_core.specs.Chain.{Happened, Chain, journal}
 use Rattle.ug_store.specs.Disk.{Disk}
@@ -38,7 +41,7 @@ use Rattle.ug_sysfs.specs.World.{Gives}
 use Rattle.ug_play.proofs.Plays.{play_runs}
 use Rattle.ug_core.specs.Chain.{IsEvent, StaysOnDisk}
 use Rattle.ug_core.proofs.Kept.{file_kept, stays_there}
-use Rattle.ug_core.proofs.Plain.{event_keeps_rules}
+use Rattle.ug_core.proofs.Plain.{SameRules, event_keeps_rules}
 use Rattle.ug_core.proofs.Verdicts.{rulings_later}
 use Rattle.ug_core.proofs.Chained.{journal_append, is_run, chain_more, chain_moves}
 use Rattle.ug_console.specs.Fold.{Fault, BadLine, InputTooLong, Outcome, Writes, Refused, Stage, Going, Halted, is_within, stage_after, plays}
@@ -49,17 +52,13 @@ use Rattle.ug_script.specs.declared.step.Step.TheVariants.{Skip, Setup, Move, Sc
 use Rattle.ug_script.specs.Grammar.{step_of_line}
 use Rattle.ug_script.specs.Setup.{SetupState, no_setup, one_line_more, access_of, after_reading, policy_of, rules_disk, started, started_at, steps_of}
 use Rattle.ug_script.specs.Script.{Script, Phase, Started, fresh, takes_setup, has_started, closed_phase, with_setup_closed, daemon_by, daemon_in, disk_by, disk_in, can_start}
-use Rattle.ug_script.specs.Replay.{header, terminated, lines_text, outcome_of, outcome_text, quiet, bad, line_added, with_devices, with_restart, planned, came_of, event_of, in_script, taken, taken_if, script_step}
-use Rattle.ug_script.specs.Laws.{StaysLawful}
-use Rattle.ug_script.specs.Journal.{happened_at, left_by, EventsOfRuns, no_events, with_events, runs_by, runs_after, runs_in, journals, journal_of, IsDaemonRun, EndedRun, AreSuccessive, JudgesOnce, is_quiet, AreQuiet, Recorded, StaysRecorded}
+use Rattle.ug_script.specs.Replay.{header, outcome_of, outcome_text, quiet, bad, line_added, with_devices, with_restart, planned, answered_from, came_of, event_from, event_of, in_script, taken, taken_if, script_step}
+use Rattle.ug_script.specs.Laws.{calls_of, faults_of, StaysLawful}
+use Rattle.ug_script.specs.Journal.{happened_at, left_by, EventsOfRuns, no_events, with_events, runs_by, runs_after, runs_in, journals, journal_of, events_text, runs_text, text_of_runs, IsDaemonRun, EndedRun, AreSuccessive, JudgesOnce, is_quiet, AreQuiet, Recorded, StaysRecorded}
 use Rattle.ug_script.proofs.Phases.{open_unstarted, closed_daemon, closed_disk, closed_started}
-use Rattle.ug_script.proofs.Lawful.{Holds, HoldsOf, plays_sweep, handled, event_holds, move_holds, plan_holds, event_pending, no_standing, tells_event, lawful_event}
+use Rattle.ug_script.proofs.Lawful.{Holds, HoldsOf, answers, plays_event, handled, event_holds, event_so, move_holds, plan_holds, event_pending, no_standing, tells_event, lawful_event}
 use Rattle.ug_script.proofs.Numbers.{Fits, FitsOf, fits_more, event_fits, started_fits, fits_numbers}
 use Rattle.ug_script.proofs.Setups.{IsGiven, InSetup, given_first, given_still, given_added, given_setup, policy_new}
-
-lines_more : (es fs : List Entry) → lines_text (es ++ fs) ≡ lines_text es ++ lines_text fs
-lines_more [] fs = refl
-lines_more (e ∷ es) fs = ap (λ (l : List ℕ). terminated e ++ l) (lines_more es fs) ∙ sym (append_assoc (terminated e) (lines_text es) (lines_text fs))
 
 quiet_front : (steps : List (Option Step)) (step : Option Step) → AreQuiet (steps ++ step ∷ []) → AreQuiet steps × (is_quiet step ≡ true)
 quiet_front [] step q = (tt, q.0)
@@ -80,7 +79,7 @@ record Kept (first : World) (n : ℕ) (done : List (Option Step)) (runs : Events
   ended : AreSuccessive (access_of s.setup) (policy_of s.setup) (rules_text_of s.setup.rules) 1 first.kernel runs.ended number kernel
   chain : Chain kernel (Some file) (started_at number (access_of s.setup) (policy_of s.setup)) runs.last w.kernel (disk_told (disk_in s)) (daemon_in s)
   none : has_started s.phase ≡ false → runs ≡ no_events
-  written : text ≡ lines_text (journal_of runs)
+  written : text ≡ text_of_runs runs
   nobody : AreQuiet done → first.fails ≡ [] → NameNobody (journal_of runs)
   unfailing : AreQuiet done → first.fails ≡ [] → w.fails ≡ []
   unmoved : AreQuiet done → first.moves ≡ [] → w.moves ≡ []
@@ -176,10 +175,14 @@ skip_kept first n done runs text s w lt h = on_kept first n done runs text s w w
 
 -- ---- an event
 
-nobody_in_event : (moment : Moment) (d : DaemonState) (w : World) → w.ran_out ≡ false → w.fails ≡ [] → NameNobody (play (handling (ready moment None d)) (begun w)).0.sweep.entries
-nobody_in_event moment d w run none =
-    let p = sweeping policy_answer policy_later ((ready moment None d).sweep) in
-    rw (plays_sweep moment d w) (nobody_more (play p (begun w)).0.entries (entry.End d.event ∷ []) (quiet_sweep policy_answer policy_later ((ready moment None d).sweep) (begun w) run none refl) refl)
+nobody_in_event : (event : events.Event) (d : DaemonState) (w : World) → w.ran_out ≡ false → w.fails ≡ [] → NameNobody (event_from event d w).0.sweep.entries
+nobody_in_event event d w run none =
+    let x = event_so event d w in
+    subst NameNobody (sym x.so.entries) (nobody_more (ready event None d).sweep.entries x.so.rest (first_nobody event d) (x.so.nobody x.sure (x.calm run none)))
+  where
+    first_nobody : (event : events.Event) (d : DaemonState) → NameNobody (ready event None d).sweep.entries
+    first_nobody (Sweep moment) d = refl
+    first_nobody (Order moment who line) d = refl
 
 -- nothing is asked of the disk
 none_asked : (o : DiskWorld) (d : DaemonState) → d.pending ≡ false → RunsDisk MemKeeps o (trying d) None o
@@ -187,61 +190,72 @@ unfolding trying
 none_asked o d e = rw e (refl, refl)
 
 -- the event keeps its laws
-is_event : (first : World) (n : ℕ) (done : List (Option Step)) (runs : EventsOfRuns) (text : List ℕ) (moment : Moment) (s : Script) (w : World) (h : Kept first n done runs text s w) → IsEvent (happened_at moment s w)
-is_event first n done runs text moment s w h =
+is_event : (first : World) (n : ℕ) (done : List (Option Step)) (runs : EventsOfRuns) (text : List ℕ) (event : events.Event) (s : Script) (w : World) (h : Kept first n done runs text s w) → IsEvent (happened_at event s w)
+is_event first n done runs text event s w h =
     let d : DaemonState = daemon_in s in
     let o : DiskWorld = disk_in s in
-    let p = event_of moment s w in
-    let tells = tells_event moment d w in
+    let a = answered_from event d w in
+    let p = event_of event s w in
+    let swept : SameRules a.0.sweep.judge p.0.sweep = subst (λ (x : DaemonState × World). SameRules a.0.sweep.judge x.0.sweep) (sym (plays_event event d w)) (event_keeps_rules Gives a.1 a.0 (play (handling a.0) a.1).0 (play (handling a.0) a.1).1 (play_runs (handling a.0) a.1)) in
     record {
-      handled = handled moment d w h.holds;
-      file = file_kept Gives MemKeeps disk_told mem_did moment tells.start o d None p.1 o tells.swept p.0 (none_asked o d h.pending) tells.goes (event_keeps_rules Gives (begun w) (ready moment None d) p.0 p.1 (play_runs (handling (ready moment None d)) (begun w))) tells.entries;
+      answers = answers event d w h.holds;
+      handled = handled event d w h.holds;
+      file = file_kept Gives calls_of faults_of MemKeeps disk_told mem_did event (begun w) o d None a.1 a.0 p.1 o p.0 (none_asked o d h.pending) (tells_event event d w h.holds) swept;
     }
 
 -- the chain with that event
-event_chain : (first : World) (n : ℕ) (done : List (Option Step)) (runs : EventsOfRuns) (text : List ℕ) (moment : Moment) (s : Script) (w : World) (h : Kept first n done runs text s w) → Chain h.kernel (Some h.file) (started_at h.number (access_of s.setup) (policy_of s.setup)) (runs.last ++ happened_at moment s w ∷ []) (event_of moment s w).1.kernel (disk_told (disk_in s)) (event_of moment s w).0
-event_chain first n done runs text moment s w h = chain_more h.kernel (Some h.file) (started_at h.number (access_of s.setup) (policy_of s.setup)) runs.last w.kernel (disk_told (disk_in s)) (daemon_in s) (happened_at moment s w) h.chain (unmoving w.kernel) (stays_there (disk_told (disk_in s))) refl (is_event first n done runs text moment s w h)
+event_chain : (first : World) (n : ℕ) (done : List (Option Step)) (runs : EventsOfRuns) (text : List ℕ) (event : events.Event) (s : Script) (w : World) (h : Kept first n done runs text s w) → Chain h.kernel (Some h.file) (started_at h.number (access_of s.setup) (policy_of s.setup)) (runs.last ++ happened_at event s w ∷ []) (event_of event s w).1.kernel (disk_told (disk_in s)) (event_of event s w).0
+event_chain first n done runs text event s w h = chain_more h.kernel (Some h.file) (started_at h.number (access_of s.setup) (policy_of s.setup)) runs.last w.kernel (disk_told (disk_in s)) (daemon_in s) (happened_at event s w) h.chain (unmoving w.kernel) (stays_there (disk_told (disk_in s))) refl (is_event first n done runs text event s w h)
+
+events_append : (gs hs : List Happened) → events_text (gs ++ hs) ≡ events_text gs ++ events_text hs
+events_append [] hs = refl
+events_append (g ∷ gs) hs = ap (λ (l : List ℕ). outcome_text (outcome_of g.after) ++ l) (events_append gs hs) ∙ sym (append_assoc (outcome_text (outcome_of g.after)) (events_text gs) (events_text hs))
+
+text_more : (runs : EventsOfRuns) (h : Happened) → text_of_runs (with_events (h ∷ []) runs) ≡ text_of_runs runs ++ outcome_text (outcome_of h.after)
+text_more runs h =
+    ap (λ (l : List ℕ). runs_text runs.ended ++ l) (events_append runs.last (h ∷ []) ∙ ap (λ (l : List ℕ). events_text runs.last ++ l) (append-nil (outcome_text (outcome_of h.after))))
+    ∙ sym (append_assoc (runs_text runs.ended) (events_text runs.last) (outcome_text (outcome_of h.after)))
 
 journal_more : (runs : EventsOfRuns) (h : Happened) → journal_of (with_events (h ∷ []) runs) ≡ journal_of runs ++ h.after.sweep.entries
 journal_more runs h =
     ap (λ (es : List Entry). journals runs.ended ++ es) (journal_append runs.last (h ∷ []) ∙ ap (λ (es : List Entry). journal runs.last ++ es) (append-nil h.after.sweep.entries))
     ∙ sym (append_assoc (journals runs.ended) (journal runs.last) h.after.sweep.entries)
 
-event_kept : (first : World) (n : ℕ) (done : List (Option Step)) (runs : EventsOfRuns) (text : List ℕ) (moment : Moment) (s : Script) (w : World) → n < 1048576 → Kept first n done runs text s w
-    → Kept first (n + 1) (done ++ Some (Event (Sweep moment)) ∷ []) (with_events (happened_at moment s w ∷ []) runs) (text ++ outcome_text (outcome_of (event_of moment s w).0)) (record s { phase = Started (event_of moment s w).0 (disk_in s) }) (over (event_of moment s w).1)
-event_kept first n done runs text moment s w lt h =
-    let p = event_of moment s w in
-    let step : Option Step = Some (Event (Sweep moment)) in
-    let this : Happened = happened_at moment s w in
+event_kept : (first : World) (n : ℕ) (done : List (Option Step)) (runs : EventsOfRuns) (text : List ℕ) (event : events.Event) (s : Script) (w : World) → n < 1048576 → Kept first n done runs text s w
+    → Kept first (n + 1) (done ++ Some (Event event) ∷ []) (with_events (happened_at event s w ∷ []) runs) (text ++ outcome_text (outcome_of (event_of event s w).0)) (record s { phase = Started (event_of event s w).0 (disk_in s) }) (over (event_of event s w).1)
+event_kept first n done runs text event s w lt h =
+    let p = event_of event s w in
+    let step : Option Step = Some (Event event) in
+    let this : Happened = happened_at event s w in
     let all : journal_of (with_events (this ∷ []) runs) ≡ journal_of runs ++ p.0.sweep.entries = journal_more runs this in
     record {
       few = omega (arith, lt);
-      holds = event_holds moment (daemon_in s) w h.holds;
-      fits = λ e. event_fits n moment (daemon_in s) w lt h.holds (h.fits e);
+      holds = event_holds event (daemon_in s) w h.holds;
+      fits = λ e. event_fits n event (daemon_in s) w lt h.holds (h.fits e);
       given = given_still n done step s.setup refl refl refl refl refl h.given;
-      pending = event_pending moment (daemon_in s) w h.pending;
+      pending = event_pending event (daemon_in s) w h.pending;
       disk = h.disk;
       number = h.number;
       kernel = h.kernel;
       file = h.file;
       only = h.only;
       ended = h.ended;
-      chain = chain_moves h.kernel (Some h.file) (started_at h.number (access_of s.setup) (policy_of s.setup)) (runs.last ++ this ∷ []) p.1.kernel (over p.1).kernel (disk_told (disk_in s)) (disk_told (disk_in s)) p.0 (event_chain first n done runs text moment s w h) (happened_moves p.1.moves p.1.kernel) (stays_there (disk_told (disk_in s)));
+      chain = chain_moves h.kernel (Some h.file) (started_at h.number (access_of s.setup) (policy_of s.setup)) (runs.last ++ this ∷ []) p.1.kernel (over p.1).kernel (disk_told (disk_in s)) (disk_told (disk_in s)) p.0 (event_chain first n done runs text event s w h) (happened_moves p.1.moves p.1.kernel) (stays_there (disk_told (disk_in s)));
       none = λ e. closed_now (sym e);
-      written = ap (λ (z : List ℕ). z ++ lines_text p.0.sweep.entries) h.written ∙ sym (lines_more (journal_of runs) p.0.sweep.entries) ∙ ap (λ (es : List Entry). lines_text es) (sym all);
+      written = ap (λ (z : List ℕ). z ++ outcome_text (outcome_of p.0)) h.written ∙ sym (text_more runs this);
       nobody = λ q e.
           let quiet = (quiet_front done step q).0 in
-          subst NameNobody (sym all) (nobody_more (journal_of runs) p.0.sweep.entries (h.nobody quiet e) (nobody_in_event moment (daemon_in s) w h.holds.told (h.unfailing quiet e)));
+          subst NameNobody (sym all) (nobody_more (journal_of runs) p.0.sweep.entries (h.nobody quiet e) (nobody_in_event event (daemon_in s) w h.holds.told (h.unfailing quiet e)));
       unfailing = λ q e. refl;
       unmoved = λ q e. refl;
     }
 
-event_if : (first : World) (n : ℕ) (done : List (Option Step)) (runs : EventsOfRuns) (text : List ℕ) (moment : Moment) (s : Script) (w : World) (can has : Bool)
-    → KeptAfter first n done (with_events (happened_at moment s w ∷ []) runs) text (in_script s (came_of (event_of moment s w)))
-    → KeptAfter first n done (with_events (cond (can && has) (happened_at moment s w ∷ []) []) runs) text (cond can (in_script s (cond has (came_of (event_of moment s w)) (Refused BadLine (daemon_in s, w)))) (Refused InputTooLong (Some s, w)))
-event_if first n done runs text moment s w true true k = k
-event_if first n done runs text moment s w true false k = tt
-event_if first n done runs text moment s w false has k = tt
+event_if : (first : World) (n : ℕ) (done : List (Option Step)) (runs : EventsOfRuns) (text : List ℕ) (event : events.Event) (s : Script) (w : World) (can has : Bool)
+    → KeptAfter first n done (with_events (happened_at event s w ∷ []) runs) text (in_script s (came_of (event_of event s w)))
+    → KeptAfter first n done (with_events (cond (can && has) (happened_at event s w ∷ []) []) runs) text (cond can (in_script s (cond has (came_of (event_of event s w)) (Refused BadLine (daemon_in s, w)))) (Refused InputTooLong (Some s, w)))
+event_if first n done runs text event s w true true k = k
+event_if first n done runs text event s w true false k = tt
+event_if first n done runs text event s w false has k = tt
 
 -- ---- a restart
 
@@ -272,6 +286,13 @@ told_reading o none = rw none refl
 journals_append : (xs : List (List Happened)) (hs : List Happened) → journals (xs ++ hs ∷ []) ≡ journals xs ++ journal hs
 journals_append [] hs = append-nil (journal hs)
 journals_append (gs ∷ xs) hs = ap (λ (es : List Entry). journal gs ++ es) (journals_append xs hs) ∙ sym (append_assoc (journal gs) (journals xs) (journal hs))
+
+runs_append : (xs : List (List Happened)) (hs : List Happened) → runs_text (xs ++ hs ∷ []) ≡ runs_text xs ++ events_text hs
+runs_append [] hs = append-nil (events_text hs)
+runs_append (gs ∷ xs) hs = ap (λ (l : List ℕ). events_text gs ++ l) (runs_append xs hs) ∙ sym (append_assoc (events_text gs) (runs_text xs) (events_text hs))
+
+text_ended : (runs : EventsOfRuns) → text_of_runs (record { ended = runs.ended ++ runs.last ∷ []; last = [] }) ≡ text_of_runs runs
+text_ended runs = append-nil (runs_text (runs.ended ++ runs.last ∷ [])) ∙ runs_append runs.ended runs.last
 
 journal_ended : (runs : EventsOfRuns) → journal_of (record { ended = runs.ended ++ runs.last ∷ []; last = [] }) ≡ journal_of runs
 journal_ended runs = append-nil (journals (runs.ended ++ runs.last ∷ [])) ∙ journals_append runs.ended runs.last
@@ -307,7 +328,7 @@ restart_kept first n done runs text s w lt h =
       ended = run_ended access policy rules 1 first.kernel runs.ended h.number h.kernel runs.last this h.ended;
       chain = (unmoving w.kernel, subst (λ (x : Option Disk). StaysOnDisk (Some file) x) (sym (told_reading o ran)) (stays_there (Some file)), refl);
       none = λ e. closed_now (sym e);
-      written = append-nil text ∙ h.written ∙ ap (λ (es : List Entry). lines_text es) (sym same);
+      written = append-nil text ∙ h.written ∙ sym (text_ended runs);
       nobody = λ q e. subst NameNobody (sym same) (h.nobody (quiet_front done step q).0 e);
       unfailing = λ q. h.unfailing (quiet_front done step q).0;
       unmoved = λ q. h.unmoved (quiet_front done step q).0;
@@ -334,32 +355,37 @@ nobody_left (e ∷ es) fs n =
     let x = neither (names_somebody e) (list_any names_somebody (es ++ fs)) n in
     ap (λ (b : Bool). b || list_any names_somebody es) x.0 ∙ nobody_left es fs x.1
 
+nobody_right : (es fs : List Entry) → NameNobody (es ++ fs) → NameNobody fs
+nobody_right [] fs n = n
+nobody_right (e ∷ es) fs n = nobody_right es fs (neither (names_somebody e) (list_any names_somebody (es ++ fs)) n).1
+
 -- where nobody is named, each live device was judged once and stands as judged
-event_once : (first : World) (n : ℕ) (done : List (Option Step)) (runs : EventsOfRuns) (text : List ℕ) (s : Script) (w : World) (h : Kept first n done runs text s w) → AreQuiet done → first.fails ≡ [] → first.moves ≡ [] → (moment : Moment) → JudgesOnce (policy_of s.setup) h.kernel h.file runs.last (happened_at moment s w)
+event_once : (first : World) (n : ℕ) (done : List (Option Step)) (runs : EventsOfRuns) (text : List ℕ) (s : Script) (w : World) (h : Kept first n done runs text s w) → AreQuiet done → first.fails ≡ [] → first.moves ≡ [] → (event : events.Event) → JudgesOnce (policy_of s.setup) h.kernel h.file runs.last (happened_at event s w)
 unfolding daemon_run
-event_once first n done runs text s w h quiet_lines fails moves moment =
-    let access : List Addition = access_of s.setup in
+event_once first n done runs text s w h quiet_lines fails moves event =
     let policy : Judging = policy_of s.setup in
     let d : DaemonState = daemon_in s in
-    let p = event_of moment s w in
+    let a = answered_from event d w in
+    let p = event_of event s w in
     let l : Kernel = p.1.kernel in
-    let law = handled moment d w h.holds in
+    let law = handled event d w h.holds in
     let none : w.moves ≡ [] = h.unmoved quiet_lines moves in
-    let y : Entry = entry.End d.event in
-    let x : Entry = entry.Event d.event moment in
+    let y : Entry = entry.End a.0.event in
     let rest : List Entry = law.law.fair.rest in
-    let all : p.0.sweep.entries ≡ ((x ∷ []) ++ rest) ++ y ∷ [] = ap (λ (z : State Judging). z.entries) law.entries ∙ ap (λ (z : List Entry). z ++ y ∷ []) law.law.fair.entries in
-    let quiet : NameNobody ((x ∷ []) ++ rest) = nobody_left ((x ∷ []) ++ rest) (y ∷ []) (subst NameNobody all (nobody_in_event moment d w h.holds.told (h.unfailing quiet_lines fails))) in
-    let run = (daemon_run access policy (rules_text_of s.setup.rules) h.number h.kernel h.file (runs.last ++ happened_at moment s w ∷ []) l (disk_told (disk_in s)) p.0 h.only (event_chain first n done runs text moment s w h)).run in
+    let all : p.0.sweep.entries ≡ a.0.sweep.entries ++ (rest ++ y ∷ []) = ap (λ (z : State Judging). z.entries) law.entries ∙ ap (λ (z : List Entry). z ++ y ∷ []) law.law.fair.entries ∙ append_assoc a.0.sweep.entries rest (y ∷ []) in
+    let quiet : NameNobody rest = nobody_left rest (y ∷ []) (nobody_right a.0.sweep.entries (rest ++ y ∷ []) (subst NameNobody all (nobody_in_event event d w h.holds.told (h.unfailing quiet_lines fails)))) in
+    let run = (daemon_run (access_of s.setup) policy (rules_text_of s.setup.rules) h.number h.kernel h.file (runs.last ++ happened_at event s w ∷ []) l (disk_told (disk_in s)) p.0 h.only (event_chain first n done runs text event s w h)).run in
     record {
       run = run;
       each = λ i e live.
-          let lived = lived_in_play (handling (ready moment None d)) (begun w) none law.law.fair.grows i e live in
-          let as_judged : IsAsJudged l law.swept.standings i = elim (law.law.settled i lived.0 lived.1) [
-            | inl a ↦ a
+          let same : p ≡ play (handling a.0) a.1 = plays_event event d w in
+          let lived = lived_in_play (handling a.0) a.1 (play_still (answering (ready event None d) event) (begun w) none).moves (subst (λ (x : DaemonState × World). Grows a.1.kernel x.1.kernel) same law.law.fair.grows) i e (subst (λ (x : DaemonState × World). Live x.1.kernel.devices i e) same live) in
+          let there : Lived a.1.kernel.devices l.devices i lived.0 = subst (λ (x : DaemonState × World). Lived a.1.kernel.devices x.1.kernel.devices i lived.0) (sym same) lived.1 in
+          let as_judged : IsAsJudged l law.swept.standings i = elim (law.law.settled i lived.0 there) [
+            | inl z ↦ z
             | inr named ↦ elim named [
-              | inl n ↦ absurd (named_nowhere ((x ∷ []) ++ rest) (entry.Unsettled lived.0.name n.0) quiet refl (inr n.1))
-              | inr a ↦ absurd (named_nowhere ((x ∷ []) ++ rest) (entry.UnsettledAll a.0.0) quiet refl (inr a.0.1))
+              | inl z ↦ absurd (named_nowhere rest (entry.Unsettled lived.0.name z.0) quiet refl z.1)
+              | inr z ↦ absurd (named_nowhere rest (entry.UnsettledAll z.0.0) quiet refl z.0.1)
             ]
           ] in
           run.once i e live (subst (λ (z : State Judging). IsAsJudged l z.standings i) (sym law.entries) as_judged);
@@ -419,7 +445,7 @@ step_kept first n done runs text (Schedule p) s w lt h = plan_kept p
     plan_kept : (x : Plan) → Kept first (n + 1) (done ++ Some (Schedule p) ∷ []) (with_events [] runs) (text ++ []) (with_setup_closed s) (planned x w)
     plan_kept (plan.Move m) = kept_still first (n + 1) (done ++ Some (Schedule p) ∷ []) runs text (with_setup_closed s) (planned (plan.Move m) w) (by (planned (plan.Move m) w) (plan_holds (plan.Move m) (daemon_in s) w h.holds) (unmoving w.kernel) refl)
     plan_kept (plan.Fail f) = kept_still first (n + 1) (done ++ Some (Schedule p) ∷ []) runs text (with_setup_closed s) (planned (plan.Fail f) w) (by (planned (plan.Fail f) w) (plan_holds (plan.Fail f) (daemon_in s) w h.holds) (unmoving w.kernel) refl)
-step_kept first n done runs text (Event (Sweep moment)) s w lt h = event_if first (n + 1) (done ++ Some (Event (Sweep moment)) ∷ []) runs text moment s w (can_start s.setup s.phase) (has_numbers (daemon_in s) w.faults 0) (event_kept first n done runs text moment s w lt h)
+step_kept first n done runs text (Event event) s w lt h = event_if first (n + 1) (done ++ Some (Event event) ∷ []) runs text event s w (can_start s.setup s.phase) (has_numbers (daemon_in s) w.faults 0) (event_kept first n done runs text event s w lt h)
 step_kept first n done runs text Restart s w lt h = restart_if first (n + 1) (done ++ Some Restart ∷ []) (record { ended = runs.ended ++ runs.last ∷ []; last = [] }) text s w (can_start s.setup s.phase) (restart_kept first n done runs text s w lt h)
 
 line_kept : (first : World) (n : ℕ) (done : List (Option Step)) (runs : EventsOfRuns) (text : List ℕ) (step : Option Step) (s : Script) (w : World) → n < 1048576 → Kept first n done runs text s w → KeptAfter first (n + 1) (done ++ step ∷ []) (runs_by step s w runs) text (taken_if step s w)

@@ -1,3 +1,4 @@
+pub mod Answers
 pub mod Moments
 pub mod NamesRead
 pub mod Readable

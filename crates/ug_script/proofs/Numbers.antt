@@ -6,7 +6,6 @@ use Rattle.std.proofs.lemmas.List.{length-map}
 use Rattle.std.proofs.lemmas.Map.Steps.{length-le_from_distinct_below}
 use Rattle.ug_types.specs.Elements.{Has, AllDistinct}
 use Rattle.ug_types.proofs.Elements.{map_has}
-use Rattle.ug_types.specs.declared.verdict.Moment.{Moment}
 use Rattle.ug_kernel.specs.declared.device.Device.{Device}
 use Rattle.ug_kernel.specs.declared.calls.Listing.{Listing}
 use Rattle.ug_kernel.specs.declared.calls.Listing.TheVariants as listing
@@ -28,7 +27,11 @@ use Rattle.ug_core.specs.Event.{DaemonState, has_numbers, is_low, ready}
 use Rattle.ug_core.specs.Policy.{Judging, policy_answer, policy_later}
 use Rattle.ug_script.proofs.Spent.{Spends, found, sweeping_spends}
 use Rattle.ug_script.specs.Setup.{SetupState}
-use Rattle.ug_script.proofs.Lawful.{Holds, plays_sweep}
+use Rattle.ug_core.specs.Answering.{answering}
+use Rattle.ug_core.specs.declared.daemon.Event.{Event}
+use Rattle.ug_script.specs.Replay.{answered_from, event_from}
+use Rattle.ug_script.proofs.Answers.{AnswersSo, answering_ways}
+use Rattle.ug_script.proofs.Lawful.{Holds, answered_holds, plays_event, plays_sweep}
 
 -- how many standings there are
 
@@ -148,30 +151,50 @@ fits_more h =
 abbrev pub FitsOf : ℕ → DaemonState → World → Type 0
 FitsOf n d w = Fits n d.event d.sweep.next d.sweep.judge.next w.faults
 
--- an event
-pub event_fits : (n : ℕ) (moment : Moment) (d : DaemonState) (w : World) → n < 1048576 → Holds d.sweep.standings d.sweep.next w → FitsOf n d w → FitsOf (n + 1) (play (event.handling (ready moment None d)) (begun w)).0 (play (event.handling (ready moment None d)) (begun w)).1
-event_fits n moment d w lt h f =
-    let u : State Judging = (ready moment None d).sweep in
+-- an order has five calls at most
+answer_fits : (n : ℕ) (event : Event) (d : DaemonState) (w : World) → FitsOf n d w → ((answered_from event d w).1.faults ≤ w.faults + 5) × ((answered_from event d w).0.event ≡ d.event) × ((answered_from event d w).0.sweep.next ≡ d.sweep.next) × ((answered_from event d w).0.sweep.judge.next ≡ d.sweep.judge.next)
+answer_fits n event d w f =
+    let p = answering (ready event None d) event in
+    let went : Went Gives (AnswersSo (ready event None d)) (begun w) (answered_from event d w).0 (answered_from event d w).1 = ways_run Gives (AnswersSo (ready event None d)) p (begun w) (answered_from event d w).0 (answered_from event d w).1 (answering_ways event (ready event None d)) (play_runs p (begun w)) in
+    let faults = along_faults went.made (begun w) (answered_from event d w).1 went.along in
+    let few = went.so.few in (
+      omega (arith, faults, few),
+      ap (λ (x : DaemonState). x.event) went.so.beside,
+      ap (λ (x : DaemonState). x.sweep.next) went.so.beside,
+      ap (λ (x : DaemonState). x.sweep.judge.next) went.so.beside,
+    )
+
+swept_fits : (n : ℕ) (a : DaemonState) (m : World) → n < 1048576 → Holds a.sweep.standings a.sweep.next m → a.event ≤ n + 1 → a.sweep.next ≤ 65536 * n + 1 → a.sweep.judge.next ≤ n + 1 → m.faults ≤ 1099511627776 * n + 5 → FitsOf (n + 1) (play (event.handling a) m).0 (play (event.handling a) m).1
+swept_fits n a m lt h old_event old_next old_id old_faults =
+    let u : State Judging = a.sweep in
     let p = sweeping policy_answer policy_later u in
-    let v : State Judging = (play p (begun w)).0 in
-    let t : World = (play p (begun w)).1 in
-    let went : Went Gives (λ ok ms x. Spends (found ms) (1 + (14 * found ms + 14 * length u.standings)) u ms x) (begun w) v t = ways_run Gives (λ ok ms x. Spends (found ms) (1 + (14 * found ms + 14 * length u.standings)) u ms x) p (begun w) v t (sweeping_spends u) (play_runs p (begun w)) in
-    let listed = found_few went.made (begun w) t h.sound went.along in
-    let stands = stand_few w.kernel d.sweep.standings d.sweep.next h.stand in
-    let faults = along_faults went.made (begun w) t went.along in
+    let v : State Judging = (play p m).0 in
+    let t : World = (play p m).1 in
+    let went : Went Gives (λ ok ms x. Spends (found ms) (1 + (14 * found ms + 14 * length u.standings)) u ms x) m v t = ways_run Gives (λ ok ms x. Spends (found ms) (1 + (14 * found ms + 14 * length u.standings)) u ms x) p m v t (sweeping_spends u) (play_runs p m) in
+    let listed = found_few went.made m t h.sound went.along in
+    let stands = stand_few m.kernel a.sweep.standings a.sweep.next h.stand in
+    let faults = along_faults went.made m t went.along in
     let next = went.so.next in
     let made = went.so.made in
-    let old_event = f.few_events in
-    let old_next = f.few_numbers in
-    let old_id = f.few_ids in
-    let old_faults = f.few_faults in
     let id = went.so.id in
-    rw (plays_sweep moment d w) (record {
+    rw (plays_sweep a m) (record {
       few_events = omega (arith, old_event);
       few_numbers = omega (arith, next, listed, old_next);
       few_ids = omega (arith, id, old_id);
       few_faults = omega (arith, lt, faults, made, listed, stands, old_next, old_faults);
     })
+
+-- an event
+pub event_fits : (n : ℕ) (event : Event) (d : DaemonState) (w : World) → n < 1048576 → Holds d.sweep.standings d.sweep.next w → FitsOf n d w → FitsOf (n + 1) (event_from event d w).0 (event_from event d w).1
+event_fits n event d w lt h f =
+    let p = answered_from event d w in
+    let a = answer_fits n event d w f in
+    let old_event = f.few_events in
+    let old_next = f.few_numbers in
+    let old_id = f.few_ids in
+    let old_faults = f.few_faults in
+    subst (λ (x : DaemonState × World). FitsOf (n + 1) x.0 x.1) (sym (plays_event event d w))
+    (swept_fits n p.0 p.1 lt (answered_holds event d w h) (omega (arith, a.1, old_event)) (omega (arith, a.2, old_next)) (omega (arith, a.3, old_id)) (omega (arith, a.0, old_faults)))
 
 -- a daemon that has had no event, or isn't there yet
 pub started_fits : (n event : ℕ) (setup : SetupState) (faults : ℕ) → event ≤ n + 1 → length setup.rules ≤ n → faults ≤ 1099511627776 * n → Fits n event 1 (length setup.rules + 1) faults

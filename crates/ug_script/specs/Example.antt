@@ -9,10 +9,10 @@ use Rattle.ug_sysfs.specs.declared.script.NewDevice.{NewDevice}
 use Rattle.ug_sysfs.specs.declared.script.Move.TheVariants.{Plug, Unplug}
 use Rattle.ug_sysfs.specs.declared.script.Scheduled.{Scheduled}
 use Rattle.ug_sysfs.specs.Devices.{plugged}
-use Rattle.ug_sysfs.specs.World.{World, begun, over}
-use Rattle.ug_play.specs.Play.{play}
-use Rattle.ug_core.specs.Event.{DaemonState, handling, ready}
-use Rattle.ug_script.specs.Replay.{with_devices}
+use Rattle.ug_sysfs.specs.World.{World, over}
+use Rattle.ug_core.specs.Event.{DaemonState}
+use Rattle.ug_core.specs.declared.daemon.Event.TheVariants.{Sweep}
+use Rattle.ug_script.specs.Replay.{event_from, with_devices}
 use Rattle.ug_script.specs.Setup.{no_setup, started}
 
 -- a device with nothing but its descriptors
@@ -66,11 +66,11 @@ ruled = started (record no_setup { rules = key_rule ∷ [] })
 
 -- an event at that moment
 abbrev pub event_at : ℕ → DaemonState × World → DaemonState × World
-event_at moment p = play (handling (ready (record { 0 = moment }) None p.0)) (begun (over p.1))
+event_at moment p = event_from (Sweep (record { 0 = moment })) p.0 (over p.1)
 
 -- the same with what is scheduled for it
 abbrev pub event_with : ℕ → List Scheduled → List Failing → DaemonState × World → DaemonState × World
-event_with moment moves fails p = play (handling (ready (record { 0 = moment }) None p.0)) (begun (record (over p.1) { moves = moves; fails = fails }))
+event_with moment moves fails p = event_from (Sweep (record { 0 = moment })) p.0 (record (over p.1) { moves = moves; fails = fails })
 
 -- an event over the root hub alone, and then the key is plugged in
 abbrev pub plugged_in : DaemonState × World

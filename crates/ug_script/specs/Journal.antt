@@ -1,6 +1,5 @@
 -- What happens in a script from its first line on, and what that says of each write and of each device.
 use Rattle.std.specs.Prelude.{◌≡◌, ℕ, Bool, true, false, ◌&&◌, if◌then◌else◌, List, [], ◌∷◌, ◌++◌, flat_map, Option, Some, None, Ok}
-use Rattle.ug_types.specs.declared.verdict.Moment.{Moment}
 use Rattle.ug_kernel.specs.declared.device.Device.{Device}
 use Rattle.ug_kernel.specs.Kernel.{Kernel, Live}
 use Rattle.ug_sysfs.specs.World.{World}
@@ -13,8 +12,7 @@ use Rattle.ug_core.specs.Event.{DaemonState, has_numbers}
 use Rattle.ug_core.specs.Policy.{Judging}
 use Rattle.ug_core.specs.Rulings.{Ruling, after_rulings, judgements_for, words_for}
 use Rattle.ug_core.specs.Verdicts.{IsLater}
-use Rattle.ug_core.specs.declared.daemon.Event as event
-use Rattle.ug_core.specs.declared.daemon.Event.TheVariants.{Sweep}
+use Rattle.ug_core.specs.declared.daemon.Event as events
 use Rattle.ug_lines.specs.Lines.{lines_of}
 use Rattle.ug_print.specs.RuleTexts.{rules_text_of}
 use Rattle.ug_store.specs.Disk.{Disk}
@@ -25,25 +23,27 @@ use Rattle.ug_script.specs.declared.step.Step.{Step}
 use Rattle.ug_script.specs.declared.step.Step.TheVariants.{Schedule, Event, Restart}
 use Rattle.ug_script.specs.Grammar.{step_of_line}
 use Rattle.ug_script.specs.Script.{Script, can_start, daemon_in, disk_in}
-use Rattle.ug_script.specs.Replay.{event_of, lines_text, script_step}
+use Rattle.ug_script.specs.Replay.{answered_from, event_of, outcome_of, outcome_text, script_step}
 use Rattle.ug_script.specs.Setup.{steps_of, conf_asked, rule_asked, IsSetup, started_at}
 
--- an event of that moment, with what is scheduled for it
-abbrev pub happened_at : Moment → Script → World → Happened
-happened_at moment s w = record {
-  event = Sweep moment;
+-- an event, with what is scheduled for it
+abbrev pub happened_at : events.Event → Script → World → Happened
+happened_at event s w = record {
+  event = event;
   tried = None;
   kernel = w.kernel;
   disk = disk_told (disk_in s);
   before = daemon_in s;
-  kernel_after = (event_of moment s w).1.kernel;
+  kernel_answered = (answered_from event (daemon_in s) w).1.kernel;
+  answered = (answered_from event (daemon_in s) w).0;
+  kernel_after = (event_of event s w).1.kernel;
   disk_after = disk_told (disk_in s);
-  after = (event_of moment s w).0;
+  after = (event_of event s w).0;
 }
 
-abbrev pub happens_at : event.Event → Script → World → List Happened
-happens_at (Sweep moment) s w =
-    if can_start s.setup s.phase && has_numbers (daemon_in s) w.faults 0 then happened_at moment s w ∷ [] else []
+abbrev pub happens_at : events.Event → Script → World → List Happened
+happens_at event s w =
+    if can_start s.setup s.phase && has_numbers (daemon_in s) w.faults 0 then happened_at event s w ∷ [] else []
 
 -- the event of a step
 abbrev pub happens_by : Option Step → Script → World → List Happened
@@ -90,6 +90,18 @@ journals (hs ∷ runs) = journal hs ++ journals runs
 
 abbrev pub journal_of : EventsOfRuns → List Entry
 journal_of runs = journals runs.ended ++ journal runs.last
+
+-- what is written of events, one after another
+abbrev pub events_text : List Happened → List ℕ
+events_text [] = []
+events_text (h ∷ hs) = outcome_text (outcome_of h.after) ++ events_text hs
+
+abbrev pub runs_text : List (List Happened) → List ℕ
+runs_text [] = []
+runs_text (hs ∷ runs) = events_text hs ++ runs_text runs
+
+abbrev pub text_of_runs : EventsOfRuns → List ℕ
+text_of_runs runs = runs_text runs.ended ++ events_text runs.last
 
 -- A run of the daemon from its start: it began with that policy, that access and no device, and its first event has that number. Its rule file held
 -- that text, and a crash left no other. Its events are a chain from there, over the kernel as it was at the start, with all that this
@@ -145,9 +157,9 @@ pub record Recorded (first : World) (lines : List (List ℕ)) (text : List ℕ) 
   pub settings : (whole : List ℕ) → lines_of whole ≡ flat_map conf_asked (steps_of lines) → conf_read whole ≡ Ok setup.draft.settings
   pub later : (rulings : List Ruling) → IsLater policy (words_for policy rulings) (judgements_for policy rulings) (after_rulings policy rulings)
   pub runs : AreDaemonRuns access policy (rules_text_of (flat_map rule_asked (steps_of lines))) first.kernel (runs_in first lines) w.kernel (disk_told (disk_in s)) (daemon_in s)
-  pub written : text ≡ lines_text (journal_of (runs_in first lines))
+  pub written : text ≡ text_of_runs (runs_in first lines)
   pub nobody : AreQuiet (steps_of lines) → first.fails ≡ [] → NameNobody (journal_of (runs_in first lines))
-  pub once : AreQuiet (steps_of lines) → first.fails ≡ [] → first.moves ≡ [] → (moment : Moment) → JudgesOnce policy runs.kernel runs.last.file (runs_in first lines).last (happened_at moment s w)
+  pub once : AreQuiet (steps_of lines) → first.fails ≡ [] → first.moves ≡ [] → (event : events.Event) → JudgesOnce policy runs.kernel runs.last.file (runs_in first lines).last (happened_at event s w)
 
 -- the same of all lines
 abbrev pub StaysRecorded : World → Type 0

@@ -1,16 +1,19 @@
 -- What each line of a script writes, and what it leaves.
-use Rattle.std.specs.Prelude.{◌≡◌, ℕ, ◌+◌, ◌-◌, true, false, nat_eq, if◌then◌else◌, List, [], ◌∷◌, ◌++◌, codes, decimal, Option, Some, None, Result, Ok, Err, flat_map}
+use Rattle.std.specs.Prelude.{◌≡◌, ℕ, ◌+◌, ◌-◌, true, false, nat_eq, cond, List, [], ◌∷◌, ◌++◌, codes, decimal, Option, Some, None, Result, Ok, Err, flat_map}
 use Rattle.std.specs.Cmp.Lexicographic.{pointwise}
-use Rattle.ug_types.specs.declared.verdict.Moment.{Moment}
+use Rattle.ug_types.specs.Refusals.{refusal_words}
+use Rattle.ug_types.specs.declared.refusal.Refusal.{Refusal}
+use Rattle.ug_kernel.specs.Tree.{Prog, then}
 use Rattle.ug_kernel.specs.declared.device.Device.{Device}
 use Rattle.ug_sysfs.specs.Queue.{with_move}
 use Rattle.ug_sysfs.specs.World.{World, begun, moved, over}
 use Rattle.ug_audit.specs.declared.entry.Entry.{Entry}
+use Rattle.ug_audit.specs.declared.entry.Entry.TheVariants as entry
 use Rattle.ug_audit.specs.Lines.{entry_line}
 use Rattle.ug_play.specs.Play.{play, tells_memory}
+use Rattle.ug_core.specs.Answering.{answering}
 use Rattle.ug_core.specs.Event.{DaemonState, handling, has_numbers, ready}
 use Rattle.ug_core.specs.declared.daemon.Event.{Event}
-use Rattle.ug_core.specs.declared.daemon.Event.TheVariants.{Sweep}
 use Rattle.ug_console.specs.Fold.{Outcome, Writes, Refused, BadLine, InputTooLong, is_within}
 use Rattle.ug_console.specs.Runs.{Steps}
 use Rattle.ug_console.specs.declared.machine.Ran.{Ran}
@@ -49,6 +52,18 @@ terminated e = entry_line e ++ 10 ∷ []
 abbrev pub lines_text : List Entry → List ℕ
 lines_text entries = flat_map terminated entries
 
+-- the line of a reply, behind `> `
+abbrev pub answer_words : Result (Unit {0}) Refusal → List ℕ
+answer_words (Ok done) = codes "ok 0"
+answer_words (Err refused) = refusal_words refused
+
+abbrev pub reply_text : Entry → List ℕ
+reply_text (entry.Reply answer) = codes "> " ++ (answer_words answer ++ 10 ∷ [])
+reply_text e = []
+
+abbrev pub replies_text : List Entry → List ℕ
+replies_text entries = flat_map reply_text entries
+
 -- what came of an event
 pub record EventOutcome : Type 0 where
   pub entries : List Entry
@@ -56,9 +71,9 @@ pub record EventOutcome : Type 0 where
 abbrev pub outcome_of : DaemonState → EventOutcome
 outcome_of d = record { entries = d.sweep.entries }
 
--- and how it is written
+-- and how it is written: the lines of its entries, and behind them the reply to its order
 abbrev pub outcome_text : EventOutcome → List ℕ
-outcome_text outcome = lines_text outcome.entries
+outcome_text outcome = lines_text outcome.entries ++ replies_text outcome.entries
 
 -- a line writes nothing and leads there
 abbrev pub quiet : Script → World → Outcome (Option Script × World)
@@ -75,7 +90,7 @@ line_added None s w = bad s w
 line_added (Some setup) s w = quiet (record s { setup = setup }) w
 
 abbrev pub line_taken : SetupLine → Script → World → Outcome (Option Script × World)
-line_taken line s w = if takes_setup s.phase then line_added (one_line_more line s.setup) s w else bad s w
+line_taken line s w = cond (takes_setup s.phase) (line_added (one_line_more line s.setup) s w) (bad s w)
 
 -- ---- moves and plans
 
@@ -92,20 +107,26 @@ planned (plan.Fail f) w = record w { fails = w.fails ++ f ∷ [] }
 abbrev pub tells : DaemonState → Type 0
 tells d = tells_memory d.sweep.entries ≡ true
 
--- An event of that moment, as the world fixes it. No save is pending, so it asks nothing of the disk.
-abbrev pub event_from : Moment → DaemonState → World → DaemonState × World
-event_from moment d w = play (handling (ready moment None d)) (begun w)
+-- An event as the world fixes it: its order is answered, and then comes the sweep. No save is pending, so it asks nothing of the disk.
+abbrev pub event_tree : Event → DaemonState → Prog DaemonState
+event_tree event d = then (answering (ready event None d) event) handling
 
-abbrev pub event_of : Moment → Script → World → DaemonState × World
-event_of moment s w = event_from moment (daemon_in s) w
+abbrev pub answered_from : Event → DaemonState → World → DaemonState × World
+answered_from event d w = play (answering (ready event None d) event) (begun w)
+
+abbrev pub event_from : Event → DaemonState → World → DaemonState × World
+event_from event d w = play (event_tree event d) (begun w)
+
+abbrev pub event_of : Event → Script → World → DaemonState × World
+event_of event s w = event_from event (daemon_in s) w
 
 -- what it writes, the daemon that it leaves, and the world behind it
 abbrev pub came_of : DaemonState × World → Outcome (DaemonState × World)
 came_of p = Writes (outcome_text (outcome_of p.0)) (p.0, over p.1)
 
 -- unless the numbers have run out
-abbrev pub event_by : Moment → DaemonState → World → Outcome (DaemonState × World)
-event_by moment d w = if has_numbers d w.faults 0 then came_of (event_from moment d w) else Refused BadLine (d, w)
+abbrev pub event_by : Event → DaemonState → World → Outcome (DaemonState × World)
+event_by event d w = cond (has_numbers d w.faults 0) (came_of (event_from event d w)) (Refused BadLine (d, w))
 
 -- the disk stays as it was
 abbrev pub in_script : Script → Outcome (DaemonState × World) → Outcome (Option Script × World)
@@ -114,9 +135,7 @@ in_script s (Refused fault p) = Refused fault (Some (record s { phase = Started 
 
 -- the first event starts the daemon
 abbrev pub event_taken : Event → Script → World → Outcome (Option Script × World)
-event_taken (Sweep moment) s w =
-    if can_start s.setup s.phase then in_script s (event_by moment (daemon_in s) w)
-    else Refused InputTooLong (Some s, w)
+event_taken event s w = cond (can_start s.setup s.phase) (in_script s (event_by event (daemon_in s) w)) (Refused InputTooLong (Some s, w))
 
 -- ---- a new daemon
 
@@ -128,7 +147,7 @@ with_restart s = record s { phase = Started (started_at (daemon_in s).event (acc
 
 -- the first daemon is started before, if none was
 abbrev pub restart_taken : Script → World → Outcome (Option Script × World)
-restart_taken s w = if can_start s.setup s.phase then quiet (with_restart s) w else Refused InputTooLong (Some s, w)
+restart_taken s w = cond (can_start s.setup s.phase) (quiet (with_restart s) w) (Refused InputTooLong (Some s, w))
 
 -- ---- all lines
 
@@ -146,7 +165,7 @@ taken_if (Some step) s w = taken step s w
 
 -- the first line is the header
 abbrev pub first_step : List ℕ → World → Outcome (Option Script × World)
-first_step line w = if pointwise nat_eq line header then quiet fresh w else Refused BadLine (None, w)
+first_step line w = cond (pointwise nat_eq line header) (quiet fresh w) (Refused BadLine (None, w))
 
 abbrev pub script_step : Option Script × World → List ℕ → Outcome (Option Script × World)
 script_step (None, w) line = first_step line w
@@ -173,7 +192,7 @@ runner_state r = record { script = interpreter_state r.interpreter; lines = r.li
 
 -- what a line comes to behind so many lines; one that is past a limit may not stand there
 abbrev pub step_behind : ℕ → Option Script × World → List ℕ → Outcome (Option Script × World)
-step_behind n p line = if is_within n line then script_step p line else Refused BadLine p
+step_behind n p line = cond (is_within n line) (script_step p line) (Refused BadLine p)
 
 -- one line more was taken, unless it was refused or there was a fault
 abbrev pub lines_after : Ran → ℕ → ℕ

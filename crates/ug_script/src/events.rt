@@ -3,9 +3,9 @@ ghost use Rattle.std.specs.Prelude.{◌≡◌, ◌≤◌, true, IfOk, None};
 ghost use Rattle.ug_types.specs.Ends.{Rose};
 ghost use Rattle.ug_console.specs.Runs.{Steps};
 ghost use Rattle.ug_play.specs.Play.{IsPlayed};
-ghost use Rattle.ug_core.specs.Event.{daemon_of, handling, has_numbers, moment_of, ready};
+ghost use Rattle.ug_core.specs.Event.{daemon_of, has_numbers};
 ghost use Rattle.ug_sysfs.specs.World.{begun};
-ghost use Rattle.ug_script.specs.Replay.{came_of, event_by, event_from, tells};
+ghost use Rattle.ug_script.specs.Replay.{came_of, event_by, event_from, event_tree, tells};
 
 use crate::session::Session;
 use crate::text::{outcome_text, put, tells_memory};
@@ -19,7 +19,7 @@ use ug_types::Sink;
 /// An event, which the kernel's script fixes unless it is told that memory was wanting. Nobody but the journal notes it.
 fn handle(alloc: Global, session: &mut Session, event: &Event, kernel: &mut SimKernel)
     requires { has_numbers (daemon_of session.old.daemon) kernel.old.faults 0 ≡ true }
-    ensures played { IsPlayed tells (handling (ready (moment_of event.now) None (daemon_of session.old.daemon)))
+    ensures played { IsPlayed tells (event_tree event.now (daemon_of session.old.daemon))
         (begun kernel.old) (daemon_of session.new.daemon) kernel.new }
     ensures disk { session.new.disk ≡ session.old.disk }
     ensures all { session.new.daemon.report.entries.entries
@@ -40,7 +40,7 @@ fn run_event<K: Sink>(
     out: &mut K,
 ) -> Ran
     requires { has_numbers (daemon_of session.old.daemon) kernel.old.faults 0 ≡ true }
-    ensures ran { Steps (came_of (event_from (moment_of event.now) (daemon_of session.old.daemon) kernel.old))
+    ensures ran { Steps (came_of (event_from event.now (daemon_of session.old.daemon) kernel.old))
         (daemon_of session.new.daemon, kernel.new) (K.held out.old) (K.held out.new) result }
     ensures disk { session.new.disk ≡ session.old.disk }
     ensures counted { K.faults out.old ≤ K.faults out.new }
@@ -67,7 +67,7 @@ pub fn next_event<K: Sink>(
     kernel: &mut SimKernel,
     out: &mut K,
 ) -> Ran
-    ensures ran { Steps (event_by (moment_of event.now) (daemon_of session.old.daemon) kernel.old)
+    ensures ran { Steps (event_by event.now (daemon_of session.old.daemon) kernel.old)
         (daemon_of session.new.daemon, kernel.new) (K.held out.old) (K.held out.new) result }
     ensures disk { session.new.disk ≡ session.old.disk }
     ensures counted { K.faults out.old ≤ K.faults out.new }

@@ -1,5 +1,5 @@
 -- What an order does, over the states of a run.
-use Rattle.std.proofs.Common.{◌≡◌, ℕ, Bool, true, false, not, cond, nat_eq, List, [], ◌∷◌, ◌++◌, Option, Some, None, map, ◌⊎◌, inl, inr, refl, sym, ◌∙◌, ap, subst, append_assoc, arith}
+use Rattle.std.proofs.Common.{◌≡◌, ℕ, ◌≤◌, Bool, true, false, not, cond, nat_eq, List, [], ◌∷◌, ◌++◌, Option, Some, None, map, ◌⊎◌, inl, inr, refl, sym, ◌∙◌, ap, subst, append_assoc, arith}
 use Rattle.ug_types.specs.Principals.{Named}
 use Rattle.ug_types.specs.declared.verdict.Cause.TheVariants as cause
 use Rattle.ug_kernel.specs.declared.calls.Probe.TheVariants as probe
@@ -8,9 +8,11 @@ use Rattle.ug_audit.specs.declared.entry.Entry.TheVariants as entry
 use Rattle.ug_table.proofs.Common.{Has, Authorized, open_file, Quiet, says_probe, none_before, Held, Target, Call, Answer, Ask_alive, Told, Follows, Runs, calls, Made, Entry, State, Kept, Answers, Laters, kept_of, with_kept, known_of, known_files, standing_of, numbered, number_of, AreOfNumber, numbers_given, AtMostOneEach, TellsWrites, writes_in, HasRemoval, wrote_entries, Account, Start, Note, Judge, Had, Had_not, Went, Tries, IsNamed, Stand, IsDevice, Standing, Settled, Probe, Kernel, IsKernel}
 use Rattle.ug_table.specs.Bring.{bringing}
 use Rattle.ug_table.specs.Marks.{has_number, stood_removed, LeavesMarks}
-use Rattle.ug_table.specs.One.{NeedsRoom}
+use Rattle.ug_kernel.specs.Along.{count_calls, failures}
+use Rattle.ug_table.specs.One.{NeedsRoom, whys, why_of, failed_of}
 use Rattle.ug_table.specs.Order.{StandInOrder, KeepsOrder}
-use Rattle.ug_table.specs.Parts.{AllBear}
+use Rattle.ug_table.specs.Parts.{AllBear, AreAbout}
+use Rattle.ug_table.proofs.PartCalls.{has_want, are_short}
 use Rattle.ug_table.specs.Orders.{to_probe, probing, ProbesOne, with_verdict, ordered_standing, with_order, verdict_entry, to_tried, to_order, ordering, behind_probe, GoesAsOrder, HasOrdered, IsStopped, just_ordered, OrderedOne, OrdersOne}
 use Rattle.ug_table.specs.Settle.{unsettled_by, tried_standings}
 use Rattle.ug_table.specs.Sweep.{names_of}
@@ -20,7 +22,7 @@ use Rattle.ug_kernel.proofs.Quiet.{called_quiet}
 use Rattle.ug_kernel.proofs.Rises.{Counting, along_numbered, along_rises}
 use Rattle.ug_kernel.proofs.Runs.{runs_then}
 use Rattle.ug_kernel.proofs.Told.{told_run}
-use Rattle.ug_kernel.proofs.Ways.{Ways, Sure, Went as Ran, ways_run, sure_last}
+use Rattle.ug_kernel.proofs.Ways.{Ways, Sure, Went as Ran, ways_more, ways_run, sure_last}
 use Rattle.ug_table.proofs.Fair.{known_brought}
 use Rattle.ug_table.proofs.Lived.{StandsSo, as_judged, brought_own, judged_at, lives_first, lives_last, stand_files}
 use Rattle.ug_table.proofs.Marks.{keeps_map, known_has, names_distinct, tried_nobody}
@@ -106,23 +108,50 @@ record Obeys (y : Standing) (ss : List Standing) (on : Bool) (es : List Entry) (
   entries : p.1.entries ≡ es ++ verdict_entry y ∷ rest
   standings : p.1.standings ≡ tried_standings ss y.name p.0
 
+obeys : (number : ℕ) (verdict : Target) (who : Named) (on : Bool) (k : Kept) (x : Standing) → Ways (to_order number verdict who on k (Some x)) (Sure (Obeys (with_verdict verdict who x) (with_order number verdict who k.standings) on k.entries))
+obeys number verdict who on k x =
+    let y = with_verdict verdict who x in
+    let ss = with_order number verdict who k.standings in
+    sure_last (Adds (k.entries ++ verdict_entry y ∷ []) (Brought y.name (known_of y) on)) (Sure (Obeys y ss on k.entries)) (bringing y.name (known_of y) on (k.entries ++ verdict_entry y ∷ [])) (to_tried ss x.name) (λ (q : Settled × List Entry). (q.0, record { standings = tried_standings ss x.name q.0; entries = q.1 })) (λ q. refl) (brought y.name (known_of y) on (k.entries ++ verdict_entry y ∷ []))
+    (λ ms q h. (refl, record { rest = h.0; brought = h.2; entries = h.1 ∙ append_assoc k.entries (verdict_entry y ∷ []) h.0; standings = refl }))
+
 ordering_run : {S : Type 0} (gives : S → (call : Call) → Answer call → S → Type 0) (number : ℕ) (verdict : Target) (who : Named) (on : Bool) (k : Kept) (x : Standing) (s : S) (p : Settled × Kept) (t : S) → numbered number k.standings ≡ Some x → Runs gives s (ordering number verdict who on k) p t → Ran gives (Sure (Obeys (with_verdict verdict who x) (with_order number verdict who k.standings) on k.entries)) s p t
 unfolding ordering
 ordering_run gives number verdict who on k x s p t at r =
-    ways_run gives (Sure O) (to_order number verdict who on k (Some x)) s p t obeys (subst (λ (o : Option Standing). Runs gives s (to_order number verdict who on k o) p t) at r)
-  where
-    y : Standing
-    y = with_verdict verdict who x
+    ways_run gives (Sure (Obeys (with_verdict verdict who x) (with_order number verdict who k.standings) on k.entries)) (to_order number verdict who on k (Some x)) s p t (obeys number verdict who on k x) (subst (λ (o : Option Standing). Runs gives s (to_order number verdict who on k o) p t) at r)
 
-    ss : List Standing
-    ss = with_order number verdict who k.standings
+-- on each way it asks for no room, and ends for want of memory just where a call found none
+pub record EndsOrder (x : Standing) (k : Kept) (ok : Bool) (ms : List Made) (p : Settled × Kept) : Type 0 where
+  pub sure : ok ≡ true
+  pub want : has_want ms ≡ are_short (why_of p.0)
+  pub failed : failures ms ≡ failed_of p.0
+  pub few : count_calls ms ≤ 4
+  pub about : AreAbout x.name (open_file x.held.0 Authorized ∷ []) ms
+  pub rest : List Entry
+  pub entries : p.1.entries ≡ k.entries ++ rest
+  pub bears : AllBear x.name rest
+  pub quiet : whys rest ≡ []
 
-    O : List Made → Settled × Kept → Type 0
-    O = Obeys y ss on k.entries
-
-    obeys : Ways (to_order number verdict who on k (Some x)) (Sure O)
-    obeys = sure_last (Adds (k.entries ++ verdict_entry y ∷ []) (Brought y.name (known_of y) on)) (Sure O) (bringing y.name (known_of y) on (k.entries ++ verdict_entry y ∷ [])) (to_tried ss x.name) (λ (q : Settled × List Entry). (q.0, record { standings = tried_standings ss x.name q.0; entries = q.1 })) (λ q. refl) (brought y.name (known_of y) on (k.entries ++ verdict_entry y ∷ []))
-        (λ ms q h. (refl, record { rest = h.0; brought = h.2; entries = h.1 ∙ append_assoc k.entries (verdict_entry y ∷ []) h.0; standings = refl }))
+pub ordering_ways : (number : ℕ) (verdict : Target) (who : Named) (on : Bool) (k : Kept) (x : Standing) → numbered number k.standings ≡ Some x → Ways (ordering number verdict who on k) (EndsOrder x k)
+unfolding ordering
+ordering_ways number verdict who on k x at =
+    let y = with_verdict verdict who x in
+    let found = told_at (probe.Alive on) (record { call = 0; count = 0 }) in
+    subst (λ (o : Option Standing). Ways (to_order number verdict who on k o) (EndsOrder x k)) (sym at)
+    (ways_more (Sure (Obeys y (with_order number verdict who k.standings) on k.entries)) (EndsOrder x k) (to_order number verdict who on k (Some x)) (λ ok ms p h.
+    let o = h.1 in
+    let g = brought_goes (behind_probe y.held.0 found) (found, refl, refl) o.brought in
+    record {
+      sure = h.0;
+      want = g.calls.short;
+      failed = g.calls.failed ∙ told_of p.0;
+      few = g.calls.few;
+      about = g.calls.about;
+      rest = verdict_entry y ∷ o.rest;
+      entries = o.entries;
+      bears = (refl, g.entries.bears);
+      quiet = g.entries.why;
+    }) (obeys number verdict who on k x))
 
 -- and from its parts
 pub ordering_goes : {S : Type 0} (gives : S → (call : Call) → Answer call → S → Type 0) (number : ℕ) (verdict : Target) (who : Named) (on : Bool) (ss after : List Standing) (es fs : List Entry) (x : Standing) (s u : S) (how : Settled) → numbered number ss ≡ Some x → Runs gives s (bringing x.name (known_of (with_verdict verdict who x)) on (es ++ verdict_entry (with_verdict verdict who x) ∷ [])) (how, fs) u → after ≡ tried_standings (with_order number verdict who ss) x.name how → Runs gives s (ordering number verdict who on (kept_of ss es)) (how, kept_of after fs) u

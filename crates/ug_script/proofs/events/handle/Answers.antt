@@ -1,19 +1,21 @@
-use Rattle.std.proofs.Common.{Option, ap, ◌∙◌}
+use Rattle.std.proofs.Common.{Option, ap, subst, ◌∙◌}
 use Rattle.ug_sysfs.specs.World.{Gives}
 use Rattle.ug_types.specs.declared.saved.Saved.{Saved}
 use Rattle.ug_store.specs.Scripted.{DiskWorld, MemKeeps}
-use Rattle.ug_core.specs.Event.{DaemonState, daemon_of, moment_of, ready, pending_with}
-use Rattle.ug_script.proofs.EventSteps.{event_runs, handled_pending, none_tried}
+use Rattle.ug_kernel.specs.Tree.{Runs}
+use Rattle.ug_core.specs.Answering.{answering}
+use Rattle.ug_core.specs.Event.{DaemonState, daemon_of, ready}
+use Rattle.ug_script.proofs.EventSteps.{event_pends, event_plays, none_tried}
 use Rattle.ug_script.proofs.events.handle.Goals as goal
 
 pub invariant_of-session-clause-saved : goal.invariant_of-session-clause-saved
 invariant_of-session-clause-saved c =
     let h = c.handle.ensures.handles in
+    let event = c.args.event.now in
     let d : DaemonState = daemon_of c.args.session.now.daemon in
     let none = none_tried MemKeeps c.args.session.now.disk d h.tried c.handle.new.disk c.args.session.now.saved h.tries in
-    handled_pending Gives (ready (moment_of c.args.event.now) h.tried d) h.runs.0 (daemon_of c.handle.new.self) c.handle.new.sysfs h.runs.2
-    ∙ ap (λ (x : Option Saved). pending_with x d.pending) none.0
-    ∙ c.args.session.now.saved
+    let answers = subst (λ (o : Option Saved). Runs Gives h.start (answering (ready event o d) event) h.answered h.middle) none.0 h.answers in
+    event_pends event d h.start h.answered h.middle (daemon_of c.handle.new.self) c.handle.new.sysfs answers h.runs ∙ c.args.session.now.saved
 
 pub invariant_of-session-clause-faultless : goal.invariant_of-session-clause-faultless
 invariant_of-session-clause-faultless c =
@@ -25,9 +27,11 @@ invariant_of-session-clause-faultless c =
 pub returns-clause-played : goal.returns-clause-played
 returns-clause-played c =
     let h = c.handle.ensures.handles in
+    let event = c.args.event.now in
     let d : DaemonState = daemon_of c.args.session.now.daemon in
     let none = none_tried MemKeeps c.args.session.now.disk d h.tried c.handle.new.disk c.args.session.now.saved h.tries in
-    event_runs (moment_of c.args.event.now) d h.tried c.args.kernel.now (daemon_of c.handle.new.self) c.handle.new.sysfs none.0 h.runs
+    let answers = subst (λ (o : Option Saved). Runs Gives h.start (answering (ready event o d) event) h.answered h.middle) none.0 h.answers in
+    event_plays event d c.args.kernel.now h.start h.answered h.middle (daemon_of c.handle.new.self) c.handle.new.sysfs h.begun_there answers h.runs
 
 pub returns-clause-disk : goal.returns-clause-disk
 returns-clause-disk c =
