@@ -19,7 +19,7 @@ use Rattle.ug_sysfs.specs.declared.script.Move.{Move}
 use Rattle.ug_sysfs.specs.declared.script.Move.TheVariants as move
 use Rattle.ug_sysfs.specs.declared.script.NewDevice.{NewDevice}
 use Rattle.ug_core.specs.declared.daemon.Event.{Event}
-use Rattle.ug_core.specs.declared.daemon.Event.TheVariants.{Sweep}
+use Rattle.ug_core.specs.declared.daemon.Event.TheVariants.{Sweep, Order}
 use Rattle.ug_script.specs.declared.step.AccessLine.{AccessLine}
 use Rattle.ug_script.specs.declared.step.Plan.{Plan}
 use Rattle.ug_script.specs.declared.step.Plan.TheVariants as plan
@@ -143,8 +143,32 @@ abbrev pub sweep_at : Option ℕ → Option Event
 sweep_at None = None
 sweep_at (Some moment) = Some (Sweep (record { 0 = moment }))
 
+abbrev pub ordered : ℕ → Option Named → List ℕ → Option Event
+ordered moment None request = None
+ordered moment (Some who) request = Some (Order (record { 0 = moment }) who request)
+
+abbrev pub split_who : ℕ → Option ℕ → List ℕ → Option Event
+split_who moment None text = None
+split_who moment (Some space) text = ordered moment (principal_of (take space text)) (drop (space + 1) text)
+
+-- `PRINCIPAL REQUEST`, where the request is any text, and may be empty
+abbrev pub order_at : Option ℕ → List ℕ → Option Event
+order_at None text = None
+order_at (Some moment) text = split_who moment (position (nat_eq 32) text) text
+
+abbrev pub split_moment : Option ℕ → List ℕ → Option Event
+split_moment None text = None
+split_moment (Some space) text = order_at (moment_of (take space text)) (drop (space + 1) text)
+
+-- `MOMENT PRINCIPAL REQUEST`
+abbrev pub order_of : List ℕ → Option Event
+order_of text = split_moment (position (nat_eq 32) text) text
+
 unfoldable pub event_of : List ℕ → Option Event
-event_of line = if starts_with nat_eq line (codes "sweep ") then sweep_at (moment_of (drop 6 line)) else None
+event_of line =
+    if starts_with nat_eq line (codes "sweep ") then sweep_at (moment_of (drop 6 line))
+    else if starts_with nat_eq line (codes "order ") then order_of (drop 6 line)
+    else None
 
 -- ---- all lines
 

@@ -2,6 +2,7 @@
 #![tactic(auto)]
 
 mod access;
+mod event_lines;
 mod events;
 mod interpreter;
 mod laws;

@@ -1,31 +1,14 @@
 // The steps of a script's lines.
-ghost use Rattle.std.specs.Prelude.{◌≡◌};
 ghost use Rattle.ug_script.specs.Grammar as grammar;
 ghost use Rattle.ug_script.specs.Grammar.{first_of, in_event, in_move, in_plan, in_setup, step_of_line};
 ghost use Rattle.ug_script.specs.Words.{Parses};
 
+use crate::event_lines::event_line;
 use crate::move_lines::move_line;
 use crate::plan_lines::plan_line;
 use crate::setup_lines::setup_line;
 use crate::step::{Step, StepFault};
-use crate::words::moment;
 use std::alloc::Global;
-use ug_core::Event;
-use ug_types::Moment;
-
-/// Reads a line for an event. `sweep` takes a moment up to 250,000,000,000.
-#[tactic(auto, unfolding(crate::specs::Grammar::event_of))]
-fn event_line(line: &[u8]) -> Option<Event>
-    ensures { result ≡ grammar.event_of line.now }
-{
-    if line.starts_with(b"sweep ") {
-        return match moment(&line[6..]) {
-            None => None,
-            Some(moment) => Some(Event::Sweep(Moment(moment))),
-        };
-    }
-    None
-}
 
 fn setup_step(alloc: Global, line: &[u8]) -> Result<Step, StepFault>
     ensures { Parses (in_setup (grammar.setup_of line.now)) result }
@@ -40,9 +23,10 @@ fn event_or_setup(alloc: Global, line: &[u8]) -> Result<Step, StepFault>
     ensures { Parses (first_of (in_event (grammar.event_of line.now))
         (in_setup (grammar.setup_of line.now))) result }
 {
-    match event_line(line) {
-        Some(event) => Ok(Step::Event(event)),
-        None => setup_step(alloc, line),
+    match event_line(alloc, line) {
+        Ok(event) => Ok(Step::Event(event)),
+        Err(StepFault::Bad) => setup_step(alloc, line),
+        Err(StepFault::Memory) => Err(StepFault::Memory),
     }
 }
 
@@ -59,8 +43,8 @@ fn plan_or_other(alloc: Global, line: &[u8]) -> Result<Step, StepFault>
 }
 
 /// Reads a line that is not the first. An empty line and a comment are skipped. `plug` and `unplug` tell what the kernel does by
-/// itself; `before`, `after` and `fail` speak of a call of the next event; `sweep` is an event; `restart` begins another run of the
-/// daemon; `rule`, `conf`, `access`, `seed` and `zone` stand before all others.
+/// itself; `before`, `after` and `fail` speak of a call of the next event; `sweep` and `order` are events; `restart` begins another run of
+/// the daemon; `rule`, `conf`, `access`, `seed` and `zone` stand before all others.
 #[tactic(auto, unfolding(crate::specs::Grammar::step_of_line))]
 pub fn parse_line(alloc: Global, line: &[u8]) -> Result<Step, StepFault>
     ensures { Parses (step_of_line line.now) result }
