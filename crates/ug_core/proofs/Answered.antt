@@ -46,8 +46,8 @@ use Rattle.ug_table.proofs.OnePart.{told_more}
 use Rattle.ug_table.proofs.Once.{names_more}
 use Rattle.ug_table.proofs.Ordered.{order_one, order_part, order_rest}
 use Rattle.ug_table.proofs.Standings.{numbered_has}
-use Rattle.ug_core.specs.Answering.{by_probe, by_standing, by_privilege, by_request, if_read, asking, answer_to, keeping, answered_with, acting, answering}
-use Rattle.ug_core.specs.Event.{DaemonState, noting, ready}
+use Rattle.ug_core.specs.Answering.{by_probe, by_standing, by_privilege, by_request, if_read, asking, answer_to, keeping, answered_with, acting, answering, replying}
+use Rattle.ug_core.specs.Event.{DaemonState, ready}
 use Rattle.ug_core.specs.Laws.{RefusesOrder, CarriesOut, AnswersEvent, Answers, GoesAsAnswer, Replies, TellsSweep}
 use Rattle.ug_core.specs.Policy.{Judging, policy_answer, policy_later}
 use Rattle.ug_core.specs.Privileges.{first_denied, is_granted}
@@ -153,20 +153,20 @@ pub record Answered {S : Type 0} (gives : S → (call : Call) → Answer call �
   pub told : failures_told a.sweep.entries ≡ failures made
   pub nameless : unsettled_names a.sweep.entries ≡ []
 
-reply_told : (answer : Result (Unit {0}) Refusal) (a b : DaemonState) → a ≡ noting (entry.Reply answer) b → failures_told a.sweep.entries ≡ failures_told b.sweep.entries ++ told_in_reply answer
+reply_told : (answer : Result (Unit {0}) Refusal) (a b : DaemonState) → a ≡ replying answer b → failures_told a.sweep.entries ≡ failures_told b.sweep.entries ++ told_in_reply answer
 reply_told answer a b is =
     ap (λ (x : DaemonState). failures_told x.sweep.entries) is
     ∙ told_more b.sweep.entries (entry.Reply answer ∷ [])
     ∙ ap (λ (x : List FailedCall). failures_told b.sweep.entries ++ x) (append-nil (told_in_reply answer))
 
-reply_names : (answer : Result (Unit {0}) Refusal) (a b : DaemonState) → a ≡ noting (entry.Reply answer) b → unsettled_names a.sweep.entries ≡ unsettled_names b.sweep.entries
+reply_names : (answer : Result (Unit {0}) Refusal) (a b : DaemonState) → a ≡ replying answer b → unsettled_names a.sweep.entries ≡ unsettled_names b.sweep.entries
 reply_names answer a b is =
     ap (λ (x : DaemonState). unsettled_names x.sweep.entries) is
     ∙ names_more b.sweep.entries (entry.Reply answer ∷ [])
     ∙ append-nil (unsettled_names b.sweep.entries)
 
 module _ {S : Type 0} (gives : S → (call : Call) → Answer call → S → Type 0) (calls faults : S → ℕ) (counting : Counting gives calls faults) (moment : Moment) (who : Named) (line : List ℕ) (s : S) (d : DaemonState) (t : S) (a : DaemonState) (none : calls s ≡ 0) (order : StandInOrder d.sweep.next d.sweep.standings) (quiet : failures_told d.sweep.entries ≡ []) (nameless : unsettled_names d.sweep.entries ≡ []) where
-  refused_made : (r : Refusal) (made : List Made) → Along gives s made t → (made ≡ []) ⊎ ((x : Standing) × (f : Told Probe) × Has d.sweep.standings x × (made ≡ answered (Ask_alive x.held.0) f ∷ [])) → failures made ≡ told_in_reply (Err r) → a ≡ noting (entry.Reply (Err r)) d → Answered gives calls faults (Order moment who line) s d t a
+  refused_made : (r : Refusal) (made : List Made) → Along gives s made t → (made ≡ []) ⊎ ((x : Standing) × (f : Told Probe) × Has d.sweep.standings x × (made ≡ answered (Ask_alive x.held.0) f ∷ [])) → failures made ≡ told_in_reply (Err r) → a ≡ replying (Err r) d → Answered gives calls faults (Order moment who line) s d t a
   refused_made r made along calls told is = record {
     made = made;
     along = along;
@@ -248,7 +248,7 @@ ready_names (Order moment who line) (Some saved) d = refl
 -- ---- in the words of devices
 
 module _ (who : Named) (line : List ℕ) (k : Kernel) (d : DaemonState) (l : Kernel) (a : DaemonState) (sound : IsKernel l) (stand : Stand k d.sweep.standings d.sweep.next) where
-  refused_so : (r : Refusal) → Quiet k l → a ≡ noting (entry.Reply (Err r)) d → RefusesOrder k d l a ⊎ CarriesOut who line k d l a
+  refused_so : (r : Refusal) → Quiet k l → a ≡ replying (Err r) d → RefusesOrder k d l a ⊎ CarriesOut who line k d l a
   refused_so r quiet is = inl (record { refused = r; sound = sound; quiet = quiet; state = is })
 
   found_so : (number : ℕ) (verdict : Target) (x : Standing) (found : Told Probe) (m : Kernel) (q : Probe) → request_read line ≡ Ok (request.Device number verdict false) → is_granted d.access who (needs (request.Device number verdict false)) ≡ true → numbered number d.sweep.standings ≡ Some x → found.answer ≡ q → Called (Ask_alive x.held.0) found k m → Runs calls m (acting who d (by_probe number verdict found.count q)) a l → RefusesOrder k d l a ⊎ CarriesOut who line k d l a

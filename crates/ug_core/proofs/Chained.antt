@@ -42,9 +42,9 @@ use Rattle.ug_table.proofs.Devices.{device_stays, stand_stays}
 use Rattle.ug_table.proofs.Ordered.{has_ordered, ordered_is, ordered_other, stand_ordered}
 use Rattle.ug_table.proofs.Says.{account_says}
 use Rattle.ug_table.proofs.Standings.{numbered_has}
-use Rattle.ug_core.specs.Answering.{answer_to, answered_with}
+use Rattle.ug_core.specs.Answering.{answer_to, answered_with, replying}
 use Rattle.ug_core.specs.Policy.{Judging, cause_for, choice_for, kept, by_choice, found_for, verdict_of, policy_answer, policy_later}
-use Rattle.ug_core.specs.Event.{DaemonState, IsStarted, first_entry, moment_of, noting, saved_entries}
+use Rattle.ug_core.specs.Event.{DaemonState, IsStarted, first_entry, moment_of, saved_entries}
 use Rattle.ug_core.specs.declared.daemon.Event.{Event}
 use Rattle.ug_core.specs.declared.daemon.Event.TheVariants.{Sweep, Order}
 use Rattle.ug_core.specs.InForce.{Decision, decision_of, decisions_in, or_else, on_number, last_decision, last_judged, standing_decision, in_force, Agree, is_ordered, unordered, numbers_on, given_numbers, Follow}
@@ -530,7 +530,7 @@ module _ (policy : Judging) (first : Kernel) (hs : List Happened) (h : Happened)
   behind_order moment who line is silent so (inl r) =
       let d : DaemonState = ready_of h in
       let still = subst (λ (x : List Happened). SoFar policy first h.kernel_answered x (journal hs ++ d.sweep.entries) d.sweep) (append-nil (hs ++ h ∷ [])) (still_so policy first h.kernel h.kernel_answered (hs ++ h ∷ []) [] (journal hs ++ d.sweep.entries) d.sweep r.quiet so) in
-      behind_of (noting (entry.Reply (Err r.refused)) d) r.state (replied_so h.kernel_answered d.sweep (Err r.refused) still) refl refl (any_append d.sweep.entries (entry.Reply (Err r.refused) ∷ []) refl ∙ silent)
+      behind_of (replying (Err r.refused) d) r.state (replied_so h.kernel_answered d.sweep (Err r.refused) still) refl refl (any_append d.sweep.entries (entry.Reply (Err r.refused) ∷ []) refl ∙ silent)
   behind_order moment who line is silent so (inr c) =
       let d : DaemonState = ready_of h in
       let w : State Judging = d.sweep in

@@ -79,11 +79,20 @@ answer_to settled.Memory = Err (refusal.Memory true)
 abbrev pub keeping : Kept → DaemonState → DaemonState
 keeping k d = record d { sweep = with_kept d.sweep k }
 
+-- the reply that an entry tells: these orders have no lines
+abbrev pub reply_of : Result (Unit {0}) Refusal → Reply
+reply_of (Ok done) = reply.Lines []
+reply_of (Err refused) = reply.Refused refused
+
+-- the answer is noted, and is the event's reply
+abbrev pub replying : Result (Unit {0}) Refusal → DaemonState → DaemonState
+replying answer d = record (noting (entry.Reply answer) d) { reply = Some (reply_of answer) }
+
 abbrev pub answered_with : DaemonState → Settled × Kept → DaemonState
-answered_with d p = noting (entry.Reply (answer_to p.0)) (keeping p.1 d)
+answered_with d p = replying (answer_to p.0) (keeping p.1 d)
 
 abbrev pub acting : Named → DaemonState → Choice → Prog DaemonState
-acting who d (choice.Refuse refused) = Return (noting (entry.Reply (Err refused)) d)
+acting who d (choice.Refuse refused) = Return (replying (Err refused) d)
 acting who d (choice.SetVerdict number verdict on) =
     then (ordering number verdict who on (kept_of d.sweep.standings d.sweep.entries)) (λ p. Return (answered_with d p))
 
@@ -91,8 +100,3 @@ acting who d (choice.SetVerdict number verdict on) =
 unfoldable pub answering : DaemonState → Event → Prog DaemonState
 answering d (Sweep moment) = Return d
 answering d (Order moment who line) = then (asking d.access d.sweep.standings who line) (acting who d)
-
--- the reply that an entry tells: these orders have no lines
-abbrev pub reply_of : Result (Unit {0}) Refusal → Reply
-reply_of (Ok done) = reply.Lines []
-reply_of (Err refused) = reply.Refused refused

@@ -11,6 +11,7 @@ use Rattle.ug_audit.specs.Panels.{Member}
 use Rattle.ug_audit.specs.declared.entry.Entry.{Entry}
 use Rattle.ug_audit.specs.declared.entry.Entry.TheVariants as entry
 use Rattle.ug_policy.specs.declared.entry.RuleEntry.{RuleEntry}
+use Rattle.ug_proto.specs.declared.reply.Reply.{Reply}
 use Rattle.ug_store.specs.Store.{DiskProg, Ended, DiskRoom, then_disk, saving, pending_after}
 use Rattle.ug_table.specs.State.{State}
 use Rattle.ug_table.specs.Sweep.{sweeping}
@@ -21,12 +22,13 @@ use Rattle.ug_core.specs.declared.daemon.Event.{Event}
 use Rattle.ug_core.specs.declared.daemon.Event.TheVariants.{Sweep, Order}
 
 -- the standings and the judge, with the entries of the last event but for the `dropped` ones; who may do what; whether a save is
--- pending; and the number of the next event
+-- pending; the number of the next event; and the reply to the order of the last one, if it had one
 pub record DaemonState : Type 0 where
   pub sweep : State Judging
   pub access : List Addition
   pub pending : Bool
   pub event : ℕ
+  pub reply : Option Reply
 
 abbrev pub daemon_of : {R : Type 0} {g : Ghosts R} → Daemon R g → DaemonState
 daemon_of {g = g} d = record {
@@ -34,6 +36,7 @@ daemon_of {g = g} d = record {
   access = d.acl;
   pending = d.store;
   event = d.next_event;
+  reply = d.report.reply;
 }
 
 -- First stage, on the disk alone: a pending save is tried, with the text of the rules that aren't temporary.
@@ -72,9 +75,9 @@ abbrev pub first_entry : ℕ → Event → Entry
 first_entry number (Sweep moment) = entry.Event number moment
 first_entry number (Order moment who line) = entry.Order number moment who
 
--- the judge is told the moment, and the first entry is noted
+-- the judge is told the moment, the first entry is noted, and nothing is replied yet
 abbrev pub begun : Event → DaemonState → DaemonState
-begun event d = record d { sweep = record d.sweep { judge = record d.sweep.judge { ctx = context_at d.sweep.judge.clock (moment_of event) }; entries = first_entry d.event event ∷ [] } }
+begun event d = record d { sweep = record d.sweep { judge = record d.sweep.judge { ctx = context_at d.sweep.judge.clock (moment_of event) }; entries = first_entry d.event event ∷ [] }; reply = None }
 
 abbrev pub tried_with : Option Saved → DaemonState → DaemonState
 tried_with tried d = record d { sweep = record d.sweep { entries = d.sweep.entries ++ saved_entries tried }; pending = pending_with tried d.pending }
@@ -114,3 +117,4 @@ pub record IsStarted (policy : Judging) (first : ℕ) (d : DaemonState) : Type 0
   pub entries : d.sweep.entries ≡ []
   pub pending : d.pending ≡ false
   pub event : d.event ≡ first
+  pub reply : d.reply ≡ None

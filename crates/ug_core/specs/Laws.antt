@@ -28,10 +28,10 @@ use Rattle.ug_table.specs.Parts.{AllBear, failures_told, told_in_reply, unsettle
 use Rattle.ug_table.specs.Standings.{numbered}
 use Rattle.ug_table.specs.declared.standing.Settled.{Settled}
 use Rattle.ug_table.specs.declared.standing.Standing.{Standing}
-use Rattle.ug_core.specs.Answering.{answering, answered_with, reply_of}
+use Rattle.ug_core.specs.Answering.{answering, answered_with, replying, reply_of}
 use Rattle.ug_core.specs.Policy.{Judging, policy_answer, policy_later}
 use Rattle.ug_core.specs.Privileges.{is_granted}
-use Rattle.ug_core.specs.Event.{DaemonState, noting, ready, trying, handling}
+use Rattle.ug_core.specs.Event.{DaemonState, ready, trying, handling}
 use Rattle.ug_core.specs.Durable.{KeepsFile}
 use Rattle.ug_core.specs.declared.daemon.Event.{Event}
 use Rattle.ug_core.specs.declared.daemon.Event.TheVariants.{Sweep, Order}
@@ -71,7 +71,7 @@ pub record RefusesOrder (k : Kernel) (d : DaemonState) (l : Kernel) (e : DaemonS
   pub refused : Refusal
   pub sound : IsKernel l
   pub quiet : Quiet k l
-  pub state : e ≡ noting (entry.Reply (Err refused)) d
+  pub state : e ≡ replying (Err refused) d
 
 -- A verdict that was ordered by one who may. The device of that number's standing was there, with that value. Its verdict is set and
 -- told, and the device is brought to it; and the reply tells what came of it.
@@ -108,7 +108,7 @@ pub record GoesAsRefusal (d : DaemonState) (made : List Made) (e : DaemonState) 
   pub refused : Refusal
   pub calls : (made ≡ []) ⊎ ((x : Standing) × (t : Told Probe) × Has d.sweep.standings x × (made ≡ answered (Ask_alive x.held.0) t ∷ []))
   pub told : failures made ≡ told_in_reply (Err refused)
-  pub state : e ≡ noting (entry.Reply (Err refused)) d
+  pub state : e ≡ replying (Err refused) d
 
 -- those of one that was carried out: a probe that finds the device, and then those that bring it to its verdict
 pub record GoesAsVerdict {S : Type 0} (gives : S → (call : Call) → Answer call → S → Type 0) (calls faults : S → ℕ) (who : Named) (s : S) (d : DaemonState) (made : List Made) (t : S) (e : DaemonState) : Type 0 where

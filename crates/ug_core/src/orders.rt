@@ -5,9 +5,9 @@ ghost use Rattle.ug_audit.specs.Journal.{live_in, members};
 ghost use Rattle.ug_table.specs.Orders.{ordering};
 ghost use Rattle.ug_table.specs.State.{kept_of};
 ghost use Rattle.ug_audit.specs.declared.entry.Entry.TheVariants as entry;
-ghost use Rattle.ug_core.specs.Answering.{acting, answering, answer_to, asking, by_request, by_standing, IsThere, keeping, reply_of};
+ghost use Rattle.ug_core.specs.Answering.{acting, answering, answer_to, asking, by_request, by_standing, IsThere, keeping, reply_of, replying};
 ghost use Rattle.ug_core.specs.Laws.{Replies};
-ghost use Rattle.ug_core.specs.Event.{daemon_of, noting, NotesMore};
+ghost use Rattle.ug_core.specs.Event.{daemon_of, NotesMore};
 ghost use Rattle.ug_table.specs.Standings.{numbered};
 
 use crate::daemon::{Daemon, Event};
@@ -179,7 +179,7 @@ impl<'z, R: Rng> Daemon<'z, R> {
         requires stands { IsThere (daemon_of self.old).sweep.standings choice }
         requires spare { 7 + live_in panel.old ≤ self.old.report.entries.spare }
         ensures runs { Runs Y.gives sysfs.old (acting who.now (daemon_of self.old) choice)
-            (noting (entry.Reply result) (daemon_of self.new)) sysfs.new }
+            (replying result (daemon_of self.new)) sysfs.new }
         ensures len { length self.new.table.standings ≤ length self.old.table.standings }
         ensures next { self.new.table.next ≡ self.old.table.next }
         ensures event { self.new.next_event ≡ self.old.next_event }
@@ -203,7 +203,7 @@ impl<'z, R: Rng> Daemon<'z, R> {
     // Notes the answer, and reports it as the event's reply.
     fn reply(&mut self, alloc: Global, answer: Result<(), Refusal>, panel: &mut Panel)
         requires { live_in panel.old < self.old.report.entries.spare }
-        ensures daemon { daemon_of self.new ≡ noting (entry.Reply answer) (daemon_of self.old) }
+        ensures daemon { daemon_of self.new ≡ replying answer (daemon_of self.old) }
         ensures reply { self.new.report.reply ≡ Some (reply_of answer) }
         ensures spare { self.new.report.entries.spare + 1 + live_in panel.old
             ≡ self.old.report.entries.spare + live_in panel.new }

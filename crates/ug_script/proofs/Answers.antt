@@ -2,18 +2,14 @@
 use Rattle.std.proofs.Common.{◌≡◌, ℕ, ◌+◌, ◌≤◌, Bool, true, false, not, ◌&&◌, ◌||◌, cond, List, [], ◌∷◌, ◌++◌, Option, Some, None, Result, Ok, Err, refl, sym, ◌∙◌, ap, subst, append_assoc, append-nil, arith}
 use Rattle.std.proofs.lemmas.Bool.{or_parts}
 use Rattle.ug_types.specs.Principals.{Named}
-use Rattle.ug_types.specs.declared.access.Section.TheVariants as section
-use Rattle.ug_types.specs.declared.access.Privilege.TheVariants as privilege
 use Rattle.ug_types.specs.declared.refusal.Refusal.{Refusal}
-use Rattle.ug_types.specs.declared.refusal.Refusal.TheVariants as refusal
 use Rattle.ug_types.specs.declared.verdict.Target.{Target}
 use Rattle.ug_kernel.specs.declared.calls.FailedCall.{FailedCall}
 use Rattle.ug_kernel.specs.declared.calls.Probe.{Probe}
 use Rattle.ug_kernel.specs.declared.calls.Probe.TheVariants as probe
-use Rattle.ug_types.specs.declared.verdict.Moment.{Moment}
 use Rattle.ug_kernel.specs.Along.{Made, answered, failure, failures, count_calls}
-use Rattle.ug_kernel.specs.Calls.{Call, Answer, Ask_alive, Told}
-use Rattle.ug_kernel.specs.Tree.{Prog, Return, Ask, Room, then}
+use Rattle.ug_kernel.specs.Calls.{Ask_alive, Told}
+use Rattle.ug_kernel.specs.Tree.{Return, then}
 use Rattle.ug_kernel.proofs.Ways.{Ways, ways_next, ways_last}
 use Rattle.ug_acl.specs.Acls.{Addition}
 use Rattle.ug_audit.specs.declared.entry.Entry.{Entry}
@@ -38,9 +34,9 @@ use Rattle.ug_play.specs.Play.{is_short_reply, tells_memory, NameNobody}
 use Rattle.ug_play.proofs.Plays.{refused}
 use Rattle.ug_play.proofs.Sweeps.{Sums, refused_more, sweeping_sums, nobody_told, nobody_more, nothing_behind}
 use Rattle.ug_play.proofs.Wants.{memory_more}
-use Rattle.ug_core.specs.Answering.{by_probe, by_standing, by_privilege, by_request, if_read, asking, answer_to, keeping, answered_with, acting, answering}
+use Rattle.ug_core.specs.Answering.{by_probe, by_standing, by_privilege, by_request, if_read, asking, answer_to, keeping, answered_with, acting, answering, replying}
 use Rattle.ug_core.specs.Event as event
-use Rattle.ug_core.specs.Event.{DaemonState, handling, noting}
+use Rattle.ug_core.specs.Event.{DaemonState, handling}
 use Rattle.ug_core.specs.Policy.{Judging, policy_answer, policy_later}
 use Rattle.ug_core.specs.Privileges.{first_denied, is_granted}
 use Rattle.ug_core.specs.declared.daemon.Event.{Event}
@@ -98,7 +94,7 @@ pub record AnswersSo (d : DaemonState) (ok : Bool) (ms : List Made) (a : DaemonS
   pub wants : tells_memory rest ≡ refused ok ms
   pub nobody : NameNobody rest
   pub few : count_calls ms ≤ 5
-  pub beside : a ≡ keeping (kept_of a.sweep.standings a.sweep.entries) d
+  pub beside : a ≡ record (keeping (kept_of a.sweep.standings a.sweep.entries) d) { reply = a.reply }
 
 -- an order's own entries
 
@@ -117,7 +113,7 @@ short_answer settled.Nobody = refl
 short_answer (settled.Fault failed) = refl
 short_answer settled.Memory = refl
 
-reply_so : (d : DaemonState) (ms : List Made) (ok : Bool) (r : Refusal) → is_short_reply (Err r) ≡ refused ok ms → count_calls ms ≤ 1 → AnswersSo d ok ms (noting (entry.Reply (Err r)) d)
+reply_so : (d : DaemonState) (ms : List Made) (ok : Bool) (r : Refusal) → is_short_reply (Err r) ≡ refused ok ms → count_calls ms ≤ 1 → AnswersSo d ok ms (replying (Err r) d)
 reply_so d ms ok r wants few = record {
   rest = entry.Reply (Err r) ∷ [];
   entries = refl;
@@ -132,7 +128,7 @@ reply_so d ms ok r wants few = record {
     or_none false = refl
 
 acting_ways : (who : Named) (d : DaemonState) (ms : List Made) (ok : Bool) (c : Choice) → Asks d.sweep.standings ok ms c → Ways (acting who d c) (λ more ns a. AnswersSo d (ok && more) (ms ++ ns) a)
-acting_ways who d ms ok (choice.Refuse r) h = subst (λ (xs : List Made). AnswersSo d (ok && true) xs (noting (entry.Reply (Err r)) d)) (sym (append-nil ms)) (subst (λ (b : Bool). AnswersSo d b ms (noting (entry.Reply (Err r)) d)) (sym (and_true ok)) (reply_so d ms ok r h.0 h.1))
+acting_ways who d ms ok (choice.Refuse r) h = subst (λ (xs : List Made). AnswersSo d (ok && true) xs (replying (Err r) d)) (sym (append-nil ms)) (subst (λ (b : Bool). AnswersSo d b ms (replying (Err r) d)) (sym (and_true ok)) (reply_so d ms ok r h.0 h.1))
   where
     and_true : (b : Bool) → (b && true) ≡ b
     and_true true = refl

@@ -1,5 +1,5 @@
 -- An event as the world fixes it.
-use Rattle.std.proofs.Common.{◌≡◌, ℕ, ◌+◌, ◌++◌, Bool, true, false, ◌||◌, List, [], ◌∷◌, Option, Some, None, ◌⊎◌, ◌∙◌, ap, sym, subst, refl, inl, inr}
+use Rattle.std.proofs.Common.{◌≡◌, ℕ, Bool, true, false, ◌||◌, List, Option, Some, None, ◌⊎◌, ◌∙◌, ap, sym, subst, refl, inl, inr}
 use Rattle.std.proofs.lemmas.Bool.{both_ways}
 use Rattle.ug_sysfs.specs.World.{World, Gives, begun, over}
 use Rattle.ug_kernel.specs.Tree.{Runs}

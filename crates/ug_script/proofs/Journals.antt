@@ -5,7 +5,6 @@ use Rattle.std.proofs.Common.{◌≡◌, ℕ, ◌+◌, ◌*◌, ◌<◌, ◌≤�
 use Rattle.std.specs.Cmp.Lexicographic.{pointwise}
 use Rattle.std.specs.List.{list_any}
 use Rattle.ug_types.specs.Elements.{Has}
-use Rattle.ug_types.specs.declared.verdict.Moment.{Moment}
 use Rattle.ug_kernel.specs.Kernel.{Kernel, IsKernel, Live, Moves}
 use Rattle.ug_kernel.proofs.Stayed.{unmoving}
 use Rattle.ug_sysfs.specs.World.{World, begun, moved, over}
@@ -265,7 +264,7 @@ daemon_run access policy text number first file hs k p e only chain = record {
   file = file;
   holds = only;
   chain = chain;
-  run = is_run policy number first (Some file) (started_at number access policy) hs k p e (record { judge = refl; standings = refl; next = refl; listed = refl; entries = refl; pending = refl; event = refl }) chain;
+  run = is_run policy number first (Some file) (started_at number access policy) hs k p e (record { judge = refl; standings = refl; next = refl; listed = refl; entries = refl; pending = refl; event = refl; reply = refl }) chain;
 }
 
 -- one run more has ended

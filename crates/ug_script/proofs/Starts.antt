@@ -1,5 +1,5 @@
 -- The start of a script's daemon.
-use Rattle.std.proofs.Common.{◌≡◌, ℕ, ◌<◌, ◌≤◌, Bool, true, false, if◌then◌else◌, nat_le, List, [], ◌∷◌, length, Result, Ok, Err, inl, inr, refl, sym, ◌∙◌, ap, subst, arith}
+use Rattle.std.proofs.Common.{◌≡◌, ℕ, ◌<◌, ◌≤◌, Bool, true, false, if◌then◌else◌, nat_le, List, [], ◌∷◌, length, Option, Result, Ok, Err, inl, inr, refl, sym, ◌∙◌, ap, subst, arith}
 use Rattle.std.proofs.lemmas.Bool.Decides.{nat_tests}
 use Rattle.ug_types.specs.declared.rule.Rule.{Rule}
 use Rattle.ug_types.specs.declared.text_fault.TextFault.{TextFault}
@@ -8,6 +8,7 @@ use Rattle.ug_audit.specs.declared.entry.Entry.{Entry}
 use Rattle.ug_table.specs.declared.standing.Standing.{Standing}
 use Rattle.ug_policy.specs.Rules.{Rules}
 use Rattle.ug_policy.specs.declared.entry.RuleEntry.{RuleEntry}
+use Rattle.ug_proto.specs.declared.reply.Reply.{Reply}
 use Rattle.ug_rule.specs.Files.{file_read}
 use Rattle.ug_print.specs.RuleTexts.{rules_limit, rules_text_of}
 use Rattle.ug_store.specs.DiskCalls.{Load, DiskTold, file_limit}
@@ -27,19 +28,20 @@ use Rattle.ug_core.specs.declared.start_fault.StartFault.TheVariants as fault
 use Rattle.ug_script.specs.Setup.{SetupState, access_of, after_reading, policy_of, rules_disk, started_at}
 use Rattle.ug_script.specs.Script.{HoldsRules, IsWantOfMemory, fits_file}
 
-abbrev made : List Standing → ℕ → Bool → Judging → List Entry → List Addition → Bool → ℕ → DaemonState
-made ss next listed judge es access pending number = record { sweep = record { standings = ss; next = next; listed = listed; judge = judge; entries = es }; access = access; pending = pending; event = number }
+abbrev made : List Standing → ℕ → Bool → Judging → List Entry → List Addition → Bool → ℕ → Option Reply → DaemonState
+made ss next listed judge es access pending number reply = record { sweep = record { standings = ss; next = next; listed = listed; judge = judge; entries = es }; access = access; pending = pending; event = number; reply = reply }
 
 started_is : (p : Judging) (access : List Addition) (number : ℕ) (d : DaemonState) → IsStarted p number d → d.access ≡ access → d ≡ started_at number access p
 started_is p access number d h given =
-    ap (λ (x : List Standing). made x d.sweep.next d.sweep.listed d.sweep.judge d.sweep.entries d.access d.pending d.event) h.standings
-    ∙ ap (λ (x : ℕ). made [] x d.sweep.listed d.sweep.judge d.sweep.entries d.access d.pending d.event) h.next
-    ∙ ap (λ (x : Bool). made [] 1 x d.sweep.judge d.sweep.entries d.access d.pending d.event) h.listed
-    ∙ ap (λ (x : Judging). made [] 1 false x d.sweep.entries d.access d.pending d.event) h.judge
-    ∙ ap (λ (x : List Entry). made [] 1 false p x d.access d.pending d.event) h.entries
-    ∙ ap (λ (x : List Addition). made [] 1 false p [] x d.pending d.event) given
-    ∙ ap (λ (x : Bool). made [] 1 false p [] access x d.event) h.pending
-    ∙ ap (λ (x : ℕ). made [] 1 false p [] access false x) h.event
+    ap (λ (x : List Standing). made x d.sweep.next d.sweep.listed d.sweep.judge d.sweep.entries d.access d.pending d.event d.reply) h.standings
+    ∙ ap (λ (x : ℕ). made [] x d.sweep.listed d.sweep.judge d.sweep.entries d.access d.pending d.event d.reply) h.next
+    ∙ ap (λ (x : Bool). made [] 1 x d.sweep.judge d.sweep.entries d.access d.pending d.event d.reply) h.listed
+    ∙ ap (λ (x : Judging). made [] 1 false x d.sweep.entries d.access d.pending d.event d.reply) h.judge
+    ∙ ap (λ (x : List Entry). made [] 1 false p x d.access d.pending d.event d.reply) h.entries
+    ∙ ap (λ (x : List Addition). made [] 1 false p [] x d.pending d.event d.reply) given
+    ∙ ap (λ (x : Bool). made [] 1 false p [] access x d.event d.reply) h.pending
+    ∙ ap (λ (x : ℕ). made [] 1 false p [] access false x d.reply) h.event
+    ∙ ap (λ (x : Option Reply). made [] 1 false p [] access false number x) h.reply
 
 -- the rules of the rules' text are these
 same_rules : (rules others : List Rule) (read : Result (List Rule) TextFault) → read ≡ Ok rules → read ≡ Ok others → others ≡ rules

@@ -1,15 +1,15 @@
 -- What each line of a script writes, and what it leaves.
 use Rattle.std.specs.Prelude.{◌≡◌, ℕ, ◌+◌, ◌-◌, true, false, nat_eq, cond, List, [], ◌∷◌, ◌++◌, codes, decimal, Option, Some, None, Result, Ok, Err, flat_map}
 use Rattle.std.specs.Cmp.Lexicographic.{pointwise}
-use Rattle.ug_types.specs.Refusals.{refusal_words}
-use Rattle.ug_types.specs.declared.refusal.Refusal.{Refusal}
 use Rattle.ug_kernel.specs.Tree.{Prog, then}
 use Rattle.ug_kernel.specs.declared.device.Device.{Device}
 use Rattle.ug_sysfs.specs.Queue.{with_move}
 use Rattle.ug_sysfs.specs.World.{World, begun, moved, over}
 use Rattle.ug_audit.specs.declared.entry.Entry.{Entry}
-use Rattle.ug_audit.specs.declared.entry.Entry.TheVariants as entry
 use Rattle.ug_audit.specs.Lines.{entry_line}
+use Rattle.ug_lines.specs.Lines.{lines_of}
+use Rattle.ug_proto.specs.declared.reply.Reply.{Reply}
+use Rattle.ug_proto.specs.Replies.{reply_text}
 use Rattle.ug_play.specs.Play.{play, tells_memory}
 use Rattle.ug_core.specs.Answering.{answering}
 use Rattle.ug_core.specs.Event.{DaemonState, handling, has_numbers, ready}
@@ -52,28 +52,30 @@ terminated e = entry_line e ++ 10 ∷ []
 abbrev pub lines_text : List Entry → List ℕ
 lines_text entries = flat_map terminated entries
 
--- the line of a reply, behind `> `
-abbrev pub answer_words : Result (Unit {0}) Refusal → List ℕ
-answer_words (Ok done) = codes "ok 0"
-answer_words (Err refused) = refusal_words refused
+-- a line behind `> `
+abbrev pub quoted : List ℕ → List ℕ
+quoted line = 62 ∷ 32 ∷ line ++ 10 ∷ []
 
-abbrev pub reply_text : Entry → List ℕ
-reply_text (entry.Reply answer) = codes "> " ++ (answer_words answer ++ 10 ∷ [])
-reply_text e = []
+-- the lines of a text, each so
+abbrev pub quoted_lines : List ℕ → List ℕ
+quoted_lines text = flat_map quoted (lines_of text)
 
-abbrev pub replies_text : List Entry → List ℕ
-replies_text entries = flat_map reply_text entries
+-- the lines of a reply, if there is one
+abbrev pub reply_lines : Option Reply → List ℕ
+reply_lines None = []
+reply_lines (Some reply) = quoted_lines (reply_text reply)
 
--- what came of an event
+-- what came of an event: its entries, and the reply to its order, if it has one
 pub record EventOutcome : Type 0 where
   pub entries : List Entry
+  pub reply : Option Reply
 
 abbrev pub outcome_of : DaemonState → EventOutcome
-outcome_of d = record { entries = d.sweep.entries }
+outcome_of d = record { entries = d.sweep.entries; reply = d.reply }
 
--- and how it is written: the lines of its entries, and behind them the reply to its order
+-- and how it is written
 abbrev pub outcome_text : EventOutcome → List ℕ
-outcome_text outcome = lines_text outcome.entries ++ replies_text outcome.entries
+outcome_text outcome = lines_text outcome.entries ++ reply_lines outcome.reply
 
 -- a line writes nothing and leads there
 abbrev pub quiet : Script → World → Outcome (Option Script × World)

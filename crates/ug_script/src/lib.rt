@@ -11,6 +11,7 @@ mod parse;
 mod plan_lines;
 mod plugs;
 mod progress;
+mod quoting;
 mod runner;
 mod running;
 mod session;

@@ -4,8 +4,9 @@ ghost use Rattle.ug_types.specs.Ends.{Rose};
 ghost use Rattle.ug_console.specs.Runs.{Closes};
 ghost use Rattle.ug_play.specs.Play as play;
 ghost use Rattle.ug_script.specs.Replay as replay;
-ghost use Rattle.ug_script.specs.Replay.{answer_words, lines_text, replies_text, reply_text, terminated};
+ghost use Rattle.ug_script.specs.Replay.{terminated, lines_text};
 
+use crate::quoting::push_reply;
 use std::alloc::Global;
 use ug_console::Ran;
 use ug_core::{Entry, Fault, Report, line_of};
@@ -30,46 +31,18 @@ fn text_of(alloc: Global, entries: &[Entry]) -> Result<Vec<u8>, NoMemory>
     Ok(text)
 }
 
-fn push_answer(text: &mut Vec<u8>, answer: &Result<(), Refusal>) -> Result<(), NoMemory>
-    ensures { OnOk result (text.new.items ≡ text.old.items ++ answer_words answer.now) }
-{
-    match answer {
-        Ok(()) => text.extend_from_slice(b"ok 0")?,
-        Err(refusal) => text.extend_from_slice(refusal.words().bytes())?,
-    }
-    Ok(())
-}
-
-fn push_reply(text: &mut Vec<u8>, entry: &Entry) -> Result<(), NoMemory>
-    ensures { OnOk result (text.new.items ≡ text.old.items ++ reply_text entry.now) }
-{
-    if let Entry::Reply(answer) = entry {
-        text.extend_from_slice(b"> ")?;
-        push_answer(text, answer)?;
-        text.push(b'\n')?;
-    }
-    Ok(())
-}
-
-// The replies that entries tell, each with `> ` before it.
-fn replies_of(alloc: Global, entries: &[Entry]) -> Result<Vec<u8>, NoMemory>
-    ensures { IfOk result (λ text. text.items ≡ replies_text entries.now) }
-{
-    let mut text = Vec::new(alloc);
-    for entry in entries {
-        push_reply(&mut text, entry)?;
-    }
-    Ok(text)
-}
-
-/// What is written of an event.
+/// What is written of an event: the lines of its entries, and those of its reply.
 pub fn outcome_text(alloc: Global, report: &Report) -> Result<Vec<u8>, NoMemory>
     ensures { IfOk result (λ text. text.items
-        ≡ replay.outcome_text (record { entries = report.now.entries.entries })) }
+        ≡ replay.outcome_text (record {
+          entries = report.now.entries.entries;
+          reply = report.now.reply;
+        })) }
 {
-    let entries = report.entries.as_slice();
-    let mut text = text_of(alloc, entries)?;
-    text.extend_from_slice(replies_of(alloc, entries)?.as_slice())?;
+    let mut text = text_of(alloc, report.entries.as_slice())?;
+    if let Some(reply) = &report.reply {
+        push_reply(alloc, &mut text, reply)?;
+    }
     Ok(text)
 }
 
