@@ -7,10 +7,8 @@ use Rattle.ug_play.specs.Play.{play, IsPlayed}
 use Rattle.std.specs.List.{slice_get}
 use Rattle.ug_table.proofs.Common.{Device, Control, Write, Listing, Kernel, FailedCall}
 use Rattle.ug_types.specs.declared.control.Attr.{Attr}
-use Rattle.ug_types.specs.declared.control.Attr.TheVariants as attr
 use Rattle.ug_kernel.specs.declared.calls.Opened.{Opened}
 use Rattle.ug_kernel.specs.declared.calls.ReadOut.{ReadOut}
-use Rattle.ug_kernel.specs.declared.calls.ReadOut.TheVariants as out
 use Rattle.ug_kernel.specs.Called.{within, text_within, read_of}
 use Rattle.ug_kernel.specs.Along.{Made, answered, failure_of, failure_if, failure, failures}
 use Rattle.ug_kernel.proofs.Ways.{Ways, ways_more, ways_run}
@@ -64,7 +62,7 @@ fine_opened : (control : Control) (o : Option ℕ) (k : Kernel) → FineOpen (op
 fine_opened control None k = (refl, refl)
 fine_opened control (Some i) k = (refl, refl)
 
-fine_if : (b : Bool) (bytes : List ℕ) → FineRead (cond b (out.Bytes bytes) out.TooLong)
+fine_if : (b : Bool) (bytes : List ℕ) → FineRead (cond b (ReadOut.Bytes bytes) ReadOut.TooLong)
 fine_if true bytes = (refl, refl)
 fine_if false bytes = (refl, refl)
 
@@ -76,10 +74,10 @@ fine_text None = (refl, refl)
 fine_text (Some bytes) = fine_within 4096 bytes
 
 fine_of : (at : Attr) (d : Device) → FineRead (read_of at d)
-fine_of attr.Descriptors d = fine_within 131072 d.descriptors
-fine_of attr.Product d = fine_text d.product
-fine_of attr.Serial d = fine_text d.serial
-fine_of attr.Connect d = fine_text d.connect
+fine_of Attr.Descriptors d = fine_within 131072 d.descriptors
+fine_of Attr.Product d = fine_text d.product
+fine_of Attr.Serial d = fine_text d.serial
+fine_of Attr.Connect d = fine_text d.connect
 
 fine_from : (at : Attr) (o : Option Device) → FineRead (read_from at o)
 fine_from at None = (refl, refl)

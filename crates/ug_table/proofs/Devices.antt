@@ -1,12 +1,11 @@
 -- What is known of a device stays, whatever the kernel does.
 use Rattle.std.proofs.Common.{◌≡◌, ℕ, Bool, List, Option, Some, None, sym, ◌∙◌, ap, subst}
 use Rattle.ug_types.specs.declared.record.Attrs.{Attrs}
-use Rattle.ug_table.proofs.Common.{Judged, Held, Device, Authorized, Kernel, Stays, Grows, IsRecordOf, IsDevice, IsGone, IsProbed, Stand, Standing, Has}
+use Rattle.ug_table.proofs.Common.{Judged, Held, Device, Authorized, Kernel, Stays, Grows, IsRecordOf, IsDevice, IsGone, IsProbed, Stand, Standing, Has, Write}
 use Rattle.ug_kernel.proofs.Grow.{grows_trans}
 use Rattle.ug_record.specs.Records.{judged_of}
 use Rattle.ug_node.specs.Bound.{attrs_of, parent_attrs_of, IsParentRead}
 use Rattle.ug_table.proofs.Standings.{file_same, file_later}
-use Rattle.ug_types.specs.declared.control.Write.TheVariants as write
 
 attrs_stay : (d e : Device) → Stays d e → attrs_of d ≡ attrs_of e
 attrs_stay d e s =
@@ -60,5 +59,5 @@ stand_stays k l ss next g h = record {
   removed = λ s a r i f.
       let x = h.devices s a in
       let is : x.0 ≡ i = file_same l s.held.0 x.0 i (file_later k l s.held.0 x.0 g x.1.file) f in
-      subst (λ (v : ℕ). Has l.log (record { device = v; write = write.Remove })) is (g.log (record { device = x.0; write = write.Remove }) (h.removed s a r x.0 x.1.file));
+      subst (λ (v : ℕ). Has l.log (record { device = v; write = Write.Remove })) is (g.log (record { device = x.0; write = Write.Remove }) (h.removed s a r x.0 x.1.file));
 }

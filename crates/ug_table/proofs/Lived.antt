@@ -1,31 +1,22 @@
 -- What settling names leaves of devices: each one that lived through is as judged, or is told.
 use Rattle.std.proofs.Common.{◌≡◌, ℕ, Bool, List, [], ◌∷◌, ◌++◌, Option, Some, refl, sym, ◌∙◌, ap, subst, append_assoc, append-nil, slice_get, false, ◌⊎◌, inl, inr, true, None, true≢false}
-use Rattle.ug_table.proofs.Common.{Has, parent_of, Ask_alive, Put, Close, Closing, Told, Names, Authorized, Remove, Kernel, IsKernel, Quiet, Grows, Made, answered, Along, Runs, calls, RemoveHold, Bound, Binding, Entry, State, Answers, Laters, standing_of, without, with_standing, place_for, same_name, lists, farewells, Standing, Known, Settled, Held, Target, Wrote, Device, Control, IsGoneAt, Called, Lived, IsNamed, HasStanding, Stand, IsAsJudged, IsSettled, FailedCall, in_sweep_order, Fault, unlisted_files}
-use Rattle.ug_kernel.specs.declared.calls.Probe.TheVariants as probe
-use Rattle.ug_types.specs.declared.control.Write.TheVariants as write
+use Rattle.ug_table.proofs.Common.{Has, parent_of, Ask_alive, Put, Close, Closing, Told, Names, Authorized, Remove, Kernel, IsKernel, Quiet, Grows, Made, answered, Along, Runs, calls, RemoveHold, Bound, Binding, Entry, State, Answers, Laters, standing_of, without, with_standing, place_for, same_name, lists, farewells, Standing, Known, Settled, Held, Target, Wrote, Device, Control, IsGoneAt, Called, Lived, IsNamed, HasStanding, Stand, IsAsJudged, IsSettled, FailedCall, in_sweep_order, Fault, unlisted_files, Probe, Write, Listing}
 use Rattle.ug_kernel.proofs.Grow.{quiet_grows, called_grows, some_same, grows_refl, grows_trans}
 use Rattle.ug_kernel.proofs.Quiet.{called_quiet, quiet_refl, quiet_trans}
 use Rattle.ug_kernel.proofs.Ways.{Way, way_runs, along_split, along_sound, along_grows}
 use Rattle.ug_table.proofs.Shapes.{Piece, Valued, Same, Set, Removal, Not_held, Put_on, Carried, By_value, And_removal, Brought, Left_open, Let_go, Opening, Fresh, Lost, Flat, Unprobed, Tried, Stopped, Unbound, No_place, Judged_so, told_at, Written, Done, Went, Broke, Unheld, Gone_by, Failed_by, Short_by, Unbound_end, Failed_so, Short_so, opening_absent, opening_less}
 use Rattle.ug_node.specs.Removal.{holding_remove, RemoveSays}
-use Rattle.ug_node.specs.declared.removal.RemoveHold.TheVariants as hold
 use Rattle.ug_node.proofs.Laws.{holding_law, binding_law}
 use Rattle.ug_node.specs.Bind.{binding}
 use Rattle.ug_node.specs.Bound.{BindSays}
-use Rattle.ug_node.specs.declared.identity.Binding.TheVariants as bound
 use Rattle.ug_table.specs.Bring.{write_of, wants, is_reject}
-use Rattle.ug_table.specs.declared.standing.Settled.TheVariants as settled
 use Rattle.ug_table.proofs.Standings.{Others, others_refl, others_trans, others_quiet, others_put, IsOpen, open_name, open_later, IsFileOf, file_later, LiveAs, lives_between, lived, live_same, gone_no, Value, quiet_value, done_value, alive_open, IsHeldAs, removal_value, file_same, open_named, found, same_is, is_same, missing, Files, files_later, with_files, tried_has, tried_files, tried_new, IsRemovedIf, Was, tried_was}
-use Rattle.ug_kernel.specs.declared.calls.Wrote.TheVariants as wrote
 use Rattle.ug_kernel.proofs.Held.{live_before}
-use Rattle.ug_audit.specs.declared.entry.Entry.TheVariants as entry
-use Rattle.ug_audit.specs.declared.entry.Fault.TheVariants as fault
 use Rattle.ug_table.specs.Settle.{unsettled_by, tried_standings}
 use Rattle.ug_types.proofs.Elements.{has_right, has_left, has_new, has_old, cancel, filter_has, has_map}
 use Rattle.ug_table.proofs.Marks.{known_has}
 use Rattle.ug_table.specs.Sweep.{names_of, sweeping}
 use Rattle.ug_types.proofs.Sorting.{to_sweep_order}
-use Rattle.ug_kernel.specs.declared.calls.Listing.TheVariants as listing
 use Rattle.ug_table.proofs.Chains.{closings_quiet, Chain, Over, First, Goes, Listed, Unlisted, sweeping_run}
 
 -- Settling a name leaves the other names' devices and standings as they are, and only adds entries.
@@ -59,12 +50,12 @@ hold_open name held answer k l sound o r =
 removal_apart : {name : List ℕ} {known : Known} {ms : List Made} {es : List Entry} {how : Settled} (k l : Kernel) → Removal name known ms es how → IsKernel k → IsOpen k name known.held.0 → Along calls k ms l → Others name k l
 removal_apart {name} {known} k l (Not_held ms r es how way u) sound o a = others_quiet name k l (hold_open name known.held.0 r k l sound o (way_runs calls (holding_remove name known.held.0) ms k r l way a)).0
 removal_apart {name} {known} k l (Put_on ms file t shut es how way w) sound o a =
-    let cut = along_split calls ms (answered (Put file.0 write.Remove) t ∷ answered (Close file.0) shut ∷ []) k l a in
+    let cut = along_split calls ms (answered (Put file.0 Write.Remove) t ∷ answered (Close file.0) shut ∷ []) k l a in
     let m = cut.0 in
     let n = cut.2.0 in
     let put = cut.2.1 in
-    let x = hold_open name known.held.0 (hold.Ready file) k m sound o (way_runs calls (holding_remove name known.held.0) ms k (hold.Ready file) m way cut.1) in
-    let rest = others_trans name m n l (called_grows (Put file.0 write.Remove) t m n put) (others_put name known.held.0 file.0 Remove write.Remove t m n x.1.0 x.1.1 put) (subst (λ v. Others name n v) (sym cut.2.2.2) (others_quiet name n cut.2.2.0 (called_quiet (Close file.0) shut n cut.2.2.0 tt cut.2.2.1))) in
+    let x = hold_open name known.held.0 (RemoveHold.Ready file) k m sound o (way_runs calls (holding_remove name known.held.0) ms k (RemoveHold.Ready file) m way cut.1) in
+    let rest = others_trans name m n l (called_grows (Put file.0 Write.Remove) t m n put) (others_put name known.held.0 file.0 Remove Write.Remove t m n x.1.0 x.1.1 put) (subst (λ v. Others name n v) (sym cut.2.2.2) (others_quiet name n cut.2.2.0 (called_quiet (Close file.0) shut n cut.2.2.0 tt cut.2.2.1))) in
     others_trans name k m l (quiet_grows k m x.0) (others_quiet name k m x.0) rest
 
 carried_apart : {name : List ℕ} {known : Known} {on : Bool} {ms : List Made} {es : List Entry} {how : Settled} (k l : Kernel) → Carried name known on ms es how → IsKernel k → IsOpen k name known.held.0 → Along calls k ms l → Others name k l
@@ -109,8 +100,8 @@ opening_quiet {name} {ss} k l (Fresh e) sound f a = subst (λ v. Opened_quiet k 
 opening_quiet {name} {ss} k l (Lost known failed shut e) sound f a =
     let m = a.0 in
     let n = a.2.0 in
-    let q = quiet_trans k m n (called_quiet (Ask_alive known.held.0) (told_at probe.Gone failed) k m tt a.1) (called_quiet (Close known.held.0) shut m n tt a.2.1) in
-    subst (λ v. Opened_quiet k v name ss (without name ss)) (sym a.2.2) (record { quiet = q; sound = a.2.1.sound; rest = λ s h ne. tried_has ss name settled.Nobody s h ne; files = tried_files n ss name settled.Nobody (files_later k n ss (quiet_grows k n q) f) })
+    let q = quiet_trans k m n (called_quiet (Ask_alive known.held.0) (told_at Probe.Gone failed) k m tt a.1) (called_quiet (Close known.held.0) shut m n tt a.2.1) in
+    subst (λ v. Opened_quiet k v name ss (without name ss)) (sym a.2.2) (record { quiet = q; sound = a.2.1.sound; rest = λ s h ne. tried_has ss name Settled.Nobody s h ne; files = tried_files n ss name Settled.Nobody (files_later k n ss (quiet_grows k n q) f) })
 
 -- and with it
 pub opening_bind : {name : List ℕ} {ss : List Standing} {ms : List Made} {es : List Entry} {rs : List Standing} (k l : Kernel) (ns : List Made) (r : Binding) → Opening name ss ms es rs → Way (binding name (parent_of name)) ns r → IsKernel k → Files k ss → Along calls k (ms ++ ns) l → Opened_quiet k l name ss rs × ((m : Kernel) × Along calls k ms m × (Quiet m l × BindSays name m l r))
@@ -122,11 +113,11 @@ opening_bind {name} {ms = ms} {rs = rs} k l ns r opening way sound f a =
 
 flat_apart : {binds : Bool} {given : List Standing → Bound → Standing → Type 0} {name : List ℕ} {ss : List Standing} {ok : Bool} {ms : List Made} {rest : List Entry} {how : Settled} {rs : List Standing} {o : Option (List Standing × Bound)} (k l : Kernel) (es fs : List Entry) → fs ≡ es ++ rest → IsKernel k → Files k ss → Flat binds given name ss ok ms rest how rs o → Along calls k ms l → Apart name k ss es l rs fs
 flat_apart {name = name} {ss = ss} k l xs ys e sound f (Unprobed known failed at) a =
-    let how = settled.Fault failed in
-    let q = subst (λ v. Quiet k v) (sym a.2) (called_quiet (Ask_alive known.held.0) (told_at probe.Failed failed) k a.0 tt a.1) in
+    let how = Settled.Fault failed in
+    let q = subst (λ v. Quiet k v) (sym a.2) (called_quiet (Ask_alive known.held.0) (told_at Probe.Failed failed) k a.0 tt a.1) in
     record { others = others_quiet name k l q; rest = λ s h ne. tried_has ss name how s h ne; entries = (_, e); files = tried_files l ss name how (files_later k l ss (quiet_grows k l q) f) }
 flat_apart {name = name} {ss = ss} k l xs ys e sound f (Tried known on failed ms es how at b) a =
-    let q = called_quiet (Ask_alive known.held.0) (told_at (probe.Alive on) failed) k a.0 tt a.1 in
+    let q = called_quiet (Ask_alive known.held.0) (told_at (Probe.Alive on) failed) k a.0 tt a.1 in
     let g = quiet_grows k a.0 q in
     let o = open_later k a.0 name known.held.0 g (open_found name ss known k at f) in
     record { others = others_trans name k a.0 l g (others_quiet name k a.0 q) (brought_apart a.0 l b a.1.sound o a.2); rest = λ s h ne. tried_has ss name how s h ne; entries = (_, e); files = tried_files l ss name how (files_later a.0 l ss (along_grows ms a.0 l a.2) (files_later k a.0 ss g f)) }
@@ -139,13 +130,13 @@ flat_apart {name = name} k l xs ys e sound f (Unbound ms ns es fs rs r how t ope
 flat_apart {name = name} k l xs ys e sound f (No_place ms ns es rs b shut t opening way) a =
     let last : List Made = answered (Close b.held.0) shut ∷ [] in
     let cut = along_split calls (ms ++ ns) last k l (subst (λ v. Along calls k v l) (sym (append_assoc ms ns last)) a) in
-    let o = (opening_bind k cut.0 ns (bound.Bound b) opening way sound f cut.1).0 in
+    let o = (opening_bind k cut.0 ns (Binding.Bound b) opening way sound f cut.1).0 in
     let q = subst (λ v. Quiet cut.0 v) (sym cut.2.2) (called_quiet (Close b.held.0) shut cut.0 cut.2.0 tt cut.2.1) in
     record { others = others_quiet name k l (quiet_trans k cut.0 l o.quiet q); rest = o.rest; entries = (_, e); files = files_later cut.0 l rs (quiet_grows cut.0 l q) o.files }
 flat_apart {name = name} k l xs ys e sound f (Judged_so ms ns os es fs rs b x how t opening way given new brought) a =
     let cut = along_split calls (ms ++ ns) os k l (subst (λ v. Along calls k v l) (sym (append_assoc ms ns os)) a) in
     let m = cut.0 in
-    let h = opening_bind k m ns (bound.Bound b) opening way sound f cut.1 in
+    let h = opening_bind k m ns (Binding.Bound b) opening way sound f cut.1 in
     let o = h.0 in
     let says = h.1.2.1 in
     let opened_now : IsOpen m name x.held.0 = subst (λ v. IsOpen m name v.0) (sym new.held) (record { i = says.i; d = says.d; file = says.file; device = says.device; named = says.named }) in
@@ -184,7 +175,7 @@ Good es l ss fs i name = StandsSo l ss i ⊎ NamedSince es fs name
 
 pub good_before : (es fs gs : List Entry) (l : Kernel) (ss : List Standing) (i : ℕ) (name : List ℕ) → Appends es fs → Good fs l ss gs i name → Good es l ss gs i name
 good_before es fs gs l ss i name a (inl h) = inl h
-good_before es fs gs l ss i name a (inr h) = inr (a.0 ++ h.0, h.1 ∙ ap (λ v. v ++ h.0) a.1 ∙ append_assoc es a.0 h.0, (h.2.0, has_right a.0 h.0 (entry.Unsettled name h.2.0) h.2.1))
+good_before es fs gs l ss i name a (inr h) = inr (a.0 ++ h.0, h.1 ∙ ap (λ v. v ++ h.0) a.1 ∙ append_assoc es a.0 h.0, (h.2.0, has_right a.0 h.0 (Entry.Unsettled name h.2.0) h.2.1))
 
 -- a standing whose device has the value that its verdict wants
 pub as_judged : (l : Kernel) (ss : List Standing) (i : ℕ) (held : Held) (verdict : Target) (s : Standing) → Has ss s → s.held ≡ held → s.verdict ≡ verdict → IsFileOf l held.0 i → Value l i (wants verdict) → IsRemovedIf s → StandsSo l ss i
@@ -211,29 +202,29 @@ open_of k l i held on name g live file v =
 
 -- it stands with that value, or the name is told
 abbrev pub Ends : Kernel → Settled → ℕ → List ℕ → Bool → Type 0
-Ends l how i name on = ((how ≡ settled.Stands) × Value l i on) ⊎ IsNamed (unsettled_by name how) name
+Ends l how i name on = ((how ≡ Settled.Stands) × Value l i on) ⊎ IsNamed (unsettled_by name how) name
 
 -- where the file's device is live at the end
 valued_own : {name : List ℕ} {known : Known} {on : Bool} {ms : List Made} {es : List Entry} {how : Settled} (i : ℕ) (k l : Kernel) → Valued name known on ms es how → LiveAs l i name → IsFileOf k known.held.0 i → Value k i on → Along calls k ms l → Ends l how i name (wants known.verdict)
 valued_own {on = on} i k l (Same e) live file v a = inl (refl, subst (λ b. Value l i b) (sym e) (subst (λ x. Value x i on) (sym a) v))
 valued_own {known = known} i k l (Set t es how e (Done failed)) live file v a = inl (refl, subst (λ x. Value x i (wants known.verdict)) (sym a.2) (done_value known.held.0 i known.verdict failed k a.0 file a.1))
 valued_own {name} {known} i k l (Set t es how e (Went failed)) live file v a =
-    let g = called_grows (Put known.held.0 (write_of known.verdict)) (told_at wrote.Gone failed) k a.0 a.1 in
+    let g = called_grows (Put known.held.0 (write_of known.verdict)) (told_at Wrote.Gone failed) k a.0 a.1 in
     absurd (gone_no a.0 known.held.0 i name a.1.says (file_later k a.0 known.held.0 i g file) (subst (λ x. LiveAs x i name) a.2 live))
-valued_own i k l (Set t es how e (Broke failed)) live file v a = inr (fault.Call failed, inl refl)
+valued_own i k l (Set t es how e (Broke failed)) live file v a = inr (Fault.Call failed, inl refl)
 
 unheld_own : {name : List ℕ} {number : ℕ} {r : RemoveHold} {es : List Entry} {how : Settled} (held i : ℕ) (on : Bool) (k l : Kernel) → Unheld name number r es how → LiveAs l i name → IsFileOf k held i → Value k i on → Grows k l → RemoveSays held i k r → Ends l how i name on
 unheld_own {name} held i on k l Gone_by live file v g says = absurd (dead_no held i Authorized k l name v.0 file says g v.1 live)
-unheld_own held i on k l (Failed_by failed) live file v g says = inr (fault.Call failed, inl refl)
-unheld_own held i on k l Short_by live file v g says = inr (fault.Memory, inl refl)
+unheld_own held i on k l (Failed_by failed) live file v g says = inr (Fault.Call failed, inl refl)
+unheld_own held i on k l Short_by live file v g says = inr (Fault.Memory, inl refl)
 
-put_own : {name : List ℕ} {number : ℕ} {t : Told Wrote} {es : List Entry} {how : Settled} (i file : ℕ) (on : Bool) (shut : Closing) (k x l : Kernel) → Written name number write.Remove t es how → LiveAs l i name → IsHeldAs k file i Remove → Value k i on → Called (Put file write.Remove) t k x → Called (Close file) shut x l → Ends l how i name on
+put_own : {name : List ℕ} {number : ℕ} {t : Told Wrote} {es : List Entry} {how : Settled} (i file : ℕ) (on : Bool) (shut : Closing) (k x l : Kernel) → Written name number Write.Remove t es how → LiveAs l i name → IsHeldAs k file i Remove → Value k i on → Called (Put file Write.Remove) t k x → Called (Close file) shut x l → Ends l how i name on
 put_own i file on shut k x l (Done failed) live of v c d = inl (refl, quiet_value x l i on (called_quiet (Close file) shut x l tt d) (removal_value file i on failed k x of c v))
 put_own {name} i file on shut k x l (Went failed) live of v c d =
-    let g = called_grows (Put file write.Remove) (told_at wrote.Gone failed) k x c in
+    let g = called_grows (Put file Write.Remove) (told_at Wrote.Gone failed) k x c in
     let e = g.devices i v.0 v.1 in
     absurd (dead_no file i Remove x l name e.0 (g.held file (record { device = i; control = Remove }) of) c.says (called_grows (Close file) shut x l d) e.1 live)
-put_own i file on shut k x l (Broke failed) live of v c d = inr (fault.Call failed, inl refl)
+put_own i file on shut k x l (Broke failed) live of v c d = inr (Fault.Call failed, inl refl)
 
 -- the `remove` file is the device's
 hold_own : (name : List ℕ) (held i : ℕ) (on : Bool) (r : RemoveHold) (ms : List Made) (k m l : Kernel) → Way (holding_remove name held) ms r → IsKernel k → LiveAs l i name → IsFileOf k held i → Value k i on → Along calls k ms m → Grows m l → IsFileOf m held i × (Value m i on × RemoveSays held i m r)
@@ -248,9 +239,9 @@ removal_own {name} {known} i on k l (Not_held ms r es how way u) sound live file
     let x = hold_own name known.held.0 i on r ms k l l way sound live file v a (grows_refl l) in
     unheld_own known.held.0 i on l l u live x.0 x.1.0 (grows_refl l) x.1.1
 removal_own {name} {known} i on k l (Put_on ms file t shut es how way w) sound live own v a =
-    let cut = along_split calls ms (answered (Put file.0 write.Remove) t ∷ answered (Close file.0) shut ∷ []) k l a in
+    let cut = along_split calls ms (answered (Put file.0 Write.Remove) t ∷ answered (Close file.0) shut ∷ []) k l a in
     let m = cut.0 in
-    let x = hold_own name known.held.0 i on (hold.Ready file) ms k m l way sound live own v cut.1 (along_grows (answered (Put file.0 write.Remove) t ∷ answered (Close file.0) shut ∷ []) m l cut.2) in
+    let x = hold_own name known.held.0 i on (RemoveHold.Ready file) ms k m l way sound live own v cut.1 (along_grows (answered (Put file.0 Write.Remove) t ∷ answered (Close file.0) shut ∷ []) m l cut.2) in
     put_own i file.0 on shut m cut.2.0 l w live x.1.1 x.1.0 cut.2.1 (subst (λ y. Called (Close file.0) shut cut.2.0 y) (sym cut.2.2.2) cut.2.2.1)
 
 -- a device that is live at the end was so before
@@ -287,11 +278,11 @@ brought_own {name} {known} {on} i k l (Let_go ms es shut c) sound live file at a
 -- a name
 
 -- the probe of a known name's held file speaks of its live device
-probed_own : (name : List ℕ) (held i : ℕ) (on : Bool) (failed : FailedCall) (k m : Kernel) → IsKernel k → IsOpen k name held → LiveAs k i name → Called (Ask_alive held) (told_at (probe.Alive on) failed) k m → IsFileOf m held i × Value m i on
+probed_own : (name : List ℕ) (held i : ℕ) (on : Bool) (failed : FailedCall) (k m : Kernel) → IsKernel k → IsOpen k name held → LiveAs k i name → Called (Ask_alive held) (told_at (Probe.Alive on) failed) k m → IsFileOf m held i × Value m i on
 probed_own name held i on failed k m sound o first c =
     let x = alive_open k name held on o c.says in
     let is = live_same k x.0 i name sound x.2 first in
-    let q = called_quiet (Ask_alive held) (told_at (probe.Alive on) failed) k m tt c in
+    let q = called_quiet (Ask_alive held) (told_at (Probe.Alive on) failed) k m tt c in
     (file_later k m held i (quiet_grows k m q) (subst (λ j. IsFileOf k held j) is x.1), quiet_value k m i on q (subst (λ j. Value k j on) is x.3))
 
 -- it stands so, or the name is told; or no binding was tried, and no standing of the name is left
@@ -299,17 +290,17 @@ abbrev pub Ended : Bool → Kernel → List Standing → List Entry → ℕ → 
 Ended binds l rs rest i name = (StandsSo l rs i ⊎ IsNamed rest name) ⊎ ((binds ≡ false) × (Has (names_of rs) name → ⊥))
 
 unbound_own : {name : List ℕ} {r : Binding} {es : List Entry} {how : Settled} (k m : Kernel) (i : ℕ) → Unbound_end name r es how → BindSays name k m r → LiveAs k i name → LiveAs m i name → IsNamed es name
-unbound_own k m i (Failed_so failed) says first mid = (fault.Call failed, inl refl)
-unbound_own k m i Short_so says first mid = (fault.Memory, inl refl)
+unbound_own k m i (Failed_so failed) says first mid = (Fault.Call failed, inl refl)
+unbound_own k m i Short_so says first mid = (Fault.Memory, inl refl)
 unbound_own {name} k m i x says first mid = absurd
     (says i first.d (lived k m i name first mid) first.named)
 
 -- behind the entries of an opening
 named_later : (es fs : List Entry) (name : List ℕ) → IsNamed fs name → IsNamed (es ++ fs) name
-named_later es fs name n = (n.0, has_right es fs (entry.Unsettled name n.0) n.1)
+named_later es fs name n = (n.0, has_right es fs (Entry.Unsettled name n.0) n.1)
 
 flat_own : {binds : Bool} {given : List Standing → Bound → Standing → Type 0} {name : List ℕ} {ss : List Standing} {ok : Bool} {ms : List Made} {rest : List Entry} {how : Settled} {rs : List Standing} {o : Option (List Standing × Bound)} (i : ℕ) (k l : Kernel) → IsKernel k → Files k ss → LiveAs k i name → LiveAs l i name → Flat binds given name ss ok ms rest how rs o → Along calls k ms l → Ended binds l rs rest i name
-flat_own i k l sound f first live (Unprobed known failed at) a = inl (inr (fault.Call failed, inl refl))
+flat_own i k l sound f first live (Unprobed known failed at) a = inl (inr (Fault.Call failed, inl refl))
 flat_own {name = name} {ss = ss} i k l sound f first live (Tried known on failed ms es how at b) a =
     let s = found name ss known at in
     let x = probed_own name known.held.0 i on failed k a.0 sound (open_found name ss known k at f) first a.1 in
@@ -324,11 +315,11 @@ flat_own {name = name} i k l sound f first live (Unbound ms ns es fs rs r how t 
     let mid = lives_between k cut.0 l i name (along_grows ms k cut.0 cut.1) (along_grows ns cut.0 l cut.2) first live in
     let start = lives_between k h.1.0 l i name (along_grows ms k h.1.0 h.1.1) (quiet_grows h.1.0 l h.1.2.0) first live in
     inl (inr (named_later es fs name (unbound_own h.1.0 l i end h.1.2.1 start live)))
-flat_own {name = name} i k l sound f first live (No_place ms ns es rs b shut t opening way) a = inl (inr (named_later es (entry.Unsettled name fault.Memory ∷ []) name (fault.Memory, inl refl)))
+flat_own {name = name} i k l sound f first live (No_place ms ns es rs b shut t opening way) a = inl (inr (named_later es (Entry.Unsettled name Fault.Memory ∷ []) name (Fault.Memory, inl refl)))
 flat_own {name = name} i k l sound f first live (Judged_so ms ns os es fs rs b x how t opening way given new brought) a =
     let cut = along_split calls (ms ++ ns) os k l (subst (λ v. Along calls k v l) (sym (append_assoc ms ns os)) a) in
     let m = cut.0 in
-    let h = opening_bind k m ns (bound.Bound b) opening way sound f cut.1 in
+    let h = opening_bind k m ns (Binding.Bound b) opening way sound f cut.1 in
     let n = h.1.0 in
     let says = h.1.2.1 in
     let g = along_grows os m l cut.2 in
@@ -338,7 +329,7 @@ flat_own {name = name} i k l sound f first live (Judged_so ms ns os es fs rs b x
     let file : IsFileOf m x.held.0 i = subst (λ (v : Held). IsFileOf m v.0 i) (sym new.held) (subst (λ j. IsFileOf m b.held.0 j) is says.file) in
     inl (elim (brought_own i m l brought h.0.sound live file (subst (λ j. Value m j b.on) is (says.d, says.device, says.value)) cut.2) [
       | inl y ↦ let u = tried_new (with_standing x rs) name how x y.0 new.named (has_new rs (place_for x.name rs) x) in inl (as_judged l (tried_standings (with_standing x rs) name how) i x.held x.verdict u.0 u.1 u.2 u.3 (file_later m l x.held.0 i g file) y.1 u.4)
-      | inr y ↦ let z = named_later fs (unsettled_by name how) name y in inr (named_later es (entry.Judged x.number name x.held x.verdict x.cause ∷ (fs ++ unsettled_by name how)) name (z.0, inr z.1))
+      | inr y ↦ let z = named_later fs (unsettled_by name how) name y in inr (named_later es (Entry.Judged x.number name x.held x.verdict x.cause ∷ (fs ++ unsettled_by name how)) name (z.0, inr z.1))
     ])
 
 -- the device of that name is as judged, or the name is told; or it has no standing where nothing is bound
@@ -391,7 +382,7 @@ piece_well {name = name} {l = l} {v = v} i sound f first live p a =
 -- each standing was there before
 
 flat_was : {binds : Bool} {given : List Standing → Bound → Standing → Type 0} {name : List ℕ} {ss : List Standing} {ok : Bool} {ms : List Made} {rest : List Entry} {how : Settled} {rs : List Standing} {o : Option (List Standing × Bound)} → binds ≡ false → Flat binds given name ss ok ms rest how rs o → (s : Standing) → Has rs s → Was ss s
-flat_was {name = name} {ss = ss} f (Unprobed known failed at) s a = tried_was ss name (settled.Fault failed) s a
+flat_was {name = name} {ss = ss} f (Unprobed known failed at) s a = tried_was ss name (Settled.Fault failed) s a
 flat_was {name = name} {ss = ss} f (Tried known on failed ms es how at b) s a = tried_was ss name how s a
 flat_was f (Stopped ms es rs g opening) s a = (s, opening_less opening s a, refl, refl)
 flat_was f (Unbound ms ns es fs rs r how t opening way end) s a = let none : ⊥ = cc in absurd none
@@ -402,7 +393,7 @@ flat_was f (Judged_so ms ns os es fs rs b x how t opening way given new brought)
 
 good_apart : (other name : List ℕ) (i : ℕ) (es : List Entry) (k : Kernel) (ss : List Standing) (fs : List Entry) (l : Kernel) (rs : List Standing) (gs : List Entry) → (other ≡ name → ⊥) → Files k ss → LiveAs k i name → Grows k l → Apart other k ss fs l rs gs → Good es k ss fs i name → Good es l rs gs i name
 good_apart other name i es k ss fs l rs gs ne f live g apart (inr h) =
-    inr (h.0 ++ apart.entries.0, apart.entries.1 ∙ ap (λ v. v ++ apart.entries.0) h.1 ∙ append_assoc es h.0 apart.entries.0, (h.2.0, has_left h.0 apart.entries.0 (entry.Unsettled name h.2.0) h.2.1))
+    inr (h.0 ++ apart.entries.0, apart.entries.1 ∙ ap (λ v. v ++ apart.entries.0) h.1 ∙ append_assoc es h.0 apart.entries.0, (h.2.0, has_left h.0 apart.entries.0 (Entry.Unsettled name h.2.0) h.2.1))
 good_apart other name i es k ss fs l rs gs ne f live g apart (inl e) =
     let s = e.standing.s in
     let named = open_named k s.name name s.held.0 i (f s e.standing.has) e.standing.file live in
@@ -452,7 +443,7 @@ chain_well {answer = answer} {later = later} {binds = binds} {present = present}
 -- what is said of a device at the end of a sweep
 abbrev EndsSo : Kernel → List Standing → List Entry → ℕ → List ℕ → Type 0
 EndsSo l ss rest i name = StandsSo l ss i ⊎
-    (IsNamed rest name ⊎ (((why : Fault) × Has rest (entry.UnsettledAll why)) ×
+    (IsNamed rest name ⊎ (((why : Fault) × Has rest (Entry.UnsettledAll why)) ×
     (HasStanding l ss i → ⊥)))
 
 good_ended : (es : List Entry) (l : Kernel) (ss : List Standing) (fs rest : List Entry) (i : ℕ)
@@ -462,11 +453,11 @@ good_ended es l ss fs rest i name e (inr h) = inr (inl (subst (λ v. IsNamed v n
 
 well_ended : (binds : Bool) (es : List Entry) (why : Fault) (l : Kernel) (ss : List Standing)
     (fs rest : List Entry) (i : ℕ) (name : List ℕ) → fs ≡ es ++ rest
-    → Appends (es ++ entry.UnsettledAll why ∷ []) fs
-    → Well binds (es ++ entry.UnsettledAll why ∷ []) l ss fs i name → EndsSo l ss rest i name
-well_ended binds es why l ss fs rest i name e a (inl h) = good_ended es l ss fs rest i name e (good_before es (es ++ entry.UnsettledAll why ∷ []) fs l ss i name (entry.UnsettledAll why ∷ [], refl) h)
+    → Appends (es ++ Entry.UnsettledAll why ∷ []) fs
+    → Well binds (es ++ Entry.UnsettledAll why ∷ []) l ss fs i name → EndsSo l ss rest i name
+well_ended binds es why l ss fs rest i name e a (inl h) = good_ended es l ss fs rest i name e (good_before es (es ++ Entry.UnsettledAll why ∷ []) fs l ss i name (Entry.UnsettledAll why ∷ [], refl) h)
 well_ended binds es why l ss fs rest i name e a (inr h) =
-    let all = entry.UnsettledAll why in
+    let all = Entry.UnsettledAll why in
     let same : all ∷ a.0 ≡ rest = cancel es (all ∷ a.0) rest (sym (append_assoc es (all ∷ []) a.0) ∙ sym a.1 ∙ e) in
     inr (inr ((why, subst (λ v. Has v all) same (inl refl)), h.1))
 
@@ -487,7 +478,7 @@ goes_ended {k = k} {l = l} {w = w} {v = v} rest i name f e first live
     let cut = along_split calls shut made m l b.2 in
     let u = cut.0 in
     let q = closings_quiet (unlisted_files names w.standings) shut m u b.1.sound closings cut.1 in
-    let h = called_grows Names (told_at (listing.Names found) failed) k m b.1 in
+    let h = called_grows Names (told_at (Listing.Names found) failed) k m b.1 in
     let j = quiet_grows m u q.1 in
     let late = lives_between k u l i name (grows_trans k m u h j) (along_grows made u l cut.2) first
     live in
@@ -506,7 +497,7 @@ goes_ended {k = k} {l = l} {w = w} {v = v} rest i name f e first live
     let h = called_grows Names (told_at list failed) k m b.1 in
     let files = files_later k m w.standings h f in
     let mid = lives_between k m l i name h (along_grows made m l b.2) first live in
-    let es = w.entries ++ entry.UnsettledAll why ∷ [] in
+    let es = w.entries ++ Entry.UnsettledAll why ∷ [] in
     let at = chain_well name i es b.1.sound files mid live (appends_refl es)
     (begins name i es m w.standings (standing_of name w.standings) refl files mid) chain b.2 in
     well_ended false w.entries why l v.standings v.entries rest i name e at.0 at.1

@@ -1,11 +1,8 @@
 -- Marks and the order of standings.
 use Rattle.std.proofs.Common.{◌≡◌, ℕ, Bool, true, false, not, cond, List, [], ◌∷◌, ◌++◌, map, Option, inl, inr, refl, sym, ◌∙◌, ap, subst, Some, append_assoc, ◌⊎◌, append-nil, ◌+◌, add-one, true≢false, ◌<◌, ◌≤◌, None, length, min, take, get_or, arith}
 use Rattle.ug_table.proofs.Common.{Has, AllDistinct, Bound, Binding, Entry, State, Answers, Laters, same_name, without, marked, place_for, with_standing, known_of, standing_of, lists, farewells, IsNamed, IsMarked, IsUnlisted, IsListed, swept_before, AreInOrder, Tries, IsMarkedIn, AreMarkedIn, numbers_of, Standing, Known, Settled, Made, Along, Fault, EndsUnsettled, sweep_cmp, in_place, in_sweep_order, sweep_total, sweep_exact, Kernel, Runs, calls}
-use Rattle.ug_audit.specs.declared.entry.Entry.TheVariants as entry
-use Rattle.ug_audit.specs.declared.entry.Fault.TheVariants as fault
 use Rattle.ug_table.specs.Settle.{unsettled_by, kept_standings, tried_standings, dropped}
 use Rattle.ug_table.specs.Sweep.{names_of, parted, sweeping}
-use Rattle.ug_table.specs.declared.standing.Settled.TheVariants as settled
 use Rattle.ug_types.proofs.Elements.{has_left, has_right, has_cases, filter_has, map_has, has_map, cancel, last_is, distinct_filter, distinct_insert}
 use Rattle.ug_table.proofs.Shapes.{Piece, Unbound_end, Absent_so, Flat, Unprobed, Tried, Stopped, Unbound, No_place, Judged_so, opening_absent, opening_less, new_known}
 use Rattle.ug_table.proofs.Standings.{kept_tried, each_with, farewells_by, is_same, missing, missing_without, found, marked_other, tried_own, lists_has, either_listed, same_is, fields_stay}
@@ -32,27 +29,27 @@ unnamed es name e a = subst (λ (v : List Fault). Has v a.0) e (told_in name a.0
 -- an entry that tells it unsettled is the last, and names it
 pub ends_only : (name : List ℕ) (es : List Entry) → EndsUnsettled name es → Each (NamesOnly name) es
 ends_only name [] h = tt
-ends_only name (entry.Unsettled n why ∷ es) h = (h.0.0, ends_only name es h.1)
-ends_only name (entry.UnsettledAll why ∷ es) h = absurd h.0
+ends_only name (Entry.Unsettled n why ∷ es) h = (h.0.0, ends_only name es h.1)
+ends_only name (Entry.UnsettledAll why ∷ es) h = absurd h.0
 ends_only name (e ∷ es) h = (tt, ends_only name es h.1)
 
 why_named : (name : List ℕ) (es : List Entry) (why : Fault) → EndsUnsettled name es → whys es ≡ why ∷ [] → IsNamed es name
 why_named name [] why h e = let none : ⊥ = cc in absurd none
-why_named name (entry.Unsettled n x ∷ es) why h e = (x, inl (ap (λ (v : List ℕ). entry.Unsettled v x) h.0.0))
-why_named name (entry.UnsettledAll x ∷ es) why h e = absurd h.0
+why_named name (Entry.Unsettled n x ∷ es) why h e = (x, inl (ap (λ (v : List ℕ). Entry.Unsettled v x) h.0.0))
+why_named name (Entry.UnsettledAll x ∷ es) why h e = absurd h.0
 why_named name (x ∷ es) why h e = let k = why_named name es why h.1 e in (k.0, inr k.1)
 
 -- what the entries say of a name, by how it was settled
 abbrev Tells : Settled → List ℕ → List Entry → Type 0
-Tells settled.Stands name rest = IsNamed rest name → ⊥
-Tells settled.Nobody name rest = Unit {0}
+Tells Settled.Stands name rest = IsNamed rest name → ⊥
+Tells Settled.Nobody name rest = Unit {0}
 Tells how name rest = IsNamed rest name
 
 tells_how : (how : Settled) (name : List ℕ) (es : List Entry) → EndsUnsettled name es → whys es ≡ why_of how → Tells how name es
-tells_how settled.Stands name es h e = unnamed es name e
-tells_how settled.Nobody name es h e = tt
-tells_how (settled.Fault failed) name es h e = why_named name es (fault.Call failed) h e
-tells_how settled.Memory name es h e = why_named name es fault.Memory h e
+tells_how Settled.Stands name es h e = unnamed es name e
+tells_how Settled.Nobody name es h e = tt
+tells_how (Settled.Fault failed) name es h e = why_named name es (Fault.Call failed) h e
+tells_how Settled.Memory name es h e = why_named name es Fault.Memory h e
 
 -- the standings
 
@@ -65,12 +62,12 @@ pub record Part (name : List ℕ) (ss : List Standing) (es : List Entry) (rs : L
   pub mark : (s : Standing) → Has rs s → s.name ≡ name → IsMarked rest s
 
 pub marked_left : (es fs : List Entry) (s : Standing) → (IsNamed es s.name → ⊥) → IsMarked fs s → IsMarked (es ++ fs) s
-marked_left es fs s none (inl h) = inl (h.0, λ a. elim (has_cases es fs (entry.Unsettled s.name a.0) a.1) [ inl b ↦ none (a.0, b) | inr b ↦ h.1 (a.0, b) ])
-marked_left es fs s none (inr h) = inr (h.0, (h.1.0, has_right es fs (entry.Unsettled s.name h.1.0) h.1.1))
+marked_left es fs s none (inl h) = inl (h.0, λ a. elim (has_cases es fs (Entry.Unsettled s.name a.0) a.1) [ inl b ↦ none (a.0, b) | inr b ↦ h.1 (a.0, b) ])
+marked_left es fs s none (inr h) = inr (h.0, (h.1.0, has_right es fs (Entry.Unsettled s.name h.1.0) h.1.1))
 
 pub marked_right : (es fs : List Entry) (s : Standing) → (IsNamed fs s.name → ⊥) → IsMarked es s → IsMarked (es ++ fs) s
-marked_right es fs s none (inl h) = inl (h.0, λ a. elim (has_cases es fs (entry.Unsettled s.name a.0) a.1) [ inl b ↦ h.1 (a.0, b) | inr b ↦ none (a.0, b) ])
-marked_right es fs s none (inr h) = inr (h.0, (h.1.0, has_left es fs (entry.Unsettled s.name h.1.0) h.1.1))
+marked_right es fs s none (inl h) = inl (h.0, λ a. elim (has_cases es fs (Entry.Unsettled s.name a.0) a.1) [ inl b ↦ h.1 (a.0, b) | inr b ↦ none (a.0, b) ])
+marked_right es fs s none (inr h) = inr (h.0, (h.1.0, has_left es fs (Entry.Unsettled s.name h.1.0) h.1.1))
 
 -- a new standing
 
@@ -86,8 +83,8 @@ marked_others ss name b s a ne =
     subst (λ (v : Standing). Has ss v) same m.1
 
 tried_others : (ss : List Standing) (name : List ℕ) (how : Settled) (s : Standing) → Has (tried_standings ss name how) s → (s.name ≡ name → ⊥) → Has ss s
-tried_others ss name settled.Nobody s a ne = (filter_has (λ (v : Standing). not (same_name v.name name)) ss s a).0
-tried_others ss name settled.Stands s a ne = marked_others ss name true s a ne
+tried_others ss name Settled.Nobody s a ne = (filter_has (λ (v : Standing). not (same_name v.name name)) ss s a).0
+tried_others ss name Settled.Stands s a ne = marked_others ss name true s a ne
 tried_others ss name how s a ne = marked_others ss name false s a ne
 
 marked_mark : (ss : List Standing) (name : List ℕ) (b : Bool) (s : Standing) → Has (map (marked name b) ss) s → s.name ≡ name → s.settled ≡ b
@@ -97,8 +94,8 @@ marked_mark ss name b s a e =
     sym (ap (λ (v : Standing). v.settled) m.2) ∙ ap (λ (t : Bool). cond t b m.0.settled) test
 
 tried_mark : (ss : List Standing) (name : List ℕ) (how : Settled) (rest : List Entry) (s : Standing) → Tells how name rest → Has (tried_standings ss name how) s → s.name ≡ name → IsMarked rest s
-tried_mark ss name settled.Nobody rest s t a e = absurd (missing_without name ss (subst (λ (v : List ℕ). Has (names_of (without name ss)) v) e (has_map (λ (v : Standing). v.name) (without name ss) s a)))
-tried_mark ss name settled.Stands rest s t a e = inl (marked_mark ss name true s a e, subst (λ (v : List ℕ). IsNamed rest v → ⊥) (sym e) t)
+tried_mark ss name Settled.Nobody rest s t a e = absurd (missing_without name ss (subst (λ (v : List ℕ). Has (names_of (without name ss)) v) e (has_map (λ (v : Standing). v.name) (without name ss) s a)))
+tried_mark ss name Settled.Stands rest s t a e = inl (marked_mark ss name true s a e, subst (λ (v : List ℕ). IsNamed rest v → ⊥) (sym e) t)
 tried_mark ss name how rest s t a e = inr (marked_mark ss name false s a e, subst (λ (v : List ℕ). IsNamed rest v) (sym e) t)
 
 -- a standing of the name
@@ -106,7 +103,7 @@ own_name : (ss : List Standing) (name : List ℕ) (s : Standing) → Has ss s �
 own_name ss name s a e = subst (λ (v : List ℕ). Has (names_of ss) v) e (has_map (λ (v : Standing). v.name) ss s a)
 
 flat_others : {binds : Bool} {given : List Standing → Bound → Standing → Type 0} {name : List ℕ} {ss : List Standing} {ok : Bool} {ms : List Made} {rest : List Entry} {how : Settled} {rs : List Standing} {o : Option (List Standing × Bound)} → Flat binds given name ss ok ms rest how rs o → (s : Standing) → Has rs s → (s.name ≡ name → ⊥) → Has ss s
-flat_others {name = name} {ss = ss} (Unprobed known failed at) s a ne = tried_others ss name (settled.Fault failed) s a ne
+flat_others {name = name} {ss = ss} (Unprobed known failed at) s a ne = tried_others ss name (Settled.Fault failed) s a ne
 flat_others {name = name} {ss = ss} (Tried known on failed ms es how at b) s a ne = tried_others ss name how s a ne
 flat_others (Stopped ms es rs f opening) s a ne = opening_less opening s a
 flat_others (Unbound ms ns es fs rs r how t opening way end) s a ne = opening_less opening s a
@@ -115,7 +112,7 @@ flat_others {name = name} (Judged_so ms ns os es fs rs b x how t opening way giv
     opening_less opening s (new_others rs x s (tried_others (with_standing x rs) name how s a ne) (λ f. ne (f ∙ new.named)))
 
 flat_mark : {binds : Bool} {given : List Standing → Bound → Standing → Type 0} {name : List ℕ} {ss : List Standing} {ok : Bool} {ms : List Made} {rest : List Entry} {how : Settled} {rs : List Standing} {o : Option (List Standing × Bound)} → Tells how name rest → Flat binds given name ss ok ms rest how rs o → (s : Standing) → Has rs s → s.name ≡ name → IsMarked rest s
-flat_mark {name = name} {ss = ss} t (Unprobed known failed at) s a is = tried_mark ss name (settled.Fault failed) (entry.Unsettled name (fault.Call failed) ∷ []) s t a is
+flat_mark {name = name} {ss = ss} t (Unprobed known failed at) s a is = tried_mark ss name (Settled.Fault failed) (Entry.Unsettled name (Fault.Call failed) ∷ []) s t a is
 flat_mark {name = name} {ss = ss} t (Tried known on failed ms es how at b) s a is = tried_mark ss name how (es ++ unsettled_by name how) s t a is
 flat_mark {name = name} t (Stopped ms es rs f opening) s a is = absurd (opening_absent opening (own_name rs name s a is))
 flat_mark {name = name} t (Unbound ms ns es fs rs r how f opening way end) s a is = absurd (opening_absent opening (own_name rs name s a is))
@@ -143,27 +140,27 @@ pub known_has : (name : List ℕ) (ss : List Standing) (known : Known)
 known_has name ss known e =
     let s = found name ss known e in own_name ss name s.s s.has s.named
 
-tried_stands : (name : List ℕ) (ss : List Standing) (known : Known) (how : Settled) → standing_of name ss ≡ Some known → how ≡ settled.Stands → Has (names_of (tried_standings ss name how)) name
+tried_stands : (name : List ℕ) (ss : List Standing) (known : Known) (how : Settled) → standing_of name ss ≡ Some known → how ≡ Settled.Stands → Has (names_of (tried_standings ss name how)) name
 tried_stands name ss known how at e =
     let k = tried_own name ss how known at (λ n. let none : ⊥ = cc in none) in
     known_has name (tried_standings ss name how) k.0 k.1
 
-pub tried_nobody : (ss : List Standing) (name : List ℕ) (how : Settled) → how ≡ settled.Nobody → Has (names_of (tried_standings ss name how)) name → ⊥
-tried_nobody ss name settled.Nobody e = missing_without name ss
+pub tried_nobody : (ss : List Standing) (name : List ℕ) (how : Settled) → how ≡ Settled.Nobody → Has (names_of (tried_standings ss name how)) name → ⊥
+tried_nobody ss name Settled.Nobody e = missing_without name ss
 tried_nobody ss name how e = let none : ⊥ = cc in absurd none
 
 unbound_stands : {name : List ℕ} {r : Binding} {es : List Entry} {how : Settled}
-    → Unbound_end name r es how → how ≡ settled.Stands → ⊥
+    → Unbound_end name r es how → how ≡ Settled.Stands → ⊥
 unbound_stands Absent_so e = let none : ⊥ = cc in none
 unbound_stands x e = let none : ⊥ = cc in none
 
-pub flat_stands : {binds : Bool} {given : List Standing → Bound → Standing → Type 0} {name : List ℕ} {ss : List Standing} {ok : Bool} {ms : List Made} {rest : List Entry} {how : Settled} {rs : List Standing} {o : Option (List Standing × Bound)} → Flat binds given name ss ok ms rest how rs o → how ≡ settled.Stands → Has (names_of rs) name
+pub flat_stands : {binds : Bool} {given : List Standing → Bound → Standing → Type 0} {name : List ℕ} {ss : List Standing} {ok : Bool} {ms : List Made} {rest : List Entry} {how : Settled} {rs : List Standing} {o : Option (List Standing × Bound)} → Flat binds given name ss ok ms rest how rs o → how ≡ Settled.Stands → Has (names_of rs) name
 flat_stands {name = name} {ss = ss} (Tried known on failed ms es how at b) e = tried_stands name ss known how at e
 flat_stands (Unbound ms ns es fs rs r how t opening way end) e = absurd (unbound_stands end e)
 flat_stands {name = name} (Judged_so ms ns os es fs rs b x how t opening way given new brought) e = tried_stands name (with_standing x rs) (known_of x) how (new_known opening new) e
 flat_stands x e = let none : ⊥ = cc in absurd none
 
-pub flat_nobody : {binds : Bool} {given : List Standing → Bound → Standing → Type 0} {name : List ℕ} {ss : List Standing} {ok : Bool} {ms : List Made} {rest : List Entry} {how : Settled} {rs : List Standing} {o : Option (List Standing × Bound)} → Flat binds given name ss ok ms rest how rs o → how ≡ settled.Nobody → Has (names_of rs) name → ⊥
+pub flat_nobody : {binds : Bool} {given : List Standing → Bound → Standing → Type 0} {name : List ℕ} {ss : List Standing} {ok : Bool} {ms : List Made} {rest : List Entry} {how : Settled} {rs : List Standing} {o : Option (List Standing × Bound)} → Flat binds given name ss ok ms rest how rs o → how ≡ Settled.Nobody → Has (names_of rs) name → ⊥
 flat_nobody (Unprobed known failed at) e = let none : ⊥ = cc in absurd none
 flat_nobody {name = name} {ss = ss} (Tried known on failed ms es how at b) e = tried_nobody ss name how e
 flat_nobody (Stopped ms es rs f opening) e = opening_absent opening
@@ -175,8 +172,8 @@ flat_nobody {name = name} (Judged_so ms ns os es fs rs b x how t opening way giv
 
 -- it names none but these as unsettled, and no listing
 abbrev NamesIn : List (List ℕ) → Entry → Type 0
-NamesIn names (entry.Unsettled n why) = Has names n
-NamesIn names (entry.UnsettledAll why) = ⊥
+NamesIn names (Entry.Unsettled n why) = Has names n
+NamesIn names (Entry.UnsettledAll why) = ⊥
 NamesIn names e = Unit {0}
 
 -- what settling these names tells, and how it leaves the marks
@@ -188,14 +185,14 @@ pub record Parts (names : List (List ℕ)) (ss : List Standing) (es : List Entry
   pub mark : (s : Standing) → Has rs s → Has names s.name → IsMarked rest s
 
 pub named_only : (n name : List ℕ) (es : List Entry) → Each (NamesOnly n) es → IsNamed es name → name ≡ n
-named_only n name es h a = each_has (NamesOnly n) es (entry.Unsettled name a.0) h a.1
+named_only n name es h a = each_has (NamesOnly n) es (Entry.Unsettled name a.0) h a.1
 
 only_first : (n : List ℕ) (names : List (List ℕ)) (e : Entry) → NamesOnly n e → NamesIn (n ∷ names) e
-only_first n names (entry.Unsettled m why) h = inl (sym h)
+only_first n names (Entry.Unsettled m why) h = inl (sym h)
 only_first n names x h = h
 
 only_later : (n : List ℕ) (names : List (List ℕ)) (e : Entry) → NamesIn names e → NamesIn (n ∷ names) e
-only_later n names (entry.Unsettled m why) h = inr h
+only_later n names (Entry.Unsettled m why) h = inr h
 only_later n names e h = h
 
 none_parts : (ss : List Standing) (es : List Entry) → Parts [] ss es ss es
@@ -207,7 +204,7 @@ parts_more n names ss ms rs es gs fs distinct a b =
     let mark : (s : Standing) → Has rs s → (n ≡ s.name) ⊎ Has names s.name → IsMarked (a.rest ++ b.rest) s = λ s h c. elim c [
       | inl e ↦
           let apart : Has names s.name → ⊥ = λ x. distinct.0 (subst (λ (v : List ℕ). Has names v) (sym e) x) in
-          marked_right a.rest b.rest s (λ x. apart (each_has (NamesIn names) b.rest (entry.Unsettled s.name x.0) b.only x.1)) (a.mark s (b.others s h apart) (sym e))
+          marked_right a.rest b.rest s (λ x. apart (each_has (NamesIn names) b.rest (Entry.Unsettled s.name x.0) b.only x.1)) (a.mark s (b.others s h apart) (sym e))
       | inr x ↦ marked_left a.rest b.rest s (λ y. distinct.0 (subst (λ (v : List ℕ). Has names v) (named_only n s.name a.rest a.only y) x)) (b.mark s h x)
     ] in
     record {
@@ -274,15 +271,15 @@ goes_ends {w = w} {v = v} k l rest known e (Listed found failed ok shut made es 
     let h = chain_parts (order_distinct found a.1.says.1) chain in
     let same : bye ++ h.0.rest ≡ rest = cancel w.entries (bye ++ h.0.rest) rest (sym (append_assoc w.entries bye h.0.rest) ∙ sym h.0.entries ∙ e) in
     let none = farewell_none names w.standings in
-    let told : IsUnlisted (bye ++ h.0.rest) → ⊥ = λ n. elim (has_cases bye h.0.rest (entry.UnsettledAll n.0) n.1) [
-      | inl b ↦ each_has NamesNone bye (entry.UnsettledAll n.0) none b
-      | inr b ↦ each_has (NamesIn names) h.0.rest (entry.UnsettledAll n.0) h.0.only b
+    let told : IsUnlisted (bye ++ h.0.rest) → ⊥ = λ n. elim (has_cases bye h.0.rest (Entry.UnsettledAll n.0) n.1) [
+      | inl b ↦ each_has NamesNone bye (Entry.UnsettledAll n.0) none b
+      | inr b ↦ each_has (NamesIn names) h.0.rest (Entry.UnsettledAll n.0) h.0.only b
     ] in
     let named = stands_in names (Has (filter listed w.standings)) v.standings (λ s b. lists_has names s.name (filter_has listed w.standings s b).1) h.0.others in
     let marks : (s : Standing) → Has v.standings s → IsMarked (bye ++ h.0.rest) s = λ s b. marked_left bye h.0.rest s (none_named bye s.name none) (h.0.mark s b (named s b)) in
     subst (λ (y : List Entry). Ends w v y) same (inl (told, h.1), marks)
 goes_ends {w = w} {v = v} k l rest known e (Unlisted list failed room why ok made es _ by chain) a =
-    let all = entry.UnsettledAll why in
+    let all = Entry.UnsettledAll why in
     let names = names_of w.standings in
     let h = chain_parts known chain in
     let same : all ∷ h.0.rest ≡ rest = cancel w.entries (all ∷ h.0.rest) rest (sym (append_assoc w.entries (all ∷ []) h.0.rest) ∙ sym h.0.entries ∙ e) in
@@ -404,7 +401,7 @@ added_rest es fs gs rest more e f = cancel es (gs ++ more) rest (sym (append_ass
 -- a standing is dropped
 pub dropped_in : {J : Type 0} (tried : Tries) (w u : State J) (name : List ℕ) (number : ℕ) (gs : List Entry) → u.entries ≡ w.entries ++ gs → AreIn tried name w u → AreIn tried name w (dropped u name number)
 dropped_in tried w u name number gs e so rest f s a =
-    let e1 = entry.Gone number name ∷ [] in
+    let e1 = Entry.Gone number name ∷ [] in
     let was = so gs e s (filter_has (λ (v : Standing). not (same_name v.name name)) u.standings s a).0 in
     subst (λ (v : List Entry). IsMarkedIn tried name w.standings v s) (added_rest w.entries u.entries gs rest e1 e f) (elim was [
       | inl h ↦ inl (h.0, marked_right gs e1 s (none_named e1 s.name (tt, tt)) h.1)
@@ -445,7 +442,7 @@ part_fresh w u name names gs z e distinct fresh part rest f n a named =
     let x = part.0 in
     let same = added_rest w.entries u.entries gs rest x.rest e (sym x.entries ∙ f) in
     let told = subst (λ (v : List Entry). IsNamed v n) (sym same) named in
-    elim (has_cases gs x.rest (entry.Unsettled n told.0) told.1) [
+    elim (has_cases gs x.rest (Entry.Unsettled n told.0) told.1) [
       | inl b ↦ fresh gs e n (inr a) (told.0, b)
       | inr b ↦ distinct.0 (subst (λ (v : List ℕ). Has names v) (named_only name n x.rest x.only (told.0, b)) a)
     ]
@@ -472,8 +469,8 @@ keeps_marked name mark ss = keeps_map (marked name mark) ss (λ s. refl) (λ s. 
 
 -- one that is tried again
 pub keeps_tried : (name : List ℕ) (how : Settled) (ss : List Standing) → KeepsOrder ss (tried_standings ss name how)
-keeps_tried name settled.Nobody ss = keeps_filter (λ (s : Standing). not (same_name s.name name)) ss
-keeps_tried name settled.Stands ss = keeps_marked name true ss
+keeps_tried name Settled.Nobody ss = keeps_filter (λ (s : Standing). not (same_name s.name name)) ss
+keeps_tried name Settled.Stands ss = keeps_marked name true ss
 keeps_tried name how ss = keeps_marked name false ss
 
 -- a new one

@@ -9,7 +9,6 @@ use Rattle.ug_table.specs.Sweep.{names_of}
 use Rattle.ug_table.specs.Order.{StandInOrder}
 use Rattle.ug_table.specs.Marks.{has_name, has_number, stood_removed, LeavesMarks}
 use Rattle.ug_table.specs.One.{resettling_numbered, NeedsRoom, failed_of, whys, why_of, GoesAsPart, LivedAs, SettledOne, SettlesOne, IsOf, ResettledOne, ResettlesOne}
-use Rattle.ug_table.specs.declared.standing.Settled.TheVariants as settled
 use Rattle.ug_types.proofs.Elements.{filter_has, map_has, has_map, distinct_one, cancel}
 use Rattle.ug_table.proofs.Marks.{names_distinct, unnamed, flat_stands, flat_nobody}
 use Rattle.ug_table.proofs.Standings.{marked_other, without_with, each_with, same_is, is_same, found, missing, numbered_has, IsFileOf, file_same, file_later, LiveAs, IsOpen, or_none, open_name, open_later, open_named}
@@ -122,8 +121,8 @@ without_leaves test name before ss how named rest =
         true≢false (sym f.1 ∙ ap not (sym (named s f.0) ∙ o))
 
 pub tried_leaves : (test : Test) (name : List ℕ) (before ss : List Standing) (how : Settled) → AreNamed test name ss → rest_of test ss ≡ rest_of test before → AreStood test before ss → LeavesMarks (own test) before (tried_standings ss name how) how
-tried_leaves test name before ss settled.Nobody named rest stood = without_leaves test name before ss settled.Nobody named rest
-tried_leaves test name before ss settled.Stands named rest stood = marked_leaves test name before ss true settled.Stands refl named rest stood
+tried_leaves test name before ss Settled.Nobody named rest stood = without_leaves test name before ss Settled.Nobody named rest
+tried_leaves test name before ss Settled.Stands named rest stood = marked_leaves test name before ss true Settled.Stands refl named rest stood
 tried_leaves test name before ss how named rest stood = marked_leaves test name before ss false how refl named rest stood
 
 -- a name
@@ -149,11 +148,11 @@ next_stood next ss o = none_stood next ss (λ a.
     omega (arith, o.numbers m.0 m.1, m.2))
 
 flat_leaves : {binds : Bool} {given : List Standing → Bound → Standing → Type 0} {name : List ℕ} {ss : List Standing} {ok : Bool} {ms : List Made} {rest : List Entry} {how : Settled} {rs : List Standing} {o : Option (List Standing × Bound)} (next : ℕ) → StandInOrder next ss → ((rs : List Standing) (b : Bound) (x : Standing) → given rs b x → x.number ≡ next) → Flat binds given name ss ok ms rest how rs o → LeavesMarks (has_name name) ss rs how
-flat_leaves {name = name} {ss = ss} next order numbered (Unprobed known failed at) = tried_leaves (of_name name) name ss ss (settled.Fault failed) (λ s a. refl) refl (λ s a o. stood_at ss s order.distinct a)
+flat_leaves {name = name} {ss = ss} next order numbered (Unprobed known failed at) = tried_leaves (of_name name) name ss ss (Settled.Fault failed) (λ s a. refl) refl (λ s a o. stood_at ss s order.distinct a)
 flat_leaves {name = name} {ss = ss} next order numbered (Tried known on failed ms es how at b) = tried_leaves (of_name name) name ss ss how (λ s a. refl) refl (λ s a o. stood_at ss s order.distinct a)
-flat_leaves next order numbered (Stopped ms es rs f opening) = opening_leaves settled.Nobody opening
+flat_leaves next order numbered (Stopped ms es rs f opening) = opening_leaves Settled.Nobody opening
 flat_leaves next order numbered (Unbound ms ns es fs rs r how t opening way end) = opening_leaves how opening
-flat_leaves next order numbered (No_place ms ns es rs b shut t opening way) = opening_leaves settled.Memory opening
+flat_leaves next order numbered (No_place ms ns es rs b shut t opening way) = opening_leaves Settled.Memory opening
 flat_leaves {name = name} {ss = ss} next order numbered (Judged_so ms ns os es fs rs b x how t opening way given new brought) =
     let none = ap (λ (v : ℕ). stood_removed v ss) (numbered rs b x given) ∙ next_stood next ss order ∙ sym new.stays in
     tried_leaves (of_name name) name ss (with_standing x rs) how (λ s a. refl) (without_with name x rs new.named ∙ opening_rest opening) (each_with (λ (v : Standing). same_name v.name name ≡ true → stood_removed v.number ss ≡ v.removed) x rs (λ o. none) (λ s a o. absurd (own_missing name rs s (opening_absent opening) a o)))
@@ -205,7 +204,7 @@ numbered_leaves gives next number k x s p t order at r =
     subst (λ (v : List Standing). LeavesMarks (has_number number) k.standings v p.0) (sym tried) (tried_leaves (of_number number) x.name k.standings k.standings p.0 (numbered_named next number k.standings x order at) refl (λ s a o. stood_at k.standings s order.distinct a))
 
 -- want of memory
-pub needs_room : {S : Type 0} (gives : S → (call : Call) → Answer call → S → Type 0) (next number : ℕ) (k : Kept) (x : Standing) (s : S) (p : Settled × Kept) (t : S) → StandInOrder next k.standings → numbered number k.standings ≡ Some x → Runs gives s (resettling_numbered number k) p t → p.0 ≡ settled.Memory → NeedsRoom number k.standings
+pub needs_room : {S : Type 0} (gives : S → (call : Call) → Answer call → S → Type 0) (next number : ℕ) (k : Kept) (x : Standing) (s : S) (p : Settled × Kept) (t : S) → StandInOrder next k.standings → numbered number k.standings ≡ Some x → Runs gives s (resettling_numbered number k) p t → p.0 ≡ Settled.Memory → NeedsRoom number k.standings
 needs_room gives next number k x s p t order at r e =
     let room = flat_room (numbered_run gives number k x s p t at r).so.flat refl e in
     let f = found x.name k.standings room.0 room.1 in
@@ -217,7 +216,7 @@ added : (es fs xs ys : List Entry) → fs ≡ es ++ xs → fs ≡ es ++ ys → y
 added es fs xs ys e f = cancel es ys xs (sym f ∙ e)
 
 pub told_of : (how : Settled) → failed_by (why_of how) ≡ failed_of how
-told_of settled.Stands = refl
+told_of Settled.Stands = refl
 told_of how = refl
 
 as_part : {S J : Type 0} (gives : S → (call : Call) → Answer call → S → Type 0)

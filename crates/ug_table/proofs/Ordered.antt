@@ -1,11 +1,8 @@
 -- What an order does, over the states of a run.
 use Rattle.std.proofs.Common.{◌≡◌, ℕ, Bool, true, false, not, cond, nat_eq, List, [], ◌∷◌, ◌++◌, Option, Some, None, map, ◌⊎◌, inl, inr, refl, sym, ◌∙◌, ap, subst, append_assoc, arith}
 use Rattle.ug_types.specs.Principals.{Named}
-use Rattle.ug_types.specs.declared.verdict.Cause.TheVariants as cause
-use Rattle.ug_kernel.specs.declared.calls.Probe.TheVariants as probe
 use Rattle.ug_kernel.specs.declared.device.Effect.{Effect}
-use Rattle.ug_audit.specs.declared.entry.Entry.TheVariants as entry
-use Rattle.ug_table.proofs.Common.{Has, Authorized, open_file, Quiet, says_probe, none_before, Held, Target, Call, Answer, Ask_alive, Told, Follows, Runs, calls, Made, Entry, State, Kept, Answers, Laters, kept_of, with_kept, known_of, known_files, standing_of, numbered, number_of, AreOfNumber, numbers_given, AtMostOneEach, TellsWrites, writes_in, HasRemoval, wrote_entries, Account, Start, Note, Judge, Had, Had_not, Went, Tries, IsNamed, Stand, IsDevice, Standing, Settled, Probe, Kernel, IsKernel}
+use Rattle.ug_table.proofs.Common.{Has, Authorized, open_file, Quiet, says_probe, none_before, Held, Target, Call, Answer, Ask_alive, Told, Follows, Runs, calls, Made, Entry, State, Kept, Answers, Laters, kept_of, with_kept, known_of, known_files, standing_of, numbered, number_of, AreOfNumber, numbers_given, AtMostOneEach, TellsWrites, writes_in, HasRemoval, wrote_entries, Account, Start, Note, Judge, Had, Had_not, Went, Tries, IsNamed, Stand, IsDevice, Standing, Settled, Probe, Kernel, IsKernel, Cause}
 use Rattle.ug_table.specs.Bring.{bringing}
 use Rattle.ug_table.specs.Marks.{has_number, stood_removed, LeavesMarks}
 use Rattle.ug_table.specs.One.{NeedsRoom}
@@ -13,7 +10,6 @@ use Rattle.ug_table.specs.Order.{StandInOrder, KeepsOrder}
 use Rattle.ug_table.specs.Orders.{to_probe, probing, ProbesOne, with_verdict, ordered_standing, with_order, verdict_entry, to_tried, to_order, ordering, behind_probe, GoesAsOrder, HasOrdered, IsStopped, just_ordered, OrderedOne, OrdersOne}
 use Rattle.ug_table.specs.Settle.{unsettled_by, tried_standings}
 use Rattle.ug_table.specs.Sweep.{names_of}
-use Rattle.ug_table.specs.declared.standing.Settled.TheVariants as settled
 use Rattle.ug_types.proofs.Elements.{cancel, has_left, has_right, last_is, map_has, has_map, distinct_one}
 use Rattle.ug_table.proofs.Chains.{no_verdict, no_later}
 use Rattle.ug_kernel.proofs.Quiet.{called_quiet}
@@ -54,10 +50,10 @@ told_probes gives told did number ss s r t h = λ l e.
 ordered_is : (number : ℕ) (verdict : Target) (who : Named) (x : Standing) → x.number ≡ number → ordered_standing number verdict who x ≡ with_verdict verdict who x
 ordered_is number verdict who x e =
     let same : nat_eq x.number number ≡ true = grind (arith, e) in
-    ap (λ (t : Bool). let v : Standing = record x { verdict = cond t verdict x.verdict; cause = cond t (cause.Order who) x.cause } in v) same
+    ap (λ (t : Bool). let v : Standing = record x { verdict = cond t verdict x.verdict; cause = cond t (Cause.Order who) x.cause } in v) same
 
 ordered_other : (number : ℕ) (verdict : Target) (who : Named) (x : Standing) → nat_eq x.number number ≡ false → ordered_standing number verdict who x ≡ x
-ordered_other number verdict who x e = ap (λ (t : Bool). let v : Standing = record x { verdict = cond t verdict x.verdict; cause = cond t (cause.Order who) x.cause } in v) e
+ordered_other number verdict who x e = ap (λ (t : Bool). let v : Standing = record x { verdict = cond t verdict x.verdict; cause = cond t (Cause.Order who) x.cause } in v) e
 
 pub keeps_ordered : (number : ℕ) (verdict : Target) (who : Named) (ss : List Standing) → KeepsOrder ss (with_order number verdict who ss)
 keeps_ordered number verdict who ss = keeps_map (ordered_standing number verdict who) ss (λ s. refl) (λ s. refl)
@@ -145,8 +141,8 @@ order_part gives calls faults counted next number verdict who on k x s p t order
     let kept = keeps_ordered number verdict who k.standings next order in
     let one = stands_one y.name ss y (names_distinct (names_of ss) kept.order) (has_ordered number verdict who k.standings x at) refl in
     let so = tried_so y.name ss p.0 (known_of y) one in
-    let goes : (t : Told Probe) → t.answer ≡ probe.Alive on → Goes AtMostOneEach (ToGo (known_of y) ms) y.name (known_of y) (open_file y.held.0 Authorized ∷ []) (behind_probe y.held.0 t) ms o.rest p.0 (ended_files p.0 y.held.0) 4 = λ t e. brought_goes (behind_probe y.held.0 t) (t, refl, e) o.brought in
-    let g = goes (told_at (probe.Alive on) (record { call = 0; count = 0 })) refl in
+    let goes : (t : Told Probe) → t.answer ≡ Probe.Alive on → Goes AtMostOneEach (ToGo (known_of y) ms) y.name (known_of y) (open_file y.held.0 Authorized ∷ []) (behind_probe y.held.0 t) ms o.rest p.0 (ended_files p.0 y.held.0) 4 = λ t e. brought_goes (behind_probe y.held.0 t) (t, refl, e) o.brought in
+    let g = goes (told_at (Probe.Alive on) (record { call = 0; count = 0 })) refl in
     let now : standing_of y.name (tried_standings ss y.name p.0) ≡ standing_of y.name p.1.standings = ap (standing_of y.name) (sym o.standings) in
     record {
       made = ms;
@@ -199,11 +195,11 @@ order_verdict gives next number verdict who on k s p t order r = λ x at z a e.
     (j.3 ∙ ap (λ (v : Standing). v.name) same, j.4 ∙ ap (λ (v : Standing). v.held) same, j.5 ∙ ap (λ (v : Standing). v.judged) same, j.6 ∙ ap (λ (v : Standing). v.verdict) same, j.7 ∙ ap (λ (v : Standing). v.cause) same)
 
 -- want of memory
-pub order_short : {S : Type 0} (gives : S → (call : Call) → Answer call → S → Type 0) (number : ℕ) (verdict : Target) (who : Named) (on : Bool) (k : Kept) (x : Standing) (s : S) (p : Settled × Kept) (t : S) → numbered number k.standings ≡ Some x → Runs gives s (ordering number verdict who on k) p t → p.0 ≡ settled.Memory → NeedsRoom number (with_order number verdict who k.standings)
+pub order_short : {S : Type 0} (gives : S → (call : Call) → Answer call → S → Type 0) (number : ℕ) (verdict : Target) (who : Named) (on : Bool) (k : Kept) (x : Standing) (s : S) (p : Settled × Kept) (t : S) → numbered number k.standings ≡ Some x → Runs gives s (ordering number verdict who on k) p t → p.0 ≡ Settled.Memory → NeedsRoom number (with_order number verdict who k.standings)
 order_short gives number verdict who on k x s p t at r e =
     let run = ordering_run gives number verdict who on k x s p t at r in
     let y = with_verdict verdict who x in
-    let t = told_at (probe.Alive on) (record { call = 0; count = 0 }) in
+    let t = told_at (Probe.Alive on) (record { call = 0; count = 0 }) in
     let g = brought_goes (behind_probe y.held.0 t) (t, refl, refl) run.so.1.brought in
     (y, numbered_now number verdict who k.standings x at, (g.short e).0)
 
@@ -224,8 +220,8 @@ stand_ordered k ss next number verdict who stand =
 
 -- no verdict is told, and no write but of that number
 abbrev OnlyOf : ℕ → Entry → Type 0
-OnlyOf number (entry.Judged n name held verdict cause) = ⊥
-OnlyOf number (entry.Wrote n name what outcome) = n ≡ number
+OnlyOf number (Entry.Judged n name held verdict cause) = ⊥
+OnlyOf number (Entry.Wrote n name what outcome) = n ≡ number
 OnlyOf number e = Unit {0}
 
 -- a number whose standing was told gone has no write any more
@@ -234,13 +230,13 @@ IsAt number now = (now ≡ None) ⊎ (now ≡ Some number)
 
 only_of : (number : ℕ) (now : Option ℕ) (es : List Entry) (end : Option ℕ) → IsAt number now → AreOfNumber now es end → numbers_given es ≡ [] → (e : Entry) → Has es e → OnlyOf number e
 only_of number now [] end at h g e a = absurd a
-only_of number now (entry.Judged n name held verdict cause ∷ es) end at h g e a = let none : ⊥ = cc in absurd none
-only_of number now (entry.Wrote n name what outcome ∷ es) end at h g e (inl is) =
+only_of number now (Entry.Judged n name held verdict cause ∷ es) end at h g e a = let none : ⊥ = cc in absurd none
+only_of number now (Entry.Wrote n name what outcome ∷ es) end at h g e (inl is) =
     let same : n ≡ number = elim at [ inl x ↦ (let f = h.0 in let none : ⊥ = cc in absurd none) | inr x ↦ (let f = h.0 in cc) ] in
     subst (OnlyOf number) is same
-only_of number now (entry.Gone n name ∷ es) end at h g e (inr a) = only_of number None es end (inl refl) h.1 g e a
-only_of number now (entry.Intent n name what ∷ es) end at h g e (inr a) = only_of number now es end at h.1 g e a
-only_of number now (entry.Wrote n name what outcome ∷ es) end at h g e (inr a) = only_of number now es end at h.1 g e a
+only_of number now (Entry.Gone n name ∷ es) end at h g e (inr a) = only_of number None es end (inl refl) h.1 g e a
+only_of number now (Entry.Intent n name what ∷ es) end at h g e (inr a) = only_of number now es end at h.1 g e a
+only_of number now (Entry.Wrote n name what outcome ∷ es) end at h g e (inr a) = only_of number now es end at h.1 g e a
 only_of number now (x ∷ es) end at h g e (inl is) = subst (OnlyOf number) is tt
 only_of number now (x ∷ es) end at h g e (inr a) = only_of number now es end at h g e a
 
@@ -251,20 +247,20 @@ account_own number file own (Note es log judge next e t h) only f a = account_ow
 account_own number file own (Judge es log judge next i name held judged on ss d q st left marks h) only f a = account_own number file own h (λ x b. only x (has_left es _ x b)) f a
 account_own {k = k} number file own (Had es log judge next i n name held judged verdict what outcome d had due first may h) only f a =
     let told = wrote_entries n name what outcome in
-    let same : n ≡ number = only (entry.Wrote n name what outcome) (has_right es told (entry.Wrote n name what outcome) (inr (inl refl))) in
+    let same : n ≡ number = only (Entry.Wrote n name what outcome) (has_right es told (Entry.Wrote n name what outcome) (inr (inl refl))) in
     elim (last_is log (record { device = i; write = what }) f a) [
       | inl b ↦ account_own number file own h (λ x c. only x (has_left es told x c)) f b
       | inr is ↦ elim had [
         | inl s ↦ inr (subst (λ (v : Effect). IsFileOf k file.0 v.device) is (subst (λ (v : Held). IsFileOf k v.0 i) (sym s.4 ∙ own s.0 s.1 (s.2 ∙ same)) d.file))
-        | inr s ↦ absurd (only (entry.Judged n name held verdict s.0) (has_left es told _ s.1))
+        | inr s ↦ absurd (only (Entry.Judged n name held verdict s.0) (has_left es told _ s.1))
       ]
     ]
 account_own number file own (Had_not es log judge next i n name held judged verdict what outcome d had due first may h) only f a = account_own number file own h (λ x b. only x (has_left es _ x b)) f a
 account_own number file own (Went es log judge next i n name held judged verdict d gone had h) only f a = account_own number file own h (λ x b. only x (has_left es _ x b)) f a
 
 stopped : (how : Settled) (name : List ℕ) → IsNamed (unsettled_by name how) name → IsStopped how
-stopped settled.Stands name n = absurd n.1
-stopped settled.Nobody name n = absurd n.1
+stopped Settled.Stands name n = absurd n.1
+stopped Settled.Nobody name n = absurd n.1
 stopped how name n = tt
 
 kept_is : (v : Kept) (ss : List Standing) (es : List Entry) → v.standings ≡ ss → v.entries ≡ es → let made : Kept = record { standings = ss; entries = es } in v ≡ made
@@ -288,7 +284,7 @@ order_one number verdict who on w k l p x sound stand at r =
     let a = fair no_verdict no_later false none_before in
     let g = a.fair.grows in
     let files = stand_files k w.standings w.next stand in
-    let t = told_at (probe.Alive on) (record { call = 0; count = 0 }) in
+    let t = told_at (Probe.Alive on) (record { call = 0; count = 0 }) in
     let told = (brought_goes (behind_probe y.held.0 t) (t, refl, refl) o.brought).entries in
     let rest : o.rest ≡ a.fair.rest = cancel u.entries o.rest a.fair.rest (sym added ∙ a.fair.entries) in
     let only : (e : Entry) → Has a.fair.rest e → OnlyOf number e = subst (λ (v : List Entry). (e : Entry) → Has v e → OnlyOf number e) rest (λ e b. subst (λ (n : ℕ). OnlyOf n e) was.1 (only_of x.number (Some x.number) o.rest _ (inr refl) told.numbers told.given e b)) in

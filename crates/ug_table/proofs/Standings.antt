@@ -6,20 +6,15 @@ use Rattle.ug_table.proofs.Common.{Has, AllDistinct, same_name, known_of, standi
 use Rattle.ug_table.specs.Sweep.{names_of}
 use Rattle.ug_types.proofs.Elements.{filter_has, map_has, has_map, distinct_one, has_filter, insert_has}
 use Rattle.ug_table.specs.Bring.{is_reject, wants, write_of}
-use Rattle.ug_types.specs.declared.verdict.Target.TheVariants as target
 use Rattle.ug_kernel.specs.declared.device.HeldFile.{HeldFile}
-use Rattle.ug_types.specs.declared.control.Write.TheVariants as write
-use Rattle.ug_kernel.specs.declared.calls.Wrote.TheVariants as wrote
 use Rattle.ug_kernel.proofs.Grow.{some_same}
 use Rattle.ug_kernel.proofs.Quiet.{moves_quiet}
 use Rattle.ug_kernel.proofs.Held.{live_before}
 use Rattle.ug_node.proofs.BindShapes.{told}
 use Rattle.std.specs.Prelude.{if◌then◌else◌}
 use Rattle.ug_table.specs.Settle.{kept_standings, tried_standings}
-use Rattle.ug_table.specs.declared.standing.Settled.TheVariants as settled
 use Rattle.std.proofs.lemmas.List.{take-append-drop}
 use Rattle.std.specs.List.{filter, insert}
-use Rattle.ug_audit.specs.declared.entry.Entry.TheVariants as entry
 
 -- what a call was answered, with its number and the count of failed calls after it
 abbrev pub told_at : {X : Type 0} → X → FailedCall → Told X
@@ -27,7 +22,7 @@ told_at answer last = told answer last.call last.count
 
 -- what holds of no entry, and stays with one that tells a standing gone, holds of those that tell what isn't listed
 pub farewells_by : (P : List Entry → Type 0) → P []
-    → ((number : ℕ) (name : List ℕ) (es : List Entry) → P es → P (entry.Gone number name ∷ es))
+    → ((number : ℕ) (name : List ℕ) (es : List Entry) → P es → P (Entry.Gone number name ∷ es))
     → (names : List (List ℕ)) (ss : List Standing) → P (farewells names ss)
 farewells_by P none more names [] = none
 farewells_by P none more names (s ∷ ss) = by (lists names s.name)
@@ -36,7 +31,7 @@ farewells_by P none more names (s ∷ ss) = by (lists names s.name)
     rest : List Entry
     rest = farewells names ss
 
-    by : (b : Bool) → P rest → P (cond b rest (entry.Gone s.number s.name ∷ rest))
+    by : (b : Bool) → P rest → P (cond b rest (Entry.Gone s.number s.name ∷ rest))
     by true h = h
     by false h = more s.number s.name rest h
 
@@ -216,10 +211,10 @@ written_other : (held i : ℕ) (write : Write) (on : Bool) (k l : Kernel) (w : I
 written_other held i write on k l w ne v = (v.0, w.others i (λ e. ne (sym e)) ∙ v.1, v.2)
 
 does_put_other : (held i : ℕ) (write : Write) (answer : Wrote) (on : Bool) (k l : Kernel) → ((w : IsWritten held write k l) → w.i ≡ i → ⊥) → does_put held write answer k l → Value k i on → Value l i on
-does_put_other held i write wrote.Done on k l ne w v = written_other held i write on k l w (ne w) v
-does_put_other held i write wrote.Gone on k l ne e v = subst (λ x. Value x i on) (sym e) v
-does_put_other held i write wrote.Failed on k l ne (inl e) v = subst (λ x. Value x i on) (sym e) v
-does_put_other held i write wrote.Failed on k l ne (inr w) v = written_other held i write on k l w (ne w) v
+does_put_other held i write Wrote.Done on k l ne w v = written_other held i write on k l w (ne w) v
+does_put_other held i write Wrote.Gone on k l ne e v = subst (λ x. Value x i on) (sym e) v
+does_put_other held i write Wrote.Failed on k l ne (inl e) v = subst (λ x. Value x i on) (sym e) v
+does_put_other held i write Wrote.Failed on k l ne (inr w) v = written_other held i write on k l w (ne w) v
 
 -- a write to another device
 put_other : (held i j : ℕ) (control : Control) (write : Write) (answer : Told Wrote) (on : Bool) (k l : Kernel) → IsHeldAs k held j control → (j ≡ i → ⊥) → Called (Put held write) answer k l → Value k i on → Value l i on
@@ -230,11 +225,11 @@ put_other held i j control write answer on k l file ne c v =
     (does_put_other held i write answer.answer on c.before c.after (λ w e. ne (sym (written_device held j control write c.before c.after w at) ∙ e)) c.effect (quiet_value k c.before i on before v))
 
 verdict_value : (verdict : Target) (was : Bool) → value_after (write_of verdict) was ≡ wants verdict
-verdict_value target.Allow was = refl
+verdict_value Target.Allow was = refl
 verdict_value x was = refl
 
 -- a write that is done leaves what the verdict wants
-pub done_value : (held i : ℕ) (verdict : Target) (failed : FailedCall) (k l : Kernel) → IsFileOf k held i → Called (Put held (write_of verdict)) (told_at wrote.Done failed) k l → Value l i (wants verdict)
+pub done_value : (held i : ℕ) (verdict : Target) (failed : FailedCall) (k l : Kernel) → IsFileOf k held i → Called (Put held (write_of verdict)) (told_at Wrote.Done failed) k l → Value l i (wants verdict)
 done_value held i verdict failed k l file c =
     let w : IsWritten held (write_of verdict) c.before c.after = c.effect in
     let at = (moves_quiet k c.before c.moves_before).held held (record { device = i; control = Authorized }) file in
@@ -244,11 +239,11 @@ done_value held i verdict failed k l file c =
     quiet_value c.after l i (wants verdict) (moves_quiet c.after l c.moves_after) (d, now, verdict_value verdict w.d.on)
 
 -- a removal leaves the value
-pub removal_value : (file i : ℕ) (on : Bool) (failed : FailedCall) (k l : Kernel) → IsHeldAs k file i Remove → Called (Put file write.Remove) (told_at wrote.Done failed) k l → Value k i on → Value l i on
+pub removal_value : (file i : ℕ) (on : Bool) (failed : FailedCall) (k l : Kernel) → IsHeldAs k file i Remove → Called (Put file Write.Remove) (told_at Wrote.Done failed) k l → Value k i on → Value l i on
 removal_value file i on failed k l of c v =
-    let w : IsWritten file write.Remove c.before c.after = c.effect in
+    let w : IsWritten file Write.Remove c.before c.after = c.effect in
     let moved = moves_quiet k c.before c.moves_before in
-    let is = written_device file i Remove write.Remove c.before c.after w (moved.held file (record { device = i; control = Remove }) of) in
+    let is = written_device file i Remove Write.Remove c.before c.after w (moved.held file (record { device = i; control = Remove }) of) in
     let was = quiet_value k c.before i on moved v in
     let same : w.d ≡ was.0 = some_same (slice_get c.before.devices i) w.d was.0 (subst (λ x. slice_get c.before.devices x ≡ Some w.d) is w.live.at) was.1 in
     let now : slice_get c.after.devices i ≡ Some w.d = subst (λ x. slice_get c.after.devices x ≡ Some w.d) is w.now in
@@ -346,8 +341,8 @@ marked_has : (ss : List Standing) (name : List ℕ) (b : Bool) (s : Standing) �
 marked_has ss name b s h ne = subst (λ (v : Standing). Has (map (marked name b) ss) v) (marked_other name b s ne) (has_map (marked name b) ss s h)
 
 pub tried_has : (ss : List Standing) (name : List ℕ) (how : Settled) (s : Standing) → Has ss s → (s.name ≡ name → ⊥) → Has (tried_standings ss name how) s
-tried_has ss name settled.Nobody s h ne = has_filter (λ (v : Standing). not (same_name v.name name)) ss s h (ap not (other_test s.name name ne))
-tried_has ss name settled.Stands s h ne = marked_has ss name true s h ne
+tried_has ss name Settled.Nobody s h ne = has_filter (λ (v : Standing). not (same_name v.name name)) ss s h (ap not (other_test s.name name ne))
+tried_has ss name Settled.Stands s h ne = marked_has ss name true s h ne
 tried_has ss name how s h ne = marked_has ss name false s h ne
 
 -- each was there
@@ -358,8 +353,8 @@ marked_was : (ss : List Standing) (name : List ℕ) (b : Bool) (s : Standing) �
 marked_was ss name b s h = let m = map_has (marked name b) ss s h in (m.0, m.1, ap (λ (v : Standing). v.name) m.2, ap (λ (v : Standing). v.held) m.2)
 
 pub tried_was : (ss : List Standing) (name : List ℕ) (how : Settled) (s : Standing) → Has (tried_standings ss name how) s → Was ss s
-tried_was ss name settled.Nobody s h = (s, (filter_has (λ (v : Standing). not (same_name v.name name)) ss s h).0, refl, refl)
-tried_was ss name settled.Stands s h = marked_was ss name true s h
+tried_was ss name Settled.Nobody s h = (s, (filter_has (λ (v : Standing). not (same_name v.name name)) ss s h).0, refl, refl)
+tried_was ss name Settled.Stands s h = marked_was ss name true s h
 tried_was ss name how s h = marked_was ss name false s h
 
 pub tried_files : (k : Kernel) (ss : List Standing) (name : List ℕ) (how : Settled) → Files k ss → Files k (tried_standings ss name how)
@@ -367,7 +362,7 @@ tried_files k ss name how f s a =
     let t = tried_was ss name how s a in
     subst (λ v. IsOpen k v s.held.0) t.2 (subst (λ v. IsOpen k t.0.name v.0) t.3 (f t.0 t.1))
 
-pub tried_new : (ss : List Standing) (name : List ℕ) (how : Settled) (s : Standing) → how ≡ settled.Stands → s.name ≡ name → Has ss s → (t : Standing) × Has (tried_standings ss name how) t × (t.held ≡ s.held) × (t.verdict ≡ s.verdict) × IsRemovedIf t
+pub tried_new : (ss : List Standing) (name : List ℕ) (how : Settled) (s : Standing) → how ≡ Settled.Stands → s.name ≡ name → Has ss s → (t : Standing) × Has (tried_standings ss name how) t × (t.held ≡ s.held) × (t.verdict ≡ s.verdict) × IsRemovedIf t
 tried_new ss name how s e named h = subst (λ (v : Settled). (t : Standing) × Has (tried_standings ss name v) t × (t.held ≡ s.held) × (t.verdict ≡ s.verdict) × IsRemovedIf t) (sym e) (marked name true s, has_map (marked name true) ss s h, refl, refl, λ r. reject_removed name s (is_same s.name name named) r)
 
 -- The standing of a name once another name was settled, and once it was itself.
@@ -401,9 +396,9 @@ without_own name (s ∷ ss) = cond_both (not (same_name s.name name)) (s ∷ wit
     (λ e. cond-false (same_name s.name name) (Some (known_of s)) (standing_of name (without name ss)) (not-true (same_name s.name name) e) ∙ without_own name ss)
     (λ e. without_own name ss)
 
-pub tried_own : (name : List ℕ) (ss : List Standing) (how : Settled) (known : Known) → standing_of name ss ≡ Some known → (how ≡ settled.Nobody → ⊥) → StandsAs known.number known.held (standing_of name (tried_standings ss name how))
-tried_own name ss settled.Nobody known e n = absurd (n refl)
-tried_own name ss settled.Stands known e n = marked_own name true ss known e
+pub tried_own : (name : List ℕ) (ss : List Standing) (how : Settled) (known : Known) → standing_of name ss ≡ Some known → (how ≡ Settled.Nobody → ⊥) → StandsAs known.number known.held (standing_of name (tried_standings ss name how))
+tried_own name ss Settled.Nobody known e n = absurd (n refl)
+tried_own name ss Settled.Stands known e n = marked_own name true ss known e
 tried_own name ss how known e n = marked_own name false ss known e
 
 -- a new one
@@ -472,8 +467,8 @@ with_stand other x ss e =
     ∙ ap (λ (v : List Standing). standing_of other v) (take-append-drop (place_for x.name ss) ss)
 
 pub tried_stand : (name : List ℕ) (ss : List Standing) (how : Settled) → OthersStand name ss (tried_standings ss name how)
-tried_stand name ss settled.Nobody = λ other n. without_stand name other ss n
-tried_stand name ss settled.Stands = λ other n. marked_stand name other true ss n
+tried_stand name ss Settled.Nobody = λ other n. without_stand name other ss n
+tried_stand name ss Settled.Stands = λ other n. marked_stand name other true ss n
 tried_stand name ss how = λ other n. marked_stand name other false ss n
 
 -- A new standing that is kept was added, and then tried.
@@ -540,7 +535,7 @@ kept_tried ss x how fresh none = by how
     stays = own false ∙ (λ i. record x { settled = (sym fresh) i; removed = (or_none x.removed) i })
 
     by : (how : Settled) → kept_standings ss x how ≡ tried_standings (with_standing x ss) x.name how
-    by settled.Nobody =
+    by Settled.Nobody =
         sym (without_with x.name x ss refl ∙ without_none x.name ss (missing x.name ss none))
-    by settled.Stands = into true (settled_standing x) (own true)
+    by Settled.Stands = into true (settled_standing x) (own true)
     by how = into false x stays
