@@ -4,16 +4,16 @@ use Rattle.ug_table.proofs.Common.{Has, parent_of, Ask_alive, Put, Close, Closin
 use Rattle.ug_kernel.proofs.Grow.{quiet_grows, called_grows, some_same, grows_refl, grows_trans}
 use Rattle.ug_kernel.proofs.Quiet.{called_quiet, quiet_refl, quiet_trans}
 use Rattle.ug_kernel.proofs.Ways.{Way, way_runs, along_split, along_sound, along_grows}
-use Rattle.ug_table.proofs.Shapes.{Piece, Valued, Same, Set, Removal, Not_held, Put_on, Carried, By_value, And_removal, Brought, Left_open, Let_go, Opening, Fresh, Lost, Flat, Unprobed, Tried, Stopped, Unbound, No_place, Judged_so, told_at, Written, Done, Went, Broke, Unheld, Gone_by, Failed_by, Short_by, Unbound_end, Failed_so, Short_so, opening_absent, opening_less}
+use Rattle.ug_table.proofs.Shapes.{Piece, Valued, Same, Set, Removal, Not_held, Put_on, Carried, By_value, And_removal, Brought, Left_open, Let_go, Opening, Fresh, Lost, Flat, Unprobed, Tried, Stopped, Unbound, No_place, Judged_so, told_at, Written, Done, Went, Broke, Unheld, Gone_by, Failed_by, Short_by, Unbound_end, Failed_so, Short_so, opening_absent, opening_less, flat_rest}
 use Rattle.ug_node.specs.Removal.{holding_remove, RemoveSays}
 use Rattle.ug_node.proofs.Laws.{holding_law, binding_law}
 use Rattle.ug_node.specs.Bind.{binding}
 use Rattle.ug_node.specs.Bound.{BindSays}
 use Rattle.ug_table.specs.Bring.{write_of, wants, is_reject}
-use Rattle.ug_table.proofs.Standings.{Others, others_refl, others_trans, others_quiet, others_put, IsOpen, open_name, open_later, IsFileOf, file_later, LiveAs, lives_between, lived, live_same, gone_no, Value, quiet_value, done_value, alive_open, IsHeldAs, removal_value, file_same, open_named, found, same_is, is_same, missing, Files, files_later, with_files, tried_has, tried_files, tried_new, IsRemovedIf, Was, tried_was}
+use Rattle.ug_table.proofs.Standings.{Others, others_refl, others_trans, others_quiet, others_put, IsOpen, open_name, open_later, IsFileOf, file_later, LiveAs, lives_between, lived, live_same, gone_no, Value, quiet_value, done_value, alive_open, IsHeldAs, removal_value, file_same, open_named, found, same_is, is_same, missing, Files, files_later, with_files, others_have, tried_files, tried_new, IsRemovedIf, Was, tried_was}
 use Rattle.ug_kernel.proofs.Held.{live_before}
 use Rattle.ug_table.specs.Settle.{unsettled_by, tried_standings}
-use Rattle.ug_types.proofs.Elements.{has_right, has_left, has_new, has_old, cancel, filter_has, has_map}
+use Rattle.ug_types.proofs.Elements.{has_right, has_left, has_new, cancel, filter_has, has_map}
 use Rattle.ug_table.proofs.Marks.{known_has}
 use Rattle.ug_table.specs.Sweep.{names_of, sweeping}
 use Rattle.ug_types.proofs.Sorting.{to_sweep_order}
@@ -89,51 +89,50 @@ open_found name ss known k e f =
     subst (λ (v : Known). IsOpen k name v.held.0) at.known (subst (λ v. IsOpen k v at.s.held.0) at.named (f at.s at.has))
 
 -- the calls before a binding
-pub record Opened_quiet (k l : Kernel) (name : List ℕ) (ss rs : List Standing) : Type 0 where
+pub record Opened_quiet (k l : Kernel) (rs : List Standing) : Type 0 where
   pub quiet : Quiet k l
   pub sound : IsKernel l
-  pub rest : (s : Standing) → Has ss s → (s.name ≡ name → ⊥) → Has rs s
   pub files : Files l rs
 
-opening_quiet : {name : List ℕ} {ss : List Standing} {ms : List Made} {es : List Entry} {rs : List Standing} (k l : Kernel) → Opening name ss ms es rs → IsKernel k → Files k ss → Along calls k ms l → Opened_quiet k l name ss rs
-opening_quiet {name} {ss} k l (Fresh e) sound f a = subst (λ v. Opened_quiet k v name ss ss) (sym a) (record { quiet = quiet_refl k; sound = sound; rest = λ s h ne. h; files = f })
+opening_quiet : {name : List ℕ} {ss : List Standing} {ms : List Made} {es : List Entry} {rs : List Standing} (k l : Kernel) → Opening name ss ms es rs → IsKernel k → Files k ss → Along calls k ms l → Opened_quiet k l rs
+opening_quiet {name} {ss} k l (Fresh e) sound f a = subst (λ v. Opened_quiet k v ss) (sym a) (record { quiet = quiet_refl k; sound = sound; files = f })
 opening_quiet {name} {ss} k l (Lost known failed shut e) sound f a =
     let m = a.0 in
     let n = a.2.0 in
     let q = quiet_trans k m n (called_quiet (Ask_alive known.held.0) (told_at Probe.Gone failed) k m tt a.1) (called_quiet (Close known.held.0) shut m n tt a.2.1) in
-    subst (λ v. Opened_quiet k v name ss (without name ss)) (sym a.2.2) (record { quiet = q; sound = a.2.1.sound; rest = λ s h ne. tried_has ss name Settled.Nobody s h ne; files = tried_files n ss name Settled.Nobody (files_later k n ss (quiet_grows k n q) f) })
+    subst (λ v. Opened_quiet k v (without name ss)) (sym a.2.2) (record { quiet = q; sound = a.2.1.sound; files = tried_files n ss name Settled.Nobody (files_later k n ss (quiet_grows k n q) f) })
 
 -- and with it
-pub opening_bind : {name : List ℕ} {ss : List Standing} {ms : List Made} {es : List Entry} {rs : List Standing} (k l : Kernel) (ns : List Made) (r : Binding) → Opening name ss ms es rs → Way (binding name (parent_of name)) ns r → IsKernel k → Files k ss → Along calls k (ms ++ ns) l → Opened_quiet k l name ss rs × ((m : Kernel) × Along calls k ms m × (Quiet m l × BindSays name m l r))
+pub opening_bind : {name : List ℕ} {ss : List Standing} {ms : List Made} {es : List Entry} {rs : List Standing} (k l : Kernel) (ns : List Made) (r : Binding) → Opening name ss ms es rs → Way (binding name (parent_of name)) ns r → IsKernel k → Files k ss → Along calls k (ms ++ ns) l → Opened_quiet k l rs × ((m : Kernel) × Along calls k ms m × (Quiet m l × BindSays name m l r))
 opening_bind {name} {ms = ms} {rs = rs} k l ns r opening way sound f a =
     let cut = along_split calls ms ns k l a in
     let o = opening_quiet k cut.0 opening sound f cut.1 in
     let law = binding_law name (parent_of name) r cut.0 l refl o.sound (way_runs calls (binding name (parent_of name)) ns cut.0 r l way cut.2) in
-    (record { quiet = quiet_trans k cut.0 l o.quiet law.quiet; sound = law.sound; rest = o.rest; files = files_later cut.0 l rs (quiet_grows cut.0 l law.quiet) o.files }, (cut.0, cut.1, (law.quiet, law.says)))
+    (record { quiet = quiet_trans k cut.0 l o.quiet law.quiet; sound = law.sound; files = files_later cut.0 l rs (quiet_grows cut.0 l law.quiet) o.files }, (cut.0, cut.1, (law.quiet, law.says)))
 
-flat_apart : {binds : Bool} {given : List Standing → Bound → Standing → Type 0} {name : List ℕ} {ss : List Standing} {ok : Bool} {ms : List Made} {rest : List Entry} {how : Settled} {rs : List Standing} {o : Option (List Standing × Bound)} (k l : Kernel) (es fs : List Entry) → fs ≡ es ++ rest → IsKernel k → Files k ss → Flat binds given name ss ok ms rest how rs o → Along calls k ms l → Apart name k ss es l rs fs
-flat_apart {name = name} {ss = ss} k l xs ys e sound f (Unprobed known failed at) a =
+flat_apart : {binds : Bool} {given : List Standing → Bound → Standing → Type 0} {name : List ℕ} {ss : List Standing} {ok : Bool} {ms : List Made} {rest : List Entry} {how : Settled} {rs : List Standing} {o : Option (List Standing × Bound)} (k l : Kernel) → IsKernel k → Files k ss → Flat binds given name ss ok ms rest how rs o → Along calls k ms l → Others name k l × Files l rs
+flat_apart {name = name} {ss = ss} k l sound f (Unprobed known failed at) a =
     let how = Settled.Fault failed in
     let q = subst (λ v. Quiet k v) (sym a.2) (called_quiet (Ask_alive known.held.0) (told_at Probe.Failed failed) k a.0 tt a.1) in
-    record { others = others_quiet name k l q; rest = λ s h ne. tried_has ss name how s h ne; entries = (_, e); files = tried_files l ss name how (files_later k l ss (quiet_grows k l q) f) }
-flat_apart {name = name} {ss = ss} k l xs ys e sound f (Tried known on failed ms es how at b) a =
+    (others_quiet name k l q, tried_files l ss name how (files_later k l ss (quiet_grows k l q) f))
+flat_apart {name = name} {ss = ss} k l sound f (Tried known on failed ms es how at b) a =
     let q = called_quiet (Ask_alive known.held.0) (told_at (Probe.Alive on) failed) k a.0 tt a.1 in
     let g = quiet_grows k a.0 q in
     let o = open_later k a.0 name known.held.0 g (open_found name ss known k at f) in
-    record { others = others_trans name k a.0 l g (others_quiet name k a.0 q) (brought_apart a.0 l b a.1.sound o a.2); rest = λ s h ne. tried_has ss name how s h ne; entries = (_, e); files = tried_files l ss name how (files_later a.0 l ss (along_grows ms a.0 l a.2) (files_later k a.0 ss g f)) }
-flat_apart {name = name} k l xs ys e sound f (Stopped ms es rs b opening) a =
+    (others_trans name k a.0 l g (others_quiet name k a.0 q) (brought_apart a.0 l b a.1.sound o a.2), tried_files l ss name how (files_later a.0 l ss (along_grows ms a.0 l a.2) (files_later k a.0 ss g f)))
+flat_apart {name = name} k l sound f (Stopped ms es rs b opening) a =
     let o = opening_quiet k l opening sound f a in
-    record { others = others_quiet name k l o.quiet; rest = o.rest; entries = (es, e); files = o.files }
-flat_apart {name = name} k l xs ys e sound f (Unbound ms ns es fs rs r how t opening way end) a =
+    (others_quiet name k l o.quiet, o.files)
+flat_apart {name = name} k l sound f (Unbound ms ns es fs rs r how t opening way end) a =
     let o = (opening_bind k l ns r opening way sound f a).0 in
-    record { others = others_quiet name k l o.quiet; rest = o.rest; entries = (es ++ fs, e); files = o.files }
-flat_apart {name = name} k l xs ys e sound f (No_place ms ns es rs b shut t opening way) a =
+    (others_quiet name k l o.quiet, o.files)
+flat_apart {name = name} k l sound f (No_place ms ns es rs b shut t opening way) a =
     let last : List Made = answered (Close b.held.0) shut ∷ [] in
     let cut = along_split calls (ms ++ ns) last k l (subst (λ v. Along calls k v l) (sym (append_assoc ms ns last)) a) in
     let o = (opening_bind k cut.0 ns (Binding.Bound b) opening way sound f cut.1).0 in
     let q = subst (λ v. Quiet cut.0 v) (sym cut.2.2) (called_quiet (Close b.held.0) shut cut.0 cut.2.0 tt cut.2.1) in
-    record { others = others_quiet name k l (quiet_trans k cut.0 l o.quiet q); rest = o.rest; entries = (_, e); files = files_later cut.0 l rs (quiet_grows cut.0 l q) o.files }
-flat_apart {name = name} k l xs ys e sound f (Judged_so ms ns os es fs rs b x how t opening way given new brought) a =
+    (others_quiet name k l (quiet_trans k cut.0 l o.quiet q), files_later cut.0 l rs (quiet_grows cut.0 l q) o.files)
+flat_apart {name = name} k l sound f (Judged_so ms ns os es fs rs b x how t opening way given new brought) a =
     let cut = along_split calls (ms ++ ns) os k l (subst (λ v. Along calls k v l) (sym (append_assoc ms ns os)) a) in
     let m = cut.0 in
     let h = opening_bind k m ns (Binding.Bound b) opening way sound f cut.1 in
@@ -141,19 +140,18 @@ flat_apart {name = name} k l xs ys e sound f (Judged_so ms ns os es fs rs b x ho
     let says = h.1.2.1 in
     let opened_now : IsOpen m name x.held.0 = subst (λ v. IsOpen m name v.0) (sym new.held) (record { i = says.i; d = says.d; file = says.file; device = says.device; named = says.named }) in
     let g = along_grows os m l cut.2 in
-    record {
-      others = others_trans name k m l (quiet_grows k m o.quiet) (others_quiet name k m o.quiet) (brought_apart m l brought o.sound opened_now cut.2);
-      rest = λ s y ne. tried_has (with_standing x rs) name how s (has_old rs (place_for x.name rs) x s (o.rest s y ne)) ne;
-      entries = (_, e);
-      files = tried_files l (with_standing x rs) name how (with_files l rs x (files_later m l rs g o.files) (subst (λ v. IsOpen l v x.held.0) (sym new.named) (open_later m l name x.held.0 g opened_now)));
-    }
+    (
+      others_trans name k m l (quiet_grows k m o.quiet) (others_quiet name k m o.quiet) (brought_apart m l brought o.sound opened_now cut.2),
+      tried_files l (with_standing x rs) name how (with_files l rs x (files_later m l rs g o.files) (subst (λ v. IsOpen l v x.held.0) (sym new.named) (open_later m l name x.held.0 g opened_now))),
+    )
 
 pub piece_apart : {J : Type 0} {answer : Answers J} {later : Laters J} {binds present : Bool}
     {name : List ℕ} {how : Settled} {ok : Bool} {ms : List Made} {k l : Kernel} {w v : State J}
     → IsKernel k → Files k w.standings → Piece answer later binds present name w ok ms how v
     → Along calls k ms l → Apart name k w.standings w.entries l v.standings v.entries
-piece_apart {k = k} {l = l} {w = w} {v = v} sound f p a =
-    flat_apart k l w.entries v.entries p.entries sound f p.flat a
+piece_apart {name = name} {k = k} {l = l} {w = w} {v = v} sound f p a =
+    let x = flat_apart k l sound f p.flat a in
+    record { others = x.0; rest = λ s. others_have name w.standings v.standings s (sym (flat_rest p.flat)); entries = (p.rest, p.entries); files = x.1 }
 
 -- Settling a name brings its live device to its verdict, or tells the name.
 

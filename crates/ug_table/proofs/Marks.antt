@@ -4,8 +4,8 @@ use Rattle.ug_table.proofs.Common.{Has, AllDistinct, Bound, Binding, Entry, Stat
 use Rattle.ug_table.specs.Settle.{unsettled_by, kept_standings, tried_standings, dropped}
 use Rattle.ug_table.specs.Sweep.{names_of, parted, sweeping}
 use Rattle.ug_types.proofs.Elements.{has_left, has_right, has_cases, filter_has, map_has, has_map, cancel, last_is, distinct_filter, distinct_insert}
-use Rattle.ug_table.proofs.Shapes.{Piece, Unbound_end, Absent_so, Flat, Unprobed, Tried, Stopped, Unbound, No_place, Judged_so, opening_absent, opening_less, new_known}
-use Rattle.ug_table.proofs.Standings.{kept_tried, each_with, farewells_by, is_same, missing, missing_without, found, marked_other, tried_own, lists_has, either_listed, same_is, fields_stay}
+use Rattle.ug_table.proofs.Shapes.{Piece, Unbound_end, Absent_so, Flat, Unprobed, Tried, Stopped, Unbound, No_place, Judged_so, opening_absent, flat_rest, new_known}
+use Rattle.ug_table.proofs.Standings.{kept_tried, each_with, farewells_by, is_same, missing, missing_without, found, others_have, tried_own, lists_has, either_listed, same_is, fields_stay}
 use Rattle.ug_table.specs.One.{whys, why_of}
 use Rattle.ug_table.proofs.OnePart.{flat_is_part, flat_whys, told_in}
 use Rattle.ug_table.proofs.Says.{Each, NamesOnly, each_has, each_append, each_map, NamesNone, none_named}
@@ -69,23 +69,7 @@ pub marked_right : (es fs : List Entry) (s : Standing) → (IsNamed fs s.name �
 marked_right es fs s none (inl h) = inl (h.0, λ a. elim (has_cases es fs (Entry.Unsettled s.name a.0) a.1) [ inl b ↦ h.1 (a.0, b) | inr b ↦ none (a.0, b) ])
 marked_right es fs s none (inr h) = inr (h.0, (h.1.0, has_left es fs (Entry.Unsettled s.name h.1.0) h.1.1))
 
--- a new standing
-
-new_others : (ss : List Standing) (x s : Standing) → Has (with_standing x ss) s → (s.name ≡ x.name → ⊥) → Has ss s
-new_others ss x s a ne = each_with (λ (t : Standing). (t.name ≡ x.name → ⊥) → Has ss t) x ss (λ f. absurd (f refl)) (λ t b f. b) s a ne
-
 -- a standing that is tried again
-
-marked_others : (ss : List Standing) (name : List ℕ) (b : Bool) (s : Standing) → Has (map (marked name b) ss) s → (s.name ≡ name → ⊥) → Has ss s
-marked_others ss name b s a ne =
-    let m = map_has (marked name b) ss s a in
-    let same : m.0 ≡ s = sym (marked_other name b m.0 (λ e. ne (sym (ap (λ (v : Standing). v.name) m.2) ∙ e))) ∙ m.2 in
-    subst (λ (v : Standing). Has ss v) same m.1
-
-tried_others : (ss : List Standing) (name : List ℕ) (how : Settled) (s : Standing) → Has (tried_standings ss name how) s → (s.name ≡ name → ⊥) → Has ss s
-tried_others ss name Settled.Nobody s a ne = (filter_has (λ (v : Standing). not (same_name v.name name)) ss s a).0
-tried_others ss name Settled.Stands s a ne = marked_others ss name true s a ne
-tried_others ss name how s a ne = marked_others ss name false s a ne
 
 marked_mark : (ss : List Standing) (name : List ℕ) (b : Bool) (s : Standing) → Has (map (marked name b) ss) s → s.name ≡ name → s.settled ≡ b
 marked_mark ss name b s a e =
@@ -102,15 +86,6 @@ tried_mark ss name how rest s t a e = inr (marked_mark ss name false s a e, subs
 own_name : (ss : List Standing) (name : List ℕ) (s : Standing) → Has ss s → s.name ≡ name → Has (names_of ss) name
 own_name ss name s a e = subst (λ (v : List ℕ). Has (names_of ss) v) e (has_map (λ (v : Standing). v.name) ss s a)
 
-flat_others : {binds : Bool} {given : List Standing → Bound → Standing → Type 0} {name : List ℕ} {ss : List Standing} {ok : Bool} {ms : List Made} {rest : List Entry} {how : Settled} {rs : List Standing} {o : Option (List Standing × Bound)} → Flat binds given name ss ok ms rest how rs o → (s : Standing) → Has rs s → (s.name ≡ name → ⊥) → Has ss s
-flat_others {name = name} {ss = ss} (Unprobed known failed at) s a ne = tried_others ss name (Settled.Fault failed) s a ne
-flat_others {name = name} {ss = ss} (Tried known on failed ms es how at b) s a ne = tried_others ss name how s a ne
-flat_others (Stopped ms es rs f opening) s a ne = opening_less opening s a
-flat_others (Unbound ms ns es fs rs r how t opening way end) s a ne = opening_less opening s a
-flat_others (No_place ms ns es rs b shut t opening way) s a ne = opening_less opening s a
-flat_others {name = name} (Judged_so ms ns os es fs rs b x how t opening way given new brought) s a ne =
-    opening_less opening s (new_others rs x s (tried_others (with_standing x rs) name how s a ne) (λ f. ne (f ∙ new.named)))
-
 flat_mark : {binds : Bool} {given : List Standing → Bound → Standing → Type 0} {name : List ℕ} {ss : List Standing} {ok : Bool} {ms : List Made} {rest : List Entry} {how : Settled} {rs : List Standing} {o : Option (List Standing × Bound)} → Tells how name rest → Flat binds given name ss ok ms rest how rs o → (s : Standing) → Has rs s → s.name ≡ name → IsMarked rest s
 flat_mark {name = name} {ss = ss} t (Unprobed known failed at) s a is = tried_mark ss name (Settled.Fault failed) (Entry.Unsettled name (Fault.Call failed) ∷ []) s t a is
 flat_mark {name = name} {ss = ss} t (Tried known on failed ms es how at b) s a is = tried_mark ss name how (es ++ unsettled_by name how) s t a is
@@ -120,9 +95,9 @@ flat_mark {name = name} t (No_place ms ns es rs b shut f opening way) s a is = a
 flat_mark {name = name} {rest = rest} t (Judged_so ms ns os es fs rs b x how f opening way given new brought) s a is = tried_mark (with_standing x rs) name how rest s t a is
 
 flat_part : {binds : Bool} {given : List Standing → Bound → Standing → Type 0} {name : List ℕ} {ss : List Standing} {ok : Bool} {ms : List Made} {rest : List Entry} {how : Settled} {rs : List Standing} {o : Option (List Standing × Bound)} (es fs : List Entry) → fs ≡ es ++ rest → Flat binds given name ss ok ms rest how rs o → Part name ss es rs fs
-flat_part {name = name} {rest = rest} {how = how} xs ys e f =
+flat_part {name = name} {ss = ss} {rest = rest} {how = how} {rs = rs} xs ys e f =
     let last = (flat_is_part f).last in
-    record { rest = rest; entries = e; only = ends_only name rest last; others = flat_others f; mark = flat_mark (tells_how how name rest last (flat_whys f)) f }
+    record { rest = rest; entries = e; only = ends_only name rest last; others = λ s. others_have name rs ss s (flat_rest f); mark = flat_mark (tells_how how name rest last (flat_whys f)) f }
 
 -- of states, which keep whether a listing has succeeded
 abbrev pub PartOf : {J : Type 0} → List ℕ → State J → State J → Type 0

@@ -11,8 +11,8 @@ use Rattle.ug_table.specs.Marks.{has_name, has_number, stood_removed, LeavesMark
 use Rattle.ug_table.specs.One.{resettling_numbered, NeedsRoom, failed_of, whys, why_of, GoesAsPart, LivedAs, SettledOne, SettlesOne, IsOf, ResettledOne, ResettlesOne}
 use Rattle.ug_types.proofs.Elements.{filter_has, map_has, has_map, distinct_one, cancel}
 use Rattle.ug_table.proofs.Marks.{names_distinct, unnamed, flat_stands, flat_nobody}
-use Rattle.ug_table.proofs.Standings.{marked_other, without_with, each_with, same_is, is_same, found, missing, numbered_has, IsFileOf, file_same, file_later, LiveAs, IsOpen, or_none, open_name, open_later, open_named}
-use Rattle.ug_table.proofs.Shapes.{Opening, Fresh, Lost, Flat, Unprobed, Tried, Stopped, Unbound, No_place, Judged_so, Piece, opening_absent}
+use Rattle.ug_table.proofs.Standings.{Test, own, rest_of, AreNamed, marked_rest, without_rest, of_name, without_with, each_with, same_is, is_same, found, missing, numbered_has, IsFileOf, file_same, file_later, LiveAs, IsOpen, or_none, open_name, open_later, open_named}
+use Rattle.ug_table.proofs.Shapes.{Opening, Fresh, Lost, Flat, Unprobed, Tried, Stopped, Unbound, No_place, Judged_so, Piece, opening_absent, opening_rest}
 use Rattle.ug_table.proofs.PartCalls.{failed_by}
 use Rattle.ug_table.proofs.OnePart.{flat_room, tells_why, flat_whys, flat_is_part}
 use Rattle.ug_table.proofs.Chains.{settling_run, numbered_run, resettling_run, run_numbered, no_verdict, no_later}
@@ -43,43 +43,9 @@ stood_at (t ∷ ss) s d (inr a) =
     let other = false_from_ne_true (nat_eq t.number s.number) (λ e. let is : t.number ≡ s.number = grind (arith, e) in d.0 (subst (λ (v : ℕ). Has (numbers_of ss) v) (sym is) (has_map (λ (v : Standing). v.number) ss s a))) in
     ap (λ (b : Bool). (b && t.removed) || stood_removed s.number ss) other ∙ stood_at ss s d.1 a
 
--- those that are meant, by name and number
-abbrev pub Test : Type 0
-Test = List ℕ → ℕ → Bool
-
-abbrev pub own : Test → Standing → Bool
-own test s = test s.name s.number
-
-abbrev pub rest_of : Test → List Standing → List Standing
-rest_of test ss = filter (λ (s : Standing). not (own test s)) ss
-
--- among these standings, they are those of that name
-abbrev pub AreNamed : Test → List ℕ → List Standing → Type 0
-AreNamed test name ss = (s : Standing) → Has ss s → own test s ≡ same_name s.name name
-
 -- those that are meant were marked as removed before as they are now
 abbrev pub AreStood : Test → List Standing → List Standing → Type 0
 AreStood test before ss = (s : Standing) → Has ss s → own test s ≡ true → stood_removed s.number before ≡ s.removed
-
-marked_rest : (test : Test) (name : List ℕ) (mark : Bool) (ss : List Standing) → AreNamed test name ss → rest_of test (map (marked name mark) ss) ≡ rest_of test ss
-marked_rest test name mark [] named = refl
-marked_rest test name mark (s ∷ ss) named = by (own test s) refl (marked_rest test name mark ss (λ t a. named t (inr a)))
-  where
-    by : (b : Bool) → own test s ≡ b → rest_of test (map (marked name mark) ss) ≡ rest_of test ss → cond (not b) (marked name mark s ∷ rest_of test (map (marked name mark) ss)) (rest_of test (map (marked name mark) ss)) ≡ cond (not b) (s ∷ rest_of test ss) (rest_of test ss)
-    by true e h = h
-    by false e h =
-        let other : s.name ≡ name → ⊥ = λ f. true≢false (sym (is_same s.name name f) ∙ sym (named s (inl refl)) ∙ e) in
-        ap (λ (v : Standing). v ∷ rest_of test (map (marked name mark) ss)) (marked_other name mark s other) ∙ ap (λ (v : List Standing). s ∷ v) h
-
-without_rest : (test : Test) (name : List ℕ) (ss : List Standing) → AreNamed test name ss → rest_of test (without name ss) ≡ rest_of test ss
-without_rest test name [] named = refl
-without_rest test name (s ∷ ss) named = by (own test s) refl (same_name s.name name) (sym (named s (inl refl))) (without_rest test name ss (λ t a. named t (inr a)))
-  where
-    by : (b : Bool) → own test s ≡ b → (c : Bool) → c ≡ own test s → rest_of test (without name ss) ≡ rest_of test ss → rest_of test (cond (not c) (s ∷ without name ss) (without name ss)) ≡ cond (not b) (s ∷ rest_of test ss) (rest_of test ss)
-    by true e true f h = h
-    by false e false f h = ap (λ (v : Bool). cond (not v) (s ∷ rest_of test (without name ss)) (rest_of test (without name ss))) e ∙ ap (λ (v : List Standing). s ∷ v) h
-    by true e false f h = absurd (true≢false (sym e ∙ sym f))
-    by false e true f h = absurd (true≢false (f ∙ e))
 
 -- standings that are tried again
 
@@ -127,15 +93,8 @@ tried_leaves test name before ss how named rest stood = marked_leaves test name 
 
 -- a name
 
-abbrev of_name : List ℕ → Test
-of_name name = λ other number. same_name other name
-
 own_missing : (name : List ℕ) (ss : List Standing) (s : Standing) → (Has (names_of ss) name → ⊥) → Has ss s → same_name s.name name ≡ true → ⊥
 own_missing name ss s n a o = n (subst (λ (v : List ℕ). Has (names_of ss) v) (same_is s.name name o) (has_map (λ (v : Standing). v.name) ss s a))
-
-opening_rest : {name : List ℕ} {ss : List Standing} {ms : List Made} {es : List Entry} {rs : List Standing} → Opening name ss ms es rs → rest_of (of_name name) rs ≡ rest_of (of_name name) ss
-opening_rest (Fresh e) = refl
-opening_rest {name = name} {ss = ss} (Lost known failed shut e) = without_rest (of_name name) name ss (λ s a. refl)
 
 -- none stands for it
 opening_leaves : {name : List ℕ} {ss : List Standing} {ms : List Made} {es : List Entry} {rs : List Standing} (how : Settled) → Opening name ss ms es rs → LeavesMarks (has_name name) ss rs how

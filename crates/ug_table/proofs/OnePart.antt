@@ -6,8 +6,8 @@ use Rattle.ug_table.specs.Settle.{unsettled_by, tried_standings}
 use Rattle.ug_table.specs.Bring.{wants, write_of, is_to_go}
 use Rattle.ug_table.specs.One.{why_in, whys, why_of}
 use Rattle.ug_types.proofs.Elements.{has_right}
-use Rattle.ug_table.proofs.Shapes.{Written, Done, Went, Valued, Same, Set, Unheld, Gone_by, Short_by, Removal, Not_held, Put_on, Carried, By_value, And_removal, Brought, Left_open, Let_go, Opening, Fresh, Lost, Unbound_end, Absent_so, Vanished_so, Flat, Unprobed, Tried, Stopped, Unbound, No_place, Judged_so, told_at, opening_none, new_known}
-use Rattle.ug_table.proofs.Standings.{OthersStand, others_stand, without_stand, with_stand, not_named, tried_stand, stands_file, stands_number, without_own, tried_own}
+use Rattle.ug_table.proofs.Shapes.{Written, Done, Went, Valued, Same, Set, Unheld, Gone_by, Short_by, Removal, Not_held, Put_on, Carried, By_value, And_removal, Brought, Left_open, Let_go, Opening, Fresh, Lost, Unbound_end, Absent_so, Vanished_so, Flat, Unprobed, Tried, Stopped, Unbound, No_place, Judged_so, told_at, opening_none, flat_rest, new_known}
+use Rattle.ug_table.proofs.Standings.{others_stand, stands_file, stands_number, without_own, tried_own}
 use Rattle.ug_table.proofs.PartCalls.{has_want, failed_by, are_short, behind_after, CallsOf, calls_are, calls_more, calls_as, closed_first, binding_faults, binding_files, binds_calls, IsFound, bound_found, hold_faults, hold_files, holds_calls, ready_due, IsShort, hold_short}
 
 -- entries
@@ -506,26 +506,6 @@ flat_goes {name = name} (Judged_so ms ns os es fs rs v x how t opening way given
     (entries_more h.entries (entries_more given (told_entries x.number how k.entries))))
     k.single refl refl (λ e. inl (t, h.anew (ns ++ os))) refl
 
--- and the standings of other names stay
-
-opening_others : {name : List ℕ} {ss : List Standing} {ms : List Made} {es : List Entry}
-    {rs : List Standing} → Opening name ss ms es rs → OthersStand name ss rs
-opening_others {name} {ss} (Fresh e) = others_stand name ss
-opening_others {name} {ss} (Lost known failed shut e) = λ other n. without_stand name other ss n
-
-flat_others : {binds : Bool} {given : List Standing → Bound → Standing → Type 0} {name : List ℕ}
-    {ss : List Standing} {ok : Bool} {ms : List Made} {rest : List Entry} {how : Settled}
-    {rs : List Standing} {o : Option (List Standing × Bound)}
-    → Flat binds given name ss ok ms rest how rs o → OthersStand name ss rs
-flat_others {name = name} {ss = ss} (Unprobed known failed at) = tried_stand name ss (Settled.Fault failed)
-flat_others {name = name} {ss = ss} (Tried known on failed ms es how at b) = tried_stand name ss how
-flat_others (Stopped ms es rs f opening) = opening_others opening
-flat_others (Unbound ms ns es fs rs r how t opening way end) = opening_others opening
-flat_others (No_place ms ns es rs b shut t opening way) = opening_others opening
-flat_others {name = name} (Judged_so ms ns os es fs rs b x how t opening way given new brought) =
-    λ other n. tried_stand name (with_standing x rs) how other n
-    ∙ with_stand other x rs (not_named name other x new.named n) ∙ opening_others opening other n
-
 -- where nothing is bound, no number is given out
 pub flat_none : {binds : Bool} {given : List Standing → Bound → Standing → Type 0} {name : List ℕ}
     {ss : List Standing} {ok : Bool} {ms : List Made} {rest : List Entry} {how : Settled}
@@ -619,5 +599,5 @@ module _ {binds : Bool} {given : List Standing → Bound → Standing → Type 0
         bears = e.bears;
         numbers = e.numbers;
         given = omega (arith, flat_given, at_most_one o);
-        others = flat_others f;
+        others = λ other. others_stand name other ss rs (flat_rest f);
       }

@@ -20,10 +20,10 @@ use Rattle.ug_kernel.proofs.Ways.{Ways, Sure, Went as Ran, ways_run, sure_last}
 use Rattle.ug_table.proofs.Fair.{known_brought}
 use Rattle.ug_table.proofs.Lived.{StandsSo, as_judged, brought_own, judged_at, lives_first, lives_last, stand_files}
 use Rattle.ug_table.proofs.Marks.{keeps_map, known_has, names_distinct, tried_nobody}
-use Rattle.ug_table.proofs.One.{AreNamed, AreStood, left_gone, numbered_named, of_number, rest_of, stood_at, told_of, tried_leaves}
+use Rattle.ug_table.proofs.One.{AreStood, left_gone, numbered_named, of_number, stood_at, told_of, tried_leaves}
 use Rattle.ug_table.proofs.OnePart.{Goes, ToGo, brought_goes, ended_files, tried_so}
 use Rattle.ug_table.proofs.Shapes.{Adds, Brought, brought, told_at}
-use Rattle.ug_table.proofs.Standings.{IsFileOf, LiveAs, file_later, numbered_has, open_named, stands_one, tried_new, tried_own}
+use Rattle.ug_table.proofs.Standings.{AreNamed, rest_of, IsFileOf, LiveAs, file_later, numbered_has, open_named, stands_one, tried_new, tried_own}
 use Rattle.ug_table.proofs.Steps.{FairFrom, fair_refl, tried_one}
 
 -- the probe

@@ -10,7 +10,7 @@ use Rattle.ug_kernel.proofs.Ways.{Ways, Sure, Way, ways_more, behind_sure, sure_
 use Rattle.ug_node.proofs.BindShapes.{sure_binding, sure_hold}
 use Rattle.ug_types.proofs.Elements.{filter_has}
 use Rattle.ug_table.specs.Sweep.{names_of}
-use Rattle.ug_table.proofs.Standings.{missing, without_own, with_own, kept_tried}
+use Rattle.ug_table.proofs.Standings.{missing, without_own, without_with, with_own, kept_tried, tried_without}
 pub use Rattle.ug_table.proofs.Standings.{told_at}
 
 -- the shapes
@@ -90,6 +90,21 @@ pub data Flat (binds : Bool) (given : List Standing → Bound → Standing → T
   Unbound : (ms ns : List Made) (es fs : List Entry) (rs : List Standing) (r : Binding) (how : Settled) → binds ≡ true → Opening name ss ms es rs → Way (binding name (parent_of name)) ns r → Unbound_end name r fs how → Flat binds given name ss true (ms ++ ns) (es ++ fs) how rs None
   No_place : (ms ns : List Made) (es : List Entry) (rs : List Standing) (b : Bound) (shut : Closing) → binds ≡ true → Opening name ss ms es rs → Way (binding name (parent_of name)) ns (Binding.Bound b) → Flat binds given name ss false (ms ++ (ns ++ answered (Close b.held.0) shut ∷ [])) (es ++ Entry.Unsettled name Fault.Memory ∷ []) Settled.Memory rs None
   Judged_so : (ms ns os : List Made) (es fs : List Entry) (rs : List Standing) (b : Bound) (x : Standing) (how : Settled) → binds ≡ true → Opening name ss ms es rs → Way (binding name (parent_of name)) ns (Binding.Bound b) → given rs b x → IsNew name b x → Brought name (known_of x) b.on os fs how → Flat binds given name ss true (ms ++ (ns ++ os)) (es ++ Entry.Judged x.number name x.held x.verdict x.cause ∷ (fs ++ unsettled_by name how)) how (tried_standings (with_standing x rs) name how) (Some (rs, b))
+
+-- the standings of other names stay
+
+pub opening_rest : {name : List ℕ} {ss : List Standing} {ms : List Made} {es : List Entry} {rs : List Standing} → Opening name ss ms es rs → without name rs ≡ without name ss
+opening_rest (Fresh e) = refl
+opening_rest {name} {ss} (Lost known failed shut e) = tried_without name ss Settled.Nobody
+
+pub flat_rest : {binds : Bool} {given : List Standing → Bound → Standing → Type 0} {name : List ℕ} {ss : List Standing} {ok : Bool} {ms : List Made} {rest : List Entry} {how : Settled} {rs : List Standing} {o : Option (List Standing × Bound)} → Flat binds given name ss ok ms rest how rs o → without name rs ≡ without name ss
+flat_rest {name = name} {ss = ss} (Unprobed known failed at) = tried_without name ss (Settled.Fault failed)
+flat_rest {name = name} {ss = ss} (Tried known on failed ms es how at b) = tried_without name ss how
+flat_rest (Stopped ms es rs f opening) = opening_rest opening
+flat_rest (Unbound ms ns es fs rs r how t opening way end) = opening_rest opening
+flat_rest (No_place ms ns es rs b shut t opening way) = opening_rest opening
+flat_rest {name = name} (Judged_so ms ns os es fs rs b x how t opening way given new brought) =
+    tried_without name (with_standing x rs) how ∙ without_with name x rs new.named ∙ opening_rest opening
 
 -- the walk
 

@@ -1,5 +1,5 @@
 -- Standings, and the devices of their held files.
-use Rattle.std.proofs.Common.{◌≡◌, ◌↔◌, ℕ, nat_eq, Option, option_copied, IsNone, IsSome, Bor, sym, Bool, true, false, not, ◌∙◌, ◌||◌, List, [], ◌∷◌, Some, None, map, cond, ◌⊎◌, inl, inr, refl, ap, subst, arith, slice_get, ◌&&◌, ◌++◌, take, drop}
+use Rattle.std.proofs.Common.{◌≡◌, ◌↔◌, ℕ, nat_eq, Option, option_copied, IsNone, IsSome, Bor, sym, Bool, true, false, not, ◌∙◌, ◌||◌, List, [], ◌∷◌, Some, None, map, cond, ◌⊎◌, inl, inr, refl, ap, subst, arith, true≢false, slice_get, ◌&&◌, ◌++◌, take, drop}
 use Rattle.std.proofs.lemmas.Bool.{or_right, or_cases, cases_Bool, cond_both, cond-false, both_ways, not-true, not-false, false_from_ne_true}
 use Rattle.std.specs.Cmp.Lexicographic.{bytes_decides}
 use Rattle.ug_table.proofs.Common.{Has, AllDistinct, same_name, known_of, standing_of, numbered, without, marked, lists, removed_of, place_for, with_standing, settled_standing, numbers_of, Standing, Known, Target, Device, Control, Authorized, Remove, Write, Wrote, Told, Put, Kernel, Live, IsKernel, Lived, value_after, does_put, IsWritten, IsGoneAt, IsAlive, Called, Quiet, Grows, FailedCall, Settled, Held, open_file, known_files, number_of, Entry, farewells}
@@ -337,14 +337,6 @@ IsRemovedIf s = is_reject s.verdict ≡ true → s.removed ≡ true
 pub marked_other : (name : List ℕ) (b : Bool) (s : Standing) → (s.name ≡ name → ⊥) → marked name b s ≡ s
 marked_other name b s ne = ap (λ (t : Bool). let v : Standing = record s { settled = if t then b else s.settled; removed = if t then s.removed || (b && is_reject s.verdict) else s.removed } in v) (other_test s.name name ne)
 
-marked_has : (ss : List Standing) (name : List ℕ) (b : Bool) (s : Standing) → Has ss s → (s.name ≡ name → ⊥) → Has (map (marked name b) ss) s
-marked_has ss name b s h ne = subst (λ (v : Standing). Has (map (marked name b) ss) v) (marked_other name b s ne) (has_map (marked name b) ss s h)
-
-pub tried_has : (ss : List Standing) (name : List ℕ) (how : Settled) (s : Standing) → Has ss s → (s.name ≡ name → ⊥) → Has (tried_standings ss name how) s
-tried_has ss name Settled.Nobody s h ne = has_filter (λ (v : Standing). not (same_name v.name name)) ss s h (ap not (other_test s.name name ne))
-tried_has ss name Settled.Stands s h ne = marked_has ss name true s h ne
-tried_has ss name how s h ne = marked_has ss name false s h ne
-
 -- each was there
 abbrev pub Was : List Standing → Standing → Type 0
 Was ss s = (t : Standing) × Has ss t × (t.name ≡ s.name) × (t.held ≡ s.held)
@@ -415,32 +407,12 @@ with_own name x ss e n =
     let p : ℕ = place_for x.name ss in
     between_own name x (take p ss) (drop p ss) (is_same x.name name e) (ap (λ (v : List Standing). standing_of name v) (take-append-drop p ss) ∙ n)
 
--- another name has the standing that it had
-abbrev pub OthersStand : List ℕ → List Standing → List Standing → Type 0
-OthersStand name before after = (other : List ℕ) → (other ≡ name → ⊥) → standing_of other after ≡ standing_of other before
-
-pub others_stand : (name : List ℕ) (ss : List Standing) → OthersStand name ss ss
-others_stand name ss = λ other n. refl
-
 -- a standing of another name is passed over
 passed : (other : List ℕ) (s : Standing) (ss : List Standing) → same_name s.name other ≡ false → standing_of other (s ∷ ss) ≡ standing_of other ss
 passed other s ss e = ap (λ (v : Bool). cond v (Some (known_of s)) (standing_of other ss)) e
 
 pub not_named : (name other : List ℕ) (s : Standing) → s.name ≡ name → (other ≡ name → ⊥) → same_name s.name other ≡ false
 not_named name other s e n = other_test s.name other (λ f. n (sym f ∙ e))
-
-other_marked_by : (name other : List ℕ) (mark : Bool) (s : Standing) (ss : List Standing) (b : Bool) → same_name s.name name ≡ b → (other ≡ name → ⊥) → standing_of other (map (marked name mark) ss) ≡ standing_of other ss → standing_of other (map (marked name mark) (s ∷ ss)) ≡ standing_of other (s ∷ ss)
-other_marked_by name other mark s ss true e n h =
-    let out : same_name s.name other ≡ false = not_named name other s (same_is s.name name e) n in
-    passed other (marked name mark s) (map (marked name mark) ss) out ∙ h ∙ sym (passed other s ss out)
-other_marked_by name other mark s ss false e n h =
-    let flag : removed_of name mark s ≡ s.removed = ap (λ (t : Bool). cond t (s.removed || (mark && is_reject s.verdict)) s.removed) e in
-    ap (λ (f : Bool). let k : Known = record { number = s.number; held = s.held; verdict = s.verdict; removed = f } in cond (same_name s.name other) (Some k) (standing_of other (map (marked name mark) ss))) flag
-    ∙ ap (λ (v : Option Known). cond (same_name s.name other) (Some (known_of s)) v) h
-
-marked_stand : (name other : List ℕ) (mark : Bool) (ss : List Standing) → (other ≡ name → ⊥) → standing_of other (map (marked name mark) ss) ≡ standing_of other ss
-marked_stand name other mark [] n = refl
-marked_stand name other mark (s ∷ ss) n = other_marked_by name other mark s ss (same_name s.name name) refl n (marked_stand name other mark ss n)
 
 pub without_stand : (name other : List ℕ) (ss : List Standing) → (other ≡ name → ⊥) → standing_of other (without name ss) ≡ standing_of other ss
 without_stand name other [] n = refl
@@ -456,20 +428,6 @@ listed_stand names name (s ∷ ss) has = cond_both (lists names s.name) (s ∷ f
     (λ (l : List Standing). standing_of name l ≡ standing_of name (s ∷ ss))
     (λ e. ap (λ (v : Option Known). cond (same_name s.name name) (Some (known_of s)) v) (listed_stand names name ss has))
     (λ e. listed_stand names name ss has ∙ sym (passed name s ss (other_test s.name name (λ f. both_ways (lists names s.name) e (ap (λ (v : List ℕ). lists names v) f ∙ has)))))
-
-between_stand : (other : List ℕ) (x : Standing) (ss rs : List Standing) → same_name x.name other ≡ false → standing_of other (ss ++ x ∷ rs) ≡ standing_of other (ss ++ rs)
-between_stand other x [] rs e = passed other x rs e
-between_stand other x (s ∷ ss) rs e = ap (λ (v : Option Known). cond (same_name s.name other) (Some (known_of s)) v) (between_stand other x ss rs e)
-
-pub with_stand : (other : List ℕ) (x : Standing) (ss : List Standing) → same_name x.name other ≡ false → standing_of other (with_standing x ss) ≡ standing_of other ss
-with_stand other x ss e =
-    between_stand other x (take (place_for x.name ss) ss) (drop (place_for x.name ss) ss) e
-    ∙ ap (λ (v : List Standing). standing_of other v) (take-append-drop (place_for x.name ss) ss)
-
-pub tried_stand : (name : List ℕ) (ss : List Standing) (how : Settled) → OthersStand name ss (tried_standings ss name how)
-tried_stand name ss Settled.Nobody = λ other n. without_stand name other ss n
-tried_stand name ss Settled.Stands = λ other n. marked_stand name other true ss n
-tried_stand name ss how = λ other n. marked_stand name other false ss n
 
 -- A new standing that is kept was added, and then tried.
 
@@ -511,6 +469,62 @@ pub without_with : (name : List ℕ) (x : Standing) (ss : List Standing) → x.n
 without_with name x ss e =
     let p : ℕ = place_for x.name ss in
     without_between name x (take p ss) (drop p ss) e ∙ ap (without name) (take-append-drop p ss)
+
+-- The standings that aren't meant, as one settles a name, or the standing of a number.
+
+-- those that are meant, by name and number
+abbrev pub Test : Type 0
+Test = List ℕ → ℕ → Bool
+
+abbrev pub own : Test → Standing → Bool
+own test s = test s.name s.number
+
+abbrev pub rest_of : Test → List Standing → List Standing
+rest_of test ss = filter (λ (s : Standing). not (own test s)) ss
+
+-- among these standings, they are those of that name
+abbrev pub AreNamed : Test → List ℕ → List Standing → Type 0
+AreNamed test name ss = (s : Standing) → Has ss s → own test s ≡ same_name s.name name
+
+pub marked_rest : (test : Test) (name : List ℕ) (mark : Bool) (ss : List Standing) → AreNamed test name ss → rest_of test (map (marked name mark) ss) ≡ rest_of test ss
+marked_rest test name mark [] named = refl
+marked_rest test name mark (s ∷ ss) named = by (own test s) refl (marked_rest test name mark ss (λ t a. named t (inr a)))
+  where
+    by : (b : Bool) → own test s ≡ b → rest_of test (map (marked name mark) ss) ≡ rest_of test ss → cond (not b) (marked name mark s ∷ rest_of test (map (marked name mark) ss)) (rest_of test (map (marked name mark) ss)) ≡ cond (not b) (s ∷ rest_of test ss) (rest_of test ss)
+    by true e h = h
+    by false e h =
+        let other : s.name ≡ name → ⊥ = λ f. true≢false (sym (is_same s.name name f) ∙ sym (named s (inl refl)) ∙ e) in
+        ap (λ (v : Standing). v ∷ rest_of test (map (marked name mark) ss)) (marked_other name mark s other) ∙ ap (λ (v : List Standing). s ∷ v) h
+
+pub without_rest : (test : Test) (name : List ℕ) (ss : List Standing) → AreNamed test name ss → rest_of test (without name ss) ≡ rest_of test ss
+without_rest test name [] named = refl
+without_rest test name (s ∷ ss) named = by (own test s) refl (same_name s.name name) (sym (named s (inl refl))) (without_rest test name ss (λ t a. named t (inr a)))
+  where
+    by : (b : Bool) → own test s ≡ b → (c : Bool) → c ≡ own test s → rest_of test (without name ss) ≡ rest_of test ss → rest_of test (cond (not c) (s ∷ without name ss) (without name ss)) ≡ cond (not b) (s ∷ rest_of test ss) (rest_of test ss)
+    by true e true f h = h
+    by false e false f h = ap (λ (v : Bool). cond (not v) (s ∷ rest_of test (without name ss)) (rest_of test (without name ss))) e ∙ ap (λ (v : List Standing). s ∷ v) h
+    by true e false f h = absurd (true≢false (sym e ∙ sym f))
+    by false e true f h = absurd (true≢false (f ∙ e))
+
+pub tried_rest : (test : Test) (name : List ℕ) (ss : List Standing) (how : Settled) → AreNamed test name ss → rest_of test (tried_standings ss name how) ≡ rest_of test ss
+tried_rest test name ss Settled.Nobody named = without_rest test name ss named
+tried_rest test name ss Settled.Stands named = marked_rest test name true ss named
+tried_rest test name ss how named = marked_rest test name false ss named
+
+abbrev pub of_name : List ℕ → Test
+of_name name = λ other number. same_name other name
+
+pub tried_without : (name : List ℕ) (ss : List Standing) (how : Settled) → without name (tried_standings ss name how) ≡ without name ss
+tried_without name ss how = tried_rest (of_name name) name ss how (λ s a. refl)
+
+-- where those of other names are the same, one of them is there, and is found
+pub others_have : (name : List ℕ) (ss rs : List Standing) (s : Standing) → without name ss ≡ without name rs → Has ss s → (s.name ≡ name → ⊥) → Has rs s
+others_have name ss rs s e a ne =
+    let other : Standing → Bool = λ v. not (same_name v.name name) in
+    (filter_has other rs s (subst (λ (v : List Standing). Has v s) e (has_filter other ss s a (ap not (other_test s.name name ne))))).0
+
+pub others_stand : (name other : List ℕ) (ss rs : List Standing) → without name rs ≡ without name ss → (other ≡ name → ⊥) → standing_of other rs ≡ standing_of other ss
+others_stand name other ss rs e n = sym (without_stand name other rs n) ∙ ap (standing_of other) e ∙ without_stand name other ss n
 
 pub kept_tried : (ss : List Standing) (x : Standing) (how : Settled) → x.settled ≡ false
     → standing_of x.name ss ≡ None
