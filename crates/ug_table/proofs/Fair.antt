@@ -13,7 +13,7 @@ use Rattle.ug_table.proofs.Standings.{IsHeldAs, file_same, file_later, IsFileOf,
 use Rattle.ug_table.proofs.OnePart.{no_removal}
 use Rattle.ug_table.proofs.Devices.{device_stays, stand_stays, probed_from}
 use Rattle.ug_table.proofs.Steps.{NoRemoval, AreMarked, keeps_itself, removal_marks, removal_removed, marks_keep, keep_one, keep_marks, FairFrom, fair_trans, StepFrom, fair_by, After, same_refl, plain_fair, keep_fair, fair_end, then_quiet, then_called, then_note, then_same, then_went, one_itself, without_less, tried_after, left_all, stand_of, fair_refl, gone_device, account_stays}
-use Rattle.ug_table.proofs.Says.{plain_wrote, gone_has}
+use Rattle.ug_table.proofs.Says.{gone_has}
 use Rattle.ug_kernel.proofs.Ways.{Way, way_runs, along_split}
 use Rattle.ug_table.proofs.Shapes.{Written, Done, Went, Broke, Valued, Same, Set, Unheld, Gone_by, Failed_by, Short_by, Removal, Not_held, Put_on, Carried, By_value, And_removal, Brought, Left_open, Let_go, told_at, Piece, Opening, Fresh, Lost, Unbound_end, Failed_so, Short_so, Flat, Unprobed, Tried, Stopped, Unbound, No_place, Judged_so, IsGiven, next_after, judge_after, opening_none, opening_absent}
 use Rattle.ug_types.specs.declared.record.Attrs.{Attrs}
@@ -75,7 +75,7 @@ put_fair : {J : Type 0} {answer : Answers J} {later : Laters J} {present : Bool}
 put_fair {J} {answer} {later} {present} {tried} {k} {m} {w} {u} l s i held control what outcome failed at file due first none c h =
     let g = called_grows (Put held what) (told_at outcome failed) m l c in
     let es = wrote_entries s.number s.name what outcome in
-    let step = keep_fair answer later present tried m l u u.standings es c.sound g h.fair.stand (same_refl m u.standings u.next h.fair.stand) (keeps_itself u.standings) none (plain_wrote s.number s.name what outcome) (put_account m l u s i held control what outcome failed at file due first c) in
+    let step = keep_fair answer later present tried m l u u.standings es c.sound g h.fair.stand (same_refl m u.standings u.next h.fair.stand) (keeps_itself u.standings) none (tt, (tt, tt)) (put_account m l u s i held control what outcome failed at file due first c) in
     fair_trans h (subst (λ (v : List Entry). StepFrom answer later present tried m u l (record u { entries = v })) (sym (append_assoc u.entries (Entry.Intent s.number s.name what ∷ []) (Entry.Wrote s.number s.name what outcome ∷ []))) step)
 
 -- the standings after it, by how it was settled
@@ -158,7 +158,7 @@ removed_fair {J} {answer} {later} {present} {tried} {k} {m} {w} {u} l s i file f
     let first = remove_first m u s at.0 fresh (λ t b e. distinct_one (λ (v : Standing). v.number) u.standings t s stand.distinct b at.0 e) in
     let account = put_account m l u s i file Remove Write.Remove Wrote.Done failed at of (reject_calls s.verdict reject) first c in
     let removed = removal_removed l u.standings rs s (stand_stays m l u.standings u.next g stand).removed (done_removal m l s i file failed at.1 of c) a.1 in
-    let step = plain_fair answer later present tried m l u rs es c.sound g stand a.0 (removal_marks u.standings rs s stand.distinct reject a.1) removed (plain_wrote s.number s.name Write.Remove Wrote.Done) account in
+    let step = plain_fair answer later present tried m l u rs es c.sound g stand a.0 (removal_marks u.standings rs s stand.distinct reject a.1) removed (tt, (tt, tt)) account in
     fair_trans h (subst (λ (v : List Entry). StepFrom answer later present tried m u l (record u { standings = rs; entries = v })) (sym (append_assoc u.entries (Entry.Intent s.number s.name Write.Remove ∷ []) (Entry.Wrote s.number s.name Write.Remove Wrote.Done ∷ []))) step)
 
 -- where the `remove` file's device is gone, that of the `authorized` file is so

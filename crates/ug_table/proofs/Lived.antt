@@ -139,8 +139,7 @@ flat_apart {name = name} k l sound f (Judged_so ms ns os es fs rs b x how t open
     let o = h.0 in
     let says = h.1.2.1 in
     let opened_now : IsOpen m name x.held.0 = subst (λ v. IsOpen m name v.0) (sym new.held) (record { i = says.i; d = says.d; file = says.file; device = says.device; named = says.named }) in
-    let g = along_grows os m l cut.2 in
-    (
+    let g = along_grows os m l cut.2 in (
       others_trans name k m l (quiet_grows k m o.quiet) (others_quiet name k m o.quiet) (brought_apart m l brought o.sound opened_now cut.2),
       tried_files l (with_standing x rs) name how (with_files l rs x (files_later m l rs g o.files) (subst (λ v. IsOpen l v x.held.0) (sym new.named) (open_later m l name x.held.0 g opened_now))),
     )

@@ -9,7 +9,7 @@ use Rattle.ug_kernel.proofs.Grow.{some_same, quiet_grows, grows_trans, grows_ref
 use Rattle.ug_kernel.proofs.Quiet.{moves_quiet, WritesNothing, quiet_refl, called_quiet}
 use Rattle.std.proofs.lemmas.Bool.{cases_Bool, both_ways, true_from_ne_false, true≢false}
 use Rattle.ug_table.proofs.Standings.{missing_without, IsFileOf, file_same, file_later, same_is, is_same, names_marked, numbers_marked, still_removed, settled_removed, reject_removed}
-use Rattle.ug_table.proofs.Says.{Says, gone_has, gone_append, account_says, one_held, AreLow, Plain, plain_none, plain_note, plain_distinct, one_neither}
+use Rattle.ug_table.proofs.Says.{Says, gone_has, gone_append, account_says, one_held, AreLow, IsPlain, Plain, NoJudged, plain_unjudged, gone_unjudged, plain_note, plain_distinct, each_has, one_neither}
 use Rattle.ug_table.specs.Settle.{tried_standings}
 use Rattle.ug_table.specs.Sweep.{names_of}
 use Rattle.ug_table.proofs.Marks.{order_filter}
@@ -214,10 +214,6 @@ low_later ss next later le low s a = let below = low s a in omega (arith, below,
 had_number : {J : Type 0} (answer : Answers J) (later : Laters J) (present : Bool) (tried : Tries) (mid k : Kernel) (middle : List Standing) (log1 : List Effect) (judge1 : J) (next1 : ℕ) (gs : List Entry) (log : List Effect) (judge : J) (next number : ℕ) (name : List ℕ) (held : Held) (verdict : Target) → AreLow middle next1 → Account answer later present tried mid k middle log1 judge1 next1 gs log judge next → HasVerdict middle gs number name held verdict → ((t : Standing) × Has middle t × (t.number ≡ number)) ⊎ (next1 ≤ number)
 had_number answer later present tried mid k middle log1 judge1 next1 gs log judge next number name held verdict low a (inl h) = inl (h.0, h.1, h.2)
 had_number answer later present tried mid k middle log1 judge1 next1 gs log judge next number name held verdict low a (inr h) = inr ((account_says answer later present tried mid k middle log1 judge1 next1 gs log judge next low a).judged number name held verdict h.0 h.1).after
-
--- no verdict is told
-abbrev pub NoJudged : List Entry → Type 0
-NoJudged es = (number : ℕ) (name : List ℕ) (held : Held) (verdict : Target) (cause : Cause) → Has es (Entry.Judged number name held verdict cause) → ⊥
 
 none_left : (es fs : List Entry) → NoJudged (es ++ fs) → NoJudged es
 none_left es fs none number name held verdict cause a = none number name held verdict cause (has_left es fs (Entry.Judged number name held verdict cause) a)
@@ -445,15 +441,15 @@ plain_fair answer later present tried m l u rs fs sound g stand same marked remo
       left = record {
         told = λ s h. inl (same.there s h);
         kept = λ s h. inl (same.kept s h);
-        judged = λ number name held verdict cause h. absurd (plain.judged number name held verdict cause h);
-        ended = λ s name h a. plain.gone s.number name a;
+        judged = λ number name held verdict cause h. absurd (plain_unjudged fs plain number name held verdict cause h);
+        ended = λ s name h a. each_has IsPlain fs (Entry.Gone s.number name) plain a;
         removed = marked;
       };
       gone = plain_distinct fs plain;
-      once = λ i a b p q. absurd (plain.judged a p.name p.held p.verdict p.cause p.has);
-      unjudged = λ i a h p. plain.judged a p.name p.held p.verdict p.cause p.has;
+      once = λ i a b p q. absurd (plain_unjudged fs plain a p.name p.held p.verdict p.cause p.has);
+      unjudged = λ i a h p. plain_unjudged fs plain a p.name p.held p.verdict p.cause p.has;
     } in
-    record { step = record { stood = stand; fair = fair }; none = plain.judged }
+    record { step = record { stood = stand; fair = fair }; none = plain_unjudged fs plain }
 
 -- a step that leaves the marks
 pub keep_fair : {J : Type 0} (answer : Answers J) (later : Laters J) (present : Bool) (tried : Tries) (m l : Kernel) (u : State J) (rs : List Standing) (fs : List Entry) → IsKernel l → Grows m l → Stand m u.standings u.next → Same u.standings rs → KeepMarks u.standings rs → NoRemoval fs → Plain fs → Account answer later present tried m l u.standings m.log u.judge u.next fs l.log u.judge u.next → StepFrom answer later present tried m u l (record u { standings = rs; entries = u.entries ++ fs })
@@ -464,7 +460,7 @@ keep_fair answer later present tried m l u rs fs sound g stand same keep none pl
 fair_quiet : {J : Type 0} (answer : Answers J) (later : Laters J) (present : Bool) (tried : Tries) (k l : Kernel) (w : State J) → IsKernel l → Quiet k l → Stand k w.standings w.next → StepFrom answer later present tried k w l w
 fair_quiet answer later present tried k l w sound q stand =
     let account : Account answer later present tried k l w.standings k.log w.judge w.next [] l.log w.judge w.next = subst (λ v. Account answer later present tried k l w.standings k.log w.judge w.next [] v w.judge w.next) (sym q.log) Start in
-    let step = keep_fair answer later present tried k l w w.standings [] sound (quiet_grows k l q) stand (same_refl k w.standings w.next stand) (keeps_itself w.standings) (λ number name h. h) plain_none account in
+    let step = keep_fair answer later present tried k l w w.standings [] sound (quiet_grows k l q) stand (same_refl k w.standings w.next stand) (keeps_itself w.standings) (λ number name h. h) tt account in
     subst (λ (x : List Entry). StepFrom answer later present tried k w l (record w { entries = x })) (append-nil w.entries) step
 
 pub fair_refl : {J : Type 0} (answer : Answers J) (later : Laters J) (present : Bool) (tried : Tries) (k : Kernel) (w : State J) → IsKernel k → Stand k w.standings w.next → FairFrom answer later present tried k w k w
@@ -482,11 +478,11 @@ fair_end {J} {answer} {later} {present} {tried} {k} {m} {w} {u} l v e f h = subs
 
 pub then_note : {J : Type 0} {answer : Answers J} {later : Laters J} {present : Bool} {tried : Tries} {k l : Kernel} {w u : State J} (e : Entry) → TellsNeither e → FairFrom answer later present tried k w l u → FairFrom answer later present tried k w l (noted u e)
 then_note {J} {answer} {later} {present} {tried} {k} {l} {w} {u} e t h =
-    fair_trans h (keep_fair answer later present tried l l u u.standings (e ∷ []) h.fair.sound (grows_refl l) h.fair.stand (same_refl l u.standings u.next h.fair.stand) (keeps_itself u.standings) (λ number name a. one_neither e (Entry.Wrote number name Write.Remove Wrote.Done) t a) (plain_note e t) (Note [] l.log u.judge u.next e t Start))
+    fair_trans h (keep_fair answer later present tried l l u u.standings (e ∷ []) h.fair.sound (grows_refl l) h.fair.stand (same_refl l u.standings u.next h.fair.stand) (keeps_itself u.standings) (λ number name a. one_neither e (Entry.Wrote number name Write.Remove Wrote.Done) t a) (plain_note e t, tt) (Note [] l.log u.judge u.next e t Start))
 
 pub then_same : {J : Type 0} {answer : Answers J} {later : Laters J} {present : Bool} {tried : Tries} {k l : Kernel} {w u : State J} (ss : List Standing) → Same u.standings ss → KeepMarks u.standings ss → FairFrom answer later present tried k w l u → FairFrom answer later present tried k w l (record u { standings = ss })
 then_same {J} {answer} {later} {present} {tried} {k} {l} {w} {u} ss same keep h =
-    let step = keep_fair answer later present tried l l u ss [] h.fair.sound (grows_refl l) h.fair.stand same keep (λ number name a. a) plain_none Start in
+    let step = keep_fair answer later present tried l l u ss [] h.fair.sound (grows_refl l) h.fair.stand same keep (λ number name a. a) tt Start in
     fair_trans h (subst (λ (x : List Entry). StepFrom answer later present tried l u l (record u { standings = ss; entries = x })) (append-nil u.entries) step)
 
 -- a standing that ends
@@ -501,7 +497,7 @@ went_fair : {J : Type 0} (answer : Answers J) (later : Laters J) (present : Bool
 went_fair answer later present tried m u x rs sound stand has less gone =
     let e = Entry.Gone x.number x.name in
     let d = stand.devices x has in
-    let none : (number : ℕ) (name : List ℕ) (held : Held) (verdict : _) (cause : _) → Has (e ∷ []) (Entry.Judged number name held verdict cause) → ⊥ = λ number name held verdict cause h. elim h [ inl is ↦ let none : ⊥ = cc in none | inr n ↦ n ] in
+    let none = gone_unjudged x.number x.name in
     let fair : IsFair answer later present tried m u m (record u { standings = rs; entries = u.entries ++ e ∷ [] }) = record {
       sound = sound;
       grows = grows_refl m;
