@@ -12,7 +12,7 @@ use Rattle.ug_types.proofs.Elements.{has_right, distinct_one, has_map, has_new, 
 use Rattle.ug_table.proofs.Standings.{IsHeldAs, file_same, file_later, IsFileOf, found, with_own, each_with, listed_is, IsOpen, open_name}
 use Rattle.ug_table.proofs.OnePart.{no_removal}
 use Rattle.ug_table.proofs.Devices.{device_stays, stand_stays, probed_from}
-use Rattle.ug_table.proofs.Steps.{NoRemoval, AreMarked, keeps_itself, removal_marks, removal_removed, marks_keep, keep_one, keep_marks, FairFrom, fair_trans, StepFrom, fair_by, After, same_refl, plain_fair, keep_fair, fair_end, then_quiet, then_called, then_note, then_same, then_went, one_itself, without_less, tried_after, left_all, stand_of, fair_refl, gone_device, account_stays}
+use Rattle.ug_table.proofs.Steps.{NoRemoval, AreMarked, keeps_itself, removal_marks, removal_removed, marks_keep, keep_one, keep_marks, FairFrom, fair_trans, StepFrom, fair_by, After, same_refl, plain_fair, keep_fair, fair_end, then_quiet, then_called, then_note, then_same, then_went, one_itself, without_less, tried_after, left_all, in_order, stand_by, stand_of, fair_refl, gone_device, account_stays}
 use Rattle.ug_table.proofs.Says.{gone_has}
 use Rattle.ug_kernel.proofs.Ways.{Way, way_runs, along_split}
 use Rattle.ug_table.proofs.Shapes.{Written, Done, Went, Broke, Valued, Same, Set, Unheld, Gone_by, Failed_by, Short_by, Removal, Not_held, Put_on, Carried, By_value, And_removal, Brought, Left_open, Let_go, told_at, Piece, Opening, Fresh, Lost, Unbound_end, Failed_so, Short_so, Flat, Unprobed, Tried, Stopped, Unbound, No_place, Judged_so, IsGiven, next_after, judge_after, opening_none, opening_absent}
@@ -22,7 +22,7 @@ use Rattle.ug_node.specs.Bind.{binding}
 use Rattle.ug_node.specs.Bound.{attrs_of, IsBound, BindSays}
 use Rattle.ug_table.specs.Settle.{unsettled_by, standing_for, judged_entry, tried_standings, dropped}
 use Rattle.ug_table.specs.Sweep.{names_of, parted, marked_listed, sweeping}
-use Rattle.ug_table.proofs.Marks.{order_new, names_distinct, order_filter, sweep_in_order, AreIn, dropped_in, AreSplit, AreFresh, split_in, parted_split, parted_fresh, part_split, part_fresh, piece_part, order_distinct}
+use Rattle.ug_table.proofs.Marks.{order_new, keeps_filter, sweep_in_order, AreIn, dropped_in, AreSplit, AreFresh, split_in, parted_split, parted_fresh, part_split, part_fresh, piece_part, order_distinct}
 use Rattle.std.specs.List.{filter}
 use Rattle.ug_types.proofs.Sorting.{to_sweep_order}
 use Rattle.ug_kernel.proofs.Held.{live_before}
@@ -75,7 +75,7 @@ put_fair : {J : Type 0} {answer : Answers J} {later : Laters J} {present : Bool}
 put_fair {J} {answer} {later} {present} {tried} {k} {m} {w} {u} l s i held control what outcome failed at file due first none c h =
     let g = called_grows (Put held what) (told_at outcome failed) m l c in
     let es = wrote_entries s.number s.name what outcome in
-    let step = keep_fair answer later present tried m l u u.standings es c.sound g h.fair.stand (same_refl m u.standings u.next h.fair.stand) (keeps_itself u.standings) none (tt, (tt, tt)) (put_account m l u s i held control what outcome failed at file due first c) in
+    let step = keep_fair answer later present tried m l u u.standings es c.sound g h.fair.stand (same_refl u.standings) (keeps_itself u.standings) none (tt, (tt, tt)) (put_account m l u s i held control what outcome failed at file due first c) in
     fair_trans h (subst (λ (v : List Entry). StepFrom answer later present tried m u l (record u { entries = v })) (sym (append_assoc u.entries (Entry.Intent s.number s.name what ∷ []) (Entry.Wrote s.number s.name what outcome ∷ []))) step)
 
 -- the standings after it, by how it was settled
@@ -245,15 +245,9 @@ just_judged answer later w name held judged present on = record w {
 
 stand_more : (k : Kernel) (ss : List Standing) (next i : ℕ) (s : Standing) → IsDevice k i s.name s.held s.judged → s.number ≡ next → s.removed ≡ false → (Has (names_of ss) s.name → ⊥) → Stand k ss next → Stand k (with_standing s ss) (next + 1)
 stand_more k ss next i s d number fresh absent stand =
-    let o = order_new next ss s number absent (record { order = stand.order; distinct = stand.distinct; numbers = stand.numbers }) in
-    record {
-      devices = each_with (λ (v : Standing). (i : ℕ) × IsDevice k i v.name v.held v.judged) s ss (i, d) stand.devices;
-      numbers = o.numbers;
-      names = names_distinct (names_of (with_standing s ss)) o.order;
-      order = o.order;
-      distinct = o.distinct;
-      removed = each_with (λ (v : Standing). v.removed ≡ true → HasRemoval k v.held) s ss (λ r. absurd (true≢false (sym r ∙ fresh))) stand.removed;
-    }
+    stand_by k (with_standing s ss) (next + 1) (order_new next ss s number absent (in_order stand))
+    (each_with (λ (v : Standing). (i : ℕ) × IsDevice k i v.name v.held v.judged) s ss (i, d) stand.devices)
+    (each_with (λ (v : Standing). v.removed ≡ true → HasRemoval k v.held) s ss (λ r. absurd (true≢false (sym r ∙ fresh))) stand.removed)
 
 -- a new standing isn't marked as removed
 new_marks : (ss : List Standing) (next : ℕ) (s : Standing) (e : Entry) → s.number ≡ next → s.removed ≡ false → AllDistinct (numbers_of ss) → ((x : Standing) → Has ss x → x.number < next) → NoRemoval (e ∷ []) → AreMarked ss (e ∷ []) (with_standing s ss)
@@ -544,7 +538,7 @@ parted_fair answer later present tried m u names sound stand gone =
       grows = grows_refl m;
       rest = farewells names ss;
       entries = refl;
-      stand = stand_of m ss rs u.next there (distinct_filter (λ (s : Standing). s.name) listed ss stand.names) (order_filter listed ss stand.order) (distinct_filter (λ (s : Standing). s.number) listed ss stand.distinct) (λ s a. stand.removed s (filter_has listed ss s a).0) stand;
+      stand = stand_of m ss rs u.next there (keeps_filter listed ss) (λ s a. stand.removed s (filter_has listed ss s a).0) stand;
       account = farewell_account answer later present tried m names ss m.log u.judge u.next ss [] stand gone (λ s a. a) Start;
       left = record {
         told = λ s a. inl (there s a);

@@ -439,7 +439,7 @@ keeps_map f ss named numbered next o = record {
   numbers = λ s a. let m = map_has f ss s a in subst (λ (v : ℕ). v < next) (sym (numbered m.0) ∙ ap (λ (v : Standing). v.number) m.2) (o.numbers m.0 m.1);
 }
 
-keeps_marked : (name : List ℕ) (mark : Bool) (ss : List Standing) → KeepsOrder ss (map (marked name mark) ss)
+pub keeps_marked : (name : List ℕ) (mark : Bool) (ss : List Standing) → KeepsOrder ss (map (marked name mark) ss)
 keeps_marked name mark ss = keeps_map (marked name mark) ss (λ s. refl) (λ s. refl)
 
 -- one that is tried again

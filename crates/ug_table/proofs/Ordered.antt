@@ -24,7 +24,7 @@ use Rattle.ug_table.proofs.One.{AreStood, left_gone, numbered_named, of_number, 
 use Rattle.ug_table.proofs.OnePart.{Goes, ToGo, brought_goes, ended_files, tried_so}
 use Rattle.ug_table.proofs.Shapes.{Adds, Brought, brought, told_at}
 use Rattle.ug_table.proofs.Standings.{AreNamed, rest_of, IsFileOf, LiveAs, file_later, numbered_has, open_named, stands_one, tried_new, tried_own}
-use Rattle.ug_table.proofs.Steps.{FairFrom, fair_refl, tried_one}
+use Rattle.ug_table.proofs.Steps.{FairFrom, fair_refl, in_order, stand_by, tried_one}
 
 -- the probe
 
@@ -208,15 +208,9 @@ order_short gives number verdict who on k x s p t at r e =
 stand_ordered : (k : Kernel) (ss : List Standing) (next number : ℕ) (verdict : Target) (who : Named) → Stand k ss next → Stand k (with_order number verdict who ss) next
 stand_ordered k ss next number verdict who stand =
     let f = ordered_standing number verdict who in
-    let o = keeps_ordered number verdict who ss next (record { order = stand.order; distinct = stand.distinct; numbers = stand.numbers }) in
-    record {
-      devices = λ s a. let m = map_has f ss s a in subst (λ (v : Standing). (i : ℕ) × IsDevice k i v.name v.held v.judged) m.2 (stand.devices m.0 m.1);
-      numbers = o.numbers;
-      names = names_distinct (names_of (with_order number verdict who ss)) o.order;
-      order = o.order;
-      distinct = o.distinct;
-      removed = λ s a. let m = map_has f ss s a in subst (λ (v : Standing). v.removed ≡ true → HasRemoval k v.held) m.2 (stand.removed m.0 m.1);
-    }
+    stand_by k (with_order number verdict who ss) next (keeps_ordered number verdict who ss next (in_order stand))
+    (λ s a. let m = map_has f ss s a in subst (λ (v : Standing). (i : ℕ) × IsDevice k i v.name v.held v.judged) m.2 (stand.devices m.0 m.1))
+    (λ s a. let m = map_has f ss s a in subst (λ (v : Standing). v.removed ≡ true → HasRemoval k v.held) m.2 (stand.removed m.0 m.1))
 
 -- no verdict is told, and no write but of that number
 abbrev OnlyOf : ℕ → Entry → Type 0

@@ -114,12 +114,6 @@ pub fields_stay : {X : Type 0} (f : Standing → Standing) (field : Standing →
 fields_stay f field [] e = refl
 fields_stay {X} f field (s ∷ ss) e = ap (λ (v : X). v ∷ map field (map f ss)) (e s) ∙ ap (λ (v : List X). field s ∷ v) (fields_stay f field ss e)
 
-pub names_marked : (name : List ℕ) (mark : Bool) (ss : List Standing) → names_of (map (marked name mark) ss) ≡ names_of ss
-names_marked name mark ss = fields_stay (marked name mark) (λ (s : Standing). s.name) ss (λ s. refl)
-
-pub numbers_marked : (name : List ℕ) (mark : Bool) (ss : List Standing) → numbers_of (map (marked name mark) ss) ≡ numbers_of ss
-numbers_marked name mark ss = fields_stay (marked name mark) (λ (s : Standing). s.number) ss (λ s. refl)
-
 -- the marks of removed devices
 
 pub or_none : (b : Bool) → (b || false) ≡ b

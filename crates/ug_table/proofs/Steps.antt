@@ -2,17 +2,18 @@
 use Rattle.std.proofs.Common.{◌≡◌, ℕ, Bool, List, ◌++◌, inl, inr, sym, ◌∙◌, subst, true, false, ◌⊎◌, refl, ap, ◌<◌, ◌≤◌, append-nil, [], ◌∷◌, Some, slice_get, append_assoc, arith, not, map}
 use Rattle.ug_table.proofs.Common.{Has, AllDistinct, Held, Target, Kernel, Live, IsKernel, Grows, Quiet, Entry, Tries, HasVerdict, Account, Start, Note, Judge, Had, Had_not, Went, IsTold, HasRemoval, Stand, numbers_of, wrote_entries, IsRemoveMarked, IsDevice, IsGone, IsProbed, IsOne, Stands, HasStanding, IsJudged, gone_of, IsFair, AreLeft, WasRemoved, IsFirst, AreInOrder, TellsNeither, Standing, Answers, Laters, State, noted, Judged, Cause, Device, Write, Wrote, Authorized, Call, Answer, IsGoneAt, Called, same_name, without, marked, removed_of, Settled}
 use Rattle.ug_kernel.specs.declared.device.Effect.{Effect}
-use Rattle.ug_types.proofs.Elements.{has_left, has_right, distinct_one, has_cases, distinct_append, filter_has, has_filter, map_has, has_map, distinct_filter}
+use Rattle.ug_types.proofs.Elements.{has_left, has_right, distinct_one, has_cases, distinct_append, filter_has, has_filter, map_has, has_map}
 use Rattle.ug_table.proofs.Devices.{device_stays, gone_stays, probed_stays, stand_stays}
 use Rattle.ug_table.specs.Bring.{is_reject}
 use Rattle.ug_kernel.proofs.Grow.{some_same, quiet_grows, grows_trans, grows_refl}
 use Rattle.ug_kernel.proofs.Quiet.{moves_quiet, WritesNothing, quiet_refl, called_quiet}
 use Rattle.std.proofs.lemmas.Bool.{cases_Bool, both_ways, true_from_ne_false, true≢false}
-use Rattle.ug_table.proofs.Standings.{missing_without, IsFileOf, file_same, file_later, same_is, is_same, names_marked, numbers_marked, still_removed, settled_removed, reject_removed}
+use Rattle.ug_table.proofs.Standings.{missing_without, IsFileOf, file_same, file_later, same_is, is_same, still_removed, settled_removed, reject_removed}
 use Rattle.ug_table.proofs.Says.{Says, gone_has, gone_append, account_says, one_held, AreLow, IsPlain, Plain, NoJudged, plain_unjudged, gone_unjudged, plain_note, plain_distinct, each_has, one_neither}
 use Rattle.ug_table.specs.Settle.{tried_standings}
 use Rattle.ug_table.specs.Sweep.{names_of}
-use Rattle.ug_table.proofs.Marks.{order_filter}
+use Rattle.ug_table.proofs.Marks.{keeps_filter, keeps_marked, names_distinct}
+use Rattle.ug_table.specs.Order.{StandInOrder, KeepsOrder}
 
 -- Accounts of one part of a sweep after another.
 
@@ -381,9 +382,7 @@ fair_trans {J} {answer} {later} {present} {tried} {k} {m} {l} {w} {u} {v} a s =
 pub record Same (ss rs : List Standing) : Type 0 where
   pub there : (s : Standing) → Has rs s → IsOne ss s
   pub kept : (s : Standing) → Has ss s → IsOne rs s
-  pub names : AllDistinct (names_of rs)
-  pub order : AreInOrder (names_of rs)
-  pub distinct : AllDistinct (numbers_of rs)
+  pub order : KeepsOrder ss rs
 
 -- the same but for one, which ends
 pub record Less (x : Standing) (ss rs : List Standing) : Type 0 where
@@ -391,9 +390,7 @@ pub record Less (x : Standing) (ss rs : List Standing) : Type 0 where
   pub marks : KeepMarks ss rs
   pub kept : (s : Standing) → Has ss s → IsOne rs s ⊎ ((s.number ≡ x.number) × (s.name ≡ x.name))
   pub apart : (s : Standing) → Has rs s → s.number ≡ x.number → ⊥
-  pub names : AllDistinct (names_of rs)
-  pub order : AreInOrder (names_of rs)
-  pub distinct : AllDistinct (numbers_of rs)
+  pub order : KeepsOrder ss rs
 
 pub one_itself : (ss : List Standing) (s : Standing) → Has ss s → IsOne ss s
 one_itself ss s a = (s, a, refl, refl, refl, refl, refl, refl)
@@ -408,8 +405,8 @@ left_all ss distinct = record {
   removed = λ s a. keep_one ss [] s (keeps_itself ss s a) distinct (λ name h. h);
 }
 
-pub same_refl : (k : Kernel) (ss : List Standing) (next : ℕ) → Stand k ss next → Same ss ss
-same_refl k ss next stand = record { there = one_itself ss; kept = one_itself ss; names = stand.names; order = stand.order; distinct = stand.distinct }
+pub same_refl : (ss : List Standing) → Same ss ss
+same_refl ss = record { there = one_itself ss; kept = one_itself ss; order = λ next o. o }
 
 one_device : (k : Kernel) (before : List Standing) (next : ℕ) (s : Standing) → Stand k before next → IsOne before s → (i : ℕ) × IsDevice k i s.name s.held s.judged
 one_device k before next s stand b =
@@ -418,15 +415,22 @@ one_device k before next s stand b =
     let held : IsDevice k x.0 s.name s.held b.0.judged = subst (λ (v : Held). IsDevice k x.0 s.name v b.0.judged) (sym b.4) named in
     (x.0, subst (λ (v : Judged). IsDevice k x.0 s.name s.held v) (sym b.5) held)
 
-pub stand_of : (k : Kernel) (before ss : List Standing) (next : ℕ) → ((s : Standing) → Has ss s → IsOne before s) → AllDistinct (names_of ss) → AreInOrder (names_of ss) → AllDistinct (numbers_of ss) → AreRemoved k ss → Stand k before next → Stand k ss next
-stand_of k before ss next there names order distinct removed stand = record {
-  devices = λ s h. one_device k before next s stand (there s h);
-  numbers = λ s h. let b = there s h in subst (λ (v : ℕ). v < next) (sym b.2) (stand.numbers b.0 b.1);
-  names = names;
-  order = order;
-  distinct = distinct;
+pub in_order : {k : Kernel} {ss : List Standing} {next : ℕ} → Stand k ss next → StandInOrder next ss
+in_order stand = record { order = stand.order; distinct = stand.distinct; numbers = stand.numbers }
+
+pub stand_by : (k : Kernel) (ss : List Standing) (next : ℕ) → StandInOrder next ss → ((s : Standing) → Has ss s → (i : ℕ) × IsDevice k i s.name s.held s.judged) → AreRemoved k ss → Stand k ss next
+stand_by k ss next o devices removed = record {
+  devices = devices;
+  numbers = o.numbers;
+  names = names_distinct (names_of ss) o.order;
+  order = o.order;
+  distinct = o.distinct;
   removed = removed;
 }
+
+pub stand_of : (k : Kernel) (before ss : List Standing) (next : ℕ) → ((s : Standing) → Has ss s → IsOne before s) → KeepsOrder before ss → AreRemoved k ss → Stand k before next → Stand k ss next
+stand_of k before ss next there keeps removed stand =
+    stand_by k ss next (keeps next (in_order stand)) (λ s h. one_device k before next s stand (there s h)) removed
 
 -- a step whose entries tell no verdict and no end
 pub plain_fair : {J : Type 0} (answer : Answers J) (later : Laters J) (present : Bool) (tried : Tries) (m l : Kernel) (u : State J) (rs : List Standing) (fs : List Entry) → IsKernel l → Grows m l → Stand m u.standings u.next → Same u.standings rs → AreMarked u.standings fs rs → AreRemoved l rs → Plain fs → Account answer later present tried m l u.standings m.log u.judge u.next fs l.log u.judge u.next → StepFrom answer later present tried m u l (record u { standings = rs; entries = u.entries ++ fs })
@@ -436,7 +440,7 @@ plain_fair answer later present tried m l u rs fs sound g stand same marked remo
       grows = g;
       rest = fs;
       entries = refl;
-      stand = stand_of l u.standings rs u.next same.there same.names same.order same.distinct removed (stand_stays m l u.standings u.next g stand);
+      stand = stand_of l u.standings rs u.next same.there same.order removed (stand_stays m l u.standings u.next g stand);
       account = account;
       left = record {
         told = λ s h. inl (same.there s h);
@@ -460,7 +464,7 @@ keep_fair answer later present tried m l u rs fs sound g stand same keep none pl
 fair_quiet : {J : Type 0} (answer : Answers J) (later : Laters J) (present : Bool) (tried : Tries) (k l : Kernel) (w : State J) → IsKernel l → Quiet k l → Stand k w.standings w.next → StepFrom answer later present tried k w l w
 fair_quiet answer later present tried k l w sound q stand =
     let account : Account answer later present tried k l w.standings k.log w.judge w.next [] l.log w.judge w.next = subst (λ v. Account answer later present tried k l w.standings k.log w.judge w.next [] v w.judge w.next) (sym q.log) Start in
-    let step = keep_fair answer later present tried k l w w.standings [] sound (quiet_grows k l q) stand (same_refl k w.standings w.next stand) (keeps_itself w.standings) (λ number name h. h) tt account in
+    let step = keep_fair answer later present tried k l w w.standings [] sound (quiet_grows k l q) stand (same_refl w.standings) (keeps_itself w.standings) (λ number name h. h) tt account in
     subst (λ (x : List Entry). StepFrom answer later present tried k w l (record w { entries = x })) (append-nil w.entries) step
 
 pub fair_refl : {J : Type 0} (answer : Answers J) (later : Laters J) (present : Bool) (tried : Tries) (k : Kernel) (w : State J) → IsKernel k → Stand k w.standings w.next → FairFrom answer later present tried k w k w
@@ -478,7 +482,7 @@ fair_end {J} {answer} {later} {present} {tried} {k} {m} {w} {u} l v e f h = subs
 
 pub then_note : {J : Type 0} {answer : Answers J} {later : Laters J} {present : Bool} {tried : Tries} {k l : Kernel} {w u : State J} (e : Entry) → TellsNeither e → FairFrom answer later present tried k w l u → FairFrom answer later present tried k w l (noted u e)
 then_note {J} {answer} {later} {present} {tried} {k} {l} {w} {u} e t h =
-    fair_trans h (keep_fair answer later present tried l l u u.standings (e ∷ []) h.fair.sound (grows_refl l) h.fair.stand (same_refl l u.standings u.next h.fair.stand) (keeps_itself u.standings) (λ number name a. one_neither e (Entry.Wrote number name Write.Remove Wrote.Done) t a) (plain_note e t, tt) (Note [] l.log u.judge u.next e t Start))
+    fair_trans h (keep_fair answer later present tried l l u u.standings (e ∷ []) h.fair.sound (grows_refl l) h.fair.stand (same_refl u.standings) (keeps_itself u.standings) (λ number name a. one_neither e (Entry.Wrote number name Write.Remove Wrote.Done) t a) (plain_note e t, tt) (Note [] l.log u.judge u.next e t Start))
 
 pub then_same : {J : Type 0} {answer : Answers J} {later : Laters J} {present : Bool} {tried : Tries} {k l : Kernel} {w u : State J} (ss : List Standing) → Same u.standings ss → KeepMarks u.standings ss → FairFrom answer later present tried k w l u → FairFrom answer later present tried k w l (record u { standings = ss })
 then_same {J} {answer} {later} {present} {tried} {k} {l} {w} {u} ss same keep h =
@@ -503,7 +507,7 @@ went_fair answer later present tried m u x rs sound stand has less gone =
       grows = grows_refl m;
       rest = e ∷ [];
       entries = refl;
-      stand = stand_of m u.standings rs u.next less.there less.names less.order less.distinct (λ s h. keep_removal m u.standings s stand.removed (less.marks s h)) stand;
+      stand = stand_of m u.standings rs u.next less.there less.order (λ s h. keep_removal m u.standings s stand.removed (less.marks s h)) stand;
       account = Went [] m.log u.judge u.next d.0 x.number x.name x.held x.judged x.verdict d.1 (gone_held m d.0 x.name x.held x.judged d.1 gone) (inl (x, has, refl, refl, refl, refl)) Start;
       left = record {
         told = λ s h. inl (less.there s h);
@@ -538,13 +542,11 @@ tried_one ss name Settled.Nobody s a = one_itself ss s (filter_has (λ (v : Stan
 tried_one ss name Settled.Stands s a = marked_one ss name true s a
 tried_one ss name how s a = marked_one ss name false s a
 
-marked_same : (k : Kernel) (ss : List Standing) (next : ℕ) (name : List ℕ) (mark : Bool) → Stand k ss next → Same ss (map (marked name mark) ss)
-marked_same k ss next name mark stand = record {
+marked_same : (ss : List Standing) (name : List ℕ) (mark : Bool) → Same ss (map (marked name mark) ss)
+marked_same ss name mark = record {
   there = marked_one ss name mark;
   kept = λ s a. (marked name mark s, has_map (marked name mark) ss s a, refl, refl, refl, refl, refl, refl);
-  names = subst (λ (v : List (List ℕ)). AllDistinct v) (sym (names_marked name mark ss)) stand.names;
-  order = subst (λ (v : List (List ℕ)). AreInOrder v) (sym (names_marked name mark ss)) stand.order;
-  distinct = subst (λ (v : List ℕ). AllDistinct v) (sym (numbers_marked name mark ss)) stand.distinct;
+  order = keeps_marked name mark ss;
 }
 
 -- marked as unsettled
@@ -582,12 +584,10 @@ without_less k ss next name x has named stand = record {
     | inl e ↦ let same : s ≡ x = distinct_one (λ (v : Standing). v.name) ss s x stand.names a has (same_is s.name name e ∙ sym named) in inr (ap (λ (v : Standing). v.number) same, ap (λ (v : Standing). v.name) same)
   ];
   apart = λ s a e. let same : s ≡ x = distinct_one (λ (v : Standing). v.number) ss s x stand.distinct (filter_has (λ (v : Standing). not (same_name v.name name)) ss s a).0 has e in missing_without name ss (subst (λ (v : List ℕ). Has (names_of (without name ss)) v) (ap (λ (v : Standing). v.name) same ∙ named) (has_map (λ (v : Standing). v.name) (without name ss) s a));
-  names = distinct_filter (λ (s : Standing). s.name) (λ (v : Standing). not (same_name v.name name)) ss stand.names;
-  order = order_filter (λ (v : Standing). not (same_name v.name name)) ss stand.order;
-  distinct = distinct_filter (λ (s : Standing). s.number) (λ (v : Standing). not (same_name v.name name)) ss stand.distinct;
+  order = keeps_filter (λ (v : Standing). not (same_name v.name name)) ss;
 }
 
 pub tried_after : (k : Kernel) (ss : List Standing) (next : ℕ) (name : List ℕ) (x : Standing) (how : Settled) → Has ss x → x.name ≡ name → Stand k ss next → After x ss how (tried_standings ss name how)
 tried_after k ss next name x Settled.Nobody has named stand = without_less k ss next name x has named stand
-tried_after k ss next name x Settled.Stands has named stand = (marked_same k ss next name true stand, settled_marks k ss next name x has named stand)
-tried_after k ss next name x how has named stand = (marked_same k ss next name false stand, unsettled_marks ss name)
+tried_after k ss next name x Settled.Stands has named stand = (marked_same ss name true, settled_marks k ss next name x has named stand)
+tried_after k ss next name x how has named stand = (marked_same ss name false, unsettled_marks ss name)
