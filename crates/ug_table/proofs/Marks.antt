@@ -16,6 +16,7 @@ use Rattle.std.specs.declared.cmp.Ordering.{Ordering}
 use Rattle.std.specs.declared.cmp.Ordering.TheVariants.{Less, Equal, Greater}
 use Rattle.std.proofs.lemmas.Bool.{cond_both}
 use Rattle.std.proofs.lemmas.Cmp.{tied_itself}
+use Rattle.std.proofs.lemmas.List.Sorted.{ranks_by}
 use Rattle.std.proofs.Math.Nat.{min-le_right}
 use Rattle.std.proofs.lemmas.List.{take_more}
 use Rattle.ug_table.specs.Order.{StandInOrder, KeepsOrder, IsNextNumbered, is_nearer}
@@ -208,20 +209,54 @@ place_has name (first ∷ names) x h = cond_both (is_gt (sweep_cmp name first)) 
     (λ b k. elim k [ inl e ↦ inr (inl e) | inr a ↦ elim (place_has name names x a) [ inl e ↦ inl e | inr c ↦ inr (inr c) ] ])
     (λ b k. k) h
 
-place_distinct : (name : List ℕ) (names : List (List ℕ)) → (Has names name → ⊥) → AllDistinct names → AllDistinct (in_place name names)
-place_distinct name [] none d = (none, d)
-place_distinct name (first ∷ names) none d =
-    let rest = place_distinct name names (λ a. none (inr a)) d.1 in
-    let apart : Has (in_place name names) first → ⊥ = λ a. elim (place_has name names first a) [ inl e ↦ none (inl (sym e)) | inr b ↦ d.0 b ] in
-    elim (is_gt (sweep_cmp name first)) as (λ (b : Bool). AllDistinct (cond b (first ∷ in_place name names) (name ∷ first ∷ names))) [ true ↦ (apart, rest) | false ↦ (none, d) ]
-
 pub order_has : (names : List (List ℕ)) (x : List ℕ) → Has (in_sweep_order names) x → Has names x
 order_has [] x h = h
 order_has (name ∷ names) x h = elim (place_has name (in_sweep_order names) x h) [ inl e ↦ inl e | inr a ↦ inr (order_has names x a) ]
 
+less_is : (r : Ordering) → is_lt r ≡ true → r ≡ Less
+less_is Less e = refl
+less_is x e = absurd (true≢false (sym e))
+
+pub not_behind : (x y : List ℕ) → swept_before x y ≡ true → swept_before y x ≡ false
+not_behind x y h = (ranks_by sweep_total (λ (v : List ℕ). v)).one_way x y h
+
+pub not_itself : (x : List ℕ) → swept_before x x ≡ false
+not_itself x = ap is_lt (tied_itself sweep_total x)
+
+further : (x y z : List ℕ) → swept_before x y ≡ true → swept_before y z ≡ true → swept_before x z ≡ true
+further x y z a b = ap is_lt (sweep_total.trans x y z (less_is (sweep_cmp x y) a) (less_is (sweep_cmp y z) b))
+
+greater_turned : (r : Ordering) → is_gt r ≡ true → is_lt (ordering_reverse r) ≡ true
+greater_turned Greater e = refl
+greater_turned x e = absurd (true≢false (sym e))
+
+greater_before : (x y : List ℕ) → is_gt (sweep_cmp x y) ≡ true → swept_before y x ≡ true
+greater_before x y h = ap is_lt (sweep_total.antisymm y x) ∙ greater_turned (sweep_cmp x y) h
+
+less_or : (r : Ordering) → is_gt r ≡ false → (r ≡ Equal → ⊥) → is_lt r ≡ true
+less_or Less e ne = refl
+less_or Equal e ne = absurd (ne refl)
+less_or Greater e ne = absurd (true≢false e)
+
+placed_order : (x : List ℕ) (ys : List (List ℕ)) → (Has ys x → ⊥) → AreInOrder ys → AreInOrder (in_place x ys)
+placed_order x [] none o = (λ z h. absurd h, tt)
+placed_order x (y ∷ ys) none o = cond_both (is_gt (sweep_cmp x y)) (y ∷ in_place x ys) (x ∷ y ∷ ys) AreInOrder
+    (λ e. (λ z h. elim (place_has x ys z h) [ inl is ↦ subst (λ (v : List ℕ). swept_before y v ≡ true) is (greater_before x y e) | inr a ↦ o.0 z a ], placed_order x ys (λ h. none (inr h)) o.1))
+    (λ e.
+    let first : swept_before x y ≡ true = less_or (sweep_cmp x y) e (λ f. none (inl (sym (sweep_exact x y f)))) in
+    (λ z h. elim h [ inl is ↦ subst (λ (v : List ℕ). swept_before x v ≡ true) is first | inr a ↦ further x y z first (o.0 z a) ], o))
+
+-- names in order are distinct
+pub names_distinct : (names : List (List ℕ)) → AreInOrder names → AllDistinct names
+names_distinct [] o = tt
+names_distinct (name ∷ names) o = (λ a. true≢false (sym (o.0 name a) ∙ not_itself name), names_distinct names o.1)
+
+pub sweep_in_order : (names : List (List ℕ)) → AllDistinct names → AreInOrder (in_sweep_order names)
+sweep_in_order [] d = tt
+sweep_in_order (x ∷ names) d = placed_order x (in_sweep_order names) (λ a. d.0 (order_has names x a)) (sweep_in_order names d.1)
+
 pub order_distinct : (names : List (List ℕ)) → AllDistinct names → AllDistinct (in_sweep_order names)
-order_distinct [] d = tt
-order_distinct (name ∷ names) d = place_distinct name (in_sweep_order names) (λ a. d.0 (order_has names name a)) (order_distinct names d.1)
+order_distinct names d = names_distinct (in_sweep_order names) (sweep_in_order names d)
 
 -- the whole sweep
 
@@ -270,55 +305,7 @@ sweeping_marks answer later w k l v rest known r e =
     let x = sweeping_run calls answer later k w l v r in
     goes_ends k l rest known e x.so.1 x.along
 
--- Lists in sweep order.
-
-less_is : (r : Ordering) → is_lt r ≡ true → r ≡ Less
-less_is Less e = refl
-less_is x e = absurd (true≢false (sym e))
-
-turned_less : (r : Ordering) → is_lt r ≡ true → is_lt (ordering_reverse r) ≡ false
-turned_less Greater e = absurd (true≢false (sym e))
-turned_less x e = refl
-
-pub not_behind : (x y : List ℕ) → swept_before x y ≡ true → swept_before y x ≡ false
-not_behind x y h = ap is_lt (sweep_total.antisymm y x) ∙ turned_less (sweep_cmp x y) h
-
-pub not_itself : (x : List ℕ) → swept_before x x ≡ false
-not_itself x = ap is_lt (tied_itself sweep_total x)
-
-further : (x y z : List ℕ) → swept_before x y ≡ true → swept_before y z ≡ true → swept_before x z ≡ true
-further x y z a b = ap is_lt (sweep_total.trans x y z (less_is (sweep_cmp x y) a) (less_is (sweep_cmp y z) b))
-
-greater_turned : (r : Ordering) → is_gt r ≡ true → is_lt (ordering_reverse r) ≡ true
-greater_turned Greater e = refl
-greater_turned x e = absurd (true≢false (sym e))
-
-greater_before : (x y : List ℕ) → is_gt (sweep_cmp x y) ≡ true → swept_before y x ≡ true
-greater_before x y h = ap is_lt (sweep_total.antisymm y x) ∙ greater_turned (sweep_cmp x y) h
-
-less_or : (r : Ordering) → is_gt r ≡ false → (r ≡ Equal → ⊥) → is_lt r ≡ true
-less_or Less e ne = refl
-less_or Equal e ne = absurd (ne refl)
-less_or Greater e ne = absurd (true≢false e)
-
-placed_order : (x : List ℕ) (ys : List (List ℕ)) → (Has ys x → ⊥) → AreInOrder ys → AreInOrder (in_place x ys)
-placed_order x [] none o = (λ z h. absurd h, tt)
-placed_order x (y ∷ ys) none o = cond_both (is_gt (sweep_cmp x y)) (y ∷ in_place x ys) (x ∷ y ∷ ys) AreInOrder
-    (λ e. (λ z h. elim (place_has x ys z h) [ inl is ↦ subst (λ (v : List ℕ). swept_before y v ≡ true) is (greater_before x y e) | inr a ↦ o.0 z a ], placed_order x ys (λ h. none (inr h)) o.1))
-    (λ e.
-    let first : swept_before x y ≡ true = less_or (sweep_cmp x y) e (λ f. none (inl (sym (sweep_exact x y f)))) in
-    (λ z h. elim h [ inl is ↦ subst (λ (v : List ℕ). swept_before x v ≡ true) is first | inr a ↦ further x y z first (o.0 z a) ], o))
-
--- names in order are distinct
-pub names_distinct : (names : List (List ℕ)) → AreInOrder names → AllDistinct names
-names_distinct [] o = tt
-names_distinct (name ∷ names) o = (λ a. true≢false (sym (o.0 name a) ∙ not_itself name), names_distinct names o.1)
-
-pub sweep_in_order : (names : List (List ℕ)) → AllDistinct names → AreInOrder (in_sweep_order names)
-sweep_in_order [] d = tt
-sweep_in_order (x ∷ names) d = placed_order x (in_sweep_order names) (λ a. d.0 (order_has names x a)) (sweep_in_order names d.1)
-
--- of standings
+-- Standings in sweep order of their names.
 
 -- those that a test leaves
 pub order_filter : (test : Standing → Bool) (ss : List Standing) → AreInOrder (names_of ss) → AreInOrder (names_of (filter test ss))
@@ -330,14 +317,15 @@ order_filter test (s ∷ ss) o =
     subst (λ (v : List ℕ). swept_before s.name v ≡ true) m.2 (o.0 m.0.name (has_map (λ (v : Standing). v.name) ss m.0 (filter_has test ss m.0 m.1).0)) in
     elim (test s) as (λ (b : Bool). AreInOrder (names_of (cond b (s ∷ filter test ss) (filter test ss)))) [ true ↦ (below, rest) | false ↦ rest ]
 
-with_by : (s x : Standing) (ss : List Standing) (b : Bool) → names_of (insert ss (place_for s.name ss) s) ≡ in_place s.name (names_of ss) → names_of (insert (x ∷ ss) (cond b (place_for s.name ss + 1) 0) s) ≡ cond b (x.name ∷ in_place s.name (names_of ss)) (s.name ∷ x.name ∷ names_of ss)
-with_by s x ss true e = ap (λ (k : ℕ). names_of (insert (x ∷ ss) k s)) (add-one (place_for s.name ss)) ∙ ap (λ (v : List (List ℕ)). x.name ∷ v) e
-with_by s x ss false e = refl
-
 -- the names with a new standing
 names_with : (s : Standing) (ss : List Standing) → names_of (with_standing s ss) ≡ in_place s.name (names_of ss)
 names_with s [] = refl
-names_with s (x ∷ ss) = with_by s x ss (is_gt (sweep_cmp s.name x.name)) (names_with s ss)
+names_with s (x ∷ ss) =
+    let rest = ap (λ (v : List (List ℕ)). x.name ∷ v) (names_with s ss) in
+    elim (is_gt (sweep_cmp s.name x.name)) as (λ (b : Bool). names_of (insert (x ∷ ss) (cond b (place_for s.name ss + 1) 0) s) ≡ cond b (x.name ∷ in_place s.name (names_of ss)) (s.name ∷ x.name ∷ names_of ss)) [
+      | true ↦ ap (λ (k : ℕ). names_of (insert (x ∷ ss) k s)) (add-one (place_for s.name ss)) ∙ rest
+      | false ↦ refl
+    ]
 
 pub order_with : (s : Standing) (ss : List Standing) → AreInOrder (names_of ss) → (Has (names_of ss) s.name → ⊥) → AreInOrder (names_of (with_standing s ss))
 order_with s ss o absent = subst (λ (v : List (List ℕ)). AreInOrder v) (sym (names_with s ss)) (placed_order s.name (names_of ss) absent o)
@@ -477,40 +465,21 @@ kept_more next cap other room ss rs after s how is fresh same none e place made 
 
 -- the standing with the next number, as one more is looked at
 
+-- what holds of those that were there and of the new one
+added_all : (P : Standing → Type 0) (ss : List Standing) (x : Standing) → ((s : Standing) → Has ss s → P s) → P x → (s : Standing) → Has (ss ++ x ∷ []) s → P s
+added_all P ss x rest own s a = elim (last_is ss x s a) [ inl b ↦ rest s b | inr is ↦ subst P is own ]
+
 nearer_found : (ss : List Standing) (number : ℕ) (found : Option Standing) (x : Standing) → is_nearer number found x ≡ true → IsNextNumbered ss number found → IsNextNumbered (ss ++ x ∷ []) number (Some x)
-nearer_found ss number None x e h = (
-  has_right ss (x ∷ []) x (inl refl),
-  grind (arith, e),
-  λ s a above. elim (last_is ss x s a) [
-    | inl b ↦ let most = h s b in absurd (omega (arith, most, above))
-    | inr is ↦ let same = ap (λ (v : Standing). v.number) is in omega (arith, same)
-  ],
-)
-nearer_found ss number (Some found) x e h = (
-  has_right ss (x ∷ []) x (inl refl),
-  grind (arith, e),
-  λ s a above. elim (last_is ss x s a) [
-    | inl b ↦ let least = h.2 s b above in let less : x.number < found.number = grind (arith, e) in omega (arith, least, less)
-    | inr is ↦ let same = ap (λ (v : Standing). v.number) is in omega (arith, same)
-  ],
-)
+nearer_found ss number None x e h =
+    (has_right ss (x ∷ []) x (inl refl), grind (arith, e), added_all (λ (s : Standing). number < s.number → x.number ≤ s.number) ss x (λ s b above. absurd (omega (arith, h s b, above))) (λ above. omega arith))
+nearer_found ss number (Some found) x e h =
+    let less : x.number < found.number = grind (arith, e) in
+    (has_right ss (x ∷ []) x (inl refl), grind (arith, e), added_all (λ (s : Standing). number < s.number → x.number ≤ s.number) ss x (λ s b above. omega (arith, h.2 s b above, less)) (λ above. omega arith))
 
 no_nearer_found : (ss : List Standing) (number : ℕ) (found : Option Standing) (x : Standing) → is_nearer number found x ≡ false → IsNextNumbered ss number found → IsNextNumbered (ss ++ x ∷ []) number found
-no_nearer_found ss number None x e h = λ s a. elim (last_is ss x s a) [
-  | inl b ↦ h s b
-  | inr is ↦ let same = ap (λ (v : Standing). v.number) is in let most : x.number ≤ number = grind (arith, e) in omega (arith, same, most)
-]
-no_nearer_found ss number (Some found) x e h = (
-  has_left ss (x ∷ []) found h.0,
-  h.1,
-  λ s a above. elim (last_is ss x s a) [
-    | inl b ↦ h.2 s b above
-    | inr is ↦
-        let same = ap (λ (v : Standing). v.number) is in
-        let over : number < x.number = omega (arith, same, above) in
-        let least : found.number ≤ x.number = grind (arith, e, over) in omega (arith, same, least)
-  ],
-)
+no_nearer_found ss number None x e h = added_all (λ (s : Standing). s.number ≤ number) ss x h (grind (arith, e))
+no_nearer_found ss number (Some found) x e h =
+    (has_left ss (x ∷ []) found h.0, h.1, added_all (λ (s : Standing). number < s.number → found.number ≤ s.number) ss x h.2 (λ above. grind (arith, e, above)))
 
 -- the first of them, and one more
 passed_more : (ss : List Standing) (i : ℕ) (x : Standing) → i < length ss → x ≡ get_or ss i x → take (i + 1) ss ≡ take i ss ++ x ∷ []
