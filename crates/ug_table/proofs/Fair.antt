@@ -8,7 +8,7 @@ use Rattle.ug_kernel.proofs.Grow.{some_same, called_grows, quiet_grows, grows_re
 use Rattle.ug_node.specs.Removal.{holding_remove, RemoveSays}
 use Rattle.ug_node.proofs.Laws.{holding_law, gone_later, binding_law}
 use Rattle.ug_table.specs.Bring.{write_of, is_reject, CallsFor, is_to_go}
-use Rattle.ug_types.proofs.Elements.{has_right, distinct_one, has_map, has_new, has_old, filter_has, has_filter, distinct_filter}
+use Rattle.ug_types.proofs.Elements.{has_right, distinct_one, has_map, has_new, has_old, filter_has, has_filter}
 use Rattle.ug_table.proofs.Standings.{IsHeldAs, file_same, file_later, IsFileOf, found, with_own, each_with, listed_is, IsOpen, open_name}
 use Rattle.ug_table.proofs.OnePart.{no_removal}
 use Rattle.ug_table.proofs.Devices.{device_stays, stand_stays, probed_from}

@@ -1,5 +1,5 @@
 -- What settling names leaves of devices: each one that lived through is as judged, or is told.
-use Rattle.std.proofs.Common.{◌≡◌, ℕ, Bool, List, [], ◌∷◌, ◌++◌, Option, Some, refl, sym, ◌∙◌, ap, subst, append_assoc, append-nil, slice_get, false, ◌⊎◌, inl, inr, true, None, true≢false}
+use Rattle.std.proofs.Common.{◌≡◌, ℕ, Bool, List, [], ◌∷◌, ◌++◌, Option, Some, refl, sym, ◌∙◌, ap, subst, append_assoc, slice_get, false, ◌⊎◌, inl, inr, true, None, true≢false}
 use Rattle.ug_table.proofs.Common.{Has, parent_of, Ask_alive, Put, Close, Closing, Told, Names, Authorized, Remove, Kernel, IsKernel, Quiet, Grows, Made, answered, Along, Runs, calls, RemoveHold, Bound, Binding, Entry, State, Answers, Laters, standing_of, without, with_standing, place_for, same_name, lists, farewells, Standing, Known, Settled, Held, Target, Wrote, Device, Control, IsGoneAt, Called, Lived, IsNamed, HasStanding, Stand, IsAsJudged, IsSettled, FailedCall, in_sweep_order, Fault, unlisted_files, Probe, Write, Listing}
 use Rattle.ug_kernel.proofs.Grow.{quiet_grows, called_grows, some_same, grows_refl, grows_trans}
 use Rattle.ug_kernel.proofs.Quiet.{called_quiet, quiet_refl, quiet_trans}
@@ -17,19 +17,9 @@ use Rattle.ug_types.proofs.Elements.{has_right, has_left, has_new, cancel, filte
 use Rattle.ug_table.proofs.Marks.{known_has}
 use Rattle.ug_table.specs.Sweep.{names_of, sweeping}
 use Rattle.ug_types.proofs.Sorting.{to_sweep_order}
-use Rattle.ug_table.proofs.Chains.{closings_quiet, Chain, Over, First, Goes, Listed, Unlisted, sweeping_run}
+use Rattle.ug_table.proofs.Chains.{closings_quiet, Chain, Over, First, Goes, Listed, Unlisted, goes_entries, sweeping_run}
 
--- Settling a name leaves the other names' devices and standings as they are, and only adds entries.
-
--- entries were added
-abbrev pub Appends : List Entry → List Entry → Type 0
-Appends es fs = (rest : List Entry) × (fs ≡ es ++ rest)
-
-pub appends_refl : (es : List Entry) → Appends es es
-appends_refl es = ([], sym (append-nil es))
-
-pub appends_trans : (es fs gs : List Entry) → Appends es fs → Appends fs gs → Appends es gs
-appends_trans es fs gs a b = (a.0 ++ b.0, b.1 ∙ ap (λ v. v ++ b.0) a.1 ∙ append_assoc es a.0 b.0)
+-- Settling a name leaves the other names' devices and standings as they are.
 
 -- the writes
 
@@ -76,10 +66,9 @@ brought_apart {name} {known} k l (Let_go ms es shut c) sound o a =
 
 -- a name
 
-pub record Apart (name : List ℕ) (k : Kernel) (ss : List Standing) (es : List Entry) (l : Kernel) (rs : List Standing) (fs : List Entry) : Type 0 where
+pub record Apart (name : List ℕ) (k : Kernel) (ss : List Standing) (l : Kernel) (rs : List Standing) : Type 0 where
   pub others : Others name k l
   pub rest : (s : Standing) → Has ss s → (s.name ≡ name → ⊥) → Has rs s
-  pub entries : Appends es fs
   pub files : Files l rs
 
 -- the held file of a standing that is found
@@ -147,16 +136,12 @@ flat_apart {name = name} k l sound f (Judged_so ms ns os es fs rs b x how t open
 pub piece_apart : {J : Type 0} {answer : Answers J} {later : Laters J} {binds present : Bool}
     {name : List ℕ} {how : Settled} {ok : Bool} {ms : List Made} {k l : Kernel} {w v : State J}
     → IsKernel k → Files k w.standings → Piece answer later binds present name w ok ms how v
-    → Along calls k ms l → Apart name k w.standings w.entries l v.standings v.entries
+    → Along calls k ms l → Apart name k w.standings l v.standings
 piece_apart {name = name} {k = k} {l = l} {w = w} {v = v} sound f p a =
     let x = flat_apart k l sound f p.flat a in
-    record { others = x.0; rest = λ s. others_have name w.standings v.standings s (sym (flat_rest p.flat)); entries = (p.rest, p.entries); files = x.1 }
+    record { others = x.0; rest = λ s. others_have name w.standings v.standings s (sym (flat_rest p.flat)); files = x.1 }
 
 -- Settling a name brings its live device to its verdict, or tells the name.
-
--- the name is told among what was added
-abbrev pub NamedSince : List Entry → List Entry → List ℕ → Type 0
-NamedSince es fs name = (rest : List Entry) × (fs ≡ es ++ rest) × IsNamed rest name
 
 -- the device has a standing and the value that its verdict wants, and where it is rejected it is marked as removed
 pub record StandsSo (k : Kernel) (ss : List Standing) (i : ℕ) : Type 0 where
@@ -165,14 +150,6 @@ pub record StandsSo (k : Kernel) (ss : List Standing) (i : ℕ) : Type 0 where
   pub device : slice_get k.devices i ≡ Some d
   pub value : d.on ≡ wants standing.s.verdict
   pub removed : IsRemovedIf standing.s
-
--- what is wanted of a device at the end
-abbrev pub Good : List Entry → Kernel → List Standing → List Entry → ℕ → List ℕ → Type 0
-Good es l ss fs i name = StandsSo l ss i ⊎ NamedSince es fs name
-
-pub good_before : (es fs gs : List Entry) (l : Kernel) (ss : List Standing) (i : ℕ) (name : List ℕ) → Appends es fs → Good fs l ss gs i name → Good es l ss gs i name
-good_before es fs gs l ss i name a (inl h) = inl h
-good_before es fs gs l ss i name a (inr h) = inr (a.0 ++ h.0, h.1 ∙ ap (λ v. v ++ h.0) a.1 ∙ append_assoc es a.0 h.0, (h.2.0, has_right a.0 h.0 (Entry.Unsettled name h.2.0) h.2.1))
 
 -- a standing whose device has the value that its verdict wants
 pub as_judged : (l : Kernel) (ss : List Standing) (i : ℕ) (held : Held) (verdict : Target) (s : Standing) → Has ss s → s.held ≡ held → s.verdict ≡ verdict → IsFileOf l held.0 i → Value l i (wants verdict) → IsRemovedIf s → StandsSo l ss i
@@ -329,28 +306,11 @@ flat_own {name = name} i k l sound f first live (Judged_so ms ns os es fs rs b x
       | inr y ↦ let z = named_later fs (unsettled_by name how) name y in inr (named_later es (Entry.Judged x.number name x.held x.verdict x.cause ∷ (fs ++ unsettled_by name how)) name (z.0, inr z.1))
     ])
 
--- the device of that name is as judged, or the name is told; or it has no standing where nothing is bound
-pub piece_own : {J : Type 0} {answer : Answers J} {later : Laters J} {binds present : Bool}
-    {name : List ℕ} {how : Settled} {ok : Bool} {ms : List Made} {k l : Kernel} {w v : State J}
-    (i : ℕ) → IsKernel k → Files k w.standings → LiveAs k i name → LiveAs l i name
-    → Piece answer later binds present name w ok ms how v → Along calls k ms l
-    → Good w.entries l v.standings v.entries i name
-    ⊎ ((binds ≡ false) × (Has (names_of v.standings) name → ⊥))
-piece_own {k = k} {l = l} i sound f first live p a =
-    elim (flat_own i k l sound f first live p.flat a) [
-      | inl h ↦ inl (elim h [ inl s ↦ inl s | inr n ↦ inr (p.rest, p.entries, n) ])
-      | inr h ↦ inr h
-    ]
-
 -- Each device that lived through a sweep is as judged, or its name is told, or it has no standing and the failed listing is told.
 
--- what is wanted of a device at the end
-abbrev pub Well : Bool → List Entry → Kernel → List Standing → List Entry → ℕ → List ℕ → Type 0
-Well binds es l ss fs i name = Good es l ss fs i name ⊎ ((binds ≡ false) × (HasStanding l ss i → ⊥))
-
-well_before : (binds : Bool) (es fs gs : List Entry) (l : Kernel) (ss : List Standing) (i : ℕ) (name : List ℕ) → Appends es fs → Well binds fs l ss gs i name → Well binds es l ss gs i name
-well_before binds es fs gs l ss i name a (inl h) = inl (good_before es fs gs l ss i name a h)
-well_before binds es fs gs l ss i name a (inr h) = inr h
+-- it stands so, or nothing is bound and it has no standing
+abbrev pub Well : Bool → Kernel → List Standing → ℕ → Type 0
+Well binds l ss i = StandsSo l ss i ⊎ ((binds ≡ false) × (HasStanding l ss i → ⊥))
 
 -- no standing of its name, no standing
 pub none_stands : (k : Kernel) (ss : List Standing) (i : ℕ) (name : List ℕ) → Files k ss → LiveAs k i name → (Has (names_of ss) name → ⊥) → HasStanding k ss i → ⊥
@@ -368,12 +328,13 @@ stood k l ss rs i f g was h =
 pub piece_well : {J : Type 0} {answer : Answers J} {later : Laters J} {binds present : Bool}
     {name : List ℕ} {how : Settled} {ok : Bool} {ms : List Made} {k l : Kernel} {w v : State J}
     (i : ℕ) → IsKernel k → Files k w.standings → LiveAs k i name → LiveAs l i name
-    → Piece answer later binds present name w ok ms how v → Along calls k ms l
-    → Well binds w.entries l v.standings v.entries i name
+    → (p : Piece answer later binds present name w ok ms how v) → Along calls k ms l
+    → Well binds l v.standings i ⊎ IsNamed p.rest name
 piece_well {name = name} {l = l} {v = v} i sound f first live p a =
-    elim (piece_own i sound f first live p a) [
-      | inl h ↦ inl h
-      | inr h ↦ inr (h.0, none_stands l v.standings i name (piece_apart sound f p a).files live h.1)
+    elim (flat_own i _ l sound f first live p.flat a) [
+      | inl (inl s) ↦ inl (inl s)
+      | inl (inr n) ↦ inr n
+      | inr h ↦ inl (inr (h.0, none_stands l v.standings i name (piece_apart sound f p a).files live h.1))
     ]
 
 -- each standing was there before
@@ -388,18 +349,13 @@ flat_was f (Judged_so ms ns os es fs rs b x how t opening way given new brought)
 
 -- another name leaves it so
 
-good_apart : (other name : List ℕ) (i : ℕ) (es : List Entry) (k : Kernel) (ss : List Standing) (fs : List Entry) (l : Kernel) (rs : List Standing) (gs : List Entry) → (other ≡ name → ⊥) → Files k ss → LiveAs k i name → Grows k l → Apart other k ss fs l rs gs → Good es k ss fs i name → Good es l rs gs i name
-good_apart other name i es k ss fs l rs gs ne f live g apart (inr h) =
-    inr (h.0 ++ apart.entries.0, apart.entries.1 ∙ ap (λ v. v ++ apart.entries.0) h.1 ∙ append_assoc es h.0 apart.entries.0, (h.2.0, has_left h.0 apart.entries.0 (Entry.Unsettled name h.2.0) h.2.1))
-good_apart other name i es k ss fs l rs gs ne f live g apart (inl e) =
+well_apart : (binds : Bool) (other name : List ℕ) (i : ℕ) (k : Kernel) (ss : List Standing) (l : Kernel) (rs : List Standing) → (other ≡ name → ⊥) → Files k ss → LiveAs k i name → Grows k l → Apart other k ss l rs → (binds ≡ false → HasStanding l rs i → HasStanding k ss i) → Well binds k ss i → Well binds l rs i
+well_apart binds other name i k ss l rs ne f live g apart back (inl e) =
     let s = e.standing.s in
     let named = open_named k s.name name s.held.0 i (f s e.standing.has) e.standing.file live in
     let value = apart.others i (wants s.verdict) live.d live.live.at (λ x. ne (sym x ∙ live.named)) (e.d, e.device, e.value) in
     inl (as_judged l rs i s.held s.verdict s (apart.rest s e.standing.has (λ x. ne (sym x ∙ named))) refl refl (file_later k l s.held.0 i g e.standing.file) value e.removed)
-
-well_apart : (binds : Bool) (other name : List ℕ) (i : ℕ) (es : List Entry) (k : Kernel) (ss : List Standing) (fs : List Entry) (l : Kernel) (rs : List Standing) (gs : List Entry) → (other ≡ name → ⊥) → Files k ss → LiveAs k i name → Grows k l → Apart other k ss fs l rs gs → (binds ≡ false → HasStanding l rs i → HasStanding k ss i) → Well binds es k ss fs i name → Well binds es l rs gs i name
-well_apart binds other name i es k ss fs l rs gs ne f live g apart back (inl h) = inl (good_apart other name i es k ss fs l rs gs ne f live g apart h)
-well_apart binds other name i es k ss fs l rs gs ne f live g apart back (inr h) = inr (h.0, λ a. h.1 (back h.0 a))
+well_apart binds other name i k ss l rs ne f live g apart back (inr h) = inr (h.0, λ a. h.1 (back h.0 a))
 
 -- one name of a list: it is the device's, or another's
 step : (P Q : Type 0) (n name : List ℕ) (names : List (List ℕ)) (b : Bool) → same_name n name ≡ b → (n ≡ name → Q) → ((n ≡ name → ⊥) → P → Q) → Has (n ∷ names) name ⊎ P → Has names name ⊎ Q
@@ -412,30 +368,37 @@ step P Q n name names false e own other (inr p) = inr (other (λ is. let same = 
 
 chain_well : {J : Type 0} {answer : Answers J} {later : Laters J} {binds present : Bool}
     {names : List (List ℕ)} {k l : Kernel} {w v : State J} {ok : Bool} {ms : List Made}
-    {added : List Entry} (name : List ℕ) (i : ℕ) (es : List Entry) → IsKernel k
-    → Files k w.standings → LiveAs k i name → LiveAs l i name → Appends es w.entries
-    → Has names name ⊎ Well binds es k w.standings w.entries i name
+    {added : List Entry} (name : List ℕ) (i : ℕ) → IsKernel k → Files k w.standings
+    → LiveAs k i name → LiveAs l i name → Has names name ⊎ Well binds k w.standings i
     → Chain answer later binds present names w ok ms added v → Along calls k ms l
-    → Appends es v.entries × Well binds es l v.standings v.entries i name
-chain_well name i es sound f first live a (inl c) (Over w) b = absurd c
-chain_well {binds = binds} name i es sound f first live a (inr c) (Over w) b =
-    (a, subst (λ (m : Kernel). Well binds es m w.standings w.entries i name) (sym b) c)
-chain_well {answer = answer} {later = later} {binds = binds} {present = present} {k = k} {l = l}
-    name i es sound f first live a c (First n names how w x v ok more ms ns added p rest) b =
+    → Well binds l v.standings i ⊎ IsNamed added name
+chain_well name i sound f first live (inl c) (Over w) b = absurd c
+chain_well {binds = binds} name i sound f first live (inr c) (Over w) b =
+    inl (subst (λ (m : Kernel). Well binds m w.standings i) (sym b) c)
+chain_well {binds = binds} {k = k} {l = l} {v = v} name i sound f first live c
+    (First n names how w x _ ok more ms ns added p rest) b =
     let cut = along_split calls ms ns k l b in
     let u = cut.0 in
     let g = along_grows ms k u cut.1 in
     let mid = lives_between k u l i name g (along_grows ns u l cut.2) first live in
     let apart = piece_apart sound f p cut.1 in
-    let Q = Well binds es u x.standings x.entries i name in
-    let own : n ≡ name → Q = λ e. well_before binds es w.entries x.entries u x.standings i name a
-    (piece_well i sound f first mid
-    (subst (λ (y : List ℕ). Piece answer later binds present y w ok ms how x) e p) cut.1) in
-    chain_well name i es (along_sound ms k u sound cut.1) apart.files mid live
-    (appends_trans es w.entries x.entries a apart.entries)
-    (step (Well binds es k w.standings w.entries i name) Q n name names (same_name n name) refl own
-    (λ ne h. well_apart binds n name i es k w.standings w.entries u x.standings x.entries ne f
-    first g apart (λ e. stood k u w.standings x.standings i f g (flat_was e p.flat)) h) c) rest cut.2
+    let after : List ℕ → Type 0 = λ y. Well binds u x.standings i ⊎ IsNamed p.rest y in
+    let own : n ≡ name → after name = λ e.
+    subst (λ (y : List ℕ). LiveAs k i y → LiveAs u i y → after y) e
+    (λ y z. piece_well i sound f y z p cut.1) first mid in
+    let on : Has names name ⊎ Well binds u x.standings i
+    → Well binds l v.standings i ⊎ IsNamed (p.rest ++ added) name = λ d.
+    elim (chain_well name i (along_sound ms k u sound cut.1) apart.files mid live d rest cut.2) [
+      | inl y ↦ inl y
+      | inr y ↦ inr (named_later p.rest added name y)
+    ] in
+    elim (step (Well binds k w.standings i) (after name) n name names (same_name n name) refl own
+    (λ ne h. inl (well_apart binds n name i k w.standings u x.standings ne f first g apart
+    (λ e. stood k u w.standings x.standings i f g (flat_was e p.flat)) h)) c) [
+      | inl h ↦ on (inl h)
+      | inr (inl h) ↦ on (inr h)
+      | inr (inr t) ↦ inr (t.0, has_left p.rest added (Entry.Unsettled name t.0) t.1)
+    ]
 
 -- what is said of a device at the end of a sweep
 abbrev EndsSo : Kernel → List Standing → List Entry → ℕ → List ℕ → Type 0
@@ -443,32 +406,17 @@ EndsSo l ss rest i name = StandsSo l ss i ⊎
     (IsNamed rest name ⊎ (((why : Fault) × Has rest (Entry.UnsettledAll why)) ×
     (HasStanding l ss i → ⊥)))
 
-good_ended : (es : List Entry) (l : Kernel) (ss : List Standing) (fs rest : List Entry) (i : ℕ)
-    (name : List ℕ) → fs ≡ es ++ rest → Good es l ss fs i name → EndsSo l ss rest i name
-good_ended es l ss fs rest i name e (inl h) = inl h
-good_ended es l ss fs rest i name e (inr h) = inr (inl (subst (λ v. IsNamed v name) (cancel es h.0 rest (sym h.1 ∙ e)) h.2))
-
-well_ended : (binds : Bool) (es : List Entry) (why : Fault) (l : Kernel) (ss : List Standing)
-    (fs rest : List Entry) (i : ℕ) (name : List ℕ) → fs ≡ es ++ rest
-    → Appends (es ++ Entry.UnsettledAll why ∷ []) fs
-    → Well binds (es ++ Entry.UnsettledAll why ∷ []) l ss fs i name → EndsSo l ss rest i name
-well_ended binds es why l ss fs rest i name e a (inl h) = good_ended es l ss fs rest i name e (good_before es (es ++ Entry.UnsettledAll why ∷ []) fs l ss i name (Entry.UnsettledAll why ∷ [], refl) h)
-well_ended binds es why l ss fs rest i name e a (inr h) =
-    let all = Entry.UnsettledAll why in
-    let same : all ∷ a.0 ≡ rest = cancel es (all ∷ a.0) rest (sym (append_assoc es (all ∷ []) a.0) ∙ sym a.1 ∙ e) in
-    inr (inr ((why, subst (λ v. Has v all) same (inl refl)), h.1))
-
-begins : (name : List ℕ) (i : ℕ) (es : List Entry) (k : Kernel) (ss : List Standing) (known : Option Known) → standing_of name ss ≡ known → Files k ss → LiveAs k i name → Has (names_of ss) name ⊎ Well false es k ss es i name
-begins name i es k ss None e f live = inr (inr (refl, none_stands k ss i name f live (missing name ss e)))
-begins name i es k ss (Some known) e f live = inl (known_has name ss known e)
+begins : (name : List ℕ) (i : ℕ) (k : Kernel) (ss : List Standing) (known : Option Known) → standing_of name ss ≡ known → Files k ss → LiveAs k i name → Has (names_of ss) name ⊎ Well false k ss i
+begins name i k ss None e f live = inr (inr (refl, none_stands k ss i name f live (missing name ss e)))
+begins name i k ss (Some known) e f live = inl (known_has name ss known e)
 
 -- the whole sweep
 
 goes_ended : {J : Type 0} {answer : Answers J} {later : Laters J} {k l : Kernel} {w v : State J}
-    {ok : Bool} {ms : List Made} {es : List Entry} (rest : List Entry) (i : ℕ) (name : List ℕ)
-    → Files k w.standings → v.entries ≡ w.entries ++ rest → LiveAs k i name → LiveAs l i name
-    → Goes answer later w ok ms es v → Along calls k ms l → EndsSo l v.standings rest i name
-goes_ended {k = k} {l = l} {w = w} {v = v} rest i name f e first live
+    {ok : Bool} {ms : List Made} {es : List Entry} (i : ℕ) (name : List ℕ) → Files k w.standings
+    → LiveAs k i name → LiveAs l i name → Goes answer later w ok ms es v → Along calls k ms l
+    → EndsSo l v.standings es i name
+goes_ended {k = k} {l = l} {w = w} i name f first live
     (Listed found failed ok shut made es _ closings chain) b =
     let names = in_sweep_order found in
     let m = b.0 in
@@ -483,21 +431,25 @@ goes_ended {k = k} {l = l} {w = w} {v = v} rest i name f e first live
     (subst (λ (n : List ℕ). Has found n) first.named
     (b.1.says.0 i first.d (lived k m i name first (lives_between k m u i name h j first late)))) in
     let files = files_later k u w.standings (grows_trans k m u h j) f in
-    let well = chain_well name i w.entries q.0
+    elim (chain_well name i q.0
     (λ s a. files s (filter_has (λ (v : Standing). lists names v.name) w.standings s a).0) late live
-    (farewells names w.standings, refl) (inl has) chain cut.2 in
-    good_ended w.entries l v.standings v.entries rest i name e
-    (elim well.1 [ inl g ↦ g | inr g ↦ absurd (true≢false g.0) ])
-goes_ended {k = k} {l = l} {w = w} {v = v} rest i name f e first live
+    (inl has) chain cut.2) [
+      | inl (inl so) ↦ inl so
+      | inl (inr g) ↦ absurd (true≢false g.0)
+      | inr n ↦ inr (inl (named_later (farewells names w.standings) es name n))
+    ]
+goes_ended {k = k} {l = l} {w = w} i name f first live
     (Unlisted list failed room why ok made added _ by chain) b =
     let m = b.0 in
     let h = called_grows Names (told_at list failed) k m b.1 in
     let files = files_later k m w.standings h f in
     let mid = lives_between k m l i name h (along_grows made m l b.2) first live in
-    let es = w.entries ++ Entry.UnsettledAll why ∷ [] in
-    let at = chain_well name i es b.1.sound files mid live (appends_refl es)
-    (begins name i es m w.standings (standing_of name w.standings) refl files mid) chain b.2 in
-    well_ended false w.entries why l v.standings v.entries rest i name e at.0 at.1
+    elim (chain_well name i b.1.sound files mid live
+    (begins name i m w.standings (standing_of name w.standings) refl files mid) chain b.2) [
+      | inl (inl so) ↦ inl so
+      | inl (inr g) ↦ inr (inr ((why, inl refl), g.1))
+      | inr n ↦ inr (inl (n.0, inr n.1))
+    ]
 
 pub lives_first : (k l : Kernel) (i : ℕ) (d : Device) → Lived k.devices l.devices i d → LiveAs k i d.name
 lives_first k l i d lives = record { d = d; live = lives.entry; named = refl }
@@ -527,7 +479,9 @@ sweeping_settled answer later w k l v rest stand end r e i d lives =
     let x = sweeping_run calls answer later k w l v r in
     let last = lives_last k l i d (along_grows x.made k l x.along) lives in
     let files = stand_files k w.standings w.next stand in
-    elim (goes_ended rest i d.name files e (lives_first k l i d lives) last x.so.1 x.along) [
+    let same = cancel w.entries x.so.0 rest (sym (goes_entries x.so.1) ∙ e) in
+    elim (subst (λ es. EndsSo l v.standings es i d.name) same
+    (goes_ended i d.name files (lives_first k l i d lives) last x.so.1 x.along)) [
       | inl h ↦ inl (judged_at l v.standings v.next i end h)
       | inr h ↦ inr h
     ]

@@ -1,6 +1,5 @@
 -- What the settling of one name does, over the states of a run.
 use Rattle.std.proofs.Common.{◌≡◌, ℕ, Bool, true, false, not, nat_eq, ◌&&◌, ◌||◌, List, [], ◌∷◌, ◌++◌, Option, Some, map, cond, inl, inr, refl, sym, ◌∙◌, ap, subst, arith, true≢false, ◌⊎◌, slice_get}
-use Rattle.std.specs.List.{filter}
 use Rattle.std.proofs.lemmas.Bool.{false_from_ne_true}
 use Rattle.ug_table.proofs.Common.{Has, AllDistinct, Call, Answer, Runs, calls, Made, Along, Bound, Entry, State, Kept, Answers, Laters, kept_of, with_kept, same_name, known_of, numbered, without, marked, removed_of, with_standing, numbers_of, Tries, none_before, Stand, IsGone, IsNamed, HasStanding, IsAsJudged, Standing, Settled, Device, Kernel, IsKernel, Follows}
 use Rattle.ug_table.specs.Bring.{is_reject, is_to_go}
@@ -20,7 +19,7 @@ use Rattle.ug_kernel.proofs.Grow.{grows_refl, some_same}
 use Rattle.ug_kernel.proofs.Rises.{Counting, along_numbered, along_rises}
 use Rattle.ug_kernel.proofs.Told.{told_run}
 use Rattle.ug_table.proofs.Steps.{FairFrom, had_before, fair_refl}
-use Rattle.ug_table.proofs.Lived.{none_stands, lives_first, lives_last, stand_files, judged_at, piece_well, piece_own}
+use Rattle.ug_table.proofs.Lived.{none_stands, lives_first, lives_last, stand_files, judged_at, piece_well}
 use Rattle.ug_table.proofs.Fair.{piece_fair}
 
 -- How the settling of a name leaves the marks, whatever the kernel answers.
@@ -216,10 +215,10 @@ settling_one {J} answer later name present w k l p sound stand r =
     let last : (i : ℕ) → LivedAs k l name i → LiveAs l i name = λ i x. subst (λ (v : List ℕ). LiveAs l i v) x.2 (lives_last k l i x.0 a.fair.grows x.1) in
     let ended : (i : ℕ) → LivedAs k l name i → IsAsJudged l p.1.standings i ⊎ IsNamed a.fair.rest name = λ i x.
     let first = subst (λ (v : List ℕ). LiveAs k i v) x.2 (lives_first k l i x.0 x.1) in
-    elim (piece_own i sound (stand_files k w.standings w.next stand) first (last i x) piece along) [
+    elim (piece_well i sound (stand_files k w.standings w.next stand) first (last i x) piece along) [
       | inl (inl g) ↦ inl (judged_at l p.1.standings p.1.next i a.fair.stand g)
-      | inl (inr n) ↦ inr (subst (λ (v : List Entry). IsNamed v name) (added w.entries p.1.entries a.fair.rest n.0 a.fair.entries n.1) n.2)
-      | inr e ↦ let same = e.0 in absurd (let none : ⊥ = cc in none)
+      | inr n ↦ inr (subst (λ (v : List Entry). IsNamed v name) (added w.entries p.1.entries a.fair.rest piece.rest a.fair.entries piece.entries) n)
+      | inl (inr e) ↦ let same = e.0 in absurd (let none : ⊥ = cc in none)
     ] in
     record {
       fair = a.fair;
@@ -291,8 +290,8 @@ resettling_one w k l p x sound stand has r =
           let last = subst (λ (v : List ℕ). LiveAs l i v) (sym named) (lives_last k l i d g lives) in
           elim (piece_well i sound files first last piece y.along) [
             | inl (inl good) ↦ inl (judged_at l p.1.standings w.next i a.fair.stand good)
-            | inl (inr n) ↦ inr n
-            | inr none ↦ elim (stands_or_gone x has a i file) [
+            | inr n ↦ inr (piece.rest, piece.entries, n)
+            | inl (inr none) ↦ elim (stands_or_gone x has a i file) [
               | inl s ↦ absurd (none.1 s)
               | inr gone ↦ absurd (dead l i x.name gone last)
             ]

@@ -1,6 +1,6 @@
 -- Fair steps, one after another.
 use Rattle.std.proofs.Common.{◌≡◌, ℕ, Bool, List, ◌++◌, inl, inr, sym, ◌∙◌, subst, true, false, ◌⊎◌, refl, ap, ◌<◌, ◌≤◌, append-nil, [], ◌∷◌, Some, slice_get, append_assoc, arith, not, map}
-use Rattle.ug_table.proofs.Common.{Has, AllDistinct, Held, Target, Kernel, Live, IsKernel, Grows, Quiet, Entry, Tries, HasVerdict, Account, Start, Note, Judge, Had, Had_not, Went, IsTold, HasRemoval, Stand, numbers_of, wrote_entries, IsRemoveMarked, IsDevice, IsGone, IsProbed, IsOne, Stands, HasStanding, IsJudged, gone_of, IsFair, AreLeft, WasRemoved, IsFirst, AreInOrder, TellsNeither, Standing, Answers, Laters, State, noted, Judged, Cause, Device, Write, Wrote, Authorized, Call, Answer, IsGoneAt, Called, same_name, without, marked, removed_of, Settled}
+use Rattle.ug_table.proofs.Common.{Has, AllDistinct, Held, Target, Kernel, Live, IsKernel, Grows, Quiet, Entry, Tries, HasVerdict, Account, Start, Note, Judge, Had, Had_not, Went, IsTold, HasRemoval, Stand, numbers_of, wrote_entries, IsRemoveMarked, IsDevice, IsGone, IsProbed, IsOne, Stands, HasStanding, IsJudged, gone_of, IsFair, AreLeft, WasRemoved, IsFirst, TellsNeither, Standing, Answers, Laters, State, noted, Judged, Cause, Device, Write, Wrote, Authorized, Call, Answer, IsGoneAt, Called, same_name, without, marked, removed_of, Settled}
 use Rattle.ug_kernel.specs.declared.device.Effect.{Effect}
 use Rattle.ug_types.proofs.Elements.{has_left, has_right, distinct_one, has_cases, distinct_append, filter_has, has_filter, map_has, has_map}
 use Rattle.ug_table.proofs.Devices.{device_stays, gone_stays, probed_stays, stand_stays}
