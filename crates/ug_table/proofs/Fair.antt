@@ -51,10 +51,9 @@ put_logs held i control what Wrote.Failed failed k l file c = elim c.effect [
   | inr w ↦ inl (tt, one_more held i control what k c.before c.after l file c.moves_before w c.moves_after)
 ]
 
--- the entries of a write
-
-abbrev with_write : {J : Type 0} → State J → Standing → Write → Wrote → State J
-with_write w s what outcome = record w { entries = (w.entries ++ Entry.Intent s.number s.name what ∷ []) ++ Entry.Wrote s.number s.name what outcome ∷ [] }
+-- these standings, and entries behind those that were there
+abbrev more : {J : Type 0} → State J → List Standing → List Entry → State J
+more w ss es = record w { standings = ss; entries = w.entries ++ es }
 
 -- the device of a standing, with its place
 abbrev StandsAs : {J : Type 0} → Kernel → State J → Standing → ℕ → Type 0
@@ -71,12 +70,11 @@ put_account {J} {answer} {later} {present} {tried} m l u s i held control what o
     ]
 
 -- a write that leaves the marks
-put_fair : {J : Type 0} {answer : Answers J} {later : Laters J} {present : Bool} {tried : Tries} {k m : Kernel} {w u : State J} (l : Kernel) (s : Standing) (i held : ℕ) (control : Control) (what : Write) (outcome : Wrote) (failed : FailedCall) → StandsAs m u s i → IsHeldAs m held i control → CallsFor s.verdict what → IsFirst u.standings [] s.number what → NoRemoval (wrote_entries s.number s.name what outcome) → Called (Put held what) (told_at outcome failed) m l → FairFrom answer later present tried k w m u → FairFrom answer later present tried k w l (with_write u s what outcome)
+put_fair : {J : Type 0} {answer : Answers J} {later : Laters J} {present : Bool} {tried : Tries} {k m : Kernel} {w u : State J} (l : Kernel) (s : Standing) (i held : ℕ) (control : Control) (what : Write) (outcome : Wrote) (failed : FailedCall) → StandsAs m u s i → IsHeldAs m held i control → CallsFor s.verdict what → IsFirst u.standings [] s.number what → NoRemoval (wrote_entries s.number s.name what outcome) → Called (Put held what) (told_at outcome failed) m l → FairFrom answer later present tried k w m u → FairFrom answer later present tried k w l (more u u.standings (wrote_entries s.number s.name what outcome))
 put_fair {J} {answer} {later} {present} {tried} {k} {m} {w} {u} l s i held control what outcome failed at file due first none c h =
     let g = called_grows (Put held what) (told_at outcome failed) m l c in
     let es = wrote_entries s.number s.name what outcome in
-    let step = keep_fair answer later present tried m l u u.standings es c.sound g h.fair.stand (same_refl u.standings) (keeps_itself u.standings) none (tt, (tt, tt)) (put_account m l u s i held control what outcome failed at file due first c) in
-    fair_trans h (subst (λ (v : List Entry). StepFrom answer later present tried m u l (record u { entries = v })) (sym (append_assoc u.entries (Entry.Intent s.number s.name what ∷ []) (Entry.Wrote s.number s.name what outcome ∷ []))) step)
+    fair_trans h (keep_fair answer later present tried m l u u.standings es c.sound g h.fair.stand (same_refl u.standings) (keeps_itself u.standings) none (tt, (tt, tt)) (put_account m l u s i held control what outcome failed at file due first c))
 
 -- the standings after it, by how it was settled
 abbrev Afters : List Standing → Standing → (Settled → List Standing) → Type 0
@@ -87,9 +85,6 @@ Afters ss s after = (how : Settled) → After s ss how (after how)
 abbrev mid : {J : Type 0} → State J → (Settled → List Standing) → Settled → List Standing
 mid w after Settled.Stands = w.standings
 mid w after how = after how
-
-abbrev more : {J : Type 0} → State J → List Standing → List Entry → State J
-more w ss es = record w { standings = ss; entries = w.entries ++ es }
 
 value_called : (verdict : Target) → CallsFor verdict (write_of verdict)
 value_called Target.Allow = tt
@@ -104,17 +99,14 @@ put_no_removal s what outcome none number name (inl e) = let none : ⊥ = cc in 
 put_no_removal s what outcome none number name (inr (inl e)) = none (let a : what ≡ Write.Remove = cc in a) (let b : outcome ≡ Wrote.Done = cc in b)
 put_no_removal s what outcome none number name (inr (inr x)) = x
 
--- the entries of a write, and of what it leads to
-two_more : {J : Type 0} {answer : Answers J} {later : Laters J} {present : Bool} {tried : Tries} {k l : Kernel} {w : State J} (u : State J) (ss : List Standing) (a b : Entry) → FairFrom answer later present tried k w l (record u { standings = ss; entries = (u.entries ++ a ∷ []) ++ b ∷ [] }) → FairFrom answer later present tried k w l (more u ss (a ∷ b ∷ []))
-two_more {answer = answer} {later = later} {present = present} {tried = tried} {k = k} {l = l} {w = w} u ss a b h = subst (λ (v : List Entry). FairFrom answer later present tried k w l (record u { standings = ss; entries = v })) (append_assoc u.entries (a ∷ []) (b ∷ [])) h
+-- entries behind others
+joined : {J : Type 0} {answer : Answers J} {later : Laters J} {present : Bool} {tried : Tries} {k l : Kernel} {w : State J} (u : State J) (ss : List Standing) (es fs : List Entry) → FairFrom answer later present tried k w l (record u { standings = ss; entries = (u.entries ++ es) ++ fs }) → FairFrom answer later present tried k w l (more u ss (es ++ fs))
+joined {answer = answer} {later = later} {present = present} {tried = tried} {k = k} {l = l} {w = w} u ss es fs h = subst (λ (v : List Entry). FairFrom answer later present tried k w l (record u { standings = ss; entries = v })) (append_assoc u.entries es fs) h
 
-three_more : {J : Type 0} {answer : Answers J} {later : Laters J} {present : Bool} {tried : Tries} {k l : Kernel} {w : State J} (u : State J) (ss : List Standing) (a b c : Entry) → FairFrom answer later present tried k w l (record u { standings = ss; entries = ((u.entries ++ a ∷ []) ++ b ∷ []) ++ c ∷ [] }) → FairFrom answer later present tried k w l (more u ss (a ∷ b ∷ c ∷ []))
-three_more {answer = answer} {later = later} {present = present} {tried = tried} {k = k} {l = l} {w = w} u ss a b c h = subst (λ (v : List Entry). FairFrom answer later present tried k w l (record u { standings = ss; entries = v })) (append_assoc (u.entries ++ a ∷ []) (b ∷ []) (c ∷ []) ∙ append_assoc u.entries (a ∷ []) (b ∷ c ∷ [])) h
-
-value_fair : {J : Type 0} {answer : Answers J} {later : Laters J} {present : Bool} {tried : Tries} {k m : Kernel} {w : State J} {t : Told Wrote} {es : List Entry} {how : Settled} (u : State J) (n : Kernel) (s : Standing) (after : Settled → List Standing) (what : Write) → Written s.name s.number what t es how → Has u.standings s → Afters u.standings s after → says_put s.held.0 t.answer n m → FairFrom answer later present tried k w m (with_write u s what t.answer) → FairFrom answer later present tried k w m (more u (mid u after how) es)
-value_fair u n s after what (Done failed) has a says h = two_more u u.standings _ _ h
-value_fair u n s after what (Went failed) has a says h = three_more u (after Settled.Nobody) _ _ _ (then_went s (after Settled.Nobody) has (a Settled.Nobody) says h)
-value_fair u n s after what (Broke failed) has a says h = two_more u (after (Settled.Fault failed)) _ _ (let after_fault = a (Settled.Fault failed) in then_same (after (Settled.Fault failed)) after_fault.0 after_fault.1 h)
+value_fair : {J : Type 0} {answer : Answers J} {later : Laters J} {present : Bool} {tried : Tries} {k m : Kernel} {w : State J} {t : Told Wrote} {es : List Entry} {how : Settled} (u : State J) (n : Kernel) (s : Standing) (after : Settled → List Standing) (what : Write) → Written s.name s.number what t es how → Has u.standings s → Afters u.standings s after → says_put s.held.0 t.answer n m → FairFrom answer later present tried k w m (more u u.standings (wrote_entries s.number s.name what t.answer)) → FairFrom answer later present tried k w m (more u (mid u after how) es)
+value_fair u n s after what (Done failed) has a says h = h
+value_fair u n s after what (Went failed) has a says h = joined u (after Settled.Nobody) (wrote_entries s.number s.name what Wrote.Gone) _ (then_went s (after Settled.Nobody) has (a Settled.Nobody) says h)
+value_fair u n s after what (Broke failed) has a says h = let after_fault = a (Settled.Fault failed) in then_same (after (Settled.Fault failed)) after_fault.0 after_fault.1 h
 
 none_more : {J : Type 0} {answer : Answers J} {later : Laters J} {present : Bool} {tried : Tries} {k l : Kernel} {w : State J} (u : State J) → FairFrom answer later present tried k w l u → FairFrom answer later present tried k w l (more u u.standings [])
 none_more {answer = answer} {later = later} {present = present} {tried = tried} {k = k} {l = l} {w = w} u h = subst (λ (v : List Entry). FairFrom answer later present tried k w l (record u { entries = v })) (sym (append-nil u.entries)) h
@@ -150,7 +142,7 @@ done_removal m l s i file failed d of c j at =
     subst (λ (v : ℕ). Has l.log (record { device = v; write = Write.Remove })) is logged
 
 -- a removal that was done marks the standing
-removed_fair : {J : Type 0} {answer : Answers J} {later : Laters J} {present : Bool} {tried : Tries} {k m : Kernel} {w u : State J} (l : Kernel) (s : Standing) (i file : ℕ) (failed : FailedCall) (rs : List Standing) → StandsAs m u s i → IsHeldAs m file i Remove → is_reject s.verdict ≡ true → s.removed ≡ false → After s u.standings Settled.Stands rs → Called (Put file Write.Remove) (told_at Wrote.Done failed) m l → FairFrom answer later present tried k w m u → FairFrom answer later present tried k w l (record u { standings = rs; entries = (u.entries ++ Entry.Intent s.number s.name Write.Remove ∷ []) ++ Entry.Wrote s.number s.name Write.Remove Wrote.Done ∷ [] })
+removed_fair : {J : Type 0} {answer : Answers J} {later : Laters J} {present : Bool} {tried : Tries} {k m : Kernel} {w u : State J} (l : Kernel) (s : Standing) (i file : ℕ) (failed : FailedCall) (rs : List Standing) → StandsAs m u s i → IsHeldAs m file i Remove → is_reject s.verdict ≡ true → s.removed ≡ false → After s u.standings Settled.Stands rs → Called (Put file Write.Remove) (told_at Wrote.Done failed) m l → FairFrom answer later present tried k w m u → FairFrom answer later present tried k w l (more u rs (wrote_entries s.number s.name Write.Remove Wrote.Done))
 removed_fair {J} {answer} {later} {present} {tried} {k} {m} {w} {u} l s i file failed rs at of reject fresh a c h =
     let g = called_grows (Put file Write.Remove) (told_at Wrote.Done failed) m l c in
     let stand = h.fair.stand in
@@ -158,8 +150,7 @@ removed_fair {J} {answer} {later} {present} {tried} {k} {m} {w} {u} l s i file f
     let first = remove_first m u s at.0 fresh (λ t b e. distinct_one (λ (v : Standing). v.number) u.standings t s stand.distinct b at.0 e) in
     let account = put_account m l u s i file Remove Write.Remove Wrote.Done failed at of (reject_calls s.verdict reject) first c in
     let removed = removal_removed l u.standings rs s (stand_stays m l u.standings u.next g stand).removed (done_removal m l s i file failed at.1 of c) a.1 in
-    let step = plain_fair answer later present tried m l u rs es c.sound g stand a.0 (removal_marks u.standings rs s stand.distinct reject a.1) removed (tt, (tt, tt)) account in
-    fair_trans h (subst (λ (v : List Entry). StepFrom answer later present tried m u l (record u { standings = rs; entries = v })) (sym (append_assoc u.entries (Entry.Intent s.number s.name Write.Remove ∷ []) (Entry.Wrote s.number s.name Write.Remove Wrote.Done ∷ []))) step)
+    fair_trans h (plain_fair answer later present tried m l u rs es c.sound g stand a.0 (removal_marks u.standings rs s stand.distinct reject a.1) removed (tt, (tt, tt)) account)
 
 -- where the `remove` file's device is gone, that of the `authorized` file is so
 gone_through : (k l : Kernel) (s : Standing) (i file : ℕ) (d : IsDevice k i s.name s.held s.judged) → IsHeldAs k file i Remove → IsGoneAt file k → Grows k l → IsGoneAt s.held.0 l
@@ -168,18 +159,18 @@ gone_through k l s i file d of gone g =
 
 put_on_fair : {J : Type 0} {answer : Answers J} {later : Laters J} {present : Bool} {tried : Tries} {k m : Kernel} {w u : State J} {t : Told Wrote} {es : List Entry} {how : Settled} (x y : Kernel) (s : Standing) (i file : ℕ) (after : Settled → List Standing) (shut : Closing) → Written s.name s.number Write.Remove t es how → StandsAs m u s i → IsHeldAs m file i Remove → is_reject s.verdict ≡ true → s.removed ≡ false → Afters u.standings s after → Called (Put file Write.Remove) t m x → Called (Close file) shut x y → FairFrom answer later present tried k w m u → FairFrom answer later present tried k w y (more u (after how) es)
 put_on_fair {u = u} x y s i file after shut (Done failed) at of reject fresh a c d h =
-    two_more u (after Settled.Stands) _ _ (then_called (Close file) shut y tt d (removed_fair x s i file failed (after Settled.Stands) at of reject fresh (a Settled.Stands) c h))
+    then_called (Close file) shut y tt d (removed_fair x s i file failed (after Settled.Stands) at of reject fresh (a Settled.Stands) c h)
 put_on_fair {m = m} {u = u} x y s i file after shut (Went failed) at of reject fresh a c d h =
     let first = remove_first m u s at.0 fresh (λ t b e. distinct_one (λ (v : Standing). v.number) u.standings t s h.fair.stand.distinct b at.0 e) in
     let put = put_fair x s i file Remove Write.Remove Wrote.Gone failed at of (reject_calls s.verdict reject) first (put_no_removal s Write.Remove Wrote.Gone (λ e f. let none : ⊥ = cc in none)) c h in
     let g = called_grows (Put file Write.Remove) (told_at Wrote.Gone failed) m x c in
     let gone = gone_through x y s i file (device_stays m x i s.name s.held s.judged g at.1) (g.held file (record { device = i; control = Remove }) of) c.says (called_grows (Close file) shut x y d) in
-    three_more u (after Settled.Nobody) _ _ _ (then_went s (after Settled.Nobody) at.0 (a Settled.Nobody) gone (then_called (Close file) shut y tt d put))
+    joined u (after Settled.Nobody) (wrote_entries s.number s.name Write.Remove Wrote.Gone) _ (then_went s (after Settled.Nobody) at.0 (a Settled.Nobody) gone (then_called (Close file) shut y tt d put))
 put_on_fair {m = m} {u = u} x y s i file after shut (Broke failed) at of reject fresh a c d h =
     let first = remove_first m u s at.0 fresh (λ t b e. distinct_one (λ (v : Standing). v.number) u.standings t s h.fair.stand.distinct b at.0 e) in
     let put = put_fair x s i file Remove Write.Remove Wrote.Failed failed at of (reject_calls s.verdict reject) first (put_no_removal s Write.Remove Wrote.Failed (λ e f. let none : ⊥ = cc in none)) c h in
     let mark = a (Settled.Fault failed) in
-    two_more u (after (Settled.Fault failed)) _ _ (then_same (after (Settled.Fault failed)) mark.0 mark.1 (then_called (Close file) shut y tt d put))
+    then_same (after (Settled.Fault failed)) mark.0 mark.1 (then_called (Close file) shut y tt d put)
 
 unheld_fair : {J : Type 0} {answer : Answers J} {later : Laters J} {present : Bool} {tried : Tries} {k m : Kernel} {w u : State J} {r : RemoveHold} {es : List Entry} {how : Settled} (s : Standing) (i : ℕ) (after : Settled → List Standing) → Unheld s.name s.number r es how → Has u.standings s → RemoveSays s.held.0 i m r → Afters u.standings s after → FairFrom answer later present tried k w m u → FairFrom answer later present tried k w m (more u (after how) es)
 unheld_fair s i after Gone_by has says a h = then_went s (after Settled.Nobody) has (a Settled.Nobody) says h
@@ -215,10 +206,9 @@ only_value u s after how es f has a h = h
 
 carried_fair : {J : Type 0} {answer : Answers J} {later : Laters J} {present : Bool} {tried : Tries} {k m : Kernel} {w u : State J} {on : Bool} {ms : List Made} {es : List Entry} {how : Settled} (l : Kernel) (s : Standing) (after : Settled → List Standing) → Carried s.name (known_of s) on ms es how → Has u.standings s → ((how : Settled) → After s u.standings how (after how)) → FairFrom answer later present tried k w m u → Along calls m ms l → FairFrom answer later present tried k w l (record u { standings = after how; entries = u.entries ++ es })
 carried_fair {u = u} l s after (By_value ms es how v f) has a h along = only_value u s after how es f has a (valued_fair l s after v has a h along)
-carried_fair {J} {answer} {later} {present} {tried} {k} {m} {w} {u} l s after (And_removal ms ns es fs how go v r) has a h along =
+carried_fair {m = m} {u = u} l s after (And_removal ms ns es fs how go v r) has a h along =
     let cut = along_split calls ms ns m l along in
-    subst (λ (x : List Entry). FairFrom answer later present tried k w l (record u { standings = after how; entries = x })) (append_assoc u.entries es fs)
-    (removal_fair l s after r go has a (valued_fair cut.0 s after v has a h cut.1) cut.2)
+    joined u (after how) es fs (removal_fair l s after r go has a (valued_fair cut.0 s after v has a h cut.1) cut.2)
 
 pub brought_fair : {J : Type 0} {answer : Answers J} {later : Laters J} {present : Bool} {tried : Tries} {k m : Kernel} {w u : State J} {on : Bool} {ms : List Made} {es : List Entry} {how : Settled} (l : Kernel) (s : Standing) (after : Settled → List Standing) → Brought s.name (known_of s) on ms es how → Has u.standings s → ((how : Settled) → After s u.standings how (after how)) → FairFrom answer later present tried k w m u → Along calls m ms l → FairFrom answer later present tried k w l (record u { standings = after how; entries = u.entries ++ es })
 brought_fair l s after (Left_open ms es how c n) has a h along = carried_fair l s after c has a h along
@@ -335,7 +325,7 @@ known_brought {m = m} {u = u} {ms = ms} {es = es} {how = how} l name known on at
 
 -- and the name is told where it ends unsettled
 told_fair : {J : Type 0} {answer : Answers J} {later : Laters J} {present : Bool} {tried : Tries} {k l : Kernel} {w : State J} (u : State J) (rs : List Standing) (es : List Entry) (name : List ℕ) (how : Settled) → FairFrom answer later present tried k w l (record u { standings = rs; entries = u.entries ++ es }) → FairFrom answer later present tried k w l (record u { standings = rs; entries = u.entries ++ (es ++ unsettled_by name how) })
-told_fair {J} {answer} {later} {present} {tried} {k} {l} {w} u rs es name how h = subst (λ (v : List Entry). FairFrom answer later present tried k w l (record u { standings = rs; entries = v })) (append_assoc u.entries es (unsettled_by name how)) (by how)
+told_fair {J} {answer} {later} {present} {tried} {k} {l} {w} u rs es name how h = joined u rs es (unsettled_by name how) (by how)
   where
     v : State J
     v = record u { standings = rs; entries = u.entries ++ es }
@@ -384,7 +374,7 @@ abbrev ended_as : {J : Type 0} → Laters J → Bool → List ℕ → State J �
 ended_as later present name u o rs es = record u { standings = rs; next = next_after u o; judge = judge_after later present name u o; entries = u.entries ++ es }
 
 unbound_fair : {J : Type 0} {answer : Answers J} {later : Laters J} {present : Bool} {tried : Tries} {k l : Kernel} {w : State J} {name : List ℕ} {r : Binding} {fs : List Entry} {how : Settled} (u : State J) (rs : List Standing) (es : List Entry) → Unbound_end name r fs how → FairFrom answer later present tried k w l (record u { standings = rs; entries = u.entries ++ es }) → FairFrom answer later present tried k w l (record u { standings = rs; entries = u.entries ++ (es ++ fs) })
-unbound_fair {J} {answer} {later} {present} {tried} {k} {l} {w} {name} {r} {fs} u rs es end h = subst (λ (v : List Entry). FairFrom answer later present tried k w l (record u { standings = rs; entries = v })) (append_assoc u.entries es fs) (by end h)
+unbound_fair {J} {answer} {later} {present} {tried} {k} {l} {w} {name} {r} {fs} u rs es end h = joined u rs es fs (by end h)
   where
     v : State J
     v = record u { standings = rs; entries = u.entries ++ es }
@@ -407,13 +397,12 @@ flat_fair l (Stopped ms es rs f opening) is so h a = (opening_fair l opening so 
 flat_fair {m = m} {u = u} {name = name} l (Unbound ms ns es fs rs r how t opening way end) is so h a =
     let cut = along_split calls ms ns m l a in
     unbound_fair u rs es end (binds_fair l name ns r way (opening_fair cut.0 opening so h cut.1).fair cut.2).3
-flat_fair {J} {answer} {later} {present} {tried} {k = k} {m = m} {w = w} {u = u} {name = name} l (No_place ms ns es rs b shut t opening way) is so h a =
+flat_fair {m = m} {u = u} {name = name} l (No_place ms ns es rs b shut t opening way) is so h a =
     let last : List Made = answered (Close b.held.0) shut ∷ [] in
     let cut = along_split calls ms (ns ++ last) m l a in
     let far = along_split calls ns last cut.0 l cut.2 in
     let x = binds_fair far.0 name ns (Binding.Bound b) way (opening_fair cut.0 opening so h cut.1).fair far.1 in
-    subst (λ (v : List Entry). FairFrom answer later present tried k w l (record u { standings = rs; entries = v })) (append_assoc u.entries es (Entry.Unsettled name Fault.Memory ∷ []))
-    (fair_end l _ refl far.2.2 (then_note (Entry.Unsettled name Fault.Memory) tt (then_called (Close b.held.0) shut far.2.0 tt far.2.1 x.3)))
+    joined u rs es _ (fair_end l _ refl far.2.2 (then_note (Entry.Unsettled name Fault.Memory) tt (then_called (Close b.held.0) shut far.2.0 tt far.2.1 x.3)))
 flat_fair {J} {answer} {later} {present} {tried} {k = k} {m = m} {w = w} {u = u} {name = name} l (Judged_so ms ns os es fs rs b x how t opening way given new brought) is so h a =
     let cut = along_split calls ms (ns ++ os) m l a in
     let far = along_split calls ns os cut.0 l cut.2 in
