@@ -1,11 +1,6 @@
 -- A sweep, flat: the listing, the closings of what isn't listed, and a chain of parts, one for each name, each with its shape.
 use Rattle.std.proofs.Common.{◌≡◌, ℕ, Bool, true, false, not, cond, map, List, [], ◌∷◌, refl, sym, ◌∙◌, ap, subst, ◌&&◌, ◌++◌, Option, Some, append_assoc, append-nil}
-use Rattle.std.specs.List.{filter}
-use Rattle.ug_table.proofs.Common.{Held, Close, Call, Answer, Names, Kernel, IsKernel, Quiet, Ask, calls, Runs, Made, answered, Along, failures, failure_of, lists, numbered, farewells, AreClosings, unlisted_files, Standing, in_sweep_order, FailedCall, Listing, Entry, Fault, State, Kept, kept_of, with_kept, noted, Answers, Laters, Settled, Target, Cause}
-use Rattle.ug_kernel.proofs.Ways.{Ways, Sure, ways_more, along_sound, Unwritten, along_quiet, Went, ways_next, ways_last, behind_sure, ways_run}
-use Rattle.ug_table.specs.Sweep.{closing_unlisted, settling_all, resettling_all, parted, names_of, resumed, unlisted, marked_listed, if_room, after_list, sweeping}
-use Rattle.ug_table.specs.Settle.{settling, resettling}
-use Rattle.ug_table.specs.One.{again_numbered, resettling_numbered}
+use Rattle.ug_table.proofs.Common.{Held, Close, Call, Answer, Names, Kernel, IsKernel, Quiet, Ask, calls, Runs, Made, answered, Along, failures, failure_of, lists, numbered, farewells, AreClosings, unlisted_files, Standing, in_sweep_order, FailedCall, Listing, Entry, Fault, State, Kept, kept_of, with_kept, noted, Answers, Laters, Settled, Target, Cause, closing_unlisted, settling_all, resettling_all, parted, names_of, resumed, unlisted, marked_listed, if_room, after_list, sweeping, settling, resettling, Ways, Sure, ways_more, along_sound, Unwritten, along_quiet, Ran, ways_next, ways_last, behind_sure, ways_run, filter, again_numbered, resettling_numbered}
 use Rattle.ug_table.proofs.Shapes.{Piece, Settles, settles, Resettles, resettles, told_at}
 
 -- The closing of the files of what isn't listed.
@@ -198,7 +193,7 @@ module _ {S J : Type 0} (gives : S → (call : Call) → Answer call → S → T
     (later : Laters J) where
   pub settling_run : (name : List ℕ) (present : Bool) (w : State J) (s : S) (p : Settled × State J)
       (t : S) → Runs gives s (settling answer later name present w) p t
-      → Went gives (Settles answer later name present w) s p t
+      → Ran gives (Settles answer later name present w) s p t
   settling_run name present w s p t h =
       ways_run gives (Settles answer later name present w) (settling answer later name present w) s
       p t
@@ -206,13 +201,13 @@ module _ {S J : Type 0} (gives : S → (call : Call) → Answer call → S → T
 
   pub resettling_run : (name : List ℕ) (present : Bool) (w : State J) (k : Kept) (s : S)
       (p : Settled × Kept) (t : S) → Runs gives s (resettling name k) p t
-      → Went gives (Resettles answer later name present w k) s p t
+      → Ran gives (Resettles answer later name present w k) s p t
   resettling_run name present w k s p t h =
       ways_run gives (Resettles answer later name present w k) (resettling name k) s p t
       (resettles answer later name present w k) h
 
   pub sweeping_run : (s : S) (w : State J) (t : S) (v : State J)
-      → Runs gives s (sweeping answer later w) v t → Went gives (Comes answer later w) s v t
+      → Runs gives s (sweeping answer later w) v t → Ran gives (Comes answer later w) s v t
   sweeping_run s w t v h =
       ways_run gives (Comes answer later w) (sweeping answer later w) s v t
       (sweeping_by answer later w) h
@@ -247,7 +242,7 @@ unjudged k = record {
 pub numbered_run : {S : Type 0} (gives : S → (call : Call) → Answer call → S → Type 0) (number : ℕ)
     (k : Kept) (x : Standing) (s : S) (p : Settled × Kept) (t : S)
     → numbered number k.standings ≡ Some x → Runs gives s (resettling_numbered number k) p t
-    → Went gives (Resettles no_verdict no_later x.name false (unjudged k) k) s p t
+    → Ran gives (Resettles no_verdict no_later x.name false (unjudged k) k) s p t
 numbered_run gives number k x s p t e r =
     resettling_run gives no_verdict no_later x.name false (unjudged k) k s p t
     (run_numbered gives number k x s p t e r)

@@ -1,29 +1,20 @@
 -- A part is fair, and so is a sweep.
 use Rattle.std.proofs.Common.{◌≡◌, ℕ, Bool, true, false, not, ◌&&◌, List, [], ◌∷◌, ◌++◌, ◌⊎◌, Some, slice_get, inl, inr, refl, sym, ◌∙◌, ap, subst, append_assoc, append-nil, ◌+◌, ◌<◌, is_none, Option, arith, cond, true≢false}
 use Rattle.std.proofs.lemmas.Bool.{and_parts, and_cases, both_ways, not-true, not-false, cond_both, cases_Bool}
-use Rattle.ug_table.proofs.Common.{Has, AllDistinct, Target, Control, Authorized, Remove, Write, Wrote, Put, Close, Told, Closing, Ask_alive, Names, Kernel, Moves, IsKernel, Live, IsWritten, IsGoneAt, says_put, Called, says_listing, Grows, Quiet, calls, Runs, RemoveHold, Entry, State, Answers, Laters, known_of, standing_of, without, with_standing, place_for, lists, farewells, Tries, IsDevice, MayHave, MayHaveNot, wrote_entries, HasRemoval, WasRemoved, IsFirst, Account, Start, Had, Had_not, AreInOrder, none_before, IsProbed, Stand, numbers_of, Judge, IsOne, IsTold, HasStanding, IsFair, IsRemoveMarked, swept_before, IsGone, Went as WentAway, gone_of, Standing, Settled, Made, answered, Along, failure_of, FailedCall, parent_of, Judged, Held, Cause, Bound, Binding, Known, in_sweep_order, unlisted_files, Fault, Probe, Listing}
+use Rattle.ug_table.proofs.Common.{Has, AllDistinct, Target, Control, Authorized, Remove, Write, Wrote, Put, Close, Told, Closing, Ask_alive, Names, Kernel, Moves, IsKernel, Live, IsWritten, IsGoneAt, says_put, Called, says_listing, Grows, Quiet, calls, Runs, RemoveHold, Entry, State, Answers, Laters, known_of, standing_of, without, with_standing, place_for, lists, farewells, Tries, IsDevice, MayHave, MayHaveNot, wrote_entries, HasRemoval, WasRemoved, IsFirst, Account, Start, Had, Had_not, AreInOrder, none_before, IsProbed, Stand, numbers_of, Judge, IsOne, IsTold, HasStanding, IsFair, IsRemoveMarked, swept_before, IsGone, Went as WentAway, gone_of, Standing, Settled, Made, answered, Along, failure_of, FailedCall, parent_of, Judged, Held, Cause, Bound, Binding, Known, in_sweep_order, unlisted_files, Fault, Probe, Listing, names_of, parted, marked_listed, sweeping, unsettled_by, standing_for, judged_entry, tried_standings, dropped, has_right, distinct_one, has_map, has_new, has_old, filter_has, has_filter, write_of, is_reject, CallsFor, is_to_go, Way, way_runs, along_split, filter, some_same, called_grows, quiet_grows, grows_refl, judged_of, binding}
 use Rattle.ug_kernel.specs.declared.device.HeldFile.{HeldFile}
 use Rattle.ug_kernel.specs.declared.device.Effect.{Effect}
-use Rattle.ug_kernel.proofs.Grow.{some_same, called_grows, quiet_grows, grows_refl}
 use Rattle.ug_node.specs.Removal.{holding_remove, RemoveSays}
 use Rattle.ug_node.proofs.Laws.{holding_law, gone_later, binding_law}
-use Rattle.ug_table.specs.Bring.{write_of, is_reject, CallsFor, is_to_go}
-use Rattle.ug_types.proofs.Elements.{has_right, distinct_one, has_map, has_new, has_old, filter_has, has_filter}
 use Rattle.ug_table.proofs.Standings.{IsHeldAs, file_same, file_later, IsFileOf, found, with_own, each_with, listed_is, IsOpen, open_name}
 use Rattle.ug_table.proofs.OnePart.{no_removal}
 use Rattle.ug_table.proofs.Devices.{device_stays, stand_stays, probed_from}
 use Rattle.ug_table.proofs.Steps.{NoRemoval, AreMarked, keeps_itself, removal_marks, removal_removed, marks_keep, keep_one, keep_marks, FairFrom, fair_trans, StepFrom, fair_by, After, same_refl, plain_fair, keep_fair, fair_end, then_quiet, then_called, then_note, then_same, then_went, one_itself, without_less, tried_after, left_all, in_order, stand_by, stand_of, fair_refl, gone_device, account_stays}
 use Rattle.ug_table.proofs.Says.{gone_has}
-use Rattle.ug_kernel.proofs.Ways.{Way, way_runs, along_split}
 use Rattle.ug_table.proofs.Shapes.{Written, Done, Went, Broke, Valued, Same, Set, Unheld, Gone_by, Failed_by, Short_by, Removal, Not_held, Put_on, Carried, By_value, And_removal, Brought, Left_open, Let_go, told_at, Piece, Opening, Fresh, Lost, Unbound_end, Failed_so, Short_so, Flat, Unprobed, Tried, Stopped, Unbound, No_place, Judged_so, IsGiven, next_after, judge_after, opening_none, opening_absent}
 use Rattle.ug_types.specs.declared.record.Attrs.{Attrs}
-use Rattle.ug_record.specs.Records.{judged_of}
-use Rattle.ug_node.specs.Bind.{binding}
 use Rattle.ug_node.specs.Bound.{attrs_of, IsBound, BindSays}
-use Rattle.ug_table.specs.Settle.{unsettled_by, standing_for, judged_entry, tried_standings, dropped}
-use Rattle.ug_table.specs.Sweep.{names_of, parted, marked_listed, sweeping}
 use Rattle.ug_table.proofs.Marks.{order_new, keeps_filter, sweep_in_order, AreIn, dropped_in, AreSplit, AreFresh, split_in, parted_split, parted_fresh, part_split, part_fresh, piece_part, order_distinct}
-use Rattle.std.specs.List.{filter}
 use Rattle.ug_types.proofs.Sorting.{to_sweep_order}
 use Rattle.ug_kernel.proofs.Held.{live_before}
 use Rattle.ug_table.proofs.Chains.{closings_quiet, Chain, Over, First, Goes, Listed, Unlisted, sweeping_run}

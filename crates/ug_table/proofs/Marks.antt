@@ -1,15 +1,10 @@
 -- Marks and the order of standings.
 use Rattle.std.proofs.Common.{◌≡◌, ℕ, Bool, true, false, not, cond, List, [], ◌∷◌, ◌++◌, map, Option, inl, inr, refl, sym, ◌∙◌, ap, subst, Some, append_assoc, ◌⊎◌, append-nil, ◌+◌, add-one, true≢false, ◌<◌, ◌≤◌, None, length, min, take, get_or, arith}
-use Rattle.ug_table.proofs.Common.{Has, AllDistinct, Bound, Binding, Entry, State, Answers, Laters, same_name, without, marked, place_for, with_standing, known_of, standing_of, lists, farewells, IsNamed, IsMarked, IsUnlisted, IsListed, swept_before, AreInOrder, Tries, IsMarkedIn, AreMarkedIn, numbers_of, Standing, Known, Settled, Made, Along, Fault, EndsUnsettled, sweep_cmp, in_place, in_sweep_order, sweep_total, sweep_exact, Kernel, Runs, calls}
-use Rattle.ug_table.specs.Settle.{unsettled_by, kept_standings, tried_standings, dropped}
-use Rattle.ug_table.specs.Sweep.{names_of, parted, sweeping}
-use Rattle.ug_types.proofs.Elements.{has_left, has_right, has_cases, filter_has, map_has, has_map, cancel, last_is, distinct_filter, distinct_insert}
+use Rattle.ug_table.proofs.Common.{Has, AllDistinct, Bound, Binding, Entry, State, Answers, Laters, same_name, without, marked, place_for, with_standing, known_of, standing_of, lists, farewells, IsNamed, IsMarked, IsUnlisted, IsListed, swept_before, AreInOrder, Tries, IsMarkedIn, AreMarkedIn, numbers_of, Standing, Known, Settled, Made, Along, Fault, EndsUnsettled, sweep_cmp, in_place, in_sweep_order, sweep_total, sweep_exact, Kernel, Runs, calls, names_of, parted, sweeping, unsettled_by, kept_standings, tried_standings, dropped, has_left, has_right, has_cases, filter_has, map_has, has_map, cancel, last_is, distinct_filter, distinct_insert, filter, insert, whys, why_of, StandInOrder, KeepsOrder, IsNextNumbered, is_nearer}
 use Rattle.ug_table.proofs.Shapes.{Piece, Unbound_end, Absent_so, Flat, Unprobed, Tried, Stopped, Unbound, No_place, Judged_so, opening_absent, flat_rest, new_known}
 use Rattle.ug_table.proofs.Standings.{kept_tried, each_with, farewells_by, is_same, missing, missing_without, found, others_have, tried_own, lists_has, either_listed, same_is, fields_stay}
-use Rattle.ug_table.specs.One.{whys, why_of}
 use Rattle.ug_table.proofs.OnePart.{flat_is_part, flat_whys, told_in}
 use Rattle.ug_table.proofs.Says.{Each, NamesOnly, each_has, each_append, each_map, NamesNone, none_named}
-use Rattle.std.specs.List.{filter, insert}
 use Rattle.std.specs.Ordering.{is_gt, is_lt, ordering_reverse}
 use Rattle.ug_table.proofs.Chains.{Chain, Over, First, Goes, Listed, Unlisted, sweeping_run}
 use Rattle.std.specs.declared.cmp.Ordering.{Ordering}
@@ -19,7 +14,6 @@ use Rattle.std.proofs.lemmas.Cmp.{tied_itself}
 use Rattle.std.proofs.lemmas.List.Sorted.{ranks_by}
 use Rattle.std.proofs.Math.Nat.{min-le_right}
 use Rattle.std.proofs.lemmas.List.{take_more}
-use Rattle.ug_table.specs.Order.{StandInOrder, KeepsOrder, IsNextNumbered, is_nearer}
 
 -- What settling a name tells as unsettled, and how it leaves the marks, whatever the kernel answers.
 

@@ -1,18 +1,12 @@
 -- The names that a sweep tells, none twice; and that no device is told for want of memory that had a standing, lived through it, and
 -- wasn't still to be removed.
 use Rattle.std.proofs.Common.{◌≡◌, ℕ, Bool, true, List, [], ◌∷◌, ◌++◌, Option, Some, ◌⊎◌, inl, inr, refl, sym, ◌∙◌, ap, subst, append_assoc}
-use Rattle.ug_table.proofs.Common.{Has, AllDistinct, Call, Answer, Names, Ask_alive, Kernel, Follows, says_probe, Runs, calls, Made, answered, Along, Entry, State, Answers, Laters, farewells, standing_of, name_in, unsettled_names, EndsUnsettled, NamesOnce, Part, Standing, in_sweep_order, Grows, Probe, Fault, Stand, IsSpared, Known, Listing}
-use Rattle.ug_kernel.proofs.Told.{told_run}
-use Rattle.ug_table.specs.Sweep.{names_of, sweeping}
-use Rattle.ug_types.proofs.Elements.{has_cases, cancel, has_right}
+use Rattle.ug_table.proofs.Common.{Has, AllDistinct, Call, Answer, Names, Ask_alive, Kernel, Follows, says_probe, Runs, calls, Made, answered, Along, Entry, State, Answers, Laters, farewells, standing_of, name_in, unsettled_names, EndsUnsettled, NamesOnce, Part, Standing, in_sweep_order, Grows, Probe, Fault, Stand, IsSpared, Known, Listing, names_of, sweeping, has_cases, cancel, has_right, is_to_go, along_split, along_grows, some_same, called_grows, grows_trans, told_run}
 use Rattle.ug_table.proofs.Marks.{order_distinct, ends_only, named_only, farewell_none}
 use Rattle.ug_table.proofs.Says.{none_named}
 use Rattle.ug_table.proofs.Chains.{Chain, Over, First, Goes, Listed, Unlisted, goes_entries, sweeping_run}
 use Rattle.ug_table.proofs.OnePart.{flat_is_part}
 use Rattle.ug_table.proofs.Shapes.{told_at}
-use Rattle.ug_kernel.proofs.Grow.{some_same, called_grows, grows_trans}
-use Rattle.ug_kernel.proofs.Ways.{along_split, along_grows}
-use Rattle.ug_table.specs.Bring.{is_to_go}
 use Rattle.ug_table.proofs.Standings.{farewells_by, IsFileOf, file_later, LiveAs, lives_between, gone_no, open_named, stands_one, listed_is, listed_stand}
 use Rattle.ug_table.proofs.Lived.{lives_first, lives_last, stand_files}
 

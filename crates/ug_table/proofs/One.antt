@@ -1,23 +1,15 @@
 -- What the settling of one name does, over the states of a run.
 use Rattle.std.proofs.Common.{◌≡◌, ℕ, Bool, true, false, not, nat_eq, ◌&&◌, ◌||◌, List, [], ◌∷◌, ◌++◌, Option, Some, map, cond, inl, inr, refl, sym, ◌∙◌, ap, subst, arith, true≢false, ◌⊎◌, slice_get}
 use Rattle.std.proofs.lemmas.Bool.{false_from_ne_true}
-use Rattle.ug_table.proofs.Common.{Has, AllDistinct, Call, Answer, Runs, calls, Made, Along, Bound, Entry, State, Kept, Answers, Laters, kept_of, with_kept, same_name, known_of, numbered, without, marked, removed_of, with_standing, numbers_of, Tries, none_before, Stand, IsGone, IsNamed, HasStanding, IsAsJudged, Standing, Settled, Device, Kernel, IsKernel, Follows}
-use Rattle.ug_table.specs.Bring.{is_reject, is_to_go}
-use Rattle.ug_table.specs.Settle.{stands, tried_standings, settling, resettling}
-use Rattle.ug_table.specs.Sweep.{names_of}
-use Rattle.ug_table.specs.Order.{StandInOrder}
+use Rattle.ug_table.proofs.Common.{Has, AllDistinct, Call, Answer, Runs, calls, Made, Along, Bound, Entry, State, Kept, Answers, Laters, kept_of, with_kept, same_name, known_of, numbered, without, marked, removed_of, with_standing, numbers_of, Tries, none_before, Stand, IsGone, IsNamed, HasStanding, IsAsJudged, Standing, Settled, Device, Kernel, IsKernel, Follows, names_of, stands, tried_standings, settling, resettling, filter_has, map_has, has_map, distinct_one, cancel, is_reject, is_to_go, grows_refl, some_same, resettling_numbered, NeedsRoom, failed_of, whys, why_of, GoesAsPart, LivedAs, SettledOne, SettlesOne, IsOf, ResettledOne, ResettlesOne, told_run, StandInOrder}
 use Rattle.ug_table.specs.Marks.{has_name, has_number, stood_removed, LeavesMarks}
-use Rattle.ug_table.specs.One.{resettling_numbered, NeedsRoom, failed_of, whys, why_of, GoesAsPart, LivedAs, SettledOne, SettlesOne, IsOf, ResettledOne, ResettlesOne}
-use Rattle.ug_types.proofs.Elements.{filter_has, map_has, has_map, distinct_one, cancel}
 use Rattle.ug_table.proofs.Marks.{names_distinct, unnamed, flat_stands, flat_nobody}
 use Rattle.ug_table.proofs.Standings.{Test, own, rest_of, AreNamed, marked_rest, without_rest, of_name, without_with, each_with, same_is, is_same, found, missing, numbered_has, IsFileOf, file_same, file_later, LiveAs, IsOpen, or_none, open_name, open_later, open_named}
 use Rattle.ug_table.proofs.Shapes.{Opening, Fresh, Lost, Flat, Unprobed, Tried, Stopped, Unbound, No_place, Judged_so, Piece, opening_absent, opening_rest}
 use Rattle.ug_table.proofs.PartCalls.{failed_by}
 use Rattle.ug_table.proofs.OnePart.{flat_room, tells_why, flat_whys, flat_is_part}
 use Rattle.ug_table.proofs.Chains.{settling_run, numbered_run, resettling_run, run_numbered, no_verdict, no_later}
-use Rattle.ug_kernel.proofs.Grow.{grows_refl, some_same}
 use Rattle.ug_kernel.proofs.Rises.{Counting, along_numbered, along_rises}
-use Rattle.ug_kernel.proofs.Told.{told_run}
 use Rattle.ug_table.proofs.Steps.{FairFrom, had_before, fair_refl}
 use Rattle.ug_table.proofs.Lived.{none_stands, lives_first, lives_last, stand_files, judged_at, piece_well}
 use Rattle.ug_table.proofs.Fair.{piece_fair}

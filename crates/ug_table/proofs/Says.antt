@@ -1,8 +1,7 @@
 -- What an account says of the numbers that it tells.
 use Rattle.std.proofs.Common.{◌≡◌, ℕ, ◌+◌, ◌<◌, ◌≤◌, Bool, ◌⊎◌, List, [], ◌∷◌, ◌++◌, inl, inr, refl, sym, ◌∙◌, ap, subst, arith}
-use Rattle.ug_table.proofs.Common.{Has, AllDistinct, Judged, Held, Target, Cause, Write, Wrote, Kernel, Entry, IsNamed, Tries, IsDevice, IsGone, IsProbed, TellsNeither, HasVerdict, wrote_entries, Account, Start, Note, Judge, Had, Had_not, Went, numbers_of, gone_of, Standing, Answers, Laters}
+use Rattle.ug_table.proofs.Common.{Has, AllDistinct, Judged, Held, Target, Cause, Write, Wrote, Kernel, Entry, IsNamed, Tries, IsDevice, IsGone, IsProbed, TellsNeither, HasVerdict, wrote_entries, Account, Start, Note, Judge, Had, Had_not, Went, numbers_of, gone_of, Standing, Answers, Laters, has_left, only_left, last_is, distinct_one, has_cases}
 use Rattle.ug_kernel.specs.declared.device.Effect.{Effect}
-use Rattle.ug_types.proofs.Elements.{has_left, only_left, last_is, distinct_one, has_cases}
 
 -- each entry is so
 abbrev pub Each : (Entry → Type 0) → List Entry → Type 0

@@ -1,15 +1,8 @@
 -- One name's part, flat: each way through the trees of a settling and a resettling has one of these shapes.
 use Rattle.std.proofs.Common.{◌≡◌, ℕ, ◌+◌, Bool, true, false, ◌&&◌, not, is_none, List, [], ◌∷◌, ◌++◌, Option, Some, None, refl, sym, ◌∙◌, ap, subst, append_assoc, append-nil}
-use Rattle.ug_table.proofs.Common.{parent_of, Judged, Held, Target, Cause, Probe, Write, Wrote, Ask_alive, Put, Close, Closing, Told, Made, answered, failure_of, Bound, Binding, RemoveHold, Entry, State, Kept, with_kept, Answers, Laters, Has, known_of, standing_of, same_name, without, with_standing, Standing, Known, Settled, FailedCall, Fault}
-use Rattle.ug_record.specs.Records.{judged_of}
-use Rattle.ug_node.specs.Bind.{binding}
+use Rattle.ug_table.proofs.Common.{parent_of, Judged, Held, Target, Cause, Probe, Write, Wrote, Ask_alive, Put, Close, Closing, Told, Made, answered, failure_of, Bound, Binding, RemoveHold, Entry, State, Kept, with_kept, Answers, Laters, Has, known_of, standing_of, same_name, without, with_standing, Standing, Known, Settled, FailedCall, Fault, names_of, unsettled_by, kept_standings, to_keep, no_room, standing_for, known_in, judged_entry, if_place, if_record, admitting, after_bind, entering, tried_standings, to_mark, after_known, from_standing, settling, to_keep_mark, after_again, again, resettling, filter_has, wants, write_of, after_write, to_value, valuing, after_hold, removing, is_to_go, if_to_go, after_value, writing, close_gone, bringing, Ways, Sure, Way, ways_more, behind_sure, sure_last, judged_of, binding}
 use Rattle.ug_node.specs.Removal.{holding_remove}
-use Rattle.ug_table.specs.Bring.{wants, write_of, after_write, to_value, valuing, after_hold, removing, is_to_go, if_to_go, after_value, writing, close_gone, bringing}
-use Rattle.ug_table.specs.Settle.{unsettled_by, kept_standings, to_keep, no_room, standing_for, known_in, judged_entry, if_place, if_record, admitting, after_bind, entering, tried_standings, to_mark, after_known, from_standing, settling, to_keep_mark, after_again, again, resettling}
-use Rattle.ug_kernel.proofs.Ways.{Ways, Sure, Way, ways_more, behind_sure, sure_last}
 use Rattle.ug_node.proofs.BindShapes.{sure_binding, sure_hold}
-use Rattle.ug_types.proofs.Elements.{filter_has}
-use Rattle.ug_table.specs.Sweep.{names_of}
 use Rattle.ug_table.proofs.Standings.{missing, without_own, without_with, with_own, kept_tried, tried_without}
 pub use Rattle.ug_table.proofs.Standings.{told_at}
 

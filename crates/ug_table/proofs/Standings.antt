@@ -2,19 +2,12 @@
 use Rattle.std.proofs.Common.{◌≡◌, ◌↔◌, ℕ, nat_eq, Option, option_copied, IsNone, IsSome, Bor, sym, Bool, true, false, not, ◌∙◌, ◌||◌, List, [], ◌∷◌, Some, None, map, cond, ◌⊎◌, inl, inr, refl, ap, subst, arith, true≢false, slice_get, ◌&&◌, ◌++◌, take, drop}
 use Rattle.std.proofs.lemmas.Bool.{or_right, or_cases, cases_Bool, cond_both, cond-false, both_ways, not-true, not-false, false_from_ne_true}
 use Rattle.std.specs.Cmp.Lexicographic.{bytes_decides}
-use Rattle.ug_table.proofs.Common.{Has, AllDistinct, same_name, known_of, standing_of, numbered, without, marked, lists, removed_of, place_for, with_standing, settled_standing, Standing, Known, Target, Device, Control, Authorized, Remove, Write, Wrote, Told, Put, Kernel, Live, IsKernel, Lived, value_after, does_put, IsWritten, IsGoneAt, IsAlive, Called, Quiet, Grows, FailedCall, Settled, Held, open_file, known_files, number_of, Entry, farewells}
-use Rattle.ug_table.specs.Sweep.{names_of}
-use Rattle.ug_types.proofs.Elements.{filter_has, map_has, has_map, distinct_one, has_filter, insert_has}
-use Rattle.ug_table.specs.Bring.{is_reject, wants, write_of}
+use Rattle.ug_table.proofs.Common.{Has, AllDistinct, same_name, known_of, standing_of, numbered, without, marked, lists, removed_of, place_for, with_standing, settled_standing, Standing, Known, Target, Device, Control, Authorized, Remove, Write, Wrote, Told, Put, Kernel, Live, IsKernel, Lived, value_after, does_put, IsWritten, IsGoneAt, IsAlive, Called, Quiet, Grows, FailedCall, Settled, Held, open_file, known_files, number_of, Entry, farewells, names_of, kept_standings, tried_standings, filter_has, map_has, has_map, distinct_one, has_filter, insert_has, is_reject, wants, write_of, filter, insert, some_same, moves_quiet}
 use Rattle.ug_kernel.specs.declared.device.HeldFile.{HeldFile}
-use Rattle.ug_kernel.proofs.Grow.{some_same}
-use Rattle.ug_kernel.proofs.Quiet.{moves_quiet}
 use Rattle.ug_kernel.proofs.Held.{live_before}
 use Rattle.ug_node.proofs.BindShapes.{told}
 use Rattle.std.specs.Prelude.{if◌then◌else◌}
-use Rattle.ug_table.specs.Settle.{kept_standings, tried_standings}
 use Rattle.std.proofs.lemmas.List.{take-append-drop}
-use Rattle.std.specs.List.{filter, insert}
 
 -- what a call was answered, with its number and the count of failed calls after it
 abbrev pub told_at : {X : Type 0} → X → FailedCall → Told X

@@ -1,19 +1,12 @@
 -- Fair steps, one after another.
 use Rattle.std.proofs.Common.{◌≡◌, ℕ, Bool, List, ◌++◌, inl, inr, sym, ◌∙◌, subst, true, false, ◌⊎◌, refl, ap, ◌<◌, ◌≤◌, append-nil, [], ◌∷◌, Some, slice_get, append_assoc, arith, not, map}
-use Rattle.ug_table.proofs.Common.{Has, AllDistinct, Held, Target, Kernel, Live, IsKernel, Grows, Quiet, Entry, Tries, HasVerdict, Account, Start, Note, Judge, Had, Had_not, Went, IsTold, HasRemoval, Stand, numbers_of, wrote_entries, IsRemoveMarked, IsDevice, IsGone, IsProbed, IsOne, Stands, HasStanding, IsJudged, gone_of, IsFair, AreLeft, WasRemoved, IsFirst, TellsNeither, Standing, Answers, Laters, State, noted, Judged, Cause, Device, Write, Wrote, Authorized, Call, Answer, IsGoneAt, Called, same_name, without, marked, removed_of, Settled}
+use Rattle.ug_table.proofs.Common.{Has, AllDistinct, Held, Target, Kernel, Live, IsKernel, Grows, Quiet, Entry, Tries, HasVerdict, Account, Start, Note, Judge, Had, Had_not, Went, IsTold, HasRemoval, Stand, numbers_of, wrote_entries, IsRemoveMarked, IsDevice, IsGone, IsProbed, IsOne, Stands, HasStanding, IsJudged, gone_of, IsFair, AreLeft, WasRemoved, IsFirst, TellsNeither, Standing, Answers, Laters, State, noted, Judged, Cause, Device, Write, Wrote, Authorized, Call, Answer, IsGoneAt, Called, same_name, without, marked, removed_of, Settled, names_of, tried_standings, has_left, has_right, distinct_one, has_cases, distinct_append, filter_has, has_filter, map_has, has_map, is_reject, some_same, quiet_grows, grows_trans, grows_refl, moves_quiet, WritesNothing, quiet_refl, called_quiet, StandInOrder, KeepsOrder}
 use Rattle.ug_kernel.specs.declared.device.Effect.{Effect}
-use Rattle.ug_types.proofs.Elements.{has_left, has_right, distinct_one, has_cases, distinct_append, filter_has, has_filter, map_has, has_map}
 use Rattle.ug_table.proofs.Devices.{device_stays, gone_stays, probed_stays, stand_stays}
-use Rattle.ug_table.specs.Bring.{is_reject}
-use Rattle.ug_kernel.proofs.Grow.{some_same, quiet_grows, grows_trans, grows_refl}
-use Rattle.ug_kernel.proofs.Quiet.{moves_quiet, WritesNothing, quiet_refl, called_quiet}
 use Rattle.std.proofs.lemmas.Bool.{cases_Bool, both_ways, true_from_ne_false, true≢false}
 use Rattle.ug_table.proofs.Standings.{missing_without, IsFileOf, file_same, file_later, same_is, is_same, still_removed, settled_removed, reject_removed}
 use Rattle.ug_table.proofs.Says.{Says, gone_has, gone_append, account_says, one_held, AreLow, IsPlain, Plain, NoJudged, plain_unjudged, gone_unjudged, plain_note, plain_distinct, each_has, one_neither}
-use Rattle.ug_table.specs.Settle.{tried_standings}
-use Rattle.ug_table.specs.Sweep.{names_of}
 use Rattle.ug_table.proofs.Marks.{keeps_filter, keeps_marked, names_distinct}
-use Rattle.ug_table.specs.Order.{StandInOrder, KeepsOrder}
 
 -- Accounts of one part of a sweep after another.
 

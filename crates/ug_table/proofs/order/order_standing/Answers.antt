@@ -1,12 +1,10 @@
 use Rattle.std.proofs.Common.{◌≡◌, ◌∙◌, List, Option, Some, Bor, option_copied, sym, ap, subst, arith}
 use Rattle.ug_audit.specs.Journal.{noted_in}
 use Rattle.ug_table.proofs.Loops.{notes_then}
-use Rattle.ug_table.proofs.Common.{Entry, Runs, known_of, numbered}
+use Rattle.ug_table.proofs.Common.{Entry, Runs, known_of, numbered, tried_standings, bringing}
 use Rattle.ug_table.proofs.Marks.{keeps_tried, kept_as}
 use Rattle.ug_table.proofs.Ordered.{keeps_ordered, ordering_goes}
-use Rattle.ug_table.specs.Bring.{bringing}
 use Rattle.ug_table.specs.Orders.{with_verdict}
-use Rattle.ug_table.specs.Settle.{tried_standings}
 use Rattle.ug_table.specs.declared.standing.Standing.{Standing}
 use Rattle.ug_table.proofs.order.order_standing.Goals as goal
 
