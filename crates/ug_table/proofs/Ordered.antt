@@ -14,7 +14,7 @@ use Rattle.ug_table.proofs.Marks.{keeps_map, known_has, names_distinct, tried_no
 use Rattle.ug_table.proofs.One.{AreStood, left_gone, numbered_named, of_number, stood_at, told_of, tried_leaves}
 use Rattle.ug_table.proofs.OnePart.{Goes, ToGo, brought_goes, ended_files, tried_so}
 use Rattle.ug_table.proofs.Shapes.{Adds, Brought, brought, told_at}
-use Rattle.ug_table.proofs.Standings.{AreNamed, rest_of, IsFileOf, LiveAs, file_later, numbered_has, open_named, stands_one, tried_new, tried_own}
+use Rattle.ug_table.proofs.Standings.{AreNamed, rest_map, IsFileOf, LiveAs, file_later, numbered_has, open_named, stands_one, tried_new, tried_own}
 use Rattle.ug_table.proofs.Steps.{FairFrom, fair_refl, in_order, stand_by, tried_one}
 
 -- the probe
@@ -51,40 +51,20 @@ keeps_ordered number verdict who ss = keeps_map (ordered_standing number verdict
 
 numbered_ordered : (number : ℕ) (verdict : Target) (who : Named) (ss : List Standing) (x : Standing) → numbered number ss ≡ Some x → numbered number (with_order number verdict who ss) ≡ Some (ordered_standing number verdict who x)
 numbered_ordered number verdict who [] x e = let none : ⊥ = cc in absurd none
-numbered_ordered number verdict who (s ∷ ss) x e = by (nat_eq s.number number) (numbered_ordered number verdict who ss x) e
-  where
-    f : Standing → Standing
-    f = ordered_standing number verdict who
-
-    by : (b : Bool) → (numbered number ss ≡ Some x → numbered number (map f ss) ≡ Some (f x)) → cond b (Some s) (numbered number ss) ≡ Some x → cond b (Some (f s)) (numbered number (map f ss)) ≡ Some (f x)
-    by true h e = let same : s ≡ x = cc in ap (λ (v : Standing). Some (f v)) same
-    by false h e = h e
-
--- the others stay
-ordered_rest : (number : ℕ) (verdict : Target) (who : Named) (ss : List Standing) → rest_of (of_number number) (with_order number verdict who ss) ≡ rest_of (of_number number) ss
-ordered_rest number verdict who [] = refl
-ordered_rest number verdict who (s ∷ ss) = by (nat_eq s.number number) refl (ordered_rest number verdict who ss)
-  where
-    f : Standing → Standing
-    f = ordered_standing number verdict who
-
-    rest : List Standing → List Standing
-    rest = rest_of (of_number number)
-
-    by : (b : Bool) → nat_eq s.number number ≡ b → rest (map f ss) ≡ rest ss → cond (not b) (f s ∷ rest (map f ss)) (rest (map f ss)) ≡ cond (not b) (s ∷ rest ss) (rest ss)
-    by true e h = h
-    by false e h = ap (λ (v : Standing). v ∷ rest (map f ss)) (ordered_other number verdict who s e) ∙ ap (λ (v : List Standing). s ∷ v) h
-
--- the standing of that number is there, with the verdict
-
-has_ordered : (number : ℕ) (verdict : Target) (who : Named) (ss : List Standing) (x : Standing) → numbered number ss ≡ Some x → Has (with_order number verdict who ss) (with_verdict verdict who x)
-has_ordered number verdict who ss x at =
-    let was = numbered_has number ss x at in
-    subst (λ (v : Standing). Has (with_order number verdict who ss) v) (ordered_is number verdict who x was.1) (has_map (ordered_standing number verdict who) ss x was.0)
+numbered_ordered number verdict who (s ∷ ss) x e =
+    let f = ordered_standing number verdict who in
+    elim (nat_eq s.number number) as (λ (b : Bool). cond b (Some s) (numbered number ss) ≡ Some x → cond b (Some (f s)) (numbered number (map f ss)) ≡ Some (f x)) [
+      | true ↦ λ h. (let same : s ≡ x = cc in ap (λ (v : Standing). Some (f v)) same)
+      | false ↦ numbered_ordered number verdict who ss x
+    ] e
 
 numbered_now : (number : ℕ) (verdict : Target) (who : Named) (ss : List Standing) (x : Standing) → numbered number ss ≡ Some x → numbered number (with_order number verdict who ss) ≡ Some (with_verdict verdict who x)
 numbered_now number verdict who ss x at =
     numbered_ordered number verdict who ss x at ∙ ap (λ (v : Standing). Some v) (ordered_is number verdict who x (numbered_has number ss x at).1)
+
+-- the standing of that number is there, with the verdict
+has_ordered : (number : ℕ) (verdict : Target) (who : Named) (ss : List Standing) (x : Standing) → numbered number ss ≡ Some x → Has (with_order number verdict who ss) (with_verdict verdict who x)
+has_ordered number verdict who ss x at = (numbered_has number (with_order number verdict who ss) (with_verdict verdict who x) (numbered_now number verdict who ss x at)).0
 
 -- its run: the calls, the entries, how it ended, and the standings then
 record Obeys (y : Standing) (ss : List Standing) (on : Bool) (es : List Entry) (ms : List Made) (p : Settled × Kept) : Type 0 where
@@ -171,7 +151,7 @@ order_marks gives next number verdict who on k x s p t order at r =
     let m = map_has f k.standings s a in
     subst (λ (v : Standing). stood_removed v.number k.standings ≡ v.removed) m.2 (stood_at k.standings m.0 order.distinct m.1) in
     subst (λ (v : List Standing). LeavesMarks (has_number number) k.standings v p.0) (sym o.standings)
-    (tried_leaves (of_number number) y.name k.standings ss p.0 named (ordered_rest number verdict who k.standings) stood)
+    (tried_leaves (of_number number) y.name k.standings ss p.0 named (rest_map (of_number number) f k.standings (λ s. refl) (λ s a e. ordered_other number verdict who s e)) stood)
 
 pub order_verdict : {S : Type 0} (gives : S → (call : Call) → Answer call → S → Type 0) (next number : ℕ) (verdict : Target) (who : Named) (on : Bool) (k : Kept) (s : S) (p : Settled × Kept) (t : S) → StandInOrder next k.standings → Runs gives s (ordering number verdict who on k) p t → HasOrdered number verdict who k.standings p.1.standings
 order_verdict gives next number verdict who on k s p t order r = λ x at z a e.

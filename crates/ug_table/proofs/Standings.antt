@@ -18,15 +18,9 @@ pub farewells_by : (P : List Entry → Type 0) → P []
     → ((number : ℕ) (name : List ℕ) (es : List Entry) → P es → P (Entry.Gone number name ∷ es))
     → (names : List (List ℕ)) (ss : List Standing) → P (farewells names ss)
 farewells_by P none more names [] = none
-farewells_by P none more names (s ∷ ss) = by (lists names s.name)
-    (farewells_by P none more names ss)
-  where
-    rest : List Entry
-    rest = farewells names ss
-
-    by : (b : Bool) → P rest → P (cond b rest (Entry.Gone s.number s.name ∷ rest))
-    by true h = h
-    by false h = more s.number s.name rest h
+farewells_by P none more names (s ∷ ss) =
+    let rest = farewells_by P none more names ss in
+    elim (lists names s.name) as (λ (b : Bool). P (cond b (farewells names ss) (Entry.Gone s.number s.name ∷ farewells names ss))) [ true ↦ rest | false ↦ more s.number s.name (farewells names ss) rest ]
 
 -- The standings of names.
 
@@ -358,15 +352,11 @@ stands_number o number held h = ap number_of h.1 ∙ ap (λ (v : ℕ). Some v) h
 
 -- one that is tried again
 
-marked_by : (name : List ℕ) (mark : Bool) (s : Standing) (ss : List Standing) (known : Known) (b : Bool) → same_name s.name name ≡ b → (standing_of name ss ≡ Some known → StandsAs known.number known.held (standing_of name (map (marked name mark) ss))) → cond b (Some (known_of s)) (standing_of name ss) ≡ Some known → StandsAs known.number known.held (cond b (Some (known_of (marked name mark s))) (standing_of name (map (marked name mark) ss)))
-marked_by name mark s ss known true e h f =
-    let same : known_of s ≡ known = cc in
-    (known_of (marked name mark s), refl, ap (λ (v : Known). v.number) same, ap (λ (v : Known). v.held) same)
-marked_by name mark s ss known false e h f = h f
-
 marked_own : (name : List ℕ) (mark : Bool) (ss : List Standing) (known : Known) → standing_of name ss ≡ Some known → StandsAs known.number known.held (standing_of name (map (marked name mark) ss))
 marked_own name mark [] known e = let none : ⊥ = cc in absurd none
-marked_own name mark (s ∷ ss) known e = marked_by name mark s ss known (same_name s.name name) refl (λ f. marked_own name mark ss known f) e
+marked_own name mark (s ∷ ss) known e =
+    let own : known_of s ≡ known → StandsAs known.number known.held (Some (known_of (marked name mark s))) = λ same. (known_of (marked name mark s), refl, ap (λ (v : Known). v.number) same, ap (λ (v : Known). v.held) same) in
+    elim (same_name s.name name) as (λ (b : Bool). cond b (Some (known_of s)) (standing_of name ss) ≡ Some known → StandsAs known.number known.held (cond b (Some (known_of (marked name mark s))) (standing_of name (map (marked name mark) ss)))) [ true ↦ (λ f. own (cc)) | false ↦ marked_own name mark ss known ] e
 
 pub without_own : (name : List ℕ) (ss : List Standing) → standing_of name (without name ss) ≡ None
 without_own name [] = refl
@@ -473,25 +463,25 @@ rest_of test ss = filter (λ (s : Standing). not (own test s)) ss
 abbrev pub AreNamed : Test → List ℕ → List Standing → Type 0
 AreNamed test name ss = (s : Standing) → Has ss s → own test s ≡ same_name s.name name
 
-pub marked_rest : (test : Test) (name : List ℕ) (mark : Bool) (ss : List Standing) → AreNamed test name ss → rest_of test (map (marked name mark) ss) ≡ rest_of test ss
-marked_rest test name mark [] named = refl
-marked_rest test name mark (s ∷ ss) named = by (own test s) refl (marked_rest test name mark ss (λ t a. named t (inr a)))
+-- what is done to each of those alone that are meant
+pub rest_map : (test : Test) (f : Standing → Standing) (ss : List Standing) → ((s : Standing) → own test (f s) ≡ own test s) → ((s : Standing) → Has ss s → own test s ≡ false → f s ≡ s) → rest_of test (map f ss) ≡ rest_of test ss
+rest_map test f [] keeps other = refl
+rest_map test f (s ∷ ss) keeps other = ap (λ (v : Bool). cond (not v) (f s ∷ rest_of test (map f ss)) (rest_of test (map f ss))) (keeps s) ∙ by (own test s) refl (rest_map test f ss keeps (λ t a. other t (inr a)))
   where
-    by : (b : Bool) → own test s ≡ b → rest_of test (map (marked name mark) ss) ≡ rest_of test ss → cond (not b) (marked name mark s ∷ rest_of test (map (marked name mark) ss)) (rest_of test (map (marked name mark) ss)) ≡ cond (not b) (s ∷ rest_of test ss) (rest_of test ss)
+    by : (b : Bool) → own test s ≡ b → rest_of test (map f ss) ≡ rest_of test ss → cond (not b) (f s ∷ rest_of test (map f ss)) (rest_of test (map f ss)) ≡ cond (not b) (s ∷ rest_of test ss) (rest_of test ss)
     by true e h = h
-    by false e h =
-        let other : s.name ≡ name → ⊥ = λ f. true≢false (sym (is_same s.name name f) ∙ sym (named s (inl refl)) ∙ e) in
-        ap (λ (v : Standing). v ∷ rest_of test (map (marked name mark) ss)) (marked_other name mark s other) ∙ ap (λ (v : List Standing). s ∷ v) h
+    by false e h = λ i. (other s (inl refl) e) i ∷ h i
+
+pub marked_rest : (test : Test) (name : List ℕ) (mark : Bool) (ss : List Standing) → AreNamed test name ss → rest_of test (map (marked name mark) ss) ≡ rest_of test ss
+marked_rest test name mark ss named = rest_map test (marked name mark) ss (λ s. refl) (λ s a e. marked_other name mark s (λ f. true≢false (sym (is_same s.name name f) ∙ sym (named s a) ∙ e)))
 
 pub without_rest : (test : Test) (name : List ℕ) (ss : List Standing) → AreNamed test name ss → rest_of test (without name ss) ≡ rest_of test ss
 without_rest test name [] named = refl
-without_rest test name (s ∷ ss) named = by (own test s) refl (same_name s.name name) (sym (named s (inl refl))) (without_rest test name ss (λ t a. named t (inr a)))
+without_rest test name (s ∷ ss) named = subst (λ (c : Bool). rest_of test (cond (not c) (s ∷ without name ss) (without name ss)) ≡ rest_of test (s ∷ ss)) (named s (inl refl)) (by (own test s) refl (without_rest test name ss (λ t a. named t (inr a))))
   where
-    by : (b : Bool) → own test s ≡ b → (c : Bool) → c ≡ own test s → rest_of test (without name ss) ≡ rest_of test ss → rest_of test (cond (not c) (s ∷ without name ss) (without name ss)) ≡ cond (not b) (s ∷ rest_of test ss) (rest_of test ss)
-    by true e true f h = h
-    by false e false f h = ap (λ (v : Bool). cond (not v) (s ∷ rest_of test (without name ss)) (rest_of test (without name ss))) e ∙ ap (λ (v : List Standing). s ∷ v) h
-    by true e false f h = absurd (true≢false (sym e ∙ sym f))
-    by false e true f h = absurd (true≢false (f ∙ e))
+    by : (b : Bool) → own test s ≡ b → rest_of test (without name ss) ≡ rest_of test ss → rest_of test (cond (not b) (s ∷ without name ss) (without name ss)) ≡ cond (not b) (s ∷ rest_of test ss) (rest_of test ss)
+    by true e h = h
+    by false e h = ap (λ (v : Bool). cond (not v) (s ∷ rest_of test (without name ss)) (rest_of test (without name ss))) e ∙ ap (λ (v : List Standing). s ∷ v) h
 
 pub tried_rest : (test : Test) (name : List ℕ) (ss : List Standing) (how : Settled) → AreNamed test name ss → rest_of test (tried_standings ss name how) ≡ rest_of test ss
 tried_rest test name ss Settled.Nobody named = without_rest test name ss named
