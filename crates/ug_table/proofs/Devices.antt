@@ -6,14 +6,10 @@ use Rattle.ug_node.specs.Bound.{attrs_of, parent_attrs_of, IsParentRead}
 use Rattle.ug_table.proofs.Standings.{file_same, file_later}
 
 attrs_stay : (d e : Device) → Stays d e → attrs_of d ≡ attrs_of e
-attrs_stay d e s =
-    let same : (descriptors : List ℕ) → d.descriptors ≡ descriptors → (product : Option (List ℕ)) → d.product ≡ product → (serial : Option (List ℕ)) → d.serial ≡ serial → (connect : Option (List ℕ)) → d.connect ≡ connect → attrs_of d ≡ attrs_of (record d { descriptors = descriptors; product = product; serial = serial; connect = connect }) = λ a p b q c r f t. cc in
-    same e.descriptors (sym s.descriptors) e.product (sym s.product) e.serial (sym s.serial) e.connect (sym s.connect)
+attrs_stay d e s = cc (s.descriptors, s.product, s.serial, s.connect)
 
 parent_attrs_stay : (d e : Device) → Stays d e → parent_attrs_of d ≡ parent_attrs_of e
-parent_attrs_stay d e s =
-    let same : (descriptors : List ℕ) → d.descriptors ≡ descriptors → (product : Option (List ℕ)) → d.product ≡ product → (serial : Option (List ℕ)) → d.serial ≡ serial → parent_attrs_of d ≡ parent_attrs_of (record d { descriptors = descriptors; product = product; serial = serial }) = λ a p b q c r. cc in
-    same e.descriptors (sym s.descriptors) e.product (sym s.product) e.serial (sym s.serial)
+parent_attrs_stay d e s = cc (s.descriptors, s.product, s.serial)
 
 parent_stays : (k l : Kernel) (p : Option ℕ) (attrs : Option Attrs) → Grows k l → IsParentRead k p attrs → IsParentRead l p attrs
 parent_stays k l None attrs g h = h

@@ -1,6 +1,8 @@
 -- What the settling of one name does, over the states of a run.
 use Rattle.std.proofs.Common.{◌≡◌, ℕ, Bool, true, false, not, nat_eq, ◌&&◌, ◌||◌, List, [], ◌∷◌, ◌++◌, Option, Some, map, cond, inl, inr, refl, sym, ◌∙◌, ap, subst, arith, true≢false, ◌⊎◌, slice_get}
 use Rattle.std.proofs.lemmas.Bool.{false_from_ne_true}
+use Rattle.std.proofs.lemmas.Bool.Decides.{same_from_decides}
+use Rattle.std.specs.Cmp.Lexicographic.{bytes_decides}
 use Rattle.ug_table.proofs.Common.{Has, AllDistinct, Call, Answer, Runs, calls, Made, Along, Bound, Entry, State, Kept, Answers, Laters, kept_of, with_kept, same_name, known_of, numbered, without, marked, removed_of, with_standing, numbers_of, Tries, none_before, Stand, IsGone, IsNamed, HasStanding, IsAsJudged, Standing, Settled, Device, Kernel, IsKernel, Follows, names_of, stands, tried_standings, settling, resettling, filter_has, map_has, has_map, distinct_one, cancel, is_reject, is_to_go, grows_refl, some_same, resettling_numbered, NeedsRoom, failed_of, whys, why_of, GoesAsPart, LivedAs, SettledOne, SettlesOne, IsOf, ResettledOne, ResettlesOne, told_run, StandInOrder}
 use Rattle.ug_table.specs.Marks.{has_name, has_number, stood_removed, LeavesMarks}
 use Rattle.ug_table.proofs.Marks.{names_distinct, unnamed, flat_stands, flat_nobody}
@@ -70,12 +72,9 @@ none_leaves test before after how rest none = record {
 
 without_leaves : (test : Test) (name : List ℕ) (before ss : List Standing) (how : Settled) → AreNamed test name ss → rest_of test ss ≡ rest_of test before → LeavesMarks (own test) before (without name ss) how
 without_leaves test name before ss how named rest =
-    none_leaves test before (without name ss) how (without_rest test name ss named ∙ rest) none
-  where
-    none : (s : Standing) → Has (without name ss) s → own test s ≡ true → ⊥
-    none s a o =
-        let f = filter_has (λ (v : Standing). not (same_name v.name name)) ss s a in
-        true≢false (sym f.1 ∙ ap not (sym (named s f.0) ∙ o))
+    none_leaves test before (without name ss) how (without_rest test name ss named ∙ rest) (λ s a h.
+    let f = filter_has (λ (v : Standing). not (same_name v.name name)) ss s a in
+    true≢false (sym f.1 ∙ ap not (sym (named s f.0) ∙ h)))
 
 pub tried_leaves : (test : Test) (name : List ℕ) (before ss : List Standing) (how : Settled) → AreNamed test name ss → rest_of test ss ≡ rest_of test before → AreStood test before ss → LeavesMarks (own test) before (tried_standings ss name how) how
 tried_leaves test name before ss Settled.Nobody named rest stood = without_leaves test name before ss Settled.Nobody named rest
@@ -118,25 +117,12 @@ abbrev pub of_number : ℕ → Test
 of_number number = λ name other. nat_eq other number
 
 pub numbered_named : (next number : ℕ) (ss : List Standing) (x : Standing) → StandInOrder next ss → numbered number ss ≡ Some x → AreNamed (of_number number) x.name ss
-numbered_named next number ss x order at s a = by (nat_eq s.number number) refl (same_name s.name x.name) refl
-  where
-    has : Has ss x
-    has = (numbered_has number ss x at).0
-
-    is : x.number ≡ number
-    is = (numbered_has number ss x at).1
-
-    by : (b : Bool) → nat_eq s.number number ≡ b → (c : Bool) → same_name s.name x.name ≡ c → b ≡ c
-    by true e true f = refl
-    by false e false f = refl
-    by true e false f =
-        let n : s.number ≡ number = grind (arith, e) in
-        let same : s ≡ x = distinct_one (λ (v : Standing). v.number) ss s x order.distinct a has (n ∙ sym is) in
-        sym (is_same s.name x.name (ap (λ (v : Standing). v.name) same)) ∙ f
-    by false e true f =
-        let same : s ≡ x = distinct_one (λ (v : Standing). v.name) ss s x (names_distinct (names_of ss) order.order) a has (same_is s.name x.name f) in
-        let was : nat_eq s.number number ≡ true = grind (arith, ap (λ (v : Standing). v.number) same ∙ is) in
-        sym e ∙ was
+numbered_named next number ss x order at s a =
+    let h = numbered_has number ss x at in
+    same_from_decides (nat_eq s.number number) (same_name s.name x.name) (
+      λ e. (let n : s.number ≡ number = grind (arith, e) in ap (λ (v : Standing). v.name) (distinct_one (λ (v : Standing). v.number) ss s x order.distinct a h.0 (n ∙ sym h.1))),
+      λ e. (let n : s.number ≡ number = ap (λ (v : Standing). v.number) (distinct_one (λ (v : Standing). v.name) ss s x (names_distinct (names_of ss) order.order) a h.0 e) ∙ h.1 in grind (arith, n)),
+    ) (bytes_decides s.name x.name)
 
 flat_tried : {given : List Standing → Bound → Standing → Type 0} {binds : Bool} {name : List ℕ} {ss : List Standing} {ok : Bool} {ms : List Made} {rest : List Entry} {how : Settled} {rs : List Standing} {o : Option (List Standing × Bound)} → Flat binds given name ss ok ms rest how rs o → binds ≡ false → Has (names_of ss) name → rs ≡ tried_standings ss name how
 flat_tried (Unprobed known failed at) f a = refl
