@@ -85,15 +85,9 @@ reads_tell i d e f k l (Then_read of by t ms may came r) a at live s =
       reads_tell i x.0 e f a.0 l r a.2 x.1 live s,
     )
 
-own_same : (d p s c : ReadOut) (e : Device) → d ≡ read_of Attr.Descriptors e → p ≡ read_of Attr.Product e → s ≡ read_of Attr.Serial e → c ≡ read_of Attr.Connect e → own_from d p s c ≡ attrs_of e
-own_same d p s c e a b f g = cc
-
-parents_same : (d p s : ReadOut) (e : Device) → d ≡ read_of Attr.Descriptors e → p ≡ read_of Attr.Product e → s ≡ read_of Attr.Serial e → parents_from d p s ≡ parent_attrs_of e
-parents_same d p s e a b f = cc
-
 own_is : {name : List ℕ} {ms : List Made} {attrs : Attrs} {parent : Option Attrs} (f : Device) → name ≡ f.name → Files name ms attrs parent → TellOf f ms → attrs ≡ attrs_of f
-own_is f e (Alone d p s c none) h = own_same d.answer p.answer s.answer c.answer f (h.0 e) (h.1.0 e) (h.1.1.0 e) (h.1.1.1.0 e)
-own_is f e (Below parent d p s c x y z above) h = own_same d.answer p.answer s.answer c.answer f (h.0 e) (h.1.0 e) (h.1.1.0 e) (h.1.1.1.0 e)
+own_is f e (Alone d p s c none) h = cc (h.0 e, h.1.0 e, h.1.1.0 e, h.1.1.1.0 e)
+own_is f e (Below parent d p s c x y z above) h = cc (h.0 e, h.1.0 e, h.1.1.0 e, h.1.1.1.0 e)
 
 -- the parent
 
@@ -131,7 +125,8 @@ parents_are {name} {ms} i d u v l (Below parent x p s c y z w above) r a sound q
     let f = q.devices j.0 e j.3.exit.1.at in
     let h = reads_tell j.0 j.1 e f.0 u v r a j.3.entry.at j.3.exit.1 f.2.stays in
     let is : parent ≡ f.0.name = sym j.4 ∙ sym (live_before u v j.0 j.1 e g j.3.entry.at j.3.exit.1).1.name ∙ sym f.2.stays.name in
-    subst (λ o. IsParentRead l o (Some (parents_from y.answer z.answer w.answer))) (sym j.2) (f.0, f.1, ap (λ o. Some o) (parents_same y.answer z.answer w.answer f.0 (h.1.1.1.1.0 is) (h.1.1.1.1.1.0 is) (h.1.1.1.1.1.1.0 is)))
+    let same : parents_from y.answer z.answer w.answer ≡ parent_attrs_of f.0 = cc (h.1.1.1.1.0 is, h.1.1.1.1.1.0 is, h.1.1.1.1.1.1.0 is) in
+    subst (λ o. IsParentRead l o (Some (parents_from y.answer z.answer w.answer))) (sym j.2) (f.0, f.1, ap (λ o. Some o) same)
 
 -- the held file
 

@@ -1,7 +1,7 @@
 -- A part is fair, and so is a sweep.
-use Rattle.std.proofs.Common.{◌≡◌, ℕ, Bool, true, false, not, ◌&&◌, List, [], ◌∷◌, ◌++◌, ◌⊎◌, Some, slice_get, inl, inr, refl, sym, ◌∙◌, ap, subst, append_assoc, append-nil, ◌+◌, ◌<◌, is_none, Option, arith, cond, true≢false}
+use Rattle.std.proofs.Common.{◌≡◌, ℕ, Bool, true, false, not, ◌&&◌, List, [], ◌∷◌, ◌++◌, ◌⊎◌, Some, slice_get, inl, inr, refl, sym, ◌∙◌, ap, subst, append_assoc, append-nil, ◌+◌, ◌<◌, is_none, Option, arith, cond, map, true≢false}
 use Rattle.std.proofs.lemmas.Bool.{and_parts, and_cases, both_ways, not-true, not-false, cond_both, cases_Bool}
-use Rattle.ug_table.proofs.Common.{Has, AllDistinct, Target, Control, Authorized, Remove, Write, Wrote, Put, Close, Told, Closing, Ask_alive, Names, Kernel, Moves, IsKernel, Live, IsWritten, IsGoneAt, says_put, Called, says_listing, Grows, Quiet, calls, Runs, RemoveHold, Entry, State, Answers, Laters, known_of, standing_of, without, with_standing, place_for, lists, farewells, Tries, IsDevice, MayHave, MayHaveNot, wrote_entries, HasRemoval, WasRemoved, IsFirst, Account, Start, Had, Had_not, AreInOrder, none_before, IsProbed, Stand, numbers_of, Judge, IsOne, IsTold, HasStanding, IsFair, IsRemoveMarked, swept_before, IsGone, Went as WentAway, gone_of, Standing, Settled, Made, answered, Along, failure_of, FailedCall, parent_of, Judged, Held, Cause, Bound, Binding, Known, in_sweep_order, unlisted_files, Fault, Probe, Listing, names_of, parted, marked_listed, sweeping, unsettled_by, standing_for, judged_entry, tried_standings, dropped, has_right, distinct_one, has_map, has_new, has_old, filter_has, has_filter, write_of, is_reject, CallsFor, is_to_go, Way, way_runs, along_split, filter, some_same, called_grows, quiet_grows, grows_refl, judged_of, binding}
+use Rattle.ug_table.proofs.Common.{Has, AllDistinct, Target, Control, Authorized, Remove, Write, Wrote, Put, Close, Told, Closing, Ask_alive, Names, Kernel, Moves, IsKernel, Live, IsWritten, IsGoneAt, says_put, Called, says_listing, Grows, Quiet, calls, Runs, RemoveHold, Entry, State, Answers, Laters, known_of, standing_of, without, with_standing, place_for, lists, farewells, Tries, IsDevice, MayHave, MayHaveNot, wrote_entries, HasRemoval, WasRemoved, IsFirst, Account, Start, Had, Had_not, AreInOrder, none_before, IsProbed, Stand, numbers_of, Judge, IsOne, IsTold, HasStanding, IsFair, IsRemoveMarked, swept_before, IsGone, Went as WentAway, gone_of, Standing, Settled, Made, answered, Along, failure_of, FailedCall, parent_of, Judged, Held, Cause, Bound, Binding, Known, in_sweep_order, unlisted_files, Fault, Probe, Listing, names_of, parted, marked_listed, sweeping, unsettled_by, standing_for, judged_entry, tried_standings, dropped, has_right, distinct_one, has_map, has_new, has_old, filter_has, has_filter, write_of, is_reject, CallsFor, is_to_go, Way, way_runs, along_split, filter, some_same, called_grows, quiet_grows, grows_refl, judged_of, binding, map_has, distinct_filter}
 use Rattle.ug_kernel.specs.declared.device.HeldFile.{HeldFile}
 use Rattle.ug_kernel.specs.declared.device.Effect.{Effect}
 use Rattle.ug_node.specs.Removal.{holding_remove, RemoveSays}
@@ -412,9 +412,6 @@ flat_fair {J} {answer} {later} {present} {tried} {k = k} {m = m} {w = w} {u = u}
     (known_settled l name (known_of s) b.on (with_own name s rs refl (opening_none opening)) first br far.2) in
     (subst T (sym (is rs b x given)) own) brought
 
-state_is : {J : Type 0} (v : State J) (next : ℕ) (listed : Bool) (judge : J) (es : List Entry) → v.next ≡ next → v.listed ≡ listed → v.judge ≡ judge → v.entries ≡ es → let made : State J = record { standings = v.standings; next = next; listed = listed; judge = judge; entries = es } in v ≡ made
-state_is v next listed judge es a b c d = λ i. record { standings = v.standings; next = a i; listed = b i; judge = c i; entries = d i }
-
 pub piece_fair : {J : Type 0} {answer : Answers J} {later : Laters J} {binds present : Bool}
     {tried : Tries} {name : List ℕ} {how : Settled} {ok : Bool} {ms : List Made} {k m l : Kernel}
     {w u v : State J} → (binds ≡ true → AreIn tried name w u)
@@ -424,9 +421,8 @@ pub piece_fair : {J : Type 0} {answer : Answers J} {later : Laters J} {binds pre
 piece_fair {J} {answer} {later} {present = present} {tried = tried} {name = name} {k = k} {l = l}
     {w = w}
     {u = u} {v = v} so h p a =
-    let judge = judge_after later present name u p.judged in
-    let is = state_is v (next_after u p.judged) u.listed judge (u.entries ++ p.rest) p.next p.listed p.judge p.entries
-    in
+    let is : v ≡ ended_as later present name u p.judged v.standings p.rest =
+    λ i. record { standings = v.standings; next = p.next i; listed = p.listed i; judge = p.judge i; entries = p.entries i } in
     subst (λ (x : State J). FairFrom answer later present tried k w l x) (sym is)
     (flat_fair l p.flat (λ ss b z g. g) so h a)
 
@@ -455,39 +451,34 @@ chain_fair {m = m} {w = w} l so h (First name names how u x v ok more ms ns es p
     (piece_fair (λ b. let q = so b in split_in name names w u q.1 q.2) h p cut.1) c cut.2
 
 -- an entry for each standing that isn't listed
-farewell_has : (names : List (List ℕ)) (ss : List Standing) (e : Entry) → Has (farewells names ss) e → (t : Standing) × Has ss t × (lists names t.name ≡ false) × (Entry.Gone t.number t.name ≡ e)
-farewell_has names [] e a = absurd a
-farewell_has names (s ∷ ss) e a =
-    let more : Has (farewells names ss) e → (t : Standing) × Has (s ∷ ss) t × (lists names t.name ≡ false) × (Entry.Gone t.number t.name ≡ e) = λ b. let t = farewell_has names ss e b in (t.0, inr t.1, t.2, t.3) in
-    cond_both (lists names s.name) (farewells names ss) (Entry.Gone s.number s.name ∷ farewells names ss)
-    (λ (l : List Entry). Has l e → (t : Standing) × Has (s ∷ ss) t × (lists names t.name ≡ false) × (Entry.Gone t.number t.name ≡ e))
-    (λ q h. more h) (λ q h. elim h [ inl is ↦ (s, inl refl, q, is) | inr b ↦ more b ]) a
 
-has_farewell : (names : List (List ℕ)) (ss : List Standing) (t : Standing) → Has ss t → lists names t.name ≡ false → Has (farewells names ss) (Entry.Gone t.number t.name)
-has_farewell names [] t a f = absurd a
-has_farewell names (s ∷ ss) t (inl e) f =
-    let same : s.name ≡ t.name = ap (λ (v : Standing). v.name) e in
-    let out : lists names s.name ≡ false = ap (λ (v : List ℕ). lists names v) same ∙ f in
-    let told : Entry.Gone s.number s.name ≡ Entry.Gone t.number t.name = ap (λ (v : Standing). Entry.Gone v.number v.name) e in
-    subst (λ (b : Bool). Has (cond b (farewells names ss) (Entry.Gone s.number s.name ∷ farewells names ss)) (Entry.Gone t.number t.name)) (sym out) (inl told)
-has_farewell names (s ∷ ss) t (inr a) f =
-    let rest = has_farewell names ss t a f in
-    elim (lists names s.name) as (λ (b : Bool). Has (cond b (farewells names ss) (Entry.Gone s.number s.name ∷ farewells names ss)) (Entry.Gone t.number t.name)) [ true ↦ rest | false ↦ inr rest ]
+abbrev unlisted : List (List ℕ) → List Standing → List Standing
+unlisted names ss = filter (λ (s : Standing). not (lists names s.name)) ss
 
-farewell_number : (names : List (List ℕ)) (ss : List Standing) (number : ℕ) → Has (gone_of (farewells names ss)) number → Has (numbers_of ss) number
-farewell_number names ss number a =
-    let h = gone_has (farewells names ss) number a in
-    let t = farewell_has names ss (Entry.Gone number h.0) h.1 in
-    let e = t.3 in
-    let same : t.0.number ≡ number = cc in
-    subst (λ (v : ℕ). Has (numbers_of ss) v) same (has_map (λ (s : Standing). s.number) ss t.0 t.1)
+abbrev farewell : Standing → Entry
+farewell s = Entry.Gone s.number s.name
+
+farewells_are : (names : List (List ℕ)) (ss : List Standing) → farewells names ss ≡ map farewell (unlisted names ss)
+farewells_are names [] = refl
+farewells_are names (s ∷ ss) =
+    let rest = farewells_are names ss in
+    elim (lists names s.name) as (λ (b : Bool). cond b (farewells names ss) (farewell s ∷ farewells names ss) ≡ map farewell (cond (not b) (s ∷ unlisted names ss) (unlisted names ss))) [ true ↦ rest | false ↦ ap (λ (v : List Entry). farewell s ∷ v) rest ]
+
+farewell_has : (names : List (List ℕ)) (ss : List Standing) (e : Entry) → Has (farewells names ss) e → (t : Standing) × Has ss t × (lists names t.name ≡ false) × (farewell t ≡ e)
+farewell_has names ss e a =
+    let m = map_has farewell (unlisted names ss) e (subst (λ (v : List Entry). Has v e) (farewells_are names ss) a) in
+    let f = filter_has (λ (s : Standing). not (lists names s.name)) ss m.0 m.1 in
+    (m.0, f.0, not-true (lists names m.0.name) f.1, m.2)
+
+has_farewell : (names : List (List ℕ)) (ss : List Standing) (t : Standing) → Has ss t → lists names t.name ≡ false → Has (farewells names ss) (farewell t)
+has_farewell names ss t a f = subst (λ (v : List Entry). Has v (farewell t)) (sym (farewells_are names ss)) (has_map farewell (unlisted names ss) t (has_filter (λ (s : Standing). not (lists names s.name)) ss t a (ap not f)))
+
+gone_numbers : (ss : List Standing) → gone_of (map farewell ss) ≡ numbers_of ss
+gone_numbers [] = refl
+gone_numbers (s ∷ ss) = ap (λ (v : List ℕ). s.number ∷ v) (gone_numbers ss)
 
 farewell_distinct : (names : List (List ℕ)) (ss : List Standing) → AllDistinct (numbers_of ss) → AllDistinct (gone_of (farewells names ss))
-farewell_distinct names [] d = tt
-farewell_distinct names (s ∷ ss) d =
-    let rest = farewell_distinct names ss d.1 in
-    let apart : Has (gone_of (farewells names ss)) s.number → ⊥ = λ a. d.0 (farewell_number names ss s.number a) in
-    elim (lists names s.name) as (λ (b : Bool). AllDistinct (gone_of (cond b (farewells names ss) (Entry.Gone s.number s.name ∷ farewells names ss)))) [ true ↦ rest | false ↦ (apart, rest) ]
+farewell_distinct names ss d = subst AllDistinct (sym (ap gone_of (farewells_are names ss) ∙ gone_numbers (unlisted names ss))) (distinct_filter (λ (s : Standing). s.number) (λ (s : Standing). not (lists names s.name)) ss d)
 
 -- the device of each standing that isn't listed is gone
 abbrev AreGone : Kernel → List (List ℕ) → List Standing → Type 0

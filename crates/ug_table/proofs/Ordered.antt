@@ -228,9 +228,6 @@ stopped Settled.Stands name n = absurd n.1
 stopped Settled.Nobody name n = absurd n.1
 stopped how name n = tt
 
-kept_is : (v : Kept) (ss : List Standing) (es : List Entry) → v.standings ≡ ss → v.entries ≡ es → let made : Kept = record { standings = ss; entries = es } in v ≡ made
-kept_is v ss es a b = λ i. record { standings = a i; entries = b i }
-
 order_one : (number : ℕ) (verdict : Target) (who : Named) (on : Bool) (w : State (Unit {0})) (k l : Kernel) (p : Settled × Kept) (x : Standing) → IsKernel k → Stand k w.standings w.next → numbered number w.standings ≡ Some x → Runs calls k (ordering number verdict who on (kept_of w.standings w.entries)) p l → OrderedOne number verdict who on x k w l (with_kept w p.1) p.0
 order_one number verdict who on w k l p x sound stand at r =
     let run = ordering_run calls number verdict who on (kept_of w.standings w.entries) x k p l at r in
@@ -243,8 +240,9 @@ order_one number verdict who on w k l p x sound stand at r =
     let was = numbered_has number w.standings x at in
     let one = stands_one y.name ss y stands.names mine refl in
     let added : p.1.entries ≡ u.entries ++ o.rest = o.entries ∙ sym (append_assoc w.entries (verdict_entry y ∷ []) o.rest) in
+    let is : p.1 ≡ kept_of (tried_standings ss y.name p.0) (u.entries ++ o.rest) = λ i. record { standings = o.standings i; entries = added i } in
     let fair : (answer : Answers (Unit {0})) (later : Laters (Unit {0})) (present : Bool) (tried : Tries) → FairFrom answer later present tried k u l (with_kept w p.1) = λ answer later present tried.
-    subst (λ (v : Kept). FairFrom answer later present tried k u l (with_kept w v)) (sym (kept_is p.1 (tried_standings ss y.name p.0) (u.entries ++ o.rest) o.standings added))
+    subst (λ (v : Kept). FairFrom answer later present tried k u l (with_kept w v)) (sym is)
     (known_brought l y.name (known_of y) on one (fair_refl answer later present tried k u sound stands) o.brought run.along) in
     let a = fair no_verdict no_later false none_before in
     let g = a.fair.grows in
