@@ -28,7 +28,7 @@ use Rattle.ug_node.specs.declared.identity.Bound.{Bound}
 use Rattle.ug_node.specs.declared.identity.Binding.{Binding}
 use Rattle.ug_node.specs.Bind.{binding_of, binding}
 use Rattle.ug_node.specs.Bound.{attrs_of, parent_attrs_of, IsParentRead, IsBound, BindSays, IsBinding, Binds, IsFault, TellsFault}
-use Rattle.ug_node.proofs.BindShapes.{told, IsReadable, Came, Reads, No_more, Then_read, Stops, No_descriptors, Read_failed, Read_short, own_from, parents_from, Files, Alone, Below, Binds_by, No_such, Open_failed, Cut, Probed_gone, Probe_failed, Bound_by, binds_by, Holds_by, Not_there, Not_opened, No_memory, Held_on, Died, Unasked, holds_by}
+use Rattle.ug_node.proofs.BindShapes.{told, IsReadable, Came, Reads, No_more, Then_read, Stops, No_descriptors, Read_failed, parents_from, Files, Alone, Below, Binds_by, No_such, Open_failed, Cut, Probed_gone, Probe_failed, Bound_by, binds_by, Holds_by, Not_there, Not_opened, Held_on, Died, Unasked, holds_by}
 use Rattle.ug_kernel.specs.declared.calls.FailedCall.{FailedCall}
 use Rattle.ug_kernel.proofs.Rises.{Counting}
 use Rattle.ug_kernel.proofs.Counted.{Tally, tally, counts, along_counted, counts_never_fall, along_never_falls}
@@ -220,8 +220,7 @@ stop_says : {name of : List ℕ} {at : Attr} {t : Told ReadOut} {why : Stop} (k 
 stop_says {name} {of} k u w l may (No_descriptors call count) s c g j =
     let b = called_grows (Read of Attr.Descriptors) (told ReadOut.Absent call count) u w c in
     none_wider name k u w l g b j (absent_none name of u w may s.devices c.sound.devices b c.says)
-stop_says k u w l may (Read_failed at call count) s c g j = tt
-stop_says k u w l may (Read_short at call count) s c g j = tt
+stop_says k u w l may x s c g j = tt
 
 binds_say : {name : List ℕ} {ms : List Made} {r : Binding} (k l : Kernel) → Binds_by name ms r → Along calls k ms l → BindSays name k l r
 binds_say {name} k l (No_such call count) a = subst (λ v. NoneLived name k v) (sym a.2) a.1.says
@@ -339,8 +338,6 @@ holds_say {name} {held} i k l (Not_there call count) f a =
     let g = along_grows (answered (Open name Remove) (told Opened.Absent call count) ∷ []) k l a in
     let none = subst (λ v. NoneLived name k v) (sym a.2) a.1.says in
     gone_later l l name held i (grows_refl l) (file_later k l name held i g f) (λ d live. none i f.d (record { entry = (live_before k l i f.d d g f.device live).0; exit = (d, live) }) f.named)
-holds_say i k l (Not_opened call count) f a = tt
-holds_say i k l (No_memory call count) f a = tt
 holds_say {name} {held} i k l (Held_on file on call count number total) f a =
     let c = a.1 in
     let before = quiet_grows k c.before (moves_quiet k c.before c.moves_before) in
@@ -359,7 +356,7 @@ holds_say {name} {held} i k l (Died file call count number total shut) f a =
     let to = grows_trans k a.0 a.2.0 (called_grows (Open name Remove) (told (Opened.Token file) call count) k a.0 a.1) (called_grows (Ask_alive held) (told Probe.Gone number total) a.0 a.2.0 a.2.1) in
     let now = file_later k a.2.0 name held i to f in
     gone_later a.2.0 l name held i (along_grows (answered (Close file.0) shut ∷ []) a.2.0 l a.2.2) now (gone_dead a.2.0 name held i now a.2.1.says)
-holds_say i k l (Unasked file call count number total shut) f a = tt
+holds_say i k l x f a = tt
 
 pub holding_law : (name : List ℕ) (held i : ℕ) (r : RemoveHold) (k l : Kernel) → IsKernel k → IsAuthorizedFile k name held i → Runs calls k (holding_remove name held) r l → IsRemoveHold held i k l r
 holding_law name held i r k l sound f runs =

@@ -10,7 +10,6 @@ use Rattle.ug_table.proofs.Standings.{IsHeldAs, file_same, file_later, IsFileOf,
 use Rattle.ug_table.proofs.OnePart.{no_removal}
 use Rattle.ug_table.proofs.Devices.{device_stays, stand_stays, probed_from}
 use Rattle.ug_table.proofs.Steps.{NoRemoval, AreMarked, keeps_itself, removal_marks, removal_removed, marks_keep, keep_one, keep_marks, FairFrom, fair_trans, StepFrom, fair_by, After, same_refl, plain_fair, keep_fair, fair_end, then_quiet, then_called, then_note, then_same, then_went, one_itself, without_less, tried_after, left_all, in_order, stand_by, stand_of, fair_refl, gone_device, account_stays}
-use Rattle.ug_table.proofs.Says.{gone_has}
 use Rattle.ug_table.proofs.Shapes.{Written, Done, Went, Broke, Valued, Same, Set, Unheld, Gone_by, Failed_by, Short_by, Removal, Not_held, Put_on, Carried, By_value, And_removal, Brought, Left_open, Let_go, told_at, Piece, Opening, Fresh, Lost, Unbound_end, Failed_so, Short_so, Flat, Unprobed, Tried, Stopped, Unbound, No_place, Judged_so, IsGiven, next_after, judge_after, opening_none, opening_absent}
 use Rattle.ug_types.specs.declared.record.Attrs.{Attrs}
 use Rattle.ug_node.specs.Bound.{attrs_of, IsBound, BindSays}

@@ -1,8 +1,8 @@
 -- A run of a sweep goes along its parts, and tells each failed call.
-use Rattle.std.proofs.Common.{◌≡◌, ℕ, ◌+◌, ◌≤◌, length, Option, Some, None, arith, Bool, true, false, List, [], ◌∷◌, ◌++◌, inl, inr, refl, sym, ◌∙◌, ap, subst}
+use Rattle.std.proofs.Common.{◌≡◌, ℕ, ◌+◌, ◌≤◌, length, Some, None, arith, Bool, true, false, List, [], ◌∷◌, ◌++◌, inl, inr, refl, sym, ◌∙◌, ap, subst}
 use Rattle.std.proofs.lemmas.List.{length-append}
 use Rattle.ug_types.proofs.Sorting.{length-sweep_order}
-use Rattle.ug_table.proofs.Common.{Bound, in_sweep_order, FailedCall, Listing, Call, Names, Answer, Runs, Made, answered, Along, failure, failures, Rises, Entry, Fault, State, Answers, Laters, lists, farewells, told_by, failures_told, numbers_given, InParts, unlisted_files, AfterListing, GoesInParts, TellsFaults, Standing, names_of, sweeping, failures_more, filter}
+use Rattle.ug_table.proofs.Common.{in_sweep_order, FailedCall, Listing, Call, Names, Answer, Runs, Made, answered, Along, failure, failures, Rises, Entry, Fault, State, Answers, Laters, lists, farewells, told_by, failures_told, numbers_given, InParts, unlisted_files, AfterListing, GoesInParts, TellsFaults, Standing, names_of, sweeping, failures_more, filter}
 use Rattle.ug_kernel.proofs.Rises.{Counting, along_numbered, along_rises}
 use Rattle.ug_table.proofs.Shapes.{told_at, next_after}
 use Rattle.ug_table.proofs.OnePart.{told_more, given_count, given_more, flat_given, flat_none, flat_is_part}
@@ -25,11 +25,6 @@ unlisted_begins ss x = (refl, refl, refl, refl)
 
 -- the numbers that are given out
 
-next_is : {J : Type 0} (w : State J) (o : Option (List Standing × Bound))
-    → next_after w o ≡ w.next + given_count o
-next_is w None = omega arith
-next_is w (Some judged) = refl
-
 given_length : (es fs : List Entry)
     → length (numbers_given (es ++ fs)) ≡ length (numbers_given es) + length (numbers_given fs)
 given_length es fs =
@@ -41,7 +36,9 @@ pub chain_next : {J : Type 0} {answer : Answers J} {later : Laters J} {binds pre
     → v.next ≡ w.next + length (numbers_given es)
 chain_next (Over w) = omega arith
 chain_next (First name names how w x v ok more ms ns es p c) =
-    omega (arith, chain_next c, p.next, next_is w p.judged, flat_given p.flat, given_length p.rest es)
+    let next : next_after w p.judged ≡ w.next + given_count p.judged =
+    elim p.judged as (λ o. next_after w o ≡ w.next + given_count o) [ None ↦ omega arith | Some o ↦ refl ] in
+    omega (arith, chain_next c, p.next, next, flat_given p.flat, given_length p.rest es)
 
 -- one a name at most, and none where nothing is bound
 pub chain_given : {J : Type 0} {answer : Answers J} {later : Laters J} {present : Bool}

@@ -6,7 +6,7 @@ use Rattle.std.specs.Cmp.Lexicographic.{bytes_decides}
 use Rattle.ug_table.proofs.Common.{Has, AllDistinct, Call, Answer, Runs, calls, Made, Along, Bound, Entry, State, Kept, Answers, Laters, kept_of, with_kept, same_name, known_of, numbered, without, marked, removed_of, with_standing, numbers_of, Tries, none_before, Stand, IsGone, IsNamed, HasStanding, IsAsJudged, Standing, Settled, Device, Kernel, IsKernel, Follows, names_of, stands, tried_standings, settling, resettling, filter_has, map_has, has_map, distinct_one, cancel, is_reject, is_to_go, grows_refl, some_same, resettling_numbered, NeedsRoom, failed_of, whys, why_of, GoesAsPart, LivedAs, SettledOne, SettlesOne, IsOf, ResettledOne, ResettlesOne, told_run, StandInOrder}
 use Rattle.ug_table.specs.Marks.{has_name, has_number, stood_removed, LeavesMarks}
 use Rattle.ug_table.proofs.Marks.{names_distinct, unnamed, flat_stands, flat_nobody}
-use Rattle.ug_table.proofs.Standings.{Test, own, rest_of, AreNamed, marked_rest, without_rest, of_name, without_with, each_with, same_is, is_same, found, missing, numbered_has, IsFileOf, file_same, file_later, LiveAs, IsOpen, or_none, open_name, open_later, open_named}
+use Rattle.ug_table.proofs.Standings.{Test, own, rest_of, AreNamed, marked_rest, without_rest, of_name, without_with, each_with, same_is, found, missing, numbered_has, IsFileOf, file_same, file_later, LiveAs, IsOpen, or_none, open_name, open_later, open_named}
 use Rattle.ug_table.proofs.Shapes.{Opening, Fresh, Lost, Flat, Unprobed, Tried, Stopped, Unbound, No_place, Judged_so, Piece, opening_absent, opening_rest}
 use Rattle.ug_table.proofs.PartCalls.{failed_by}
 use Rattle.ug_table.proofs.OnePart.{flat_room, tells_why, flat_whys, flat_is_part}

@@ -217,24 +217,21 @@ valued_goes {known = known} {on = on} b f (Set t es how ne w) =
     (written_entries w) (inr
     (record { write = write_of v; outcome = t.answer }, refl, no_removal v)) faults.2
 
-unheld_calls : {name : List ℕ} {number : ℕ} {r : RemoveHold} {es : List Entry} {how : Settled}
-    {files : List OpenFile} {b : Behind} {ms : List Made} → Unheld name number r es how
+unheld_goes : {name : List ℕ} {known : Known} {held : ℕ} {ms : List Made} {r : RemoveHold}
+    {es : List Entry} {how : Settled} {files : List OpenFile} {b : Behind}
+    → Unheld name known.number r es how → Holds_by name held ms r
     → CallsOf name files b ms (hold_files r files) (hold_faults r) [] 2
-    → CallsOf name files b ms files (why_of how) [] 2
-unheld_calls Gone_by c = c
-unheld_calls x c = c
-
-unheld_entries : {name : List ℕ} {number : ℕ} {r : RemoveHold} {es : List Entry} {how : Settled}
-    → Unheld name number r es how
-    → EntriesOf name (Some number) es (ended_number how number) [] [] []
-unheld_entries Gone_by = entries_are (refl, refl) refl refl (tt, tt) (refl, tt) refl
-unheld_entries x = entries_are refl refl refl tt tt refl
-
-unheld_short : {name : List ℕ} {held number : ℕ} {ms : List Made} {r : RemoveHold} {es : List Entry}
-    {how : Settled} → Holds_by name held ms r → Unheld name number r es how → how ≡ Settled.Memory
-    → IsShort ms
-unheld_short h Short_by e = hold_short h
-unheld_short h x e = let none : ⊥ = cc in absurd none
+    → Goes AreRemoval (IsShort ms) name known files b ms es how files 3
+unheld_goes Gone_by h c =
+    goes_are (calls_as refl (omega arith) c)
+    (entries_are (refl, refl) refl refl (tt, tt) (refl, tt) refl) (inl refl)
+    (λ e. let none : ⊥ = cc in absurd none)
+unheld_goes Short_by h c =
+    goes_are (calls_as refl (omega arith) c) (entries_are refl refl refl tt tt refl) (inl refl)
+    (λ e. hold_short h)
+unheld_goes x h c =
+    goes_are (calls_as refl (omega arith) c) (entries_are refl refl refl tt tt refl) (inl refl)
+    (λ e. let none : ⊥ = cc in absurd none)
 
 removal_goes : {name : List ℕ} {known : Known} {ms : List Made} {es : List Entry} {how : Settled}
     (b : Behind) → Removal name known ms es how
@@ -243,8 +240,7 @@ removal_goes : {name : List ℕ} {known : Known} {ms : List Made} {es : List Ent
 removal_goes {name} {known} b (Not_held ms r es how way u) =
     let by = way_holds name known.held.0 ms r way in
     let own : List OpenFile = open_file known.held.0 Authorized ∷ [] in
-    goes_are (calls_as refl (omega arith) (unheld_calls u (holds_calls own b (inl refl) by)))
-    (unheld_entries u) (inl refl) (unheld_short by u)
+    unheld_goes u by (holds_calls own b (inl refl) by)
 removal_goes {name} {known} b (Put_on ms file t shut es how way w) =
     let by = way_holds name known.held.0 ms (RemoveHold.Ready file) way in
     let own : List OpenFile = open_file known.held.0 Authorized ∷ [] in
@@ -356,18 +352,13 @@ opening_goes {name} b (Lost known failed shut e) =
       anew = λ ns. inr (m, n ∷ ns, refl, (known, t, refl, refl, refl));
     })
 
-unbound_calls : {name : List ℕ} {r : Binding} {es : List Entry} {how : Settled} {b : Behind}
+unbound_goes : {name : List ℕ} {r : Binding} {es : List Entry} {how : Settled} {b : Behind}
     {ms : List Made} → Unbound_end name r es how
     → CallsOf name [] b ms (binding_files r []) (binding_faults r) [] 9
-    → CallsOf name [] b ms [] (why_of how) [] 9
-unbound_calls Absent_so c = c
-unbound_calls x c = c
-
-unbound_entries : {name : List ℕ} {r : Binding} {es : List Entry} {how : Settled}
-    → Unbound_end name r es how → EntriesOf name None es None (why_of how) [] []
-unbound_entries Absent_so = entries_are refl refl refl tt tt refl
-unbound_entries Vanished_so = entries_are refl refl refl tt tt refl
-unbound_entries x = entries_are refl refl refl ((refl, refl), tt) (refl, tt) refl
+    → CallsOf name [] b ms [] (why_of how) [] 9 × EntriesOf name None es None (why_of how) [] []
+unbound_goes Absent_so c = (c, entries_are refl refl refl tt tt refl)
+unbound_goes Vanished_so c = (c, entries_are refl refl refl tt tt refl)
+unbound_goes x c = (c, entries_are refl refl refl ((refl, refl), tt) (refl, tt) refl)
 
 -- the file and the number of the standing that is left
 
@@ -466,9 +457,9 @@ flat_goes (Stopped ms es rs f opening) =
 flat_goes {name = name} (Unbound ms ns es fs rs r how t opening way end) =
     let h = opening_goes start opening in
     let none = sym (opening_none opening) in
-    let x = unbound_calls end (binds_calls [] (behind_after start ms) (way_binds name ns r way)) in
-    flat_are (calls_as (ap known_files none) (omega arith) (calls_more h.calls x))
-    (entries_to (ap number_of none) (entries_more h.entries (unbound_entries end)))
+    let x = unbound_goes end (binds_calls [] (behind_after start ms) (way_binds name ns r way)) in
+    flat_are (calls_as (ap known_files none) (omega arith) (calls_more h.calls x.0))
+    (entries_to (ap number_of none) (entries_more h.entries x.1))
     tt refl refl (λ e. inl (t, h.anew ns)) refl
 flat_goes {name = name} (No_place ms ns es rs v shut t opening way) =
     let h = opening_goes start opening in
@@ -543,10 +534,6 @@ tells_memory es name how e a = by how
     by (Settled.Fault failed) (inr none) = absurd none
     by Settled.Memory b = refl
 
-at_most_one : (o : Option (List Standing × Bound)) → given_count o ≤ 1
-at_most_one None = omega arith
-at_most_one (Some judged) = omega arith
-
 module _ {binds : Bool} {given : List Standing → Bound → Standing → Type 0} {name : List ℕ}
     {ss : List Standing} {ok : Bool} {ms : List Made} {rest : List Entry} {how : Settled}
     {rs : List Standing} {o : Option (List Standing × Bound)}
@@ -594,6 +581,6 @@ module _ {binds : Bool} {given : List Standing → Bound → Standing → Type 0
         few = c.few;
         bears = e.bears;
         numbers = e.numbers;
-        given = omega (arith, flat_given, at_most_one o);
+        given = omega (arith, flat_given, elim o as (λ v. given_count v ≤ 1) [ None ↦ omega arith | Some x ↦ omega arith ]);
         others = λ other. others_stand name other ss rs (flat_rest f);
       }

@@ -1,8 +1,8 @@
 -- What an order does, over the states of a run.
-use Rattle.std.proofs.Common.{◌≡◌, ℕ, Bool, true, false, not, cond, nat_eq, List, [], ◌∷◌, ◌++◌, Option, Some, None, map, ◌⊎◌, inl, inr, refl, sym, ◌∙◌, ap, subst, append_assoc, arith}
+use Rattle.std.proofs.Common.{◌≡◌, ℕ, Bool, true, false, cond, nat_eq, List, [], ◌∷◌, ◌++◌, Option, Some, None, map, ◌⊎◌, inl, inr, refl, sym, ◌∙◌, ap, subst, append_assoc, arith}
 use Rattle.ug_types.specs.Principals.{Named}
 use Rattle.ug_kernel.specs.declared.device.Effect.{Effect}
-use Rattle.ug_table.proofs.Common.{Has, Authorized, open_file, Quiet, says_probe, none_before, Held, Target, Call, Answer, Ask_alive, Told, Follows, Runs, calls, Made, Entry, State, Kept, Answers, Laters, kept_of, with_kept, known_of, known_files, standing_of, numbered, number_of, AreOfNumber, numbers_given, AtMostOneEach, TellsWrites, writes_in, HasRemoval, wrote_entries, Account, Start, Note, Judge, Had, Had_not, Went, Tries, IsNamed, Stand, IsDevice, Standing, Settled, Probe, Kernel, IsKernel, Cause, names_of, unsettled_by, tried_standings, cancel, has_left, has_right, last_is, map_has, has_map, distinct_one, bringing, Ways, Sure, Ran, ways_run, sure_last, NeedsRoom, told_run, called_quiet, StandInOrder, KeepsOrder}
+use Rattle.ug_table.proofs.Common.{Has, Authorized, open_file, Quiet, says_probe, none_before, Held, Target, Call, Answer, Ask_alive, Told, Follows, Runs, calls, Made, Entry, State, Kept, Answers, Laters, kept_of, with_kept, known_of, known_files, standing_of, numbered, number_of, AreOfNumber, numbers_given, AtMostOneEach, TellsWrites, writes_in, HasRemoval, wrote_entries, Account, Start, Note, Judge, Had, Had_not, Went, Tries, IsNamed, Stand, IsDevice, Standing, Settled, Probe, Kernel, IsKernel, Cause, names_of, unsettled_by, tried_standings, cancel, has_left, has_right, last_is, map_has, distinct_one, bringing, Ways, Sure, Ran, ways_run, sure_last, NeedsRoom, told_run, called_quiet, StandInOrder, KeepsOrder}
 use Rattle.ug_table.specs.Marks.{has_number, stood_removed, LeavesMarks}
 use Rattle.ug_table.specs.Orders.{to_probe, probing, ProbesOne, with_verdict, ordered_standing, with_order, verdict_entry, to_tried, to_order, ordering, behind_probe, GoesAsOrder, HasOrdered, IsStopped, just_ordered, OrderedOne, OrdersOne}
 use Rattle.ug_table.proofs.Chains.{no_verdict, no_later}
