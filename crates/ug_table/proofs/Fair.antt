@@ -13,7 +13,7 @@ use Rattle.ug_table.proofs.Steps.{NoRemoval, AreMarked, keeps_itself, removal_ma
 use Rattle.ug_table.proofs.Shapes.{Written, Done, Went, Broke, Valued, Same, Set, Unheld, Gone_by, Failed_by, Short_by, Removal, Not_held, Put_on, Carried, By_value, And_removal, Brought, Left_open, Let_go, told_at, Piece, Opening, Fresh, Lost, Unbound_end, Failed_so, Short_so, Flat, Unprobed, Tried, Stopped, Unbound, No_place, Judged_so, IsGiven, next_after, judge_after, opening_none, opening_absent}
 use Rattle.ug_types.specs.declared.record.Attrs.{Attrs}
 use Rattle.ug_node.specs.Bound.{attrs_of, IsBound, BindSays}
-use Rattle.ug_table.proofs.Marks.{order_new, keeps_filter, sweep_in_order, AreIn, dropped_in, AreSplit, AreFresh, split_in, parted_split, parted_fresh, part_split, part_fresh, piece_part, order_distinct}
+use Rattle.ug_table.proofs.Marks.{order_new, keeps_filter, sweep_in_order, AreIn, dropped_in, AreSplit, AreFresh, split_in, parted_split, parted_fresh, part_split, part_fresh, flat_part, order_distinct}
 use Rattle.ug_types.proofs.Sorting.{to_sweep_order}
 use Rattle.ug_kernel.proofs.Held.{live_before}
 use Rattle.ug_table.proofs.Chains.{closings_quiet, Chain, Over, First, Goes, Listed, Unlisted, sweeping_run}
@@ -443,10 +443,11 @@ chain_fair {m = m} {w = w} l so h (First name names how u x v ok more ms ns es p
     let rest = h.fair.rest in
     let e = h.fair.entries in
     let cut = along_split calls ms ns m l a in
+    let part = flat_part p.flat in
     chain_fair l
     (λ b.
     let q = so b in
-    (q.0.1, q.1.1, part_split w u name names rest x e q.1 q.2 (q.3 rest e name (inl refl)) (piece_part p), part_fresh w u name names rest x e q.0 q.3 (piece_part p)))
+    (q.0.1, q.1.1, part_split w u name names rest p.rest x e p.entries q.1 q.2 (q.3 rest e name (inl refl)) part, part_fresh w u name names rest p.rest x e p.entries q.0 q.3 part))
     (piece_fair (λ b. let q = so b in split_in name names w u q.1 q.2) h p cut.1) c cut.2
 
 -- an entry for each standing that isn't listed

@@ -1,12 +1,12 @@
 -- Marks and the order of standings.
-use Rattle.std.proofs.Common.{◌≡◌, ℕ, Bool, true, false, not, cond, List, [], ◌∷◌, ◌++◌, map, Option, inl, inr, refl, sym, ◌∙◌, ap, subst, Some, append_assoc, ◌⊎◌, append-nil, ◌+◌, add-one, true≢false, ◌<◌, ◌≤◌, None, length, min, take, get_or, arith}
+use Rattle.std.proofs.Common.{◌≡◌, ℕ, Bool, true, false, not, cond, List, [], ◌∷◌, ◌++◌, map, Option, inl, inr, refl, sym, ◌∙◌, ap, subst, Some, append_assoc, ◌⊎◌, ◌+◌, add-one, true≢false, ◌<◌, ◌≤◌, None, length, min, take, get_or, arith}
 use Rattle.ug_table.proofs.Common.{Has, AllDistinct, Bound, Binding, Entry, State, Answers, Laters, same_name, without, marked, place_for, with_standing, known_of, standing_of, lists, farewells, IsNamed, IsMarked, IsUnlisted, IsListed, swept_before, AreInOrder, Tries, IsMarkedIn, AreMarkedIn, numbers_of, Standing, Known, Settled, Made, Along, Fault, EndsUnsettled, sweep_cmp, in_place, in_sweep_order, sweep_total, sweep_exact, Kernel, Runs, calls, names_of, parted, sweeping, unsettled_by, kept_standings, tried_standings, dropped, has_left, has_right, has_cases, filter_has, map_has, has_map, cancel, last_is, distinct_filter, distinct_insert, filter, insert, whys, why_of, StandInOrder, KeepsOrder, IsNextNumbered, is_nearer}
-use Rattle.ug_table.proofs.Shapes.{Piece, Unbound_end, Absent_so, Flat, Unprobed, Tried, Stopped, Unbound, No_place, Judged_so, opening_absent, flat_rest, new_known}
+use Rattle.ug_table.proofs.Shapes.{Unbound_end, Absent_so, Flat, Unprobed, Tried, Stopped, Unbound, No_place, Judged_so, opening_absent, flat_rest, new_known}
 use Rattle.ug_table.proofs.Standings.{kept_tried, each_with, farewells_by, is_same, missing, missing_without, found, others_have, tried_own, lists_has, either_listed, same_is, fields_stay}
 use Rattle.ug_table.proofs.OnePart.{flat_is_part, flat_whys, told_in}
 use Rattle.ug_table.proofs.Says.{Each, NamesOnly, each_has, each_append, each_map, NamesNone, none_named}
 use Rattle.std.specs.Ordering.{is_gt, is_lt, ordering_reverse}
-use Rattle.ug_table.proofs.Chains.{Chain, Over, First, Goes, Listed, Unlisted, sweeping_run}
+use Rattle.ug_table.proofs.Chains.{Chain, Over, First, Goes, Listed, Unlisted, goes_entries, sweeping_run}
 use Rattle.std.specs.declared.cmp.Ordering.{Ordering}
 use Rattle.std.specs.declared.cmp.Ordering.TheVariants.{Less, Equal, Greater}
 use Rattle.std.proofs.lemmas.Bool.{cond_both}
@@ -49,9 +49,7 @@ tells_how Settled.Memory name es h e = why_named name es Fault.Memory h e
 -- the standings
 
 -- other names' standings are as they were; its own is marked by what is told
-pub record Part (name : List ℕ) (ss : List Standing) (es : List Entry) (rs : List Standing) (fs : List Entry) : Type 0 where
-  pub rest : List Entry
-  pub entries : fs ≡ es ++ rest
+pub record Part (name : List ℕ) (ss : List Standing) (rest : List Entry) (rs : List Standing) : Type 0 where
   pub only : Each (NamesOnly name) rest
   pub others : (s : Standing) → Has rs s → (s.name ≡ name → ⊥) → Has ss s
   pub mark : (s : Standing) → Has rs s → s.name ≡ name → IsMarked rest s
@@ -89,19 +87,10 @@ flat_mark {name = name} t (Unbound ms ns es fs rs r how f opening way end) s a i
 flat_mark {name = name} t (No_place ms ns es rs b shut f opening way) s a is = absurd (opening_absent opening (own_name rs name s a is))
 flat_mark {name = name} {rest = rest} t (Judged_so ms ns os es fs rs b x how f opening way given new brought) s a is = tried_mark (with_standing x rs) name how rest s t a is
 
-flat_part : {binds : Bool} {given : List Standing → Bound → Standing → Type 0} {name : List ℕ} {ss : List Standing} {ok : Bool} {ms : List Made} {rest : List Entry} {how : Settled} {rs : List Standing} {o : Option (List Standing × Bound)} (es fs : List Entry) → fs ≡ es ++ rest → Flat binds given name ss ok ms rest how rs o → Part name ss es rs fs
-flat_part {name = name} {ss = ss} {rest = rest} {how = how} {rs = rs} xs ys e f =
+pub flat_part : {binds : Bool} {given : List Standing → Bound → Standing → Type 0} {name : List ℕ} {ss : List Standing} {ok : Bool} {ms : List Made} {rest : List Entry} {how : Settled} {rs : List Standing} {o : Option (List Standing × Bound)} → Flat binds given name ss ok ms rest how rs o → Part name ss rest rs
+flat_part {name = name} {ss = ss} {rest = rest} {how = how} {rs = rs} f =
     let last = (flat_is_part f).last in
-    record { rest = rest; entries = e; only = ends_only name rest last; others = λ s. others_have name rs ss s (flat_rest f); mark = flat_mark (tells_how how name rest last (flat_whys f)) f }
-
--- of states, which keep whether a listing has succeeded
-abbrev pub PartOf : {J : Type 0} → List ℕ → State J → State J → Type 0
-PartOf name w v = Part name w.standings w.entries v.standings v.entries × (v.listed ≡ w.listed)
-
-pub piece_part : {J : Type 0} {answer : Answers J} {later : Laters J} {binds present : Bool}
-    {name : List ℕ} {how : Settled} {ok : Bool} {ms : List Made} {w v : State J}
-    → Piece answer later binds present name w ok ms how v → PartOf name w v
-piece_part {w = w} {v = v} p = (flat_part w.entries v.entries p.entries p.flat, p.listed)
+    record { only = ends_only name rest last; others = λ s. others_have name rs ss s (flat_rest f); mark = flat_mark (tells_how how name rest last (flat_whys f)) f }
 
 -- the answer says whether the name has a standing
 
@@ -147,9 +136,7 @@ NamesIn names (Entry.UnsettledAll why) = ⊥
 NamesIn names e = Unit {0}
 
 -- what settling these names tells, and how it leaves the marks
-pub record Parts (names : List (List ℕ)) (ss : List Standing) (es : List Entry) (rs : List Standing) (fs : List Entry) : Type 0 where
-  pub rest : List Entry
-  pub entries : fs ≡ es ++ rest
+pub record Parts (names : List (List ℕ)) (ss : List Standing) (rest : List Entry) (rs : List Standing) : Type 0 where
   pub only : Each (NamesIn names) rest
   pub others : (s : Standing) → Has rs s → (Has names s.name → ⊥) → Has ss s
   pub mark : (s : Standing) → Has rs s → Has names s.name → IsMarked rest s
@@ -165,22 +152,17 @@ only_later : (n : List ℕ) (names : List (List ℕ)) (e : Entry) → NamesIn na
 only_later n names (Entry.Unsettled m why) h = inr h
 only_later n names e h = h
 
-none_parts : (ss : List Standing) (es : List Entry) → Parts [] ss es ss es
-none_parts ss es = record { rest = []; entries = sym (append-nil es); only = tt; others = λ s a ne. a; mark = λ s a h. absurd h }
-
 -- one name more
-parts_more : (n : List ℕ) (names : List (List ℕ)) (ss ms rs : List Standing) (es gs fs : List Entry) → AllDistinct (n ∷ names) → Part n ss es ms gs → Parts names ms gs rs fs → Parts (n ∷ names) ss es rs fs
-parts_more n names ss ms rs es gs fs distinct a b =
-    let mark : (s : Standing) → Has rs s → (n ≡ s.name) ⊎ Has names s.name → IsMarked (a.rest ++ b.rest) s = λ s h c. elim c [
+parts_more : (n : List ℕ) (names : List (List ℕ)) (ss ms rs : List Standing) (es fs : List Entry) → AllDistinct (n ∷ names) → Part n ss es ms → Parts names ms fs rs → Parts (n ∷ names) ss (es ++ fs) rs
+parts_more n names ss ms rs es fs distinct a b =
+    let mark : (s : Standing) → Has rs s → (n ≡ s.name) ⊎ Has names s.name → IsMarked (es ++ fs) s = λ s h c. elim c [
       | inl e ↦
           let apart : Has names s.name → ⊥ = λ x. distinct.0 (subst (λ (v : List ℕ). Has names v) (sym e) x) in
-          marked_right a.rest b.rest s (λ x. apart (each_has (NamesIn names) b.rest (Entry.Unsettled s.name x.0) b.only x.1)) (a.mark s (b.others s h apart) (sym e))
-      | inr x ↦ marked_left a.rest b.rest s (λ y. distinct.0 (subst (λ (v : List ℕ). Has names v) (named_only n s.name a.rest a.only y) x)) (b.mark s h x)
+          marked_right es fs s (λ x. apart (each_has (NamesIn names) fs (Entry.Unsettled s.name x.0) b.only x.1)) (a.mark s (b.others s h apart) (sym e))
+      | inr x ↦ marked_left es fs s (λ y. distinct.0 (subst (λ (v : List ℕ). Has names v) (named_only n s.name es a.only y) x)) (b.mark s h x)
     ] in
     record {
-      rest = a.rest ++ b.rest;
-      entries = b.entries ∙ ap (λ (v : List Entry). v ++ b.rest) a.entries ∙ append_assoc es a.rest b.rest;
-      only = each_append (NamesIn (n ∷ names)) a.rest b.rest (each_map (NamesOnly n) (NamesIn (n ∷ names)) a.rest (only_first n names) a.only) (each_map (NamesIn names) (NamesIn (n ∷ names)) b.rest (only_later n names) b.only);
+      only = each_append (NamesIn (n ∷ names)) es fs (each_map (NamesOnly n) (NamesIn (n ∷ names)) es (only_first n names) a.only) (each_map (NamesIn names) (NamesIn (n ∷ names)) fs (only_later n names) b.only);
       others = λ s h ne. a.others s (b.others s h (λ x. ne (inr x))) (λ e. ne (inl (sym e)));
       mark = λ s h c. mark s h c;
     }
@@ -188,12 +170,11 @@ parts_more n names ss ms rs es gs fs distinct a b =
 chain_parts : {J : Type 0} {answer : Answers J} {later : Laters J} {binds present : Bool}
     {names : List (List ℕ)} {w v : State J} {ok : Bool} {ms : List Made} {es : List Entry}
     → AllDistinct names → Chain answer later binds present names w ok ms es v
-    → Parts names w.standings w.entries v.standings v.entries × (v.listed ≡ w.listed)
-chain_parts distinct (Over w) = (none_parts w.standings w.entries, refl)
+    → Parts names w.standings es v.standings × (v.listed ≡ w.listed)
+chain_parts distinct (Over w) = (record { only = tt; others = λ s a ne. a; mark = λ s a h. absurd h }, refl)
 chain_parts distinct (First n names how w x v ok more ms ns es p c) =
-    let a = piece_part p in
-    let b = chain_parts distinct.1 c in
-    (parts_more n names w.standings x.standings v.standings w.entries x.entries v.entries distinct a.0 b.0, b.1 ∙ a.1)
+    let rest = chain_parts distinct.1 c in
+    (parts_more n names w.standings x.standings v.standings p.rest es distinct (flat_part p.flat) rest.0, rest.1 ∙ p.listed)
 
 -- the order of a sweep has each name once
 
@@ -265,31 +246,25 @@ stands_in : (names : List (List ℕ)) (P : Standing → Type 0) (rs : List Stand
 stands_in names P rs named others s a = elim (either_listed names s.name) [ inl h ↦ h | inr ne ↦ named s (others s a ne) ]
 
 goes_ends : {J : Type 0} {answer : Answers J} {later : Laters J} {w v : State J} {ok : Bool}
-    {ms : List Made} {es : List Entry} (k l : Kernel) (rest : List Entry)
-    → AllDistinct (names_of w.standings) → v.entries ≡ w.entries ++ rest
-    → Goes answer later w ok ms es v → Along calls k ms l → Ends w v rest
-goes_ends {w = w} {v = v} k l rest known e (Listed found failed ok shut made es _ closings chain) a =
+    {ms : List Made} {es : List Entry} (k l : Kernel) → AllDistinct (names_of w.standings)
+    → Goes answer later w ok ms es v → Along calls k ms l → Ends w v es
+goes_ends {w = w} {v = v} k l known (Listed found failed ok shut made es _ closings chain) a =
     let names = in_sweep_order found in
     let bye = farewells names w.standings in
     let listed : Standing → Bool = λ s. lists names s.name in
     let h = chain_parts (order_distinct found a.1.says.1) chain in
-    let same : bye ++ h.0.rest ≡ rest = cancel w.entries (bye ++ h.0.rest) rest (sym (append_assoc w.entries bye h.0.rest) ∙ sym h.0.entries ∙ e) in
     let none = farewell_none names w.standings in
-    let told : IsUnlisted (bye ++ h.0.rest) → ⊥ = λ n. elim (has_cases bye h.0.rest (Entry.UnsettledAll n.0) n.1) [
+    let told : IsUnlisted (bye ++ es) → ⊥ = λ n. elim (has_cases bye es (Entry.UnsettledAll n.0) n.1) [
       | inl b ↦ each_has NamesNone bye (Entry.UnsettledAll n.0) none b
-      | inr b ↦ each_has (NamesIn names) h.0.rest (Entry.UnsettledAll n.0) h.0.only b
+      | inr b ↦ each_has (NamesIn names) es (Entry.UnsettledAll n.0) h.0.only b
     ] in
     let named = stands_in names (Has (filter listed w.standings)) v.standings (λ s b. lists_has names s.name (filter_has listed w.standings s b).1) h.0.others in
-    let marks : (s : Standing) → Has v.standings s → IsMarked (bye ++ h.0.rest) s = λ s b. marked_left bye h.0.rest s (none_named bye s.name none) (h.0.mark s b (named s b)) in
-    subst (λ (y : List Entry). Ends w v y) same (inl (told, h.1), marks)
-goes_ends {w = w} {v = v} k l rest known e (Unlisted list failed room why ok made es _ by chain) a =
-    let all = Entry.UnsettledAll why in
+    (inl (told, h.1), λ s b. marked_left bye es s (none_named bye s.name none) (h.0.mark s b (named s b)))
+goes_ends {w = w} {v = v} k l known (Unlisted list failed room why ok made es _ by chain) a =
     let names = names_of w.standings in
     let h = chain_parts known chain in
-    let same : all ∷ h.0.rest ≡ rest = cancel w.entries (all ∷ h.0.rest) rest (sym (append_assoc w.entries (all ∷ []) h.0.rest) ∙ sym h.0.entries ∙ e) in
     let named = stands_in names (Has w.standings) v.standings (λ s b. has_map (λ (x : Standing). x.name) w.standings s b) h.0.others in
-    let marks : (s : Standing) → Has v.standings s → IsMarked (all ∷ h.0.rest) s = λ s b. marked_left (all ∷ []) h.0.rest s (λ n. elim n.1 [ inl q ↦ let none : ⊥ = cc in none | inr none ↦ none ]) (h.0.mark s b (named s b)) in
-    subst (λ (y : List Entry). Ends w v y) same (inr ((why, inl refl), h.1), marks)
+    (inr ((why, inl refl), h.1), λ s b. marked_left (Entry.UnsettledAll why ∷ []) es s (λ n. elim n.1 [ inl q ↦ let none : ⊥ = cc in none | inr none ↦ none ]) (h.0.mark s b (named s b)))
 
 -- whatever the entries that were added
 pub sweeping_marks : {J : Type 0} (answer : Answers J) (later : Laters J) (w : State J)
@@ -297,7 +272,7 @@ pub sweeping_marks : {J : Type 0} (answer : Answers J) (later : Laters J) (w : S
     → Runs calls k (sweeping answer later w) v l → v.entries ≡ w.entries ++ rest → Ends w v rest
 sweeping_marks answer later w k l v rest known r e =
     let x = sweeping_run calls answer later k w l v r in
-    goes_ends k l rest known e x.so.1 x.along
+    subst (Ends w v) (cancel w.entries x.so.0 rest (sym (goes_entries x.so.1) ∙ e)) (goes_ends k l known x.so.1 x.along)
 
 -- Standings in sweep order of their names.
 
@@ -378,30 +353,28 @@ parted_fresh names w rest e n a named =
     none_named bye n (farewell_none names w.standings) (subst (λ (v : List Entry). IsNamed v n) (sym same) named)
 
 -- one name's part
-part_mark : {J : Type 0} (w u : State J) (name : List ℕ) (names : List (List ℕ)) (gs : List Entry) (z : State J) (s : Standing) (b : Bool) → same_name s.name name ≡ b → AreInOrder (name ∷ names) → ((s : Standing) → Has u.standings s → IsSplit (name ∷ names) w.standings gs s) → (IsNamed gs name → ⊥) → (x : Part name u.standings u.entries z.standings z.entries) → Has z.standings s → IsSplit names w.standings (gs ++ x.rest) s
-part_mark w u name names gs z s true is o split fresh x a =
+part_mark : {J : Type 0} (w u : State J) (name : List ℕ) (names : List (List ℕ)) (gs more : List Entry) (z : State J) (s : Standing) (b : Bool) → same_name s.name name ≡ b → AreInOrder (name ∷ names) → ((s : Standing) → Has u.standings s → IsSplit (name ∷ names) w.standings gs s) → (IsNamed gs name → ⊥) → Part name u.standings more z.standings → Has z.standings s → IsSplit names w.standings (gs ++ more) s
+part_mark w u name names gs more z s true is o split fresh x a =
     let e = same_is s.name name is in
-    inl (λ n h. subst (λ (v : List ℕ). swept_before v n ≡ true) (sym e) (o.0 n h), marked_left gs x.rest s (λ n. fresh (subst (λ (v : List ℕ). IsNamed gs v) e n)) (x.mark s a e))
-part_mark w u name names gs z s false is o split fresh x a =
+    inl (λ n h. subst (λ (v : List ℕ). swept_before v n ≡ true) (sym e) (o.0 n h), marked_left gs more s (λ n. fresh (subst (λ (v : List ℕ). IsNamed gs v) e n)) (x.mark s a e))
+part_mark w u name names gs more z s false is o split fresh x a =
     let ne : s.name ≡ name → ⊥ = λ e. let same = is_same s.name name e in let none : ⊥ = cc in none in
     elim (split s (x.others s a ne)) [
-      | inl h ↦ inl (λ n b. h.0 n (inr b), marked_right gs x.rest s (λ n. ne (named_only name s.name x.rest x.only n)) h.1)
+      | inl h ↦ inl (λ n b. h.0 n (inr b), marked_right gs more s (λ n. ne (named_only name s.name more x.only n)) h.1)
       | inr h ↦ elim h.0 [ inl e ↦ absurd (ne (sym e)) | inr b ↦ inr (b, h.1) ]
     ]
 
-pub part_split : {J : Type 0} (w u : State J) (name : List ℕ) (names : List (List ℕ)) (gs : List Entry) (z : State J) → u.entries ≡ w.entries ++ gs → AreInOrder (name ∷ names) → AreSplit (name ∷ names) w u → (IsNamed gs name → ⊥) → PartOf name u z → AreSplit names w z
-part_split w u name names gs z e o split fresh part rest f s a =
-    let x = part.0 in
-    subst (λ (v : List Entry). IsSplit names w.standings v s) (added_rest w.entries u.entries gs rest x.rest e (sym x.entries ∙ f)) (part_mark w u name names gs z s (same_name s.name name) refl o (split gs e) fresh x a)
+pub part_split : {J : Type 0} (w u : State J) (name : List ℕ) (names : List (List ℕ)) (gs more : List Entry) (z : State J) → u.entries ≡ w.entries ++ gs → z.entries ≡ u.entries ++ more → AreInOrder (name ∷ names) → AreSplit (name ∷ names) w u → (IsNamed gs name → ⊥) → Part name u.standings more z.standings → AreSplit names w z
+part_split w u name names gs more z e d o split fresh x rest f s a =
+    subst (λ (v : List Entry). IsSplit names w.standings v s) (added_rest w.entries u.entries gs rest more e (sym d ∙ f)) (part_mark w u name names gs more z s (same_name s.name name) refl o (split gs e) fresh x a)
 
-pub part_fresh : {J : Type 0} (w u : State J) (name : List ℕ) (names : List (List ℕ)) (gs : List Entry) (z : State J) → u.entries ≡ w.entries ++ gs → AllDistinct (name ∷ names) → AreFresh (name ∷ names) w u → PartOf name u z → AreFresh names w z
-part_fresh w u name names gs z e distinct fresh part rest f n a named =
-    let x = part.0 in
-    let same = added_rest w.entries u.entries gs rest x.rest e (sym x.entries ∙ f) in
+pub part_fresh : {J : Type 0} (w u : State J) (name : List ℕ) (names : List (List ℕ)) (gs more : List Entry) (z : State J) → u.entries ≡ w.entries ++ gs → z.entries ≡ u.entries ++ more → AllDistinct (name ∷ names) → AreFresh (name ∷ names) w u → Part name u.standings more z.standings → AreFresh names w z
+part_fresh w u name names gs more z e d distinct fresh x rest f n a named =
+    let same = added_rest w.entries u.entries gs rest more e (sym d ∙ f) in
     let told = subst (λ (v : List Entry). IsNamed v n) (sym same) named in
-    elim (has_cases gs x.rest (Entry.Unsettled n told.0) told.1) [
+    elim (has_cases gs more (Entry.Unsettled n told.0) told.1) [
       | inl b ↦ fresh gs e n (inr a) (told.0, b)
-      | inr b ↦ distinct.0 (subst (λ (v : List ℕ). Has names v) (named_only name n x.rest x.only (told.0, b)) a)
+      | inr b ↦ distinct.0 (subst (λ (v : List ℕ). Has names v) (named_only name n more x.only (told.0, b)) a)
     ]
 
 -- What is done to a table's standings keeps them in order.
