@@ -23,7 +23,7 @@ pub fn line_of_bad_rules(fault: TextFault) -> Line
     let mut line = Line::of(b"bad rules line ");
     line.push_decimal(fault.line);
     line.push(b" kind ");
-    line.push_decimal(fault.kind);
+    line.push_decimal(fault.kind as u64);
     line.push(b" place ");
     line.push_decimal(fault.place);
     line.push(b"\n");

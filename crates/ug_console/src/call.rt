@@ -12,6 +12,7 @@ use std::alloc::Global;
 use ug_types::{Line, Sink, Source, Taken};
 
 /// The fault line of line n.
+#[tactic(auto, unfolding(crate::specs::Fold::bad_line))]
 fn line_of_fault(n: u64) -> Line
     ensures { result ≡ bad_line n }
 {

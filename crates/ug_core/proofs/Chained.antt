@@ -1,43 +1,61 @@
 -- From the laws of events to those of a run.
-use Rattle.std.proofs.Common.{◌≡◌, ℕ, ◌<◌, Bool, true, false, not, ◌||◌, is_none, List, [], ◌∷◌, ◌++◌, Option, Some, None, slice_get, inl, inr, refl, sym, ◌∙◌, ap, subst, append_assoc, append-nil}
+use Rattle.std.proofs.Common.{◌≡◌, ℕ, ◌<◌, Bool, true, false, not, ◌||◌, is_none, nat_eq, List, [], ◌∷◌, ◌++◌, Option, Some, None, Result, Ok, Err, ◌⊎◌, slice_get, inl, inr, refl, sym, ◌∙◌, ap, subst, append_assoc, append-nil, arith}
 use Rattle.std.specs.List.{list_any}
-use Rattle.ug_types.specs.Elements.{Has}
+use Rattle.ug_types.specs.Elements.{Has, AllDistinct}
+use Rattle.ug_types.specs.Principals.{Named}
 use Rattle.ug_types.specs.Names.{parent_of}
+use Rattle.ug_types.specs.declared.record.DeviceRecord.{DeviceRecord}
 use Rattle.ug_types.specs.declared.record.Judged.{Judged}
+use Rattle.ug_types.specs.declared.record.Judged.TheVariants as judged
+use Rattle.ug_types.specs.declared.refusal.Refusal.{Refusal}
 use Rattle.ug_types.specs.declared.saved.Saved.{Saved}
 use Rattle.ug_types.specs.declared.verdict.Held.{Held}
 use Rattle.ug_types.specs.declared.verdict.Target.{Target}
 use Rattle.ug_types.specs.declared.verdict.Cause.{Cause}
 use Rattle.ug_types.specs.declared.verdict.Moment.{Moment}
 use Rattle.ug_types.specs.declared.control.Control.TheVariants.{Authorized}
-use Rattle.ug_types.proofs.Elements.{has_left, has_right, has_cases}
+use Rattle.ug_types.proofs.Elements.{cancel, distinct_one, has_left, has_map, has_right, has_cases, map_has}
 use Rattle.ug_kernel.specs.declared.device.Device.{Device}
 use Rattle.ug_kernel.specs.declared.device.Effect.{Effect}
 use Rattle.ug_kernel.specs.Kernel.{Kernel, Live, Moved, Begins, Moves}
-use Rattle.ug_kernel.specs.Quiet.{Grows}
+use Rattle.ug_kernel.specs.Quiet.{Grows, Quiet}
 use Rattle.ug_kernel.proofs.Grow.{quiet_grows}
-use Rattle.ug_kernel.proofs.Quiet.{moves_quiet, stays_trans}
+use Rattle.ug_kernel.proofs.Quiet.{moves_quiet, quiet_refl, stays_trans}
 use Rattle.ug_kernel.proofs.Stayed.{unmoving}
 use Rattle.ug_audit.specs.declared.entry.Entry.{Entry}
 use Rattle.ug_audit.specs.declared.entry.Entry.TheVariants as entry
+use Rattle.ug_conf.specs.declared.settings.Present.{Present}
+use Rattle.ug_conf.specs.declared.settings.Present.TheVariants as present
+use Rattle.ug_policy.specs.Deciding.{Found, decider}
+use Rattle.ug_policy.specs.Matching.{answer_by}
+use Rattle.ug_policy.specs.declared.entry.RuleEntry.{RuleEntry}
+use Rattle.ug_proto.specs.declared.request.Request.TheVariants as request
 use Rattle.ug_store.specs.Disk.{Disk}
 use Rattle.ug_table.specs.Allowed.{allowed_records}
-use Rattle.ug_table.specs.State.{State}
-use Rattle.ug_table.specs.Laws.{IsDevice, Stand, IsTold, swept_before, wrote_entries, IsUnlisted, IsListed, IsAsJudged}
+use Rattle.ug_table.specs.Orders.{with_verdict, ordered_standing, with_order, verdict_entry, just_ordered}
+use Rattle.ug_table.specs.Parts.{AllBear, numbers_given}
+use Rattle.ug_table.specs.Standings.{numbered}
+use Rattle.ug_table.specs.State.{State, with_kept}
+use Rattle.ug_table.specs.Laws.{IsDevice, Stand, IsTold, swept_before, wrote_entries, numbers_of, Account, IsFair, IsUnlisted, IsListed, IsAsJudged}
 use Rattle.ug_table.specs.declared.standing.Standing.{Standing}
 use Rattle.ug_table.proofs.Devices.{device_stays, stand_stays}
+use Rattle.ug_table.proofs.Ordered.{has_ordered, ordered_is, ordered_other, stand_ordered}
 use Rattle.ug_table.proofs.Says.{account_says}
-use Rattle.ug_core.specs.Policy.{Judging, policy_answer, policy_later}
-use Rattle.ug_core.specs.Event.{DaemonState, IsStarted, moment_of, saved_entries}
-use Rattle.ug_core.specs.InForce.{Decision, decision_of, decisions_in, or_else, last_decision, standing_decision, in_force, Agree, numbers_on, given_numbers, Follow}
-use Rattle.ug_core.specs.Laws.{Handled}
+use Rattle.ug_table.proofs.Standings.{numbered_has}
+use Rattle.ug_core.specs.Answering.{answer_to, answered_with}
+use Rattle.ug_core.specs.Policy.{Judging, cause_for, choice_for, kept, by_choice, found_for, verdict_of, policy_answer, policy_later}
+use Rattle.ug_core.specs.Event.{DaemonState, IsStarted, first_entry, moment_of, noting, saved_entries}
+use Rattle.ug_core.specs.declared.daemon.Event.{Event}
+use Rattle.ug_core.specs.declared.daemon.Event.TheVariants.{Sweep, Order}
+use Rattle.ug_core.specs.InForce.{Decision, decision_of, decisions_in, or_else, on_number, last_decision, last_judged, standing_decision, in_force, Agree, is_ordered, unordered, numbers_on, given_numbers, Follow}
+use Rattle.ug_core.specs.Laws.{RefusesOrder, CarriesOut, AnswersEvent, Handled}
 use Rattle.ug_core.specs.Rulings.{Ruling, at_moment, ruling_answer, after_ruling, after_rulings, decision_by, decisions_by}
-use Rattle.ug_core.specs.Chain.{Happened, ready_of, IsEvent, StaysOnDisk, Chain, IsKeptThroughout, journal, tells_unlisted, has_listed, IsPlaced, WasJudged, IsExplained, IsJudgedOnce, IsRun}
+use Rattle.ug_core.specs.Chain.{Happened, ready_of, IsEvent, StaysOnDisk, Chain, IsKeptThroughout, journal, tells_unlisted, has_listed, IsPlaced, WasOrdered, WasDecided, IsExplained, IsJudgedOnce, IsRun}
 use Rattle.ug_core.proofs.Verdicts.{is_verdict}
-use Rattle.ug_core.proofs.InForce.{decisions_append, decisions_more, has_decision, or_else_none, standing_found, fresh, numbers_append, follow_append, lift, lift_agree, last_has}
+use Rattle.ug_core.proofs.InForce.{told_numbers, in_force_append, on_itself, on_another, unordered_append, unordered_all, unordered_has, decisions_append, decisions_more, has_decision, or_else_none, standing_found, fresh, numbers_append, follow_append, lift, lift_agree, last_has}
 use Rattle.ug_core.proofs.Walk.{after_append, decisions_then, IsAt, WasWritten, written_more, walk}
 use Rattle.ug_core.proofs.Kept.{stays_there, stays_then, kept_along}
-use Rattle.ug_core.proofs.Known.{same_device, AreKnown, known_grow, known_still, known_new, only_number}
+use Rattle.ug_core.proofs.Known.{same_device, IsKnown, AreKnown, known_grow, known_still, known_new, only_number}
 
 -- what the kernel does by itself, one after another
 
@@ -58,37 +76,6 @@ moves_then j k l a b = record { devices = begins_then j.devices k.devices l.devi
 pub journal_append : (gs hs : List Happened) → journal (gs ++ hs) ≡ journal gs ++ journal hs
 journal_append [] hs = refl
 journal_append (g ∷ gs) hs = ap (λ (es : List Entry). g.after.sweep.entries ++ es) (journal_append gs hs) ∙ sym (append_assoc g.after.sweep.entries (journal gs) (journal hs))
-
--- the first entry, that of a save, those of the sweep, and the last
-abbrev framed : Entry → Option Saved → List Entry → Entry → List Entry
-framed x tried rest y = x ∷ (saved_entries tried ++ (rest ++ y ∷ []))
-
--- a save tells no decision, and nothing of a listing
-
-saved_decisions : (tried : Option Saved) (es : List Entry) → decisions_in (saved_entries tried ++ es) ≡ decisions_in es
-saved_decisions None es = refl
-saved_decisions (Some saved) es = refl
-
-saved_listings : (tried : Option Saved) (es : List Entry) → list_any tells_unlisted (saved_entries tried ++ es) ≡ list_any tells_unlisted es
-saved_listings None es = refl
-saved_listings (Some saved) es = refl
-
-written_framed : (number : ℕ) (moment : Moment) (tried : Option Saved) (before : List Standing) (rest : List Entry) (y : Entry) (k : Kernel) (e : Effect) → WasWritten before rest k e → WasWritten before (framed (entry.Event number moment) tried rest y) k e
-written_framed number moment tried before rest y k e w =
-    let m = written_more before rest (y ∷ []) k e w in
-    let two : List Entry = wrote_entries m.decision.number m.decision.name e.write m.outcome in
-    record {
-      decision = m.decision;
-      judged = m.judged;
-      outcome = m.outcome;
-      front = entry.Event number moment ∷ (saved_entries tried ++ m.front);
-      back = m.back;
-      at = ap (λ (es : List Entry). entry.Event number moment ∷ (saved_entries tried ++ es)) m.at ∙ ap (λ (es : List Entry). entry.Event number moment ∷ es) (sym (append_assoc (saved_entries tried) m.front (two ++ m.back)));
-      may = m.may;
-      force = ap (λ (ds : List Decision). or_else (last_decision ds m.decision.number) (standing_decision before m.decision.number)) (saved_decisions tried m.front) ∙ m.force;
-      wanted = m.wanted;
-      device = m.device;
-    }
 
 -- a write of an event, behind what was told before it
 written_lifted : (pre : List Entry) (ss : List Standing) (es : List Entry) (k : Kernel) (e : Effect) → Agree [] pre ss → WasWritten ss es k e → WasWritten [] (pre ++ es) k e
@@ -126,7 +113,7 @@ pub record AllWritten (es : List Entry) (first k : Kernel) : Type 0 where
   pub each : (e : Effect) → Has added e → WasWritten [] es k e
 
 -- the standings that a sweep leaves have the verdicts in force
-agree_left : (before : List Standing) (next0 next : ℕ) (rest : List Entry) (after : List Standing) (k : Kernel) → Stand k before next0 → Follow next0 (given_numbers rest) next → ((s : Standing) → Has after s → IsTold before rest s) → Agree before rest after
+agree_left : (before : List Standing) (next0 next : ℕ) (rest : List Entry) (after : List Standing) (k : Kernel) → Stand k before next0 → Follow next0 (told_numbers rest) next → ((s : Standing) → Has after s → IsTold before rest s) → Agree before rest after
 agree_left before next0 next rest after k stood follow told s h =
     let f = fresh (decisions_in rest) next0 next follow in
     elim (told s h) [
@@ -220,18 +207,18 @@ ruling_of policy (r ∷ rs) d (inr h) =
 ruling_has : (rs before after : List Ruling) (r : Ruling) → rs ≡ before ++ r ∷ after → Has rs r
 ruling_has rs before after r at = subst (λ (l : List Ruling). Has l r) (sym at) (has_right before (r ∷ after) r (inl refl))
 
--- what is kept along a run
-pub record SoFar (policy : Judging) (first k : Kernel) (hs : List Happened) (d : DaemonState) : Type 0 where
-  pub stand : Stand k d.sweep.standings d.sweep.next
+-- what is kept along a run, with all entries so far
+pub record SoFar (policy : Judging) (first k : Kernel) (hs : List Happened) (es : List Entry) (w : State Judging) : Type 0 where
+  pub stand : Stand k w.standings w.next
   pub rulings : List Ruling
-  pub told : decisions_in (journal hs) ≡ decisions_by policy rulings
-  pub judge : Alike d.sweep.judge (after_rulings policy rulings)
+  pub told : unordered (decisions_in es) ≡ decisions_by policy rulings
+  pub judge : Alike w.judge (after_rulings policy rulings)
   pub placed : (r : Ruling) → Has rulings r → IsPlaced hs k r
-  pub written : AllWritten (journal hs) first k
-  pub numbers : Follow 1 (given_numbers (journal hs)) d.sweep.next
-  pub agree : Agree [] (journal hs) d.sweep.standings
-  pub listed : d.sweep.listed ≡ has_listed hs
-  pub known : AreKnown (decisions_in (journal hs)) k d.sweep.standings
+  pub ordered : (d : Decision) → Has (decisions_in es) d → is_ordered d.cause ≡ true → WasOrdered hs d
+  pub written : AllWritten es first k
+  pub numbers : Follow 1 (given_numbers es) w.next
+  pub agree : Agree [] es w.standings
+  pub known : AreKnown (decisions_in es) k w.standings
 
 placed_stays : (hs more : List Happened) (k l : Kernel) (r : Ruling) → Grows k l → IsPlaced hs k r → IsPlaced (hs ++ more) l r
 placed_stays hs more k l r g p = record {
@@ -253,27 +240,224 @@ placed_stays hs more k l r g p = record {
   marked = p.marked;
 }
 
-pub moved : (policy : Judging) (first k l : Kernel) (hs : List Happened) (d : DaemonState) → Moves k l → SoFar policy first k hs d → SoFar policy first l hs d
-moved policy first k l hs d m so =
-    let g = quiet_grows k l (moves_quiet k l m) in
+ordered_stays : (hs more : List Happened) (d : Decision) → WasOrdered hs d → WasOrdered (hs ++ more) d
+ordered_stays hs more d o = record {
+  earlier = o.earlier;
+  event = o.event;
+  later = o.later ++ more;
+  in_run = ap (λ (x : List Happened). x ++ more) o.in_run ∙ append_assoc o.earlier (o.event ∷ o.later) more;
+  moment = o.moment;
+  who = o.who;
+  line = o.line;
+  is_order = o.is_order;
+  cause = o.cause;
+  asked = o.asked;
+  granted = o.granted;
+  standing = o.standing;
+  stands = o.stands;
+  name = o.name;
+  held = o.held;
+  in_event = o.in_event;
+}
+
+-- nothing is written, while the run gets longer
+still_so : (policy : Judging) (first k l : Kernel) (hs more : List Happened) (es : List Entry) (w : State Judging) → Quiet k l → SoFar policy first k hs es w → SoFar policy first l (hs ++ more) es w
+still_so policy first k l hs more es w quiet so =
+    let g = quiet_grows k l quiet in
     record {
-      stand = stand_stays k l d.sweep.standings d.sweep.next g so.stand;
+      stand = stand_stays k l w.standings w.next g so.stand;
       rulings = so.rulings;
       told = so.told;
       judge = so.judge;
-      placed = λ r a. subst (λ (x : List Happened). IsPlaced x l r) (append-nil hs) (placed_stays hs [] k l r g (so.placed r a));
-      written = record { added = so.written.added; log = m.log ∙ so.written.log; each = λ e a. written_stays [] (journal hs) k l e g (so.written.each e a) };
+      placed = λ r a. placed_stays hs more k l r g (so.placed r a);
+      ordered = λ d a is. ordered_stays hs more d (so.ordered d a is);
+      written = record { added = so.written.added; log = quiet.log ∙ so.written.log; each = λ e a. written_stays [] es k l e g (so.written.each e a) };
       numbers = so.numbers;
       agree = so.agree;
-      listed = so.listed;
-      known = known_grow (decisions_in (journal hs)) k l d.sweep.standings g so.known;
+      known = known_grow (decisions_in es) k l w.standings g so.known;
     }
 
-placed_new : (hs : List Happened) (h : Happened) (rest : List Entry) (r : Ruling) → h.after.sweep.entries ≡ framed (entry.Event h.before.event (moment_of h.event)) h.tried rest (entry.End h.before.event) → h.before.sweep.listed ≡ has_listed hs
-    → IsAt (not h.before.sweep.listed) (moment_of h.event) h.kernel h.kernel_after h.before.sweep.standings rest r → IsPlaced (hs ++ h ∷ []) h.kernel_after r
+-- entries that tell no decision, and a judge whose context alone is another
+noted_so : (policy : Judging) (first k : Kernel) (hs : List Happened) (es fs : List Entry) (w v : State Judging) → decisions_in fs ≡ [] → v.standings ≡ w.standings → v.next ≡ w.next → Alike v.judge w.judge → SoFar policy first k hs es w → SoFar policy first k hs (es ++ fs) v
+noted_so policy first k hs es fs w v none standings next judge so =
+    let same : decisions_in (es ++ fs) ≡ decisions_in es = decisions_more es fs none in
+    record {
+      stand = subst (λ (n : ℕ). Stand k v.standings n) (sym next) (subst (λ (ss : List Standing). Stand k ss w.next) (sym standings) so.stand);
+      rulings = so.rulings;
+      told = ap (λ (ds : List Decision). unordered ds) same ∙ so.told;
+      judge = λ m. judge m ∙ so.judge m;
+      placed = so.placed;
+      ordered = λ d a is. so.ordered d (subst (λ (ds : List Decision). Has ds d) same a) is;
+      written = record { added = so.written.added; log = so.written.log; each = λ e a. written_more [] es fs k e (so.written.each e a) };
+      numbers = subst (λ (n : ℕ). Follow 1 (given_numbers (es ++ fs)) n) (sym next) (subst (λ (ds : List Decision). Follow 1 (numbers_on (unordered ds)) w.next) (sym same) so.numbers);
+      agree = λ s a. ap (λ (ds : List Decision). or_else (last_decision ds s.number) None) same ∙ so.agree s (subst (λ (ss : List Standing). Has ss s) standings a);
+      known = subst (λ (ss : List Standing). AreKnown (decisions_in (es ++ fs)) k ss) (sym standings) (subst (λ (ds : List Decision). AreKnown ds k w.standings) (sym same) so.known);
+    }
+
+-- a verdict that was ordered is set and told
+
+record OneOrdered (number : ℕ) (verdict : Target) (who : Named) (ss : List Standing) (x s : Standing) : Type 0 where
+  before : Standing
+  has : Has ss before
+  is : ((s.number ≡ number) × (s ≡ with_verdict verdict who x)) ⊎ ((s.number ≡ number → ⊥) × (s ≡ before))
+  same_number : s.number ≡ before.number
+  same_held : s.held ≡ before.held
+
+one_ordered : (number : ℕ) (verdict : Target) (who : Named) (ss : List Standing) (x s : Standing) → AllDistinct (numbers_of ss) → numbered number ss ≡ Some x → Has (with_order number verdict who ss) s → OneOrdered number verdict who ss x s
+one_ordered number verdict who ss x s distinct at a =
+    let m = map_has (ordered_standing number verdict who) ss s a in
+    by_number (nat_eq m.0.number number) m.0 refl m.1 m.2
+  where
+    by_number : (b : Bool) (y : Standing) → nat_eq y.number number ≡ b → Has ss y → ordered_standing number verdict who y ≡ s → OneOrdered number verdict who ss x s
+    by_number true y is has same =
+        let n : y.number ≡ number = grind (arith, is) in
+        let was = numbered_has number ss x at in
+        let one : y ≡ x = distinct_one (λ (v : Standing). v.number) ss y x distinct has was.0 (n ∙ sym was.1) in
+        let now : s ≡ with_verdict verdict who x = sym same ∙ ordered_is number verdict who y n ∙ ap (λ (v : Standing). with_verdict verdict who v) one in
+        record { before = y; has = has; is = inl (ap (λ (v : Standing). v.number) now ∙ was.1, now); same_number = ap (λ (v : Standing). v.number) now ∙ sym (ap (λ (v : Standing). v.number) one); same_held = ap (λ (v : Standing). v.held) now ∙ sym (ap (λ (v : Standing). v.held) one) }
+    by_number false y is has same =
+        let now : s ≡ y = sym same ∙ ordered_other number verdict who y is in
+        record { before = y; has = has; is = inr (λ n. let other : y.number ≡ number = sym (ap (λ (v : Standing). v.number) now) ∙ n in grind (arith, is, other), now); same_number = ap (λ (v : Standing). v.number) now; same_held = ap (λ (v : Standing). v.held) now }
+
+ordered_so : (policy : Judging) (first k : Kernel) (hs : List Happened) (es : List Entry) (w : State Judging) (number : ℕ) (verdict : Target) (who : Named) (x : Standing) → numbered number w.standings ≡ Some x → WasOrdered hs (decision_of (with_verdict verdict who x)) → SoFar policy first k hs es w → SoFar policy first k hs (es ++ verdict_entry (with_verdict verdict who x) ∷ []) (just_ordered number verdict who x w)
+ordered_so policy first k hs es w number verdict who x at was so =
+    let y : Standing = with_verdict verdict who x in
+    let c : Decision = decision_of y in
+    let ds : List Decision = decisions_in es in
+    let ss : List Standing = with_order number verdict who w.standings in
+    let whole : decisions_in (es ++ verdict_entry y ∷ []) ≡ ds ++ c ∷ [] = decisions_append es (verdict_entry y ∷ []) in
+    let same : unordered (decisions_in (es ++ verdict_entry y ∷ [])) ≡ unordered ds = ap (λ (l : List Decision). unordered l) whole ∙ unordered_append ds (c ∷ []) ∙ append-nil (unordered ds) in
+    let numbered_x = numbered_has number w.standings x at in
+    let device = so.stand.devices x numbered_x.0 in
+    record {
+      stand = stand_ordered k w.standings w.next number verdict who so.stand;
+      rulings = so.rulings;
+      told = same ∙ so.told;
+      judge = so.judge;
+      placed = so.placed;
+      ordered = λ d a is. elim (has_cases ds (c ∷ []) d (subst (λ (l : List Decision). Has l d) whole a)) [
+        | inl b ↦ so.ordered d b is
+        | inr b ↦ elim b [ inl e ↦ subst (λ (v : Decision). WasOrdered hs v) e was | inr none ↦ absurd none ]
+      ];
+      written = record { added = so.written.added; log = so.written.log; each = λ e a. written_more [] es (verdict_entry y ∷ []) k e (so.written.each e a) };
+      numbers = subst (λ (l : List Decision). Follow 1 (numbers_on l) w.next) (sym same) so.numbers;
+      agree = λ s a. in_force_append [] es (verdict_entry y ∷ []) s.number ∙ agree_one s (one_ordered number verdict who w.standings x s so.stand.distinct at a) numbered_x.1;
+      known = λ d a. elim (has_cases ds (c ∷ []) d (subst (λ (l : List Decision). Has l d) whole a)) [
+        | inl b ↦ known_ordered d (so.known d b)
+        | inr b ↦ elim b [
+          | inl e ↦ subst (λ (v : Decision). IsKnown ss k v) e (record { i = device.0; judged = x.judged; device = device.1; stands = inl (y, has_ordered number verdict who w.standings x at, refl, refl) })
+          | inr none ↦ absurd none
+        ]
+      ];
+    }
+  where
+    agree_one : (s : Standing) → OneOrdered number verdict who w.standings x s → x.number ≡ number → or_else (last_judged (verdict_entry (with_verdict verdict who x) ∷ []) s.number) (in_force [] es s.number) ≡ Some (decision_of s)
+    agree_one s o n =
+        let c : Decision = decision_of (with_verdict verdict who x) in
+        elim o.is [
+          | inl e ↦ ap (λ (v : Option Decision). or_else v (in_force [] es s.number)) (subst (λ (m : ℕ). on_number m c ≡ Some c) (n ∙ sym e.0) (on_itself c)) ∙ ap (λ (v : Standing). Some (decision_of v)) (sym e.1)
+          | inr e ↦ ap (λ (v : Option Decision). or_else v (in_force [] es s.number)) (on_another s.number c (λ m. e.0 (sym m ∙ n))) ∙ (subst (λ (v : Standing). in_force [] es v.number ≡ Some (decision_of v)) (sym e.1) (so.agree o.before o.has))
+        ]
+
+    known_ordered : (d : Decision) → IsKnown w.standings k d → IsKnown (with_order number verdict who w.standings) k d
+    known_ordered d h = record {
+      i = h.i;
+      judged = h.judged;
+      device = h.device;
+      stands = elim h.stands [
+        | inl s ↦ inl (ordered_standing number verdict who s.0, has_map (ordered_standing number verdict who) w.standings s.0 s.1, s.2, s.3)
+        | inr gone ↦ inr gone
+      ];
+    }
+
+-- a policy orders nothing
+
+kept_given : (on : Bool) → is_ordered (kept on).1 ≡ false
+kept_given true = refl
+kept_given false = refl
+
+cause_given : (was : Bool) → is_ordered (cause_for was) ≡ false
+cause_given true = refl
+cause_given false = refl
+
+rule_given : (implicit : Target) (found : Option RuleEntry) → is_ordered (answer_by implicit found).1 ≡ false
+rule_given implicit None = refl
+rule_given implicit (Some e) = refl
+
+choice_given : (choice : Present) (was on : Bool) (implicit : Target) (found : Found) → is_ordered (by_choice choice was on implicit found).1 ≡ false
+choice_given present.Allow was on implicit found = cause_given was
+choice_given present.Block was on implicit found = cause_given was
+choice_given present.Reject was on implicit found = cause_given was
+choice_given present.Keep was on implicit found = kept_given on
+choice_given present.Apply was on implicit found = rule_given implicit (decider found)
+
+verdict_given : (p : Judging) (records : List DeviceRecord) (judged : Judged) (controller was on : Bool) → is_ordered (verdict_of p records judged controller was on).1 ≡ false
+verdict_given p records (judged.Malformed kind place) controller was on = refl
+verdict_given p records (judged.Good dev) controller was on = choice_given (choice_for p.classes controller was) was on p.classes.implicit (found_for p records dev)
+
+decision_given : (p : Judging) (rs : List Ruling) (d : Decision) → Has (decisions_by p rs) d → is_ordered d.cause ≡ false
+decision_given p rs d h =
+    let x = ruling_of p rs d h in
+    let r : Ruling = x.ruling in
+    ap (λ (v : Decision). is_ordered v.cause) (sym x.is) ∙ verdict_given (at_moment r.moment (after_rulings p x.before)) (allowed_records r.standings) r.judged (is_none (parent_of r.name)) r.present r.on
+
+-- the device of a decision of a sweep
+device_of : (policy : Judging) (rs : List Ruling) (l : Kernel) (d : Decision) → ((r : Ruling) → Has rs r → IsDevice l r.device r.name r.held r.judged) → Has (decisions_by policy rs) d → (i : ℕ) × (judged : Judged) × IsDevice l i d.name d.held judged
+device_of policy rs l d devices h =
+    let x = ruling_of policy rs d h in
+    let r : Ruling = x.ruling in
+    let at = devices r (ruling_has rs x.before x.after r x.at) in
+    (r.device, r.judged, subst (λ (y : Decision). IsDevice l r.device y.name y.held r.judged) x.is at)
+
+-- a sweep, or the writes of an order
+fair_so : (policy : Judging) (first : Kernel) (hs : List Happened) (es : List Entry) (moment : Moment) (present : Bool) (k l : Kernel) (w v : State Judging) → at_moment moment w.judge ≡ w.judge → (fair : IsFair policy_answer policy_later present swept_before k w l v) → ((r : Ruling) → IsAt present moment k l w.standings fair.rest r → IsPlaced hs l r) → SoFar policy first k hs es w → SoFar policy first l hs (es ++ fair.rest) v
+fair_so policy first hs es moment present k l w v at fair placing so =
+    let rest : List Entry = fair.rest in
+    let ss : List Standing = w.standings in
+    let account = subst (λ (j : Judging). Account policy_answer policy_later present swept_before k l ss k.log j w.next rest l.log v.judge v.next) (sym at) fair.account in
+    let x = walk present moment k l ss k.log w.judge w.next so.stand.numbers so.stand.distinct rest l.log v.judge v.next account in
+    let says = account_says policy_answer policy_later present swept_before k l ss k.log w.judge w.next rest l.log v.judge v.next so.stand.numbers fair.account in
+    let plain : (d : Decision) → Has (decisions_in rest) d → is_ordered d.cause ≡ false = λ d a. decision_given w.judge x.rulings d (subst (λ (ds : List Decision). Has ds d) x.told a) in
+    let inner : unordered (decisions_in rest) ≡ decisions_in rest = unordered_all (decisions_in rest) plain in
+    let all : decisions_in (es ++ rest) ≡ decisions_in es ++ decisions_in rest = decisions_append es rest in
+    let given : unordered (decisions_in (es ++ rest)) ≡ unordered (decisions_in es) ++ decisions_in rest = ap (λ (ds : List Decision). unordered ds) all ∙ unordered_append (decisions_in es) (decisions_in rest) ∙ ap (λ (ds : List Decision). unordered (decisions_in es) ++ ds) inner in
+    let known : AreKnown (decisions_in es ++ decisions_in rest) l v.standings = λ c a. elim (has_cases (decisions_in es) (decisions_in rest) c a) [
+      | inl b ↦ known_still (decisions_in es) k l ss v.standings w.next rest v.next fair.grows so.stand says fair.left so.known c b
+      | inr b ↦ known_new k l ss v.standings w.next rest v.next so.stand says fair.left (λ e i. device_of w.judge x.rulings l e (λ r z. (x.placed r z).device) (subst (λ (ds : List Decision). Has ds e) x.told i)) c b
+    ] in
+    record {
+      stand = fair.stand;
+      rulings = so.rulings ++ x.rulings;
+      told = given ∙ ap (λ (ds : List Decision). ds ++ decisions_in rest) so.told ∙ ap (λ (ds : List Decision). decisions_by policy so.rulings ++ ds) (x.told ∙ alike_decisions w.judge (after_rulings policy so.rulings) x.rulings so.judge) ∙ sym (decisions_then policy so.rulings x.rulings);
+      judge = λ m. ap (λ (j : Judging). at_moment m j) x.judge_is ∙ alike_after w.judge (after_rulings policy so.rulings) x.rulings so.judge m ∙ ap (λ (j : Judging). at_moment m j) (sym (after_append policy so.rulings x.rulings));
+      placed = λ r a. elim (has_cases so.rulings x.rulings r a) [
+        | inl b ↦ placed_same hs k l r fair.grows (so.placed r b)
+        | inr b ↦ placing r (x.placed r b)
+      ];
+      ordered = λ d a is. elim (has_cases (decisions_in es) (decisions_in rest) d (subst (λ (ds : List Decision). Has ds d) all a)) [
+        | inl b ↦ so.ordered d b is
+        | inr b ↦ (let other = plain d b in let none : ⊥ = cc in absurd none)
+      ];
+      written = record {
+        added = so.written.added ++ x.added;
+        log = x.log_is ∙ ap (λ (ws : List Effect). ws ++ x.added) so.written.log ∙ append_assoc first.log so.written.added x.added;
+        each = λ e a. elim (has_cases so.written.added x.added e a) [
+          | inl b ↦ written_more [] es rest l e (written_stays [] es k l e fair.grows (so.written.each e b))
+          | inr b ↦ written_lifted es ss rest l e so.agree (x.each e b)
+        ];
+      };
+      numbers = subst (λ (ds : List Decision). Follow 1 (numbers_on ds) v.next) (sym given) (subst (λ (ns : List ℕ). Follow 1 ns v.next) (sym (numbers_append (unordered (decisions_in es)) (decisions_in rest))) (follow_append 1 (given_numbers es) (told_numbers rest) w.next v.next so.numbers x.numbers));
+      agree = lift_agree es ss v.standings rest so.agree (agree_left ss w.next v.next rest v.standings k so.stand x.numbers fair.left.told);
+      known = subst (λ (ds : List Decision). AreKnown ds l v.standings) (sym all) known;
+    }
+  where
+    placed_same : (hs : List Happened) (k l : Kernel) (r : Ruling) → Grows k l → IsPlaced hs k r → IsPlaced hs l r
+    placed_same hs k l r g p = subst (λ (x : List Happened). IsPlaced x l r) (append-nil hs) (placed_stays hs [] k l r g p)
+
+placed_new : (hs : List Happened) (h : Happened) (rest : List Entry) (r : Ruling) → h.after.sweep.entries ≡ h.answered.sweep.entries ++ (rest ++ entry.End h.answered.event ∷ []) → h.answered.sweep.listed ≡ has_listed hs
+    → IsAt (not h.answered.sweep.listed) (moment_of h.event) h.kernel_answered h.kernel_after h.answered.sweep.standings rest r → IsPlaced (hs ++ h ∷ []) h.kernel_after r
 placed_new hs h rest r entries listed p =
-    let x : Entry = entry.Event h.before.event (moment_of h.event) in
-    let y : Entry = entry.End h.before.event in
+    let y : Entry = entry.End h.answered.event in
     let this : Entry = entry.Judged r.number r.name r.held p.verdict p.cause in
     record {
       earlier = hs;
@@ -284,7 +468,7 @@ placed_new hs h rest r entries listed p =
       back = p.back ++ y ∷ [];
       verdict = p.verdict;
       cause = p.cause;
-      in_event = entries ∙ ap (λ (es : List Entry). framed x h.tried es y) p.at ∙ ap (λ (es : List Entry). x ∷ (saved_entries h.tried ++ es)) (append_assoc p.front (this ∷ p.back) (y ∷ []));
+      in_event = entries ∙ ap (λ (es : List Entry). h.answered.sweep.entries ++ (es ++ y ∷ [])) p.at ∙ ap (λ (es : List Entry). h.answered.sweep.entries ++ es) (append_assoc p.front (this ∷ p.back) (y ∷ []));
       moment = p.moment_is;
       present = p.present_is ∙ ap (λ (b : Bool). not b) listed;
       device = p.device;
@@ -294,79 +478,151 @@ placed_new hs h rest r entries listed p =
       marked = p.marked;
     }
 
--- the device of a decision of a sweep
-device_of : (policy : Judging) (rs : List Ruling) (l : Kernel) (d : Decision) → ((r : Ruling) → Has rs r → IsDevice l r.device r.name r.held r.judged) → Has (decisions_by policy rs) d → (i : ℕ) × (judged : Judged) × IsDevice l i d.name d.held judged
-device_of policy rs l d devices h =
-    let x = ruling_of policy rs d h in
-    let r : Ruling = x.ruling in
-    let at = devices r (ruling_has rs x.before x.after r x.at) in
-    (r.device, r.judged, subst (λ (y : Decision). IsDevice l r.device y.name y.held r.judged) x.is at)
+-- ---- one event
 
--- one event more
-pub one_more : (policy : Judging) (first : Kernel) (hs : List Happened) (h : Happened) → Handled h.kernel (ready_of h) h.kernel_after h.after → SoFar policy first h.kernel hs h.before → SoFar policy first h.kernel_after (hs ++ h ∷ []) h.after
-one_more policy first hs h law so =
-    let k : Kernel = h.kernel in
-    let l : Kernel = h.kernel_after in
-    let moment : Moment = moment_of h.event in
-    let d : DaemonState = h.before in
-    let v : State Judging = law.swept in
-    let fair = law.law.fair in
-    let rest : List Entry = fair.rest in
-    let x : Entry = entry.Event d.event moment in
-    let y : Entry = entry.End d.event in
-    let present : Bool = not d.sweep.listed in
-    let ss : List Standing = d.sweep.standings in
-    let w = walk present moment k l ss k.log d.sweep.judge d.sweep.next so.stand.numbers so.stand.distinct rest l.log v.judge v.next fair.account in
-    let says = account_says policy_answer policy_later present swept_before k l ss k.log (at_moment moment d.sweep.judge) d.sweep.next rest l.log v.judge v.next so.stand.numbers fair.account in
-    let entries : h.after.sweep.entries ≡ framed x h.tried rest y = ap (λ (z : State Judging). z.entries) law.entries ∙ ap (λ (es : List Entry). es ++ y ∷ []) fair.entries ∙ ap (λ (es : List Entry). x ∷ es) (append_assoc (saved_entries h.tried) rest (y ∷ [])) in
-    let judges : h.after.sweep.judge ≡ at_moment moment (after_rulings d.sweep.judge w.rulings) = ap (λ (z : State Judging). z.judge) law.entries ∙ w.judge_is in
-    let standings : h.after.sweep.standings ≡ v.standings = ap (λ (z : State Judging). z.standings) law.entries in
-    let next : h.after.sweep.next ≡ v.next = ap (λ (z : State Judging). z.next) law.entries in
-    let whole : journal (hs ++ h ∷ []) ≡ journal hs ++ framed x h.tried rest y = journal_append hs (h ∷ []) ∙ ap (λ (es : List Entry). journal hs ++ es) (append-nil h.after.sweep.entries ∙ entries) in
-    let inner : decisions_in (framed x h.tried rest y) ≡ decisions_in rest = saved_decisions h.tried (rest ++ y ∷ []) ∙ decisions_more rest (y ∷ []) refl in
-    let all : decisions_in (journal (hs ++ h ∷ [])) ≡ decisions_in (journal hs) ++ decisions_in rest =
-    ap (λ (es : List Entry). decisions_in es) whole
-    ∙ decisions_append (journal hs) (framed x h.tried rest y)
-    ∙ ap (λ (ds : List Decision). decisions_in (journal hs) ++ ds) inner in
-    let agreed : Agree ss (framed x h.tried rest y) v.standings = λ s a. ap (λ (ds : List Decision). or_else (last_decision ds s.number) (standing_decision ss s.number)) inner ∙ agree_left ss d.sweep.next v.next rest v.standings k so.stand w.numbers fair.left.told s a in
-    let known : AreKnown (decisions_in (journal hs) ++ decisions_in rest) l v.standings = λ c a. elim (has_cases (decisions_in (journal hs)) (decisions_in rest) c a) [
-      | inl b ↦ known_still (decisions_in (journal hs)) k l ss v.standings d.sweep.next rest v.next fair.grows so.stand says fair.left so.known c b
-      | inr b ↦ known_new k l ss v.standings d.sweep.next rest v.next so.stand says fair.left (λ e i. device_of d.sweep.judge w.rulings l e (λ r z. (w.placed r z).device) (subst (λ (ds : List Decision). Has ds e) w.told i)) c b
-    ] in
-    record {
-      stand = subst (λ (z : State Judging). Stand l z.standings z.next) (sym law.entries) fair.stand;
-      rulings = so.rulings ++ w.rulings;
-      told = all ∙ ap (λ (ds : List Decision). ds ++ decisions_in rest) so.told ∙ ap (λ (ds : List Decision). decisions_by policy so.rulings ++ ds) (w.told ∙ alike_decisions d.sweep.judge (after_rulings policy so.rulings) w.rulings so.judge) ∙ sym (decisions_then policy so.rulings w.rulings);
-      judge = λ m. ap (λ (j : Judging). at_moment m j) judges ∙ alike_after d.sweep.judge (after_rulings policy so.rulings) w.rulings so.judge m ∙ ap (λ (j : Judging). at_moment m j) (sym (after_append policy so.rulings w.rulings));
-      placed = λ r a. elim (has_cases so.rulings w.rulings r a) [
-        | inl b ↦ placed_stays hs (h ∷ []) k l r fair.grows (so.placed r b)
-        | inr b ↦ placed_new hs h rest r entries so.listed (w.placed r b)
-      ];
-      written = record {
-        added = so.written.added ++ w.added;
-        log = w.log_is ∙ ap (λ (es : List Effect). es ++ w.added) so.written.log ∙ append_assoc first.log so.written.added w.added;
-        each = λ e a. subst (λ (es : List Entry). WasWritten [] es l e) (sym whole) (elim (has_cases so.written.added w.added e a) [
-          | inl b ↦ written_more [] (journal hs) (framed x h.tried rest y) l e (written_stays [] (journal hs) k l e fair.grows (so.written.each e b))
-          | inr b ↦ written_lifted (journal hs) ss (framed x h.tried rest y) l e so.agree (written_framed d.event moment h.tried ss rest y l e (w.each e b))
-        ]);
-      };
-      numbers = subst (λ (n : ℕ). Follow 1 (given_numbers (journal (hs ++ h ∷ []))) n) (sym next) (subst (λ (ds : List Decision). Follow 1 (numbers_on ds) v.next) (sym all) (subst (λ (ns : List ℕ). Follow 1 ns v.next) (sym (numbers_append (decisions_in (journal hs)) (decisions_in rest))) (follow_append 1 (given_numbers (journal hs)) (given_numbers rest) d.sweep.next v.next so.numbers w.numbers)));
-      agree = subst (λ (zs : List Standing). Agree [] (journal (hs ++ h ∷ [])) zs) (sym standings) (subst (λ (es : List Entry). Agree [] es v.standings) (sym whole) (lift_agree (journal hs) ss v.standings (framed x h.tried rest y) so.agree agreed));
-      listed = ap (λ (z : State Judging). z.listed) law.entries
-          ∙ listed_after rest d.sweep.listed v.listed law.law.listed
-          ∙ ap (λ (b : Bool). not b || d.sweep.listed) (sym (ap (λ (es : List Entry). list_any tells_unlisted es) entries ∙ saved_listings h.tried (rest ++ y ∷ []) ∙ any_append rest (y ∷ []) refl))
-          ∙ ap (λ (b : Bool). not (list_any tells_unlisted h.after.sweep.entries) || b) so.listed
-          ∙ sym (listed_append hs h);
-      known = subst (λ (zs : List Standing). AreKnown (decisions_in (journal (hs ++ h ∷ []))) l zs) (sym standings) (subst (λ (ds : List Decision). AreKnown ds l v.standings) (sym all) known);
-    }
+-- the first entry and that of a save tell no decision, and nothing of a listing
 
-pub along : (policy : Judging) (first : Kernel) (done hs : List Happened) (k : Kernel) (o : Option Disk) (d : DaemonState) (l : Kernel) (p : Option Disk) (e : DaemonState) → Chain k o d hs l p e → SoFar policy first k done d → SoFar policy first l (done ++ hs) e
-along policy first done [] k o d l p e c so = subst (λ (x : DaemonState). SoFar policy first l (done ++ []) x) (sym c.2) (subst (λ (x : List Happened). SoFar policy first l x d) (sym (append-nil done)) (moved policy first k l done d c.0 so))
-along policy first done (h ∷ hs) k o d l p e c so =
-    let start = subst (λ (x : DaemonState). SoFar policy first h.kernel done x) (sym c.2) (moved policy first k h.kernel done d c.0 so) in
-    subst (λ (x : List Happened). SoFar policy first l x e) (append_assoc done (h ∷ []) hs) (along policy first (done ++ h ∷ []) hs h.kernel_after h.disk_after h.after l p e c.4 (one_more policy first done h c.3.handled start))
+first_decisions : (number : ℕ) (event : Event) (tried : Option Saved) → decisions_in (first_entry number event ∷ saved_entries tried) ≡ []
+first_decisions number (Sweep moment) None = refl
+first_decisions number (Sweep moment) (Some saved) = refl
+first_decisions number (Order moment who line) None = refl
+first_decisions number (Order moment who line) (Some saved) = refl
 
-pub started_so : (policy : Judging) (number : ℕ) (k : Kernel) (d : DaemonState) → IsStarted policy number d → SoFar policy k k [] d
+first_listings : (number : ℕ) (event : Event) (tried : Option Saved) → list_any tells_unlisted (first_entry number event ∷ saved_entries tried) ≡ false
+first_listings number (Sweep moment) None = refl
+first_listings number (Sweep moment) (Some saved) = refl
+first_listings number (Order moment who line) None = refl
+first_listings number (Order moment who line) (Some saved) = refl
+
+-- nor do an order's own entries tell of a listing
+rest_listings : (name : List ℕ) (es : List Entry) → AllBear name es → list_any tells_unlisted es ≡ false
+rest_listings name [] h = refl
+rest_listings name (entry.UnsettledAll why ∷ es) h = absurd h.0
+rest_listings name (e ∷ es) h = rest_listings name es h.1
+
+any_front : (es fs : List Entry) → list_any tells_unlisted es ≡ false → list_any tells_unlisted (es ++ fs) ≡ list_any tells_unlisted fs
+any_front [] fs none = refl
+any_front (e ∷ es) fs none = by_first (tells_unlisted e) none (any_front es fs)
+  where
+    by_first : (b : Bool) → (b || list_any tells_unlisted es) ≡ false → (list_any tells_unlisted es ≡ false → list_any tells_unlisted (es ++ fs) ≡ list_any tells_unlisted fs) → (b || list_any tells_unlisted (es ++ fs)) ≡ list_any tells_unlisted fs
+    by_first true h rest = let no_one : ⊥ = cc in absurd no_one
+    by_first false h rest = rest h
+
+-- what holds where the sweep begins
+record Behind (policy : Judging) (first : Kernel) (hs : List Happened) (h : Happened) : Type 0 where
+  so : SoFar policy first h.kernel_answered (hs ++ h ∷ []) (journal hs ++ h.answered.sweep.entries) h.answered.sweep
+  at : at_moment (moment_of h.event) h.answered.sweep.judge ≡ h.answered.sweep.judge
+  listed : h.answered.sweep.listed ≡ h.before.sweep.listed
+  silent : list_any tells_unlisted h.answered.sweep.entries ≡ false
+
+module _ (policy : Judging) (first : Kernel) (hs : List Happened) (h : Happened) where
+  -- from a state with these entries
+  behind_of : (a : DaemonState) → h.answered ≡ a → SoFar policy first h.kernel_answered (hs ++ h ∷ []) (journal hs ++ a.sweep.entries) a.sweep → at_moment (moment_of h.event) a.sweep.judge ≡ a.sweep.judge → a.sweep.listed ≡ h.before.sweep.listed → list_any tells_unlisted a.sweep.entries ≡ false → Behind policy first hs h
+  behind_of a is so at listed silent =
+      subst (λ (x : DaemonState). SoFar policy first h.kernel_answered (hs ++ h ∷ []) (journal hs ++ x.sweep.entries) x.sweep → at_moment (moment_of h.event) x.sweep.judge ≡ x.sweep.judge → x.sweep.listed ≡ h.before.sweep.listed → list_any tells_unlisted x.sweep.entries ≡ false → Behind policy first hs h) is
+      (λ b c d e. record { so = b; at = c; listed = d; silent = e }) so at listed silent
+
+  -- the reply
+  replied_so : (k : Kernel) (w : State Judging) (answer : Result (Unit {0}) Refusal) → SoFar policy first k (hs ++ h ∷ []) (journal hs ++ w.entries) w → SoFar policy first k (hs ++ h ∷ []) (journal hs ++ (w.entries ++ entry.Reply answer ∷ [])) (record w { entries = w.entries ++ entry.Reply answer ∷ [] })
+  replied_so k w answer so = subst (λ (es : List Entry). SoFar policy first k (hs ++ h ∷ []) es (record w { entries = w.entries ++ entry.Reply answer ∷ [] })) (append_assoc (journal hs) w.entries (entry.Reply answer ∷ [])) (noted_so policy first k (hs ++ h ∷ []) (journal hs ++ w.entries) (entry.Reply answer ∷ []) w (record w { entries = w.entries ++ entry.Reply answer ∷ [] }) refl refl refl (λ m. refl) so)
+
+  behind_order : (moment : Moment) (who : Named) (line : List ℕ) → h.event ≡ Order moment who line → list_any tells_unlisted (ready_of h).sweep.entries ≡ false → SoFar policy first h.kernel (hs ++ h ∷ []) (journal hs ++ (ready_of h).sweep.entries) (ready_of h).sweep → RefusesOrder h.kernel (ready_of h) h.kernel_answered h.answered ⊎ CarriesOut who line h.kernel (ready_of h) h.kernel_answered h.answered → Behind policy first hs h
+  behind_order moment who line is silent so (inl r) =
+      let d : DaemonState = ready_of h in
+      let still = subst (λ (x : List Happened). SoFar policy first h.kernel_answered x (journal hs ++ d.sweep.entries) d.sweep) (append-nil (hs ++ h ∷ [])) (still_so policy first h.kernel h.kernel_answered (hs ++ h ∷ []) [] (journal hs ++ d.sweep.entries) d.sweep r.quiet so) in
+      behind_of (noting (entry.Reply (Err r.refused)) d) r.state (replied_so h.kernel_answered d.sweep (Err r.refused) still) refl refl (any_append d.sweep.entries (entry.Reply (Err r.refused) ∷ []) refl ∙ silent)
+  behind_order moment who line is silent so (inr c) =
+      let d : DaemonState = ready_of h in
+      let w : State Judging = d.sweep in
+      let y : Standing = with_verdict c.verdict who c.standing in
+      let told : Entry = verdict_entry y in
+      let v : State Judging = with_kept w c.kept in
+      let one = numbered_has c.number w.standings c.standing c.stands in
+      let fair = c.law.fair policy_answer policy_later false swept_before in
+      let rest : c.rest ≡ fair.rest = cancel (w.entries ++ told ∷ []) c.rest fair.rest (append_assoc w.entries (told ∷ []) c.rest ∙ sym c.entries ∙ fair.entries) in
+      let inside : h.answered.sweep.entries ≡ w.entries ++ told ∷ (c.rest ++ entry.Reply (answer_to c.how) ∷ []) = ap (λ (x : DaemonState). x.sweep.entries) c.state ∙ ap (λ (es : List Entry). es ++ entry.Reply (answer_to c.how) ∷ []) c.entries ∙ append_assoc w.entries (told ∷ c.rest) (entry.Reply (answer_to c.how) ∷ []) in
+      let was : WasOrdered (hs ++ h ∷ []) (decision_of y) = record {
+        earlier = hs;
+        event = h;
+        later = [];
+        in_run = refl;
+        moment = moment;
+        who = who;
+        line = line;
+        is_order = is;
+        cause = refl;
+        asked = c.asked ∙ ap (λ (n : ℕ). Ok (request.Device n c.verdict false)) (sym one.1);
+        granted = c.granted;
+        standing = c.standing;
+        stands = ap (λ (n : ℕ). numbered n w.standings) one.1 ∙ c.stands;
+        name = refl;
+        held = refl;
+        in_event = subst (λ (es : List Entry). Has es told) (sym inside) (has_right w.entries (told ∷ (c.rest ++ entry.Reply (answer_to c.how) ∷ [])) told (inl refl));
+      } in
+      let probed = subst (λ (x : List Happened). SoFar policy first c.middle x (journal hs ++ w.entries) w) (append-nil (hs ++ h ∷ [])) (still_so policy first h.kernel c.middle (hs ++ h ∷ []) [] (journal hs ++ w.entries) w c.probed.quiet so) in
+      let set = ordered_so policy first c.middle (hs ++ h ∷ []) (journal hs ++ w.entries) w c.number c.verdict who c.standing c.stands was probed in
+      let none : decisions_in fair.rest ≡ [] = subst (λ (es : List Entry). decisions_in es ≡ []) rest (given_none c.rest c.given) in
+      let written = fair_so policy first (hs ++ h ∷ []) ((journal hs ++ w.entries) ++ told ∷ []) (moment_of h.event) false c.middle h.kernel_answered (just_ordered c.number c.verdict who c.standing w) v refl fair (λ r p. no_ruling fair.rest r none p) set in
+      let same : ((journal hs ++ w.entries) ++ told ∷ []) ++ fair.rest ≡ journal hs ++ v.entries = append_assoc (journal hs ++ w.entries) (told ∷ []) fair.rest ∙ append_assoc (journal hs) w.entries (told ∷ fair.rest) ∙ ap (λ (es : List Entry). journal hs ++ es) (sym (fair.entries ∙ append_assoc w.entries (told ∷ []) fair.rest)) in
+      behind_of (answered_with d (c.how, c.kept)) c.state
+      (replied_so h.kernel_answered v (answer_to c.how) (subst (λ (es : List Entry). SoFar policy first h.kernel_answered (hs ++ h ∷ []) es v) same written))
+      refl
+      refl
+      (any_append c.kept.entries (entry.Reply (answer_to c.how) ∷ []) refl ∙ ap (λ (es : List Entry). list_any tells_unlisted es) c.entries ∙ any_front w.entries (told ∷ c.rest) silent ∙ rest_listings c.standing.name c.rest c.bears)
+    where
+      given_none : (es : List Entry) → numbers_given es ≡ [] → decisions_in es ≡ []
+      given_none [] g = refl
+      given_none (entry.Judged number name held verdict why ∷ es) g = let none : ⊥ = cc in absurd none
+      given_none (e ∷ es) g = given_none es g
+
+      no_ruling : (es : List Entry) (r : Ruling) → decisions_in es ≡ [] → IsAt false (moment_of h.event) c.middle h.kernel_answered (with_order c.number c.verdict who (ready_of h).sweep.standings) es r → IsPlaced (hs ++ h ∷ []) h.kernel_answered r
+      no_ruling es r none p =
+          let there : Has (decisions_in es) (record { number = r.number; name = r.name; held = r.held; verdict = p.verdict; cause = p.cause }) = has_decision es r.number r.name r.held p.verdict p.cause (subst (λ (x : List Entry). Has x (entry.Judged r.number r.name r.held p.verdict p.cause)) (sym p.at) (has_right p.front (entry.Judged r.number r.name r.held p.verdict p.cause ∷ p.back) (entry.Judged r.number r.name r.held p.verdict p.cause) (inl refl))) in
+          absurd (subst (λ (ds : List Decision). Has ds (record { number = r.number; name = r.name; held = r.held; verdict = p.verdict; cause = p.cause })) none there)
+
+  behind_event : (event : Event) → h.event ≡ event → list_any tells_unlisted (ready_of h).sweep.entries ≡ false → SoFar policy first h.kernel (hs ++ h ∷ []) (journal hs ++ (ready_of h).sweep.entries) (ready_of h).sweep → AnswersEvent event h.kernel (ready_of h) h.kernel_answered h.answered → Behind policy first hs h
+  behind_event (Sweep moment) is silent so a = behind_of (ready_of h) a.1 (subst (λ (k : Kernel). SoFar policy first k (hs ++ h ∷ []) (journal hs ++ (ready_of h).sweep.entries) (ready_of h).sweep) (sym a.0) so) refl refl silent
+  behind_event (Order moment who line) is silent so a = behind_order moment who line is silent so a
+
+  -- the whole event
+  one_more : AnswersEvent h.event h.kernel (ready_of h) h.kernel_answered h.answered → Handled h.kernel_answered h.answered h.kernel_after h.after → h.before.sweep.listed ≡ has_listed hs → SoFar policy first h.kernel hs (journal hs) h.before.sweep → SoFar policy first h.kernel_after (hs ++ h ∷ []) (journal (hs ++ h ∷ [])) h.after.sweep × (h.after.sweep.listed ≡ has_listed (hs ++ h ∷ []))
+  one_more answers law listed so =
+      let longer = still_so policy first h.kernel h.kernel hs (h ∷ []) (journal hs) h.before.sweep (quiet_refl h.kernel) so in
+      let begun = noted_so policy first h.kernel (hs ++ h ∷ []) (journal hs) (ready_of h).sweep.entries h.before.sweep (ready_of h).sweep (first_decisions h.before.event h.event h.tried) refl refl (λ m. refl) longer in
+      let b = behind_event h.event refl (first_listings h.before.event h.event h.tried) begun answers in
+      let a : State Judging = h.answered.sweep in
+      let v : State Judging = law.swept in
+      let fair = law.law.fair in
+      let y : Entry = entry.End h.answered.event in
+      let entries : h.after.sweep.entries ≡ a.entries ++ (fair.rest ++ y ∷ []) = ap (λ (z : State Judging). z.entries) law.entries ∙ ap (λ (es : List Entry). es ++ y ∷ []) fair.entries ∙ append_assoc a.entries fair.rest (y ∷ []) in
+      let whole : (((journal hs ++ a.entries) ++ fair.rest) ++ y ∷ []) ≡ journal (hs ++ h ∷ []) =
+      append_assoc (journal hs ++ a.entries) fair.rest (y ∷ [])
+      ∙ append_assoc (journal hs) a.entries (fair.rest ++ y ∷ [])
+      ∙ ap (λ (es : List Entry). journal hs ++ es) (sym entries ∙ sym (append-nil h.after.sweep.entries))
+      ∙ sym (journal_append hs (h ∷ [])) in
+      let swept = fair_so policy first (hs ++ h ∷ []) (journal hs ++ a.entries) (moment_of h.event) (not a.listed) h.kernel_answered h.kernel_after a v b.at fair (λ r p. placed_new hs h fair.rest r entries (b.listed ∙ listed) p) b.so in
+      let last = noted_so policy first h.kernel_after (hs ++ h ∷ []) ((journal hs ++ a.entries) ++ fair.rest) (y ∷ []) v h.after.sweep refl (ap (λ (z : State Judging). z.standings) law.entries) (ap (λ (z : State Judging). z.next) law.entries) (λ m. ap (λ (z : State Judging). at_moment m z.judge) law.entries) swept in (
+        subst (λ (es : List Entry). SoFar policy first h.kernel_after (hs ++ h ∷ []) es h.after.sweep) whole last,
+        ap (λ (z : State Judging). z.listed) law.entries
+        ∙ listed_after fair.rest a.listed v.listed law.law.listed
+        ∙ ap (λ (t : Bool). not t || a.listed) (sym (ap (λ (es : List Entry). list_any tells_unlisted es) entries ∙ any_front a.entries (fair.rest ++ y ∷ []) b.silent ∙ any_append fair.rest (y ∷ []) refl))
+        ∙ ap (λ (t : Bool). not (list_any tells_unlisted h.after.sweep.entries) || t) (b.listed ∙ listed)
+        ∙ sym (listed_append hs h),
+      )
+
+moved : (policy : Judging) (first k l : Kernel) (hs : List Happened) (w : State Judging) → Moves k l → SoFar policy first k hs (journal hs) w → SoFar policy first l hs (journal hs) w
+moved policy first k l hs w m so = subst (λ (x : List Happened). SoFar policy first l x (journal hs) w) (append-nil hs) (still_so policy first k l hs [] (journal hs) w (moves_quiet k l m) so)
+
+pub along : (policy : Judging) (first : Kernel) (done hs : List Happened) (k : Kernel) (o : Option Disk) (d : DaemonState) (l : Kernel) (p : Option Disk) (e : DaemonState) → Chain k o d hs l p e → d.sweep.listed ≡ has_listed done → SoFar policy first k done (journal done) d.sweep → SoFar policy first l (done ++ hs) (journal (done ++ hs)) e.sweep × (e.sweep.listed ≡ has_listed (done ++ hs))
+along policy first done [] k o d l p e c listed so =
+    subst (λ (x : DaemonState). SoFar policy first l (done ++ []) (journal (done ++ [])) x.sweep × (x.sweep.listed ≡ has_listed (done ++ []))) (sym c.2)
+    (subst (λ (x : List Happened). SoFar policy first l x (journal x) d.sweep × (d.sweep.listed ≡ has_listed x)) (sym (append-nil done)) (moved policy first k l done d.sweep c.0 so, listed))
+along policy first done (h ∷ hs) k o d l p e c listed so =
+    let start = subst (λ (x : DaemonState). SoFar policy first h.kernel done (journal done) x.sweep) (sym c.2) (moved policy first k h.kernel done d.sweep c.0 so) in
+    let more = one_more policy first done h c.3.answers c.3.handled (ap (λ (x : DaemonState). x.sweep.listed) c.2 ∙ listed) start in
+    subst (λ (x : List Happened). SoFar policy first l x (journal x) e.sweep × (e.sweep.listed ≡ has_listed x)) (append_assoc done (h ∷ []) hs) (along policy first (done ++ h ∷ []) hs h.kernel_after h.disk_after h.after l p e c.4 more.1 more.0)
+
+pub started_so : (policy : Judging) (number : ℕ) (k : Kernel) (d : DaemonState) → IsStarted policy number d → SoFar policy k k [] [] d.sweep
 started_so policy number k d s =
     let none : (x : Standing) → Has d.sweep.standings x → ⊥ = λ x a. subst (λ (ss : List Standing). Has ss x) s.standings a in
     record {
@@ -375,35 +631,39 @@ started_so policy number k d s =
       told = refl;
       judge = λ m. ap (λ (j : Judging). at_moment m j) s.judge;
       placed = λ r a. absurd a;
+      ordered = λ c a is. absurd a;
       written = record { added = []; log = sym (append-nil k.log); each = λ e a. absurd a };
       numbers = s.next;
       agree = λ x a. absurd (none x a);
-      listed = s.listed;
       known = λ c a. absurd a;
     }
 
 -- a decision that was told, on the device of its held file
-judged_on : (policy : Judging) (first k : Kernel) (hs : List Happened) (e : DaemonState) (so : SoFar policy first k hs e) (d : Decision) (i : ℕ) → Has (decisions_in (journal hs)) d → slice_get k.held d.held.0 ≡ Some (record { device = i; control = Authorized }) → WasJudged policy hs so.rulings k i d
-judged_on policy first k hs e so d i h file =
-    let x = ruling_of policy so.rulings d (subst (λ (ds : List Decision). Has ds d) so.told h) in
-    let r : Ruling = x.ruling in
-    let p = so.placed r (ruling_has so.rulings x.before x.after r x.at) in
-    let held : r.held ≡ d.held = ap (λ (y : Decision). y.held) x.is in
-    let there : slice_get k.held r.held.0 ≡ Some (record { device = i; control = Authorized }) = subst (λ (y : Held). slice_get k.held y.0 ≡ Some (record { device = i; control = Authorized })) (sym held) file in
-    let q : Judging = after_rulings policy x.before in
-    let said : ruling_answer q r ≡ (d.verdict, d.cause) = ap (λ (y : Decision). (y.verdict, y.cause)) x.is in
-    record {
-      before = x.before;
-      ruling = r;
-      after = x.after;
-      at = x.at;
-      number = ap (λ (y : Decision). y.number) x.is;
-      name = ap (λ (y : Decision). y.name) x.is;
-      held = held;
-      device = same_device k r.held.0 r.device i p.device.file there;
-      placed = p;
-      given = is_verdict (at_moment r.moment q) (allowed_records r.standings) r.judged (is_none (parent_of r.name)) r.present r.on d.verdict d.cause said;
-    }
+decided_on : (policy : Judging) (first k : Kernel) (hs : List Happened) (w : State Judging) (so : SoFar policy first k hs (journal hs) w) (d : Decision) (i : ℕ) → Has (decisions_in (journal hs)) d → slice_get k.held d.held.0 ≡ Some (record { device = i; control = Authorized }) → WasDecided policy hs so.rulings k i d
+decided_on policy first k hs w so d i h file = by_cause (is_ordered d.cause) refl
+  where
+    by_cause : (b : Bool) → is_ordered d.cause ≡ b → WasDecided policy hs so.rulings k i d
+    by_cause true is = inr (so.ordered d h is, file)
+    by_cause false is =
+        let x = ruling_of policy so.rulings d (subst (λ (ds : List Decision). Has ds d) so.told (unordered_has (decisions_in (journal hs)) d is h)) in
+        let r : Ruling = x.ruling in
+        let p = so.placed r (ruling_has so.rulings x.before x.after r x.at) in
+        let held : r.held ≡ d.held = ap (λ (y : Decision). y.held) x.is in
+        let there : slice_get k.held r.held.0 ≡ Some (record { device = i; control = Authorized }) = subst (λ (y : Held). slice_get k.held y.0 ≡ Some (record { device = i; control = Authorized })) (sym held) file in
+        let q : Judging = after_rulings policy x.before in
+        let said : ruling_answer q r ≡ (d.verdict, d.cause) = ap (λ (y : Decision). (y.verdict, y.cause)) x.is in
+        inl (record {
+          before = x.before;
+          ruling = r;
+          after = x.after;
+          at = x.at;
+          number = ap (λ (y : Decision). y.number) x.is;
+          name = ap (λ (y : Decision). y.name) x.is;
+          held = held;
+          device = same_device k r.held.0 r.device i p.device.file there;
+          placed = p;
+          given = is_verdict (at_moment r.moment q) (allowed_records r.standings) r.judged (is_none (parent_of r.name)) r.present r.on d.verdict d.cause said;
+        })
 
 -- the verdict in force is one that was told
 force_told : (es front back : List Entry) (n : ℕ) (d : Decision) → es ≡ front ++ back → in_force [] front n ≡ Some d → Has (decisions_in es) d
@@ -411,8 +671,8 @@ force_told es front back n d at force =
     let last : last_decision (decisions_in front) n ≡ Some d = sym (or_else_none (last_decision (decisions_in front) n)) ∙ force in
     subst (λ (ds : List Decision). Has ds d) (sym (ap (λ (x : List Entry). decisions_in x) at ∙ decisions_append front back)) (has_left (decisions_in front) (decisions_in back) d (last_has (decisions_in front) n d last).0)
 
-explained : (policy : Judging) (first k : Kernel) (hs : List Happened) (e : DaemonState) (so : SoFar policy first k hs e) (effect : Effect) → WasWritten [] (journal hs) k effect → IsExplained policy hs so.rulings k effect
-explained policy first k hs e so effect w =
+explained : (policy : Judging) (first k : Kernel) (hs : List Happened) (v : State Judging) (so : SoFar policy first k hs (journal hs) v) (effect : Effect) → WasWritten [] (journal hs) k effect → IsExplained policy hs so.rulings k effect
+explained policy first k hs v so effect w =
     let two : List Entry = wrote_entries w.decision.number w.decision.name effect.write w.outcome in
     record {
       decision = w.decision;
@@ -423,35 +683,37 @@ explained policy first k hs e so effect w =
       may = w.may;
       force = w.force;
       wanted = w.wanted;
-      judged = judged_on policy first k hs e so w.decision effect.device (force_told (journal hs) w.front (two ++ w.back) w.decision.number w.decision w.at w.force) w.device.file;
+      decided = decided_on policy first k hs v so w.decision effect.device (force_told (journal hs) w.front (two ++ w.back) w.decision.number w.decision w.at w.force) w.device.file;
     }
 
-judged_once : (policy : Judging) (first k : Kernel) (hs : List Happened) (e : DaemonState) (so : SoFar policy first k hs e) (i : ℕ) (d : Device) → Live k.devices i d → IsAsJudged k e.sweep.standings i → IsJudgedOnce policy hs so.rulings k e.sweep.standings i
-judged_once policy first k hs e so i d live a =
+judged_once : (policy : Judging) (first k : Kernel) (hs : List Happened) (w : State Judging) (so : SoFar policy first k hs (journal hs) w) (i : ℕ) (d : Device) → Live k.devices i d → IsAsJudged k w.standings i → IsJudgedOnce policy hs so.rulings k w.standings i
+judged_once policy first k hs w so i d live a =
     let s : Standing = a.standing.s in
     let told : Has (decisions_in (journal hs)) (decision_of s) = force_told (journal hs) (journal hs) [] s.number (decision_of s) (sym (append-nil (journal hs))) (so.agree s a.standing.has) in
     record {
       stands = a;
-      judged = judged_on policy first k hs e so (decision_of s) i told a.standing.file;
-      once = only_number (journal hs) k e.sweep.standings e.sweep.next i d s so.stand so.known live a.standing.has a.standing.file;
+      decided = decided_on policy first k hs w so (decision_of s) i told a.standing.file;
+      once = only_number (journal hs) k w.standings w.next i d s so.stand so.known live a.standing.has a.standing.file;
     }
 
-pub run_of : (policy : Judging) (first k : Kernel) (o : Option Disk) (hs : List Happened) (p : Option Disk) (e : DaemonState) → SoFar policy first k hs e → IsKeptThroughout policy.rules o hs p e.sweep.judge.rules → IsRun policy first o hs k p e
-run_of policy first k o hs p e so file = record {
+pub run_of : (policy : Judging) (first k : Kernel) (o : Option Disk) (hs : List Happened) (p : Option Disk) (e : DaemonState) → e.sweep.listed ≡ has_listed hs → SoFar policy first k hs (journal hs) e.sweep → IsKeptThroughout policy.rules o hs p e.sweep.judge.rules → IsRun policy first o hs k p e
+run_of policy first k o hs p e listed so file = record {
   rulings = so.rulings;
   told = so.told;
   placed = so.placed;
-  explained = record { added = so.written.added; log = so.written.log; each = λ x a. explained policy first k hs e so x (so.written.each x a) };
+  ordered = so.ordered;
+  explained = record { added = so.written.added; log = so.written.log; each = λ x a. explained policy first k hs e.sweep so x (so.written.each x a) };
   numbers = so.numbers;
   agree = so.agree;
-  listed = so.listed;
-  once = judged_once policy first k hs e so;
+  listed = listed;
+  once = judged_once policy first k hs e.sweep so;
   file = file;
 }
 
 pub is_run : (policy : Judging) (number : ℕ) (first : Kernel) (o : Option Disk) (d : DaemonState) (hs : List Happened) (k : Kernel) (p : Option Disk) (e : DaemonState) → IsStarted policy number d → Chain first o d hs k p e → IsRun policy first o hs k p e
 is_run policy number first o d hs k p e s c =
-    run_of policy first k o hs p e (along policy first [] hs first o d k p e c (started_so policy number first d s))
+    let so = along policy first [] hs first o d k p e c s.listed (started_so policy number first d s) in
+    run_of policy first k o hs p e so.1 so.0
     (subst (λ (j : Judging). IsKeptThroughout j.rules o hs p e.sweep.judge.rules) s.judge (kept_along first o d hs k p e c))
 
 -- a chain, and one event more

@@ -1,40 +1,55 @@
--- From the failures that a sweep tells to those of an event.
-use Rattle.std.proofs.Common.{◌≡◌, ℕ, List, [], ◌∷◌, ◌++◌, sym, ◌∙◌, ap, subst, append-nil, arith}
+-- From the failures that an order and a sweep tell to those of an event.
+use Rattle.std.proofs.Common.{◌≡◌, ℕ, ◌<◌, List, [], ◌∷◌, ◌++◌, refl, sym, ◌∙◌, ap, subst, append-nil, append_assoc, arith}
 use Rattle.ug_types.specs.Elements.{AllDistinct}
 use Rattle.ug_kernel.specs.Calls.{Call, Names, Answer}
 use Rattle.ug_kernel.specs.declared.calls.FailedCall.{FailedCall}
-use Rattle.ug_kernel.specs.Along.{Made, answered, AreNumbered, Rises}
+use Rattle.ug_kernel.specs.Along.{Made, answered, Along, failure, failures, AreNumbered, Rises}
+use Rattle.ug_kernel.proofs.Rises.{Counting, along_numbered, along_rises}
 use Rattle.ug_audit.specs.declared.entry.Entry.{Entry}
 use Rattle.ug_audit.specs.declared.entry.Entry.TheVariants as entry
 use Rattle.ug_table.specs.State.{State}
-use Rattle.ug_table.specs.Parts.{failures_told, unsettled_names, TellsFaults}
+use Rattle.ug_table.specs.Parts.{failures_told, unsettled_names}
 use Rattle.ug_table.proofs.OnePart.{told_more}
 use Rattle.ug_table.proofs.Once.{names_more}
 use Rattle.ug_core.specs.Event.{DaemonState}
 use Rattle.ug_core.specs.Policy.{Judging}
-use Rattle.ug_core.specs.Laws.{TellsEvent}
+use Rattle.ug_core.specs.Laws.{GoesAsAnswer, TellsSweep, TellsEvent}
+use Rattle.ug_core.specs.declared.daemon.Event.{Event}
 
-pub event_tells : {S : Type 0} (begins : S → S → Type 0) (gives : S → (call : Call) → Answer call → S → Type 0) (calls faults : S → ℕ) (s u : S) (d : DaemonState) (t : S) (v : State Judging) (es : List Entry) (e : DaemonState) → begins s u → calls u ≡ 0 → faults u ≡ faults s → es ≡ d.sweep.entries → failures_told d.sweep.entries ≡ [] → TellsFaults gives calls faults u (record d.sweep { entries = es }) t v → e.sweep ≡ record v { entries = v.entries ++ entry.End d.event ∷ [] } → TellsEvent begins gives faults s d t e
-event_tells {S} begins gives calls faults s u d t v es e b none same first quiet law last =
-    let h : TellsFaults gives calls faults u d.sweep t v = subst (λ (x : List Entry). TellsFaults gives calls faults u (record d.sweep { entries = x }) t v) first law in
+along_then : {S : Type 0} (gives : S → (call : Call) → Answer call → S → Type 0) (ms ns : List Made) (s u t : S) → Along gives s ms u → Along gives u ns t → Along gives s (ms ++ ns) t
+along_then {S} gives [] ns s u t a b = subst (λ (x : S). Along gives x ns t) a b
+along_then gives (m ∷ ms) ns s u t a b = (a.0, a.1, along_then gives ms ns a.0 u t a.2 b)
+
+failures_append : (ms ns : List Made) → failures (ms ++ ns) ≡ failures ms ++ failures ns
+failures_append [] ns = refl
+failures_append (m ∷ ms) ns = ap (λ (x : List FailedCall). failure m.call m.answer ++ x) (failures_append ms ns) ∙ sym (append_assoc (failure m.call m.answer) (failures ms) (failures ns))
+
+pub event_tells : {S : Type 0} (gives : S → (call : Call) → Answer call → S → Type 0) (calls faults : S → ℕ) → Counting gives calls faults → (event : Event) (s : S) (d : DaemonState) (m : S) (a : DaemonState) (t : S) (e : DaemonState) (order : List Made) → calls s ≡ 0 → Along gives s order m → GoesAsAnswer gives calls faults event s d order m a → failures_told a.sweep.entries ≡ failures order → TellsSweep gives calls faults m a t e → TellsEvent gives calls faults event s d m a t e
+event_tells gives calls faults counting event s d m a t e order none along answers quiet law =
+    let v : State Judging = law.swept in
+    let h = law.tells in
     let ms : List Made = answered Names h.goes.listed ∷ h.goes.later in
     let both : List Entry = h.goes.head ++ h.goes.rest in
-    let whole : failures_told e.sweep.entries ≡ failures_told both =
-    ap (λ (x : State Judging). failures_told x.entries) last
-    ∙ ap (λ (x : List Entry). failures_told (x ++ entry.End d.event ∷ [])) h.goes.entries
-    ∙ told_more (d.sweep.entries ++ both) (entry.End d.event ∷ [])
-    ∙ append-nil (failures_told (d.sweep.entries ++ both))
-    ∙ told_more d.sweep.entries both
-    ∙ ap (λ (x : List FailedCall). x ++ failures_told both) quiet in
+    let whole : failures_told e.sweep.entries ≡ failures (order ++ ms) =
+    ap (λ (x : State Judging). failures_told x.entries) law.entries
+    ∙ ap (λ (x : List Entry). failures_told (x ++ entry.End a.event ∷ [])) h.goes.entries
+    ∙ told_more (a.sweep.entries ++ both) (entry.End a.event ∷ [])
+    ∙ append-nil (failures_told (a.sweep.entries ++ both))
+    ∙ told_more a.sweep.entries both
+    ∙ ap (λ (x : List FailedCall). x ++ failures_told both) quiet
+    ∙ ap (λ (x : List FailedCall). failures order ++ x) h.exact
+    ∙ sym (failures_append order ms) in
+    let all = along_then gives order ms s m t along h.goes.along in
     record {
-      start = u;
-      begun_there = b;
+      order = order;
+      along = along;
+      answers = answers;
       swept = v;
       goes = h.goes;
-      entries = last;
-      exact = whole ∙ h.exact;
-      numbered = subst (λ (n : ℕ). AreNumbered n ms) none h.numbered;
-      rises = subst (λ (x : List FailedCall). Rises 0 (faults s) x) (sym whole) (subst (λ (n : ℕ). Rises 0 n (failures_told both)) same (subst (λ (n : ℕ). Rises n (faults u) (failures_told both)) none (h.rises (omega (arith, none)))));
+      entries = law.entries;
+      exact = whole;
+      numbered = subst (λ (n : ℕ). AreNumbered n (order ++ ms)) none (along_numbered gives calls faults counting (order ++ ms) s t all);
+      rises = subst (λ (x : List FailedCall). Rises 0 (faults s) x) (sym whole) (subst (λ (n : ℕ). Rises n (faults s) (failures (order ++ ms))) none (along_rises gives calls faults counting (order ++ ms) s t (omega (arith, none)) all));
     }
 
 -- what is noted before the sweep, and the last entry, name nothing

@@ -9,7 +9,11 @@ use Rattle.ug_audit.specs.declared.entry.Entry.{Entry}
 use Rattle.ug_audit.specs.declared.entry.Entry.TheVariants as entry
 use Rattle.ug_table.specs.Laws.{TellsNeither, numbers_of}
 use Rattle.ug_table.specs.declared.standing.Standing.{Standing}
-use Rattle.ug_core.specs.InForce.{Decision, decision_in, decisions_in, decision_of, or_else, on_number, last_decision, last_judged, standing_decision, in_force, Agree, numbers_on, Follow}
+use Rattle.ug_core.specs.InForce.{Decision, decision_in, decisions_in, decision_of, or_else, on_number, last_decision, last_judged, standing_decision, in_force, Agree, is_ordered, unordered, numbers_on, Follow}
+
+-- the numbers of all that was told
+abbrev pub told_numbers : List Entry → List ℕ
+told_numbers es = numbers_on (decisions_in es)
 
 pub or_else_assoc : {X : Type 0} (a b c : Option X) → or_else (or_else a b) c ≡ or_else a (or_else b c)
 or_else_assoc None b c = refl
@@ -143,3 +147,30 @@ lift pre ss front n d agree h = in_force_append [] pre front n ∙ lifted (last_
 
 pub lift_agree : (pre : List Entry) (ss after : List Standing) (es : List Entry) → Agree [] pre ss → Agree ss es after → Agree [] (pre ++ es) after
 lift_agree pre ss after es agree h s a = lift pre ss es s.number (decision_of s) agree (h s a)
+
+-- decisions but for those that were ordered
+
+pub unordered_append : (ds fs : List Decision) → unordered (ds ++ fs) ≡ unordered ds ++ unordered fs
+unordered_append [] fs = refl
+unordered_append (d ∷ ds) fs = by_cause (is_ordered d.cause) d (unordered ds) (unordered fs) (unordered (ds ++ fs)) (unordered_append ds fs)
+  where
+    by_cause : (b : Bool) (d : Decision) (xs ys zs : List Decision) → zs ≡ xs ++ ys → cond b zs (d ∷ zs) ≡ cond b xs (d ∷ xs) ++ ys
+    by_cause true d xs ys zs h = h
+    by_cause false d xs ys zs h = ap (λ (l : List Decision). d ∷ l) h
+
+-- where none was ordered, all are there
+pub unordered_all : (ds : List Decision) → ((d : Decision) → Has ds d → is_ordered d.cause ≡ false) → unordered ds ≡ ds
+unordered_all [] h = refl
+unordered_all (d ∷ ds) h = ap (λ (b : Bool). cond b (unordered ds) (d ∷ unordered ds)) (h d (inl refl)) ∙ ap (λ (l : List Decision). d ∷ l) (unordered_all ds (λ c a. h c (inr a)))
+
+-- one that wasn't ordered is there
+pub unordered_has : (ds : List Decision) (d : Decision) → is_ordered d.cause ≡ false → Has ds d → Has (unordered ds) d
+unordered_has [] d is h = absurd h
+unordered_has (x ∷ ds) d is (inl same) =
+    let plain : is_ordered x.cause ≡ false = ap (λ (v : Decision). is_ordered v.cause) same ∙ is in
+    subst (λ (b : Bool). Has (cond b (unordered ds) (x ∷ unordered ds)) d) (sym plain) (inl same)
+unordered_has (x ∷ ds) d is (inr h) = by_first (is_ordered x.cause) (unordered_has ds d is h)
+  where
+    by_first : (b : Bool) → Has (unordered ds) d → Has (cond b (unordered ds) (x ∷ unordered ds)) d
+    by_first true k = k
+    by_first false k = inr k

@@ -1,10 +1,9 @@
 -- What a crash may leave of the rule file in an event, and along a run.
-use Rattle.std.proofs.Common.{◌≡◌, ℕ, Bool, true, false, cond, List, [], ◌∷◌, ◌++◌, Option, Some, None, inl, inr, refl, sym, ◌∙◌, ap, subst, append-nil}
+use Rattle.std.proofs.Common.{◌≡◌, ℕ, Bool, true, false, cond, List, [], ◌∷◌, ◌++◌, Option, Some, None, Err, inl, inr, refl, sym, ◌∙◌, ap, subst, append-nil}
 use Rattle.ug_types.specs.Elements.{Has}
 use Rattle.ug_types.specs.declared.rule.Rule.{Rule}
 use Rattle.ug_types.specs.declared.saved.Saved.{Saved}
 use Rattle.ug_types.specs.declared.saved.Saved.TheVariants as saved
-use Rattle.ug_types.specs.declared.verdict.Moment.{Moment}
 use Rattle.ug_kernel.specs.Kernel.{Kernel}
 use Rattle.ug_kernel.specs.Along.{Made, failure_of}
 use Rattle.ug_kernel.specs.Calls.{Call, Answer}
@@ -19,6 +18,7 @@ use Rattle.ug_store.specs.DiskCalls.{DiskCall, DiskTold}
 use Rattle.ug_store.specs.Store.{Ended, RunsDisk, saving, HasSaved, SavedAs}
 use Rattle.ug_store.proofs.DiskRuns.{runs_split_disk}
 use Rattle.ug_store.proofs.Saving.{disk_calls, told_disk, saves}
+use Rattle.ug_table.specs.Orders.{with_verdict, verdict_entry}
 use Rattle.ug_table.specs.Parts.{AllBear, InParts, AfterListing, BeginsUnlisted, GoesInParts}
 use Rattle.ug_table.specs.State.{State}
 use Rattle.ug_table.specs.Standings.{farewells, lists}
@@ -28,7 +28,11 @@ use Rattle.ug_kernel.specs.declared.calls.Listing.TheVariants as listing
 use Rattle.ug_kernel.specs.declared.calls.FailedCall.{FailedCall}
 use Rattle.ug_core.specs.Policy.{Judging, as_given}
 use Rattle.ug_core.specs.RuleFile.{saved_of, permanent_rules, permanent_text}
-use Rattle.ug_core.specs.Event.{DaemonState, if_text, if_pending, trying, saved_entries, ready}
+use Rattle.ug_core.specs.Answering.{answer_to}
+use Rattle.ug_core.specs.Event.{DaemonState, first_entry, if_text, if_pending, trying, saved_entries, ready}
+use Rattle.ug_core.specs.Laws.{GoesAsAnswer, TellsEvent}
+use Rattle.ug_core.specs.declared.daemon.Event.{Event}
+use Rattle.ug_core.specs.declared.daemon.Event.TheVariants.{Sweep, Order}
 use Rattle.ug_core.specs.Durable.{IsKept, unsure_by, unsure_after, KeepsFile}
 use Rattle.ug_core.specs.Chain.{Happened, StaysOnDisk, Chain, IsKeptThroughout}
 use Rattle.ug_core.proofs.Plain.{SameRules}
@@ -110,17 +114,36 @@ calm_head (listing.Names listed) failed ss es left names shut h unsure = elim h 
 calm_head listing.Failed failed ss es left names shut h unsure = calm_unlisted (fault.Call failed) ss es left names shut h unsure
 calm_head listing.Memory failed ss es left names shut h unsure = calm_unlisted fault.Memory ss es left names shut h unsure
 
--- behind the first entry and that of a save, a sweep's entries and the last leave it
-sure_by_tried : {S : Type 0} (gives : S → (call : Call) → Answer call → S → Type 0) (s : S) (d : DaemonState) (moment : Moment) (tried : Option Saved) (t : S) (v : State Judging) (es : List Entry) (unsure : List (List ℕ)) → GoesInParts gives s (ready moment tried d).sweep t v → es ≡ v.entries ++ entry.End d.event ∷ [] → unsure_after unsure es ≡ unsure_after unsure (saved_entries tried)
-sure_by_tried gives s d moment tried t v es unsure goes last =
+-- an order's entries leave it
+
+calm_answer : {S : Type 0} (gives : S → (call : Call) → Answer call → S → Type 0) (calls faults : S → ℕ) (event : Event) (s : S) (d : DaemonState) (made : List Made) (t : S) (a : DaemonState) (unsure : List (List ℕ)) → GoesAsAnswer gives calls faults event s d made t a → unsure_after unsure a.sweep.entries ≡ unsure_after unsure d.sweep.entries
+calm_answer gives calls faults (Sweep moment) s d made t a unsure h = ap (λ (x : DaemonState). unsure_after unsure x.sweep.entries) h.1
+calm_answer gives calls faults (Order moment who line) s d made t a unsure (inl h) =
+    ap (λ (x : DaemonState). unsure_after unsure x.sweep.entries) h.state ∙ unsure_append unsure d.sweep.entries (entry.Reply (Err h.refused) ∷ [])
+calm_answer gives calls faults (Order moment who line) s d made t a unsure (inr h) =
+    let told : List Entry = verdict_entry (with_verdict h.verdict who h.standing) ∷ h.goes.rest in
+    ap (λ (x : DaemonState). unsure_after unsure x.sweep.entries) h.state
+    ∙ unsure_append unsure h.kept.entries (entry.Reply (answer_to h.how) ∷ [])
+    ∙ ap (λ (x : List Entry). unsure_after unsure x) h.goes.entries
+    ∙ unsure_append unsure d.sweep.entries told
+    ∙ calm_bears h.standing.name h.goes.rest h.goes.bears (unsure_after unsure d.sweep.entries)
+
+first_calm : (number : ℕ) (event : Event) (unsure : List (List ℕ)) → unsure_by unsure (first_entry number event) ≡ unsure
+first_calm number (Sweep moment) unsure = refl
+first_calm number (Order moment who line) unsure = refl
+
+-- so do those of the sweep and the last; the first and that of a save are all that counts
+sure_by_tried : {S : Type 0} (gives : S → (call : Call) → Answer call → S → Type 0) (calls faults : S → ℕ) (event : Event) (d : DaemonState) (tried : Option Saved) (s m : S) (a : DaemonState) (made : List Made) (t : S) (v : State Judging) (es : List Entry) (unsure : List (List ℕ)) → GoesAsAnswer gives calls faults event s (ready event tried d) made m a → GoesInParts gives m a.sweep t v → es ≡ v.entries ++ entry.End a.event ∷ [] → unsure_after unsure es ≡ unsure_after unsure (saved_entries tried)
+sure_by_tried gives calls faults event d tried s m a made t v es unsure answers goes last =
     let both : List Entry = goes.head ++ goes.rest in
-    let start : List Entry = entry.Event d.event moment ∷ saved_entries tried in
-    let calm : Calm both = calm_append goes.head goes.rest (calm_head goes.listed.answer (failure_of goes.listed) d.sweep.standings goes.head goes.left goes.names goes.shut goes.begins) (calm_parts goes.names goes.left v.standings goes.made goes.rest goes.parts) in
+    let calm : Calm both = calm_append goes.head goes.rest (calm_head goes.listed.answer (failure_of goes.listed) a.sweep.standings goes.head goes.left goes.names goes.shut goes.begins) (calm_parts goes.names goes.left v.standings goes.made goes.rest goes.parts) in
     ap (λ (x : List Entry). unsure_after unsure x) last
-    ∙ unsure_append unsure v.entries (entry.End d.event ∷ [])
+    ∙ unsure_append unsure v.entries (entry.End a.event ∷ [])
     ∙ ap (λ (x : List Entry). unsure_after unsure x) goes.entries
-    ∙ unsure_append unsure start both
-    ∙ calm (unsure_after unsure (saved_entries tried))
+    ∙ unsure_append unsure a.sweep.entries both
+    ∙ calm (unsure_after unsure a.sweep.entries)
+    ∙ calm_answer gives calls faults event s (ready event tried d) made m a unsure answers
+    ∙ ap (λ (us : List (List ℕ)). unsure_after us (saved_entries tried)) (first_calm d.event event unsure)
 
 -- ---- a pending save
 
@@ -175,19 +198,26 @@ text_given es = ap (λ (rs : List Rule). rules_text_of rs) (rules_given es)
     rules_given [] = refl
     rules_given (e ∷ es) = ap (λ (rs : List Rule). saved_of e ++ rs) (rules_given es)
 
-pub file_kept : {S T : Type 0} (gives : S → (call : Call) → Answer call → S → Type 0) (keeps : T → (call : DiskCall) → DiskTold call → T → Type 0) (told : T → Option Disk) (did : (s : T) (call : DiskCall) (a : DiskTold call) (t : T) (n : Disk) → keeps s call a t → told t ≡ Some n → FollowsOnDisk call a (told s) n) (moment : Moment) (s : S) (o : T) (d : DaemonState) (tried : Option Saved) (t : S) (p : T) (v : State Judging) (e : DaemonState) → RunsDisk keeps o (trying d) tried p → GoesInParts gives s (ready moment tried d).sweep t v → SameRules (ready moment tried d).sweep.judge e.sweep → e.sweep ≡ record v { entries = v.entries ++ entry.End d.event ∷ [] } → KeepsFile told o d p e
+-- an order leaves the judge
+pub answer_judge : {S : Type 0} (gives : S → (call : Call) → Answer call → S → Type 0) (calls faults : S → ℕ) (event : Event) (s : S) (d : DaemonState) (made : List Made) (t : S) (a : DaemonState) → GoesAsAnswer gives calls faults event s d made t a → a.sweep.judge ≡ d.sweep.judge
+answer_judge gives calls faults (Sweep moment) s d made t a h = ap (λ (x : DaemonState). x.sweep.judge) h.1
+answer_judge gives calls faults (Order moment who line) s d made t a (inl h) = ap (λ (x : DaemonState). x.sweep.judge) h.state
+answer_judge gives calls faults (Order moment who line) s d made t a (inr h) = ap (λ (x : DaemonState). x.sweep.judge) h.state
+
+pub file_kept : {S T : Type 0} (gives : S → (call : Call) → Answer call → S → Type 0) (calls faults : S → ℕ) (keeps : T → (call : DiskCall) → DiskTold call → T → Type 0) (told : T → Option Disk) (did : (s : T) (call : DiskCall) (a : DiskTold call) (t : T) (n : Disk) → keeps s call a t → told t ≡ Some n → FollowsOnDisk call a (told s) n) (event : Event) (s : S) (o : T) (d : DaemonState) (tried : Option Saved) (m : S) (a : DaemonState) (t : S) (p : T) (e : DaemonState) → RunsDisk keeps o (trying d) tried p → TellsEvent gives calls faults event s (ready event tried d) m a t e → SameRules a.sweep.judge e.sweep → KeepsFile told o d p e
 unfolding trying
-file_kept gives keeps told did moment s o d tried t p v e runs goes rules last n is =
+file_kept gives calls faults keeps told did event s o d tried m a t p e runs tells rules n is =
     let x = told_disk keeps told did (trying d) o tried p n runs is in
     let same : permanent_text e.sweep.judge.rules ≡ permanent_text d.sweep.judge.rules =
     sym (text_given e.sweep.judge.rules)
     ∙ ap (λ (es : List RuleEntry). permanent_text es) rules
-    ∙ text_given d.sweep.judge.rules in (
+    ∙ text_given a.sweep.judge.rules
+    ∙ ap (λ (j : Judging). permanent_text j.rules) (answer_judge gives calls faults event s (ready event tried d) tells.order m a tells.answers) in (
       x.0,
       x.1,
       λ unsure k.
           let stage = kept_stage d.sweep.judge.rules d.pending unsure x.0 tried n x.2 k in
-          let sure : unsure_after unsure e.sweep.entries ≡ unsure_after unsure (saved_entries tried) = sure_by_tried gives s d moment tried t v e.sweep.entries unsure goes (ap (λ (w : State Judging). w.entries) last) in
+          let sure : unsure_after unsure e.sweep.entries ≡ unsure_after unsure (saved_entries tried) = sure_by_tried gives calls faults event d tried s m a tells.order t tells.swept e.sweep.entries unsure tells.answers tells.goes (ap (λ (w : State Judging). w.entries) tells.entries) in
           record {
             since = stage.since;
             past = stage.past;

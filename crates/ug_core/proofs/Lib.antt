@@ -1,3 +1,4 @@
+pub mod Answered
 pub mod Handled
 pub mod Failures
 pub mod Verdicts

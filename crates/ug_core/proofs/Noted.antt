@@ -22,3 +22,10 @@ noted_more {X} {F} told a b panel last es fs h same end was is =
 -- where the first was noted into no entries
 pub all_noted : (es fs : List Entry) (ms ns os : List Member) → NotesEntries es ms ns → NotesMore es fs ns os → NotesEntries fs ms os
 all_noted es fs ms ns os h k = subst (λ (xs : List Entry). NotesEntries xs ms os) (sym k.all) (notes_on [] es k.added ms ns os [] [] h k.noted)
+
+pub more_noted : (es fs gs : List Entry) (ms ns os : List Member) → NotesMore es fs ms ns → NotesMore fs gs ns os → NotesMore es gs ms os
+more_noted es fs gs ms ns os h k = record {
+  added = h.added ++ k.added;
+  all = k.all ∙ ap (λ (xs : List Entry). xs ++ k.added) h.all ∙ append_assoc es h.added k.added;
+  noted = notes_on [] h.added k.added ms ns os [] [] h.noted k.noted;
+}

@@ -20,9 +20,9 @@ use Rattle.ug_table.specs.Bring.{CallsFor}
 use Rattle.ug_table.specs.Laws.{IsDevice, IsProbed, Stand, AreLeft, AreMarkedIn, swept_before, MayHave, HasVerdict, wrote_entries, numbers_of, Account, Start, Note, Judge, Had, Had_not, Went}
 use Rattle.ug_table.specs.declared.standing.Standing.{Standing}
 use Rattle.ug_core.specs.Policy.{Judging, later_of, policy_answer, policy_later}
-use Rattle.ug_core.specs.InForce.{Decision, decisions_in, decision_of, or_else, standing_decision, in_force, numbers_on, given_numbers, Follow}
+use Rattle.ug_core.specs.InForce.{Decision, decisions_in, decision_of, or_else, standing_decision, in_force, numbers_on, Follow}
 use Rattle.ug_core.specs.Rulings.{Ruling, at_moment, ruling_answer, after_ruling, after_rulings, decision_by, decisions_by}
-use Rattle.ug_core.proofs.InForce.{decisions_append, decisions_more, has_decision, neither_none, standing_found, fresh, numbers_append, follow_append}
+use Rattle.ug_core.proofs.InForce.{told_numbers, decisions_append, decisions_more, has_decision, neither_none, standing_found, fresh, numbers_append, follow_append}
 
 -- the rulings of a list and one more
 
@@ -67,7 +67,7 @@ pub record Walked (present : Bool) (moment : Moment) (start k : Kernel) (before 
   pub told : decisions_in es ≡ decisions_by policy rulings
   pub judge_is : judge ≡ at_moment moment (after_rulings policy rulings)
   pub placed : (r : Ruling) → Has rulings r → IsAt present moment start k before es r
-  pub numbers : Follow next0 (given_numbers es) next
+  pub numbers : Follow next0 (told_numbers es) next
   pub added : List Effect
   pub log_is : log ≡ log0 ++ added
   pub each : (e : Effect) → Has added e → WasWritten before es k e
@@ -143,14 +143,14 @@ judged_more present moment start k before log0 policy next0 es log judge next i 
         | inl z ↦ at_more present moment start k before es (x ∷ []) q (h.placed q z)
         | inr is ↦ subst (λ (q : Ruling). IsAt present moment start k before (es ++ x ∷ []) q) is (record { front = es; back = []; verdict = a.0; cause = a.1; at = refl; moment_is = refl; present_is = refl; device = d; probed = b; stand = stand; left = left; marked = so })
       ];
-      numbers = subst (λ (ds : List Decision). Follow next0 (numbers_on ds) (next + 1)) (sym whole) (subst (λ (l : List ℕ). Follow next0 l (next + 1)) (sym (numbers_append (decisions_in es) (this ∷ []))) (follow_append next0 (given_numbers es) (next ∷ []) next (next + 1) h.numbers (refl, refl)));
+      numbers = subst (λ (ds : List Decision). Follow next0 (numbers_on ds) (next + 1)) (sym whole) (subst (λ (l : List ℕ). Follow next0 l (next + 1)) (sym (numbers_append (decisions_in es) (this ∷ []))) (follow_append next0 (told_numbers es) (next ∷ []) next (next + 1) h.numbers (refl, refl)));
       added = h.added;
       log_is = h.log_is;
       each = λ e y. written_more before es (x ∷ []) k e (h.each e y);
     }
 
 -- the verdict that a number has is in force
-pub forced : (before : List Standing) (es : List Entry) (next0 next number : ℕ) (name : List ℕ) (held : Held) (verdict : Target) → ((s : Standing) → Has before s → s.number < next0) → AllDistinct (numbers_of before) → Follow next0 (given_numbers es) next → HasVerdict before es number name held verdict
+pub forced : (before : List Standing) (es : List Entry) (next0 next number : ℕ) (name : List ℕ) (held : Held) (verdict : Target) → ((s : Standing) → Has before s → s.number < next0) → AllDistinct (numbers_of before) → Follow next0 (told_numbers es) next → HasVerdict before es number name held verdict
     → (cause : Cause) × (in_force before es number ≡ Some (record { number = number; name = name; held = held; verdict = verdict; cause = cause }))
 forced before es next0 next number name held verdict low distinct follow (inl s) =
     let f = fresh (decisions_in es) next0 next follow in

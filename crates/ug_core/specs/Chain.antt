@@ -1,11 +1,15 @@
 -- A run of the daemon from its start: a chain of events, each from the state that the one before left.
-use Rattle.std.specs.Prelude.{◌≡◌, ℕ, Bool, true, false, not, is_none, ◌||◌, List, [], ◌∷◌, ◌++◌, Option, Some}
+use Rattle.std.specs.Prelude.{◌≡◌, ℕ, Bool, true, false, not, is_none, ◌||◌, List, [], ◌∷◌, ◌++◌, Option, Some, Ok, ◌⊎◌, slice_get}
 use Rattle.std.specs.List.{list_any}
 use Rattle.ug_types.specs.Elements.{Has}
 use Rattle.ug_types.specs.Names.{parent_of}
 use Rattle.ug_types.specs.declared.saved.Saved.{Saved}
 use Rattle.ug_types.specs.declared.verdict.Target.{Target}
 use Rattle.ug_types.specs.declared.verdict.Cause.{Cause}
+use Rattle.ug_types.specs.declared.verdict.Cause.TheVariants as causes
+use Rattle.ug_types.specs.declared.verdict.Moment.{Moment}
+use Rattle.ug_types.specs.declared.control.Control.TheVariants.{Authorized}
+use Rattle.ug_types.specs.Principals.{Named}
 use Rattle.ug_kernel.specs.declared.device.Device.{Device}
 use Rattle.ug_kernel.specs.declared.device.Effect.{Effect}
 use Rattle.ug_kernel.specs.declared.calls.Wrote.{Wrote}
@@ -13,39 +17,48 @@ use Rattle.ug_kernel.specs.Kernel.{Kernel, Live, Moves}
 use Rattle.ug_audit.specs.declared.entry.Entry.{Entry}
 use Rattle.ug_audit.specs.declared.entry.Entry.TheVariants as entry
 use Rattle.ug_policy.specs.declared.entry.RuleEntry.{RuleEntry}
+use Rattle.ug_proto.specs.declared.request.Request.TheVariants as request
+use Rattle.ug_proto.specs.Privileges.{needs}
+use Rattle.ug_proto.specs.Requests.{request_read}
 use Rattle.ug_store.specs.Disk.{Disk, IsAsItWas}
 use Rattle.ug_table.specs.Allowed.{allowed_records}
 use Rattle.ug_table.specs.Bring.{CallsFor}
 use Rattle.ug_table.specs.Laws.{IsDevice, IsProbed, Stand, AreLeft, AreMarkedIn, swept_before, MayHave, wrote_entries, IsJudged, IsAsJudged}
+use Rattle.ug_table.specs.Standings.{numbered}
 use Rattle.ug_table.specs.declared.standing.Standing.{Standing}
 use Rattle.ug_core.specs.Policy.{Judging}
 use Rattle.ug_core.specs.Verdicts.{IsVerdict}
 use Rattle.ug_core.specs.Durable.{IsKept, unsure_after, KeepsRules, KeepsFile}
-use Rattle.ug_core.specs.Event.{DaemonState, IsStarted, moment_of, ready, saved_entries}
-use Rattle.ug_core.specs.InForce.{Decision, decision_of, decisions_in, in_force, Agree, given_numbers, Follow}
-use Rattle.ug_core.specs.Laws.{Handled}
+use Rattle.ug_core.specs.Event.{DaemonState, IsStarted, moment_of, ready}
+use Rattle.ug_core.specs.Privileges.{is_granted}
+use Rattle.ug_core.specs.InForce.{Decision, decision_of, decisions_in, is_ordered, unordered, in_force, Agree, given_numbers, Follow}
+use Rattle.ug_core.specs.Laws.{AnswersEvent, Handled}
 use Rattle.ug_core.specs.Rulings.{Ruling, at_moment, after_rulings, decisions_by}
 use Rattle.ug_core.specs.declared.daemon.Event.{Event}
+use Rattle.ug_core.specs.declared.daemon.Event.TheVariants.{Order}
 
--- an event that was handled, with what was there before it and after it, and what became of a pending save. The disk is there where
--- it was told.
+-- an event that was handled, with what was there before it, behind its order and after it, and what became of a pending save. The disk
+-- is there where it was told.
 pub record Happened : Type 0 where
   pub event : Event
   pub tried : Option Saved
   pub kernel : Kernel
   pub disk : Option Disk
   pub before : DaemonState
+  pub kernel_answered : Kernel
+  pub answered : DaemonState
   pub kernel_after : Kernel
   pub disk_after : Option Disk
   pub after : DaemonState
 
--- what its sweep began with
+-- what its order, or else its sweep, began with
 abbrev pub ready_of : Happened → DaemonState
-ready_of h = ready (moment_of h.event) h.tried h.before
+ready_of h = ready h.event h.tried h.before
 
 -- the laws of one event
 pub record IsEvent (h : Happened) : Type 0 where
-  pub handled : Handled h.kernel (ready_of h) h.kernel_after h.after
+  pub answers : AnswersEvent h.event h.kernel (ready_of h) h.kernel_answered h.answered
+  pub handled : Handled h.kernel_answered h.answered h.kernel_after h.after
   pub file : KeepsFile (λ (o : Option Disk). o) h.disk h.before h.disk_after h.after
 
 -- where a disk is told, one was told before, and is as it was
@@ -75,7 +88,7 @@ has_listed (h ∷ hs) = not (list_any tells_unlisted h.after.sweep.entries) || h
 -- The place of a ruling in a run: its event, and in that the `judged` entry of its number. The moment is the event's. Devices count as
 -- present where no listing of an earlier event had succeeded. The record is that of the very device of the held file, which in this
 -- event lived from the opening of that file to the probe that gave its value. The standings are those that are left there of the ones
--- before the event, and each is marked as settled as is told there.
+-- that the sweep began with, and each is marked as settled as is told there.
 pub record IsPlaced (hs : List Happened) (k : Kernel) (r : Ruling) : Type 0 where
   pub earlier : List Happened
   pub event : Happened
@@ -85,14 +98,14 @@ pub record IsPlaced (hs : List Happened) (k : Kernel) (r : Ruling) : Type 0 wher
   pub back : List Entry
   pub verdict : Target
   pub cause : Cause
-  pub in_event : event.after.sweep.entries ≡ entry.Event event.before.event (moment_of event.event) ∷ (saved_entries event.tried ++ (front ++ entry.Judged r.number r.name r.held verdict cause ∷ back))
+  pub in_event : event.after.sweep.entries ≡ event.answered.sweep.entries ++ (front ++ entry.Judged r.number r.name r.held verdict cause ∷ back)
   pub moment : r.moment ≡ moment_of event.event
   pub present : r.present ≡ not (has_listed earlier)
   pub device : IsDevice k r.device r.name r.held r.judged
-  pub probed : IsProbed event.kernel event.kernel_after r.name r.held.0 r.device r.on
+  pub probed : IsProbed event.kernel_answered event.kernel_after r.name r.held.0 r.device r.on
   pub stand : Stand event.kernel_after r.standings r.number
-  pub left : AreLeft event.before.sweep.standings front r.standings
-  pub marked : AreMarkedIn swept_before r.name event.before.sweep.standings front r.standings
+  pub left : AreLeft event.answered.sweep.standings front r.standings
+  pub marked : AreMarkedIn swept_before r.name event.answered.sweep.standings front r.standings
 
 -- The decision is that of a ruling on that device at its place in the run: it was given by the policy as all rulings before it left it,
 -- with the words that they didn't take, and with the histories of their judgements.
@@ -108,6 +121,32 @@ pub record WasJudged (policy : Judging) (hs : List Happened) (rulings : List Rul
   pub placed : IsPlaced hs k ruling
   pub given : IsVerdict (at_moment ruling.moment (after_rulings policy before)) (allowed_records ruling.standings) ruling.judged (is_none (parent_of ruling.name)) ruling.present ruling.on d.verdict d.cause
 
+-- The decision was ordered: an event of the run is an order of that user or group, which asks for that verdict on the device of that
+-- number, and which it may ask for. The number's standing had that name and that held file.
+pub record WasOrdered (hs : List Happened) (d : Decision) : Type 0 where
+  pub earlier : List Happened
+  pub event : Happened
+  pub later : List Happened
+  pub in_run : hs ≡ earlier ++ event ∷ later
+  pub moment : Moment
+  pub who : Named
+  pub line : List ℕ
+  pub is_order : event.event ≡ Order moment who line
+  pub cause : d.cause ≡ causes.Order who
+  pub asked : request_read line ≡ Ok (request.Device d.number d.verdict false)
+  pub granted : is_granted event.before.access who (needs (request.Device d.number d.verdict false)) ≡ true
+  pub standing : Standing
+  pub stands : numbered d.number event.before.sweep.standings ≡ Some standing
+  pub name : standing.name ≡ d.name
+  pub held : standing.held ≡ d.held
+  pub in_event : Has event.answered.sweep.entries (entry.Judged d.number d.name d.held d.verdict d.cause)
+
+-- the decision was given on that device, by the policy or by an order
+abbrev pub WasDecided : Judging → List Happened → List Ruling → Kernel → ℕ → Decision → Type 0
+WasDecided policy hs rulings k i d =
+    WasJudged policy hs rulings k i d
+    ⊎ (WasOrdered hs d × (slice_get k.held d.held.0 ≡ Some (record { device = i; control = Authorized })))
+
 -- The effect is that of a write that is told. The verdict in force before its intent calls for it, and was given on that device.
 pub record IsExplained (policy : Judging) (hs : List Happened) (rulings : List Ruling) (k : Kernel) (effect : Effect) : Type 0 where
   pub decision : Decision
@@ -118,7 +157,7 @@ pub record IsExplained (policy : Judging) (hs : List Happened) (rulings : List R
   pub may : MayHave outcome
   pub force : in_force [] front decision.number ≡ Some decision
   pub wanted : CallsFor decision.verdict effect.write
-  pub judged : WasJudged policy hs rulings k effect.device decision
+  pub decided : WasDecided policy hs rulings k effect.device decision
 
 -- each effect since the first kernel is explained
 pub record AllExplained (policy : Judging) (hs : List Happened) (rulings : List Ruling) (first k : Kernel) : Type 0 where
@@ -129,7 +168,7 @@ pub record AllExplained (policy : Judging) (hs : List Happened) (rulings : List 
 -- the device was judged under the number of its standing and under no other, and stands as judged
 pub record IsJudgedOnce (policy : Judging) (hs : List Happened) (rulings : List Ruling) (k : Kernel) (standings : List Standing) (i : ℕ) : Type 0 where
   pub stands : IsAsJudged k standings i
-  pub judged : WasJudged policy hs rulings k i (decision_of stands.standing.s)
+  pub decided : WasDecided policy hs rulings k i (decision_of stands.standing.s)
   pub once : (number : ℕ) → IsJudged k (journal hs) number i → number ≡ stands.standing.s.number
 
 -- the texts that aren't sure after these events
@@ -156,12 +195,13 @@ abbrev pub IsKeptThroughout : List RuleEntry → Option Disk → List Happened �
 IsKeptThroughout rules o hs p later = (n : Disk) → p ≡ Some n → (m : Disk) × (o ≡ Some m) × ((unsure : List (List ℕ)) → IsKept rules unsure m.left → EachKept unsure hs × IsKept later (unsure_of unsure hs) n.left)
 
 -- What holds of any run from a start with that policy. Its `judged` entries tell the decisions of rulings, each at its place, and each
--- by the policy as those before it left it. Each effect is explained. Each new device got the next number; each standing has the
+-- by the policy as those before it left it, and else those that were ordered by somebody who may. Each effect is explained. Each new device got the next number; each standing has the
 -- verdict in force; and a device that still lives and stands as judged was judged once. The rule file is kept.
 pub record IsRun (policy : Judging) (first : Kernel) (o : Option Disk) (hs : List Happened) (k : Kernel) (p : Option Disk) (e : DaemonState) : Type 0 where
   pub rulings : List Ruling
-  pub told : decisions_in (journal hs) ≡ decisions_by policy rulings
+  pub told : unordered (decisions_in (journal hs)) ≡ decisions_by policy rulings
   pub placed : (r : Ruling) → Has rulings r → IsPlaced hs k r
+  pub ordered : (d : Decision) → Has (decisions_in (journal hs)) d → is_ordered d.cause ≡ true → WasOrdered hs d
   pub explained : AllExplained policy hs rulings first k
   pub numbers : Follow 1 (given_numbers (journal hs)) e.sweep.next
   pub agree : Agree [] (journal hs) e.sweep.standings

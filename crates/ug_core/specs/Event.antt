@@ -1,11 +1,10 @@
--- An event of the daemon, in stages, each of which is on one object: a pending save, and the sweep.
+-- An event of the daemon, in stages, each of which is on one object: a pending save, an order, and the sweep.
 use Rattle.std.specs.Prelude.{◌≡◌, ℕ, ◌+◌, ◌-◌, ◌^◌, Bool, true, false, ◌&&◌, nat_le, nat_lt, List, [], ◌∷◌, ◌++◌, Option, Some, None}
 use Rattle.rand_core.specs.declared.Rng.{Ghosts}
 use Rattle.ug_types.specs.declared.saved.Saved.{Saved}
 use Rattle.ug_types.specs.declared.saved.Saved.TheVariants as saved
 use Rattle.ug_types.specs.declared.verdict.Moment.{Moment}
-use Rattle.ug_kernel.specs.Calls.{Call, Answer}
-use Rattle.ug_kernel.specs.Tree.{Prog, Return, Runs, then}
+use Rattle.ug_kernel.specs.Tree.{Prog, Return, then}
 use Rattle.ug_acl.specs.Acls.{Addition}
 use Rattle.ug_audit.specs.Noting.{NotesEntries, without_drops}
 use Rattle.ug_audit.specs.Panels.{Member}
@@ -19,7 +18,7 @@ use Rattle.ug_core.specs.Policy.{Judging, judging_of, context_at, policy_answer,
 use Rattle.ug_core.specs.RuleFile.{permanent_text}
 use Rattle.ug_core.specs.declared.daemon.Daemon.{Daemon}
 use Rattle.ug_core.specs.declared.daemon.Event.{Event}
-use Rattle.ug_core.specs.declared.daemon.Event.TheVariants.{Sweep}
+use Rattle.ug_core.specs.declared.daemon.Event.TheVariants.{Sweep, Order}
 
 -- the standings and the judge, with the entries of the last event but for the `dropped` ones; who may do what; whether a save is
 -- pending; and the number of the next event
@@ -65,18 +64,26 @@ abbrev pub pending_with : Option Saved → Bool → Bool
 pending_with None was = was
 pending_with (Some saved) was = pending_after saved was
 
+abbrev pub moment_of : Event → Moment
+moment_of (Sweep moment) = moment
+moment_of (Order moment who line) = moment
+
+abbrev pub first_entry : ℕ → Event → Entry
+first_entry number (Sweep moment) = entry.Event number moment
+first_entry number (Order moment who line) = entry.Order number moment who
+
 -- the judge is told the moment, and the first entry is noted
-abbrev pub begun : Moment → DaemonState → DaemonState
-begun moment d = record d { sweep = record d.sweep { judge = record d.sweep.judge { ctx = context_at d.sweep.judge.clock moment }; entries = entry.Event d.event moment ∷ [] } }
+abbrev pub begun : Event → DaemonState → DaemonState
+begun event d = record d { sweep = record d.sweep { judge = record d.sweep.judge { ctx = context_at d.sweep.judge.clock (moment_of event) }; entries = first_entry d.event event ∷ [] } }
 
 abbrev pub tried_with : Option Saved → DaemonState → DaemonState
 tried_with tried d = record d { sweep = record d.sweep { entries = d.sweep.entries ++ saved_entries tried }; pending = pending_with tried d.pending }
 
--- what the sweep begins with
-abbrev pub ready : Moment → Option Saved → DaemonState → DaemonState
-ready moment tried d = tried_with tried (begun moment d)
+-- what the order, or else the sweep, begins with
+abbrev pub ready : Event → Option Saved → DaemonState → DaemonState
+ready event tried d = tried_with tried (begun event d)
 
--- Second stage, on the kernel alone: the sweep, and the last entry.
+-- Last stage, on the kernel alone: the sweep, and the last entry.
 abbrev pub ended : DaemonState → State Judging → Prog DaemonState
 ended d v = Return (record d { sweep = record v { entries = v.entries ++ entry.End d.event ∷ [] }; event = d.event + 1 })
 
@@ -97,13 +104,6 @@ is_low n = nat_le n (2 ^ 64 - 1 - 4194304)
 abbrev pub has_numbers : DaemonState → ℕ → ℕ → Bool
 has_numbers d sysfs_faults disk_faults =
     is_low d.sweep.next && is_low d.event && is_low sysfs_faults && is_low disk_faults && nat_lt d.sweep.judge.next (2 ^ 64 - 1)
-
-abbrev pub moment_of : Event → Moment
-moment_of (Sweep moment) = moment
-
--- a run of the second stage begins with the numbering of its calls
-abbrev pub RunsSweep : {S : Type 0} → (S → S → Type 0) → (S → (call : Call) → Answer call → S → Type 0) → S → DaemonState → S → DaemonState → Type 0
-RunsSweep {S} begins gives s d t e = (u : S) × begins s u × Runs gives u (handling d) e t
 
 -- a new daemon judges by that policy, has no standing, has noted nothing, and no save is pending
 pub record IsStarted (policy : Judging) (first : ℕ) (d : DaemonState) : Type 0 where

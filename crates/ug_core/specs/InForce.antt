@@ -1,9 +1,10 @@
 -- The verdict in force: the last that entries tell of a number, or else that of its standing from before.
-use Rattle.std.specs.Prelude.{◌≡◌, ℕ, ◌+◌, List, [], ◌∷◌, ◌++◌, map, Option, Some, None, if◌then◌else◌, nat_eq}
+use Rattle.std.specs.Prelude.{◌≡◌, ℕ, ◌+◌, Bool, true, false, cond, List, [], ◌∷◌, ◌++◌, map, Option, Some, None, if◌then◌else◌, nat_eq}
 use Rattle.ug_types.specs.Elements.{Has}
 use Rattle.ug_types.specs.declared.verdict.Held.{Held}
 use Rattle.ug_types.specs.declared.verdict.Target.{Target}
 use Rattle.ug_types.specs.declared.verdict.Cause.{Cause}
+use Rattle.ug_types.specs.declared.verdict.Cause.TheVariants as cause
 use Rattle.ug_audit.specs.declared.entry.Entry.{Entry}
 use Rattle.ug_audit.specs.declared.entry.Entry.TheVariants as entry
 use Rattle.ug_table.specs.declared.standing.Standing.{Standing}
@@ -58,12 +59,22 @@ in_force before es n = or_else (last_judged es n) (standing_decision before n)
 abbrev pub Agree : List Standing → List Entry → List Standing → Type 0
 Agree before es ss = (s : Standing) → Has ss s → in_force before es s.number ≡ Some (decision_of s)
 
--- the numbers that were given out, in order
+-- an administrator ordered it
+abbrev pub is_ordered : Cause → Bool
+is_ordered (cause.Order who) = true
+is_ordered why = false
+
+-- the decisions but for those that were ordered
+abbrev pub unordered : List Decision → List Decision
+unordered [] = []
+unordered (d ∷ ds) = cond (is_ordered d.cause) (unordered ds) (d ∷ unordered ds)
+
 abbrev pub numbers_on : List Decision → List ℕ
 numbers_on ds = map (λ d. d.number) ds
 
+-- the numbers that were given out, in order: an order gives none
 abbrev pub given_numbers : List Entry → List ℕ
-given_numbers es = numbers_on (decisions_in es)
+given_numbers es = numbers_on (unordered (decisions_in es))
 
 -- these numbers follow one another from the first one on, and the next comes behind the last
 abbrev pub Follow : ℕ → List ℕ → ℕ → Type 0

@@ -1,3 +1,4 @@
+pub mod Answering
 pub mod Settings
 pub mod RuleFile
 pub mod Policy

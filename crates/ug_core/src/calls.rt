@@ -1,12 +1,12 @@
 // The daemon's calls.
-ghost use Rattle.std.specs.Prelude.{◌≡◌, ◌≤◌, ◌<◌, ◌+◌, ◌-◌, ◌*◌, ◌^◌, [], false, IsTrue, Some, length};
+ghost use Rattle.std.specs.Prelude.{◌≡◌, ◌≤◌, ◌<◌, ◌+◌, ◌*◌, ◌^◌, [], false, IsTrue, None, Some, length};
 ghost use Rattle.ug_kernel.specs.Tree.{Runs};
 ghost use Rattle.ug_audit.specs.Journal.{live_in, members};
 ghost use Rattle.ug_audit.specs.Noting.{NotesEntries, tells_drop, without_drops};
 ghost use Rattle.ug_store.specs.Store.{RunsDisk, pending_after};
-ghost use Rattle.ug_table.specs.Parts.{failures_told, unsettled_names};
-ghost use Rattle.ug_core.specs.Event.{begun, daemon_of, handling, has_numbers, is_low, noting, NotesMore, RunsSweep, saving_rules, tried_with, trying};
-ghost use Rattle.ug_core.specs.Laws.{Handles, HandlesEvent, NamesOnceIn, TellsEvent, TellsTried};
+ghost use Rattle.ug_table.specs.Parts.{unsettled_names};
+ghost use Rattle.ug_core.specs.Event.{begun, daemon_of, first_entry, handling, has_numbers, is_low, moment_of, noting, NotesMore, saving_rules, tried_with, trying};
+ghost use Rattle.ug_core.specs.Laws.{Handles, HandlesEvent, NamesOnceIn, Replies, TellsSweep, TellsTried};
 
 use crate::daemon::{Daemon, Event};
 use crate::report::Report;
@@ -24,6 +24,32 @@ fn low(n: u64) -> bool
     ensures { result ≡ is_low n }
 {
     n <= LOW
+}
+
+fn moment_of(event: &Event) -> Moment
+    ensures { result ≡ moment_of event.now }
+{
+    match event {
+        Event::Sweep(moment) => *moment,
+        Event::Order(moment, _, _) => *moment,
+    }
+}
+
+fn first_entry(number: u64, event: &Event) -> Entry
+    ensures entry { result ≡ first_entry number event.now }
+    ensures kind { tells_drop result ≡ false }
+{
+    match event {
+        Event::Sweep(moment) => Entry::Event {
+            number,
+            moment: *moment,
+        },
+        Event::Order(moment, who, _) => Entry::Order {
+            number,
+            moment: *moment,
+            who: *who,
+        },
+    }
 }
 
 impl<'z, R: Rng> Daemon<'z, R> {
@@ -71,8 +97,9 @@ impl<'z, R: Rng> Daemon<'z, R> {
         panel: &mut Panel,
     )
         requires { IsTrue (has_numbers (daemon_of self.old) (Y.faults sysfs.old) (D.faults disk.old)) }
-        ensures handles { HandlesEvent Y.begins Y.gives Y.told Y.faults D.keeps D.told D.faults event.now
-            sysfs.old disk.old (daemon_of self.old) sysfs.new disk.new (daemon_of self.new) }
+        ensures handles { HandlesEvent Y.begins Y.gives Y.told Y.calls Y.faults D.keeps D.told D.faults
+            event.now sysfs.old disk.old (daemon_of self.old) sysfs.new disk.new (daemon_of self.new) }
+        ensures replies { Replies event.now (daemon_of self.new).sweep.entries self.new.report.reply }
         ensures number { self.new.report.event ≡ self.old.next_event }
         ensures noted { NotesEntries self.new.report.entries.entries
             (members (λ b. ⟦<dyn Auditor as Auditor>⟧ b.vtable) panel.old)
@@ -80,59 +107,43 @@ impl<'z, R: Rng> Daemon<'z, R> {
         ensures alone { live_in panel.old ≡ 0
             → without_drops self.new.report.entries.entries ≡ self.new.report.entries.entries }
     {
-        let Event::Sweep(moment) = event;
-        self.handle_sweep(alloc, *moment, sysfs, disk, panel);
-    }
-
-    // A sweep at that moment.
-    fn handle_sweep<Y: Sysfs, D: RuleDisk>(
-        &mut self,
-        alloc: Global,
-        moment: Moment,
-        sysfs: &mut Y,
-        disk: &mut D,
-        panel: &mut Panel,
-    )
-        requires { IsTrue (has_numbers (daemon_of self.old) (Y.faults sysfs.old) (D.faults disk.old)) }
-        ensures handles { HandlesEvent Y.begins Y.gives Y.told Y.faults D.keeps D.told D.faults (Event.Sweep moment)
-            sysfs.old disk.old (daemon_of self.old) sysfs.new disk.new (daemon_of self.new) }
-        ensures number { self.new.report.event ≡ self.old.next_event }
-        ensures noted { NotesEntries self.new.report.entries.entries
-            (members (λ b. ⟦<dyn Auditor as Auditor>⟧ b.vtable) panel.old)
-            (members (λ b. ⟦<dyn Auditor as Auditor>⟧ b.vtable) panel.new) }
-        ensures alone { live_in panel.old ≡ 0
-            → without_drops self.new.report.entries.entries ≡ self.new.report.entries.entries }
-    {
-        self.begin(moment, panel);
+        // The standings are in order.
+        let _next = self.table.next_number();
+        self.begin(event, panel);
         let _tried = self.save_pending(alloc, disk, panel);
+        sysfs.begin();
+        self.answer(alloc, event, sysfs, panel);
         self.sweep(alloc, sysfs, panel);
     }
 
     // The first entry.
-    fn begin(&mut self, moment: Moment, panel: &mut Panel)
-        ensures daemon { daemon_of self.new ≡ begun moment (daemon_of self.old) }
+    fn begin(&mut self, event: &Event, panel: &mut Panel)
+        ensures daemon { daemon_of self.new ≡ begun event.now (daemon_of self.old) }
         ensures spare { 8 * length self.new.table.standings + 63 + live_in panel.new
             ≤ self.new.report.entries.spare }
+        ensures reply { self.new.report.reply ≡ None }
         ensures number { self.new.report.event ≡ self.old.next_event }
         ensures noted { NotesEntries self.new.report.entries.entries
             (members (λ b. ⟦<dyn Auditor as Auditor>⟧ b.vtable) panel.old)
             (members (λ b. ⟦<dyn Auditor as Auditor>⟧ b.vtable) panel.new) }
     {
         let number = self.next_event;
-        self.policy.set_moment(moment);
+        self.policy.set_moment(moment_of(event));
         self.report.event = number;
         self.report.entries.clear();
-        self.note(Entry::Event { number, moment }, panel);
+        self.report.reply = None;
+        self.note(first_entry(number, event), panel);
     }
 
     // Notes an entry, for which there is room.
-    fn note(&mut self, entry: Entry, panel: &mut Panel)
+    pub(crate) fn note(&mut self, entry: Entry, panel: &mut Panel)
         requires place { live_in panel.old < self.old.report.entries.spare }
         requires kind { tells_drop entry ≡ false }
         ensures daemon { daemon_of self.new ≡ noting entry (daemon_of self.old) }
         ensures spare { self.new.report.entries.spare + 1 + live_in panel.old
             ≡ self.old.report.entries.spare + live_in panel.new }
         ensures number { self.new.report.event ≡ self.old.report.event }
+        ensures reply { self.new.report.reply ≡ self.old.report.reply }
         ensures noted { NotesMore self.old.report.entries.entries self.new.report.entries.entries
             (members (λ b. ⟦<dyn Auditor as Auditor>⟧ b.vtable) panel.old)
             (members (λ b. ⟦<dyn Auditor as Auditor>⟧ b.vtable) panel.new) }
@@ -156,6 +167,7 @@ impl<'z, R: Rng> Daemon<'z, R> {
         ensures spare { self.old.report.entries.spare + live_in panel.new
             ≤ self.new.report.entries.spare + 1 + live_in panel.old }
         ensures number { self.new.report.event ≡ self.old.report.event }
+        ensures reply { self.new.report.reply ≡ self.old.report.reply }
         ensures noted { NotesMore self.old.report.entries.entries self.new.report.entries.entries
             (members (λ b. ⟦<dyn Auditor as Auditor>⟧ b.vtable) panel.old)
             (members (λ b. ⟦<dyn Auditor as Auditor>⟧ b.vtable) panel.new) }
@@ -187,21 +199,21 @@ impl<'z, R: Rng> Daemon<'z, R> {
     fn sweep<Y: Sysfs>(&mut self, alloc: Global, sysfs: &mut Y, panel: &mut Panel)
         requires next { (daemon_of self.old).sweep.next + 65536 < 2 ^ 64 }
         requires event { (daemon_of self.old).event + 1 < 2 ^ 64 }
-        requires spare { 8 * length self.old.table.standings + 62 + live_in panel.old
+        requires spare { 8 * length self.old.table.standings + 2 + live_in panel.old
             ≤ self.old.report.entries.spare }
-        requires quiet { failures_told (daemon_of self.old).sweep.entries ≡ [] }
         requires nameless { unsettled_names (daemon_of self.old).sweep.entries ≡ [] }
-        ensures runs { RunsSweep Y.begins Y.gives sysfs.old (daemon_of self.old) sysfs.new (daemon_of self.new) }
+        ensures runs { Runs Y.gives sysfs.old (handling (daemon_of self.old)) (daemon_of self.new) sysfs.new }
         ensures law { Handles Y.told sysfs.old (daemon_of self.old) sysfs.new (daemon_of self.new) }
-        ensures faults { TellsEvent Y.begins Y.gives Y.faults sysfs.old (daemon_of self.old) sysfs.new (daemon_of self.new) }
+        ensures tells { TellsSweep Y.gives Y.calls Y.faults sysfs.old (daemon_of self.old)
+            sysfs.new (daemon_of self.new) }
         ensures once { NamesOnceIn Y.told sysfs.old (daemon_of self.old) sysfs.new (daemon_of self.new) }
         ensures number { self.new.report.event ≡ self.old.report.event }
+        ensures reply { self.new.report.reply ≡ self.old.report.reply }
         ensures noted { NotesMore self.old.report.entries.entries self.new.report.entries.entries
             (members (λ b. ⟦<dyn Auditor as Auditor>⟧ b.vtable) panel.old)
             (members (λ b. ⟦<dyn Auditor as Auditor>⟧ b.vtable) panel.new) }
     {
         let number = self.next_event;
-        sysfs.begin();
         let mut journal = Journal::join(panel, &mut self.report.entries);
         self.table
             .sweep(alloc, sysfs, &mut self.policy, &mut journal);

@@ -7,13 +7,15 @@ use rand_core::Rng;
 use ug_acl::Acl;
 use ug_store::Store;
 use ug_table::Table;
-use ug_types::Moment;
+use ug_types::{Moment, Principal, Text};
 
 /// What the daemon is to do.
-#[derive(Clone, Copy)]
+#[derive(Drop)]
 pub enum Event {
     /// All devices are listed, and each is settled.
     Sweep(Moment),
+    /// A line of a user or a group is answered, which may be any text: usbguard(1). Then all devices are listed and settled.
+    Order(Moment, Principal, Text),
 }
 
 /// The policy, the standings, the store of the rule file, who may do what, and the report of the last event.

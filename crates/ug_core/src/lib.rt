@@ -7,6 +7,7 @@ mod daemon;
 mod kept_rules;
 mod laws;
 mod load;
+mod orders;
 mod policy;
 mod privileges;
 mod report;

@@ -1,9 +1,12 @@
 // What was noted of the last event.
 use ug_audit::Entries;
+use ug_proto::Reply;
 
 #[derive(Drop)]
 pub struct Report {
     /// The event's number, or 0 before the first.
     pub event: u64,
     pub entries: Entries,
+    /// What is answered to the event's order, if it has one.
+    pub reply: Option<Reply>,
 }

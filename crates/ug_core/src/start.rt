@@ -59,7 +59,11 @@ impl<'z, R: Rng + Drop> Beside<'z, R> {
             store: loaded.0,
             acl: self.acl,
             next_event: self.first,
-            report: Report { event: 0, entries },
+            report: Report {
+                event: 0,
+                entries,
+                reply: None,
+            },
         })
     }
 }

@@ -29,7 +29,7 @@ use Rattle.ug_console.specs.declared.machine.Ran.{Ran}
 use Rattle.ug_console.specs.declared.machine.Ran.TheVariants.{Done, Bad, TooLong, SinkFailed, Memory}
 use Rattle.ug_core.specs.declared.daemon.Event.TheVariants.{Sweep}
 use Rattle.ug_console.specs.Fold.{Outcome, Writes, Refused}
-use Rattle.ug_script.specs.Setup.{SetupState, after_reading, policy_of, rules_disk, started}
+use Rattle.ug_script.specs.Setup.{SetupState, after_reading, rules_disk, started}
 use Rattle.ug_script.proofs.Phases.{open_unstarted}
 use Rattle.ug_script.specs.Script.{Script, Phase, SettingUp, Unstarted, Started, HoldsRules, IsOnDisk, takes_setup, has_started, disk_in, fits_file}
 use Rattle.ug_script.specs.Replay.{lines_text, tells, quiet, with_restart, restart_taken, came_of, event_from, event_by, in_script, event_taken}
@@ -115,12 +115,12 @@ pub later_steps : (event : daemon.Event) (setup : SetupState) (d : DaemonState) 
 later_steps (Sweep moment) setup d disk after_disk w p before after r same h = subst (λ (o : DiskWorld). Steps (event_taken (Sweep moment) (record { setup = setup; phase = Started d disk }) w) (placed setup o p) before after r) (sym same) (in_script_steps (record { setup = setup; phase = Started d disk }) (event_by moment d w) p before after r h)
 
 -- the first event
-first_by : (event : daemon.Event) (setup : SetupState) (phase : Phase) (d : DaemonState) (w : World) (p : DaemonState × World) (before after : Option (List ℕ)) (r : Ran) → has_started phase ≡ false → fits_file setup ≡ true → d ≡ started (policy_of setup) → Steps (event_by (moment_of event) d w) p before after r → Steps (event_taken event (record { setup = setup; phase = phase }) w) (placed setup (rules_disk setup) p) before after r
-first_by (Sweep moment) setup SettingUp d w p before after r new fits is h = rw fits (in_script_steps (record { setup = setup; phase = SettingUp }) (event_by moment (started (policy_of setup)) w) p before after r (subst (λ (x : DaemonState). Steps (event_by moment x w) p before after r) is h))
-first_by (Sweep moment) setup Unstarted d w p before after r new fits is h = rw fits (in_script_steps (record { setup = setup; phase = Unstarted }) (event_by moment (started (policy_of setup)) w) p before after r (subst (λ (x : DaemonState). Steps (event_by moment x w) p before after r) is h))
+first_by : (event : daemon.Event) (setup : SetupState) (phase : Phase) (d : DaemonState) (w : World) (p : DaemonState × World) (before after : Option (List ℕ)) (r : Ran) → has_started phase ≡ false → fits_file setup ≡ true → d ≡ started setup → Steps (event_by (moment_of event) d w) p before after r → Steps (event_taken event (record { setup = setup; phase = phase }) w) (placed setup (rules_disk setup) p) before after r
+first_by (Sweep moment) setup SettingUp d w p before after r new fits is h = rw fits (in_script_steps (record { setup = setup; phase = SettingUp }) (event_by moment (started setup) w) p before after r (subst (λ (x : DaemonState). Steps (event_by moment x w) p before after r) is h))
+first_by (Sweep moment) setup Unstarted d w p before after r new fits is h = rw fits (in_script_steps (record { setup = setup; phase = Unstarted }) (event_by moment (started setup) w) p before after r (subst (λ (x : DaemonState). Steps (event_by moment x w) p before after r) is h))
 first_by (Sweep moment) setup (Started e disk) d w p before after r new fits is h = let none : ⊥ = cc in absurd none
 
-pub first_steps : (event : daemon.Event) (setup : SetupState) (phase : Phase) (d : DaemonState) (disk after_disk : DiskWorld) (w : World) (p : DaemonState × World) (before after : Option (List ℕ)) (r : Ran) → has_started phase ≡ false → fits_file setup ≡ true → d ≡ started (policy_of setup) → disk ≡ rules_disk setup → after_disk ≡ disk → Steps (event_by (moment_of event) d w) p before after r → Steps (event_taken event (record { setup = setup; phase = phase }) w) (placed setup after_disk p) before after r
+pub first_steps : (event : daemon.Event) (setup : SetupState) (phase : Phase) (d : DaemonState) (disk after_disk : DiskWorld) (w : World) (p : DaemonState × World) (before after : Option (List ℕ)) (r : Ran) → has_started phase ≡ false → fits_file setup ≡ true → d ≡ started setup → disk ≡ rules_disk setup → after_disk ≡ disk → Steps (event_by (moment_of event) d w) p before after r → Steps (event_taken event (record { setup = setup; phase = phase }) w) (placed setup after_disk p) before after r
 first_steps event setup phase d disk after_disk w p before after r new fits is on same h = subst (λ (o : DiskWorld). Steps (event_taken event (record { setup = setup; phase = phase }) w) (placed setup o p) before after r) (sym (same ∙ on)) (first_by event setup phase d w p before after r new fits is h)
 
 -- a rule file has no room for the rules
@@ -143,11 +143,11 @@ pub restart_later : (setup : SetupState) (d : DaemonState) (disk : DiskWorld) (t
 restart_later setup d disk t w held r is h = quiet_steps (with_restart (record { setup = setup; phase = Started d disk })) t w held r is h
 
 -- none was, and the first one is started before
-pub restart_first : (setup : SetupState) (phase : Phase) (d : DaemonState) (disk : DiskWorld) (t : Script) (w : World) (held : Option (List ℕ)) (r : Ran) → has_started phase ≡ false → fits_file setup ≡ true → d ≡ started (policy_of setup) → disk ≡ rules_disk setup → (r ≡ Done → t ≡ with_restart (record { setup = setup; phase = Started d disk })) → (r ≡ Done) ⊎ (r ≡ Memory) → Steps (restart_taken (record { setup = setup; phase = phase }) w) (Some t, w) held held r
+pub restart_first : (setup : SetupState) (phase : Phase) (d : DaemonState) (disk : DiskWorld) (t : Script) (w : World) (held : Option (List ℕ)) (r : Ran) → has_started phase ≡ false → fits_file setup ≡ true → d ≡ started setup → disk ≡ rules_disk setup → (r ≡ Done → t ≡ with_restart (record { setup = setup; phase = Started d disk })) → (r ≡ Done) ⊎ (r ≡ Memory) → Steps (restart_taken (record { setup = setup; phase = phase }) w) (Some t, w) held held r
 restart_first setup phase d disk t w held r new fits is on to h = by_phase phase new
   where
-    begun : r ≡ Done → t ≡ with_restart (record { setup = setup; phase = Started (started (policy_of setup)) (rules_disk setup) })
-    begun e = to e ∙ ap (λ (x : DaemonState). with_restart (record { setup = setup; phase = Started x disk })) is ∙ ap (λ (x : DiskWorld). with_restart (record { setup = setup; phase = Started (started (policy_of setup)) x })) on
+    begun : r ≡ Done → t ≡ with_restart (record { setup = setup; phase = Started (started setup) (rules_disk setup) })
+    begun e = to e ∙ ap (λ (x : DaemonState). with_restart (record { setup = setup; phase = Started x disk })) is ∙ ap (λ (x : DiskWorld). with_restart (record { setup = setup; phase = Started (started setup) x })) on
 
     by_phase : (p : Phase) → has_started p ≡ false → Steps (restart_taken (record { setup = setup; phase = p }) w) (Some t, w) held held r
     by_phase SettingUp e = rw fits (quiet_steps (with_restart (record { setup = setup; phase = SettingUp })) t w held r begun h)

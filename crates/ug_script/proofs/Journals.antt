@@ -18,6 +18,7 @@ use Rattle.ug_table.specs.Laws.{IsAsJudged}
 use Rattle.ug_play.specs.Play.{play, names_somebody, NameNobody}
 use Rattle.ug_play.proofs.Sweeps.{quiet_sweep, nobody_more}
 use Rattle.ug_play.proofs.Still.{lived_in_play}
+use Rattle.ug_acl.specs.Acls.{Addition}
 use Rattle.ug_conf.specs.Draft.{draft_of}
 use Rattle.ug_conf.specs.Settings.{defaults}
 use Rattle.ug_conf.specs.Texts.{setting_line, settled}
@@ -46,7 +47,7 @@ use Rattle.ug_script.specs.declared.step.Plan.TheVariants as plan
 use Rattle.ug_script.specs.declared.step.Step.{Step}
 use Rattle.ug_script.specs.declared.step.Step.TheVariants.{Skip, Setup, Move, Schedule, Event, Restart}
 use Rattle.ug_script.specs.Grammar.{step_of_line}
-use Rattle.ug_script.specs.Setup.{SetupState, no_setup, one_line_more, after_reading, policy_of, rules_disk, started, started_at, steps_of}
+use Rattle.ug_script.specs.Setup.{SetupState, no_setup, one_line_more, access_of, after_reading, policy_of, rules_disk, started, started_at, steps_of}
 use Rattle.ug_script.specs.Script.{Script, Phase, Started, fresh, takes_setup, has_started, closed_phase, with_setup_closed, daemon_by, daemon_in, disk_by, disk_in, can_start}
 use Rattle.ug_script.specs.Replay.{header, terminated, lines_text, outcome_of, outcome_text, quiet, bad, line_added, with_devices, with_restart, planned, came_of, event_of, in_script, taken, taken_if, script_step}
 use Rattle.ug_script.specs.Laws.{StaysLawful}
@@ -76,8 +77,8 @@ record Kept (first : World) (n : ℕ) (done : List (Option Step)) (runs : Events
   kernel : Kernel
   file : Disk
   only : HoldsOnly (rules_text_of s.setup.rules) file
-  ended : AreSuccessive (policy_of s.setup) (rules_text_of s.setup.rules) 1 first.kernel runs.ended number kernel
-  chain : Chain kernel (Some file) (started_at number (policy_of s.setup)) runs.last w.kernel (disk_told (disk_in s)) (daemon_in s)
+  ended : AreSuccessive (access_of s.setup) (policy_of s.setup) (rules_text_of s.setup.rules) 1 first.kernel runs.ended number kernel
+  chain : Chain kernel (Some file) (started_at number (access_of s.setup) (policy_of s.setup)) runs.last w.kernel (disk_told (disk_in s)) (daemon_in s)
   none : has_started s.phase ≡ false → runs ≡ no_events
   written : text ≡ lines_text (journal_of runs)
   nobody : AreQuiet done → first.fails ≡ [] → NameNobody (journal_of runs)
@@ -99,11 +100,11 @@ setup_kept : (first : World) (n : ℕ) (done : List (Option Step)) (runs : Event
 setup_kept first n done runs text s w step setup lt opened h given =
     let o = open_unstarted s.phase opened in
     let none : runs ≡ no_events = h.none o.0 in
-    let new : daemon_by setup s.phase ≡ started (policy_of setup) = o.1 setup in
+    let new : daemon_by setup s.phase ≡ started setup = o.1 setup in
     let on : disk_by setup s.phase ≡ rules_disk setup = o.2 setup in
     let file : Option Disk = Some (rules_disk setup).disk in
-    let begun : (h.number ≡ 1) × (h.kernel ≡ first.kernel) = subst (λ (x : EventsOfRuns). AreSuccessive (policy_of s.setup) (rules_text_of s.setup.rules) 1 first.kernel x.ended h.number h.kernel) none h.ended in
-    let before : Chain h.kernel (Some h.file) (started_at h.number (policy_of s.setup)) [] w.kernel (disk_told (disk_in s)) (daemon_in s) = subst (λ (x : EventsOfRuns). Chain h.kernel (Some h.file) (started_at h.number (policy_of s.setup)) x.last w.kernel (disk_told (disk_in s)) (daemon_in s)) none h.chain in
+    let begun : (h.number ≡ 1) × (h.kernel ≡ first.kernel) = subst (λ (x : EventsOfRuns). AreSuccessive (access_of s.setup) (policy_of s.setup) (rules_text_of s.setup.rules) 1 first.kernel x.ended h.number h.kernel) none h.ended in
+    let before : Chain h.kernel (Some h.file) (started_at h.number (access_of s.setup) (policy_of s.setup)) [] w.kernel (disk_told (disk_in s)) (daemon_in s) = subst (λ (x : EventsOfRuns). Chain h.kernel (Some h.file) (started_at h.number (access_of s.setup) (policy_of s.setup)) x.last w.kernel (disk_told (disk_in s)) (daemon_in s)) none h.chain in
     let moves : Moves first.kernel w.kernel = subst (λ (k : Kernel). Moves k w.kernel) begun.1 before.0 in
     let stays : StaysOnDisk file (disk_told (disk_by setup s.phase)) = subst (λ (x : DiskWorld). StaysOnDisk file (disk_told x)) (sym on) (stays_there file) in
     record {
@@ -120,8 +121,8 @@ setup_kept first n done runs text s w step setup lt opened h given =
       kernel = first.kernel;
       file = (rules_disk setup).disk;
       only = (refl, refl);
-      ended = subst (λ (x : EventsOfRuns). AreSuccessive (policy_of setup) (rules_text_of setup.rules) 1 first.kernel x.ended 1 first.kernel) (sym none) (refl, refl);
-      chain = subst (λ (x : EventsOfRuns). Chain first.kernel file (started (policy_of setup)) x.last w.kernel (disk_told (disk_by setup s.phase)) (daemon_by setup s.phase)) (sym none) (moves, stays, new);
+      ended = subst (λ (x : EventsOfRuns). AreSuccessive (access_of setup) (policy_of setup) (rules_text_of setup.rules) 1 first.kernel x.ended 1 first.kernel) (sym none) (refl, refl);
+      chain = subst (λ (x : EventsOfRuns). Chain first.kernel file (started setup) x.last w.kernel (disk_told (disk_by setup s.phase)) (daemon_by setup s.phase)) (sym none) (moves, stays, new);
       none = h.none;
       written = h.written;
       nobody = λ q. h.nobody (quiet_front done step q).0;
@@ -142,7 +143,7 @@ kept_when first n done runs text false o s w x = tt
 on_kept : (first : World) (n : ℕ) (done : List (Option Step)) (runs : EventsOfRuns) (text : List ℕ) (s : Script) (w v : World) (step : Option Step) (phase : Phase) → n < 1048576 → Kept first n done runs text s w → daemon_by s.setup phase ≡ daemon_in s → disk_by s.setup phase ≡ disk_in s → has_started phase ≡ has_started s.phase → IsGiven (n + 1) (done ++ step ∷ []) s.setup → HoldsOf (daemon_in s) v → Moves w.kernel v.kernel → v.faults ≡ w.faults
     → (AreQuiet (done ++ step ∷ []) → first.fails ≡ [] → v.fails ≡ []) → (AreQuiet (done ++ step ∷ []) → first.moves ≡ [] → v.moves ≡ []) → Kept first (n + 1) (done ++ step ∷ []) runs text (record s { phase = phase }) v
 on_kept first n done runs text s w v step phase lt h same on begun given holds moves faults unfailing unmoved =
-    let new : DaemonState = started_at h.number (policy_of s.setup) in
+    let new : DaemonState = started_at h.number (access_of s.setup) (policy_of s.setup) in
     record {
       few = omega (arith, lt);
       holds = subst (λ (d : DaemonState). HoldsOf d v) (sym same) holds;
@@ -171,7 +172,7 @@ closed_now : {X : Type 0} → false ≡ true → X
 closed_now e = let none : ⊥ = cc in absurd none
 
 skip_kept : (first : World) (n : ℕ) (done : List (Option Step)) (runs : EventsOfRuns) (text : List ℕ) (s : Script) (w : World) → n < 1048576 → Kept first n done runs text s w → Kept first (n + 1) (done ++ Some Skip ∷ []) runs text s w
-skip_kept first n done runs text s w lt h = on_kept first n done runs text s w w (Some Skip) s.phase lt h refl refl refl (given_still n done (Some Skip) s.setup refl refl refl refl h.given) h.holds (unmoving w.kernel) refl (λ q. h.unfailing (quiet_front done (Some Skip) q).0) (λ q. h.unmoved (quiet_front done (Some Skip) q).0)
+skip_kept first n done runs text s w lt h = on_kept first n done runs text s w w (Some Skip) s.phase lt h refl refl refl (given_still n done (Some Skip) s.setup refl refl refl refl refl h.given) h.holds (unmoving w.kernel) refl (λ q. h.unfailing (quiet_front done (Some Skip) q).0) (λ q. h.unmoved (quiet_front done (Some Skip) q).0)
 
 -- ---- an event
 
@@ -198,8 +199,8 @@ is_event first n done runs text moment s w h =
     }
 
 -- the chain with that event
-event_chain : (first : World) (n : ℕ) (done : List (Option Step)) (runs : EventsOfRuns) (text : List ℕ) (moment : Moment) (s : Script) (w : World) (h : Kept first n done runs text s w) → Chain h.kernel (Some h.file) (started_at h.number (policy_of s.setup)) (runs.last ++ happened_at moment s w ∷ []) (event_of moment s w).1.kernel (disk_told (disk_in s)) (event_of moment s w).0
-event_chain first n done runs text moment s w h = chain_more h.kernel (Some h.file) (started_at h.number (policy_of s.setup)) runs.last w.kernel (disk_told (disk_in s)) (daemon_in s) (happened_at moment s w) h.chain (unmoving w.kernel) (stays_there (disk_told (disk_in s))) refl (is_event first n done runs text moment s w h)
+event_chain : (first : World) (n : ℕ) (done : List (Option Step)) (runs : EventsOfRuns) (text : List ℕ) (moment : Moment) (s : Script) (w : World) (h : Kept first n done runs text s w) → Chain h.kernel (Some h.file) (started_at h.number (access_of s.setup) (policy_of s.setup)) (runs.last ++ happened_at moment s w ∷ []) (event_of moment s w).1.kernel (disk_told (disk_in s)) (event_of moment s w).0
+event_chain first n done runs text moment s w h = chain_more h.kernel (Some h.file) (started_at h.number (access_of s.setup) (policy_of s.setup)) runs.last w.kernel (disk_told (disk_in s)) (daemon_in s) (happened_at moment s w) h.chain (unmoving w.kernel) (stays_there (disk_told (disk_in s))) refl (is_event first n done runs text moment s w h)
 
 journal_more : (runs : EventsOfRuns) (h : Happened) → journal_of (with_events (h ∷ []) runs) ≡ journal_of runs ++ h.after.sweep.entries
 journal_more runs h =
@@ -217,7 +218,7 @@ event_kept first n done runs text moment s w lt h =
       few = omega (arith, lt);
       holds = event_holds moment (daemon_in s) w h.holds;
       fits = λ e. event_fits n moment (daemon_in s) w lt h.holds (h.fits e);
-      given = given_still n done step s.setup refl refl refl refl h.given;
+      given = given_still n done step s.setup refl refl refl refl refl h.given;
       pending = event_pending moment (daemon_in s) w h.pending;
       disk = h.disk;
       number = h.number;
@@ -225,7 +226,7 @@ event_kept first n done runs text moment s w lt h =
       file = h.file;
       only = h.only;
       ended = h.ended;
-      chain = chain_moves h.kernel (Some h.file) (started_at h.number (policy_of s.setup)) (runs.last ++ this ∷ []) p.1.kernel (over p.1).kernel (disk_told (disk_in s)) (disk_told (disk_in s)) p.0 (event_chain first n done runs text moment s w h) (happened_moves p.1.moves p.1.kernel) (stays_there (disk_told (disk_in s)));
+      chain = chain_moves h.kernel (Some h.file) (started_at h.number (access_of s.setup) (policy_of s.setup)) (runs.last ++ this ∷ []) p.1.kernel (over p.1).kernel (disk_told (disk_in s)) (disk_told (disk_in s)) p.0 (event_chain first n done runs text moment s w h) (happened_moves p.1.moves p.1.kernel) (stays_there (disk_told (disk_in s)));
       none = λ e. closed_now (sym e);
       written = ap (λ (z : List ℕ). z ++ lines_text p.0.sweep.entries) h.written ∙ sym (lines_more (journal_of runs) p.0.sweep.entries) ∙ ap (λ (es : List Entry). lines_text es) (sym all);
       nobody = λ q e.
@@ -245,21 +246,21 @@ event_if first n done runs text moment s w false has k = tt
 -- ---- a restart
 
 -- a run, from its start to where it came
-daemon_run : (policy : Judging) (text : List ℕ) (number : ℕ) (first : Kernel) (file : Disk) (hs : List Happened) (k : Kernel) (p : Option Disk) (e : DaemonState) → HoldsOnly text file → Chain first (Some file) (started_at number policy) hs k p e → IsDaemonRun policy text number first hs k p e
-daemon_run policy text number first file hs k p e only chain = record {
+daemon_run : (access : List Addition) (policy : Judging) (text : List ℕ) (number : ℕ) (first : Kernel) (file : Disk) (hs : List Happened) (k : Kernel) (p : Option Disk) (e : DaemonState) → HoldsOnly text file → Chain first (Some file) (started_at number access policy) hs k p e → IsDaemonRun access policy text number first hs k p e
+daemon_run access policy text number first file hs k p e only chain = record {
   file = file;
   holds = only;
   chain = chain;
-  run = is_run policy number first (Some file) (started_at number policy) hs k p e (record { judge = refl; standings = refl; next = refl; listed = refl; entries = refl; pending = refl; event = refl }) chain;
+  run = is_run policy number first (Some file) (started_at number access policy) hs k p e (record { judge = refl; standings = refl; next = refl; listed = refl; entries = refl; pending = refl; event = refl }) chain;
 }
 
 -- one run more has ended
-run_ended : (policy : Judging) (text : List ℕ) (number : ℕ) (first : Kernel) (runs : List (List Happened)) (next : ℕ) (k : Kernel) (hs : List Happened) (r : EndedRun policy text next k hs) → AreSuccessive policy text number first runs next k → AreSuccessive policy text number first (runs ++ hs ∷ []) r.daemon.event r.kernel
-run_ended policy text number first [] next k hs r h = run_first first number k next hs r h.1 h.0
+run_ended : (access : List Addition) (policy : Judging) (text : List ℕ) (number : ℕ) (first : Kernel) (runs : List (List Happened)) (next : ℕ) (k : Kernel) (hs : List Happened) (r : EndedRun access policy text next k hs) → AreSuccessive access policy text number first runs next k → AreSuccessive access policy text number first (runs ++ hs ∷ []) r.daemon.event r.kernel
+run_ended access policy text number first [] next k hs r h = run_first first number k next hs r h.1 h.0
   where
-    run_first : (first : Kernel) (number : ℕ) (k : Kernel) (next : ℕ) (hs : List Happened) (r : EndedRun policy text next k hs) → k ≡ first → next ≡ number → AreSuccessive policy text number first (hs ∷ []) r.daemon.event r.kernel
-    run_first first number k next hs r same number_is = (record { kernel = r.kernel; disk = r.disk; daemon = r.daemon; is = subst (λ (m : ℕ). IsDaemonRun policy text m first hs r.kernel r.disk r.daemon) number_is (subst (λ (l : Kernel). IsDaemonRun policy text next l hs r.kernel r.disk r.daemon) same r.is) }, (refl, refl))
-run_ended policy text number first (gs ∷ runs) next k hs r h = (h.0, run_ended policy text h.0.daemon.event h.0.kernel runs next k hs r h.1)
+    run_first : (first : Kernel) (number : ℕ) (k : Kernel) (next : ℕ) (hs : List Happened) (r : EndedRun access policy text next k hs) → k ≡ first → next ≡ number → AreSuccessive access policy text number first (hs ∷ []) r.daemon.event r.kernel
+    run_first first number k next hs r same number_is = (record { kernel = r.kernel; disk = r.disk; daemon = r.daemon; is = subst (λ (m : ℕ). IsDaemonRun access policy text m first hs r.kernel r.disk r.daemon) number_is (subst (λ (l : Kernel). IsDaemonRun access policy text next l hs r.kernel r.disk r.daemon) same r.is) }, (refl, refl))
+run_ended access policy text number first (gs ∷ runs) next k hs r h = (h.0, run_ended access policy text h.0.daemon.event h.0.kernel runs next k hs r h.1)
 
 -- the disk that was read has the same text, and a crash leaves the same
 read_only : (rules : List ℕ) (o u : DiskWorld) → forgetting o ≡ forgetting u → HoldsOnly rules (after_reading u).disk → HoldsOnly rules (after_reading o).disk
@@ -281,12 +282,13 @@ restart_kept first n done runs text s w lt h =
     let step : Option Step = Some Restart in
     let d : DaemonState = daemon_in s in
     let o : DiskWorld = disk_in s in
+    let access : List Addition = access_of s.setup in
     let policy : Judging = policy_of s.setup in
     let rules : List ℕ = rules_text_of s.setup.rules in
-    let this : EndedRun policy rules h.number h.kernel runs.last = record { kernel = w.kernel; disk = disk_told o; daemon = d; is = daemon_run policy rules h.number h.kernel h.file runs.last w.kernel (disk_told o) d h.only h.chain } in
+    let this : EndedRun access policy rules h.number h.kernel runs.last = record { kernel = w.kernel; disk = disk_told o; daemon = d; is = daemon_run access policy rules h.number h.kernel h.file runs.last w.kernel (disk_told o) d h.only h.chain } in
     let file : Disk = (after_reading o).disk in
     let ran : o.ran_out ≡ false = ap (λ (x : DiskWorld). x.ran_out) h.disk in
-    let given : IsGiven (n + 1) (done ++ step ∷ []) s.setup = given_still n done step s.setup refl refl refl refl h.given in
+    let given : IsGiven (n + 1) (done ++ step ∷ []) s.setup = given_still n done step s.setup refl refl refl refl refl h.given in
     let same : journal_of (record { ended = runs.ended ++ runs.last ∷ []; last = [] }) ≡ journal_of runs = journal_ended runs in
     record {
       few = omega (arith, lt);
@@ -302,7 +304,7 @@ restart_kept first n done runs text s w lt h =
       kernel = w.kernel;
       file = file;
       only = read_only rules o (rules_disk s.setup) h.disk (refl, refl);
-      ended = run_ended policy rules 1 first.kernel runs.ended h.number h.kernel runs.last this h.ended;
+      ended = run_ended access policy rules 1 first.kernel runs.ended h.number h.kernel runs.last this h.ended;
       chain = (unmoving w.kernel, subst (λ (x : Option Disk). StaysOnDisk (Some file) x) (sym (told_reading o ran)) (stays_there (Some file)), refl);
       none = λ e. closed_now (sym e);
       written = append-nil text ∙ h.written ∙ ap (λ (es : List Entry). lines_text es) (sym same);
@@ -336,6 +338,7 @@ nobody_left (e ∷ es) fs n =
 event_once : (first : World) (n : ℕ) (done : List (Option Step)) (runs : EventsOfRuns) (text : List ℕ) (s : Script) (w : World) (h : Kept first n done runs text s w) → AreQuiet done → first.fails ≡ [] → first.moves ≡ [] → (moment : Moment) → JudgesOnce (policy_of s.setup) h.kernel h.file runs.last (happened_at moment s w)
 unfolding daemon_run
 event_once first n done runs text s w h quiet_lines fails moves moment =
+    let access : List Addition = access_of s.setup in
     let policy : Judging = policy_of s.setup in
     let d : DaemonState = daemon_in s in
     let p = event_of moment s w in
@@ -347,7 +350,7 @@ event_once first n done runs text s w h quiet_lines fails moves moment =
     let rest : List Entry = law.law.fair.rest in
     let all : p.0.sweep.entries ≡ ((x ∷ []) ++ rest) ++ y ∷ [] = ap (λ (z : State Judging). z.entries) law.entries ∙ ap (λ (z : List Entry). z ++ y ∷ []) law.law.fair.entries in
     let quiet : NameNobody ((x ∷ []) ++ rest) = nobody_left ((x ∷ []) ++ rest) (y ∷ []) (subst NameNobody all (nobody_in_event moment d w h.holds.told (h.unfailing quiet_lines fails))) in
-    let run = (daemon_run policy (rules_text_of s.setup.rules) h.number h.kernel h.file (runs.last ++ happened_at moment s w ∷ []) l (disk_told (disk_in s)) p.0 h.only (event_chain first n done runs text moment s w h)).run in
+    let run = (daemon_run access policy (rules_text_of s.setup.rules) h.number h.kernel h.file (runs.last ++ happened_at moment s w ∷ []) l (disk_told (disk_in s)) p.0 h.only (event_chain first n done runs text moment s w h)).run in
     record {
       run = run;
       each = λ i e live.
@@ -365,9 +368,11 @@ event_once first n done runs text s w h quiet_lines fails moves moment =
 recorded : (first : World) (lines : List (List ℕ)) (n : ℕ) (text : List ℕ) (s : Script) (w : World) → Kept first n (steps_of lines) (runs_in first lines) text s w → Recorded first lines text s w
 unfolding daemon_run
 recorded first lines n text s w h =
+    let access : List Addition = access_of s.setup in
     let policy : Judging = policy_of s.setup in
     let runs : EventsOfRuns = runs_in first lines in
     record {
+      access = access;
       policy = policy;
       setup = given_setup n (steps_of lines) s.setup h.given;
       settings = λ whole e. ap (λ (ls : List (List ℕ)). settled (lines_read setting_line 1 (draft_of defaults []) ls)) e ∙ ap settled (given_setup n (steps_of lines) s.setup h.given).settings;
@@ -375,12 +380,12 @@ recorded first lines n text s w h =
       runs = record {
         number = h.number;
         kernel = h.kernel;
-        ended = subst (λ (rs : List Rule). AreSuccessive policy (rules_text_of rs) 1 first.kernel runs.ended h.number h.kernel) h.given.rules h.ended;
+        ended = subst (λ (rs : List Rule). AreSuccessive access policy (rules_text_of rs) 1 first.kernel runs.ended h.number h.kernel) h.given.rules h.ended;
         last = record {
           file = h.file;
           holds = subst (λ (rs : List Rule). HoldsOnly (rules_text_of rs) h.file) h.given.rules h.only;
           chain = h.chain;
-          run = (daemon_run policy (rules_text_of s.setup.rules) h.number h.kernel h.file runs.last w.kernel (disk_told (disk_in s)) (daemon_in s) h.only h.chain).run;
+          run = (daemon_run access policy (rules_text_of s.setup.rules) h.number h.kernel h.file runs.last w.kernel (disk_told (disk_in s)) (daemon_in s) h.only h.chain).run;
         };
       };
       written = h.written;
@@ -399,7 +404,7 @@ step_kept first n done runs text (Move action) s w lt h =
     let step : Option Step = Some (Move action) in
     let v : World = with_devices (moved action w.kernel.devices) w in
     kept_still first (n + 1) (done ++ step ∷ []) runs text (with_setup_closed s) v
-    (on_kept first n done runs text s w v step (closed_phase s.phase) lt h (closed_daemon s.setup s.phase) (closed_disk s.setup s.phase) (closed_started s.phase) (given_still n done step s.setup refl refl refl refl h.given) (move_holds action (daemon_in s) w h.holds) (moved_moves action w.kernel) refl (λ q. h.unfailing (quiet_front done step q).0) (λ q. h.unmoved (quiet_front done step q).0))
+    (on_kept first n done runs text s w v step (closed_phase s.phase) lt h (closed_daemon s.setup s.phase) (closed_disk s.setup s.phase) (closed_started s.phase) (given_still n done step s.setup refl refl refl refl refl h.given) (move_holds action (daemon_in s) w h.holds) (moved_moves action w.kernel) refl (λ q. h.unfailing (quiet_front done step q).0) (λ q. h.unmoved (quiet_front done step q).0))
 step_kept first n done runs text (Schedule p) s w lt h = plan_kept p
   where
     step : Option Step
@@ -409,7 +414,7 @@ step_kept first n done runs text (Schedule p) s w lt h = plan_kept p
     loud q = closed_now (quiet_front done (Some (Schedule p)) q).1
 
     by : (v : World) → HoldsOf (daemon_in s) v → Moves w.kernel v.kernel → v.faults ≡ w.faults → Kept first (n + 1) (done ++ Some (Schedule p) ∷ []) runs text (with_setup_closed s) v
-    by v holds moves faults = on_kept first n done runs text s w v (Some (Schedule p)) (closed_phase s.phase) lt h (closed_daemon s.setup s.phase) (closed_disk s.setup s.phase) (closed_started s.phase) (given_still n done (Some (Schedule p)) s.setup refl refl refl refl h.given) holds moves faults (λ q. loud q) (λ q. loud q)
+    by v holds moves faults = on_kept first n done runs text s w v (Some (Schedule p)) (closed_phase s.phase) lt h (closed_daemon s.setup s.phase) (closed_disk s.setup s.phase) (closed_started s.phase) (given_still n done (Some (Schedule p)) s.setup refl refl refl refl refl h.given) holds moves faults (λ q. loud q) (λ q. loud q)
 
     plan_kept : (x : Plan) → Kept first (n + 1) (done ++ Some (Schedule p) ∷ []) (with_events [] runs) (text ++ []) (with_setup_closed s) (planned x w)
     plan_kept (plan.Move m) = kept_still first (n + 1) (done ++ Some (Schedule p) ∷ []) runs text (with_setup_closed s) (planned (plan.Move m) w) (by (planned (plan.Move m) w) (plan_holds (plan.Move m) (daemon_in s) w h.holds) (unmoving w.kernel) refl)

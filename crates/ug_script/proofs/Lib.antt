@@ -1,6 +1,7 @@
 pub mod Moments
 pub mod NamesRead
 pub mod Readable
+pub mod AccessLines
 pub mod WellFormed
 pub mod Phases
 pub mod EventSteps

@@ -1,5 +1,5 @@
 -- What setup lines give, a line at a time.
-use Rattle.std.proofs.Common.{◌≡◌, ℕ, ◌+◌, ◌<◌, ◌≤◌, ℤ, pos, Bool, true, false, is_none, ◌&&◌, if◌then◌else◌, nat_lt, List, [], ◌∷◌, ◌++◌, length, flat_map, Option, Some, None, Result, Ok, Err, inl, inr, refl, sym, ◌∙◌, ap, subst, arith, append_assoc, append-nil, length-append}
+use Rattle.std.proofs.Common.{◌≡◌, ℕ, ◌+◌, ◌<◌, ◌≤◌, ℤ, pos, Bool, true, false, is_none, ◌&&◌, if◌then◌else◌, nat_lt, List, [], ◌∷◌, ◌++◌, length, map, flat_map, Option, Some, None, Result, Ok, Err, inl, inr, refl, sym, ◌∙◌, ap, subst, arith, append_assoc, append-nil, length-append}
 use Rattle.std.proofs.lemmas.Bool.Decides.{nat_tests}
 use Rattle.ug_types.specs.Elements.{Has, AllDistinct}
 use Rattle.ug_types.specs.declared.rule.Rule as types
@@ -18,11 +18,13 @@ use Rattle.ug_lines.specs.LineReading.{lines_read, on_line, then_on}
 use Rattle.ug_core.specs.Starting.{permanent_entries}
 use Rattle.ug_core.specs.Policy.{Judging, as_given}
 use Rattle.ug_core.specs.Verdicts.{IsLater}
+use Rattle.ug_script.specs.declared.step.AccessLine.{AccessLine}
 use Rattle.ug_script.specs.declared.step.SetupLine.{SetupLine}
-use Rattle.ug_script.specs.declared.step.SetupLine.TheVariants.{Rule, Conf, Seed, Zone}
+use Rattle.ug_script.specs.declared.step.SetupLine.TheVariants.{Rule, Conf, Access, Seed, Zone}
 use Rattle.ug_script.specs.declared.step.Step.{Step}
 use Rattle.ug_script.specs.declared.step.Step.TheVariants.{Setup}
-use Rattle.ug_script.specs.Setup.{SetupState, no_setup, is_offset, is_setting, with_draft, one_line_more, clock_ahead, seeded, no_seed, given_or, policy_of, rule_asked, conf_asked, seed_asked, zone_asked, first_or, IsSetup}
+use Rattle.ug_script.specs.Setup.{SetupState, no_setup, is_offset, with_draft, one_line_more, everything, granted, access_of, clock_ahead, seeded, no_seed, given_or, policy_of, rule_asked, conf_asked, access_asked, seed_asked, zone_asked, first_or, IsSetup}
+use Rattle.ug_script.specs.Words.{is_entry}
 
 pub flat_more : {X : Type 0} (f : Option Step → List X) (steps : List (Option Step)) (step : Option Step) → flat_map f (steps ++ step ∷ []) ≡ flat_map f steps ++ f step
 flat_more f [] step = append-nil (f step)
@@ -61,16 +63,17 @@ pub record IsGiven (n : ℕ) (done : List (Option Step)) (s : SetupState) : Type
   pub read : lines_read setting_line 1 (draft_of defaults []) (flat_map conf_asked done) ≡ Ok s.settings.draft
   pub lines : s.settings.lines ≡ length (flat_map conf_asked done)
   pub few : s.settings.lines ≤ n
+  pub granted : s.access ≡ flat_map access_asked done
   pub seeds : flat_map seed_asked done ≡ alone s.seed
   pub zones : flat_map zone_asked done ≡ alone s.zone
 
 pub given_first : IsGiven 1 [] no_setup
 unfolding lines_read
-given_first = record { rules = refl; few_rules = omega arith; listed = omega arith; read = refl; lines = refl; few = omega arith; seeds = refl; zones = refl }
+given_first = record { rules = refl; few_rules = omega arith; listed = omega arith; read = refl; lines = refl; few = omega arith; granted = refl; seeds = refl; zones = refl }
 
 -- a step that isn't one of setup
-pub given_still : (n : ℕ) (done : List (Option Step)) (step : Option Step) (s : SetupState) → rule_asked step ≡ [] → conf_asked step ≡ [] → seed_asked step ≡ [] → zone_asked step ≡ [] → IsGiven n done s → IsGiven (n + 1) (done ++ step ∷ []) s
-given_still n done step s rule conf seed zone h =
+pub given_still : (n : ℕ) (done : List (Option Step)) (step : Option Step) (s : SetupState) → rule_asked step ≡ [] → conf_asked step ≡ [] → access_asked step ≡ [] → seed_asked step ≡ [] → zone_asked step ≡ [] → IsGiven n done s → IsGiven (n + 1) (done ++ step ∷ []) s
+given_still n done step s rule conf access seed zone h =
     let few_rules : length s.rules ≤ n = h.few_rules in
     let few : s.settings.lines ≤ n = h.few in
     record {
@@ -80,6 +83,7 @@ given_still n done step s rule conf seed zone h =
       read = ap (λ (l : List (List ℕ)). lines_read setting_line 1 (draft_of defaults []) l) (flat_none conf_asked done step conf) ∙ h.read;
       lines = h.lines ∙ ap (λ (l : List (List ℕ)). length l) (sym (flat_none conf_asked done step conf));
       few = omega (arith, few);
+      granted = h.granted ∙ sym (flat_none access_asked done step access);
       seeds = flat_none seed_asked done step seed ∙ h.seeds;
       zones = flat_none zone_asked done step zone ∙ h.zones;
     }
@@ -118,6 +122,7 @@ given_rule n done rule s b h =
       read = ap (λ (l : List (List ℕ)). lines_read setting_line 1 (draft_of defaults []) l) (flat_none conf_asked done step refl) ∙ h.read;
       lines = h.lines ∙ ap (λ (l : List (List ℕ)). length l) (sym (flat_none conf_asked done step refl));
       few = omega (arith, few);
+      granted = h.granted ∙ sym (flat_none access_asked done step refl);
       seeds = flat_none seed_asked done step refl ∙ h.seeds;
       zones = flat_none zone_asked done step refl ∙ h.zones;
     }
@@ -142,6 +147,24 @@ given_conf n done text s (Ok draft) lt is h =
       read = ap (λ (l : List (List ℕ)). lines_read setting_line 1 (draft_of defaults []) l) all ∙ settings_more 1 (draft_of defaults []) asked text s.settings.draft draft h.read (subst (λ (m : ℕ). line_read m s.settings.draft text ≡ Ok draft) number is);
       lines = count ∙ ap (λ (l : List (List ℕ)). length l) (sym all);
       few = omega (arith, few, lt);
+      granted = h.granted ∙ sym (flat_none access_asked done step refl);
+      seeds = flat_none seed_asked done step refl ∙ h.seeds;
+      zones = flat_none zone_asked done step refl ∙ h.zones;
+    }
+
+given_access : (n : ℕ) (done : List (Option Step)) (line : AccessLine) (s : SetupState) → IsGiven n done s → AfterLine n done (Access line) (record s { access = s.access ++ line ∷ [] })
+given_access n done line s h =
+    let step : Option Step = Some (Setup (Access line)) in
+    let few_rules : length s.rules ≤ n = h.few_rules in
+    let few : s.settings.lines ≤ n = h.few in
+    record {
+      rules = h.rules ∙ sym (flat_none rule_asked done step refl);
+      few_rules = omega (arith, few_rules);
+      listed = h.listed;
+      read = ap (λ (l : List (List ℕ)). lines_read setting_line 1 (draft_of defaults []) l) (flat_none conf_asked done step refl) ∙ h.read;
+      lines = h.lines ∙ ap (λ (l : List (List ℕ)). length l) (sym (flat_none conf_asked done step refl));
+      few = omega (arith, few);
+      granted = ap (λ (l : List AccessLine). l ++ line ∷ []) h.granted ∙ sym (flat_more access_asked done step);
       seeds = flat_none seed_asked done step refl ∙ h.seeds;
       zones = flat_none zone_asked done step refl ∙ h.zones;
     }
@@ -158,6 +181,7 @@ given_seed n done seed s b h =
       read = ap (λ (l : List (List ℕ)). lines_read setting_line 1 (draft_of defaults []) l) (flat_none conf_asked done step refl) ∙ h.read;
       lines = h.lines ∙ ap (λ (l : List (List ℕ)). length l) (sym (flat_none conf_asked done step refl));
       few = omega (arith, few);
+      granted = h.granted ∙ sym (flat_none access_asked done step refl);
       seeds = flat_more seed_asked done step ∙ ap (λ (l : List (List ℕ)). l ++ seed ∷ []) (h.seeds ∙ none_alone s.seed b);
       zones = flat_none zone_asked done step refl ∙ h.zones;
     }
@@ -174,6 +198,7 @@ given_zone n done offset s b h =
       read = ap (λ (l : List (List ℕ)). lines_read setting_line 1 (draft_of defaults []) l) (flat_none conf_asked done step refl) ∙ h.read;
       lines = h.lines ∙ ap (λ (l : List (List ℕ)). length l) (sym (flat_none conf_asked done step refl));
       few = omega (arith, few);
+      granted = h.granted ∙ sym (flat_none access_asked done step refl);
       seeds = flat_none seed_asked done step refl ∙ h.seeds;
       zones = flat_more zone_asked done step ∙ ap (λ (l : List ℤ). l ++ offset ∷ []) (h.zones ∙ none_alone s.zone b);
     }
@@ -181,7 +206,8 @@ given_zone n done offset s b h =
 -- a line of setup
 pub given_added : (n : ℕ) (done : List (Option Step)) (line : SetupLine) (s : SetupState) → n < 1048576 → IsGiven n done s → InSetup (AfterLine n done line) (one_line_more line s)
 given_added n done (Rule rule) s lt h = in_when (AfterLine n done (Rule rule)) (nat_lt (length s.rules) 65536) (Some (record s { rules = s.rules ++ rule ∷ [] })) (λ b. given_rule n done rule s b h)
-given_added n done (Conf text) s lt h = in_when (AfterLine n done (Conf text)) (is_setting text) (with_draft (line_read (next_number s.settings.lines) s.settings.draft text) s) (λ b. given_conf n done text s (line_read (next_number s.settings.lines) s.settings.draft text) lt refl h)
+given_added n done (Conf text) s lt h = in_when (AfterLine n done (Conf text)) (is_entry text) (with_draft (line_read (next_number s.settings.lines) s.settings.draft text) s) (λ b. given_conf n done text s (line_read (next_number s.settings.lines) s.settings.draft text) lt refl h)
+given_added n done (Access line) s lt h = given_access n done line s h
 given_added n done (Seed seed) s lt h = in_when (AfterLine n done (Seed seed)) (is_none s.seed) (Some (record s { seed = Some seed })) (λ b. given_seed n done seed s b h)
 given_added n done (Zone offset) s lt h = in_when (AfterLine n done (Zone offset)) (is_none s.zone && is_offset offset) (Some (record s { zone = Some offset })) (λ b. given_zone n done offset s (both (is_none s.zone) (is_offset offset) b) h)
 
@@ -189,7 +215,7 @@ first_alone : {X : Type 0} (other : X) (o : Option X) → given_or other o ≡ f
 first_alone other None = refl
 first_alone other (Some x) = refl
 
-pub given_setup : (n : ℕ) (done : List (Option Step)) (s : SetupState) → IsGiven n done s → IsSetup done (policy_of s)
+pub given_setup : (n : ℕ) (done : List (Option Step)) (s : SetupState) → IsGiven n done s → IsSetup done (access_of s) (policy_of s)
 given_setup n done s h = record {
   draft = s.settings.draft;
   settings = h.read;
@@ -198,6 +224,7 @@ given_setup n done s h = record {
   next = ap (λ (l : List types.Rule). length l + 1) h.rules;
   clock = ap (λ (z : ℤ). clock_ahead z) (first_alone (pos 0) s.zone ∙ ap (λ (l : List ℤ). first_or (pos 0) l) (sym h.zones));
   ctx = refl;
+  allowed = ap (λ (l : List AccessLine). map everything s.settings.draft.settings.users ++ map granted l) h.granted;
   words = ap (λ (z : List ℕ). seeded z) (first_alone no_seed s.seed ∙ ap (λ (l : List (List ℕ)). first_or no_seed l) (sym h.seeds));
 }
 

@@ -24,22 +24,22 @@ use Rattle.ug_core.specs.declared.classes.Classes.{Classes}
 use Rattle.ug_core.specs.Starting.{Starts, Loads, StartsWith, StartsAfter, StartsFrom, fault_of_recovery, StartsWithRules, HoldsJust, HasRulesOf, Outset, policy_at}
 use Rattle.ug_core.specs.declared.start_fault.StartFault.{StartFault}
 use Rattle.ug_core.specs.declared.start_fault.StartFault.TheVariants as fault
-use Rattle.ug_script.specs.Setup.{SetupState, after_reading, policy_of, rules_disk, started_at}
+use Rattle.ug_script.specs.Setup.{SetupState, access_of, after_reading, policy_of, rules_disk, started_at}
 use Rattle.ug_script.specs.Script.{HoldsRules, IsWantOfMemory, fits_file}
 
 abbrev made : List Standing → ℕ → Bool → Judging → List Entry → List Addition → Bool → ℕ → DaemonState
 made ss next listed judge es access pending number = record { sweep = record { standings = ss; next = next; listed = listed; judge = judge; entries = es }; access = access; pending = pending; event = number }
 
-started_is : (p : Judging) (number : ℕ) (d : DaemonState) → IsStarted p number d → d.access ≡ [] → d ≡ started_at number p
-started_is p number d h nobody =
+started_is : (p : Judging) (access : List Addition) (number : ℕ) (d : DaemonState) → IsStarted p number d → d.access ≡ access → d ≡ started_at number access p
+started_is p access number d h given =
     ap (λ (x : List Standing). made x d.sweep.next d.sweep.listed d.sweep.judge d.sweep.entries d.access d.pending d.event) h.standings
     ∙ ap (λ (x : ℕ). made [] x d.sweep.listed d.sweep.judge d.sweep.entries d.access d.pending d.event) h.next
     ∙ ap (λ (x : Bool). made [] 1 x d.sweep.judge d.sweep.entries d.access d.pending d.event) h.listed
     ∙ ap (λ (x : Judging). made [] 1 false x d.sweep.entries d.access d.pending d.event) h.judge
     ∙ ap (λ (x : List Entry). made [] 1 false p x d.access d.pending d.event) h.entries
-    ∙ ap (λ (x : List Addition). made [] 1 false p [] x d.pending d.event) nobody
-    ∙ ap (λ (x : Bool). made [] 1 false p [] [] x d.event) h.pending
-    ∙ ap (λ (x : ℕ). made [] 1 false p [] [] false x) h.event
+    ∙ ap (λ (x : List Addition). made [] 1 false p [] x d.pending d.event) given
+    ∙ ap (λ (x : Bool). made [] 1 false p [] access x d.event) h.pending
+    ∙ ap (λ (x : ℕ). made [] 1 false p [] access false x) h.event
 
 -- the rules of the rules' text are these
 same_rules : (rules others : List Rule) (read : Result (List Rule) TextFault) → read ≡ Ok rules → read ≡ Ok others → others ≡ rules
@@ -129,20 +129,20 @@ abbrev IsOutset : SetupState → Outset → Type 0
 IsOutset setup outset = (list : Rules) → HoldsJust setup.rules list → policy_at outset list ≡ policy_of setup
 
 abbrev pub IsSession : SetupState → ℕ → DiskWorld → DaemonState → DiskWorld → Type 0
-IsSession setup number o d t = (d ≡ started_at number (policy_of setup)) × (t ≡ after_reading o)
+IsSession setup number o d t = (d ≡ started_at number (access_of setup) (policy_of setup)) × (t ≡ after_reading o)
 
-loaded_session : (setup : SetupState) (outset : Outset) (o : DiskWorld) (read : Result (List ℕ) RecoverFault) (now : Bool × Rules) (d : DaemonState) (t : DiskWorld) → IsOutset setup outset → outset.access ≡ [] → HoldsRules setup o → RunsDisk MemKeeps o recovering read t → StartsAfter read (Ok now) → StartsWithRules outset now d → IsSession setup outset.first o d t
-loaded_session setup outset o (Ok got) now d t is nobody on runs after with =
+loaded_session : (setup : SetupState) (outset : Outset) (o : DiskWorld) (read : Result (List ℕ) RecoverFault) (now : Bool × Rules) (d : DaemonState) (t : DiskWorld) → IsOutset setup outset → outset.access ≡ access_of setup → HoldsRules setup o → RunsDisk MemKeeps o recovering read t → StartsAfter read (Ok now) → StartsWithRules outset now d → IsSession setup outset.first o d t
+loaded_session setup outset o (Ok got) now d t is given on runs after with =
     let r = read_whole o (Ok got) t runs in
     let has : HasRulesOf (rules_text_of setup.rules) now.1 = subst (λ (x : List ℕ). HasRulesOf x now.1) (r.0 ∙ on.text) after.1 in
     let policy : policy_at outset now.1 ≡ policy_of setup = is now.1 (holds_rules setup.rules (rules_text_of setup.rules) now.1 on.reads has) in
     let new : IsStarted (policy_of setup) outset.first d = subst (λ (p : Judging). IsStarted p outset.first d) policy with.started in
-    (started_is (policy_of setup) outset.first d new (with.access ∙ nobody), r.1)
-loaded_session setup outset o (Err e) now d t is nobody on runs after with = let none : ⊥ = cc in absurd none
+    (started_is (policy_of setup) (access_of setup) outset.first d new (with.access ∙ given), r.1)
+loaded_session setup outset o (Err e) now d t is given on runs after with = let none : ⊥ = cc in absurd none
 
-from_loads : (setup : SetupState) (outset : Outset) (faults : DiskWorld → ℕ) (o : DiskWorld) (loaded : Result (Bool × Rules) StartFault) (d : DaemonState) (t : DiskWorld) → IsOutset setup outset → outset.access ≡ [] → HoldsRules setup o → Loads MemKeeps disk_told faults o loaded t → StartsFrom outset loaded (Ok d) → IsSession setup outset.first o d t
-from_loads setup outset faults o (Ok now) d t is nobody on loads starts = loaded_session setup outset o loads.read now d t is nobody on loads.runs loads.starts starts
-from_loads setup outset faults o (Err e) d t is nobody on loads starts = let none : ⊥ = cc in absurd none
+from_loads : (setup : SetupState) (outset : Outset) (faults : DiskWorld → ℕ) (o : DiskWorld) (loaded : Result (Bool × Rules) StartFault) (d : DaemonState) (t : DiskWorld) → IsOutset setup outset → outset.access ≡ access_of setup → HoldsRules setup o → Loads MemKeeps disk_told faults o loaded t → StartsFrom outset loaded (Ok d) → IsSession setup outset.first o d t
+from_loads setup outset faults o (Ok now) d t is given on loads starts = loaded_session setup outset o loads.read now d t is given on loads.runs loads.starts starts
+from_loads setup outset faults o (Err e) d t is given on loads starts = let none : ⊥ = cc in absurd none
 
 -- what a start sees of the settings, the clock and the words is what the setup lines gave
 outset_is : (setup : SetupState) (outset : Outset) → outset.classes ≡ (policy_of setup).classes → outset.clock ≡ (policy_of setup).clock → outset.words ≡ (policy_of setup).stream → IsOutset setup outset
@@ -153,8 +153,8 @@ outset_is setup outset classes clock words list h =
     ∙ ap (λ (es : List RuleEntry). record (policy_of setup) { rules = es; next = list.next }) h.entries
     ∙ ap (λ (n : ℕ). record (policy_of setup) { next = n }) h.next
 
-pub starts_session : (setup : SetupState) (outset : Outset) (faults : DiskWorld → ℕ) (o : DiskWorld) (d : DaemonState) (t : DiskWorld) → outset.classes ≡ (policy_of setup).classes → outset.clock ≡ (policy_of setup).clock → outset.words ≡ (policy_of setup).stream → outset.access ≡ [] → HoldsRules setup o → Starts MemKeeps disk_told faults outset o (Ok d) t → IsSession setup outset.first o d t
-starts_session setup outset faults o d t classes clock words nobody on h = from_loads setup outset faults o h.loaded d t (outset_is setup outset classes clock words) nobody on h.loads h.starts
+pub starts_session : (setup : SetupState) (outset : Outset) (faults : DiskWorld → ℕ) (o : DiskWorld) (d : DaemonState) (t : DiskWorld) → outset.classes ≡ (policy_of setup).classes → outset.clock ≡ (policy_of setup).clock → outset.words ≡ (policy_of setup).stream → outset.access ≡ access_of setup → HoldsRules setup o → Starts MemKeeps disk_told faults outset o (Ok d) t → IsSession setup outset.first o d t
+starts_session setup outset faults o d t classes clock words given on h = from_loads setup outset faults o h.loaded d t (outset_is setup outset classes clock words) given on h.loads h.starts
 
 -- ---- a start that is refused
 

@@ -13,7 +13,7 @@ use Rattle.ug_sysfs.specs.World.{World, begun, over}
 use Rattle.ug_play.specs.Play.{play}
 use Rattle.ug_core.specs.Event.{DaemonState, handling, ready}
 use Rattle.ug_script.specs.Replay.{with_devices}
-use Rattle.ug_script.specs.Setup.{no_setup, policy_of, started}
+use Rattle.ug_script.specs.Setup.{no_setup, started}
 
 -- a device with nothing but its descriptors
 abbrev pub device_of : List ℕ → List ℕ → NewDevice
@@ -62,7 +62,7 @@ key_rule = record {
 
 -- a daemon with this rule alone
 abbrev pub ruled : DaemonState
-ruled = started (policy_of (record no_setup { rules = key_rule ∷ [] }))
+ruled = started (record no_setup { rules = key_rule ∷ [] })
 
 -- an event at that moment
 abbrev pub event_at : ℕ → DaemonState × World → DaemonState × World

@@ -1,8 +1,17 @@
 -- What each line of a script asks for.
-use Rattle.std.specs.Prelude.{ℕ, ℤ, ◌+◌, ◌-◌, Bool, true, false, ◌||◌, nat_eq, if◌then◌else◌, List, length, take, drop, Option, Some, None, Result, Ok, Err, codes}
+use Rattle.std.specs.Prelude.{◌≡◌, ℕ, ℤ, ◌+◌, ◌-◌, Bool, true, false, ◌&&◌, ◌||◌, nat_eq, if◌then◌else◌, List, [], ◌∷◌, ◌++◌, length, take, drop, Option, Some, None, Result, Ok, Err, codes}
 use Rattle.std.specs.Cmp.Lexicographic.{pointwise}
 use Rattle.std.specs.List.{starts_with, ends_with, position}
+use Rattle.ug_types.specs.Elements.{Has}
+use Rattle.ug_types.specs.Principals.{Named, is_name, principal_of, principal_text}
+use Rattle.ug_types.specs.declared.access.Section.{Section}
 use Rattle.ug_types.specs.declared.rule.Rule as types
+use Rattle.ug_types.specs.declared.text_fault.TextFault.{TextFault}
+use Rattle.ug_acl.specs.declared.privileges.Privileges.{Privileges}
+use Rattle.ug_acl.specs.Grammar.{IsGrant}
+use Rattle.ug_acl.specs.Lines.{given_to}
+use Rattle.ug_acl.specs.Pairs.{Pair}
+use Rattle.ug_acl.specs.Texts.{access_read, pairs_given}
 use Rattle.ug_rule.specs.declared.fault.Fault.{Fault}
 use Rattle.ug_rule.specs.Grammar.{WellFormed}
 use Rattle.ug_rule.specs.Rules.{rule_read}
@@ -11,20 +20,49 @@ use Rattle.ug_sysfs.specs.declared.script.Move.TheVariants as move
 use Rattle.ug_sysfs.specs.declared.script.NewDevice.{NewDevice}
 use Rattle.ug_core.specs.declared.daemon.Event.{Event}
 use Rattle.ug_core.specs.declared.daemon.Event.TheVariants.{Sweep}
+use Rattle.ug_script.specs.declared.step.AccessLine.{AccessLine}
 use Rattle.ug_script.specs.declared.step.Plan.{Plan}
 use Rattle.ug_script.specs.declared.step.Plan.TheVariants as plan
 use Rattle.ug_script.specs.declared.step.SetupLine.{SetupLine}
-use Rattle.ug_script.specs.declared.step.SetupLine.TheVariants.{Rule, Conf, Seed, Zone}
+use Rattle.ug_script.specs.declared.step.SetupLine.TheVariants.{Rule, Conf, Access, Seed, Zone}
 use Rattle.ug_script.specs.declared.step.Step.{Step}
 use Rattle.ug_script.specs.declared.step.Step.TheVariants as step
 use Rattle.ug_script.specs.Plugs.{device_of}
-use Rattle.ug_script.specs.Words.{name_of, moment_of, call_of, seed_of, offset_of}
+use Rattle.ug_script.specs.Words.{name_of, moment_of, call_of, seed_of, offset_of, is_entry, is_one_line}
 
 -- ---- lines that stand before all others
 
 abbrev pub in_rule : Result types.Rule Fault → Option SetupLine
 in_rule (Ok rule) = Some (Rule rule)
 in_rule (Err fault) = None
+
+abbrev pub in_access : Named → Result (List Pair) TextFault → Option SetupLine
+in_access who (Ok grants) = Some (Access (record { who = who; grants = grants }))
+in_access who (Err fault) = None
+
+-- a line of an access file that is neither blank nor a comment
+abbrev pub granting : Option Named → List ℕ → Option SetupLine
+granting None line = None
+granting (Some who) line = if is_one_line line && is_entry line then in_access who (access_read line) else None
+
+abbrev pub split_principal : Option ℕ → List ℕ → Option SetupLine
+split_principal None text = None
+split_principal (Some space) text = granting (principal_of (take space text)) (drop (space + 1) text)
+
+-- `PRINCIPAL SECTION=LIST`
+abbrev pub grant_of : List ℕ → Option SetupLine
+grant_of text = split_principal (position (nat_eq 32) text) text
+
+-- a user, or a group behind `:`, one space, and one line of an access file, which gives privileges of a section
+pub record IsAccess (text : List ℕ) (a : AccessLine) : Type 0 where
+  pub line : List ℕ
+  pub is : text ≡ principal_text a.who ++ 32 ∷ line
+  pub named : is_name a.who.name ≡ true
+  pub single : ¬ Has line 10
+  pub section : Section
+  pub privileges : Privileges
+  pub grant : IsGrant line section privileges
+  pub gives : a.grants ≡ pairs_given (given_to section privileges ∷ [])
 
 abbrev pub in_seed : Option (List ℕ) → Option SetupLine
 in_seed None = None
@@ -34,13 +72,19 @@ abbrev pub in_zone : Option ℤ → Option SetupLine
 in_zone None = None
 in_zone (Some offset) = Some (Zone offset)
 
+-- lines of which one may stand there
+unfoldable pub single_of : List ℕ → Option SetupLine
+single_of line =
+    if starts_with nat_eq line (codes "seed ") then in_seed (seed_of (drop 5 line))
+    else if starts_with nat_eq line (codes "zone ") then in_zone (offset_of (drop 5 line))
+    else None
+
 unfoldable pub setup_of : List ℕ → Option SetupLine
 setup_of line =
     if starts_with nat_eq line (codes "rule ") then in_rule (rule_read (drop 5 line))
     else if starts_with nat_eq line (codes "conf ") then Some (Conf (drop 5 line))
-    else if starts_with nat_eq line (codes "seed ") then in_seed (seed_of (drop 5 line))
-    else if starts_with nat_eq line (codes "zone ") then in_zone (offset_of (drop 5 line))
-    else None
+    else if starts_with nat_eq line (codes "access ") then grant_of (drop 7 line)
+    else single_of line
 
 -- ---- devices that come and go
 

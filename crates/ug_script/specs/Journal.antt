@@ -6,6 +6,7 @@ use Rattle.ug_kernel.specs.Kernel.{Kernel, Live}
 use Rattle.ug_sysfs.specs.World.{World}
 use Rattle.ug_audit.specs.declared.entry.Entry.{Entry}
 use Rattle.ug_play.specs.Play.{NameNobody}
+use Rattle.ug_acl.specs.Acls.{Addition}
 use Rattle.ug_conf.specs.Texts.{conf_read}
 use Rattle.ug_core.specs.Chain.{Happened, Chain, journal, IsRun, IsJudgedOnce}
 use Rattle.ug_core.specs.Event.{DaemonState, has_numbers}
@@ -90,33 +91,33 @@ journals (hs ∷ runs) = journal hs ++ journals runs
 abbrev pub journal_of : EventsOfRuns → List Entry
 journal_of runs = journals runs.ended ++ journal runs.last
 
--- A run of the daemon from its start: it began with that policy and no device, and its first event has that number. Its rule file held
+-- A run of the daemon from its start: it began with that policy, that access and no device, and its first event has that number. Its rule file held
 -- that text, and a crash left no other. Its events are a chain from there, over the kernel as it was at the start, with all that this
 -- says of each write and of the file.
-pub record IsDaemonRun (policy : Judging) (text : List ℕ) (number : ℕ) (first : Kernel) (hs : List Happened) (k : Kernel) (p : Option Disk) (e : DaemonState) : Type 0 where
+pub record IsDaemonRun (access : List Addition) (policy : Judging) (text : List ℕ) (number : ℕ) (first : Kernel) (hs : List Happened) (k : Kernel) (p : Option Disk) (e : DaemonState) : Type 0 where
   pub file : Disk
   pub holds : HoldsOnly text file
-  pub chain : Chain first (Some file) (started_at number policy) hs k p e
+  pub chain : Chain first (Some file) (started_at number access policy) hs k p e
   pub run : IsRun policy first (Some file) hs k p e
 
 -- a run that was ended, where it came to
-pub record EndedRun (policy : Judging) (text : List ℕ) (number : ℕ) (first : Kernel) (hs : List Happened) : Type 0 where
+pub record EndedRun (access : List Addition) (policy : Judging) (text : List ℕ) (number : ℕ) (first : Kernel) (hs : List Happened) : Type 0 where
   pub kernel : Kernel
   pub disk : Option Disk
   pub daemon : DaemonState
-  pub is : IsDaemonRun policy text number first hs kernel disk daemon
+  pub is : IsDaemonRun access policy text number first hs kernel disk daemon
 
 -- runs one after another, each over the kernel that the one before came to, and with the number of the event that was next then
-abbrev pub AreSuccessive : Judging → List ℕ → ℕ → Kernel → List (List Happened) → ℕ → Kernel → Type 0
-AreSuccessive policy text number first [] next l = (next ≡ number) × (l ≡ first)
-AreSuccessive policy text number first (hs ∷ runs) next l = (r : EndedRun policy text number first hs) × AreSuccessive policy text r.daemon.event r.kernel runs next l
+abbrev pub AreSuccessive : List Addition → Judging → List ℕ → ℕ → Kernel → List (List Happened) → ℕ → Kernel → Type 0
+AreSuccessive access policy text number first [] next l = (next ≡ number) × (l ≡ first)
+AreSuccessive access policy text number first (hs ∷ runs) next l = (r : EndedRun access policy text number first hs) × AreSuccessive access policy text r.daemon.event r.kernel runs next l
 
 -- all runs of a script: those that were ended, one after another from the first kernel and number 1, and the last one
-pub record AreDaemonRuns (policy : Judging) (text : List ℕ) (first : Kernel) (runs : EventsOfRuns) (k : Kernel) (p : Option Disk) (e : DaemonState) : Type 0 where
+pub record AreDaemonRuns (access : List Addition) (policy : Judging) (text : List ℕ) (first : Kernel) (runs : EventsOfRuns) (k : Kernel) (p : Option Disk) (e : DaemonState) : Type 0 where
   pub number : ℕ
   pub kernel : Kernel
-  pub ended : AreSuccessive policy text 1 first runs.ended number kernel
-  pub last : IsDaemonRun policy text number kernel runs.last k p e
+  pub ended : AreSuccessive access policy text 1 first runs.ended number kernel
+  pub last : IsDaemonRun access policy text number kernel runs.last k p e
 
 -- each device that is live at the end of that event was judged just once since the first kernel, and stands as judged
 pub record JudgesOnce (policy : Judging) (first : Kernel) (file : Disk) (hs : List Happened) (h : Happened) : Type 0 where
@@ -132,17 +133,18 @@ abbrev pub AreQuiet : List (Option Step) → Type 0
 AreQuiet [] = Unit {0}
 AreQuiet (step ∷ steps) = (is_quiet step ≡ true) × AreQuiet steps
 
--- Wherever lines have led: the setup lines gave a policy, of which rulings leave what has taken just their words, and whose histories
+-- Wherever lines have led: the setup lines gave access and a policy, of which rulings leave what has taken just their words, and whose histories
 -- stand for just their judgements; and its settings are those of each text whose lines are those of the `conf` lines. The events of the
--- lines are those of runs of the daemon, of which each began with this policy over a file with the canonical text of its rules; and what
+-- lines are those of runs of the daemon, of which each began with these over a file with the canonical text of its rules; and what
 -- was written is the text of the entries of all. Where no move was scheduled and no call was to fail, nobody is named as unsettled, and
 -- after an event that comes next each live device was judged just once since the last start and stands as judged.
 pub record Recorded (first : World) (lines : List (List ℕ)) (text : List ℕ) (s : Script) (w : World) : Type 0 where
+  pub access : List Addition
   pub policy : Judging
-  pub setup : IsSetup (steps_of lines) policy
+  pub setup : IsSetup (steps_of lines) access policy
   pub settings : (whole : List ℕ) → lines_of whole ≡ flat_map conf_asked (steps_of lines) → conf_read whole ≡ Ok setup.draft.settings
   pub later : (rulings : List Ruling) → IsLater policy (words_for policy rulings) (judgements_for policy rulings) (after_rulings policy rulings)
-  pub runs : AreDaemonRuns policy (rules_text_of (flat_map rule_asked (steps_of lines))) first.kernel (runs_in first lines) w.kernel (disk_told (disk_in s)) (daemon_in s)
+  pub runs : AreDaemonRuns access policy (rules_text_of (flat_map rule_asked (steps_of lines))) first.kernel (runs_in first lines) w.kernel (disk_told (disk_in s)) (daemon_in s)
   pub written : text ≡ lines_text (journal_of (runs_in first lines))
   pub nobody : AreQuiet (steps_of lines) → first.fails ≡ [] → NameNobody (journal_of (runs_in first lines))
   pub once : AreQuiet (steps_of lines) → first.fails ≡ [] → first.moves ≡ [] → (moment : Moment) → JudgesOnce policy runs.kernel runs.last.file (runs_in first lines).last (happened_at moment s w)

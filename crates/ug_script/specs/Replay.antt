@@ -27,7 +27,7 @@ use Rattle.ug_script.specs.declared.step.StepFault.{StepFault}
 use Rattle.ug_script.specs.declared.step.StepFault.TheVariants.{Bad, Memory}
 use Rattle.ug_script.specs.Grammar.{step_of_line}
 use Rattle.ug_script.specs.Script.{Script, Started, takes_setup, with_setup_closed, daemon_in, disk_in, can_start, fresh, phase_of}
-use Rattle.ug_script.specs.Setup.{SetupState, one_line_more, after_reading, policy_of, started_at}
+use Rattle.ug_script.specs.Setup.{SetupState, one_line_more, access_of, after_reading, policy_of, started_at}
 
 abbrev pub script_of : Running → Script
 script_of r = record { setup = r.setup; phase = phase_of r.phase }
@@ -120,11 +120,11 @@ event_taken (Sweep moment) s w =
 
 -- ---- a new daemon
 
--- The rule file still holds the rules: nothing was saved. The new daemon reads it again, judges by the policy of the setup lines, with
--- no histories and with the words of the seed from the first one on, knows no device, and counts its devices from 1. The numbers of
--- events go on. The kernel, its open files and what is scheduled for the next event stay as they are.
+-- The rule file still holds the rules: nothing was saved. The new daemon reads it again, and judges by the policy of the setup lines, with
+-- no histories and with the words of the seed from the first one on. It has the access that these lines give, knows no device, and counts
+-- its devices from 1. The numbers of events go on. The kernel, its open files and what is scheduled for the next event stay as they are.
 abbrev pub with_restart : Script → Script
-with_restart s = record s { phase = Started (started_at (daemon_in s).event (policy_of s.setup)) (after_reading (disk_in s)) }
+with_restart s = record s { phase = Started (started_at (daemon_in s).event (access_of s.setup) (policy_of s.setup)) (after_reading (disk_in s)) }
 
 -- the first daemon is started before, if none was
 abbrev pub restart_taken : Script → World → Outcome (Option Script × World)

@@ -1,10 +1,13 @@
 -- What a script's setup lines give, and the policy that a daemon starts with then.
-use Rattle.std.specs.Prelude.{◌≡◌, ℕ, ◌+◌, ◌≤◌, ℤ, pos, neg_ℤ, ◌+ℤ◌, int_le, unsigned_abs, replicate, Bool, false, not, is_none, ◌&&◌, ◌||◌, nat_eq, nat_lt, if◌then◌else◌, List, [], ◌∷◌, ◌++◌, length, drop, map, flat_map, find, Option, Some, None, IfSome, IsTrue, All, Result, Ok, Err}
+use Rattle.std.specs.Prelude.{◌≡◌, ℕ, ◌+◌, ◌≤◌, ℤ, pos, neg_ℤ, ◌+ℤ◌, int_le, unsigned_abs, replicate, Bool, false, is_none, ◌&&◌, nat_lt, if◌then◌else◌, List, [], ◌∷◌, ◌++◌, length, drop, map, flat_map, Option, Some, None, IfSome, IsTrue, All, Result, Ok, Err}
 use Rattle.std.specs.Int.{int_rem_euclid}
 use Rattle.rand_chacha.specs.ChaCha.{next_word, of_seed}
 use Rattle.rand_core.specs.Steps.{stream_of, steps_u32}
 use Rattle.rand_core.specs.Stream.{Stream}
+use Rattle.ug_types.specs.Principals.{Named}
 use Rattle.ug_types.specs.declared.rule.Rule as types
+use Rattle.ug_acl.specs.Acls.{Addition, addition}
+use Rattle.ug_acl.specs.Pairs.{all_pairs}
 use Rattle.ug_rule.specs.Grammar.{WellFormed}
 use Rattle.ug_conf.specs.Faults.{SettingFault}
 use Rattle.ug_conf.specs.Settings.{defaults}
@@ -20,22 +23,25 @@ use Rattle.ug_print.specs.RuleTexts.{rules_text_of}
 use Rattle.ug_store.specs.DiskCalls.{Load}
 use Rattle.ug_store.specs.Scripted.{DiskWorld, past_within, world_at_first}
 use Rattle.ug_script.specs.declared.step.SetupLine.{SetupLine}
-use Rattle.ug_script.specs.declared.step.SetupLine.TheVariants.{Rule, Conf, Seed, Zone}
+use Rattle.ug_script.specs.declared.step.AccessLine.{AccessLine}
+use Rattle.ug_script.specs.declared.step.SetupLine.TheVariants.{Rule, Conf, Access, Seed, Zone}
 use Rattle.ug_script.specs.declared.step.Step.{Step}
 use Rattle.ug_script.specs.declared.step.Step.TheVariants.{Setup}
 use Rattle.ug_script.specs.declared.step.StepFault.{StepFault}
 use Rattle.ug_script.specs.declared.step.StepFault.TheVariants.{Bad, Memory}
 use Rattle.ug_script.specs.Grammar.{step_of_line}
+use Rattle.ug_script.specs.Words.{is_entry}
 
--- the rules in order, the settings so far, and the seed and the zone, where they were given
+-- the rules in order, the settings so far, what was granted in order, and the seed and the zone, where they were given
 pub record SetupState : Type 0 where
   pub rules : List types.Rule
   pub settings : Progress
+  pub access : List AccessLine
   pub seed : Option (List ℕ)
   pub zone : Option ℤ
 
 abbrev pub no_setup : SetupState
-no_setup = record { rules = []; settings = record { draft = draft_of defaults []; lines = 0 }; seed = None; zone = None }
+no_setup = record { rules = []; settings = record { draft = draft_of defaults []; lines = 0 }; access = []; seed = None; zone = None }
 
 -- less than a day
 abbrev pub is_offset : ℤ → Bool
@@ -52,24 +58,17 @@ pub record IsSetupKept (rules : List types.Rule) (zone : Option ℤ) : Type 0 wh
 abbrev pub one_rule_more : types.Rule → SetupState → Option SetupState
 one_rule_more rule s = if nat_lt (length s.rules) 65536 then Some (record s { rules = s.rules ++ rule ∷ [] }) else None
 
--- neither blank nor a comment
-abbrev pub begins_setting : Option ℕ → Bool
-begins_setting None = false
-begins_setting (Some b) = not (nat_eq b 35)
-
-abbrev pub is_setting : List ℕ → Bool
-is_setting text = begins_setting (find (λ b. not (nat_eq b 32 || nat_eq b 9)) text)
-
 abbrev pub with_draft : Result Draft SettingFault → SetupState → Option SetupState
 with_draft (Ok draft) s = Some (record s { settings = record { draft = draft; lines = next_number s.settings.lines } })
 with_draft (Err fault) s = None
 
 abbrev pub one_setting_more : List ℕ → SetupState → Option SetupState
-one_setting_more text s = if is_setting text then with_draft (line_read (next_number s.settings.lines) s.settings.draft text) s else None
+one_setting_more text s = if is_entry text then with_draft (line_read (next_number s.settings.lines) s.settings.draft text) s else None
 
 abbrev pub one_line_more : SetupLine → SetupState → Option SetupState
 one_line_more (Rule rule) s = one_rule_more rule s
 one_line_more (Conf text) s = one_setting_more text s
+one_line_more (Access line) s = Some (record s { access = s.access ++ line ∷ [] })
 one_line_more (Seed seed) s = if is_none s.seed then Some (record s { seed = Some seed }) else None
 one_line_more (Zone offset) s = if is_none s.zone && is_offset offset then Some (record s { zone = Some offset }) else None
 
@@ -109,6 +108,17 @@ policy_of s = record {
   stream = seeded (given_or no_seed s.seed);
 }
 
+-- the user or the group may do everything
+abbrev pub everything : Named → Addition
+everything who = addition who all_pairs
+
+abbrev pub granted : AccessLine → Addition
+granted line = addition line.who line.grants
+
+-- The users and the groups of IPCAllowedUsers and IPCAllowedGroups may do everything, and each line of access adds what it grants.
+abbrev pub access_of : SetupState → List Addition
+access_of s = map everything s.settings.draft.settings.users ++ map granted s.access
+
 -- a disk behind a reading of its rule file: the moment within that call is past
 abbrev pub after_reading : DiskWorld → DiskWorld
 after_reading o = record o { disk = past_within Load o.disk }
@@ -117,13 +127,14 @@ after_reading o = record o { disk = past_within Load o.disk }
 abbrev pub rules_disk : SetupState → DiskWorld
 rules_disk s = after_reading (world_at_first (rules_text_of s.rules))
 
--- the daemon that judges by a policy, before its first event, which has that number. Nobody may do anything, and no save is pending.
-abbrev pub started_at : ℕ → Judging → DaemonState
-started_at number policy = record { sweep = record { standings = []; next = 1; listed = false; judge = policy; entries = [] }; access = []; pending = false; event = number }
+-- the daemon that judges by a policy, before its first event, which has that number. Users and groups may do what was added, and no save
+-- is pending.
+abbrev pub started_at : ℕ → List Addition → Judging → DaemonState
+started_at number access policy = record { sweep = record { standings = []; next = 1; listed = false; judge = policy; entries = [] }; access = access; pending = false; event = number }
 
--- the first one, whose events are numbered from 1
-abbrev pub started : Judging → DaemonState
-started policy = started_at 1 policy
+-- the first one of a script, whose events are numbered from 1
+abbrev pub started : SetupState → DaemonState
+started s = started_at 1 (access_of s) (policy_of s)
 
 -- ---- what lines ask for
 
@@ -131,7 +142,7 @@ started policy = started_at 1 policy
 abbrev pub steps_of : List (List ℕ) → List (Option Step)
 steps_of lines = map step_of_line (drop 1 lines)
 
--- the rules, the lines of settings, the seeds and the zones among them, in order
+-- the rules, the lines of settings and of access, the seeds and the zones among them, in order
 
 abbrev pub rule_asked : Option Step → List types.Rule
 rule_asked (Some (Setup (Rule rule))) = rule ∷ []
@@ -140,6 +151,10 @@ rule_asked step = []
 abbrev pub conf_asked : Option Step → List (List ℕ)
 conf_asked (Some (Setup (Conf text))) = text ∷ []
 conf_asked step = []
+
+abbrev pub access_asked : Option Step → List AccessLine
+access_asked (Some (Setup (Access line))) = line ∷ []
+access_asked step = []
 
 abbrev pub seed_asked : Option Step → List (List ℕ)
 seed_asked (Some (Setup (Seed seed))) = seed ∷ []
@@ -155,8 +170,9 @@ first_or other (x ∷ xs) = x
 
 -- The rules are those of the `rule` lines in order, with ids from 1 and no history; the settings are those that the lines of the `conf`
 -- lines give, read as the lines of one text; the clock is that of the `zone` line, or that of UTC; and the words are those of the
--- `seed` line's seed, or of 32 bytes 0. No moment has come.
-pub record IsSetup (steps : List (Option Step)) (policy : Judging) : Type 0 where
+-- `seed` line's seed, or of 32 bytes 0. No moment has come. The users and the groups of the settings may do everything, and each
+-- `access` line adds what it grants.
+pub record IsSetup (steps : List (Option Step)) (access : List Addition) (policy : Judging) : Type 0 where
   pub draft : Draft
   pub settings : lines_read setting_line 1 (draft_of defaults []) (flat_map conf_asked steps) ≡ Ok draft
   pub classes : policy.classes ≡ classes_of draft.settings
@@ -164,4 +180,5 @@ pub record IsSetup (steps : List (Option Step)) (policy : Judging) : Type 0 wher
   pub next : policy.next ≡ length (flat_map rule_asked steps) + 1
   pub clock : policy.clock ≡ clock_ahead (first_or (pos 0) (flat_map zone_asked steps))
   pub ctx : policy.ctx ≡ record { moment = record { 0 = 0 }; second = 0 }
+  pub allowed : access ≡ map everything draft.settings.users ++ map granted (flat_map access_asked steps)
   pub words : policy.stream ≡ seeded (first_or no_seed (flat_map seed_asked steps))

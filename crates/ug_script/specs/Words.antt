@@ -1,6 +1,6 @@
 -- Names, numbers and hexadecimal words of a script's lines.
-use Rattle.std.specs.Prelude.{◌≡◌, ℕ, ◌+◌, ◌-◌, ◌*◌, ℤ, pos, neg_ℤ, Bool, false, ◌&&◌, nat_eq, nat_le, if◌then◌else◌, List, [], ◌∷◌, length, get_or, Option, Some, None, Result, Ok, Err}
-use Rattle.std.specs.List.{fold}
+use Rattle.std.specs.Prelude.{◌≡◌, ℕ, ◌+◌, ◌-◌, ◌*◌, ℤ, pos, neg_ℤ, Bool, false, not, ◌&&◌, ◌||◌, nat_eq, nat_le, if◌then◌else◌, List, [], ◌∷◌, length, get_or, find, Option, Some, None, Result, Ok, Err}
+use Rattle.std.specs.List.{fold, list_any}
 use Rattle.hex.specs.Hex.{decode_of, decode_sized}
 use Rattle.hex.specs.declared.error.FromHexError.{FromHexError}
 use Rattle.ug_decimals.specs.Numbers.{number_in}
@@ -41,6 +41,18 @@ call_in (Some n) = if nat_le 1 n && nat_le n 1048576 then Some n else None
 -- the number of a call in an event, from 1 to 1,048,576
 abbrev pub call_of : List ℕ → Option ℕ
 call_of text = call_in (moment_of text)
+
+abbrev pub begins_entry : Option ℕ → Bool
+begins_entry None = false
+begins_entry (Some b) = not (nat_eq b 35)
+
+-- a line of settings or of access that is neither blank nor a comment
+abbrev pub is_entry : List ℕ → Bool
+is_entry text = begins_entry (find (λ b. not (nat_eq b 32 || nat_eq b 9)) text)
+
+-- a text without a newline
+abbrev pub is_one_line : List ℕ → Bool
+is_one_line text = not (list_any (λ b. nat_eq b 10) text)
 
 abbrev pub filled : Result (List ℕ) FromHexError → Option (List ℕ)
 filled (Ok []) = None

@@ -10,6 +10,9 @@ ghost use Rattle.ug_sysfs.specs.World.{World};
 ghost use Rattle.ug_audit.specs.declared.entry.Entry.TheVariants as entry;
 ghost use Rattle.ug_audit.specs.declared.entry.Fault.TheVariants as fault;
 ghost use Rattle.ug_script.specs.Example.{ruled, hub_world, event_at, event_with, plugged_in, replaced, failing};
+ghost use Rattle.ug_script.specs.declared.step.AccessLine.{AccessLine};
+ghost use Rattle.ug_script.specs.declared.step.SetupLine.TheVariants.{Access};
+ghost use Rattle.ug_script.specs.Grammar.{grant_of, IsAccess};
 ghost use Rattle.ug_script.specs.Journal.{StaysRecorded};
 ghost use Rattle.ug_script.specs.Laws.{StaysLawful};
 ghost use Rattle.ug_script.specs.Words.{moment_of, name_of};
@@ -18,6 +21,12 @@ ghost use Rattle.ug_script.specs.Words.{moment_of, name_of};
 pub fn words_law()
     ensures names { (text name : List ℕ) → (name_of text ≡ Some name) ↔ (IsNodeName text × (length text ≤ 31) × (name ≡ text)) }
     ensures moments { (text : List ℕ) (moment : ℕ) → (moment_of text ≡ Some moment) ↔ ((text ≡ decimal moment) × (moment ≤ 250000000000)) }
+{}
+
+/// Behind `access ` a user or a group is read with what a line of an access file gives, and nothing else is.
+pub fn access_law()
+    ensures { (text : List ℕ) (line : AccessLine) → (grant_of text ≡ Some (Access line))
+        ↔ IsAccess text line }
 {}
 
 /// From a sound kernel each event of a script is fair and leaves each device settled or named, and the journal of all events

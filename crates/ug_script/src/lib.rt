@@ -1,6 +1,7 @@
 // A script of rules, devices and sweeps, run by the daemon.
 #![tactic(auto)]
 
+mod access;
 mod events;
 mod interpreter;
 mod laws;
@@ -20,7 +21,7 @@ mod text;
 mod words;
 
 pub use interpreter::Interpreter;
-pub use laws::{script_law, words_law, worked_law};
+pub use laws::{access_law, script_law, words_law, worked_law};
 pub use parse::parse_line;
 pub use runner::Runner;
-pub use step::{Plan, SetupLine, Step, StepFault};
+pub use step::{AccessLine, Plan, SetupLine, Step, StepFault};

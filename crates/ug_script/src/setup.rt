@@ -1,11 +1,12 @@
 // What the lines give that stand before all others.
-ghost use Rattle.std.specs.Prelude.{◌≡◌, ◌<◌, ◌≤◌, ◌++◌, ◌∷◌, [], ◌&&◌, ◌||◌, find, length, nat_eq, not, All, IfOk, OnOk};
+ghost use Rattle.std.specs.Prelude.{◌≡◌, ◌<◌, ◌≤◌, ◌++◌, ◌∷◌, [], Some, length, All, IfOk, OnOk};
 ghost use Rattle.ug_script.specs.Grammar.{AsksForRule};
 ghost use Rattle.ug_script.specs.Setup as lines;
 ghost use Rattle.ug_script.specs.Setup.{Adds, no_setup, one_line_more};
 ghost use Rattle.ug_rule.specs.Grammar.{WellFormed};
 
-use crate::step::{SetupLine, StepFault};
+use crate::step::{AccessLine, SetupLine, StepFault};
+use crate::words::is_entry;
 use std::alloc::Global;
 use std::marker::Model;
 use ug_conf::{LineFault, SettingsReader};
@@ -14,11 +15,12 @@ use ug_types::{NoMemory, Rule};
 /// The most rules that a daemon starts with.
 const MOST_RULES: usize = 65_536;
 
-/// The rules in order, the settings so far, and the seed and the zone, where they were given.
+/// The rules in order, the settings so far, what was granted in order, and the seed and the zone, where they were given.
 #[derive(Drop)]
 pub struct Setup {
     pub rules: Vec<Rule>,
     pub settings: SettingsReader,
+    pub access: Vec<AccessLine>,
     pub seed: Option<[u8; 32]>,
     pub zone: Option<i32>,
 }
@@ -28,7 +30,7 @@ impl Model for Setup {
 
     ghost Value = { SetupState };
 
-    ghost view = { λ s. record { rules = s.rules.items; settings = s.settings; seed = s.seed; zone = s.zone } };
+    ghost view = { λ s. record { rules = s.rules.items; settings = s.settings; access = s.access.items; seed = s.seed; zone = s.zone } };
 
     ghost invariant = { λ s. IsSetupKept s.rules.items s.zone };
 }
@@ -37,23 +39,6 @@ fn is_offset(seconds: i32) -> bool
     ensures { result ≡ lines.is_offset seconds }
 {
     -86399 <= seconds && seconds <= 86399
-}
-
-/// The first byte that is neither a space nor a tab.
-fn first_byte(text: &[u8]) -> Option<u8>
-    ensures { result ≡ find (λ b. not (nat_eq b 32 || nat_eq b 9)) text.now }
-{
-    text.iter().copied().find(|b| *b != b' ' && *b != b'\t')
-}
-
-/// Whether a line of settings is neither blank nor a comment.
-fn is_setting(text: &[u8]) -> bool
-    ensures { result ≡ lines.is_setting text.now }
-{
-    match first_byte(text) {
-        None => false,
-        Some(b) => b != b'#',
-    }
 }
 
 #[tactic(auto, using(crate::proofs::WellFormed::well_more))]
@@ -76,6 +61,7 @@ impl Setup {
         Ok(Setup {
             rules: Vec::new(alloc),
             settings: SettingsReader::new(alloc)?,
+            access: Vec::new(alloc),
             seed: None,
             zone: None,
         })
@@ -89,6 +75,7 @@ impl Setup {
         match line {
             SetupLine::Rule(rule) => self.add_rule(rule),
             SetupLine::Conf(text) => self.add_setting(text.bytes()),
+            SetupLine::Access(line) => self.add_access(line),
             SetupLine::Seed(seed) => {
                 if self.seed.is_some() {
                     return Err(StepFault::Bad);
@@ -122,13 +109,23 @@ impl Setup {
     fn add_setting(&mut self, text: &[u8]) -> Result<(), StepFault>
         ensures { Adds (lines.one_setting_more text.now self.old) result self.old self.new }
     {
-        if !is_setting(text) {
+        if !is_entry(text) {
             return Err(StepFault::Bad);
         }
         match self.settings.line(text) {
             Ok(()) => Ok(()),
             Err(LineFault::Bad(_)) => Err(StepFault::Bad),
             Err(LineFault::Memory) => Err(StepFault::Memory),
+        }
+    }
+
+    fn add_access(&mut self, line: AccessLine) -> Result<(), StepFault>
+        ensures { Adds (Some (record self.old { access = self.old.access ++ line ∷ [] }))
+            result self.old self.new }
+    {
+        match self.access.push(line) {
+            Ok(()) => Ok(()),
+            Err(_) => Err(StepFault::Memory),
         }
     }
 }

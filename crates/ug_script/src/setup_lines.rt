@@ -1,14 +1,17 @@
-// Lines that stand before all others: rules, settings, a seed and a time zone.
-ghost use Rattle.std.specs.Prelude.{◌≡◌, ◌≤◌, Some};
+// Lines that stand before all others: rules, settings, access, a seed and a time zone.
+ghost use Rattle.std.specs.Prelude.{◌≡◌, ◌≤◌, ◌&&◌, Some};
+ghost use Rattle.ug_acl.specs.Texts.{access_read};
 ghost use Rattle.ug_rule.specs.Rules.{rule_read};
-ghost use Rattle.ug_script.specs.Grammar.{in_rule, in_seed, in_zone, setup_of};
+ghost use Rattle.ug_script.specs.Grammar.{grant_of, granting, in_access, in_rule, in_seed, in_zone, setup_of, single_of};
 ghost use Rattle.ug_script.specs.Words as words;
 ghost use Rattle.ug_script.specs.Words.{Parses, offset_of, seed_of, signed_by, with_minutes};
 
-use crate::step::{SetupLine, StepFault};
+use crate::step::{AccessLine, SetupLine, StepFault};
+use crate::words::{is_entry, is_one_line, space};
 use std::alloc::Global;
+use ug_acl::parse_access;
 use ug_rule::{RuleFault, parse_rule};
-use ug_types::Text;
+use ug_types::{FileFault, Principal, Text};
 
 /// What stands behind `rule `, read as usbguard-rules.conf(5) says.
 fn read_rule(alloc: Global, text: &[u8]) -> Result<SetupLine, StepFault>
@@ -18,6 +21,40 @@ fn read_rule(alloc: Global, text: &[u8]) -> Result<SetupLine, StepFault>
         Ok(rule) => Ok(SetupLine::Rule(rule)),
         Err(RuleFault::Bad { .. }) => Err(StepFault::Bad),
         Err(RuleFault::Memory) => Err(StepFault::Memory),
+    }
+}
+
+/// What a line of an access file grants, read as usbguard-daemon.conf(5) says.
+fn read_grants(alloc: Global, who: Principal, line: &[u8]) -> Result<SetupLine, StepFault>
+    ensures { Parses (in_access who (access_read line.now)) result }
+{
+    match parse_access(alloc, line) {
+        Ok(grants) => Ok(SetupLine::Access(AccessLine { who, grants })),
+        Err(FileFault::Bad(_)) => Err(StepFault::Bad),
+        Err(FileFault::Memory) => Err(StepFault::Memory),
+    }
+}
+
+/// A line that grants nothing may not stand there.
+fn read_grant_line(alloc: Global, who: Principal, line: &[u8]) -> Result<SetupLine, StepFault>
+    ensures { Parses (granting (Some who) line.now) result }
+{
+    if !is_one_line(line) || !is_entry(line) {
+        return Err(StepFault::Bad);
+    }
+    read_grants(alloc, who, line)
+}
+
+/// A user, or a group behind `:`, and a line of an access file.
+fn read_access(alloc: Global, text: &[u8]) -> Result<SetupLine, StepFault>
+    ensures { Parses (grant_of text.now) result }
+{
+    match space(text) {
+        None => Err(StepFault::Bad),
+        Some(at) => match Principal::parse(&text[..at]) {
+            None => Err(StepFault::Bad),
+            Some(who) => read_grant_line(alloc, who, &text[at + 1..]),
+        },
     }
 }
 
@@ -105,8 +142,23 @@ fn read_seed(text: &[u8]) -> Option<SetupLine>
     }
 }
 
+/// A line of which one may stand there.
+#[tactic(auto, unfolding(crate::specs::Grammar::single_of))]
+fn single_line(line: &[u8]) -> Option<SetupLine>
+    ensures { result ≡ single_of line.now }
+{
+    if line.starts_with(b"seed ") {
+        return read_seed(&line[5..]);
+    }
+    if line.starts_with(b"zone ") {
+        return read_zone(&line[5..]);
+    }
+    None
+}
+
 /// Reads a line that stands before all others. `rule` takes a rule of usbguard-rules.conf(5), `conf` a line of settings, which
-/// is read when it is taken, `seed` 64 hexadecimal digits, and `zone` an offset from UTC as `+HH:MM` or `-HH:MM`, hours to 23.
+/// is read when it is taken, `access` a user or a group with a line of an access file, `seed` 64 hexadecimal digits, and `zone` an
+/// offset from UTC as `+HH:MM` or `-HH:MM`, hours to 23.
 #[tactic(auto, unfolding(crate::specs::Grammar::setup_of))]
 pub fn setup_line(alloc: Global, line: &[u8]) -> Result<SetupLine, StepFault>
     ensures { Parses (setup_of line.now) result }
@@ -120,11 +172,8 @@ pub fn setup_line(alloc: Global, line: &[u8]) -> Result<SetupLine, StepFault>
             Err(_) => Err(StepFault::Memory),
         };
     }
-    if line.starts_with(b"seed ") {
-        return read_seed(&line[5..]).ok_or(StepFault::Bad);
+    if line.starts_with(b"access ") {
+        return read_access(alloc, &line[7..]);
     }
-    if line.starts_with(b"zone ") {
-        return read_zone(&line[5..]).ok_or(StepFault::Bad);
-    }
-    Err(StepFault::Bad)
+    single_line(line).ok_or(StepFault::Bad)
 }

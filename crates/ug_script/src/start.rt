@@ -7,15 +7,16 @@ ghost use Rattle.ug_rule.specs.Files.{file_read};
 ghost use Rattle.ug_store.specs.Scripted.{world_at_first};
 ghost use Rattle.ug_print.specs.RuleTexts.{rules_text_of};
 ghost use Rattle.ug_script.specs.Script.{HoldsRules, IsWantOfMemory, fits_file};
+ghost use Rattle.ug_script.specs.Setup as setups;
 ghost use Rattle.ug_script.specs.Setup.{after_reading, clock_ahead, given_or, is_offset, no_seed, policy_of, rules_disk, started, started_at};
 
+use crate::access::access_of;
 use crate::session::Session;
 use crate::setup::Setup;
 use jiff::tz::{Offset, TimeZone};
 use rand_chacha::ChaCha20Rng;
 use rand_core::{Rng, SeedableRng};
 use std::alloc::Global;
-use ug_acl::Acl;
 use ug_conf::{Settings, default_settings};
 use ug_core::{Daemon, StartFault};
 use ug_print::{RulesTextFault, rules_text};
@@ -128,24 +129,17 @@ fn start_on(alloc: Global, setup: &Setup, first: u64, disk: MemDisk) -> Result<S
     requires rules { HoldsRules setup.now disk }
     requires faultless { disk.faults ≡ 0 }
     ensures daemon { IfOk result (λ s. daemon_of s.daemon
-        ≡ started_at first (policy_of setup.now)) }
+        ≡ started_at first (setups.access_of setup.now) (policy_of setup.now)) }
     ensures disk { IfOk result (λ s. s.disk ≡ after_reading disk) }
 {
     let few = are_few(setup);
     prove!(few);
     let settings = settings_of(alloc, setup)?;
+    let access = access_of(alloc, setup)?;
     let rng = rng_for(setup);
     let zone = zone_for(setup);
     let mut disk = disk;
-    match Daemon::start(
-        alloc,
-        settings,
-        Acl::new(alloc),
-        rng,
-        zone,
-        first,
-        &mut disk,
-    ) {
+    match Daemon::start(alloc, settings, access, rng, zone, first, &mut disk) {
         Ok(daemon) => Ok(Session { daemon, disk }),
         Err(fault) => Err(want_of_memory(fault)),
     }
@@ -153,7 +147,7 @@ fn start_on(alloc: Global, setup: &Setup, first: u64, disk: MemDisk) -> Result<S
 
 /// The daemon that judges by the setup lines, before its first event, which is number 1.
 pub fn start_daemon(alloc: Global, setup: &Setup) -> Result<Session, NoStart>
-    ensures daemon { IfOk result (λ s. daemon_of s.daemon ≡ started (policy_of setup.now)) }
+    ensures daemon { IfOk result (λ s. daemon_of s.daemon ≡ started setup.now) }
     ensures disk { IfOk result (λ s. s.disk ≡ rules_disk setup.now) }
     ensures rules { OnOk result (HoldsRules setup.now (rules_disk setup.now)) }
     ensures too_long { result ≡ Err NoStart.TooLong → fits_file setup.now ≡ false }
@@ -169,7 +163,8 @@ pub fn start_daemon(alloc: Global, setup: &Setup) -> Result<Session, NoStart>
 pub fn restart_daemon(alloc: Global, setup: &Setup, session: Session) -> Result<Session, NoMemory>
     requires { HoldsRules setup.now session.disk }
     ensures daemon { IfOk result (λ s. daemon_of s.daemon
-        ≡ started_at (daemon_of session.daemon).event (policy_of setup.now)) }
+        ≡ started_at (daemon_of session.daemon).event
+        (setups.access_of setup.now) (policy_of setup.now)) }
     ensures disk { IfOk result (λ s. s.disk ≡ after_reading session.disk) }
 {
     let first = session.daemon.next_event();

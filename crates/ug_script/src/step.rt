@@ -1,7 +1,15 @@
 // What a line of a script asks for.
+use ug_acl::Grants;
 use ug_core::Event;
 use ug_sysfs::{Failing, Move, Scheduled};
-use ug_types::{Rule, Text};
+use ug_types::{Principal, Rule, Text};
+
+/// What a user or a group may do: usbguard-daemon.conf(5), IPC access control.
+#[derive(Drop)]
+pub struct AccessLine {
+    pub who: Principal,
+    pub grants: Grants,
+}
 
 /// A line that stands before all others.
 #[derive(Drop)]
@@ -10,6 +18,8 @@ pub enum SetupLine {
     Rule(Rule),
     /// A line of settings: usbguard-daemon.conf(5).
     Conf(Text),
+    /// A user or a group may do more.
+    Access(AccessLine),
     /// The seed of random words.
     Seed([u8; 32]),
     /// How many seconds local clocks are ahead of UTC.

@@ -1,6 +1,7 @@
 // Names, numbers and hexadecimal words of a script's lines.
-ghost use Rattle.std.specs.Prelude.{◌≡◌, Some, nat_eq};
-ghost use Rattle.std.specs.List.{position};
+ghost use Rattle.std.specs.Prelude.{◌≡◌, ◌||◌, Some, find, nat_eq, not};
+ghost use Rattle.std.specs.List.{list_any, position};
+ghost use Rattle.ug_script.specs.Words as words;
 ghost use Rattle.ug_script.specs.Words.{name_of, moment_of, bytes_of, Parses};
 
 use crate::step::StepFault;
@@ -40,6 +41,36 @@ pub fn space(text: &[u8]) -> Option<usize>
     ensures { result ≡ position (nat_eq 32) text.now }
 {
     text.iter().position(|b| b' ' == *b)
+}
+
+/// The first byte that is neither a space nor a tab.
+fn first_byte(text: &[u8]) -> Option<u8>
+    ensures { result ≡ find (λ b. not (nat_eq b 32 || nat_eq b 9)) text.now }
+{
+    text.iter().copied().find(|b| *b != b' ' && *b != b'\t')
+}
+
+/// Whether a line of settings or of access is neither blank nor a comment.
+pub fn is_entry(text: &[u8]) -> bool
+    ensures { result ≡ words.is_entry text.now }
+{
+    match first_byte(text) {
+        None => false,
+        Some(b) => b != b'#',
+    }
+}
+
+fn has_newline(text: &[u8]) -> bool
+    ensures { result ≡ list_any (λ b. nat_eq b 10) text.now }
+{
+    text.iter().any(|b| *b == b'\n')
+}
+
+/// Whether no newline ends it.
+pub fn is_one_line(text: &[u8]) -> bool
+    ensures { result ≡ words.is_one_line text.now }
+{
+    !has_newline(text)
 }
 
 /// The bytes that an even number of hexadecimal digits write, at least two.

@@ -174,7 +174,7 @@ status_for (Some c) why.Memory h = inr (inr (inl refl))
 status_for None why.DiskFailed h = λ e. omega (arith, e)
 status_for (Some c) why.DiskFailed h = inr (inr (inr (inl refl)))
 
-module _ {F Y D W C : Type 0} (reads : F → FileStep → F → Type 0) (begins : Y → Y → Type 0) (gives : Y → (call : Call) → Answer call → Y → Type 0) (told : Y → Option Kernel) (faults : Y → ℕ)
+module _ {F Y D W C : Type 0} (reads : F → FileStep → F → Type 0) (begins : Y → Y → Type 0) (gives : Y → (call : Call) → Answer call → Y → Type 0) (told : Y → Option Kernel) (calls faults : Y → ℕ)
     (keeps : D → (call : DiskCall) → DiskTold call → D → Type 0) (disk_told : D → Option Disk) (disk_faults : D → ℕ) (aimed : D → List ℕ → Type 0) (waits : W → Waited → W → Type 0) (clocks : C → Moment → C → Type 0)
     (files_told : F → Option Tree) (files_tell : (s : F) (step : FileStep) (t : F) (tree : Tree) → reads s step t → files_told t ≡ Some tree → (files_told s ≡ Some tree) × Says tree step) where
   open_told : (users : List Named) (at : List ℕ) (g : F) (r : Result (Unit {0}) NotStarted) (h : F) (tree : Tree) → OpensToNobody reads users at g r h → files_told h ≡ Some tree
@@ -218,7 +218,7 @@ module _ {F Y D W C : Type 0} (reads : F → FileStep → F → Type 0) (begins 
       )
 
   turns_disk : (d : DaemonState) (s : Objects Y D W C) (turns : List Turned) (e : DaemonState) (t : Objects Y D W C) (n : Disk)
-      → Turns begins gives told faults keeps disk_told disk_faults waits clocks d s turns e t → disk_told t.disk ≡ Some n → (m : Disk) × (disk_told s.disk ≡ Some m)
+      → Turns begins gives told calls faults keeps disk_told disk_faults waits clocks d s turns e t → disk_told t.disk ≡ Some n → (m : Disk) × (disk_told s.disk ≡ Some m)
   turns_disk d s [] e t n h is = (n, ap (λ (x : Objects Y D W C). disk_told x.disk) (sym h.1) ∙ is)
   turns_disk d s (turn ∷ turns) e t n h is =
       let later = turns_disk turn.after h.0 turns e t n h.2 is in
@@ -226,7 +226,7 @@ module _ {F Y D W C : Type 0} (reads : F → FileStep → F → Type 0) (begins 
       (now.0, now.1)
 
   serves_disk : (k : ℕ) (d : DaemonState) (s : Objects Y D W C) (made : List Turned) (ended : TurnEnd) (e : DaemonState) (t : Objects Y D W C) (n : Disk)
-      → ServesTurns begins gives told faults keeps disk_told disk_faults waits clocks k d s made ended e t → disk_told t.disk ≡ Some n → (m : Disk) × (disk_told s.disk ≡ Some m)
+      → ServesTurns begins gives told calls faults keeps disk_told disk_faults waits clocks k d s made ended e t → disk_told t.disk ≡ Some n → (m : Disk) × (disk_told s.disk ≡ Some m)
   serves_disk k d s made end.Done e t n h is = turns_disk d s made e t n h.1 is
   serves_disk k d s made end.Numbers e t n h is = turns_disk d s made h.1 h.2 n h.3 (ap (λ (x : Objects Y D W C). disk_told x.disk) (sym h.4.same) ∙ is)
   serves_disk k d s made end.WaitFailed e t n h is = turns_disk d s made h.1 h.2 n h.3 (ap disk_told (sym h.4.disk) ∙ is)
@@ -235,7 +235,7 @@ module _ {F Y D W C : Type 0} (reads : F → FileStep → F → Type 0) (begins 
   same_path p path e = cc
 
   pub status_told : (turns : ℕ) (clock : ℕ → ℕ) (words : Stream) (f : F) (s : Objects Y D W C) (path : Option (List ℕ)) (journal : List Entry) (made : List Turned) (status : ℕ) (g : F) (t : Objects Y D W C)
-      → Serves reads begins gives told faults keeps disk_told disk_faults aimed waits clocks turns clock words f s path journal made status g t
+      → Serves reads begins gives told calls faults keeps disk_told disk_faults aimed waits clocks turns clock words f s path journal made status g t
       → IsStatusByTexts files_told disk_told path s.disk status g t.disk
   status_told turns clock words f s _ _ _ _ _ _ Bad_words = λ at tree n e is on. let no : ⊥ = cc in absurd no
   status_told turns clock words f s _ _ _ _ _ _ (No_room path) = λ at tree n e is on. (n, on, status_for (refusal_of_texts tree n.text at) why.Memory tt)

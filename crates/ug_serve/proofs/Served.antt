@@ -79,14 +79,14 @@ completes n (inr (inr (inr (inr (inr (inr (inl e))))))) one three four nine elev
 completes n (inr (inr (inr (inr (inr (inr (inr (inl e)))))))) one three four nine eleven = absurd (eleven (sym e))
 completes n (inr (inr (inr (inr (inr (inr (inr (inr e)))))))) one three four nine eleven = absurd e
 
-module _ {F Y D W C : Type 0} (reads : F → FileStep → F → Type 0) (begins : Y → Y → Type 0) (gives : Y → (call : Call) → Answer call → Y → Type 0) (told : Y → Option Kernel) (faults : Y → ℕ)
+module _ {F Y D W C : Type 0} (reads : F → FileStep → F → Type 0) (begins : Y → Y → Type 0) (gives : Y → (call : Call) → Answer call → Y → Type 0) (told : Y → Option Kernel) (calls faults : Y → ℕ)
     (keeps : D → (call : DiskCall) → DiskTold call → D → Type 0) (disk_told : D → Option Disk) (disk_faults : D → ℕ) (aimed : D → List ℕ → Type 0) (waits : W → Waited → W → Type 0) (clocks : C → Moment → C → Type 0)
     (turns : ℕ) (clock : ℕ → ℕ) (words : Stream) (f : F) (s : Objects Y D W C) where
   abbrev Done : Option (List ℕ) → List Entry → List Turned → ℕ → F → Objects Y D W C → Type 0
-  Done path journal made status g t = Serves reads begins gives told faults keeps disk_told disk_faults aimed waits clocks turns clock words f s path journal made status g t
+  Done path journal made status g t = Serves reads begins gives told calls faults keeps disk_told disk_faults aimed waits clocks turns clock words f s path journal made status g t
 
   abbrev pub Runs : Option (List ℕ) → ℕ → F → Objects Y D W C → Type 0
-  Runs path status g t = RunsDaemon reads begins gives told faults keeps disk_told disk_faults aimed waits clocks turns clock words f s path status g t
+  Runs path status g t = RunsDaemon reads begins gives told calls faults keeps disk_told disk_faults aimed waits clocks turns clock words f s path status g t
 
   -- ---- what follows from the cases
 
@@ -103,7 +103,7 @@ module _ {F Y D W C : Type 0} (reads : F → FileStep → F → Type 0) (begins 
   bad_words _ _ _ _ _ _ (Served path entries first c g d ms made ended e t opens all notes serves) = (λ h. absurd (turns_not_one ended h), λ h. let no : ⊥ = cc in absurd no)
 
   all_turns : (c : DaemonState) (u : Objects Y D W C) (made : List Turned) (ended : TurnEnd) (e : DaemonState) (t : Objects Y D W C)
-      → ServesTurns begins gives told faults keeps disk_told disk_faults waits clocks turns c u made ended e t → turns_status ended ≡ 0 → length made ≡ turns
+      → ServesTurns begins gives told calls faults keeps disk_told disk_faults waits clocks turns c u made ended e t → turns_status ended ≡ 0 → length made ≡ turns
   all_turns c u made end.Done e t h z = h.0
   all_turns c u made end.Numbers e t h z = absurd (omega (arith, z))
   all_turns c u made end.WaitFailed e t h z = absurd (omega (arith, z))
@@ -148,10 +148,10 @@ module _ {F Y D W C : Type 0} (reads : F → FileStep → F → Type 0) (begins 
   pub runs_served : (path : List ℕ) (entries : List Entry) (c : DaemonState) (g : F) (d : D) (ms : List Member) (made : List Turned) (ended : TurnEnd) (e : DaemonState) (t : Objects Y D W C) (status : ℕ)
       → Opens reads keeps disk_told disk_faults aimed path clock words f s.disk entries (Ok c) g d
       → AreNoted entries s.members ms
-      → ServesTurns begins gives told faults keeps disk_told disk_faults waits clocks turns c (objects s.sysfs d s.waiter s.clock ms) made ended e t → status ≡ turns_status ended
+      → ServesTurns begins gives told calls faults keeps disk_told disk_faults waits clocks turns c (objects s.sysfs d s.waiter s.clock ms) made ended e t → status ≡ turns_status ended
       → Runs (Some path) status g t
   runs_served path entries c g d ms made ended e t status opens noted serves is =
-      let later = serves_noted begins gives told faults keeps disk_told disk_faults waits clocks turns c (objects s.sysfs d s.waiter s.clock ms) made ended e t serves in
+      let later = serves_noted begins gives told calls faults keeps disk_told disk_faults waits clocks turns c (objects s.sysfs d s.waiter s.clock ms) made ended e t serves in
       subst (λ (n : ℕ). Runs (Some path) n g t) (sym is) (record {
         journal = noted.noted ++ turns_entries made;
         made = made;

@@ -36,22 +36,22 @@ daemon_statuses = 0 ∷ 1 ∷ 3 ∷ 4 ∷ 6 ∷ 9 ∷ 10 ∷ 11 ∷ []
 -- and neither does a daemon that has no room for its first entries. A start that isn't done is noted, where a part isn't taken, and its
 -- cause is the status. Else turns are made, from what the start left. Beside what the start and the turns note, the journal has the
 -- `dropped` entries.
-pub data Serves {F Y D W C : Type 0} (reads : F → FileStep → F → Type 0) (begins : Y → Y → Type 0) (gives : Y → (call : Call) → Answer call → Y → Type 0) (told : Y → Option Kernel) (faults : Y → ℕ)
+pub data Serves {F Y D W C : Type 0} (reads : F → FileStep → F → Type 0) (begins : Y → Y → Type 0) (gives : Y → (call : Call) → Answer call → Y → Type 0) (told : Y → Option Kernel) (calls faults : Y → ℕ)
     (keeps : D → (call : DiskCall) → DiskTold call → D → Type 0) (disk_told : D → Option Disk) (disk_faults : D → ℕ) (aimed : D → List ℕ → Type 0) (waits : W → Waited → W → Type 0) (clocks : C → Moment → C → Type 0)
     (turns : ℕ) (clock : ℕ → ℕ) (words : Stream) (f : F) (s : Objects Y D W C) : Option (List ℕ) → List Entry → List Turned → ℕ → F → Objects Y D W C → Type 0 where
-  Bad_words : Serves reads begins gives told faults keeps disk_told disk_faults aimed waits clocks turns clock words f s None [] [] 1 f s
-  No_room : (path : List ℕ) → Serves reads begins gives told faults keeps disk_told disk_faults aimed waits clocks turns clock words f s (Some path) [] [] (start_status Memory) f s
+  Bad_words : Serves reads begins gives told calls faults keeps disk_told disk_faults aimed waits clocks turns clock words f s None [] [] 1 f s
+  No_room : (path : List ℕ) → Serves reads begins gives told calls faults keeps disk_told disk_faults aimed waits clocks turns clock words f s (Some path) [] [] (start_status Memory) f s
   Not_started : (path : List ℕ) (entries : List Entry) (fault : NotStarted) (journal : List Entry) (g : F) (d : D) (ms : List Member)
       → Opens reads keeps disk_told disk_faults aimed path clock words f s.disk entries (Err fault) g d
       → without_drops journal ≡ entries ++ refusal_entries fault
       → NotesEntries journal s.members ms
-      → Serves reads begins gives told faults keeps disk_told disk_faults aimed waits clocks turns clock words f s (Some path) journal [] (start_status fault) g (objects s.sysfs d s.waiter s.clock ms)
+      → Serves reads begins gives told calls faults keeps disk_told disk_faults aimed waits clocks turns clock words f s (Some path) journal [] (start_status fault) g (objects s.sysfs d s.waiter s.clock ms)
   Served : (path : List ℕ) (entries first : List Entry) (c : DaemonState) (g : F) (d : D) (ms : List Member) (made : List Turned) (ended : TurnEnd) (e : DaemonState) (t : Objects Y D W C)
       → Opens reads keeps disk_told disk_faults aimed path clock words f s.disk entries (Ok c) g d
       → without_drops first ≡ entries
       → NotesEntries first s.members ms
-      → ServesTurns begins gives told faults keeps disk_told disk_faults waits clocks turns c (objects s.sysfs d s.waiter s.clock ms) made ended e t
-      → Serves reads begins gives told faults keeps disk_told disk_faults aimed waits clocks turns clock words f s (Some path) (first ++ turns_entries made) made (turns_status ended) g t
+      → ServesTurns begins gives told calls faults keeps disk_told disk_faults waits clocks turns c (objects s.sysfs d s.waiter s.clock ms) made ended e t
+      → Serves reads begins gives told calls faults keeps disk_told disk_faults aimed waits clocks turns clock words f s (Some path) (first ++ turns_entries made) made (turns_status ended) g t
 
 -- a part isn't taken, and the journal's last line tells which, with the first line that is bad
 abbrev pub TellsRefusal : List Entry → Type 0
@@ -61,12 +61,12 @@ TellsRefusal journal =
 
 -- A run of the daemon: its journal, which the auditors were given, and its turns. With status 0 all of them were made, and with 3 the
 -- journal tells what isn't taken.
-pub record RunsDaemon {F Y D W C : Type 0} (reads : F → FileStep → F → Type 0) (begins : Y → Y → Type 0) (gives : Y → (call : Call) → Answer call → Y → Type 0) (told : Y → Option Kernel) (faults : Y → ℕ)
+pub record RunsDaemon {F Y D W C : Type 0} (reads : F → FileStep → F → Type 0) (begins : Y → Y → Type 0) (gives : Y → (call : Call) → Answer call → Y → Type 0) (told : Y → Option Kernel) (calls faults : Y → ℕ)
     (keeps : D → (call : DiskCall) → DiskTold call → D → Type 0) (disk_told : D → Option Disk) (disk_faults : D → ℕ) (aimed : D → List ℕ → Type 0) (waits : W → Waited → W → Type 0) (clocks : C → Moment → C → Type 0)
     (turns : ℕ) (clock : ℕ → ℕ) (words : Stream) (f : F) (s : Objects Y D W C) (path : Option (List ℕ)) (status : ℕ) (g : F) (t : Objects Y D W C) : Type 0 where
   pub journal : List Entry
   pub made : List Turned
-  pub serves : Serves reads begins gives told faults keeps disk_told disk_faults aimed waits clocks turns clock words f s path journal made status g t
+  pub serves : Serves reads begins gives told calls faults keeps disk_told disk_faults aimed waits clocks turns clock words f s path journal made status g t
   pub noted : NotesEntries journal s.members t.members
   pub all_made : status ≡ 0 → length made ≡ turns
   pub told_refused : status ≡ 3 → TellsRefusal journal

@@ -37,7 +37,7 @@ pub record TellTurns {Y D W C : Type 0} (told : Y → Option Kernel) (disk_told 
   pub tokens : (after : List (List Ready)) → waiter_told t.waiter ≡ Some after → GrowsBy (waiter_told s.waiter) (turns_tokens turns) after
   pub moments : (after : List Moment) → clock_told t.clock ≡ Some after → GrowsBy (clock_told s.clock) (turns_moments turns) after
 
-abbrev pub TurnsTell : {Y D W C : Type 0} → (Y → Y → Type 0) → (Y → (call : Call) → Answer call → Y → Type 0) → (Y → Option Kernel) → (Y → ℕ) → (D → (call : DiskCall) → DiskTold call → D → Type 0) → (D → Option Disk) → (D → ℕ) → (W → Waited → W → Type 0) → (C → Moment → C → Type 0) → (W → Option (List (List Ready))) → (C → Option (List Moment)) → Type 0
-TurnsTell {Y} {D} {W} {C} begins gives told faults keeps disk_told disk_faults waits clocks waiter_told clock_told =
+abbrev pub TurnsTell : {Y D W C : Type 0} → (Y → Y → Type 0) → (Y → (call : Call) → Answer call → Y → Type 0) → (Y → Option Kernel) → (Y → ℕ) → (Y → ℕ) → (D → (call : DiskCall) → DiskTold call → D → Type 0) → (D → Option Disk) → (D → ℕ) → (W → Waited → W → Type 0) → (C → Moment → C → Type 0) → (W → Option (List (List Ready))) → (C → Option (List Moment)) → Type 0
+TurnsTell {Y} {D} {W} {C} begins gives told calls faults keeps disk_told disk_faults waits clocks waiter_told clock_told =
     (policy : Judging) (first : ℕ) (d : DaemonState) (s : Objects Y D W C) (turns : List Turned) (e : DaemonState) (t : Objects Y D W C)
-    → IsStarted policy first d → Turns begins gives told faults keeps disk_told disk_faults waits clocks d s turns e t → TellTurns told disk_told waiter_told clock_told policy d s turns e t
+    → IsStarted policy first d → Turns begins gives told calls faults keeps disk_told disk_faults waits clocks d s turns e t → TellTurns told disk_told waiter_told clock_told policy d s turns e t

@@ -39,7 +39,7 @@ pub record Objects (Y D W C : Type 0) : Type 0 where
 abbrev pub objects : {Y D W C : Type 0} → Y → D → W → C → List Member → Objects Y D W C
 objects y d w c ms = record { sysfs = y; disk = d; waiter = w; clock = c; members = ms }
 
-module _ {Y D W C : Type 0} (begins : Y → Y → Type 0) (gives : Y → (call : Call) → Answer call → Y → Type 0) (told : Y → Option Kernel) (faults : Y → ℕ) (keeps : D → (call : DiskCall) → DiskTold call → D → Type 0) (disk_told : D → Option Disk) (disk_faults : D → ℕ) (waits : W → Waited → W → Type 0) (clocks : C → Moment → C → Type 0) where
+module _ {Y D W C : Type 0} (begins : Y → Y → Type 0) (gives : Y → (call : Call) → Answer call → Y → Type 0) (told : Y → Option Kernel) (calls faults : Y → ℕ) (keeps : D → (call : DiskCall) → DiskTold call → D → Type 0) (disk_told : D → Option Disk) (disk_faults : D → ℕ) (waits : W → Waited → W → Type 0) (clocks : C → Moment → C → Type 0) where
   -- the numbers leave room for an event
   abbrev pub has_room : DaemonState → Objects Y D W C → Bool
   has_room d s = has_numbers d (faults s.sysfs) (disk_faults s.disk)
@@ -50,7 +50,7 @@ module _ {Y D W C : Type 0} (begins : Y → Y → Type 0) (gives : Y → (call :
     pub room : has_room d s ≡ true
     pub waited : waits s.waiter (Tokens turn.tokens) t.waiter
     pub moment : clocks s.clock turn.moment t.clock
-    pub handled : HandlesEvent begins gives told faults keeps disk_told disk_faults (Sweep turn.moment) s.sysfs s.disk d t.sysfs t.disk turn.after
+    pub handled : HandlesEvent begins gives told calls faults keeps disk_told disk_faults (Sweep turn.moment) s.sysfs s.disk d t.sysfs t.disk turn.after
     pub entries : turn.after.sweep.entries ≡ without_drops turn.entries
     pub noted : NotesEntries turn.entries s.members t.members
 

@@ -50,7 +50,7 @@ fn serve_from<Y: Sysfs, D: RuleDisk, F: ConfFiles, W: Waiter, C: Clock>(
     turns: u64,
 ) -> u8
     requires { 65 ≤ entries.old.room }
-    ensures runs { RunsDaemon F.gives Y.begins Y.gives Y.told Y.faults
+    ensures runs { RunsDaemon F.gives Y.begins Y.gives Y.told Y.calls Y.faults
         D.keeps D.told D.faults D.aimed W.gives C.gives turns (clock_of zone.entry) (words_of_seed seed)
         files.old (objects sysfs.old disk.old waiter.old clock.old
         (members (λ b. ⟦<dyn Auditor as Auditor>⟧ b.vtable) panel.old))
@@ -93,7 +93,7 @@ fn serve<Y: Sysfs, D: RuleDisk, F: ConfFiles, W: Waiter, C: Clock>(
     panel: &mut Panel,
     turns: u64,
 ) -> u8
-    ensures runs { RunsDaemon F.gives Y.begins Y.gives Y.told Y.faults
+    ensures runs { RunsDaemon F.gives Y.begins Y.gives Y.told Y.calls Y.faults
         D.keeps D.told D.faults D.aimed W.gives C.gives turns (clock_of zone.entry) (words_of_seed seed)
         files.old (objects sysfs.old disk.old waiter.old clock.old
         (members (λ b. ⟦<dyn Auditor as Auditor>⟧ b.vtable) panel.old))
@@ -142,7 +142,7 @@ pub fn run_daemon<Y: Sysfs, D: RuleDisk, F: ConfFiles, W: Waiter, C: Clock>(
     panel: &mut Panel,
     turns: u64,
 ) -> u8
-    ensures runs { RunsDaemon F.gives Y.begins Y.gives Y.told Y.faults
+    ensures runs { RunsDaemon F.gives Y.begins Y.gives Y.told Y.calls Y.faults
         D.keeps D.told D.faults D.aimed W.gives C.gives turns (clock_of zone.entry) (words_of_seed seed)
         files.old (objects sysfs.old disk.old waiter.old clock.old
         (members (λ b. ⟦<dyn Auditor as Auditor>⟧ b.vtable) panel.old))
@@ -163,7 +163,7 @@ pub fn run_daemon<Y: Sysfs, D: RuleDisk, F: ConfFiles, W: Waiter, C: Clock>(
     ensures disk_failed { result ≡ 9 → Rose (D.faults disk.old) (D.faults disk.new) }
     ensures wait_failed { result ≡ 11 → Rose (W.faults waiter.old) (W.faults waiter.new) }
 
-    ensures carries { TurnsTell Y.begins Y.gives Y.told Y.faults D.keeps D.told D.faults
+    ensures carries { TurnsTell Y.begins Y.gives Y.told Y.calls Y.faults D.keeps D.told D.faults
         W.gives C.gives W.told C.told }
 {
     match conf_path(words) {

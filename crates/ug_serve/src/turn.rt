@@ -39,7 +39,7 @@ pub fn serve_turn<Y: Sysfs, D: RuleDisk, W: Waiter, C: Clock>(
     clock: &mut C,
     panel: &mut Panel,
 ) -> TurnEnd
-    ensures turn { EndsTurn Y.begins Y.gives Y.told Y.faults D.keeps D.told D.faults W.gives C.gives
+    ensures turn { EndsTurn Y.begins Y.gives Y.told Y.calls Y.faults D.keeps D.told D.faults W.gives C.gives
         (daemon_of daemon.old) (objects sysfs.old disk.old waiter.old clock.old
         (members (λ b. ⟦<dyn Auditor as Auditor>⟧ b.vtable) panel.old)) result
         (daemon_of daemon.new) (objects sysfs.new disk.new waiter.new clock.new
@@ -75,7 +75,7 @@ pub fn serve_turns<Y: Sysfs, D: RuleDisk, W: Waiter, C: Clock>(
     panel: &mut Panel,
 ) -> TurnEnd
     ensures turns { (made : List Turned)
-        × ServesTurns Y.begins Y.gives Y.told Y.faults D.keeps D.told D.faults W.gives C.gives turns
+        × ServesTurns Y.begins Y.gives Y.told Y.calls Y.faults D.keeps D.told D.faults W.gives C.gives turns
         (daemon_of daemon.old) (objects sysfs.old disk.old waiter.old clock.old
         (members (λ b. ⟦<dyn Auditor as Auditor>⟧ b.vtable) panel.old)) made result
         (daemon_of daemon.new) (objects sysfs.new disk.new waiter.new clock.new

@@ -2,10 +2,9 @@
 use Rattle.std.proofs.Common.{◌≡◌, ℕ, Bool, true, false, cond, nat_eq, List, [], ◌∷◌, ◌++◌, Option, Some, None, map, ◌⊎◌, inl, inr, refl, sym, ◌∙◌, ap, subst, append_assoc, arith}
 use Rattle.ug_types.specs.Principals.{Named}
 use Rattle.ug_kernel.specs.declared.device.Effect.{Effect}
-use Rattle.ug_table.proofs.Common.{Has, Authorized, open_file, Quiet, says_probe, none_before, Held, Target, Call, Answer, Ask_alive, Told, Follows, Runs, calls, Made, Entry, State, Kept, Answers, Laters, kept_of, with_kept, known_of, known_files, standing_of, numbered, number_of, AreOfNumber, numbers_given, AtMostOneEach, TellsWrites, writes_in, HasRemoval, wrote_entries, Account, Start, Note, Judge, Had, Had_not, Went, Tries, IsNamed, Stand, IsDevice, Standing, Settled, Probe, Kernel, IsKernel, Cause, names_of, unsettled_by, tried_standings, cancel, has_left, has_right, last_is, map_has, distinct_one, bringing, Ways, Sure, Ran, ways_run, sure_last, NeedsRoom, told_run, called_quiet, StandInOrder, KeepsOrder}
+use Rattle.ug_table.proofs.Common.{Has, Authorized, open_file, Quiet, says_probe, none_before, Held, Target, Call, Answer, Ask_alive, Told, Follows, Runs, calls, Made, Entry, State, Kept, Answers, Laters, kept_of, with_kept, known_of, known_files, standing_of, numbered, number_of, AreOfNumber, numbers_given, AtMostOneEach, TellsWrites, writes_in, HasRemoval, wrote_entries, Account, Start, Note, Judge, Had, Had_not, Went, Tries, IsNamed, Stand, IsDevice, Standing, Settled, Probe, Kernel, IsKernel, Cause, names_of, unsettled_by, tried_standings, cancel, has_left, has_right, last_is, map_has, distinct_one, bringing, Ways, Sure, Ran, ways_run, sure_last, NeedsRoom, told_run, called_quiet, StandInOrder, KeepsOrder, AllBear}
 use Rattle.ug_table.specs.Marks.{has_number, stood_removed, LeavesMarks}
 use Rattle.ug_table.specs.Orders.{to_probe, probing, ProbesOne, with_verdict, ordered_standing, with_order, verdict_entry, to_tried, to_order, ordering, behind_probe, GoesAsOrder, HasOrdered, IsStopped, just_ordered, OrderedOne, OrdersOne}
-use Rattle.ug_table.proofs.Chains.{no_verdict, no_later}
 use Rattle.ug_kernel.proofs.Rises.{Counting, along_numbered, along_rises}
 use Rattle.ug_kernel.proofs.Runs.{runs_then}
 use Rattle.ug_table.proofs.Fair.{known_brought}
@@ -38,12 +37,12 @@ told_probes gives told did number ss s r t h = λ l e.
 
 -- the standings with the verdict
 
-ordered_is : (number : ℕ) (verdict : Target) (who : Named) (x : Standing) → x.number ≡ number → ordered_standing number verdict who x ≡ with_verdict verdict who x
+pub ordered_is : (number : ℕ) (verdict : Target) (who : Named) (x : Standing) → x.number ≡ number → ordered_standing number verdict who x ≡ with_verdict verdict who x
 ordered_is number verdict who x e =
     let same : nat_eq x.number number ≡ true = grind (arith, e) in
     ap (λ (t : Bool). let v : Standing = record x { verdict = cond t verdict x.verdict; cause = cond t (Cause.Order who) x.cause } in v) same
 
-ordered_other : (number : ℕ) (verdict : Target) (who : Named) (x : Standing) → nat_eq x.number number ≡ false → ordered_standing number verdict who x ≡ x
+pub ordered_other : (number : ℕ) (verdict : Target) (who : Named) (x : Standing) → nat_eq x.number number ≡ false → ordered_standing number verdict who x ≡ x
 ordered_other number verdict who x e = ap (λ (t : Bool). let v : Standing = record x { verdict = cond t verdict x.verdict; cause = cond t (Cause.Order who) x.cause } in v) e
 
 pub keeps_ordered : (number : ℕ) (verdict : Target) (who : Named) (ss : List Standing) → KeepsOrder ss (with_order number verdict who ss)
@@ -58,12 +57,12 @@ numbered_ordered number verdict who (s ∷ ss) x e =
       | false ↦ numbered_ordered number verdict who ss x
     ] e
 
-numbered_now : (number : ℕ) (verdict : Target) (who : Named) (ss : List Standing) (x : Standing) → numbered number ss ≡ Some x → numbered number (with_order number verdict who ss) ≡ Some (with_verdict verdict who x)
+pub numbered_now : (number : ℕ) (verdict : Target) (who : Named) (ss : List Standing) (x : Standing) → numbered number ss ≡ Some x → numbered number (with_order number verdict who ss) ≡ Some (with_verdict verdict who x)
 numbered_now number verdict who ss x at =
     numbered_ordered number verdict who ss x at ∙ ap (λ (v : Standing). Some v) (ordered_is number verdict who x (numbered_has number ss x at).1)
 
 -- the standing of that number is there, with the verdict
-has_ordered : (number : ℕ) (verdict : Target) (who : Named) (ss : List Standing) (x : Standing) → numbered number ss ≡ Some x → Has (with_order number verdict who ss) (with_verdict verdict who x)
+pub has_ordered : (number : ℕ) (verdict : Target) (who : Named) (ss : List Standing) (x : Standing) → numbered number ss ≡ Some x → Has (with_order number verdict who ss) (with_verdict verdict who x)
 has_ordered number verdict who ss x at = (numbered_has number (with_order number verdict who ss) (with_verdict verdict who x) (numbered_now number verdict who ss x at)).0
 
 -- its run: the calls, the entries, how it ended, and the standings then
@@ -176,7 +175,7 @@ order_short gives number verdict who on k x s p t at r e =
 
 -- in the words of devices
 
-stand_ordered : (k : Kernel) (ss : List Standing) (next number : ℕ) (verdict : Target) (who : Named) → Stand k ss next → Stand k (with_order number verdict who ss) next
+pub stand_ordered : (k : Kernel) (ss : List Standing) (next number : ℕ) (verdict : Target) (who : Named) → Stand k ss next → Stand k (with_order number verdict who ss) next
 stand_ordered k ss next number verdict who stand =
     let f = ordered_standing number verdict who in
     stand_by k (with_order number verdict who ss) next (keeps_ordered number verdict who ss next (in_order stand))
@@ -228,8 +227,8 @@ stopped Settled.Stands name n = absurd n.1
 stopped Settled.Nobody name n = absurd n.1
 stopped how name n = tt
 
-order_one : (number : ℕ) (verdict : Target) (who : Named) (on : Bool) (w : State (Unit {0})) (k l : Kernel) (p : Settled × Kept) (x : Standing) → IsKernel k → Stand k w.standings w.next → numbered number w.standings ≡ Some x → Runs calls k (ordering number verdict who on (kept_of w.standings w.entries)) p l → OrderedOne number verdict who on x k w l (with_kept w p.1) p.0
-order_one number verdict who on w k l p x sound stand at r =
+pub order_one : {J : Type 0} (number : ℕ) (verdict : Target) (who : Named) (on : Bool) (w : State J) (k l : Kernel) (p : Settled × Kept) (x : Standing) → IsKernel k → Stand k w.standings w.next → numbered number w.standings ≡ Some x → Runs calls k (ordering number verdict who on (kept_of w.standings w.entries)) p l → OrderedOne number verdict who on x k w l (with_kept w p.1) p.0
+order_one {J} number verdict who on w k l p x sound stand at r =
     let run = ordering_run calls number verdict who on (kept_of w.standings w.entries) x k p l at r in
     let o = run.so.1 in
     let y = with_verdict verdict who x in
@@ -241,10 +240,10 @@ order_one number verdict who on w k l p x sound stand at r =
     let one = stands_one y.name ss y stands.names mine refl in
     let added : p.1.entries ≡ u.entries ++ o.rest = o.entries ∙ sym (append_assoc w.entries (verdict_entry y ∷ []) o.rest) in
     let is : p.1 ≡ kept_of (tried_standings ss y.name p.0) (u.entries ++ o.rest) = λ i. record { standings = o.standings i; entries = added i } in
-    let fair : (answer : Answers (Unit {0})) (later : Laters (Unit {0})) (present : Bool) (tried : Tries) → FairFrom answer later present tried k u l (with_kept w p.1) = λ answer later present tried.
+    let fair : (answer : Answers J) (later : Laters J) (present : Bool) (tried : Tries) → FairFrom answer later present tried k u l (with_kept w p.1) = λ answer later present tried.
     subst (λ (v : Kept). FairFrom answer later present tried k u l (with_kept w v)) (sym is)
     (known_brought l y.name (known_of y) on one (fair_refl answer later present tried k u sound stands) o.brought run.along) in
-    let a = fair no_verdict no_later false none_before in
+    let a = fair (λ judge dev controller present on ss. (x.verdict, x.cause)) (λ judge dev controller present on ss. judge) false none_before in
     let g = a.fair.grows in
     let files = stand_files k w.standings w.next stand in
     let t = told_at (Probe.Alive on) (record { call = 0; count = 0 }) in
@@ -269,7 +268,15 @@ order_one number verdict who on w k l p x sound stand at r =
       nobody = λ e i file. left_gone y mine a (subst (λ (v : List Standing). Has (names_of v) y.name → ⊥) (sym o.standings) (tried_nobody ss y.name p.0 e)) i file;
     }
 
-pub told_orders : {S : Type 0} (gives : S → (call : Call) → Answer call → S → Type 0) (told : S → Option Kernel) (did : (s : S) (call : Call) (answer : Answer call) (t : S) (l : Kernel) → gives s call answer t → told t ≡ Some l → Follows call answer (told s) l) (number : ℕ) (verdict : Target) (who : Named) (on : Bool) (s : S) (w : State (Unit {0})) (t : S) (p : Settled × Kept) → Runs gives s (ordering number verdict who on (kept_of w.standings w.entries)) p t → OrdersOne told number verdict who on s w t (with_kept w p.1) p.0
+-- no number is given out
+pub order_rest : {S : Type 0} (gives : S → (call : Call) → Answer call → S → Type 0) (number : ℕ) (verdict : Target) (who : Named) (on : Bool) (k : Kept) (x : Standing) (s : S) (p : Settled × Kept) (t : S) → numbered number k.standings ≡ Some x → Runs gives s (ordering number verdict who on k) p t → (rest : List Entry) × (p.1.entries ≡ k.entries ++ verdict_entry (with_verdict verdict who x) ∷ rest) × AllBear x.name rest × (numbers_given rest ≡ [])
+order_rest gives number verdict who on k x s p t at r =
+    let o = (ordering_run gives number verdict who on k x s p t at r).so.1 in
+    let found = told_at (Probe.Alive on) (record { call = 0; count = 0 }) in
+    let told = (brought_goes (behind_probe x.held.0 found) (found, refl, refl) o.brought).entries in
+    (o.rest, o.entries, told.bears, told.given)
+
+pub told_orders : {S J : Type 0} (gives : S → (call : Call) → Answer call → S → Type 0) (told : S → Option Kernel) (did : (s : S) (call : Call) (answer : Answer call) (t : S) (l : Kernel) → gives s call answer t → told t ≡ Some l → Follows call answer (told s) l) (number : ℕ) (verdict : Target) (who : Named) (on : Bool) (s : S) (w : State J) (t : S) (p : Settled × Kept) → Runs gives s (ordering number verdict who on (kept_of w.standings w.entries)) p t → OrdersOne told number verdict who on s w t (with_kept w p.1) p.0
 told_orders gives told did number verdict who on s w t p r = λ l e.
     let m = told_run gives told did (ordering number verdict who on (kept_of w.standings w.entries)) s p t l r e in
     (m.kernel, m.was, λ sound stand x at. order_one number verdict who on w m.kernel l p x sound stand at (m.run sound).0)

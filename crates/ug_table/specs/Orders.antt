@@ -132,19 +132,19 @@ IsStopped (settled.Fault failed) = Unit {0}
 IsStopped settled.Memory = Unit {0}
 
 -- the ordered verdict is set and told
-abbrev pub just_ordered : ℕ → Target → Named → Standing → State (Unit {0}) → State (Unit {0})
+abbrev pub just_ordered : {J : Type 0} → ℕ → Target → Named → Standing → State J → State J
 just_ordered number verdict who x w = record w { standings = with_order number verdict who w.standings; entries = w.entries ++ verdict_entry (with_verdict verdict who x) ∷ [] }
 
 -- From the state in which the verdict was just set and told on, the order is fair, whatever judge there is, as none is asked. Each
 -- effect that the log gains is on the standing's own device. That device, where it lived through and had the value that was probed,
 -- is as ordered, or the answer tells what stopped it; and where the answer says that there is nobody, it is gone.
-pub record OrderedOne (number : ℕ) (verdict : Target) (who : Named) (on : Bool) (x : Standing) (k : Kernel) (w : State (Unit {0})) (l : Kernel) (v : State (Unit {0})) (how : Settled) : Type 0 where
-  pub fair : (answer : Answers (Unit {0})) (later : Laters (Unit {0})) (present : Bool) (tried : Tries) → IsFair answer later present tried k (just_ordered number verdict who x w) l v
+pub record OrderedOne {J : Type 0} (number : ℕ) (verdict : Target) (who : Named) (on : Bool) (x : Standing) (k : Kernel) (w : State J) (l : Kernel) (v : State J) (how : Settled) : Type 0 where
+  pub fair : (answer : Answers J) (later : Laters J) (present : Bool) (tried : Tries) → IsFair answer later present tried k (just_ordered number verdict who x w) l v
   pub own : (e : Effect) → Has l.log e → Has k.log e ⊎ IsOf l x e.device
   pub ended : (i : ℕ) (d : Device) → IsOf k x i → Lived k.devices l.devices i d → d.on ≡ on → IsAsJudged l v.standings i ⊎ IsStopped how
   pub nobody : how ≡ settled.Nobody → (i : ℕ) → IsOf k x i → IsGone l i
 
 -- where a kernel is told at its end, one was told at its start; and where that is sound and the standings are of its devices, that
 -- is so
-abbrev pub OrdersOne : {S : Type 0} → (S → Option Kernel) → ℕ → Target → Named → Bool → S → State (Unit {0}) → S → State (Unit {0}) → Settled → Type 0
+abbrev pub OrdersOne : {S J : Type 0} → (S → Option Kernel) → ℕ → Target → Named → Bool → S → State J → S → State J → Settled → Type 0
 OrdersOne told number verdict who on s w t v how = (l : Kernel) → told t ≡ Some l → (k : Kernel) × (told s ≡ Some k) × (IsKernel k → Stand k w.standings w.next → (x : Standing) → numbered number w.standings ≡ Some x → OrderedOne number verdict who on x k w l v how)

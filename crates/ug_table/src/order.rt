@@ -58,7 +58,7 @@ impl Table {
             → GoesAsOrder Y.gives Y.calls Y.faults (with_verdict verdict who s) on
             sysfs.old (noted_in out.old).entries
             sysfs.new self.new.standings (noted_in out.new).entries result }
-        ensures law { OrdersOne Y.told number verdict who on
+        ensures law { OrdersOne {J = Unit {0}} Y.told number verdict who on
             sysfs.old (state_of self.old tt (noted_in out.old).entries)
             sysfs.new (state_of self.new tt (noted_in out.new).entries) result }
         ensures verdict { HasOrdered number verdict who self.old.standings self.new.standings }

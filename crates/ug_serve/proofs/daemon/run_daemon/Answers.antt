@@ -11,7 +11,7 @@ use Rattle.ug_serve.proofs.daemon.run_daemon.Goals as goal
 pub returns-in-None-clause-runs : goal.returns-in-None-clause-runs
 returns-in-None-clause-runs g c =
     rw (← c.in-None.ensures)
-    (runs_without_words g.F.ConfFiles.gives g.Y.Sysfs.begins g.Y.Sysfs.gives g.Y.Sysfs.told g.Y.Sysfs.faults g.D.RuleDisk.keeps g.D.RuleDisk.told g.D.RuleDisk.faults g.D.RuleDisk.aimed g.W.Waiter.gives g.C.Clock.gives
+    (runs_without_words g.F.ConfFiles.gives g.Y.Sysfs.begins g.Y.Sysfs.gives g.Y.Sysfs.told g.Y.Sysfs.calls g.Y.Sysfs.faults g.D.RuleDisk.keeps g.D.RuleDisk.told g.D.RuleDisk.faults g.D.RuleDisk.aimed g.W.Waiter.gives g.C.Clock.gives
     c.args.turns (clock_of c.args.zone) (words_of_seed c.args.seed) c.args.files.now (objects c.args.sysfs.now c.args.disk.now c.args.waiter.now c.args.clock.now (members (λ b. goal.Auditor-dyn g (b.vtable, b.value)) c.args.panel.now)))
 
 pub returns-in-None-clause-statuses : goal.returns-in-None-clause-statuses
@@ -27,15 +27,15 @@ pub returns-in-None-clause-complete : goal.returns-in-None-clause-complete
 returns-in-None-clause-complete g c = λ words taken files disk waiter. absurd (words (sym c.in-None.ensures))
 
 pub returns-in-None-clause-carries : goal.returns-in-None-clause-carries
-returns-in-None-clause-carries g c = turns_tell g.Y.Sysfs.begins g.Y.Sysfs.gives g.Y.Sysfs.told g.Y.Sysfs.faults g.D.RuleDisk.keeps g.D.RuleDisk.told g.D.RuleDisk.faults g.W.Waiter.gives g.C.Clock.gives g.W.Waiter.told g.C.Clock.told g.met.W.Waiter.tells g.met.C.Clock.tells
+returns-in-None-clause-carries g c = turns_tell g.Y.Sysfs.begins g.Y.Sysfs.gives g.Y.Sysfs.told g.Y.Sysfs.calls g.Y.Sysfs.faults g.D.RuleDisk.keeps g.D.RuleDisk.told g.D.RuleDisk.faults g.W.Waiter.gives g.C.Clock.gives g.W.Waiter.told g.C.Clock.told g.met.W.Waiter.tells g.met.C.Clock.tells
 
 pub returns-in-Some-clause-carries : goal.returns-in-Some-clause-carries
-returns-in-Some-clause-carries g c = turns_tell g.Y.Sysfs.begins g.Y.Sysfs.gives g.Y.Sysfs.told g.Y.Sysfs.faults g.D.RuleDisk.keeps g.D.RuleDisk.told g.D.RuleDisk.faults g.W.Waiter.gives g.C.Clock.gives g.W.Waiter.told g.C.Clock.told g.met.W.Waiter.tells g.met.C.Clock.tells
+returns-in-Some-clause-carries g c = turns_tell g.Y.Sysfs.begins g.Y.Sysfs.gives g.Y.Sysfs.told g.Y.Sysfs.calls g.Y.Sysfs.faults g.D.RuleDisk.keeps g.D.RuleDisk.told g.D.RuleDisk.faults g.W.Waiter.gives g.C.Clock.gives g.W.Waiter.told g.C.Clock.told g.met.W.Waiter.tells g.met.C.Clock.tells
 
 pub returns-in-Some-clause-statuses : goal.returns-in-Some-clause-statuses
 returns-in-Some-clause-statuses g c =
     let r = c.serve.ensures.runs in
-    has_status g.F.ConfFiles.gives g.Y.Sysfs.begins g.Y.Sysfs.gives g.Y.Sysfs.told g.Y.Sysfs.faults g.D.RuleDisk.keeps g.D.RuleDisk.told g.D.RuleDisk.faults g.D.RuleDisk.aimed g.W.Waiter.gives g.C.Clock.gives
+    has_status g.F.ConfFiles.gives g.Y.Sysfs.begins g.Y.Sysfs.gives g.Y.Sysfs.told g.Y.Sysfs.calls g.Y.Sysfs.faults g.D.RuleDisk.keeps g.D.RuleDisk.told g.D.RuleDisk.faults g.D.RuleDisk.aimed g.W.Waiter.gives g.C.Clock.gives
     c.args.turns (clock_of c.args.zone) (words_of_seed c.args.seed) c.args.files.now (objects c.args.sysfs.now c.args.disk.now c.args.waiter.now c.args.clock.now (members (λ b. goal.Auditor-dyn g (b.vtable, b.value)) c.args.panel.now))
     (Some c.in-Some.path.now) r.journal r.made c.serve.result c.serve.new.files (objects c.serve.new.sysfs c.serve.new.disk c.serve.new.waiter c.serve.new.clock (members (λ b. goal.Auditor-dyn g (b.vtable, b.value)) c.serve.new.panel)) r.serves
 
@@ -43,7 +43,7 @@ pub returns-in-Some-clause-bad_words : goal.returns-in-Some-clause-bad_words
 returns-in-Some-clause-bad_words g c =
     let r = c.serve.ensures.runs in
     rw (← c.in-Some.ensures)
-    (bad_words g.F.ConfFiles.gives g.Y.Sysfs.begins g.Y.Sysfs.gives g.Y.Sysfs.told g.Y.Sysfs.faults g.D.RuleDisk.keeps g.D.RuleDisk.told g.D.RuleDisk.faults g.D.RuleDisk.aimed g.W.Waiter.gives g.C.Clock.gives
+    (bad_words g.F.ConfFiles.gives g.Y.Sysfs.begins g.Y.Sysfs.gives g.Y.Sysfs.told g.Y.Sysfs.calls g.Y.Sysfs.faults g.D.RuleDisk.keeps g.D.RuleDisk.told g.D.RuleDisk.faults g.D.RuleDisk.aimed g.W.Waiter.gives g.C.Clock.gives
     c.args.turns (clock_of c.args.zone) (words_of_seed c.args.seed) c.args.files.now (objects c.args.sysfs.now c.args.disk.now c.args.waiter.now c.args.clock.now (members (λ b. goal.Auditor-dyn g (b.vtable, b.value)) c.args.panel.now))
     (Some c.in-Some.path.now) r.journal r.made c.serve.result c.serve.new.files (objects c.serve.new.sysfs c.serve.new.disk c.serve.new.waiter c.serve.new.clock (members (λ b. goal.Auditor-dyn g (b.vtable, b.value)) c.serve.new.panel)) r.serves)
 
@@ -51,7 +51,7 @@ pub returns-in-Some-clause-refused : goal.returns-in-Some-clause-refused
 returns-in-Some-clause-refused g c =
     let r = c.serve.ensures.runs in
     rw (← c.in-Some.ensures)
-    (status_told g.F.ConfFiles.gives g.Y.Sysfs.begins g.Y.Sysfs.gives g.Y.Sysfs.told g.Y.Sysfs.faults g.D.RuleDisk.keeps g.D.RuleDisk.told g.D.RuleDisk.faults g.D.RuleDisk.aimed g.W.Waiter.gives g.C.Clock.gives
+    (status_told g.F.ConfFiles.gives g.Y.Sysfs.begins g.Y.Sysfs.gives g.Y.Sysfs.told g.Y.Sysfs.calls g.Y.Sysfs.faults g.D.RuleDisk.keeps g.D.RuleDisk.told g.D.RuleDisk.faults g.D.RuleDisk.aimed g.W.Waiter.gives g.C.Clock.gives
     g.F.ConfFiles.told g.met.F.ConfFiles.tells c.args.turns (clock_of c.args.zone) (words_of_seed c.args.seed) c.args.files.now (objects c.args.sysfs.now c.args.disk.now c.args.waiter.now c.args.clock.now (members (λ b. goal.Auditor-dyn g (b.vtable, b.value)) c.args.panel.now))
     (Some c.in-Some.path.now) r.journal r.made c.serve.result c.serve.new.files (objects c.serve.new.sysfs c.serve.new.disk c.serve.new.waiter c.serve.new.clock (members (λ b. goal.Auditor-dyn g (b.vtable, b.value)) c.serve.new.panel)) r.serves)
 
@@ -59,11 +59,11 @@ pub returns-in-Some-clause-complete : goal.returns-in-Some-clause-complete
 returns-in-Some-clause-complete g c = λ words taken files disk waiter.
     let r = c.serve.ensures.runs in
     let one =
-    bad_words g.F.ConfFiles.gives g.Y.Sysfs.begins g.Y.Sysfs.gives g.Y.Sysfs.told g.Y.Sysfs.faults g.D.RuleDisk.keeps g.D.RuleDisk.told g.D.RuleDisk.faults g.D.RuleDisk.aimed g.W.Waiter.gives g.C.Clock.gives
+    bad_words g.F.ConfFiles.gives g.Y.Sysfs.begins g.Y.Sysfs.gives g.Y.Sysfs.told g.Y.Sysfs.calls g.Y.Sysfs.faults g.D.RuleDisk.keeps g.D.RuleDisk.told g.D.RuleDisk.faults g.D.RuleDisk.aimed g.W.Waiter.gives g.C.Clock.gives
     c.args.turns (clock_of c.args.zone) (words_of_seed c.args.seed) c.args.files.now (objects c.args.sysfs.now c.args.disk.now c.args.waiter.now c.args.clock.now (members (λ b. goal.Auditor-dyn g (b.vtable, b.value)) c.args.panel.now))
     (Some c.in-Some.path.now) r.journal r.made c.serve.result c.serve.new.files (objects c.serve.new.sysfs c.serve.new.disk c.serve.new.waiter c.serve.new.clock (members (λ b. goal.Auditor-dyn g (b.vtable, b.value)) c.serve.new.panel)) r.serves in
     let known =
-    has_status g.F.ConfFiles.gives g.Y.Sysfs.begins g.Y.Sysfs.gives g.Y.Sysfs.told g.Y.Sysfs.faults g.D.RuleDisk.keeps g.D.RuleDisk.told g.D.RuleDisk.faults g.D.RuleDisk.aimed g.W.Waiter.gives g.C.Clock.gives
+    has_status g.F.ConfFiles.gives g.Y.Sysfs.begins g.Y.Sysfs.gives g.Y.Sysfs.told g.Y.Sysfs.calls g.Y.Sysfs.faults g.D.RuleDisk.keeps g.D.RuleDisk.told g.D.RuleDisk.faults g.D.RuleDisk.aimed g.W.Waiter.gives g.C.Clock.gives
     c.args.turns (clock_of c.args.zone) (words_of_seed c.args.seed) c.args.files.now (objects c.args.sysfs.now c.args.disk.now c.args.waiter.now c.args.clock.now (members (λ b. goal.Auditor-dyn g (b.vtable, b.value)) c.args.panel.now))
     (Some c.in-Some.path.now) r.journal r.made c.serve.result c.serve.new.files (objects c.serve.new.sysfs c.serve.new.disk c.serve.new.waiter c.serve.new.clock (members (λ b. goal.Auditor-dyn g (b.vtable, b.value)) c.serve.new.panel)) r.serves in
     completes c.serve.result known (λ e. let some = one.0 e in let no : ⊥ = cc in absurd no) taken

@@ -10,7 +10,7 @@ loop-i-init g c = record { made = ([], refl, (refl, refl)); counted = omega arit
 
 pub loop-i-preserved : goal.loop-i-preserved
 loop-i-preserved g c = record {
-  made = turns_one g.Y.Sysfs.begins g.Y.Sysfs.gives g.Y.Sysfs.told g.Y.Sysfs.faults g.D.RuleDisk.keeps g.D.RuleDisk.told g.D.RuleDisk.faults g.W.Waiter.gives g.C.Clock.gives c.loop-i.i
+  made = turns_one g.Y.Sysfs.begins g.Y.Sysfs.gives g.Y.Sysfs.told g.Y.Sysfs.calls g.Y.Sysfs.faults g.D.RuleDisk.keeps g.D.RuleDisk.told g.D.RuleDisk.faults g.W.Waiter.gives g.C.Clock.gives c.loop-i.i
       (daemon_of c.args.daemon.now) (objects c.args.sysfs.now c.args.disk.now c.args.waiter.now c.args.clock.now (members (λ b. goal.Auditor-dyn g (b.vtable, b.value)) c.args.panel.now))
       (daemon_of c.loop-i.daemon) (objects c.loop-i.sysfs c.loop-i.disk c.loop-i.waiter c.loop-i.clock (members (λ b. goal.Auditor-dyn g (b.vtable, b.value)) c.loop-i.panel))
       (daemon_of c.serve_turn.new.daemon) (objects c.serve_turn.new.sysfs c.serve_turn.new.disk c.serve_turn.new.waiter c.serve_turn.new.clock (members (λ b. goal.Auditor-dyn g (b.vtable, b.value)) c.serve_turn.new.panel))

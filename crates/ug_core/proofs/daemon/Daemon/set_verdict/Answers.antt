@@ -1,0 +1,12 @@
+use Rattle.std.proofs.Common.{sym, ap, ◌∙◌, arith}
+use Rattle.ug_audit.specs.Journal.{live_in}
+use Rattle.ug_core.proofs.daemon.Daemon.set_verdict.Goals as goal
+
+pub returns-clause-spare : goal.returns-clause-spare
+returns-clause-spare g c =
+    let notes = c.order.ensures.journal in
+    let name = sym (notes.0.panel ∙ c.join-journal.ensures.same_panel) in
+    let after = ap (λ (p : _). live_in p) (c.panel-1.given.1 name) in
+    let before = ap (λ (p : _). live_in p) c.join-journal.ensures.panel in
+    let entries = ap (λ (e : _). e.spare) c.join-journal.ensures.now in
+    omega (arith, notes.2, c.requires.spare, after, before, entries)
