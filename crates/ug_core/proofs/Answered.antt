@@ -22,6 +22,7 @@ use Rattle.ug_kernel.proofs.Grow.{quiet_grows}
 use Rattle.ug_kernel.proofs.Quiet.{called_quiet, quiet_refl}
 use Rattle.ug_kernel.proofs.Rises.{Counting, along_numbered}
 use Rattle.ug_kernel.proofs.Told.{told_run}
+use Rattle.ug_kernel.proofs.Ways.{ways_run}
 use Rattle.ug_acl.specs.Acls.{Addition}
 use Rattle.ug_audit.specs.declared.entry.Entry.{Entry}
 use Rattle.ug_audit.specs.declared.entry.Entry.TheVariants as entry
@@ -44,7 +45,7 @@ use Rattle.ug_table.specs.declared.standing.Standing.{Standing}
 use Rattle.ug_table.proofs.Devices.{stand_stays}
 use Rattle.ug_table.proofs.OnePart.{told_more}
 use Rattle.ug_table.proofs.Once.{names_more}
-use Rattle.ug_table.proofs.Ordered.{order_one, order_part, order_rest}
+use Rattle.ug_table.proofs.Ordered.{EndsOrder, order_one, order_part, ordering_ways}
 use Rattle.ug_table.proofs.Standings.{numbered_has}
 use Rattle.ug_core.specs.Answering.{by_probe, by_standing, by_privilege, by_request, if_read, asking, answer_to, keeping, answered_with, acting, answering, replying}
 use Rattle.ug_core.specs.Event.{DaemonState, ready}
@@ -256,7 +257,8 @@ module _ (who : Named) (line : List ℕ) (k : Kernel) (d : DaemonState) (l : Ker
       let r = runs_split calls m (ordering number verdict who on (kept_of d.sweep.standings d.sweep.entries)) (λ (p : Settled × Kept). Return (answered_with d p)) a l h in
       let run = subst (λ (v : Kernel). Runs calls m (ordering number verdict who on (kept_of d.sweep.standings d.sweep.entries)) r.0 v) (sym r.3.1) r.2 in
       let quiet = called_quiet (Ask_alive x.held.0) found k m tt c in
-      let told = order_rest calls number verdict who on (kept_of d.sweep.standings d.sweep.entries) x m r.0 l stands run in
+      let was : Kept = kept_of d.sweep.standings d.sweep.entries in
+      let told = (ways_run calls (EndsOrder x (with_verdict verdict who x) was) (ordering number verdict who on was) m r.0 l (ordering_ways number verdict who on was x stands) run).so in
       inr (record {
         number = number;
         verdict = verdict;
@@ -270,10 +272,10 @@ module _ (who : Named) (line : List ℕ) (k : Kernel) (d : DaemonState) (l : Ker
         how = r.0.0;
         kept = r.0.1;
         law = order_one number verdict who on d.sweep m l r.0 x c.sound (stand_stays k m d.sweep.standings d.sweep.next (quiet_grows k m quiet) stand) stands run;
-        rest = told.0;
-        entries = told.1;
-        bears = told.2;
-        given = told.3;
+        rest = told.rest;
+        entries = told.entries;
+        bears = told.bears;
+        given = told.given;
         state = r.3.0;
       })
   found_so number verdict x found m probe.Gone asked granted stands is c h = refused_so (refusal.NoDevice number) (subst (λ (v : Kernel). Quiet k v) (sym h.1) (called_quiet (Ask_alive x.held.0) found k m tt c)) h.0

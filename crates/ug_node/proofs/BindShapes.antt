@@ -4,14 +4,10 @@ use Rattle.ug_types.specs.Names.{parent_of}
 use Rattle.ug_types.specs.declared.record.Attrs.{Attrs}
 use Rattle.ug_types.specs.declared.verdict.Held.{Held}
 use Rattle.ug_types.specs.declared.control.Attr.{Attr}
-use Rattle.ug_types.specs.declared.control.Attr.TheVariants as attr
 use Rattle.ug_types.specs.declared.control.Control.TheVariants.{Authorized, Remove}
 use Rattle.ug_kernel.specs.declared.calls.ReadOut.{ReadOut}
-use Rattle.ug_kernel.specs.declared.calls.ReadOut.TheVariants as out
 use Rattle.ug_kernel.specs.declared.calls.Opened.{Opened}
-use Rattle.ug_kernel.specs.declared.calls.Opened.TheVariants as opened
 use Rattle.ug_kernel.specs.declared.calls.Probe.{Probe}
-use Rattle.ug_kernel.specs.declared.calls.Probe.TheVariants as probe
 use Rattle.ug_kernel.specs.Calls.{Open, Read, Ask_alive, Close, Closing, Told}
 use Rattle.ug_kernel.specs.Tree.{Prog, then}
 use Rattle.ug_kernel.specs.Along.{Made, answered, count_calls}
@@ -21,12 +17,9 @@ use Rattle.ug_node.specs.Bound.{bytes_of, is_too_long}
 use Rattle.ug_node.specs.Removal.{after_remove_probe, after_remove_open, holding_remove}
 use Rattle.ug_node.specs.declared.files.File.{File}
 use Rattle.ug_node.specs.declared.files.Stop.{Stop}
-use Rattle.ug_node.specs.declared.files.Stop.TheVariants as stop
 use Rattle.ug_node.specs.declared.identity.Bound.{Bound}
 use Rattle.ug_node.specs.declared.identity.Binding.{Binding}
-use Rattle.ug_node.specs.declared.identity.Binding.TheVariants as bound
 use Rattle.ug_node.specs.declared.removal.RemoveHold.{RemoveHold}
-use Rattle.ug_node.specs.declared.removal.RemoveHold.TheVariants as hold
 use Rattle.ug_kernel.proofs.Ways.{Ways, Sure, Way, ways_more, ways_then, ways_of, sure_ways}
 
 abbrev pub told : {X : Type 0} → X → ℕ → ℕ → Told X
@@ -37,11 +30,11 @@ abbrev pub IsReadable : List ℕ → List ℕ → Type 0
 IsReadable name of = (of ≡ name) ⊎ (parent_of name ≡ Some of)
 
 abbrev pub Came : ReadOut → Type 0
-Came (out.Bytes bytes) = Unit {0}
-Came out.Absent = Unit {0}
-Came out.TooLong = Unit {0}
-Came out.Failed = ⊥
-Came out.Memory = ⊥
+Came (ReadOut.Bytes bytes) = Unit {0}
+Came ReadOut.Absent = Unit {0}
+Came ReadOut.TooLong = Unit {0}
+Came ReadOut.Failed = ⊥
+Came ReadOut.Memory = ⊥
 
 -- readings that came to something
 pub data Reads (name : List ℕ) : List Made → Type 0 where
@@ -50,9 +43,9 @@ pub data Reads (name : List ℕ) : List Made → Type 0 where
 
 -- one that stops
 pub data Stops : Attr → Told ReadOut → Stop → Type 0 where
-  No_descriptors : (call count : ℕ) → Stops attr.Descriptors (told out.Absent call count) stop.Vanished
-  Read_failed : (at : Attr) (call count : ℕ) → Stops at (told out.Failed call count) (stop.Fault (record { call = call; count = count }))
-  Read_short : (at : Attr) (call count : ℕ) → Stops at (told out.Memory call count) stop.Memory
+  No_descriptors : (call count : ℕ) → Stops Attr.Descriptors (told ReadOut.Absent call count) Stop.Vanished
+  Read_failed : (at : Attr) (call count : ℕ) → Stops at (told ReadOut.Failed call count) (Stop.Fault (record { call = call; count = count }))
+  Read_short : (at : Attr) (call count : ℕ) → Stops at (told ReadOut.Memory call count) Stop.Memory
 
 abbrev pub file_from : ReadOut → File
 file_from answer = record { bytes = bytes_of answer; too_long = is_too_long answer }
@@ -65,10 +58,10 @@ parents_from d p s = parent_of_files (file_from d) (file_from p) (file_from s)
 
 -- the readings of a device's own files, before others, and those of its parent's
 abbrev pub reads_own : List ℕ → Told ReadOut → Told ReadOut → Told ReadOut → Told ReadOut → List Made → List Made
-reads_own name d p s c ms = answered (Read name attr.Descriptors) d ∷ answered (Read name attr.Product) p ∷ answered (Read name attr.Serial) s ∷ answered (Read name attr.Connect) c ∷ ms
+reads_own name d p s c ms = answered (Read name Attr.Descriptors) d ∷ answered (Read name Attr.Product) p ∷ answered (Read name Attr.Serial) s ∷ answered (Read name Attr.Connect) c ∷ ms
 
 abbrev pub reads_parents : List ℕ → Told ReadOut → Told ReadOut → Told ReadOut → List Made
-reads_parents parent d p s = answered (Read parent attr.Descriptors) d ∷ answered (Read parent attr.Product) p ∷ answered (Read parent attr.Serial) s ∷ []
+reads_parents parent d p s = answered (Read parent Attr.Descriptors) d ∷ answered (Read parent Attr.Product) p ∷ answered (Read parent Attr.Serial) s ∷ []
 
 -- what was read is the attributes, and the parent's where the name has a parent's
 pub data Files (name : List ℕ) : List Made → Attrs → Option Attrs → Type 0 where
@@ -77,22 +70,22 @@ pub data Files (name : List ℕ) : List Made → Attrs → Option Attrs → Type
 
 -- the calls of a binding
 pub data Binds_by (name : List ℕ) : List Made → Binding → Type 0 where
-  No_such : (call count : ℕ) → Binds_by name (answered (Open name Authorized) (told opened.Absent call count) ∷ []) bound.Absent
-  Open_failed : (call count : ℕ) → Binds_by name (answered (Open name Authorized) (told opened.Failed call count) ∷ []) (bound.Failed (record { call = call; count = count }))
-  Open_short : (call count : ℕ) → Binds_by name (answered (Open name Authorized) (told opened.Memory call count) ∷ []) bound.Memory
-  Cut : (file : Held) (call count : ℕ) (ms : List Made) (of : List ℕ) (at : Attr) (t : Told ReadOut) (shut : Closing) (why : Stop) (r : Binding) → Reads name ms → count_calls ms ≤ 7 → IsReadable name of → Stops at t why → r ≡ binding_of why → Binds_by name (answered (Open name Authorized) (told (opened.Token file) call count) ∷ (ms ++ answered (Read of at) t ∷ answered (Close file.0) shut ∷ [])) r
-  Probed_gone : (file : Held) (call count number total : ℕ) (ms : List Made) (shut : Closing) → Reads name ms → count_calls ms ≤ 7 → Binds_by name (answered (Open name Authorized) (told (opened.Token file) call count) ∷ (ms ++ answered (Ask_alive file.0) (told probe.Gone number total) ∷ answered (Close file.0) shut ∷ [])) bound.Vanished
-  Probe_failed : (file : Held) (call count number total : ℕ) (ms : List Made) (shut : Closing) → Reads name ms → count_calls ms ≤ 7 → Binds_by name (answered (Open name Authorized) (told (opened.Token file) call count) ∷ (ms ++ answered (Ask_alive file.0) (told probe.Failed number total) ∷ answered (Close file.0) shut ∷ [])) (bound.Failed (record { call = number; count = total }))
-  Bound_by : (call count number total : ℕ) (ms : List Made) (b : Bound) → Reads name ms → count_calls ms ≤ 7 → Files name ms b.attrs b.parent → Binds_by name (answered (Open name Authorized) (told (opened.Token b.held) call count) ∷ (ms ++ answered (Ask_alive b.held.0) (told (probe.Alive b.on) number total) ∷ [])) (bound.Bound b)
+  No_such : (call count : ℕ) → Binds_by name (answered (Open name Authorized) (told Opened.Absent call count) ∷ []) Binding.Absent
+  Open_failed : (call count : ℕ) → Binds_by name (answered (Open name Authorized) (told Opened.Failed call count) ∷ []) (Binding.Failed (record { call = call; count = count }))
+  Open_short : (call count : ℕ) → Binds_by name (answered (Open name Authorized) (told Opened.Memory call count) ∷ []) Binding.Memory
+  Cut : (file : Held) (call count : ℕ) (ms : List Made) (of : List ℕ) (at : Attr) (t : Told ReadOut) (shut : Closing) (why : Stop) (r : Binding) → Reads name ms → count_calls ms ≤ 7 → IsReadable name of → Stops at t why → r ≡ binding_of why → Binds_by name (answered (Open name Authorized) (told (Opened.Token file) call count) ∷ (ms ++ answered (Read of at) t ∷ answered (Close file.0) shut ∷ [])) r
+  Probed_gone : (file : Held) (call count number total : ℕ) (ms : List Made) (shut : Closing) → Reads name ms → count_calls ms ≤ 7 → Binds_by name (answered (Open name Authorized) (told (Opened.Token file) call count) ∷ (ms ++ answered (Ask_alive file.0) (told Probe.Gone number total) ∷ answered (Close file.0) shut ∷ [])) Binding.Vanished
+  Probe_failed : (file : Held) (call count number total : ℕ) (ms : List Made) (shut : Closing) → Reads name ms → count_calls ms ≤ 7 → Binds_by name (answered (Open name Authorized) (told (Opened.Token file) call count) ∷ (ms ++ answered (Ask_alive file.0) (told Probe.Failed number total) ∷ answered (Close file.0) shut ∷ [])) (Binding.Failed (record { call = number; count = total }))
+  Bound_by : (call count number total : ℕ) (ms : List Made) (b : Bound) → Reads name ms → count_calls ms ≤ 7 → Files name ms b.attrs b.parent → Binds_by name (answered (Open name Authorized) (told (Opened.Token b.held) call count) ∷ (ms ++ answered (Ask_alive b.held.0) (told (Probe.Alive b.on) number total) ∷ [])) (Binding.Bound b)
 
 -- and those that open a `remove` file
 pub data Holds_by (name : List ℕ) (held : ℕ) : List Made → RemoveHold → Type 0 where
-  Not_there : (call count : ℕ) → Holds_by name held (answered (Open name Remove) (told opened.Absent call count) ∷ []) hold.Gone
-  Not_opened : (call count : ℕ) → Holds_by name held (answered (Open name Remove) (told opened.Failed call count) ∷ []) (hold.Failed (record { call = call; count = count }))
-  No_memory : (call count : ℕ) → Holds_by name held (answered (Open name Remove) (told opened.Memory call count) ∷ []) hold.Memory
-  Held_on : (file : Held) (on : Bool) (call count number total : ℕ) → Holds_by name held (answered (Open name Remove) (told (opened.Token file) call count) ∷ answered (Ask_alive held) (told (probe.Alive on) number total) ∷ []) (hold.Ready file)
-  Died : (file : Held) (call count number total : ℕ) (shut : Closing) → Holds_by name held (answered (Open name Remove) (told (opened.Token file) call count) ∷ answered (Ask_alive held) (told probe.Gone number total) ∷ answered (Close file.0) shut ∷ []) hold.Gone
-  Unasked : (file : Held) (call count number total : ℕ) (shut : Closing) → Holds_by name held (answered (Open name Remove) (told (opened.Token file) call count) ∷ answered (Ask_alive held) (told probe.Failed number total) ∷ answered (Close file.0) shut ∷ []) (hold.Failed (record { call = number; count = total }))
+  Not_there : (call count : ℕ) → Holds_by name held (answered (Open name Remove) (told Opened.Absent call count) ∷ []) RemoveHold.Gone
+  Not_opened : (call count : ℕ) → Holds_by name held (answered (Open name Remove) (told Opened.Failed call count) ∷ []) (RemoveHold.Failed (record { call = call; count = count }))
+  No_memory : (call count : ℕ) → Holds_by name held (answered (Open name Remove) (told Opened.Memory call count) ∷ []) RemoveHold.Memory
+  Held_on : (file : Held) (on : Bool) (call count number total : ℕ) → Holds_by name held (answered (Open name Remove) (told (Opened.Token file) call count) ∷ answered (Ask_alive held) (told (Probe.Alive on) number total) ∷ []) (RemoveHold.Ready file)
+  Died : (file : Held) (call count number total : ℕ) (shut : Closing) → Holds_by name held (answered (Open name Remove) (told (Opened.Token file) call count) ∷ answered (Ask_alive held) (told Probe.Gone number total) ∷ answered (Close file.0) shut ∷ []) RemoveHold.Gone
+  Unasked : (file : Held) (call count number total : ℕ) (shut : Closing) → Holds_by name held (answered (Open name Remove) (told (Opened.Token file) call count) ∷ answered (Ask_alive held) (told Probe.Failed number total) ∷ answered (Close file.0) shut ∷ []) (RemoveHold.Failed (record { call = number; count = total }))
 
 -- the walk
 
@@ -112,12 +105,12 @@ abbrev Breaks_off : {X : Type 0} → List ℕ → Attr → ℕ → (Result File 
 Breaks_off of at held f P = (t : Told ReadOut) (why : Stop) (shut : Closing) → Stops at t why → Ways (f (Err why)) (λ ok ms r. P ok (answered (Read of at) t ∷ answered (Close held) shut ∷ ms) r)
 
 read_by : {X : Type 0} (of : List ℕ) (at : Attr) (held : ℕ) (f : Result File Stop → Prog X) (P : Bool → List Made → X → Type 0) → Goes_on of at f P → Breaks_off of at held f P → (r : ReadOut) (call count : ℕ) → Ways (then (after_read at held r (record { call = call; count = count })) f) (λ ok ms x. P ok (answered (Read of at) (told r call count) ∷ ms) x)
-read_by of at held f P goes stops (out.Bytes bytes) call count = goes (told (out.Bytes bytes) call count) tt
-read_by of attr.Descriptors held f P goes stops out.Absent call count = λ shut. stops (told out.Absent call count) stop.Vanished shut (No_descriptors call count)
-read_by of at held f P goes stops out.TooLong call count = goes (told out.TooLong call count) tt
-read_by of at held f P goes stops out.Failed call count = λ shut. stops (told out.Failed call count) (stop.Fault (record { call = call; count = count })) shut (Read_failed at call count)
-read_by of at held f P goes stops out.Memory call count = λ shut. stops (told out.Memory call count) stop.Memory shut (Read_short at call count)
-read_by of x held f P goes stops out.Absent call count = goes (told out.Absent call count) tt
+read_by of at held f P goes stops (ReadOut.Bytes bytes) call count = goes (told (ReadOut.Bytes bytes) call count) tt
+read_by of Attr.Descriptors held f P goes stops ReadOut.Absent call count = λ shut. stops (told ReadOut.Absent call count) Stop.Vanished shut (No_descriptors call count)
+read_by of at held f P goes stops ReadOut.TooLong call count = goes (told ReadOut.TooLong call count) tt
+read_by of at held f P goes stops ReadOut.Failed call count = λ shut. stops (told ReadOut.Failed call count) (Stop.Fault (record { call = call; count = count })) shut (Read_failed at call count)
+read_by of at held f P goes stops ReadOut.Memory call count = λ shut. stops (told ReadOut.Memory call count) Stop.Memory shut (Read_short at call count)
+read_by of x held f P goes stops ReadOut.Absent call count = goes (told ReadOut.Absent call count) tt
 
 then_read : {X : Type 0} (of : List ℕ) (at : Attr) (held : ℕ) (f : Result File Stop → Prog X) (P : Bool → List Made → X → Type 0) → Goes_on of at f P → Breaks_off of at held f P → Ways (then (reading of at held) f) P
 unfolding reading
@@ -131,26 +124,26 @@ own_read : (name : List ℕ) (held : ℕ) (P : Bool → List Made → Result Att
 unfolding reading_own
 own_read name held P all cut =
     let is : IsReadable name name = inl refl in
-    then_read name attr.Descriptors held (after_descriptors name held) P (λ d hd.
-    then_read name attr.Product held (after_product name held (file_from d.answer)) (λ ok ms r. P ok (answered (Read name attr.Descriptors) d ∷ ms) r) (λ p hp.
-    then_read name attr.Serial held (after_serial name held (file_from d.answer) (file_from p.answer)) (λ ok ms r. P ok (answered (Read name attr.Descriptors) d ∷ answered (Read name attr.Product) p ∷ ms) r) (λ s hs.
-    then_read name attr.Connect held (after_connect (file_from d.answer) (file_from p.answer) (file_from s.answer)) (λ ok ms r. P ok (answered (Read name attr.Descriptors) d ∷ answered (Read name attr.Product) p ∷ answered (Read name attr.Serial) s ∷ ms) r)
-    (λ c hc. all d p s c (Then_read name attr.Descriptors d _ is hd (Then_read name attr.Product p _ is hp (Then_read name attr.Serial s _ is hs (Then_read name attr.Connect c _ is hc No_more)))))
-    (λ t why shut e. cut _ attr.Connect t why shut (Then_read name attr.Descriptors d _ is hd (Then_read name attr.Product p _ is hp (Then_read name attr.Serial s _ is hs No_more))) (omega arith) e))
-    (λ t why shut e. cut _ attr.Serial t why shut (Then_read name attr.Descriptors d _ is hd (Then_read name attr.Product p _ is hp No_more)) (omega arith) e))
-    (λ t why shut e. cut _ attr.Product t why shut (Then_read name attr.Descriptors d _ is hd No_more) (omega arith) e))
-    (λ t why shut e. cut _ attr.Descriptors t why shut No_more (omega arith) e)
+    then_read name Attr.Descriptors held (after_descriptors name held) P (λ d hd.
+    then_read name Attr.Product held (after_product name held (file_from d.answer)) (λ ok ms r. P ok (answered (Read name Attr.Descriptors) d ∷ ms) r) (λ p hp.
+    then_read name Attr.Serial held (after_serial name held (file_from d.answer) (file_from p.answer)) (λ ok ms r. P ok (answered (Read name Attr.Descriptors) d ∷ answered (Read name Attr.Product) p ∷ ms) r) (λ s hs.
+    then_read name Attr.Connect held (after_connect (file_from d.answer) (file_from p.answer) (file_from s.answer)) (λ ok ms r. P ok (answered (Read name Attr.Descriptors) d ∷ answered (Read name Attr.Product) p ∷ answered (Read name Attr.Serial) s ∷ ms) r)
+    (λ c hc. all d p s c (Then_read name Attr.Descriptors d _ is hd (Then_read name Attr.Product p _ is hp (Then_read name Attr.Serial s _ is hs (Then_read name Attr.Connect c _ is hc No_more)))))
+    (λ t why shut e. cut _ Attr.Connect t why shut (Then_read name Attr.Descriptors d _ is hd (Then_read name Attr.Product p _ is hp (Then_read name Attr.Serial s _ is hs No_more))) (omega arith) e))
+    (λ t why shut e. cut _ Attr.Serial t why shut (Then_read name Attr.Descriptors d _ is hd (Then_read name Attr.Product p _ is hp No_more)) (omega arith) e))
+    (λ t why shut e. cut _ Attr.Product t why shut (Then_read name Attr.Descriptors d _ is hd No_more) (omega arith) e))
+    (λ t why shut e. cut _ Attr.Descriptors t why shut No_more (omega arith) e)
 
 parent_read : (name parent : List ℕ) (held : ℕ) → IsReadable name parent → (P : Bool → List Made → Result Attrs Stop → Type 0) → ((d p s : Told ReadOut) → Reads name (reads_parents parent d p s) → P true (reads_parents parent d p s) (Ok (parents_from d.answer p.answer s.answer))) → Cuts name parent held P → Ways (reading_parent parent held) P
 unfolding reading_parent
 parent_read name parent held is P all cut =
-    then_read parent attr.Descriptors held (after_parent_descriptors parent held) P (λ d hd.
-    then_read parent attr.Product held (after_parent_product parent held (file_from d.answer)) (λ ok ms r. P ok (answered (Read parent attr.Descriptors) d ∷ ms) r) (λ p hp.
-    then_read parent attr.Serial held (after_parent_serial (file_from d.answer) (file_from p.answer)) (λ ok ms r. P ok (answered (Read parent attr.Descriptors) d ∷ answered (Read parent attr.Product) p ∷ ms) r)
-    (λ s hs. all d p s (Then_read parent attr.Descriptors d _ is hd (Then_read parent attr.Product p _ is hp (Then_read parent attr.Serial s _ is hs No_more))))
-    (λ t why shut e. cut _ attr.Serial t why shut (Then_read parent attr.Descriptors d _ is hd (Then_read parent attr.Product p _ is hp No_more)) (omega arith) e))
-    (λ t why shut e. cut _ attr.Product t why shut (Then_read parent attr.Descriptors d _ is hd No_more) (omega arith) e))
-    (λ t why shut e. cut _ attr.Descriptors t why shut No_more (omega arith) e)
+    then_read parent Attr.Descriptors held (after_parent_descriptors parent held) P (λ d hd.
+    then_read parent Attr.Product held (after_parent_product parent held (file_from d.answer)) (λ ok ms r. P ok (answered (Read parent Attr.Descriptors) d ∷ ms) r) (λ p hp.
+    then_read parent Attr.Serial held (after_parent_serial (file_from d.answer) (file_from p.answer)) (λ ok ms r. P ok (answered (Read parent Attr.Descriptors) d ∷ answered (Read parent Attr.Product) p ∷ ms) r)
+    (λ s hs. all d p s (Then_read parent Attr.Descriptors d _ is hd (Then_read parent Attr.Product p _ is hp (Then_read parent Attr.Serial s _ is hs No_more))))
+    (λ t why shut e. cut _ Attr.Serial t why shut (Then_read parent Attr.Descriptors d _ is hd (Then_read parent Attr.Product p _ is hp No_more)) (omega arith) e))
+    (λ t why shut e. cut _ Attr.Product t why shut (Then_read parent Attr.Descriptors d _ is hd No_more) (omega arith) e))
+    (λ t why shut e. cut _ Attr.Descriptors t why shut No_more (omega arith) e)
 
 pub binds_by : (name : List ℕ) → Ways (binding name (parent_of name)) (Sure (Binds_by name))
 unfolding binding
@@ -158,15 +151,15 @@ binds_by name = λ t. opened_by t.answer t.number t.count
   where
     -- of the calls behind the opening
     After : Held → ℕ → ℕ → List Made → Binding → Type 0
-    After file call count ms r = Binds_by name (answered (Open name Authorized) (told (opened.Token file) call count) ∷ ms) r
+    After file call count ms r = Binds_by name (answered (Open name Authorized) (told (Opened.Token file) call count) ∷ ms) r
 
     probed : (file : Held) (call count : ℕ) (attrs : Attrs) (parent : Option Attrs) (ms : List Made) → Reads name ms → count_calls ms ≤ 7 → Files name ms attrs parent → Ways (probing file.0 attrs parent) (Sure (λ ns r. After file call count (ms ++ ns) r))
     probed file call count attrs parent ms a few are = λ t. by t.answer t.number t.count
       where
         by : (r : Probe) (number total : ℕ) → Ways (after_probe file.0 attrs parent r (record { call = number; count = total })) (Sure (λ ns x. After file call count (ms ++ answered (Ask_alive file.0) (told r number total) ∷ ns) x))
-        by (probe.Alive on) number total = (refl, Bound_by call count number total ms (record { held = record { 0 = file.0 }; attrs = attrs; parent = parent; on = on }) a few are)
-        by probe.Gone number total = λ shut. (refl, Probed_gone file call count number total ms shut a few)
-        by probe.Failed number total = λ shut. (refl, Probe_failed file call count number total ms shut a few)
+        by (Probe.Alive on) number total = (refl, Bound_by call count number total ms (record { held = record { 0 = file.0 }; attrs = attrs; parent = parent; on = on }) a few are)
+        by Probe.Gone number total = λ shut. (refl, Probed_gone file call count number total ms shut a few)
+        by Probe.Failed number total = λ shut. (refl, Probe_failed file call count number total ms shut a few)
 
     cut : (file : Held) (call count : ℕ) (ms : List Made) (of : List ℕ) (at : Attr) (t : Told ReadOut) (why : Stop) (shut : Closing) → Reads name ms → count_calls ms ≤ 7 → IsReadable name of → Stops at t why → Sure (After file call count) true ((ms ++ answered (Read of at) t ∷ answered (Close file.0) shut ∷ []) ++ []) (binding_of why)
     cut file call count ms of at t why shut a few may stops =
@@ -181,29 +174,29 @@ binds_by name = λ t. opened_by t.answer t.number t.count
         (λ ms at t why shut b few stops. cut file call count (reads_own name d p s c ms) parent at t why shut (reads_more a b) (omega (arith, few)) (inr e) stops))
 
     opened_by : (r : Opened) (call count : ℕ) → Ways (after_open name (parent_of name) r (record { call = call; count = count })) (Sure (λ ms x. Binds_by name (answered (Open name Authorized) (told r call count) ∷ ms) x))
-    opened_by (opened.Token file) call count =
+    opened_by (Opened.Token file) call count =
         ways_then (Sure (After file call count)) (reading_own name file.0) (after_own file.0 (parent_of name))
         (own_read name file.0 (λ ok ms q. Ways (after_own file.0 (parent_of name) q) (λ more ns r. Sure (After file call count) (ok && more) (ms ++ ns) r))
         (λ d p s c a. below file call count d p s c a (parent_of name) refl)
         (λ ms at t why shut a few stops. cut file call count ms name at t why shut a (omega (arith, few)) (inl refl) stops))
-    opened_by opened.Absent call count = (refl, No_such call count)
-    opened_by opened.Failed call count = (refl, Open_failed call count)
-    opened_by opened.Memory call count = (refl, Open_short call count)
+    opened_by Opened.Absent call count = (refl, No_such call count)
+    opened_by Opened.Failed call count = (refl, Open_failed call count)
+    opened_by Opened.Memory call count = (refl, Open_short call count)
 
 pub holds_by : (name : List ℕ) (held : ℕ) → Ways (holding_remove name held) (Sure (Holds_by name held))
 unfolding holding_remove
 holds_by name held = λ t. by t.answer t.number t.count
   where
-    probed : (file : Held) (call count : ℕ) (r : Probe) (number total : ℕ) → Ways (after_remove_probe file r (record { call = number; count = total })) (Sure (λ ms x. Holds_by name held (answered (Open name Remove) (told (opened.Token file) call count) ∷ answered (Ask_alive held) (told r number total) ∷ ms) x))
-    probed file call count (probe.Alive on) number total = (refl, Held_on file on call count number total)
-    probed file call count probe.Gone number total = λ shut. (refl, Died file call count number total shut)
-    probed file call count probe.Failed number total = λ shut. (refl, Unasked file call count number total shut)
+    probed : (file : Held) (call count : ℕ) (r : Probe) (number total : ℕ) → Ways (after_remove_probe file r (record { call = number; count = total })) (Sure (λ ms x. Holds_by name held (answered (Open name Remove) (told (Opened.Token file) call count) ∷ answered (Ask_alive held) (told r number total) ∷ ms) x))
+    probed file call count (Probe.Alive on) number total = (refl, Held_on file on call count number total)
+    probed file call count Probe.Gone number total = λ shut. (refl, Died file call count number total shut)
+    probed file call count Probe.Failed number total = λ shut. (refl, Unasked file call count number total shut)
 
     by : (r : Opened) (call count : ℕ) → Ways (after_remove_open held r (record { call = call; count = count })) (Sure (λ ms x. Holds_by name held (answered (Open name Remove) (told r call count) ∷ ms) x))
-    by (opened.Token file) call count = λ t. probed file call count t.answer t.number t.count
-    by opened.Absent call count = (refl, Not_there call count)
-    by opened.Failed call count = (refl, Not_opened call count)
-    by opened.Memory call count = (refl, No_memory call count)
+    by (Opened.Token file) call count = λ t. probed file call count t.answer t.number t.count
+    by Opened.Absent call count = (refl, Not_there call count)
+    by Opened.Failed call count = (refl, Not_opened call count)
+    by Opened.Memory call count = (refl, No_memory call count)
 
 -- what a way that a lower law speaks of is like
 

@@ -4,16 +4,14 @@ use Rattle.std.proofs.lemmas.Option.{slice_get_past}
 use Rattle.ug_types.specs.Names.{parent_of}
 use Rattle.ug_types.specs.declared.record.Attrs.{Attrs}
 use Rattle.ug_types.specs.declared.control.Attr.{Attr}
-use Rattle.ug_types.specs.declared.control.Attr.TheVariants as attr
 use Rattle.ug_types.specs.declared.control.Control.{Control}
 use Rattle.ug_types.specs.declared.control.Control.TheVariants.{Authorized, Remove}
 use Rattle.ug_types.specs.declared.verdict.Held.{Held}
 use Rattle.ug_kernel.specs.declared.device.Device.{Device}
 use Rattle.ug_kernel.specs.declared.device.HeldFile.{HeldFile}
 use Rattle.ug_kernel.specs.declared.calls.ReadOut.{ReadOut}
-use Rattle.ug_kernel.specs.declared.calls.ReadOut.TheVariants as out
-use Rattle.ug_kernel.specs.declared.calls.Opened.TheVariants as opened
-use Rattle.ug_kernel.specs.declared.calls.Probe.TheVariants as probe
+use Rattle.ug_kernel.specs.declared.calls.Opened.{Opened}
+use Rattle.ug_kernel.specs.declared.calls.Probe.{Probe}
 use Rattle.ug_kernel.specs.Calls.{Call, Answer, Open, Read, Ask_alive, Close, Told, Closing, failed_open, failed_read, failed_probe, Counted}
 use Rattle.ug_kernel.specs.Along.{Made, answered, Along, failure_of}
 use Rattle.ug_kernel.specs.Kernel.{Kernel, Live, Stays, IsSound, IsKernel, Moves}
@@ -30,7 +28,7 @@ use Rattle.ug_node.specs.declared.identity.Bound.{Bound}
 use Rattle.ug_node.specs.declared.identity.Binding.{Binding}
 use Rattle.ug_node.specs.Bind.{binding_of, binding}
 use Rattle.ug_node.specs.Bound.{attrs_of, parent_attrs_of, IsParentRead, IsBound, BindSays, IsBinding, Binds, IsFault, TellsFault}
-use Rattle.ug_node.proofs.BindShapes.{told, IsReadable, Came, Reads, No_more, Then_read, Stops, No_descriptors, Read_failed, Read_short, own_from, parents_from, Files, Alone, Below, Binds_by, No_such, Open_failed, Cut, Probed_gone, Probe_failed, Bound_by, binds_by, Holds_by, Not_there, Not_opened, No_memory, Held_on, Died, Unasked, holds_by}
+use Rattle.ug_node.proofs.BindShapes.{told, IsReadable, Came, Reads, No_more, Then_read, Stops, No_descriptors, Read_failed, parents_from, Files, Alone, Below, Binds_by, No_such, Open_failed, Cut, Probed_gone, Probe_failed, Bound_by, binds_by, Holds_by, Not_there, Not_opened, Held_on, Died, Unasked, holds_by}
 use Rattle.ug_kernel.specs.declared.calls.FailedCall.{FailedCall}
 use Rattle.ug_kernel.proofs.Rises.{Counting}
 use Rattle.ug_kernel.proofs.Counted.{Tally, tally, counts, along_counted, counts_never_fall, along_never_falls}
@@ -55,14 +53,14 @@ binds_unwritten x = (tt, tt)
 -- what a reading tells
 
 read_kept : (a : Attr) (d e : Device) → Stays d e → read_of a d ≡ read_of a e
-read_kept attr.Descriptors d e h = ap (λ (x : List ℕ). within 131072 x) (sym h.descriptors)
-read_kept attr.Product d e h = ap (λ (x : Option (List ℕ)). text_within x) (sym h.product)
-read_kept attr.Serial d e h = ap (λ (x : Option (List ℕ)). text_within x) (sym h.serial)
-read_kept attr.Connect d e h = ap (λ (x : Option (List ℕ)). text_within x) (sym h.connect)
+read_kept Attr.Descriptors d e h = ap (λ (x : List ℕ). within 131072 x) (sym h.descriptors)
+read_kept Attr.Product d e h = ap (λ (x : Option (List ℕ)). text_within x) (sym h.product)
+read_kept Attr.Serial d e h = ap (λ (x : Option (List ℕ)). text_within x) (sym h.serial)
+read_kept Attr.Connect d e h = ap (λ (x : Option (List ℕ)). text_within x) (sym h.connect)
 
 came_says : (of : List ℕ) (a : Attr) (r : ReadOut) (k l : Kernel) → Came r → says_read of a r k l → IsFile of a r k l
-came_says of a out.Failed k l c h = absurd c
-came_says of a out.Memory k l c h = absurd c
+came_says of a ReadOut.Failed k l c h = absurd c
+came_says of a ReadOut.Memory k l c h = absurd c
 came_says of a x k l c h = h
 
 -- each reading of a device's name tells that device's file
@@ -87,15 +85,9 @@ reads_tell i d e f k l (Then_read of by t ms may came r) a at live s =
       reads_tell i x.0 e f a.0 l r a.2 x.1 live s,
     )
 
-own_same : (d p s c : ReadOut) (e : Device) → d ≡ read_of attr.Descriptors e → p ≡ read_of attr.Product e → s ≡ read_of attr.Serial e → c ≡ read_of attr.Connect e → own_from d p s c ≡ attrs_of e
-own_same d p s c e a b f g = cc
-
-parents_same : (d p s : ReadOut) (e : Device) → d ≡ read_of attr.Descriptors e → p ≡ read_of attr.Product e → s ≡ read_of attr.Serial e → parents_from d p s ≡ parent_attrs_of e
-parents_same d p s e a b f = cc
-
 own_is : {name : List ℕ} {ms : List Made} {attrs : Attrs} {parent : Option Attrs} (f : Device) → name ≡ f.name → Files name ms attrs parent → TellOf f ms → attrs ≡ attrs_of f
-own_is f e (Alone d p s c none) h = own_same d.answer p.answer s.answer c.answer f (h.0 e) (h.1.0 e) (h.1.1.0 e) (h.1.1.1.0 e)
-own_is f e (Below parent d p s c x y z above) h = own_same d.answer p.answer s.answer c.answer f (h.0 e) (h.1.0 e) (h.1.1.0 e) (h.1.1.1.0 e)
+own_is f e (Alone d p s c none) h = cc (h.0 e, h.1.0 e, h.1.1.0 e, h.1.1.1.0 e)
+own_is f e (Below parent d p s c x y z above) h = cc (h.0 e, h.1.0 e, h.1.1.0 e, h.1.1.1.0 e)
 
 -- the parent
 
@@ -133,7 +125,8 @@ parents_are {name} {ms} i d u v l (Below parent x p s c y z w above) r a sound q
     let f = q.devices j.0 e j.3.exit.1.at in
     let h = reads_tell j.0 j.1 e f.0 u v r a j.3.entry.at j.3.exit.1 f.2.stays in
     let is : parent ≡ f.0.name = sym j.4 ∙ sym (live_before u v j.0 j.1 e g j.3.entry.at j.3.exit.1).1.name ∙ sym f.2.stays.name in
-    subst (λ o. IsParentRead l o (Some (parents_from y.answer z.answer w.answer))) (sym j.2) (f.0, f.1, ap (λ o. Some o) (parents_same y.answer z.answer w.answer f.0 (h.1.1.1.1.0 is) (h.1.1.1.1.1.0 is) (h.1.1.1.1.1.1.0 is)))
+    let same : parents_from y.answer z.answer w.answer ≡ parent_attrs_of f.0 = cc (h.1.1.1.1.0 is, h.1.1.1.1.1.0 is, h.1.1.1.1.1.1.0 is) in
+    subst (λ o. IsParentRead l o (Some (parents_from y.answer z.answer w.answer))) (sym j.2) (f.0, f.1, ap (λ o. Some o) same)
 
 -- the held file
 
@@ -146,7 +139,7 @@ record IsOpenSince (name : List ℕ) (k : Kernel) (held : ℕ) (m : Kernel) : Ty
   pub quiet : Quiet opening m
   pub sound : IsKernel before
 
-open_since : (name : List ℕ) (file : Held) (call count : ℕ) (k m l : Kernel) → Called (Open name Authorized) (told (opened.Token file) call count) k m → Quiet m l → IsOpenSince name k file.0 l
+open_since : (name : List ℕ) (file : Held) (call count : ℕ) (k m l : Kernel) → Called (Open name Authorized) (told (Opened.Token file) call count) k m → Quiet m l → IsOpenSince name k file.0 l
 open_since name file call count k m l c q = record { before = c.before; opening = c.after; start = c.moves_before; opens = c.effect; quiet = quiet_trans c.after m l (moves_quiet c.after m c.moves_after) q; sound = c.sound_before }
 
 pub opened_file : (name : List ℕ) (control : Control) (held : ℕ) (k m : Kernel) (o : IsOpened name control held k m) → slice_get m.held held ≡ Some (record { device = o.i; control = control })
@@ -213,11 +206,11 @@ none_wider name k u w l a b c h i d lives named =
     h i x.0 (lived_cut u w l i x.0 b c x.1).0 (x.2.name ∙ named)
 
 -- no device is without descriptors
-within_no : (fits : Bool) (bytes : List ℕ) → out.Absent ≡ cond fits (out.Bytes bytes) out.TooLong → ⊥
+within_no : (fits : Bool) (bytes : List ℕ) → ReadOut.Absent ≡ cond fits (ReadOut.Bytes bytes) ReadOut.TooLong → ⊥
 within_no true bytes e = cc
 within_no false bytes e = cc
 
-absent_none : (name of : List ℕ) (k l : Kernel) → IsReadable name of → IsSound k.devices → IsSound l.devices → Grows k l → IsFile of attr.Descriptors out.Absent k l → NoneLived name k l
+absent_none : (name of : List ℕ) (k l : Kernel) → IsReadable name of → IsSound k.devices → IsSound l.devices → Grows k l → IsFile of Attr.Descriptors ReadOut.Absent k l → NoneLived name k l
 absent_none name of k l (inl e) s t g h = λ i d lives named. within_no (nat_le (length d.descriptors) 131072) d.descriptors (h i d lives (named ∙ sym e))
 absent_none name of k l (inr above) s t g h = λ i d lives named.
     let x = parent_lived k l name of i d d.parent s t g lives named above refl in
@@ -225,24 +218,23 @@ absent_none name of k l (inr above) s t g h = λ i d lives named.
 
 stop_says : {name of : List ℕ} {at : Attr} {t : Told ReadOut} {why : Stop} (k u w l : Kernel) → IsReadable name of → Stops at t why → IsKernel u → Called (Read of at) t u w → Grows k u → Grows w l → BindSays name k l (binding_of why)
 stop_says {name} {of} k u w l may (No_descriptors call count) s c g j =
-    let b = called_grows (Read of attr.Descriptors) (told out.Absent call count) u w c in
+    let b = called_grows (Read of Attr.Descriptors) (told ReadOut.Absent call count) u w c in
     none_wider name k u w l g b j (absent_none name of u w may s.devices c.sound.devices b c.says)
-stop_says k u w l may (Read_failed at call count) s c g j = tt
-stop_says k u w l may (Read_short at call count) s c g j = tt
+stop_says k u w l may x s c g j = tt
 
 binds_say : {name : List ℕ} {ms : List Made} {r : Binding} (k l : Kernel) → Binds_by name ms r → Along calls k ms l → BindSays name k l r
 binds_say {name} k l (No_such call count) a = subst (λ v. NoneLived name k v) (sym a.2) a.1.says
 binds_say {name} k l (Cut file call count ms of at t shut why r n few may stops e) a =
     let cut = along_split calls ms (answered (Read of at) t ∷ answered (Close file.0) shut ∷ []) a.0 l a.2 in
-    let g = grows_trans k a.0 cut.0 (called_grows (Open name Authorized) (told (opened.Token file) call count) k a.0 a.1) (along_grows ms a.0 cut.0 cut.1) in
+    let g = grows_trans k a.0 cut.0 (called_grows (Open name Authorized) (told (Opened.Token file) call count) k a.0 a.1) (along_grows ms a.0 cut.0 cut.1) in
     subst (λ v. BindSays name k l v) (sym e) (stop_says k cut.0 cut.2.0 l may stops (along_sound ms a.0 cut.0 a.1.sound cut.1) cut.2.1 g (along_grows (answered (Close file.0) shut ∷ []) cut.2.0 l cut.2.2))
 binds_say {name} k l (Probed_gone file call count number total ms shut n few) a =
-    let gone = answered (Ask_alive file.0) (told probe.Gone number total) in
+    let gone = answered (Ask_alive file.0) (told Probe.Gone number total) in
     let cut = along_split calls ms (gone ∷ answered (Close file.0) shut ∷ []) a.0 l a.2 in
-    let q = quiet_trans a.0 cut.0 cut.2.0 (along_quiet ms a.0 cut.0 (reads_unwritten n) cut.1) (called_quiet (Ask_alive file.0) (told probe.Gone number total) cut.0 cut.2.0 tt cut.2.1) in
+    let q = quiet_trans a.0 cut.0 cut.2.0 (along_quiet ms a.0 cut.0 (reads_unwritten n) cut.1) (called_quiet (Ask_alive file.0) (told Probe.Gone number total) cut.0 cut.2.0 tt cut.2.1) in
     gone_law name k file.0 cut.2.0 l (open_since name file call count k a.0 cut.2.0 a.1 q) (along_grows (answered (Close file.0) shut ∷ []) cut.2.0 l cut.2.2) cut.2.1.says
 binds_say {name} k l (Bound_by call count number total ms b n few are) a =
-    let last = answered (Ask_alive b.held.0) (told (probe.Alive b.on) number total) ∷ [] in
+    let last = answered (Ask_alive b.held.0) (told (Probe.Alive b.on) number total) ∷ [] in
     let cut = along_split calls ms last a.0 l a.2 in
     bound_law k a.0 cut.0 l b (open_since name b.held call count k a.0 a.0 a.1 (quiet_refl a.0)) n are a.1.sound cut.1 cut.2.1.says (along_quiet last cut.0 l (tt, tt) cut.2)
 binds_say k l x a = tt
@@ -284,18 +276,18 @@ ends_closed front m held shut failed v w fails a =
     record { number = h.number ∙ sym calls; total = h.total ∙ sym faults; rises = λ few. grind (arith, h.rises, few, low, first, faults) }
 
 stop_tells : {at : Attr} {t : Told ReadOut} {why : Stop} (front : List Made) (of : List ℕ) (held : ℕ) (shut : Closing) (v w : Tally) → Stops at t why → Along counts v (front ++ answered (Read of at) t ∷ answered (Close held) shut ∷ []) w → TellsFault v.faults w.calls w.faults (binding_of why)
-stop_tells front of held shut v w (Read_failed at call count) a = ends_closed front (answered (Read of at) (told out.Failed call count)) held shut (record { call = call; count = count }) v w (λ x y c. fault_so failed_read (told out.Failed call count) x y refl c) a
+stop_tells front of held shut v w (Read_failed at call count) a = ends_closed front (answered (Read of at) (told ReadOut.Failed call count)) held shut (record { call = call; count = count }) v w (λ x y c. fault_so failed_read (told ReadOut.Failed call count) x y refl c) a
 stop_tells front of held shut v w x a = tt
 
 binds_tell : {name : List ℕ} {ms : List Made} {r : Binding} (v w : Tally) → Binds_by name ms r → Along counts v ms w → TellsFault v.faults w.calls w.faults r
-binds_tell v w (Open_failed call count) a = subst (λ (x : Tally). IsFault v.faults x.calls x.faults (record { call = call; count = count })) (sym a.2) (fault_so failed_open (told opened.Failed call count) v a.0 refl a.1)
-binds_tell {name} v w (Cut file call count ms of at t shut why r n few may stops e) a = subst (λ (x : Binding). TellsFault v.faults w.calls w.faults x) (sym e) (stop_tells (answered (Open name Authorized) (told (opened.Token file) call count) ∷ ms) of file.0 shut v w stops a)
-binds_tell {name} v w (Probe_failed file call count number total ms shut n few) a = ends_closed (answered (Open name Authorized) (told (opened.Token file) call count) ∷ ms) (answered (Ask_alive file.0) (told probe.Failed number total)) file.0 shut (record { call = number; count = total }) v w (λ x y c. fault_so failed_probe (told probe.Failed number total) x y refl c) a
+binds_tell v w (Open_failed call count) a = subst (λ (x : Tally). IsFault v.faults x.calls x.faults (record { call = call; count = count })) (sym a.2) (fault_so failed_open (told Opened.Failed call count) v a.0 refl a.1)
+binds_tell {name} v w (Cut file call count ms of at t shut why r n few may stops e) a = subst (λ (x : Binding). TellsFault v.faults w.calls w.faults x) (sym e) (stop_tells (answered (Open name Authorized) (told (Opened.Token file) call count) ∷ ms) of file.0 shut v w stops a)
+binds_tell {name} v w (Probe_failed file call count number total ms shut n few) a = ends_closed (answered (Open name Authorized) (told (Opened.Token file) call count) ∷ ms) (answered (Ask_alive file.0) (told Probe.Failed number total)) file.0 shut (record { call = number; count = total }) v w (λ x y c. fault_so failed_probe (told Probe.Failed number total) x y refl c) a
 binds_tell v w x a = tt
 
 holds_tell : {name : List ℕ} {held : ℕ} {ms : List Made} {r : RemoveHold} (v w : Tally) → Holds_by name held ms r → Along counts v ms w → TellsRemoveFault v.faults w.calls w.faults r
-holds_tell v w (Not_opened call count) a = subst (λ (x : Tally). IsFault v.faults x.calls x.faults (record { call = call; count = count })) (sym a.2) (fault_so failed_open (told opened.Failed call count) v a.0 refl a.1)
-holds_tell {name} {held} v w (Unasked file call count number total shut) a = ends_closed (answered (Open name Remove) (told (opened.Token file) call count) ∷ []) (answered (Ask_alive held) (told probe.Failed number total)) file.0 shut (record { call = number; count = total }) v w (λ x y c. fault_so failed_probe (told probe.Failed number total) x y refl c) a
+holds_tell v w (Not_opened call count) a = subst (λ (x : Tally). IsFault v.faults x.calls x.faults (record { call = call; count = count })) (sym a.2) (fault_so failed_open (told Opened.Failed call count) v a.0 refl a.1)
+holds_tell {name} {held} v w (Unasked file call count number total shut) a = ends_closed (answered (Open name Remove) (told (Opened.Token file) call count) ∷ []) (answered (Ask_alive held) (told Probe.Failed number total)) file.0 shut (record { call = number; count = total }) v w (λ x y c. fault_so failed_probe (told Probe.Failed number total) x y refl c) a
 holds_tell v w x a = tt
 
 -- of the states of a run
@@ -343,19 +335,17 @@ gone_dead k name held i f gone d live = gone i d (record { file = record { devic
 
 holds_say : {name : List ℕ} {held : ℕ} {ms : List Made} {r : RemoveHold} (i : ℕ) (k l : Kernel) → Holds_by name held ms r → IsAuthorizedFile k name held i → Along calls k ms l → RemoveSays held i l r
 holds_say {name} {held} i k l (Not_there call count) f a =
-    let g = along_grows (answered (Open name Remove) (told opened.Absent call count) ∷ []) k l a in
+    let g = along_grows (answered (Open name Remove) (told Opened.Absent call count) ∷ []) k l a in
     let none = subst (λ v. NoneLived name k v) (sym a.2) a.1.says in
     gone_later l l name held i (grows_refl l) (file_later k l name held i g f) (λ d live. none i f.d (record { entry = (live_before k l i f.d d g f.device live).0; exit = (d, live) }) f.named)
-holds_say i k l (Not_opened call count) f a = tt
-holds_say i k l (No_memory call count) f a = tt
 holds_say {name} {held} i k l (Held_on file on call count number total) f a =
     let c = a.1 in
     let before = quiet_grows k c.before (moves_quiet k c.before c.moves_before) in
     let own = quiet_grows c.before c.after (opened_quiet name Remove file.0 c.before c.after c.effect) in
-    let last = answered (Ask_alive held) (told (probe.Alive on) number total) ∷ [] in
+    let last = answered (Ask_alive held) (told (Probe.Alive on) number total) ∷ [] in
     let alive = a.2.1.says in
     let g = grows_trans c.before c.after a.0 own (quiet_grows c.after a.0 (moves_quiet c.after a.0 c.moves_after)) in
-    let now = file_later k a.0 name held i (called_grows (Open name Remove) (told (opened.Token file) call count) k a.0 c) f in
+    let now = file_later k a.0 name held i (called_grows (Open name Remove) (told (Opened.Token file) call count) k a.0 c) f in
     let live : Live a.0.devices i alive.d = subst (λ v. Live a.0.devices v alive.d) (holds_is a.0 name held i alive.i alive.d now alive.holds) alive.live in
     let d = before.devices i f.d f.device in
     let first = (live_before c.before a.0 i d.0 alive.d g d.1 live).0 in
@@ -363,10 +353,10 @@ holds_say {name} {held} i k l (Held_on file on call count number total) f a =
     let at = subst (λ v. slice_get c.after.held file.0 ≡ Some (record { device = v; control = Remove })) same (opened_file name Remove file.0 c.before c.after c.effect) in
     (quiet_trans c.after a.0 l (moves_quiet c.after a.0 c.moves_after) (along_quiet last a.0 l (tt, tt) a.2)).held file.0 (record { device = i; control = Remove }) at
 holds_say {name} {held} i k l (Died file call count number total shut) f a =
-    let to = grows_trans k a.0 a.2.0 (called_grows (Open name Remove) (told (opened.Token file) call count) k a.0 a.1) (called_grows (Ask_alive held) (told probe.Gone number total) a.0 a.2.0 a.2.1) in
+    let to = grows_trans k a.0 a.2.0 (called_grows (Open name Remove) (told (Opened.Token file) call count) k a.0 a.1) (called_grows (Ask_alive held) (told Probe.Gone number total) a.0 a.2.0 a.2.1) in
     let now = file_later k a.2.0 name held i to f in
     gone_later a.2.0 l name held i (along_grows (answered (Close file.0) shut ∷ []) a.2.0 l a.2.2) now (gone_dead a.2.0 name held i now a.2.1.says)
-holds_say i k l (Unasked file call count number total shut) f a = tt
+holds_say i k l x f a = tt
 
 pub holding_law : (name : List ℕ) (held i : ℕ) (r : RemoveHold) (k l : Kernel) → IsKernel k → IsAuthorizedFile k name held i → Runs calls k (holding_remove name held) r l → IsRemoveHold held i k l r
 holding_law name held i r k l sound f runs =

@@ -5,12 +5,11 @@ use Rattle.ug_kernel.specs.Tree.{Prog, Return, Ask, Room, Runs, then}
 use Rattle.ug_sysfs.specs.World.{World, Gives, entered, answer_from, refusing, answer_of, answer_unless, fate, fate_of, effect, opened_at, read_from, read_at, alive_of, probed_at, put_at, live_held, Wants}
 use Rattle.ug_play.specs.Play.{play, IsPlayed}
 use Rattle.std.specs.List.{slice_get}
+use Rattle.std.proofs.lemmas.Bool.{cond_both}
 use Rattle.ug_table.proofs.Common.{Device, Control, Write, Listing, Kernel, FailedCall}
 use Rattle.ug_types.specs.declared.control.Attr.{Attr}
-use Rattle.ug_types.specs.declared.control.Attr.TheVariants as attr
 use Rattle.ug_kernel.specs.declared.calls.Opened.{Opened}
 use Rattle.ug_kernel.specs.declared.calls.ReadOut.{ReadOut}
-use Rattle.ug_kernel.specs.declared.calls.ReadOut.TheVariants as out
 use Rattle.ug_kernel.specs.Called.{within, text_within, read_of}
 use Rattle.ug_kernel.specs.Along.{Made, answered, failure_of, failure_if, failure, failures}
 use Rattle.ug_kernel.proofs.Ways.{Ways, ways_more, ways_run}
@@ -61,66 +60,44 @@ abbrev FineRead : ReadOut → Type 0
 FineRead r = (short_read r ≡ false) × (failed_read r ≡ false)
 
 fine_opened : (control : Control) (o : Option ℕ) (k : Kernel) → FineOpen (opened_at control o k).0
-fine_opened control None k = (refl, refl)
-fine_opened control (Some i) k = (refl, refl)
-
-fine_if : (b : Bool) (bytes : List ℕ) → FineRead (cond b (out.Bytes bytes) out.TooLong)
-fine_if true bytes = (refl, refl)
-fine_if false bytes = (refl, refl)
+fine_opened control o k = elim o as (λ (v : Option ℕ). FineOpen (opened_at control v k).0) [ None ↦ (refl, refl) | Some i ↦ (refl, refl) ]
 
 fine_within : (limit : ℕ) (bytes : List ℕ) → FineRead (within limit bytes)
-fine_within limit bytes = fine_if (nat_le (length bytes) limit) bytes
+fine_within limit bytes = cond_both (nat_le (length bytes) limit) (ReadOut.Bytes bytes) ReadOut.TooLong FineRead (λ e. (refl, refl)) (λ e. (refl, refl))
 
 fine_text : (o : Option (List ℕ)) → FineRead (text_within o)
 fine_text None = (refl, refl)
 fine_text (Some bytes) = fine_within 4096 bytes
 
 fine_of : (at : Attr) (d : Device) → FineRead (read_of at d)
-fine_of attr.Descriptors d = fine_within 131072 d.descriptors
-fine_of attr.Product d = fine_text d.product
-fine_of attr.Serial d = fine_text d.serial
-fine_of attr.Connect d = fine_text d.connect
-
-fine_from : (at : Attr) (o : Option Device) → FineRead (read_from at o)
-fine_from at None = (refl, refl)
-fine_from at (Some d) = fine_of at d
+fine_of Attr.Descriptors d = fine_within 131072 d.descriptors
+fine_of Attr.Product d = fine_text d.product
+fine_of Attr.Serial d = fine_text d.serial
+fine_of Attr.Connect d = fine_text d.connect
 
 fine_at : (at : Attr) (o : Option ℕ) (ds : List Device) → FineRead (read_at at o ds)
 fine_at at None ds = (refl, refl)
-fine_at at (Some i) ds = fine_from at (slice_get ds i)
-
-fine_alive : (o : Option Device) → failed_probe (alive_of o) ≡ false
-fine_alive None = refl
-fine_alive (Some d) = refl
+fine_at at (Some i) ds = elim (slice_get ds i) as (λ (o : Option Device). FineRead (read_from at o)) [ None ↦ (refl, refl) | Some d ↦ fine_of at d ]
 
 fine_probed : (o : Option ℕ) (ds : List Device) → failed_probe (probed_at o ds) ≡ false
 fine_probed None ds = refl
-fine_probed (Some i) ds = fine_alive (slice_get ds i)
+fine_probed (Some i) ds = elim (slice_get ds i) as (λ (o : Option Device). failed_probe (alive_of o) ≡ false) [ None ↦ refl | Some d ↦ refl ]
 
 fine_put_at : (write : Write) (o : Option ℕ) (k : Kernel) → failed_put (put_at write o k).0 ≡ false
-fine_put_at write None k = refl
-fine_put_at write (Some i) k = refl
+fine_put_at write o k = elim o as (λ (v : Option ℕ). failed_put (put_at write v k).0 ≡ false) [ None ↦ refl | Some i ↦ refl ]
 
 -- the simulated kernel never wants memory by itself
-
-sure_listing : (f : Option Bool) (k : Kernel) → short_listing (effect f Names k).0 ≡ false
-sure_listing None k = refl
-sure_listing (Some b) k = refl
-
-sure_open : (f : Option Bool) (name : List ℕ) (control : Control) (k : Kernel) → short_open (effect f (Open name control) k).0 ≡ false
-sure_open None name control k = (fine_opened control (find name 0 k.devices) k).0
-sure_open (Some b) name control k = refl
-
-sure_read : (f : Option Bool) (name : List ℕ) (at : Attr) (k : Kernel) → short_read (effect f (Read name at) k).0 ≡ false
-sure_read None name at k = (fine_at at (find name 0 k.devices) k.devices).0
-sure_read (Some b) name at k = refl
 
 never_wants : (b : Bool) (s : World) (call : Call) → is_want call (answer_unless b s call).0 ≡ false
 never_wants b s (Close held) = refl
 never_wants true s call = refl
-never_wants false s Names = sure_listing (fate_of (entered s)) (entered s).kernel
-never_wants false s (Open name control) = sure_open (fate_of (entered s)) name control (entered s).kernel
-never_wants false s (Read name at) = sure_read (fate_of (entered s)) name at (entered s).kernel
+never_wants false s Names = elim (fate_of (entered s)) as (λ (f : Option Bool). short_listing (effect f Names (entered s).kernel).0 ≡ false) [ None ↦ refl | Some b ↦ refl ]
+never_wants false s (Open name control) =
+    let k = (entered s).kernel in
+    elim (fate_of (entered s)) as (λ (f : Option Bool). short_open (effect f (Open name control) k).0 ≡ false) [ None ↦ (fine_opened control (find name 0 k.devices) k).0 | Some b ↦ refl ]
+never_wants false s (Read name at) =
+    let k = (entered s).kernel in
+    elim (fate_of (entered s)) as (λ (f : Option Bool). short_read (effect f (Read name at) k).0 ≡ false) [ None ↦ (fine_at at (find name 0 k.devices) k.devices).0 | Some b ↦ refl ]
 never_wants false s call = refl
 
 -- nor fails, where no call is to fail

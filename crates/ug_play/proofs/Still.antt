@@ -3,11 +3,11 @@ use Rattle.std.proofs.Common.{◌≡◌, ℕ, ◌<◌, Bool, true, false, List, 
 use Rattle.std.specs.List.{slice_get}
 use Rattle.std.proofs.lemmas.List.{length-set}
 use Rattle.std.proofs.lemmas.Option.{slice_get_within, slice_get_cases, same_Some}
-use Rattle.ug_table.proofs.Common.{Device, Control, Write, Call, Answer, Open, Put, Kernel, Live, Lived, Grows}
+use Rattle.ug_table.proofs.Common.{Device, Write, Call, Answer, Open, Put, Kernel, Live, Lived, Grows}
 use Rattle.ug_kernel.specs.Tree.{Prog, Return, Ask, Room}
 use Rattle.ug_sysfs.specs.Devices.{find}
 use Rattle.ug_sysfs.specs.declared.script.Scheduled.{Scheduled}
-use Rattle.ug_sysfs.specs.World.{World, happen, opened_at, switched_to, put_at, live_held, act, hidden, effect, shift, entered, fate_of, with_kernel, counted, answer_of, answer_from}
+use Rattle.ug_sysfs.specs.World.{World, happen, opened_at, switched_to, put_at, live_held, effect, shift, entered, fate_of, with_kernel, counted, answer_of, answer_from}
 use Rattle.ug_play.specs.Play.{play}
 use Rattle.ug_play.proofs.Plays.{unless_cases}
 
@@ -20,31 +20,15 @@ still_shift n after s e =
     let h : happen n after s.moves s.kernel.devices ≡ ([], s.kernel.devices) = ap (λ (v : List Scheduled). happen n after v s.kernel.devices) e in
     record { moves = ap (λ (p : List Scheduled × List Device). p.0) h; devices = ap (λ (p : List Scheduled × List Device). length p.1) h }
 
-length_opened : (control : Control) (o : Option ℕ) (k : Kernel) → length (opened_at control o k).1.devices ≡ length k.devices
-length_opened control None k = refl
-length_opened control (Some i) k = refl
-
-length_switched : (write : Write) (i : ℕ) (o : Option Device) (ds : List Device) → length (switched_to write i o ds) ≡ length ds
-length_switched write i None ds = refl
-length_switched write i (Some d) ds = length-set ds i _
-
 length_put : (write : Write) (o : Option ℕ) (k : Kernel) → length (put_at write o k).1.devices ≡ length k.devices
 length_put write None k = refl
-length_put write (Some i) k = length_switched write i (slice_get k.devices i) k.devices
+length_put write (Some i) k = elim (slice_get k.devices i) as (λ (d : Option Device). length (switched_to write i d k.devices) ≡ length k.devices) [ None ↦ refl | Some d ↦ length-set k.devices i _ ]
 
-length_act : (call : Call) (k : Kernel) → length (act call k).1.devices ≡ length k.devices
-length_act (Open name control) k = length_opened control (find name 0 k.devices) k
-length_act (Put held write) k = length_put write (live_held held k.held k.devices) k
-length_act x k = refl
-
-length_hidden : (call : Call) (k : Kernel) → length (hidden call k).devices ≡ length k.devices
-length_hidden (Put held write) k = length_put write (live_held held k.held k.devices) k
-length_hidden x k = refl
-
-length_effect : (o : Option Bool) (call : Call) (k : Kernel) → length (effect o call k).1.devices ≡ length k.devices
-length_effect None call k = length_act call k
-length_effect (Some true) call k = length_hidden call k
-length_effect (Some false) call k = refl
+length_effect : (f : Option Bool) (call : Call) (k : Kernel) → length (effect f call k).1.devices ≡ length k.devices
+length_effect None (Open name control) k = elim (find name 0 k.devices) as (λ (o : Option ℕ). length (opened_at control o k).1.devices ≡ length k.devices) [ None ↦ refl | Some i ↦ refl ]
+length_effect None (Put held write) k = length_put write (live_held held k.held k.devices) k
+length_effect (Some true) (Put held write) k = length_put write (live_held held k.held k.devices) k
+length_effect f call k = refl
 
 -- a call from its effect on
 still_from : (s : World) (call : Call) → s.moves ≡ [] → Still s (answer_from s call).1

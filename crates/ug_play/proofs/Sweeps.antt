@@ -3,12 +3,10 @@ use Rattle.std.proofs.Common.{◌≡◌, ℕ, Bool, true, false, not, ◌&&◌, 
 use Rattle.std.specs.List.{list_any}
 use Rattle.std.proofs.lemmas.Bool.{or_left, or_parts, or_right}
 use Rattle.std.proofs.lemmas.List.Folds.{list_any-append}
-use Rattle.ug_table.proofs.Common.{in_sweep_order, Held, Made, failures, FailedCall, Entry, State, Answers, Laters, farewells, AreClosings, unlisted_files, failure_in, failures_told}
+use Rattle.ug_table.proofs.Common.{in_sweep_order, Held, Made, failures, FailedCall, Entry, State, Answers, Laters, farewells, AreClosings, unlisted_files, failure_in, failures_told, Fault}
 use Rattle.ug_kernel.specs.Tree.{Prog, Return, Runs, then}
 use Rattle.ug_kernel.proofs.Ways.{Ways, ways_more, ways_last}
 use Rattle.ug_sysfs.specs.World.{World, Gives}
-use Rattle.ug_audit.specs.declared.entry.Entry.TheVariants as entry
-use Rattle.ug_audit.specs.declared.entry.Fault.TheVariants as fault
 use Rattle.ug_table.specs.Sweep.{sweeping}
 use Rattle.ug_table.proofs.Standings.{farewells_by}
 use Rattle.ug_table.proofs.Chains.{Chain, Over, First, List_failed, List_short, No_room, Goes, Listed, Unlisted, Comes, sweeping_by, goes_entries}
@@ -115,10 +113,10 @@ nothing_behind (x ∷ xs) ys e = let none : ⊥ = cc in absurd none
 
 pub nobody_told : (es : List Entry) → tells_memory es ≡ false → failures_told es ≡ [] → NameNobody es
 nobody_told [] m f = refl
-nobody_told (entry.Unsettled name (fault.Call failed) ∷ es) m f = let none : ⊥ = cc in absurd none
-nobody_told (entry.Unsettled name fault.Memory ∷ es) m f = let none : ⊥ = cc in absurd none
-nobody_told (entry.UnsettledAll (fault.Call failed) ∷ es) m f = let none : ⊥ = cc in absurd none
-nobody_told (entry.UnsettledAll fault.Memory ∷ es) m f = let none : ⊥ = cc in absurd none
+nobody_told (Entry.Unsettled name (Fault.Call failed) ∷ es) m f = let none : ⊥ = cc in absurd none
+nobody_told (Entry.Unsettled name Fault.Memory ∷ es) m f = let none : ⊥ = cc in absurd none
+nobody_told (Entry.UnsettledAll (Fault.Call failed) ∷ es) m f = let none : ⊥ = cc in absurd none
+nobody_told (Entry.UnsettledAll Fault.Memory ∷ es) m f = let none : ⊥ = cc in absurd none
 nobody_told (e ∷ es) m f = nobody_told es (or_parts (entry_tells_memory e) (tells_memory es) m).1 (nothing_behind (failure_in e) (failures_told es) f)
 
 pub quiet_sweep : {J : Type 0} (answer : Answers J) (later : Laters J) (w : State J) (s : World) → s.ran_out ≡ false → s.fails ≡ [] → NameNobody w.entries → NameNobody (play (sweeping answer later w) s).0.entries

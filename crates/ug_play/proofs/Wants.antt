@@ -1,11 +1,9 @@
 -- What a name's part tells of want of memory: it tells it just where memory was refused in it.
 use Rattle.std.proofs.Common.{◌≡◌, ℕ, Bool, ◌||◌, List, [], ◌∷◌, ◌++◌, Option, refl, sym, ◌∙◌, ap}
 use Rattle.std.proofs.lemmas.List.Folds.{list_any-append}
-use Rattle.ug_table.proofs.Common.{Made, Bound, Entry, AllBear, EndsUnsettled}
+use Rattle.ug_table.proofs.Common.{Made, Bound, Entry, AllBear, EndsUnsettled, Fault}
 use Rattle.ug_table.specs.declared.standing.Standing.{Standing}
 use Rattle.ug_table.specs.declared.standing.Settled.{Settled}
-use Rattle.ug_audit.specs.declared.entry.Entry.TheVariants as entry
-use Rattle.ug_audit.specs.declared.entry.Fault.TheVariants as fault
 use Rattle.ug_table.specs.One.{whys}
 use Rattle.ug_table.proofs.Shapes.{Flat}
 use Rattle.ug_table.proofs.OnePart.{flat_whys, flat_short, flat_is_part}
@@ -19,11 +17,11 @@ memory_more es fs = list_any-append entry_tells_memory es fs
 memory_told : (name : List ℕ) (es : List Entry) → AllBear name es → EndsUnsettled name es
     → tells_memory es ≡ are_short (whys es)
 memory_told name [] b h = refl
-memory_told name (entry.Unsettled other (fault.Call failed) ∷ es) b h = memory_told name es b.1 h.1
-memory_told name (entry.Unsettled other fault.Memory ∷ es) b h = refl
-memory_told name (entry.UnsettledAll why ∷ es) b h = absurd h.0
-memory_told name (entry.Save became ∷ es) b h = absurd b.0
-memory_told name (entry.Reply answered ∷ es) b h = absurd h.0
+memory_told name (Entry.Unsettled other (Fault.Call failed) ∷ es) b h = memory_told name es b.1 h.1
+memory_told name (Entry.Unsettled other Fault.Memory ∷ es) b h = refl
+memory_told name (Entry.UnsettledAll why ∷ es) b h = absurd h.0
+memory_told name (Entry.Save became ∷ es) b h = absurd b.0
+memory_told name (Entry.Reply answered ∷ es) b h = absurd h.0
 memory_told name (e ∷ es) b h = memory_told name es b.1 h.1
 
 pub flat_want : {binds : Bool} {given : List Standing → Bound → Standing → Type 0} {name : List ℕ}

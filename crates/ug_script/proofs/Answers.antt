@@ -19,7 +19,7 @@ use Rattle.ug_proto.specs.declared.request.Request.TheVariants as request
 use Rattle.ug_proto.specs.Privileges.{needs}
 use Rattle.ug_proto.specs.Requests.{request_read}
 use Rattle.ug_table.specs.One.{why_of, whys}
-use Rattle.ug_table.specs.Orders.{ordering}
+use Rattle.ug_table.specs.Orders.{ordering, with_verdict, verdict_entry}
 use Rattle.ug_table.specs.Parts.{AllBear}
 use Rattle.ug_table.specs.Standings.{numbered}
 use Rattle.ug_table.specs.State.{State, Kept, kept_of}
@@ -136,26 +136,27 @@ acting_ways who d ms ok (choice.Refuse r) h = subst (λ (xs : List Made). Answer
 acting_ways who d ms ok (choice.SetVerdict number verdict on) h =
     let k : Kept = kept_of d.sweep.standings d.sweep.entries in
     let x : Standing = h.3.0 in
-    ways_next (EndsOrder x k) (λ more ns a. AnswersSo d (ok && more) (ms ++ ns) a) (ordering number verdict who on k) (λ (p : Settled × Kept). Return (answered_with d p)) (ordering_ways number verdict who on k x h.3.1) (λ more ns p o. set_so more ns p o)
+    ways_next (EndsOrder x (with_verdict verdict who x) k) (λ more ns a. AnswersSo d (ok && more) (ms ++ ns) a) (ordering number verdict who on k) (λ (p : Settled × Kept). Return (answered_with d p)) (ordering_ways number verdict who on k x h.3.1) (λ more ns p o. set_so more ns p o)
   where
-    set_so : (more : Bool) (ns : List Made) (p : Settled × Kept) → EndsOrder h.3.0 (kept_of d.sweep.standings d.sweep.entries) more ns p → AnswersSo d (ok && (more && true)) (ms ++ (ns ++ [])) (answered_with d p)
+    set_so : (more : Bool) (ns : List Made) (p : Settled × Kept) → EndsOrder h.3.0 (with_verdict verdict who h.3.0) (kept_of d.sweep.standings d.sweep.entries) more ns p → AnswersSo d (ok && (more && true)) (ms ++ (ns ++ [])) (answered_with d p)
     set_so more ns p o =
         let reply : Entry = entry.Reply (answer_to p.0) in
+        let rest : List Entry = verdict_entry (with_verdict verdict who h.3.0) ∷ o.rest in
         let sure = bears_sure h.3.0.name o.rest o.bears o.quiet in
         let made : ms ++ (ns ++ []) ≡ ms ++ ns = ap (λ (xs : List Made). ms ++ xs) (append-nil ns) in
         let granted : (ok && (more && true)) ≡ true = ap (λ (b : Bool). b && (more && true)) h.0 ∙ ap (λ (b : Bool). b && true) o.sure in
-        let wants : tells_memory (o.rest ++ reply ∷ []) ≡ refused true (ms ++ ns) =
-        memory_more o.rest (reply ∷ [])
+        let wants : tells_memory (rest ++ reply ∷ []) ≡ refused true (ms ++ ns) =
+        memory_more rest (reply ∷ [])
         ∙ ap (λ (b : Bool). b || tells_memory (reply ∷ [])) sure.0
         ∙ or_none (is_short_reply (answer_to p.0))
         ∙ short_answer p.0
         ∙ sym o.want
         ∙ sym (want_more ms ns ∙ ap (λ (b : Bool). b || has_want ns) h.1) in
         subst (λ (xs : List Made). AnswersSo d (ok && (more && true)) xs (answered_with d p)) (sym made) (subst (λ (b : Bool). AnswersSo d b (ms ++ ns) (answered_with d p)) (sym granted) (record {
-          rest = o.rest ++ reply ∷ [];
-          entries = ap (λ (es : List Entry). es ++ reply ∷ []) o.entries ∙ append_assoc d.sweep.entries o.rest (reply ∷ []);
+          rest = rest ++ reply ∷ [];
+          entries = ap (λ (es : List Entry). es ++ reply ∷ []) o.entries ∙ append_assoc d.sweep.entries rest (reply ∷ []);
           wants = wants;
-          nobody = nobody_more o.rest (reply ∷ []) sure.1 refl;
+          nobody = nobody_more rest (reply ∷ []) sure.1 refl;
           few = (let first = h.2 in let later = o.few in let all = count_more ms ns in omega (arith, first, later, all));
           beside = refl;
         }))

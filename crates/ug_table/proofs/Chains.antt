@@ -1,16 +1,6 @@
 -- A sweep, flat: the listing, the closings of what isn't listed, and a chain of parts, one for each name, each with its shape.
 use Rattle.std.proofs.Common.{◌≡◌, ℕ, Bool, true, false, not, cond, map, List, [], ◌∷◌, refl, sym, ◌∙◌, ap, subst, ◌&&◌, ◌++◌, Option, Some, append_assoc, append-nil}
-use Rattle.std.specs.List.{filter}
-use Rattle.ug_table.proofs.Common.{Held, Close, Call, Answer, Names, Kernel, IsKernel, Quiet, Ask, calls, Runs, Made, answered, Along, failures, failure_of, lists, numbered, farewells, AreClosings, unlisted_files, Standing, in_sweep_order, FailedCall, Listing, Entry, Fault, State, Kept, kept_of, with_kept, noted, Answers, Laters, Settled}
-use Rattle.ug_kernel.proofs.Ways.{Ways, Sure, ways_more, along_sound, Unwritten, along_quiet, Went, ways_next, ways_last, behind_sure, ways_run}
-use Rattle.ug_table.specs.Sweep.{closing_unlisted, settling_all, resettling_all, parted, names_of, resumed, unlisted, marked_listed, if_room, after_list, sweeping}
-use Rattle.ug_types.specs.declared.verdict.Target.TheVariants as target
-use Rattle.ug_types.specs.declared.verdict.Cause.TheVariants as cause
-use Rattle.ug_kernel.specs.declared.calls.Listing.TheVariants as listing
-use Rattle.ug_audit.specs.declared.entry.Entry.TheVariants as entry
-use Rattle.ug_audit.specs.declared.entry.Fault.TheVariants as fault
-use Rattle.ug_table.specs.Settle.{settling, resettling}
-use Rattle.ug_table.specs.One.{again_numbered, resettling_numbered}
+use Rattle.ug_table.proofs.Common.{Held, Close, Call, Answer, Names, Kernel, IsKernel, Quiet, Ask, calls, Runs, Made, answered, Along, failures, failure_of, lists, numbered, farewells, AreClosings, unlisted_files, Standing, in_sweep_order, FailedCall, Listing, Entry, Fault, State, Kept, kept_of, with_kept, noted, Answers, Laters, Settled, Target, Cause, closing_unlisted, settling_all, resettling_all, parted, names_of, resumed, unlisted, marked_listed, if_room, after_list, sweeping, settling, resettling, Ways, Sure, ways_more, along_sound, Unwritten, along_quiet, Ran, ways_next, ways_last, behind_sure, ways_run, filter, again_numbered, resettling_numbered}
 use Rattle.ug_table.proofs.Shapes.{Piece, Settles, settles, Resettles, resettles, told_at}
 
 -- The closing of the files of what isn't listed.
@@ -54,10 +44,10 @@ pub data Chain {J : Type 0} (answer : Answers J) (later : Laters J) (binds prese
 
 -- why names aren't bound: the listing failed, or memory was short for it, or for what is noted of it
 pub data Without : Listing → FailedCall → Bool → Fault → Type 0 where
-  List_failed : (failed : FailedCall) → Without listing.Failed failed true (fault.Call failed)
-  List_short : (failed : FailedCall) → Without listing.Memory failed true fault.Memory
+  List_failed : (failed : FailedCall) → Without Listing.Failed failed true (Fault.Call failed)
+  List_short : (failed : FailedCall) → Without Listing.Memory failed true Fault.Memory
   No_room : (found : List (List ℕ)) (failed : FailedCall)
-      → Without (listing.Names found) failed false fault.Memory
+      → Without (Listing.Names found) failed false Fault.Memory
 
 -- the listed names have parts, and else the names that stand
 pub data Goes {J : Type 0} (answer : Answers J) (later : Laters J) (w : State J)
@@ -68,15 +58,15 @@ pub data Goes {J : Type 0} (answer : Answers J) (later : Laters J) (w : State J)
       → Chain answer later true (not w.listed) (in_sweep_order found)
       (marked_listed (parted (in_sweep_order found) w)) ok made es v
       → Goes answer later w ok
-      (answered Names (told_at (listing.Names found) failed) ∷ (shut ++ made))
+      (answered Names (told_at (Listing.Names found) failed) ∷ (shut ++ made))
       (farewells (in_sweep_order found) w.standings ++ es) v
   Unlisted : (list : Listing) (failed : FailedCall) (room : Bool) (why : Fault) (ok : Bool)
       (made : List Made) (es : List Entry) (v : State J)
       → Without list failed room why
       → Chain answer later false (not w.listed) (names_of w.standings)
-      (noted w (entry.UnsettledAll why)) ok made es v
+      (noted w (Entry.UnsettledAll why)) ok made es v
       → Goes answer later w (room && ok) (answered Names (told_at list failed) ∷ made)
-      (entry.UnsettledAll why ∷ es) v
+      (Entry.UnsettledAll why ∷ es) v
 
 -- the walk
 
@@ -141,21 +131,21 @@ module _ {J : Type 0} (answer : Answers J) (later : Laters J) where
           → Ways (unlisted why w) (λ ok ms v. Behind list failed (room && ok) ms v)
       without list failed room why by =
           let names = names_of w.standings in
-          let k = kept_of w.standings (w.entries ++ entry.UnsettledAll why ∷ []) in
+          let k = kept_of w.standings (w.entries ++ Entry.UnsettledAll why ∷ []) in
           ways_last (λ ok ms j. Linked false (not w.listed) names (with_kept w k) ok ms
           (with_kept w j))
           (λ ok ms v. Behind list failed (room && ok) ms v) (resettling_all names k) (resumed w)
           (λ j. with_kept w j) (λ j. refl) (resettling_chain names (not w.listed) w k)
           (λ ok ms j c. let v : State J = with_kept w j in
-          (entry.UnsettledAll why ∷ c.0, Unlisted list failed room why ok ms c.0 v by c.1))
+          (Entry.UnsettledAll why ∷ c.0, Unlisted list failed room why ok ms c.0 v by c.1))
 
       with_room : (found : List (List ℕ)) (failed : FailedCall) (room : Bool)
           → Ways (if_room answer later (in_sweep_order found) w room)
-          (λ ok ms v. Behind (listing.Names found) failed (room && ok) ms v)
+          (λ ok ms v. Behind (Listing.Names found) failed (room && ok) ms v)
       with_room found failed true =
           let names = in_sweep_order found in
           let u : State J = marked_listed (parted names w) in
-          let list = listing.Names found in
+          let list = Listing.Names found in
           behind_sure (λ ms (r : Unit {0}). AreClosings (unlisted_files names w.standings) ms)
           (Behind list failed) (closing_unlisted names w.standings)
           (λ (r : Unit {0}). settling_all answer later names (not w.listed) u)
@@ -170,15 +160,15 @@ module _ {J : Type 0} (answer : Answers J) (later : Laters J) where
           ))
           (settling_chain names (not w.listed) u))
       with_room found failed false =
-          without (listing.Names found) failed false fault.Memory (No_room found failed)
+          without (Listing.Names found) failed false Fault.Memory (No_room found failed)
 
       by : (list : Listing) (failed : FailedCall)
           → Ways (after_list answer later w list failed) (Behind list failed)
-      by (listing.Names found) failed = λ room. with_room found failed room
-      by listing.Failed failed =
-          without listing.Failed failed true (fault.Call failed) (List_failed failed)
-      by listing.Memory failed =
-          without listing.Memory failed true fault.Memory (List_short failed)
+      by (Listing.Names found) failed = λ room. with_room found failed room
+      by Listing.Failed failed =
+          without Listing.Failed failed true (Fault.Call failed) (List_failed failed)
+      by Listing.Memory failed =
+          without Listing.Memory failed true Fault.Memory (List_short failed)
 
 -- the entries that are added
 
@@ -195,7 +185,7 @@ pub goes_entries : {J : Type 0} {answer : Answers J} {later : Laters J} {w v : S
 goes_entries {w = w} (Listed found failed ok shut made es v closings c) =
     chain_entries c ∙ append_assoc w.entries (farewells (in_sweep_order found) w.standings) es
 goes_entries {w = w} (Unlisted list failed room why ok made es v by c) =
-    chain_entries c ∙ append_assoc w.entries (entry.UnsettledAll why ∷ []) es
+    chain_entries c ∙ append_assoc w.entries (Entry.UnsettledAll why ∷ []) es
 
 -- over the states of a run
 
@@ -203,7 +193,7 @@ module _ {S J : Type 0} (gives : S → (call : Call) → Answer call → S → T
     (later : Laters J) where
   pub settling_run : (name : List ℕ) (present : Bool) (w : State J) (s : S) (p : Settled × State J)
       (t : S) → Runs gives s (settling answer later name present w) p t
-      → Went gives (Settles answer later name present w) s p t
+      → Ran gives (Settles answer later name present w) s p t
   settling_run name present w s p t h =
       ways_run gives (Settles answer later name present w) (settling answer later name present w) s
       p t
@@ -211,13 +201,13 @@ module _ {S J : Type 0} (gives : S → (call : Call) → Answer call → S → T
 
   pub resettling_run : (name : List ℕ) (present : Bool) (w : State J) (k : Kept) (s : S)
       (p : Settled × Kept) (t : S) → Runs gives s (resettling name k) p t
-      → Went gives (Resettles answer later name present w k) s p t
+      → Ran gives (Resettles answer later name present w k) s p t
   resettling_run name present w k s p t h =
       ways_run gives (Resettles answer later name present w k) (resettling name k) s p t
       (resettles answer later name present w k) h
 
   pub sweeping_run : (s : S) (w : State J) (t : S) (v : State J)
-      → Runs gives s (sweeping answer later w) v t → Went gives (Comes answer later w) s v t
+      → Runs gives s (sweeping answer later w) v t → Ran gives (Comes answer later w) s v t
   sweeping_run s w t v h =
       ways_run gives (Comes answer later w) (sweeping answer later w) s v t
       (sweeping_by answer later w) h
@@ -234,7 +224,7 @@ run_numbered gives number k x s p t e r =
 -- whatever the judge is
 
 pub no_verdict : Answers (Unit {0})
-no_verdict judge dev controller present on ss = (target.Block, cause.Implicit)
+no_verdict judge dev controller present on ss = (Target.Block, Cause.Implicit)
 
 pub no_later : Laters (Unit {0})
 no_later judge dev controller present on ss = tt
@@ -252,7 +242,7 @@ unjudged k = record {
 pub numbered_run : {S : Type 0} (gives : S → (call : Call) → Answer call → S → Type 0) (number : ℕ)
     (k : Kept) (x : Standing) (s : S) (p : Settled × Kept) (t : S)
     → numbered number k.standings ≡ Some x → Runs gives s (resettling_numbered number k) p t
-    → Went gives (Resettles no_verdict no_later x.name false (unjudged k) k) s p t
+    → Ran gives (Resettles no_verdict no_later x.name false (unjudged k) k) s p t
 numbered_run gives number k x s p t e r =
     resettling_run gives no_verdict no_later x.name false (unjudged k) k s p t
     (run_numbered gives number k x s p t e r)

@@ -1,22 +1,15 @@
 -- What is known of a device stays, whatever the kernel does.
 use Rattle.std.proofs.Common.{◌≡◌, ℕ, Bool, List, Option, Some, None, sym, ◌∙◌, ap, subst}
 use Rattle.ug_types.specs.declared.record.Attrs.{Attrs}
-use Rattle.ug_table.proofs.Common.{Judged, Held, Device, Authorized, Kernel, Stays, Grows, IsRecordOf, IsDevice, IsGone, IsProbed, Stand, Standing, Has}
-use Rattle.ug_kernel.proofs.Grow.{grows_trans}
-use Rattle.ug_record.specs.Records.{judged_of}
+use Rattle.ug_table.proofs.Common.{Judged, Held, Device, Authorized, Kernel, Stays, Grows, IsRecordOf, IsDevice, IsGone, IsProbed, Stand, Standing, Has, Write, grows_trans, judged_of}
 use Rattle.ug_node.specs.Bound.{attrs_of, parent_attrs_of, IsParentRead}
 use Rattle.ug_table.proofs.Standings.{file_same, file_later}
-use Rattle.ug_types.specs.declared.control.Write.TheVariants as write
 
 attrs_stay : (d e : Device) → Stays d e → attrs_of d ≡ attrs_of e
-attrs_stay d e s =
-    let same : (descriptors : List ℕ) → d.descriptors ≡ descriptors → (product : Option (List ℕ)) → d.product ≡ product → (serial : Option (List ℕ)) → d.serial ≡ serial → (connect : Option (List ℕ)) → d.connect ≡ connect → attrs_of d ≡ attrs_of (record d { descriptors = descriptors; product = product; serial = serial; connect = connect }) = λ a p b q c r f t. cc in
-    same e.descriptors (sym s.descriptors) e.product (sym s.product) e.serial (sym s.serial) e.connect (sym s.connect)
+attrs_stay d e s = cc (s.descriptors, s.product, s.serial, s.connect)
 
 parent_attrs_stay : (d e : Device) → Stays d e → parent_attrs_of d ≡ parent_attrs_of e
-parent_attrs_stay d e s =
-    let same : (descriptors : List ℕ) → d.descriptors ≡ descriptors → (product : Option (List ℕ)) → d.product ≡ product → (serial : Option (List ℕ)) → d.serial ≡ serial → parent_attrs_of d ≡ parent_attrs_of (record d { descriptors = descriptors; product = product; serial = serial }) = λ a p b q c r. cc in
-    same e.descriptors (sym s.descriptors) e.product (sym s.product) e.serial (sym s.serial)
+parent_attrs_stay d e s = cc (s.descriptors, s.product, s.serial)
 
 parent_stays : (k l : Kernel) (p : Option ℕ) (attrs : Option Attrs) → Grows k l → IsParentRead k p attrs → IsParentRead l p attrs
 parent_stays k l None attrs g h = h
@@ -60,5 +53,5 @@ stand_stays k l ss next g h = record {
   removed = λ s a r i f.
       let x = h.devices s a in
       let is : x.0 ≡ i = file_same l s.held.0 x.0 i (file_later k l s.held.0 x.0 g x.1.file) f in
-      subst (λ (v : ℕ). Has l.log (record { device = v; write = write.Remove })) is (g.log (record { device = x.0; write = write.Remove }) (h.removed s a r x.0 x.1.file));
+      subst (λ (v : ℕ). Has l.log (record { device = v; write = Write.Remove })) is (g.log (record { device = x.0; write = Write.Remove }) (h.removed s a r x.0 x.1.file));
 }

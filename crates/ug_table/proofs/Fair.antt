@@ -1,40 +1,20 @@
 -- A part is fair, and so is a sweep.
-use Rattle.std.proofs.Common.{◌≡◌, ℕ, Bool, true, false, not, ◌&&◌, List, [], ◌∷◌, ◌++◌, ◌⊎◌, Some, slice_get, inl, inr, refl, sym, ◌∙◌, ap, subst, append_assoc, append-nil, ◌+◌, ◌<◌, is_none, Option, arith, cond, true≢false}
+use Rattle.std.proofs.Common.{◌≡◌, ℕ, Bool, true, false, not, ◌&&◌, List, [], ◌∷◌, ◌++◌, ◌⊎◌, Some, slice_get, inl, inr, refl, sym, ◌∙◌, ap, subst, append_assoc, append-nil, ◌+◌, ◌<◌, is_none, Option, arith, cond, map, true≢false}
 use Rattle.std.proofs.lemmas.Bool.{and_parts, and_cases, both_ways, not-true, not-false, cond_both, cases_Bool}
-use Rattle.ug_table.proofs.Common.{Has, AllDistinct, Target, Control, Authorized, Remove, Write, Wrote, Put, Close, Told, Closing, Ask_alive, Names, Kernel, Moves, IsKernel, Live, IsWritten, IsGoneAt, says_put, Called, says_listing, Grows, Quiet, calls, Runs, RemoveHold, Entry, State, Answers, Laters, known_of, standing_of, without, with_standing, place_for, lists, farewells, Tries, IsDevice, MayHave, MayHaveNot, wrote_entries, HasRemoval, WasRemoved, IsFirst, Account, Start, Had, Had_not, AreInOrder, none_before, IsProbed, Stand, numbers_of, Judge, IsOne, IsTold, HasStanding, IsFair, IsRemoveMarked, swept_before, IsGone, Went as WentAway, gone_of, Standing, Settled, Made, answered, Along, failure_of, FailedCall, parent_of, Judged, Held, Cause, Bound, Binding, Known, in_sweep_order, unlisted_files}
-use Rattle.ug_types.specs.declared.verdict.Target.TheVariants as target
+use Rattle.ug_table.proofs.Common.{Has, AllDistinct, Target, Control, Authorized, Remove, Write, Wrote, Put, Close, Told, Closing, Ask_alive, Names, Kernel, Moves, IsKernel, Live, IsWritten, IsGoneAt, says_put, Called, says_listing, Grows, Quiet, calls, Runs, RemoveHold, Entry, State, Answers, Laters, known_of, standing_of, without, with_standing, place_for, lists, farewells, Tries, IsDevice, MayHave, MayHaveNot, wrote_entries, HasRemoval, WasRemoved, IsFirst, Account, Start, Had, Had_not, AreInOrder, none_before, IsProbed, Stand, numbers_of, Judge, IsOne, IsTold, HasStanding, IsFair, IsRemoveMarked, swept_before, IsGone, Went as WentAway, gone_of, Standing, Settled, Made, answered, Along, failure_of, FailedCall, parent_of, Judged, Held, Cause, Bound, Binding, Known, in_sweep_order, unlisted_files, Fault, Probe, Listing, names_of, parted, marked_listed, sweeping, unsettled_by, standing_for, judged_entry, tried_standings, dropped, has_right, distinct_one, has_map, has_new, has_old, filter_has, has_filter, write_of, is_reject, CallsFor, is_to_go, Way, way_runs, along_split, filter, some_same, called_grows, quiet_grows, grows_refl, judged_of, binding, map_has, distinct_filter}
 use Rattle.ug_kernel.specs.declared.device.HeldFile.{HeldFile}
 use Rattle.ug_kernel.specs.declared.device.Effect.{Effect}
-use Rattle.ug_types.specs.declared.control.Write.TheVariants as write
-use Rattle.ug_kernel.specs.declared.calls.Wrote.TheVariants as wrote
-use Rattle.ug_kernel.proofs.Grow.{some_same, called_grows, quiet_grows, grows_refl}
 use Rattle.ug_node.specs.Removal.{holding_remove, RemoveSays}
-use Rattle.ug_node.specs.declared.removal.RemoveHold.TheVariants as hold
 use Rattle.ug_node.proofs.Laws.{holding_law, gone_later, binding_law}
-use Rattle.ug_audit.specs.declared.entry.Entry.TheVariants as entry
-use Rattle.ug_audit.specs.declared.entry.Fault.TheVariants as fault
-use Rattle.ug_table.specs.Bring.{write_of, is_reject, CallsFor, is_to_go}
-use Rattle.ug_table.specs.declared.standing.Settled.TheVariants as settled
-use Rattle.ug_types.proofs.Elements.{has_right, distinct_one, has_map, has_new, has_old, filter_has, has_filter, distinct_filter}
 use Rattle.ug_table.proofs.Standings.{IsHeldAs, file_same, file_later, IsFileOf, found, with_own, each_with, listed_is, IsOpen, open_name}
 use Rattle.ug_table.proofs.OnePart.{no_removal}
 use Rattle.ug_table.proofs.Devices.{device_stays, stand_stays, probed_from}
-use Rattle.ug_table.proofs.Steps.{NoRemoval, AreMarked, keeps_itself, removal_marks, removal_removed, marks_keep, keep_one, keep_marks, FairFrom, fair_trans, StepFrom, fair_by, After, same_refl, plain_fair, keep_fair, fair_end, then_quiet, then_called, then_note, then_same, then_went, one_itself, without_less, tried_after, left_all, stand_of, fair_refl, gone_device, account_stays}
-use Rattle.ug_table.proofs.Says.{plain_wrote, gone_has}
-use Rattle.ug_kernel.proofs.Ways.{Way, way_runs, along_split}
+use Rattle.ug_table.proofs.Steps.{NoRemoval, AreMarked, keeps_itself, removal_marks, removal_removed, marks_keep, keep_one, keep_marks, FairFrom, fair_trans, StepFrom, fair_by, After, same_refl, plain_fair, keep_fair, fair_end, then_quiet, then_called, then_note, then_same, then_went, one_itself, without_less, tried_after, left_all, in_order, stand_by, stand_of, fair_refl, gone_device, account_stays}
 use Rattle.ug_table.proofs.Shapes.{Written, Done, Went, Broke, Valued, Same, Set, Unheld, Gone_by, Failed_by, Short_by, Removal, Not_held, Put_on, Carried, By_value, And_removal, Brought, Left_open, Let_go, told_at, Piece, Opening, Fresh, Lost, Unbound_end, Failed_so, Short_so, Flat, Unprobed, Tried, Stopped, Unbound, No_place, Judged_so, IsGiven, next_after, judge_after, opening_none, opening_absent}
 use Rattle.ug_types.specs.declared.record.Attrs.{Attrs}
-use Rattle.ug_kernel.specs.declared.calls.Probe.TheVariants as probe
-use Rattle.ug_record.specs.Records.{judged_of}
-use Rattle.ug_node.specs.Bind.{binding}
 use Rattle.ug_node.specs.Bound.{attrs_of, IsBound, BindSays}
-use Rattle.ug_node.specs.declared.identity.Binding.TheVariants as bound
-use Rattle.ug_table.specs.Settle.{unsettled_by, standing_for, judged_entry, tried_standings, dropped}
-use Rattle.ug_table.specs.Sweep.{names_of, parted, marked_listed, sweeping}
-use Rattle.ug_table.proofs.Marks.{order_new, names_distinct, order_filter, sweep_in_order, AreIn, dropped_in, AreSplit, AreFresh, split_in, parted_split, parted_fresh, part_split, part_fresh, piece_part, order_distinct}
-use Rattle.std.specs.List.{filter}
+use Rattle.ug_table.proofs.Marks.{order_new, keeps_filter, sweep_in_order, AreIn, dropped_in, AreSplit, AreFresh, split_in, parted_split, parted_fresh, part_split, part_fresh, flat_part, order_distinct}
 use Rattle.ug_types.proofs.Sorting.{to_sweep_order}
-use Rattle.ug_kernel.specs.declared.calls.Listing.TheVariants as listing
 use Rattle.ug_kernel.proofs.Held.{live_before}
 use Rattle.ug_table.proofs.Chains.{closings_quiet, Chain, Over, First, Goes, Listed, Unlisted, sweeping_run}
 
@@ -54,17 +34,16 @@ abbrev PutLogs : ℕ → Write → Wrote → Kernel → Kernel → Type 0
 PutLogs i what outcome k l = (MayHave outcome × (l.log ≡ k.log ++ record { device = i; write = what } ∷ [])) ⊎ (MayHaveNot outcome × (l.log ≡ k.log))
 
 put_logs : (held i : ℕ) (control : Control) (what : Write) (outcome : Wrote) (failed : FailedCall) (k l : Kernel) → IsHeldAs k held i control → Called (Put held what) (told_at outcome failed) k l → PutLogs i what outcome k l
-put_logs held i control what wrote.Done failed k l file c = inl (tt, one_more held i control what k c.before c.after l file c.moves_before c.effect c.moves_after)
-put_logs held i control what wrote.Gone failed k l file c = inr (tt, c.moves_after.log ∙ ap (λ (v : Kernel). v.log) c.effect ∙ c.moves_before.log)
-put_logs held i control what wrote.Failed failed k l file c = elim c.effect [
+put_logs held i control what Wrote.Done failed k l file c = inl (tt, one_more held i control what k c.before c.after l file c.moves_before c.effect c.moves_after)
+put_logs held i control what Wrote.Gone failed k l file c = inr (tt, c.moves_after.log ∙ ap (λ (v : Kernel). v.log) c.effect ∙ c.moves_before.log)
+put_logs held i control what Wrote.Failed failed k l file c = elim c.effect [
   | inl e ↦ inr (tt, c.moves_after.log ∙ ap (λ (v : Kernel). v.log) e ∙ c.moves_before.log)
   | inr w ↦ inl (tt, one_more held i control what k c.before c.after l file c.moves_before w c.moves_after)
 ]
 
--- the entries of a write
-
-abbrev with_write : {J : Type 0} → State J → Standing → Write → Wrote → State J
-with_write w s what outcome = record w { entries = (w.entries ++ entry.Intent s.number s.name what ∷ []) ++ entry.Wrote s.number s.name what outcome ∷ [] }
+-- these standings, and entries behind those that were there
+abbrev more : {J : Type 0} → State J → List Standing → List Entry → State J
+more w ss es = record w { standings = ss; entries = w.entries ++ es }
 
 -- the device of a standing, with its place
 abbrev StandsAs : {J : Type 0} → Kernel → State J → Standing → ℕ → Type 0
@@ -81,12 +60,11 @@ put_account {J} {answer} {later} {present} {tried} m l u s i held control what o
     ]
 
 -- a write that leaves the marks
-put_fair : {J : Type 0} {answer : Answers J} {later : Laters J} {present : Bool} {tried : Tries} {k m : Kernel} {w u : State J} (l : Kernel) (s : Standing) (i held : ℕ) (control : Control) (what : Write) (outcome : Wrote) (failed : FailedCall) → StandsAs m u s i → IsHeldAs m held i control → CallsFor s.verdict what → IsFirst u.standings [] s.number what → NoRemoval (wrote_entries s.number s.name what outcome) → Called (Put held what) (told_at outcome failed) m l → FairFrom answer later present tried k w m u → FairFrom answer later present tried k w l (with_write u s what outcome)
+put_fair : {J : Type 0} {answer : Answers J} {later : Laters J} {present : Bool} {tried : Tries} {k m : Kernel} {w u : State J} (l : Kernel) (s : Standing) (i held : ℕ) (control : Control) (what : Write) (outcome : Wrote) (failed : FailedCall) → StandsAs m u s i → IsHeldAs m held i control → CallsFor s.verdict what → IsFirst u.standings [] s.number what → NoRemoval (wrote_entries s.number s.name what outcome) → Called (Put held what) (told_at outcome failed) m l → FairFrom answer later present tried k w m u → FairFrom answer later present tried k w l (more u u.standings (wrote_entries s.number s.name what outcome))
 put_fair {J} {answer} {later} {present} {tried} {k} {m} {w} {u} l s i held control what outcome failed at file due first none c h =
     let g = called_grows (Put held what) (told_at outcome failed) m l c in
     let es = wrote_entries s.number s.name what outcome in
-    let step = keep_fair answer later present tried m l u u.standings es c.sound g h.fair.stand (same_refl m u.standings u.next h.fair.stand) (keeps_itself u.standings) none (plain_wrote s.number s.name what outcome) (put_account m l u s i held control what outcome failed at file due first c) in
-    fair_trans h (subst (λ (v : List Entry). StepFrom answer later present tried m u l (record u { entries = v })) (sym (append_assoc u.entries (entry.Intent s.number s.name what ∷ []) (entry.Wrote s.number s.name what outcome ∷ []))) step)
+    fair_trans h (keep_fair answer later present tried m l u u.standings es c.sound g h.fair.stand (same_refl u.standings) (keeps_itself u.standings) none (tt, (tt, tt)) (put_account m l u s i held control what outcome failed at file due first c))
 
 -- the standings after it, by how it was settled
 abbrev Afters : List Standing → Standing → (Settled → List Standing) → Type 0
@@ -95,36 +73,30 @@ Afters ss s after = (how : Settled) → After s ss how (after how)
 -- the value: where it stands the standings aren't marked yet
 
 abbrev mid : {J : Type 0} → State J → (Settled → List Standing) → Settled → List Standing
-mid w after settled.Stands = w.standings
+mid w after Settled.Stands = w.standings
 mid w after how = after how
 
-abbrev more : {J : Type 0} → State J → List Standing → List Entry → State J
-more w ss es = record w { standings = ss; entries = w.entries ++ es }
-
 value_called : (verdict : Target) → CallsFor verdict (write_of verdict)
-value_called target.Allow = tt
+value_called Target.Allow = tt
 value_called x = tt
 
 value_first : (ss : List Standing) (es : List Entry) (number : ℕ) (verdict : Target) → IsFirst ss es number (write_of verdict)
-value_first ss es number target.Allow = tt
+value_first ss es number Target.Allow = tt
 value_first ss es number x = tt
 
-put_no_removal : (s : Standing) (what : Write) (outcome : Wrote) → (what ≡ write.Remove → outcome ≡ wrote.Done → ⊥) → NoRemoval (wrote_entries s.number s.name what outcome)
+put_no_removal : (s : Standing) (what : Write) (outcome : Wrote) → (what ≡ Write.Remove → outcome ≡ Wrote.Done → ⊥) → NoRemoval (wrote_entries s.number s.name what outcome)
 put_no_removal s what outcome none number name (inl e) = let none : ⊥ = cc in none
-put_no_removal s what outcome none number name (inr (inl e)) = none (let a : what ≡ write.Remove = cc in a) (let b : outcome ≡ wrote.Done = cc in b)
+put_no_removal s what outcome none number name (inr (inl e)) = none (let a : what ≡ Write.Remove = cc in a) (let b : outcome ≡ Wrote.Done = cc in b)
 put_no_removal s what outcome none number name (inr (inr x)) = x
 
--- the entries of a write, and of what it leads to
-two_more : {J : Type 0} {answer : Answers J} {later : Laters J} {present : Bool} {tried : Tries} {k l : Kernel} {w : State J} (u : State J) (ss : List Standing) (a b : Entry) → FairFrom answer later present tried k w l (record u { standings = ss; entries = (u.entries ++ a ∷ []) ++ b ∷ [] }) → FairFrom answer later present tried k w l (more u ss (a ∷ b ∷ []))
-two_more {answer = answer} {later = later} {present = present} {tried = tried} {k = k} {l = l} {w = w} u ss a b h = subst (λ (v : List Entry). FairFrom answer later present tried k w l (record u { standings = ss; entries = v })) (append_assoc u.entries (a ∷ []) (b ∷ [])) h
+-- entries behind others
+joined : {J : Type 0} {answer : Answers J} {later : Laters J} {present : Bool} {tried : Tries} {k l : Kernel} {w : State J} (u : State J) (ss : List Standing) (es fs : List Entry) → FairFrom answer later present tried k w l (record u { standings = ss; entries = (u.entries ++ es) ++ fs }) → FairFrom answer later present tried k w l (more u ss (es ++ fs))
+joined {answer = answer} {later = later} {present = present} {tried = tried} {k = k} {l = l} {w = w} u ss es fs h = subst (λ (v : List Entry). FairFrom answer later present tried k w l (record u { standings = ss; entries = v })) (append_assoc u.entries es fs) h
 
-three_more : {J : Type 0} {answer : Answers J} {later : Laters J} {present : Bool} {tried : Tries} {k l : Kernel} {w : State J} (u : State J) (ss : List Standing) (a b c : Entry) → FairFrom answer later present tried k w l (record u { standings = ss; entries = ((u.entries ++ a ∷ []) ++ b ∷ []) ++ c ∷ [] }) → FairFrom answer later present tried k w l (more u ss (a ∷ b ∷ c ∷ []))
-three_more {answer = answer} {later = later} {present = present} {tried = tried} {k = k} {l = l} {w = w} u ss a b c h = subst (λ (v : List Entry). FairFrom answer later present tried k w l (record u { standings = ss; entries = v })) (append_assoc (u.entries ++ a ∷ []) (b ∷ []) (c ∷ []) ∙ append_assoc u.entries (a ∷ []) (b ∷ c ∷ [])) h
-
-value_fair : {J : Type 0} {answer : Answers J} {later : Laters J} {present : Bool} {tried : Tries} {k m : Kernel} {w : State J} {t : Told Wrote} {es : List Entry} {how : Settled} (u : State J) (n : Kernel) (s : Standing) (after : Settled → List Standing) (what : Write) → Written s.name s.number what t es how → Has u.standings s → Afters u.standings s after → says_put s.held.0 t.answer n m → FairFrom answer later present tried k w m (with_write u s what t.answer) → FairFrom answer later present tried k w m (more u (mid u after how) es)
-value_fair u n s after what (Done failed) has a says h = two_more u u.standings _ _ h
-value_fair u n s after what (Went failed) has a says h = three_more u (after settled.Nobody) _ _ _ (then_went s (after settled.Nobody) has (a settled.Nobody) says h)
-value_fair u n s after what (Broke failed) has a says h = two_more u (after (settled.Fault failed)) _ _ (let after_fault = a (settled.Fault failed) in then_same (after (settled.Fault failed)) after_fault.0 after_fault.1 h)
+value_fair : {J : Type 0} {answer : Answers J} {later : Laters J} {present : Bool} {tried : Tries} {k m : Kernel} {w : State J} {t : Told Wrote} {es : List Entry} {how : Settled} (u : State J) (n : Kernel) (s : Standing) (after : Settled → List Standing) (what : Write) → Written s.name s.number what t es how → Has u.standings s → Afters u.standings s after → says_put s.held.0 t.answer n m → FairFrom answer later present tried k w m (more u u.standings (wrote_entries s.number s.name what t.answer)) → FairFrom answer later present tried k w m (more u (mid u after how) es)
+value_fair u n s after what (Done failed) has a says h = h
+value_fair u n s after what (Went failed) has a says h = joined u (after Settled.Nobody) (wrote_entries s.number s.name what Wrote.Gone) _ (then_went s (after Settled.Nobody) has (a Settled.Nobody) says h)
+value_fair u n s after what (Broke failed) has a says h = let after_fault = a (Settled.Fault failed) in then_same (after (Settled.Fault failed)) after_fault.0 after_fault.1 h
 
 none_more : {J : Type 0} {answer : Answers J} {later : Laters J} {present : Bool} {tried : Tries} {k l : Kernel} {w : State J} (u : State J) → FairFrom answer later present tried k w l u → FairFrom answer later present tried k w l (more u u.standings [])
 none_more {answer = answer} {later = later} {present = present} {tried = tried} {k = k} {l = l} {w = w} u h = subst (λ (v : List Entry). FairFrom answer later present tried k w l (record u { entries = v })) (sym (append-nil u.entries)) h
@@ -138,63 +110,62 @@ valued_fair {m = m} {u = u} l s after (Set t es how e v) has a h r =
 
 -- the removal
 
-reject_calls : (verdict : Target) → is_reject verdict ≡ true → CallsFor verdict write.Remove
-reject_calls target.Reject e = tt
+reject_calls : (verdict : Target) → is_reject verdict ≡ true → CallsFor verdict Write.Remove
+reject_calls Target.Reject e = tt
 reject_calls x e = let none : ⊥ = cc in absurd none
 
 removed_if : (a b : Bool) → (a && not b) ≡ false → a ≡ true → b ≡ true
 removed_if a b e r = elim (and_cases a (not b) e) [ inl f ↦ absurd (both_ways a f r) | inr f ↦ not-false b f ]
 
-remove_first : {J : Type 0} (m : Kernel) (u : State J) (s : Standing) → Has u.standings s → s.removed ≡ false → (distinct : (t : Standing) → Has u.standings t → t.number ≡ s.number → t ≡ s) → IsFirst u.standings [] s.number write.Remove
+remove_first : {J : Type 0} (m : Kernel) (u : State J) (s : Standing) → Has u.standings s → s.removed ≡ false → (distinct : (t : Standing) → Has u.standings t → t.number ≡ s.number → t ≡ s) → IsFirst u.standings [] s.number Write.Remove
 remove_first m u s has e one (inl b) =
     true≢false (sym b.3 ∙ ap (λ (v : Standing). v.removed) (one b.0 b.1 b.2) ∙ e)
 remove_first m u s has e one (inr b) = b.1
 
 -- the log has it
-done_removal : (m l : Kernel) (s : Standing) (i file : ℕ) (failed : FailedCall) → IsDevice m i s.name s.held s.judged → IsHeldAs m file i Remove → Called (Put file write.Remove) (told_at wrote.Done failed) m l → HasRemoval l s.held
+done_removal : (m l : Kernel) (s : Standing) (i file : ℕ) (failed : FailedCall) → IsDevice m i s.name s.held s.judged → IsHeldAs m file i Remove → Called (Put file Write.Remove) (told_at Wrote.Done failed) m l → HasRemoval l s.held
 done_removal m l s i file failed d of c j at =
-    let g = called_grows (Put file write.Remove) (told_at wrote.Done failed) m l c in
+    let g = called_grows (Put file Write.Remove) (told_at Wrote.Done failed) m l c in
     let is : i ≡ j = file_same l s.held.0 i j (file_later m l s.held.0 i g d.file) at in
-    let e : Effect = record { device = i; write = write.Remove } in
-    let logged : Has l.log e = subst (λ (v : List Effect). Has v e) (sym (one_more file i Remove write.Remove m c.before c.after l of c.moves_before c.effect c.moves_after)) (has_right m.log (e ∷ []) e (inl refl)) in
-    subst (λ (v : ℕ). Has l.log (record { device = v; write = write.Remove })) is logged
+    let e : Effect = record { device = i; write = Write.Remove } in
+    let logged : Has l.log e = subst (λ (v : List Effect). Has v e) (sym (one_more file i Remove Write.Remove m c.before c.after l of c.moves_before c.effect c.moves_after)) (has_right m.log (e ∷ []) e (inl refl)) in
+    subst (λ (v : ℕ). Has l.log (record { device = v; write = Write.Remove })) is logged
 
 -- a removal that was done marks the standing
-removed_fair : {J : Type 0} {answer : Answers J} {later : Laters J} {present : Bool} {tried : Tries} {k m : Kernel} {w u : State J} (l : Kernel) (s : Standing) (i file : ℕ) (failed : FailedCall) (rs : List Standing) → StandsAs m u s i → IsHeldAs m file i Remove → is_reject s.verdict ≡ true → s.removed ≡ false → After s u.standings settled.Stands rs → Called (Put file write.Remove) (told_at wrote.Done failed) m l → FairFrom answer later present tried k w m u → FairFrom answer later present tried k w l (record u { standings = rs; entries = (u.entries ++ entry.Intent s.number s.name write.Remove ∷ []) ++ entry.Wrote s.number s.name write.Remove wrote.Done ∷ [] })
+removed_fair : {J : Type 0} {answer : Answers J} {later : Laters J} {present : Bool} {tried : Tries} {k m : Kernel} {w u : State J} (l : Kernel) (s : Standing) (i file : ℕ) (failed : FailedCall) (rs : List Standing) → StandsAs m u s i → IsHeldAs m file i Remove → is_reject s.verdict ≡ true → s.removed ≡ false → After s u.standings Settled.Stands rs → Called (Put file Write.Remove) (told_at Wrote.Done failed) m l → FairFrom answer later present tried k w m u → FairFrom answer later present tried k w l (more u rs (wrote_entries s.number s.name Write.Remove Wrote.Done))
 removed_fair {J} {answer} {later} {present} {tried} {k} {m} {w} {u} l s i file failed rs at of reject fresh a c h =
-    let g = called_grows (Put file write.Remove) (told_at wrote.Done failed) m l c in
+    let g = called_grows (Put file Write.Remove) (told_at Wrote.Done failed) m l c in
     let stand = h.fair.stand in
-    let es = wrote_entries s.number s.name write.Remove wrote.Done in
+    let es = wrote_entries s.number s.name Write.Remove Wrote.Done in
     let first = remove_first m u s at.0 fresh (λ t b e. distinct_one (λ (v : Standing). v.number) u.standings t s stand.distinct b at.0 e) in
-    let account = put_account m l u s i file Remove write.Remove wrote.Done failed at of (reject_calls s.verdict reject) first c in
+    let account = put_account m l u s i file Remove Write.Remove Wrote.Done failed at of (reject_calls s.verdict reject) first c in
     let removed = removal_removed l u.standings rs s (stand_stays m l u.standings u.next g stand).removed (done_removal m l s i file failed at.1 of c) a.1 in
-    let step = plain_fair answer later present tried m l u rs es c.sound g stand a.0 (removal_marks u.standings rs s stand.distinct reject a.1) removed (plain_wrote s.number s.name write.Remove wrote.Done) account in
-    fair_trans h (subst (λ (v : List Entry). StepFrom answer later present tried m u l (record u { standings = rs; entries = v })) (sym (append_assoc u.entries (entry.Intent s.number s.name write.Remove ∷ []) (entry.Wrote s.number s.name write.Remove wrote.Done ∷ []))) step)
+    fair_trans h (plain_fair answer later present tried m l u rs es c.sound g stand a.0 (removal_marks u.standings rs s stand.distinct reject a.1) removed (tt, (tt, tt)) account)
 
 -- where the `remove` file's device is gone, that of the `authorized` file is so
 gone_through : (k l : Kernel) (s : Standing) (i file : ℕ) (d : IsDevice k i s.name s.held s.judged) → IsHeldAs k file i Remove → IsGoneAt file k → Grows k l → IsGoneAt s.held.0 l
 gone_through k l s i file d of gone g =
     gone_later k l s.name s.held.0 i g (record { d = d.d; file = d.file; device = d.device; named = d.named }) (λ e live. gone i e (record { file = record { device = i; control = Remove }; at = of; is = refl; device = live.at }) live)
 
-put_on_fair : {J : Type 0} {answer : Answers J} {later : Laters J} {present : Bool} {tried : Tries} {k m : Kernel} {w u : State J} {t : Told Wrote} {es : List Entry} {how : Settled} (x y : Kernel) (s : Standing) (i file : ℕ) (after : Settled → List Standing) (shut : Closing) → Written s.name s.number write.Remove t es how → StandsAs m u s i → IsHeldAs m file i Remove → is_reject s.verdict ≡ true → s.removed ≡ false → Afters u.standings s after → Called (Put file write.Remove) t m x → Called (Close file) shut x y → FairFrom answer later present tried k w m u → FairFrom answer later present tried k w y (more u (after how) es)
+put_on_fair : {J : Type 0} {answer : Answers J} {later : Laters J} {present : Bool} {tried : Tries} {k m : Kernel} {w u : State J} {t : Told Wrote} {es : List Entry} {how : Settled} (x y : Kernel) (s : Standing) (i file : ℕ) (after : Settled → List Standing) (shut : Closing) → Written s.name s.number Write.Remove t es how → StandsAs m u s i → IsHeldAs m file i Remove → is_reject s.verdict ≡ true → s.removed ≡ false → Afters u.standings s after → Called (Put file Write.Remove) t m x → Called (Close file) shut x y → FairFrom answer later present tried k w m u → FairFrom answer later present tried k w y (more u (after how) es)
 put_on_fair {u = u} x y s i file after shut (Done failed) at of reject fresh a c d h =
-    two_more u (after settled.Stands) _ _ (then_called (Close file) shut y tt d (removed_fair x s i file failed (after settled.Stands) at of reject fresh (a settled.Stands) c h))
+    then_called (Close file) shut y tt d (removed_fair x s i file failed (after Settled.Stands) at of reject fresh (a Settled.Stands) c h)
 put_on_fair {m = m} {u = u} x y s i file after shut (Went failed) at of reject fresh a c d h =
     let first = remove_first m u s at.0 fresh (λ t b e. distinct_one (λ (v : Standing). v.number) u.standings t s h.fair.stand.distinct b at.0 e) in
-    let put = put_fair x s i file Remove write.Remove wrote.Gone failed at of (reject_calls s.verdict reject) first (put_no_removal s write.Remove wrote.Gone (λ e f. let none : ⊥ = cc in none)) c h in
-    let g = called_grows (Put file write.Remove) (told_at wrote.Gone failed) m x c in
+    let put = put_fair x s i file Remove Write.Remove Wrote.Gone failed at of (reject_calls s.verdict reject) first (put_no_removal s Write.Remove Wrote.Gone (λ e f. let none : ⊥ = cc in none)) c h in
+    let g = called_grows (Put file Write.Remove) (told_at Wrote.Gone failed) m x c in
     let gone = gone_through x y s i file (device_stays m x i s.name s.held s.judged g at.1) (g.held file (record { device = i; control = Remove }) of) c.says (called_grows (Close file) shut x y d) in
-    three_more u (after settled.Nobody) _ _ _ (then_went s (after settled.Nobody) at.0 (a settled.Nobody) gone (then_called (Close file) shut y tt d put))
+    joined u (after Settled.Nobody) (wrote_entries s.number s.name Write.Remove Wrote.Gone) _ (then_went s (after Settled.Nobody) at.0 (a Settled.Nobody) gone (then_called (Close file) shut y tt d put))
 put_on_fair {m = m} {u = u} x y s i file after shut (Broke failed) at of reject fresh a c d h =
     let first = remove_first m u s at.0 fresh (λ t b e. distinct_one (λ (v : Standing). v.number) u.standings t s h.fair.stand.distinct b at.0 e) in
-    let put = put_fair x s i file Remove write.Remove wrote.Failed failed at of (reject_calls s.verdict reject) first (put_no_removal s write.Remove wrote.Failed (λ e f. let none : ⊥ = cc in none)) c h in
-    let mark = a (settled.Fault failed) in
-    two_more u (after (settled.Fault failed)) _ _ (then_same (after (settled.Fault failed)) mark.0 mark.1 (then_called (Close file) shut y tt d put))
+    let put = put_fair x s i file Remove Write.Remove Wrote.Failed failed at of (reject_calls s.verdict reject) first (put_no_removal s Write.Remove Wrote.Failed (λ e f. let none : ⊥ = cc in none)) c h in
+    let mark = a (Settled.Fault failed) in
+    then_same (after (Settled.Fault failed)) mark.0 mark.1 (then_called (Close file) shut y tt d put)
 
 unheld_fair : {J : Type 0} {answer : Answers J} {later : Laters J} {present : Bool} {tried : Tries} {k m : Kernel} {w u : State J} {r : RemoveHold} {es : List Entry} {how : Settled} (s : Standing) (i : ℕ) (after : Settled → List Standing) → Unheld s.name s.number r es how → Has u.standings s → RemoveSays s.held.0 i m r → Afters u.standings s after → FairFrom answer later present tried k w m u → FairFrom answer later present tried k w m (more u (after how) es)
-unheld_fair s i after Gone_by has says a h = then_went s (after settled.Nobody) has (a settled.Nobody) says h
-unheld_fair {u = u} s i after (Failed_by failed) has says a h = let mark = a (settled.Fault failed) in none_more (record u { standings = after (settled.Fault failed) }) (then_same (after (settled.Fault failed)) mark.0 mark.1 h)
-unheld_fair {u = u} s i after Short_by has says a h = let short = a settled.Memory in none_more (record u { standings = after settled.Memory }) (then_same (after settled.Memory) short.0 short.1 h)
+unheld_fair s i after Gone_by has says a h = then_went s (after Settled.Nobody) has (a Settled.Nobody) says h
+unheld_fair {u = u} s i after (Failed_by failed) has says a h = let mark = a (Settled.Fault failed) in none_more (record u { standings = after (Settled.Fault failed) }) (then_same (after (Settled.Fault failed)) mark.0 mark.1 h)
+unheld_fair {u = u} s i after Short_by has says a h = let short = a Settled.Memory in none_more (record u { standings = after Settled.Memory }) (then_same (after Settled.Memory) short.0 short.1 h)
 
 -- the `remove` file of the standing's device
 held_fair : {J : Type 0} {answer : Answers J} {later : Laters J} {present : Bool} {tried : Tries} {k m : Kernel} {w u : State J} (l : Kernel) (s : Standing) (ms : List Made) (r : RemoveHold) → Has u.standings s → Way (holding_remove s.name s.held.0) ms r → Along calls m ms l → FairFrom answer later present tried k w m u → (i : ℕ) × IsDevice l i s.name s.held s.judged × RemoveSays s.held.0 i l r × FairFrom answer later present tried k w l u
@@ -209,8 +180,8 @@ removal_fair l s after (Not_held ms r es how way v) go has a h along =
     let x = held_fair l s ms r has way along h in
     unheld_fair s x.0 after v has x.2 a x.3
 removal_fair {m = m} {u = u} l s after (Put_on ms file t shut es how way v) go has a h along =
-    let cut = along_split calls ms (answered (Put file.0 write.Remove) t ∷ answered (Close file.0) shut ∷ []) m l along in
-    let x = held_fair cut.0 s ms (hold.Ready file) has way cut.1 h in
+    let cut = along_split calls ms (answered (Put file.0 Write.Remove) t ∷ answered (Close file.0) shut ∷ []) m l along in
+    let x = held_fair cut.0 s ms (RemoveHold.Ready file) has way cut.1 h in
     fair_end l (more u (after how) es) refl cut.2.2.2
     (put_on_fair cut.2.0 cut.2.2.0 s x.0 file.0 after shut v (has, x.1) x.2
     (and_parts (is_reject s.verdict) (not s.removed) go).0
@@ -219,16 +190,15 @@ removal_fair {m = m} {u = u} l s after (Put_on ms file t shut es how way v) go h
 
 -- both
 
-only_value : {J : Type 0} {answer : Answers J} {later : Laters J} {present : Bool} {tried : Tries} {k l : Kernel} {w : State J} (u : State J) (s : Standing) (after : Settled → List Standing) (how : Settled) (es : List Entry) → (how ≡ settled.Stands → is_to_go (known_of s) ≡ false) → Has u.standings s → Afters u.standings s after → FairFrom answer later present tried k w l (more u (mid u after how) es) → FairFrom answer later present tried k w l (more u (after how) es)
-only_value u s after settled.Stands es f has a h = let stands = a settled.Stands in then_same (after settled.Stands) stands.0 (marks_keep u.standings (after settled.Stands) s has (removed_if (is_reject s.verdict) s.removed (f refl)) stands.1) h
+only_value : {J : Type 0} {answer : Answers J} {later : Laters J} {present : Bool} {tried : Tries} {k l : Kernel} {w : State J} (u : State J) (s : Standing) (after : Settled → List Standing) (how : Settled) (es : List Entry) → (how ≡ Settled.Stands → is_to_go (known_of s) ≡ false) → Has u.standings s → Afters u.standings s after → FairFrom answer later present tried k w l (more u (mid u after how) es) → FairFrom answer later present tried k w l (more u (after how) es)
+only_value u s after Settled.Stands es f has a h = let stands = a Settled.Stands in then_same (after Settled.Stands) stands.0 (marks_keep u.standings (after Settled.Stands) s has (removed_if (is_reject s.verdict) s.removed (f refl)) stands.1) h
 only_value u s after how es f has a h = h
 
 carried_fair : {J : Type 0} {answer : Answers J} {later : Laters J} {present : Bool} {tried : Tries} {k m : Kernel} {w u : State J} {on : Bool} {ms : List Made} {es : List Entry} {how : Settled} (l : Kernel) (s : Standing) (after : Settled → List Standing) → Carried s.name (known_of s) on ms es how → Has u.standings s → ((how : Settled) → After s u.standings how (after how)) → FairFrom answer later present tried k w m u → Along calls m ms l → FairFrom answer later present tried k w l (record u { standings = after how; entries = u.entries ++ es })
 carried_fair {u = u} l s after (By_value ms es how v f) has a h along = only_value u s after how es f has a (valued_fair l s after v has a h along)
-carried_fair {J} {answer} {later} {present} {tried} {k} {m} {w} {u} l s after (And_removal ms ns es fs how go v r) has a h along =
+carried_fair {m = m} {u = u} l s after (And_removal ms ns es fs how go v r) has a h along =
     let cut = along_split calls ms ns m l along in
-    subst (λ (x : List Entry). FairFrom answer later present tried k w l (record u { standings = after how; entries = x })) (append_assoc u.entries es fs)
-    (removal_fair l s after r go has a (valued_fair cut.0 s after v has a h cut.1) cut.2)
+    joined u (after how) es fs (removal_fair l s after r go has a (valued_fair cut.0 s after v has a h cut.1) cut.2)
 
 pub brought_fair : {J : Type 0} {answer : Answers J} {later : Laters J} {present : Bool} {tried : Tries} {k m : Kernel} {w u : State J} {on : Bool} {ms : List Made} {es : List Entry} {how : Settled} (l : Kernel) (s : Standing) (after : Settled → List Standing) → Brought s.name (known_of s) on ms es how → Has u.standings s → ((how : Settled) → After s u.standings how (after how)) → FairFrom answer later present tried k w m u → Along calls m ms l → FairFrom answer later present tried k w l (record u { standings = after how; entries = u.entries ++ es })
 brought_fair l s after (Left_open ms es how c n) has a h along = carried_fair l s after c has a h along
@@ -255,15 +225,9 @@ just_judged answer later w name held judged present on = record w {
 
 stand_more : (k : Kernel) (ss : List Standing) (next i : ℕ) (s : Standing) → IsDevice k i s.name s.held s.judged → s.number ≡ next → s.removed ≡ false → (Has (names_of ss) s.name → ⊥) → Stand k ss next → Stand k (with_standing s ss) (next + 1)
 stand_more k ss next i s d number fresh absent stand =
-    let o = order_new next ss s number absent (record { order = stand.order; distinct = stand.distinct; numbers = stand.numbers }) in
-    record {
-      devices = each_with (λ (v : Standing). (i : ℕ) × IsDevice k i v.name v.held v.judged) s ss (i, d) stand.devices;
-      numbers = o.numbers;
-      names = names_distinct (names_of (with_standing s ss)) o.order;
-      order = o.order;
-      distinct = o.distinct;
-      removed = each_with (λ (v : Standing). v.removed ≡ true → HasRemoval k v.held) s ss (λ r. absurd (true≢false (sym r ∙ fresh))) stand.removed;
-    }
+    stand_by k (with_standing s ss) (next + 1) (order_new next ss s number absent (in_order stand))
+    (each_with (λ (v : Standing). (i : ℕ) × IsDevice k i v.name v.held v.judged) s ss (i, d) stand.devices)
+    (each_with (λ (v : Standing). v.removed ≡ true → HasRemoval k v.held) s ss (λ r. absurd (true≢false (sym r ∙ fresh))) stand.removed)
 
 -- a new standing isn't marked as removed
 new_marks : (ss : List Standing) (next : ℕ) (s : Standing) (e : Entry) → s.number ≡ next → s.removed ≡ false → AllDistinct (numbers_of ss) → ((x : Standing) → Has ss x → x.number < next) → NoRemoval (e ∷ []) → AreMarked ss (e ∷ []) (with_standing s ss)
@@ -284,7 +248,7 @@ none_stood k ss next i name held judged d absent stand h =
     absent (subst (λ (v : List ℕ). Has (names_of ss) v) named (has_map (λ (v : Standing). v.name) ss h.s h.has))
 
 -- one entry of a verdict
-judged_same : (number n : ℕ) (name m : List ℕ) (held g : Held) (verdict u : Target) (cause d : Cause) → Has (entry.Judged number name held verdict cause ∷ []) (entry.Judged n m g u d) → (number ≡ n) × (name ≡ m) × (held ≡ g) × (verdict ≡ u) × (cause ≡ d)
+judged_same : (number n : ℕ) (name m : List ℕ) (held g : Held) (verdict u : Target) (cause d : Cause) → Has (Entry.Judged number name held verdict cause ∷ []) (Entry.Judged n m g u d) → (number ≡ n) × (name ≡ m) × (held ≡ g) × (verdict ≡ u) × (cause ≡ d)
 judged_same number n name m held g verdict u cause d (inl e) = ((cc), (cc), (cc), (cc), (cc))
 judged_same number n name m held g verdict u cause d (inr none) = absurd none
 
@@ -351,16 +315,16 @@ known_brought {m = m} {u = u} {ms = ms} {es = es} {how = how} l name known on at
 
 -- and the name is told where it ends unsettled
 told_fair : {J : Type 0} {answer : Answers J} {later : Laters J} {present : Bool} {tried : Tries} {k l : Kernel} {w : State J} (u : State J) (rs : List Standing) (es : List Entry) (name : List ℕ) (how : Settled) → FairFrom answer later present tried k w l (record u { standings = rs; entries = u.entries ++ es }) → FairFrom answer later present tried k w l (record u { standings = rs; entries = u.entries ++ (es ++ unsettled_by name how) })
-told_fair {J} {answer} {later} {present} {tried} {k} {l} {w} u rs es name how h = subst (λ (v : List Entry). FairFrom answer later present tried k w l (record u { standings = rs; entries = v })) (append_assoc u.entries es (unsettled_by name how)) (by how)
+told_fair {J} {answer} {later} {present} {tried} {k} {l} {w} u rs es name how h = joined u rs es (unsettled_by name how) (by how)
   where
     v : State J
     v = record u { standings = rs; entries = u.entries ++ es }
 
     by : (x : Settled) → FairFrom answer later present tried k w l (record v { entries = v.entries ++ unsettled_by name x })
-    by settled.Stands = none_more v h
-    by settled.Nobody = none_more v h
-    by (settled.Fault failed) = then_note (entry.Unsettled name (fault.Call failed)) tt h
-    by settled.Memory = then_note (entry.Unsettled name fault.Memory) tt h
+    by Settled.Stands = none_more v h
+    by Settled.Nobody = none_more v h
+    by (Settled.Fault failed) = then_note (Entry.Unsettled name (Fault.Call failed)) tt h
+    by Settled.Memory = then_note (Entry.Unsettled name Fault.Memory) tt h
 
 known_settled : {J : Type 0} {answer : Answers J} {later : Laters J} {present : Bool} {tried : Tries} {k m : Kernel} {w u : State J} {ms : List Made} {es : List Entry} {how : Settled} (l : Kernel) (name : List ℕ) (known : Known) (on : Bool) → standing_of name u.standings ≡ Some known → FairFrom answer later present tried k w m u → Brought name known on ms es how → Along calls m ms l → FairFrom answer later present tried k w l (record u { standings = tried_standings u.standings name how; entries = u.entries ++ (es ++ unsettled_by name how) })
 known_settled {u = u} {es = es} {how = how} l name known on at h b along = told_fair u (tried_standings u.standings name how) es name how (known_brought l name known on at h b along)
@@ -372,15 +336,15 @@ then_dropped {J} {answer} {later} {present} {tried} {k} {m} {w} {u} name known a
     let held : f.s.held ≡ known.held = ap (λ (v : Known). v.held) f.known in
     let number : f.s.number ≡ known.number = ap (λ (v : Known). v.number) f.known in
     let went = then_went f.s (without name u.standings) f.has (without_less m u.standings u.next name f.s f.has f.named h.fair.stand) (subst (λ (v : Held). IsGoneAt v.0 m) (sym held) gone) h in
-    let e : entry.Gone f.s.number f.s.name ≡ entry.Gone known.number name = cc (number, f.named) in
+    let e : Entry.Gone f.s.number f.s.name ≡ Entry.Gone known.number name = cc (number, f.named) in
     subst (λ (v : Entry). FairFrom answer later present tried k w m (record u { standings = without name u.standings; entries = u.entries ++ v ∷ [] })) e went
 
 -- and one whose probe failed is marked
-then_failed : {J : Type 0} {answer : Answers J} {later : Laters J} {present : Bool} {tried : Tries} {k m : Kernel} {w u : State J} (name : List ℕ) (known : Known) (failed : FailedCall) → standing_of name u.standings ≡ Some known → FairFrom answer later present tried k w m u → FairFrom answer later present tried k w m (record u { standings = tried_standings u.standings name (settled.Fault failed); entries = u.entries ++ entry.Unsettled name (fault.Call failed) ∷ [] })
+then_failed : {J : Type 0} {answer : Answers J} {later : Laters J} {present : Bool} {tried : Tries} {k m : Kernel} {w u : State J} (name : List ℕ) (known : Known) (failed : FailedCall) → standing_of name u.standings ≡ Some known → FairFrom answer later present tried k w m u → FairFrom answer later present tried k w m (record u { standings = tried_standings u.standings name (Settled.Fault failed); entries = u.entries ++ Entry.Unsettled name (Fault.Call failed) ∷ [] })
 then_failed {m = m} {u = u} name known failed at h =
     let f = found name u.standings known at in
-    let after = tried_after m u.standings u.next name f.s (settled.Fault failed) f.has f.named h.fair.stand in
-    then_same (tried_standings u.standings name (settled.Fault failed)) after.0 after.1 (then_note (entry.Unsettled name (fault.Call failed)) tt h)
+    let after = tried_after m u.standings u.next name f.s (Settled.Fault failed) f.has f.named h.fair.stand in
+    then_same (tried_standings u.standings name (Settled.Fault failed)) after.0 after.1 (then_note (Entry.Unsettled name (Fault.Call failed)) tt h)
 
 -- before a binding, the name has no standing left
 record OpensFair {J : Type 0} (answer : Answers J) (later : Laters J) (present : Bool) (tried : Tries) (k : Kernel) (w : State J) (l : Kernel) (v : State J) (name : List ℕ) (binds : Bool) : Type 0 where
@@ -391,7 +355,7 @@ opening_fair : {J : Type 0} {answer : Answers J} {later : Laters J} {present : B
 opening_fair {J} {answer} {later} {present} {tried} {binds} {k} {m} {w} {u} {name} l (Fresh e) so h a =
     subst (λ (v : List Entry). OpensFair answer later present tried k w l (record u { entries = v }) name binds) (sym (append-nil u.entries)) (record { fair = fair_end l u refl a h; so = so })
 opening_fair {tried = tried} {w = w} {u = u} {name = name} l (Lost known failed shut e) so h a = record {
-  fair = fair_end l _ refl a.2.2 (then_called (Close known.held.0) shut a.2.0 tt a.2.1 (then_dropped name known e a.1.says (then_called (Ask_alive known.held.0) (told_at probe.Gone failed) a.0 tt a.1 h)));
+  fair = fair_end l _ refl a.2.2 (then_called (Close known.held.0) shut a.2.0 tt a.2.1 (then_dropped name known e a.1.says (then_called (Ask_alive known.held.0) (told_at Probe.Gone failed) a.0 tt a.1 h)));
   so = λ b. dropped_in tried w u name known.number h.fair.rest h.fair.entries (so b);
 }
 
@@ -400,14 +364,14 @@ abbrev ended_as : {J : Type 0} → Laters J → Bool → List ℕ → State J �
 ended_as later present name u o rs es = record u { standings = rs; next = next_after u o; judge = judge_after later present name u o; entries = u.entries ++ es }
 
 unbound_fair : {J : Type 0} {answer : Answers J} {later : Laters J} {present : Bool} {tried : Tries} {k l : Kernel} {w : State J} {name : List ℕ} {r : Binding} {fs : List Entry} {how : Settled} (u : State J) (rs : List Standing) (es : List Entry) → Unbound_end name r fs how → FairFrom answer later present tried k w l (record u { standings = rs; entries = u.entries ++ es }) → FairFrom answer later present tried k w l (record u { standings = rs; entries = u.entries ++ (es ++ fs) })
-unbound_fair {J} {answer} {later} {present} {tried} {k} {l} {w} {name} {r} {fs} u rs es end h = subst (λ (v : List Entry). FairFrom answer later present tried k w l (record u { standings = rs; entries = v })) (append_assoc u.entries es fs) (by end h)
+unbound_fair {J} {answer} {later} {present} {tried} {k} {l} {w} {name} {r} {fs} u rs es end h = joined u rs es fs (by end h)
   where
     v : State J
     v = record u { standings = rs; entries = u.entries ++ es }
 
     by : {r : Binding} {fs : List Entry} {how : Settled} → Unbound_end name r fs how → FairFrom answer later present tried k w l v → FairFrom answer later present tried k w l (record v { entries = v.entries ++ fs })
-    by (Failed_so failed) h = then_note (entry.Unsettled name (fault.Call failed)) tt h
-    by Short_so h = then_note (entry.Unsettled name fault.Memory) tt h
+    by (Failed_so failed) h = then_note (Entry.Unsettled name (Fault.Call failed)) tt h
+    by Short_so h = then_note (Entry.Unsettled name Fault.Memory) tt h
     by x h = none_more v h
 
 -- a binding leads to what it says
@@ -417,39 +381,35 @@ binds_fair {n = n} m name ns r way h a =
     (law.sound, law.quiet, law.says, then_quiet m law.sound law.quiet h)
 
 flat_fair : {J : Type 0} {answer : Answers J} {later : Laters J} {present : Bool} {tried : Tries} {binds : Bool} {given : List Standing → Bound → Standing → Type 0} {k m : Kernel} {w u : State J} {name : List ℕ} {ok : Bool} {ms : List Made} {rest : List Entry} {how : Settled} {rs : List Standing} {o : Option (List Standing × Bound)} (l : Kernel) → Flat binds given name u.standings ok ms rest how rs o → ((ss : List Standing) (b : Bound) (x : Standing) → given ss b x → IsGiven answer present name u ss b x) → (binds ≡ true → AreIn tried name w u) → FairFrom answer later present tried k w m u → Along calls m ms l → FairFrom answer later present tried k w l (ended_as later present name u o rs rest)
-flat_fair {name = name} l (Unprobed known failed at) is so h a = fair_end l _ refl a.2 (then_failed name known failed at (then_called (Ask_alive known.held.0) (told_at probe.Failed failed) a.0 tt a.1 h))
-flat_fair {name = name} l (Tried known on failed ms es how at b) is so h a = known_settled l name known on at (then_called (Ask_alive known.held.0) (told_at (probe.Alive on) failed) a.0 tt a.1 h) b a.2
+flat_fair {name = name} l (Unprobed known failed at) is so h a = fair_end l _ refl a.2 (then_failed name known failed at (then_called (Ask_alive known.held.0) (told_at Probe.Failed failed) a.0 tt a.1 h))
+flat_fair {name = name} l (Tried known on failed ms es how at b) is so h a = known_settled l name known on at (then_called (Ask_alive known.held.0) (told_at (Probe.Alive on) failed) a.0 tt a.1 h) b a.2
 flat_fair l (Stopped ms es rs f opening) is so h a = (opening_fair l opening so h a).fair
 flat_fair {m = m} {u = u} {name = name} l (Unbound ms ns es fs rs r how t opening way end) is so h a =
     let cut = along_split calls ms ns m l a in
     unbound_fair u rs es end (binds_fair l name ns r way (opening_fair cut.0 opening so h cut.1).fair cut.2).3
-flat_fair {J} {answer} {later} {present} {tried} {k = k} {m = m} {w = w} {u = u} {name = name} l (No_place ms ns es rs b shut t opening way) is so h a =
+flat_fair {m = m} {u = u} {name = name} l (No_place ms ns es rs b shut t opening way) is so h a =
     let last : List Made = answered (Close b.held.0) shut ∷ [] in
     let cut = along_split calls ms (ns ++ last) m l a in
     let far = along_split calls ns last cut.0 l cut.2 in
-    let x = binds_fair far.0 name ns (bound.Bound b) way (opening_fair cut.0 opening so h cut.1).fair far.1 in
-    subst (λ (v : List Entry). FairFrom answer later present tried k w l (record u { standings = rs; entries = v })) (append_assoc u.entries es (entry.Unsettled name fault.Memory ∷ []))
-    (fair_end l _ refl far.2.2 (then_note (entry.Unsettled name fault.Memory) tt (then_called (Close b.held.0) shut far.2.0 tt far.2.1 x.3)))
+    let x = binds_fair far.0 name ns (Binding.Bound b) way (opening_fair cut.0 opening so h cut.1).fair far.1 in
+    joined u rs es _ (fair_end l _ refl far.2.2 (then_note (Entry.Unsettled name Fault.Memory) tt (then_called (Close b.held.0) shut far.2.0 tt far.2.1 x.3)))
 flat_fair {J} {answer} {later} {present} {tried} {k = k} {m = m} {w = w} {u = u} {name = name} l (Judged_so ms ns os es fs rs b x how t opening way given new brought) is so h a =
     let cut = along_split calls ms (ns ++ os) m l a in
     let far = along_split calls ns os cut.0 l cut.2 in
     let o = opening_fair cut.0 opening so h cut.1 in
     let v : State J = record u { standings = rs; entries = u.entries ++ es } in
     let n = far.0 in
-    let y = binds_fair n name ns (bound.Bound b) way o.fair far.1 in
+    let y = binds_fair n name ns (Binding.Bound b) way o.fair far.1 in
     let judged : Judged = judged_of name b.attrs b.parent in
     let first = bound_fair n name b y.0 y.1 y.2 (opening_absent opening) (o.so t) o.fair in
     let now = just_judged answer later v name b.held.0 judged present b.on in
     let s = new_standing answer v name b.held.0 judged present b.on in
     let e = judged_entry v name b.held.0 (given_of answer v name judged present b.on) in
-    let E : Standing → State J = λ z. ended_as later present name u (Some (rs, b)) (tried_standings (with_standing z rs) name how) (es ++ entry.Judged z.number name z.held z.verdict z.cause ∷ (fs ++ unsettled_by name how)) in
+    let E : Standing → State J = λ z. ended_as later present name u (Some (rs, b)) (tried_standings (with_standing z rs) name how) (es ++ Entry.Judged z.number name z.held z.verdict z.cause ∷ (fs ++ unsettled_by name how)) in
     let T : Standing → Type 0 = λ z. Brought name (known_of z) b.on os fs how → FairFrom answer later present tried k w l (E z) in
     let own : T s = λ br. subst (λ (q : List Entry). FairFrom answer later present tried k w l (record now { standings = tried_standings (with_standing s rs) name how; entries = q })) (append_assoc v.entries (e ∷ []) (fs ++ unsettled_by name how) ∙ append_assoc u.entries es (e ∷ (fs ++ unsettled_by name how)))
     (known_settled l name (known_of s) b.on (with_own name s rs refl (opening_none opening)) first br far.2) in
     (subst T (sym (is rs b x given)) own) brought
-
-state_is : {J : Type 0} (v : State J) (next : ℕ) (listed : Bool) (judge : J) (es : List Entry) → v.next ≡ next → v.listed ≡ listed → v.judge ≡ judge → v.entries ≡ es → let made : State J = record { standings = v.standings; next = next; listed = listed; judge = judge; entries = es } in v ≡ made
-state_is v next listed judge es a b c d = λ i. record { standings = v.standings; next = a i; listed = b i; judge = c i; entries = d i }
 
 pub piece_fair : {J : Type 0} {answer : Answers J} {later : Laters J} {binds present : Bool}
     {tried : Tries} {name : List ℕ} {how : Settled} {ok : Bool} {ms : List Made} {k m l : Kernel}
@@ -460,9 +420,8 @@ pub piece_fair : {J : Type 0} {answer : Answers J} {later : Laters J} {binds pre
 piece_fair {J} {answer} {later} {present = present} {tried = tried} {name = name} {k = k} {l = l}
     {w = w}
     {u = u} {v = v} so h p a =
-    let judge = judge_after later present name u p.judged in
-    let is = state_is v (next_after u p.judged) u.listed judge (u.entries ++ p.rest) p.next p.listed p.judge p.entries
-    in
+    let is : v ≡ ended_as later present name u p.judged v.standings p.rest =
+    λ i. record { standings = v.standings; next = p.next i; listed = p.listed i; judge = p.judge i; entries = p.entries i } in
     subst (λ (x : State J). FairFrom answer later present tried k w l x) (sym is)
     (flat_fair l p.flat (λ ss b z g. g) so h a)
 
@@ -484,46 +443,42 @@ chain_fair {m = m} {w = w} l so h (First name names how u x v ok more ms ns es p
     let rest = h.fair.rest in
     let e = h.fair.entries in
     let cut = along_split calls ms ns m l a in
+    let part = flat_part p.flat in
     chain_fair l
     (λ b.
     let q = so b in
-    (q.0.1, q.1.1, part_split w u name names rest x e q.1 q.2 (q.3 rest e name (inl refl)) (piece_part p), part_fresh w u name names rest x e q.0 q.3 (piece_part p)))
+    (q.0.1, q.1.1, part_split w u name names rest p.rest x e p.entries q.1 q.2 (q.3 rest e name (inl refl)) part, part_fresh w u name names rest p.rest x e p.entries q.0 q.3 part))
     (piece_fair (λ b. let q = so b in split_in name names w u q.1 q.2) h p cut.1) c cut.2
 
 -- an entry for each standing that isn't listed
-farewell_has : (names : List (List ℕ)) (ss : List Standing) (e : Entry) → Has (farewells names ss) e → (t : Standing) × Has ss t × (lists names t.name ≡ false) × (entry.Gone t.number t.name ≡ e)
-farewell_has names [] e a = absurd a
-farewell_has names (s ∷ ss) e a =
-    let more : Has (farewells names ss) e → (t : Standing) × Has (s ∷ ss) t × (lists names t.name ≡ false) × (entry.Gone t.number t.name ≡ e) = λ b. let t = farewell_has names ss e b in (t.0, inr t.1, t.2, t.3) in
-    cond_both (lists names s.name) (farewells names ss) (entry.Gone s.number s.name ∷ farewells names ss)
-    (λ (l : List Entry). Has l e → (t : Standing) × Has (s ∷ ss) t × (lists names t.name ≡ false) × (entry.Gone t.number t.name ≡ e))
-    (λ q h. more h) (λ q h. elim h [ inl is ↦ (s, inl refl, q, is) | inr b ↦ more b ]) a
 
-has_farewell : (names : List (List ℕ)) (ss : List Standing) (t : Standing) → Has ss t → lists names t.name ≡ false → Has (farewells names ss) (entry.Gone t.number t.name)
-has_farewell names [] t a f = absurd a
-has_farewell names (s ∷ ss) t (inl e) f =
-    let same : s.name ≡ t.name = ap (λ (v : Standing). v.name) e in
-    let out : lists names s.name ≡ false = ap (λ (v : List ℕ). lists names v) same ∙ f in
-    let told : entry.Gone s.number s.name ≡ entry.Gone t.number t.name = ap (λ (v : Standing). entry.Gone v.number v.name) e in
-    subst (λ (b : Bool). Has (cond b (farewells names ss) (entry.Gone s.number s.name ∷ farewells names ss)) (entry.Gone t.number t.name)) (sym out) (inl told)
-has_farewell names (s ∷ ss) t (inr a) f =
-    let rest = has_farewell names ss t a f in
-    elim (lists names s.name) as (λ (b : Bool). Has (cond b (farewells names ss) (entry.Gone s.number s.name ∷ farewells names ss)) (entry.Gone t.number t.name)) [ true ↦ rest | false ↦ inr rest ]
+abbrev unlisted : List (List ℕ) → List Standing → List Standing
+unlisted names ss = filter (λ (s : Standing). not (lists names s.name)) ss
 
-farewell_number : (names : List (List ℕ)) (ss : List Standing) (number : ℕ) → Has (gone_of (farewells names ss)) number → Has (numbers_of ss) number
-farewell_number names ss number a =
-    let h = gone_has (farewells names ss) number a in
-    let t = farewell_has names ss (entry.Gone number h.0) h.1 in
-    let e = t.3 in
-    let same : t.0.number ≡ number = cc in
-    subst (λ (v : ℕ). Has (numbers_of ss) v) same (has_map (λ (s : Standing). s.number) ss t.0 t.1)
+abbrev farewell : Standing → Entry
+farewell s = Entry.Gone s.number s.name
+
+farewells_are : (names : List (List ℕ)) (ss : List Standing) → farewells names ss ≡ map farewell (unlisted names ss)
+farewells_are names [] = refl
+farewells_are names (s ∷ ss) =
+    let rest = farewells_are names ss in
+    elim (lists names s.name) as (λ (b : Bool). cond b (farewells names ss) (farewell s ∷ farewells names ss) ≡ map farewell (cond (not b) (s ∷ unlisted names ss) (unlisted names ss))) [ true ↦ rest | false ↦ ap (λ (v : List Entry). farewell s ∷ v) rest ]
+
+farewell_has : (names : List (List ℕ)) (ss : List Standing) (e : Entry) → Has (farewells names ss) e → (t : Standing) × Has ss t × (lists names t.name ≡ false) × (farewell t ≡ e)
+farewell_has names ss e a =
+    let m = map_has farewell (unlisted names ss) e (subst (λ (v : List Entry). Has v e) (farewells_are names ss) a) in
+    let f = filter_has (λ (s : Standing). not (lists names s.name)) ss m.0 m.1 in
+    (m.0, f.0, not-true (lists names m.0.name) f.1, m.2)
+
+has_farewell : (names : List (List ℕ)) (ss : List Standing) (t : Standing) → Has ss t → lists names t.name ≡ false → Has (farewells names ss) (farewell t)
+has_farewell names ss t a f = subst (λ (v : List Entry). Has v (farewell t)) (sym (farewells_are names ss)) (has_map farewell (unlisted names ss) t (has_filter (λ (s : Standing). not (lists names s.name)) ss t a (ap not f)))
+
+gone_numbers : (ss : List Standing) → gone_of (map farewell ss) ≡ numbers_of ss
+gone_numbers [] = refl
+gone_numbers (s ∷ ss) = ap (λ (v : List ℕ). s.number ∷ v) (gone_numbers ss)
 
 farewell_distinct : (names : List (List ℕ)) (ss : List Standing) → AllDistinct (numbers_of ss) → AllDistinct (gone_of (farewells names ss))
-farewell_distinct names [] d = tt
-farewell_distinct names (s ∷ ss) d =
-    let rest = farewell_distinct names ss d.1 in
-    let apart : Has (gone_of (farewells names ss)) s.number → ⊥ = λ a. d.0 (farewell_number names ss s.number a) in
-    elim (lists names s.name) as (λ (b : Bool). AllDistinct (gone_of (cond b (farewells names ss) (entry.Gone s.number s.name ∷ farewells names ss)))) [ true ↦ rest | false ↦ (apart, rest) ]
+farewell_distinct names ss d = subst AllDistinct (sym (ap gone_of (farewells_are names ss) ∙ gone_numbers (unlisted names ss))) (distinct_filter (λ (s : Standing). s.number) (λ (s : Standing). not (lists names s.name)) ss d)
 
 -- the device of each standing that isn't listed is gone
 abbrev AreGone : Kernel → List (List ℕ) → List Standing → Type 0
@@ -532,7 +487,7 @@ AreGone m names ss = (s : Standing) (i : ℕ) → Has ss s → IsDevice m i s.na
 farewell_account : {J : Type 0} (answer : Answers J) (later : Laters J) (present : Bool) (tried : Tries) (m : Kernel) (names : List (List ℕ)) (before : List Standing) (log : List Effect) (judge : J) (next : ℕ) (ss : List Standing) (es : List Entry) → Stand m before next → AreGone m names before → ((s : Standing) → Has ss s → Has before s) → Account answer later present tried m m before log judge next es log judge next → Account answer later present tried m m before log judge next (es ++ farewells names ss) log judge next
 farewell_account answer later present tried m names before log judge next [] es stand gone sub a = subst (λ (v : List Entry). Account answer later present tried m m before log judge next v log judge next) (sym (append-nil es)) a
 farewell_account {J} answer later present tried m names before log judge next (s ∷ ss) es stand gone sub a =
-    let e = entry.Gone s.number s.name in
+    let e = Entry.Gone s.number s.name in
     let A : List Entry → Type 0 = λ v. Account answer later present tried m m before log judge next v log judge next in
     let rec : (fs : List Entry) → A fs → A (fs ++ farewells names ss) = λ fs b. farewell_account answer later present tried m names before log judge next ss fs stand gone (λ t h. sub t (inr h)) b in
     let has = sub s (inl refl) in
@@ -548,13 +503,13 @@ parted_fair answer later present tried m u names sound stand gone =
     let listed : Standing → Bool = λ s. lists names s.name in
     let rs = filter listed ss in
     let there : (s : Standing) → Has rs s → IsOne ss s = λ s a. one_itself ss s (filter_has listed ss s a).0 in
-    let none : (number : ℕ) (name : List ℕ) (held : Held) (verdict : Target) (cause : Cause) → Has (farewells names ss) (entry.Judged number name held verdict cause) → ⊥ = λ number name held verdict cause a. let t = farewell_has names ss (entry.Judged number name held verdict cause) a in let e = t.3 in let none : ⊥ = cc in none in
+    let none : (number : ℕ) (name : List ℕ) (held : Held) (verdict : Target) (cause : Cause) → Has (farewells names ss) (Entry.Judged number name held verdict cause) → ⊥ = λ number name held verdict cause a. let t = farewell_has names ss (Entry.Judged number name held verdict cause) a in let e = t.3 in let none : ⊥ = cc in none in
     let fair : IsFair answer later present tried m u m (parted names u) = record {
       sound = sound;
       grows = grows_refl m;
       rest = farewells names ss;
       entries = refl;
-      stand = stand_of m ss rs u.next there (distinct_filter (λ (s : Standing). s.name) listed ss stand.names) (order_filter listed ss stand.order) (distinct_filter (λ (s : Standing). s.number) listed ss stand.distinct) (λ s a. stand.removed s (filter_has listed ss s a).0) stand;
+      stand = stand_of m ss rs u.next there (keeps_filter listed ss) (λ s a. stand.removed s (filter_has listed ss s a).0) stand;
       account = farewell_account answer later present tried m names ss m.log u.judge u.next ss [] stand gone (λ s a. a) Start;
       left = record {
         told = λ s a. inl (there s a);
@@ -564,13 +519,13 @@ parted_fair answer later present tried m u names sound stand gone =
         ];
         judged = λ number name held verdict cause a. absurd (none number name held verdict cause a);
         ended = λ s name a g.
-            let t = farewell_has names ss (entry.Gone s.number name) g in
+            let t = farewell_has names ss (Entry.Gone s.number name) g in
             let e = t.3 in
             let number : t.0.number ≡ s.number = cc in
             let f = filter_has listed ss s a in
             let same : t.0 ≡ s = distinct_one (λ (v : Standing). v.number) ss t.0 s stand.distinct t.1 f.0 number in
             true≢false (sym f.1 ∙ sym (ap (λ (v : Standing). lists names v.name) same) ∙ t.2);
-        removed = keep_marks ss rs (farewells names ss) stand.distinct (λ s a. keeps_itself ss s (filter_has listed ss s a).0) (λ number name a. let t = farewell_has names ss (entry.Wrote number name write.Remove wrote.Done) a in let e = t.3 in let none : ⊥ = cc in none);
+        removed = keep_marks ss rs (farewells names ss) stand.distinct (λ s a. keeps_itself ss s (filter_has listed ss s a).0) (λ number name a. let t = farewell_has names ss (Entry.Wrote number name Write.Remove Wrote.Done) a in let e = t.3 in let none : ⊥ = cc in none);
       };
       gone = farewell_distinct names ss stand.distinct;
       once = λ i a b p q. absurd (none a p.name p.held p.verdict p.cause p.has);
@@ -580,7 +535,7 @@ parted_fair answer later present tried m u names sound stand gone =
 
 -- what isn't listed is gone
 
-listing_gone : (k m : Kernel) (names : List (List ℕ)) (ss : List Standing) (next : ℕ) → Grows k m → says_listing (listing.Names names) k m → Stand k ss next → AreGone m (in_sweep_order names) ss
+listing_gone : (k m : Kernel) (names : List (List ℕ)) (ss : List Standing) (next : ℕ) → Grows k m → says_listing (Listing.Names names) k m → Stand k ss next → AreGone m (in_sweep_order names) ss
 listing_gone k m names ss next g says stand s i a d out =
     let dead : Live m.devices i d.d → ⊥ = λ live.
     let x = stand.devices s a in
@@ -604,7 +559,7 @@ goes_fair : {J : Type 0} {answer : Answers J} {later : Laters J} {k l : Kernel} 
 goes_fair {answer = answer} {later = later} {k = k} {l = l} {w = w} sound stand
     (Listed found failed ok shut made es v closings chain) b =
     let names = in_sweep_order found in
-    let a = told_at (listing.Names found) failed in
+    let a = told_at (Listing.Names found) failed in
     let m = b.0 in
     let cut = along_split calls shut made m l b.2 in
     let gone = listing_gone k m found w.standings w.next (called_grows Names a k m b.1) b.1.says
@@ -625,7 +580,7 @@ goes_fair {answer = answer} {later = later} {k = k} {l = l} {w = w} sound stand
 goes_fair {answer = answer} {later = later} {k = k} {l = l} {w = w} sound stand
     (Unlisted list failed room why ok made es v by chain) b =
     chain_fair l (λ e. let none : ⊥ = cc in absurd none)
-    (then_note (entry.UnsettledAll why) tt
+    (then_note (Entry.UnsettledAll why) tt
     (then_called Names (told_at list failed) b.0 tt b.1
     (fair_refl answer later (not w.listed) swept_before k w sound stand))) chain b.2
 

@@ -1,14 +1,9 @@
 -- A run of a sweep goes along its parts, and tells each failed call.
-use Rattle.std.proofs.Common.{◌≡◌, ℕ, ◌+◌, ◌≤◌, length, Option, Some, None, arith, Bool, true, false, List, [], ◌∷◌, ◌++◌, inl, inr, refl, sym, ◌∙◌, ap, subst}
-use Rattle.std.specs.List.{filter}
+use Rattle.std.proofs.Common.{◌≡◌, ℕ, ◌+◌, ◌≤◌, length, Some, None, arith, Bool, true, false, List, [], ◌∷◌, ◌++◌, inl, inr, refl, sym, ◌∙◌, ap, subst}
 use Rattle.std.proofs.lemmas.List.{length-append}
 use Rattle.ug_types.proofs.Sorting.{length-sweep_order}
-use Rattle.ug_table.proofs.Common.{Bound, in_sweep_order, FailedCall, Listing, Call, Names, Answer, Runs, Made, answered, Along, failure, failures, Rises, Entry, Fault, State, Answers, Laters, lists, farewells, told_by, failures_told, numbers_given, InParts, unlisted_files, AfterListing, GoesInParts, TellsFaults, Standing}
-use Rattle.ug_kernel.specs.declared.calls.Listing.TheVariants as listing
-use Rattle.ug_kernel.proofs.Ways.{failures_more}
+use Rattle.ug_table.proofs.Common.{in_sweep_order, FailedCall, Listing, Call, Names, Answer, Runs, Made, answered, Along, failure, failures, Rises, Entry, Fault, State, Answers, Laters, lists, farewells, told_by, failures_told, numbers_given, InParts, unlisted_files, AfterListing, GoesInParts, TellsFaults, Standing, names_of, sweeping, failures_more, filter}
 use Rattle.ug_kernel.proofs.Rises.{Counting, along_numbered, along_rises}
-use Rattle.ug_audit.specs.declared.entry.Entry.TheVariants as entry
-use Rattle.ug_table.specs.Sweep.{names_of, sweeping}
 use Rattle.ug_table.proofs.Shapes.{told_at, next_after}
 use Rattle.ug_table.proofs.OnePart.{told_more, given_count, given_more, flat_given, flat_none, flat_is_part}
 use Rattle.ug_table.proofs.Standings.{farewells_by}
@@ -24,16 +19,11 @@ chain_parts (First name names how w x v ok more ms ns es p c) =
 
 unlisted_begins : {list : Listing} {failed : FailedCall} {room : Bool} {why : Fault}
     (ss : List Standing) → Without list failed room why
-    → AfterListing list failed ss (entry.UnsettledAll why ∷ []) ss (names_of ss) []
+    → AfterListing list failed ss (Entry.UnsettledAll why ∷ []) ss (names_of ss) []
 unlisted_begins ss (No_room found failed) = inr (refl, refl, refl, refl)
 unlisted_begins ss x = (refl, refl, refl, refl)
 
 -- the numbers that are given out
-
-next_is : {J : Type 0} (w : State J) (o : Option (List Standing × Bound))
-    → next_after w o ≡ w.next + given_count o
-next_is w None = omega arith
-next_is w (Some judged) = refl
 
 given_length : (es fs : List Entry)
     → length (numbers_given (es ++ fs)) ≡ length (numbers_given es) + length (numbers_given fs)
@@ -46,7 +36,9 @@ pub chain_next : {J : Type 0} {answer : Answers J} {later : Laters J} {binds pre
     → v.next ≡ w.next + length (numbers_given es)
 chain_next (Over w) = omega arith
 chain_next (First name names how w x v ok more ms ns es p c) =
-    omega (arith, chain_next c, p.next, next_is w p.judged, flat_given p.flat, given_length p.rest es)
+    let next : next_after w p.judged ≡ w.next + given_count p.judged =
+    elim p.judged as (λ o. next_after w o ≡ w.next + given_count o) [ None ↦ omega arith | Some o ↦ refl ] in
+    omega (arith, chain_next c, p.next, next, flat_given p.flat, given_length p.rest es)
 
 -- one a name at most, and none where nothing is bound
 pub chain_given : {J : Type 0} {answer : Answers J} {later : Laters J} {present : Bool}
@@ -71,7 +63,7 @@ pub in_parts : {S J : Type 0} {gives : S → (call : Call) → Answer call → S
 in_parts {w = w} a (Listed found failed ok shut made es v closings c) =
     let names = in_sweep_order found in
     record {
-      listed = told_at (listing.Names found) failed;
+      listed = told_at (Listing.Names found) failed;
       later = shut ++ made;
       along = a;
       head = farewells names w.standings;
@@ -92,7 +84,7 @@ in_parts {w = w} a (Unlisted list failed room why ok made es v by c) =
       listed = told_at list failed;
       later = made;
       along = a;
-      head = entry.UnsettledAll why ∷ [];
+      head = Entry.UnsettledAll why ∷ [];
       rest = es;
       entries = goes_entries (Unlisted list failed room why ok made es v by c);
       left = w.standings;

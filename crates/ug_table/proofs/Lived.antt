@@ -1,44 +1,17 @@
 -- What settling names leaves of devices: each one that lived through is as judged, or is told.
-use Rattle.std.proofs.Common.{◌≡◌, ℕ, Bool, List, [], ◌∷◌, ◌++◌, Option, Some, refl, sym, ◌∙◌, ap, subst, append_assoc, append-nil, slice_get, false, ◌⊎◌, inl, inr, true, None, true≢false}
-use Rattle.ug_table.proofs.Common.{Has, parent_of, Ask_alive, Put, Close, Closing, Told, Names, Authorized, Remove, Kernel, IsKernel, Quiet, Grows, Made, answered, Along, Runs, calls, RemoveHold, Bound, Binding, Entry, State, Answers, Laters, standing_of, without, with_standing, place_for, same_name, lists, farewells, Standing, Known, Settled, Held, Target, Wrote, Device, Control, IsGoneAt, Called, Lived, IsNamed, HasStanding, Stand, IsAsJudged, IsSettled, FailedCall, in_sweep_order, Fault, unlisted_files}
-use Rattle.ug_kernel.specs.declared.calls.Probe.TheVariants as probe
-use Rattle.ug_types.specs.declared.control.Write.TheVariants as write
-use Rattle.ug_kernel.proofs.Grow.{quiet_grows, called_grows, some_same, grows_refl, grows_trans}
-use Rattle.ug_kernel.proofs.Quiet.{called_quiet, quiet_refl, quiet_trans}
-use Rattle.ug_kernel.proofs.Ways.{Way, way_runs, along_split, along_sound, along_grows}
-use Rattle.ug_table.proofs.Shapes.{Piece, Valued, Same, Set, Removal, Not_held, Put_on, Carried, By_value, And_removal, Brought, Left_open, Let_go, Opening, Fresh, Lost, Flat, Unprobed, Tried, Stopped, Unbound, No_place, Judged_so, told_at, Written, Done, Went, Broke, Unheld, Gone_by, Failed_by, Short_by, Unbound_end, Failed_so, Short_so, opening_absent, opening_less}
+use Rattle.std.proofs.Common.{◌≡◌, ℕ, Bool, List, [], ◌∷◌, ◌++◌, Option, Some, refl, sym, ◌∙◌, ap, subst, append_assoc, slice_get, false, ◌⊎◌, inl, inr, true, None, true≢false}
+use Rattle.ug_table.proofs.Common.{Has, parent_of, Ask_alive, Put, Close, Closing, Told, Names, Authorized, Remove, Kernel, IsKernel, Quiet, Grows, Made, answered, Along, Runs, calls, RemoveHold, Bound, Binding, Entry, State, Answers, Laters, standing_of, without, with_standing, place_for, same_name, lists, farewells, Standing, Known, Settled, Held, Target, Wrote, Device, Control, IsGoneAt, Called, Lived, IsNamed, HasStanding, Stand, IsAsJudged, IsSettled, FailedCall, in_sweep_order, Fault, unlisted_files, Probe, Write, Listing, names_of, sweeping, unsettled_by, tried_standings, has_right, has_left, has_new, cancel, filter_has, has_map, write_of, wants, is_reject, Way, way_runs, along_split, along_sound, along_grows, quiet_grows, called_grows, some_same, grows_refl, grows_trans, binding, called_quiet, quiet_refl, quiet_trans}
+use Rattle.ug_table.proofs.Shapes.{Piece, Valued, Same, Set, Removal, Not_held, Put_on, Carried, By_value, And_removal, Brought, Left_open, Let_go, Opening, Fresh, Lost, Flat, Unprobed, Tried, Stopped, Unbound, No_place, Judged_so, told_at, Written, Done, Went, Broke, Unheld, Gone_by, Failed_by, Short_by, Unbound_end, Failed_so, Short_so, opening_absent, opening_less, flat_rest}
 use Rattle.ug_node.specs.Removal.{holding_remove, RemoveSays}
-use Rattle.ug_node.specs.declared.removal.RemoveHold.TheVariants as hold
 use Rattle.ug_node.proofs.Laws.{holding_law, binding_law}
-use Rattle.ug_node.specs.Bind.{binding}
 use Rattle.ug_node.specs.Bound.{BindSays}
-use Rattle.ug_node.specs.declared.identity.Binding.TheVariants as bound
-use Rattle.ug_table.specs.Bring.{write_of, wants, is_reject}
-use Rattle.ug_table.specs.declared.standing.Settled.TheVariants as settled
-use Rattle.ug_table.proofs.Standings.{Others, others_refl, others_trans, others_quiet, others_put, IsOpen, open_name, open_later, IsFileOf, file_later, LiveAs, lives_between, lived, live_same, gone_no, Value, quiet_value, done_value, alive_open, IsHeldAs, removal_value, file_same, open_named, found, same_is, is_same, missing, Files, files_later, with_files, tried_has, tried_files, tried_new, IsRemovedIf, Was, tried_was}
-use Rattle.ug_kernel.specs.declared.calls.Wrote.TheVariants as wrote
+use Rattle.ug_table.proofs.Standings.{Others, others_refl, others_trans, others_quiet, others_put, IsOpen, open_name, open_later, IsFileOf, file_later, LiveAs, lives_between, lived, live_same, gone_no, Value, quiet_value, done_value, alive_open, IsHeldAs, removal_value, file_same, open_named, found, same_is, is_same, missing, Files, files_later, with_files, others_have, tried_files, tried_new, IsRemovedIf, Was, tried_was}
 use Rattle.ug_kernel.proofs.Held.{live_before}
-use Rattle.ug_audit.specs.declared.entry.Entry.TheVariants as entry
-use Rattle.ug_audit.specs.declared.entry.Fault.TheVariants as fault
-use Rattle.ug_table.specs.Settle.{unsettled_by, tried_standings}
-use Rattle.ug_types.proofs.Elements.{has_right, has_left, has_new, has_old, cancel, filter_has, has_map}
 use Rattle.ug_table.proofs.Marks.{known_has}
-use Rattle.ug_table.specs.Sweep.{names_of, sweeping}
 use Rattle.ug_types.proofs.Sorting.{to_sweep_order}
-use Rattle.ug_kernel.specs.declared.calls.Listing.TheVariants as listing
-use Rattle.ug_table.proofs.Chains.{closings_quiet, Chain, Over, First, Goes, Listed, Unlisted, sweeping_run}
+use Rattle.ug_table.proofs.Chains.{closings_quiet, Chain, Over, First, Goes, Listed, Unlisted, goes_entries, sweeping_run}
 
--- Settling a name leaves the other names' devices and standings as they are, and only adds entries.
-
--- entries were added
-abbrev pub Appends : List Entry → List Entry → Type 0
-Appends es fs = (rest : List Entry) × (fs ≡ es ++ rest)
-
-pub appends_refl : (es : List Entry) → Appends es es
-appends_refl es = ([], sym (append-nil es))
-
-pub appends_trans : (es fs gs : List Entry) → Appends es fs → Appends fs gs → Appends es gs
-appends_trans es fs gs a b = (a.0 ++ b.0, b.1 ∙ ap (λ v. v ++ b.0) a.1 ∙ append_assoc es a.0 b.0)
+-- Settling a name leaves the other names' devices and standings as they are.
 
 -- the writes
 
@@ -59,12 +32,12 @@ hold_open name held answer k l sound o r =
 removal_apart : {name : List ℕ} {known : Known} {ms : List Made} {es : List Entry} {how : Settled} (k l : Kernel) → Removal name known ms es how → IsKernel k → IsOpen k name known.held.0 → Along calls k ms l → Others name k l
 removal_apart {name} {known} k l (Not_held ms r es how way u) sound o a = others_quiet name k l (hold_open name known.held.0 r k l sound o (way_runs calls (holding_remove name known.held.0) ms k r l way a)).0
 removal_apart {name} {known} k l (Put_on ms file t shut es how way w) sound o a =
-    let cut = along_split calls ms (answered (Put file.0 write.Remove) t ∷ answered (Close file.0) shut ∷ []) k l a in
+    let cut = along_split calls ms (answered (Put file.0 Write.Remove) t ∷ answered (Close file.0) shut ∷ []) k l a in
     let m = cut.0 in
     let n = cut.2.0 in
     let put = cut.2.1 in
-    let x = hold_open name known.held.0 (hold.Ready file) k m sound o (way_runs calls (holding_remove name known.held.0) ms k (hold.Ready file) m way cut.1) in
-    let rest = others_trans name m n l (called_grows (Put file.0 write.Remove) t m n put) (others_put name known.held.0 file.0 Remove write.Remove t m n x.1.0 x.1.1 put) (subst (λ v. Others name n v) (sym cut.2.2.2) (others_quiet name n cut.2.2.0 (called_quiet (Close file.0) shut n cut.2.2.0 tt cut.2.2.1))) in
+    let x = hold_open name known.held.0 (RemoveHold.Ready file) k m sound o (way_runs calls (holding_remove name known.held.0) ms k (RemoveHold.Ready file) m way cut.1) in
+    let rest = others_trans name m n l (called_grows (Put file.0 Write.Remove) t m n put) (others_put name known.held.0 file.0 Remove Write.Remove t m n x.1.0 x.1.1 put) (subst (λ v. Others name n v) (sym cut.2.2.2) (others_quiet name n cut.2.2.0 (called_quiet (Close file.0) shut n cut.2.2.0 tt cut.2.2.1))) in
     others_trans name k m l (quiet_grows k m x.0) (others_quiet name k m x.0) rest
 
 carried_apart : {name : List ℕ} {known : Known} {on : Bool} {ms : List Made} {es : List Entry} {how : Settled} (k l : Kernel) → Carried name known on ms es how → IsKernel k → IsOpen k name known.held.0 → Along calls k ms l → Others name k l
@@ -85,10 +58,9 @@ brought_apart {name} {known} k l (Let_go ms es shut c) sound o a =
 
 -- a name
 
-pub record Apart (name : List ℕ) (k : Kernel) (ss : List Standing) (es : List Entry) (l : Kernel) (rs : List Standing) (fs : List Entry) : Type 0 where
+pub record Apart (name : List ℕ) (k : Kernel) (ss : List Standing) (l : Kernel) (rs : List Standing) : Type 0 where
   pub others : Others name k l
   pub rest : (s : Standing) → Has ss s → (s.name ≡ name → ⊥) → Has rs s
-  pub entries : Appends es fs
   pub files : Files l rs
 
 -- the held file of a standing that is found
@@ -98,77 +70,70 @@ open_found name ss known k e f =
     subst (λ (v : Known). IsOpen k name v.held.0) at.known (subst (λ v. IsOpen k v at.s.held.0) at.named (f at.s at.has))
 
 -- the calls before a binding
-pub record Opened_quiet (k l : Kernel) (name : List ℕ) (ss rs : List Standing) : Type 0 where
+pub record Opened_quiet (k l : Kernel) (rs : List Standing) : Type 0 where
   pub quiet : Quiet k l
   pub sound : IsKernel l
-  pub rest : (s : Standing) → Has ss s → (s.name ≡ name → ⊥) → Has rs s
   pub files : Files l rs
 
-opening_quiet : {name : List ℕ} {ss : List Standing} {ms : List Made} {es : List Entry} {rs : List Standing} (k l : Kernel) → Opening name ss ms es rs → IsKernel k → Files k ss → Along calls k ms l → Opened_quiet k l name ss rs
-opening_quiet {name} {ss} k l (Fresh e) sound f a = subst (λ v. Opened_quiet k v name ss ss) (sym a) (record { quiet = quiet_refl k; sound = sound; rest = λ s h ne. h; files = f })
+opening_quiet : {name : List ℕ} {ss : List Standing} {ms : List Made} {es : List Entry} {rs : List Standing} (k l : Kernel) → Opening name ss ms es rs → IsKernel k → Files k ss → Along calls k ms l → Opened_quiet k l rs
+opening_quiet {name} {ss} k l (Fresh e) sound f a = subst (λ v. Opened_quiet k v ss) (sym a) (record { quiet = quiet_refl k; sound = sound; files = f })
 opening_quiet {name} {ss} k l (Lost known failed shut e) sound f a =
     let m = a.0 in
     let n = a.2.0 in
-    let q = quiet_trans k m n (called_quiet (Ask_alive known.held.0) (told_at probe.Gone failed) k m tt a.1) (called_quiet (Close known.held.0) shut m n tt a.2.1) in
-    subst (λ v. Opened_quiet k v name ss (without name ss)) (sym a.2.2) (record { quiet = q; sound = a.2.1.sound; rest = λ s h ne. tried_has ss name settled.Nobody s h ne; files = tried_files n ss name settled.Nobody (files_later k n ss (quiet_grows k n q) f) })
+    let q = quiet_trans k m n (called_quiet (Ask_alive known.held.0) (told_at Probe.Gone failed) k m tt a.1) (called_quiet (Close known.held.0) shut m n tt a.2.1) in
+    subst (λ v. Opened_quiet k v (without name ss)) (sym a.2.2) (record { quiet = q; sound = a.2.1.sound; files = tried_files n ss name Settled.Nobody (files_later k n ss (quiet_grows k n q) f) })
 
 -- and with it
-pub opening_bind : {name : List ℕ} {ss : List Standing} {ms : List Made} {es : List Entry} {rs : List Standing} (k l : Kernel) (ns : List Made) (r : Binding) → Opening name ss ms es rs → Way (binding name (parent_of name)) ns r → IsKernel k → Files k ss → Along calls k (ms ++ ns) l → Opened_quiet k l name ss rs × ((m : Kernel) × Along calls k ms m × (Quiet m l × BindSays name m l r))
+pub opening_bind : {name : List ℕ} {ss : List Standing} {ms : List Made} {es : List Entry} {rs : List Standing} (k l : Kernel) (ns : List Made) (r : Binding) → Opening name ss ms es rs → Way (binding name (parent_of name)) ns r → IsKernel k → Files k ss → Along calls k (ms ++ ns) l → Opened_quiet k l rs × ((m : Kernel) × Along calls k ms m × (Quiet m l × BindSays name m l r))
 opening_bind {name} {ms = ms} {rs = rs} k l ns r opening way sound f a =
     let cut = along_split calls ms ns k l a in
     let o = opening_quiet k cut.0 opening sound f cut.1 in
     let law = binding_law name (parent_of name) r cut.0 l refl o.sound (way_runs calls (binding name (parent_of name)) ns cut.0 r l way cut.2) in
-    (record { quiet = quiet_trans k cut.0 l o.quiet law.quiet; sound = law.sound; rest = o.rest; files = files_later cut.0 l rs (quiet_grows cut.0 l law.quiet) o.files }, (cut.0, cut.1, (law.quiet, law.says)))
+    (record { quiet = quiet_trans k cut.0 l o.quiet law.quiet; sound = law.sound; files = files_later cut.0 l rs (quiet_grows cut.0 l law.quiet) o.files }, (cut.0, cut.1, (law.quiet, law.says)))
 
-flat_apart : {binds : Bool} {given : List Standing → Bound → Standing → Type 0} {name : List ℕ} {ss : List Standing} {ok : Bool} {ms : List Made} {rest : List Entry} {how : Settled} {rs : List Standing} {o : Option (List Standing × Bound)} (k l : Kernel) (es fs : List Entry) → fs ≡ es ++ rest → IsKernel k → Files k ss → Flat binds given name ss ok ms rest how rs o → Along calls k ms l → Apart name k ss es l rs fs
-flat_apart {name = name} {ss = ss} k l xs ys e sound f (Unprobed known failed at) a =
-    let how = settled.Fault failed in
-    let q = subst (λ v. Quiet k v) (sym a.2) (called_quiet (Ask_alive known.held.0) (told_at probe.Failed failed) k a.0 tt a.1) in
-    record { others = others_quiet name k l q; rest = λ s h ne. tried_has ss name how s h ne; entries = (_, e); files = tried_files l ss name how (files_later k l ss (quiet_grows k l q) f) }
-flat_apart {name = name} {ss = ss} k l xs ys e sound f (Tried known on failed ms es how at b) a =
-    let q = called_quiet (Ask_alive known.held.0) (told_at (probe.Alive on) failed) k a.0 tt a.1 in
+flat_apart : {binds : Bool} {given : List Standing → Bound → Standing → Type 0} {name : List ℕ} {ss : List Standing} {ok : Bool} {ms : List Made} {rest : List Entry} {how : Settled} {rs : List Standing} {o : Option (List Standing × Bound)} (k l : Kernel) → IsKernel k → Files k ss → Flat binds given name ss ok ms rest how rs o → Along calls k ms l → Others name k l × Files l rs
+flat_apart {name = name} {ss = ss} k l sound f (Unprobed known failed at) a =
+    let how = Settled.Fault failed in
+    let q = subst (λ v. Quiet k v) (sym a.2) (called_quiet (Ask_alive known.held.0) (told_at Probe.Failed failed) k a.0 tt a.1) in
+    (others_quiet name k l q, tried_files l ss name how (files_later k l ss (quiet_grows k l q) f))
+flat_apart {name = name} {ss = ss} k l sound f (Tried known on failed ms es how at b) a =
+    let q = called_quiet (Ask_alive known.held.0) (told_at (Probe.Alive on) failed) k a.0 tt a.1 in
     let g = quiet_grows k a.0 q in
     let o = open_later k a.0 name known.held.0 g (open_found name ss known k at f) in
-    record { others = others_trans name k a.0 l g (others_quiet name k a.0 q) (brought_apart a.0 l b a.1.sound o a.2); rest = λ s h ne. tried_has ss name how s h ne; entries = (_, e); files = tried_files l ss name how (files_later a.0 l ss (along_grows ms a.0 l a.2) (files_later k a.0 ss g f)) }
-flat_apart {name = name} k l xs ys e sound f (Stopped ms es rs b opening) a =
+    (others_trans name k a.0 l g (others_quiet name k a.0 q) (brought_apart a.0 l b a.1.sound o a.2), tried_files l ss name how (files_later a.0 l ss (along_grows ms a.0 l a.2) (files_later k a.0 ss g f)))
+flat_apart {name = name} k l sound f (Stopped ms es rs b opening) a =
     let o = opening_quiet k l opening sound f a in
-    record { others = others_quiet name k l o.quiet; rest = o.rest; entries = (es, e); files = o.files }
-flat_apart {name = name} k l xs ys e sound f (Unbound ms ns es fs rs r how t opening way end) a =
+    (others_quiet name k l o.quiet, o.files)
+flat_apart {name = name} k l sound f (Unbound ms ns es fs rs r how t opening way end) a =
     let o = (opening_bind k l ns r opening way sound f a).0 in
-    record { others = others_quiet name k l o.quiet; rest = o.rest; entries = (es ++ fs, e); files = o.files }
-flat_apart {name = name} k l xs ys e sound f (No_place ms ns es rs b shut t opening way) a =
+    (others_quiet name k l o.quiet, o.files)
+flat_apart {name = name} k l sound f (No_place ms ns es rs b shut t opening way) a =
     let last : List Made = answered (Close b.held.0) shut ∷ [] in
     let cut = along_split calls (ms ++ ns) last k l (subst (λ v. Along calls k v l) (sym (append_assoc ms ns last)) a) in
-    let o = (opening_bind k cut.0 ns (bound.Bound b) opening way sound f cut.1).0 in
+    let o = (opening_bind k cut.0 ns (Binding.Bound b) opening way sound f cut.1).0 in
     let q = subst (λ v. Quiet cut.0 v) (sym cut.2.2) (called_quiet (Close b.held.0) shut cut.0 cut.2.0 tt cut.2.1) in
-    record { others = others_quiet name k l (quiet_trans k cut.0 l o.quiet q); rest = o.rest; entries = (_, e); files = files_later cut.0 l rs (quiet_grows cut.0 l q) o.files }
-flat_apart {name = name} k l xs ys e sound f (Judged_so ms ns os es fs rs b x how t opening way given new brought) a =
+    (others_quiet name k l (quiet_trans k cut.0 l o.quiet q), files_later cut.0 l rs (quiet_grows cut.0 l q) o.files)
+flat_apart {name = name} k l sound f (Judged_so ms ns os es fs rs b x how t opening way given new brought) a =
     let cut = along_split calls (ms ++ ns) os k l (subst (λ v. Along calls k v l) (sym (append_assoc ms ns os)) a) in
     let m = cut.0 in
-    let h = opening_bind k m ns (bound.Bound b) opening way sound f cut.1 in
+    let h = opening_bind k m ns (Binding.Bound b) opening way sound f cut.1 in
     let o = h.0 in
     let says = h.1.2.1 in
     let opened_now : IsOpen m name x.held.0 = subst (λ v. IsOpen m name v.0) (sym new.held) (record { i = says.i; d = says.d; file = says.file; device = says.device; named = says.named }) in
-    let g = along_grows os m l cut.2 in
-    record {
-      others = others_trans name k m l (quiet_grows k m o.quiet) (others_quiet name k m o.quiet) (brought_apart m l brought o.sound opened_now cut.2);
-      rest = λ s y ne. tried_has (with_standing x rs) name how s (has_old rs (place_for x.name rs) x s (o.rest s y ne)) ne;
-      entries = (_, e);
-      files = tried_files l (with_standing x rs) name how (with_files l rs x (files_later m l rs g o.files) (subst (λ v. IsOpen l v x.held.0) (sym new.named) (open_later m l name x.held.0 g opened_now)));
-    }
+    let g = along_grows os m l cut.2 in (
+      others_trans name k m l (quiet_grows k m o.quiet) (others_quiet name k m o.quiet) (brought_apart m l brought o.sound opened_now cut.2),
+      tried_files l (with_standing x rs) name how (with_files l rs x (files_later m l rs g o.files) (subst (λ v. IsOpen l v x.held.0) (sym new.named) (open_later m l name x.held.0 g opened_now))),
+    )
 
 pub piece_apart : {J : Type 0} {answer : Answers J} {later : Laters J} {binds present : Bool}
     {name : List ℕ} {how : Settled} {ok : Bool} {ms : List Made} {k l : Kernel} {w v : State J}
     → IsKernel k → Files k w.standings → Piece answer later binds present name w ok ms how v
-    → Along calls k ms l → Apart name k w.standings w.entries l v.standings v.entries
-piece_apart {k = k} {l = l} {w = w} {v = v} sound f p a =
-    flat_apart k l w.entries v.entries p.entries sound f p.flat a
+    → Along calls k ms l → Apart name k w.standings l v.standings
+piece_apart {name = name} {k = k} {l = l} {w = w} {v = v} sound f p a =
+    let x = flat_apart k l sound f p.flat a in
+    record { others = x.0; rest = λ s. others_have name w.standings v.standings s (sym (flat_rest p.flat)); files = x.1 }
 
 -- Settling a name brings its live device to its verdict, or tells the name.
-
--- the name is told among what was added
-abbrev pub NamedSince : List Entry → List Entry → List ℕ → Type 0
-NamedSince es fs name = (rest : List Entry) × (fs ≡ es ++ rest) × IsNamed rest name
 
 -- the device has a standing and the value that its verdict wants, and where it is rejected it is marked as removed
 pub record StandsSo (k : Kernel) (ss : List Standing) (i : ℕ) : Type 0 where
@@ -177,14 +142,6 @@ pub record StandsSo (k : Kernel) (ss : List Standing) (i : ℕ) : Type 0 where
   pub device : slice_get k.devices i ≡ Some d
   pub value : d.on ≡ wants standing.s.verdict
   pub removed : IsRemovedIf standing.s
-
--- what is wanted of a device at the end
-abbrev pub Good : List Entry → Kernel → List Standing → List Entry → ℕ → List ℕ → Type 0
-Good es l ss fs i name = StandsSo l ss i ⊎ NamedSince es fs name
-
-pub good_before : (es fs gs : List Entry) (l : Kernel) (ss : List Standing) (i : ℕ) (name : List ℕ) → Appends es fs → Good fs l ss gs i name → Good es l ss gs i name
-good_before es fs gs l ss i name a (inl h) = inl h
-good_before es fs gs l ss i name a (inr h) = inr (a.0 ++ h.0, h.1 ∙ ap (λ v. v ++ h.0) a.1 ∙ append_assoc es a.0 h.0, (h.2.0, has_right a.0 h.0 (entry.Unsettled name h.2.0) h.2.1))
 
 -- a standing whose device has the value that its verdict wants
 pub as_judged : (l : Kernel) (ss : List Standing) (i : ℕ) (held : Held) (verdict : Target) (s : Standing) → Has ss s → s.held ≡ held → s.verdict ≡ verdict → IsFileOf l held.0 i → Value l i (wants verdict) → IsRemovedIf s → StandsSo l ss i
@@ -211,29 +168,29 @@ open_of k l i held on name g live file v =
 
 -- it stands with that value, or the name is told
 abbrev pub Ends : Kernel → Settled → ℕ → List ℕ → Bool → Type 0
-Ends l how i name on = ((how ≡ settled.Stands) × Value l i on) ⊎ IsNamed (unsettled_by name how) name
+Ends l how i name on = ((how ≡ Settled.Stands) × Value l i on) ⊎ IsNamed (unsettled_by name how) name
 
 -- where the file's device is live at the end
 valued_own : {name : List ℕ} {known : Known} {on : Bool} {ms : List Made} {es : List Entry} {how : Settled} (i : ℕ) (k l : Kernel) → Valued name known on ms es how → LiveAs l i name → IsFileOf k known.held.0 i → Value k i on → Along calls k ms l → Ends l how i name (wants known.verdict)
 valued_own {on = on} i k l (Same e) live file v a = inl (refl, subst (λ b. Value l i b) (sym e) (subst (λ x. Value x i on) (sym a) v))
 valued_own {known = known} i k l (Set t es how e (Done failed)) live file v a = inl (refl, subst (λ x. Value x i (wants known.verdict)) (sym a.2) (done_value known.held.0 i known.verdict failed k a.0 file a.1))
 valued_own {name} {known} i k l (Set t es how e (Went failed)) live file v a =
-    let g = called_grows (Put known.held.0 (write_of known.verdict)) (told_at wrote.Gone failed) k a.0 a.1 in
+    let g = called_grows (Put known.held.0 (write_of known.verdict)) (told_at Wrote.Gone failed) k a.0 a.1 in
     absurd (gone_no a.0 known.held.0 i name a.1.says (file_later k a.0 known.held.0 i g file) (subst (λ x. LiveAs x i name) a.2 live))
-valued_own i k l (Set t es how e (Broke failed)) live file v a = inr (fault.Call failed, inl refl)
+valued_own i k l (Set t es how e (Broke failed)) live file v a = inr (Fault.Call failed, inl refl)
 
 unheld_own : {name : List ℕ} {number : ℕ} {r : RemoveHold} {es : List Entry} {how : Settled} (held i : ℕ) (on : Bool) (k l : Kernel) → Unheld name number r es how → LiveAs l i name → IsFileOf k held i → Value k i on → Grows k l → RemoveSays held i k r → Ends l how i name on
 unheld_own {name} held i on k l Gone_by live file v g says = absurd (dead_no held i Authorized k l name v.0 file says g v.1 live)
-unheld_own held i on k l (Failed_by failed) live file v g says = inr (fault.Call failed, inl refl)
-unheld_own held i on k l Short_by live file v g says = inr (fault.Memory, inl refl)
+unheld_own held i on k l (Failed_by failed) live file v g says = inr (Fault.Call failed, inl refl)
+unheld_own held i on k l Short_by live file v g says = inr (Fault.Memory, inl refl)
 
-put_own : {name : List ℕ} {number : ℕ} {t : Told Wrote} {es : List Entry} {how : Settled} (i file : ℕ) (on : Bool) (shut : Closing) (k x l : Kernel) → Written name number write.Remove t es how → LiveAs l i name → IsHeldAs k file i Remove → Value k i on → Called (Put file write.Remove) t k x → Called (Close file) shut x l → Ends l how i name on
+put_own : {name : List ℕ} {number : ℕ} {t : Told Wrote} {es : List Entry} {how : Settled} (i file : ℕ) (on : Bool) (shut : Closing) (k x l : Kernel) → Written name number Write.Remove t es how → LiveAs l i name → IsHeldAs k file i Remove → Value k i on → Called (Put file Write.Remove) t k x → Called (Close file) shut x l → Ends l how i name on
 put_own i file on shut k x l (Done failed) live of v c d = inl (refl, quiet_value x l i on (called_quiet (Close file) shut x l tt d) (removal_value file i on failed k x of c v))
 put_own {name} i file on shut k x l (Went failed) live of v c d =
-    let g = called_grows (Put file write.Remove) (told_at wrote.Gone failed) k x c in
+    let g = called_grows (Put file Write.Remove) (told_at Wrote.Gone failed) k x c in
     let e = g.devices i v.0 v.1 in
     absurd (dead_no file i Remove x l name e.0 (g.held file (record { device = i; control = Remove }) of) c.says (called_grows (Close file) shut x l d) e.1 live)
-put_own i file on shut k x l (Broke failed) live of v c d = inr (fault.Call failed, inl refl)
+put_own i file on shut k x l (Broke failed) live of v c d = inr (Fault.Call failed, inl refl)
 
 -- the `remove` file is the device's
 hold_own : (name : List ℕ) (held i : ℕ) (on : Bool) (r : RemoveHold) (ms : List Made) (k m l : Kernel) → Way (holding_remove name held) ms r → IsKernel k → LiveAs l i name → IsFileOf k held i → Value k i on → Along calls k ms m → Grows m l → IsFileOf m held i × (Value m i on × RemoveSays held i m r)
@@ -248,9 +205,9 @@ removal_own {name} {known} i on k l (Not_held ms r es how way u) sound live file
     let x = hold_own name known.held.0 i on r ms k l l way sound live file v a (grows_refl l) in
     unheld_own known.held.0 i on l l u live x.0 x.1.0 (grows_refl l) x.1.1
 removal_own {name} {known} i on k l (Put_on ms file t shut es how way w) sound live own v a =
-    let cut = along_split calls ms (answered (Put file.0 write.Remove) t ∷ answered (Close file.0) shut ∷ []) k l a in
+    let cut = along_split calls ms (answered (Put file.0 Write.Remove) t ∷ answered (Close file.0) shut ∷ []) k l a in
     let m = cut.0 in
-    let x = hold_own name known.held.0 i on (hold.Ready file) ms k m l way sound live own v cut.1 (along_grows (answered (Put file.0 write.Remove) t ∷ answered (Close file.0) shut ∷ []) m l cut.2) in
+    let x = hold_own name known.held.0 i on (RemoveHold.Ready file) ms k m l way sound live own v cut.1 (along_grows (answered (Put file.0 Write.Remove) t ∷ answered (Close file.0) shut ∷ []) m l cut.2) in
     put_own i file.0 on shut m cut.2.0 l w live x.1.1 x.1.0 cut.2.1 (subst (λ y. Called (Close file.0) shut cut.2.0 y) (sym cut.2.2.2) cut.2.2.1)
 
 -- a device that is live at the end was so before
@@ -287,11 +244,11 @@ brought_own {name} {known} {on} i k l (Let_go ms es shut c) sound live file at a
 -- a name
 
 -- the probe of a known name's held file speaks of its live device
-probed_own : (name : List ℕ) (held i : ℕ) (on : Bool) (failed : FailedCall) (k m : Kernel) → IsKernel k → IsOpen k name held → LiveAs k i name → Called (Ask_alive held) (told_at (probe.Alive on) failed) k m → IsFileOf m held i × Value m i on
+probed_own : (name : List ℕ) (held i : ℕ) (on : Bool) (failed : FailedCall) (k m : Kernel) → IsKernel k → IsOpen k name held → LiveAs k i name → Called (Ask_alive held) (told_at (Probe.Alive on) failed) k m → IsFileOf m held i × Value m i on
 probed_own name held i on failed k m sound o first c =
     let x = alive_open k name held on o c.says in
     let is = live_same k x.0 i name sound x.2 first in
-    let q = called_quiet (Ask_alive held) (told_at (probe.Alive on) failed) k m tt c in
+    let q = called_quiet (Ask_alive held) (told_at (Probe.Alive on) failed) k m tt c in
     (file_later k m held i (quiet_grows k m q) (subst (λ j. IsFileOf k held j) is x.1), quiet_value k m i on q (subst (λ j. Value k j on) is x.3))
 
 -- it stands so, or the name is told; or no binding was tried, and no standing of the name is left
@@ -299,17 +256,17 @@ abbrev pub Ended : Bool → Kernel → List Standing → List Entry → ℕ → 
 Ended binds l rs rest i name = (StandsSo l rs i ⊎ IsNamed rest name) ⊎ ((binds ≡ false) × (Has (names_of rs) name → ⊥))
 
 unbound_own : {name : List ℕ} {r : Binding} {es : List Entry} {how : Settled} (k m : Kernel) (i : ℕ) → Unbound_end name r es how → BindSays name k m r → LiveAs k i name → LiveAs m i name → IsNamed es name
-unbound_own k m i (Failed_so failed) says first mid = (fault.Call failed, inl refl)
-unbound_own k m i Short_so says first mid = (fault.Memory, inl refl)
+unbound_own k m i (Failed_so failed) says first mid = (Fault.Call failed, inl refl)
+unbound_own k m i Short_so says first mid = (Fault.Memory, inl refl)
 unbound_own {name} k m i x says first mid = absurd
     (says i first.d (lived k m i name first mid) first.named)
 
 -- behind the entries of an opening
 named_later : (es fs : List Entry) (name : List ℕ) → IsNamed fs name → IsNamed (es ++ fs) name
-named_later es fs name n = (n.0, has_right es fs (entry.Unsettled name n.0) n.1)
+named_later es fs name n = (n.0, has_right es fs (Entry.Unsettled name n.0) n.1)
 
 flat_own : {binds : Bool} {given : List Standing → Bound → Standing → Type 0} {name : List ℕ} {ss : List Standing} {ok : Bool} {ms : List Made} {rest : List Entry} {how : Settled} {rs : List Standing} {o : Option (List Standing × Bound)} (i : ℕ) (k l : Kernel) → IsKernel k → Files k ss → LiveAs k i name → LiveAs l i name → Flat binds given name ss ok ms rest how rs o → Along calls k ms l → Ended binds l rs rest i name
-flat_own i k l sound f first live (Unprobed known failed at) a = inl (inr (fault.Call failed, inl refl))
+flat_own i k l sound f first live (Unprobed known failed at) a = inl (inr (Fault.Call failed, inl refl))
 flat_own {name = name} {ss = ss} i k l sound f first live (Tried known on failed ms es how at b) a =
     let s = found name ss known at in
     let x = probed_own name known.held.0 i on failed k a.0 sound (open_found name ss known k at f) first a.1 in
@@ -324,11 +281,11 @@ flat_own {name = name} i k l sound f first live (Unbound ms ns es fs rs r how t 
     let mid = lives_between k cut.0 l i name (along_grows ms k cut.0 cut.1) (along_grows ns cut.0 l cut.2) first live in
     let start = lives_between k h.1.0 l i name (along_grows ms k h.1.0 h.1.1) (quiet_grows h.1.0 l h.1.2.0) first live in
     inl (inr (named_later es fs name (unbound_own h.1.0 l i end h.1.2.1 start live)))
-flat_own {name = name} i k l sound f first live (No_place ms ns es rs b shut t opening way) a = inl (inr (named_later es (entry.Unsettled name fault.Memory ∷ []) name (fault.Memory, inl refl)))
+flat_own {name = name} i k l sound f first live (No_place ms ns es rs b shut t opening way) a = inl (inr (named_later es (Entry.Unsettled name Fault.Memory ∷ []) name (Fault.Memory, inl refl)))
 flat_own {name = name} i k l sound f first live (Judged_so ms ns os es fs rs b x how t opening way given new brought) a =
     let cut = along_split calls (ms ++ ns) os k l (subst (λ v. Along calls k v l) (sym (append_assoc ms ns os)) a) in
     let m = cut.0 in
-    let h = opening_bind k m ns (bound.Bound b) opening way sound f cut.1 in
+    let h = opening_bind k m ns (Binding.Bound b) opening way sound f cut.1 in
     let n = h.1.0 in
     let says = h.1.2.1 in
     let g = along_grows os m l cut.2 in
@@ -338,31 +295,14 @@ flat_own {name = name} i k l sound f first live (Judged_so ms ns os es fs rs b x
     let file : IsFileOf m x.held.0 i = subst (λ (v : Held). IsFileOf m v.0 i) (sym new.held) (subst (λ j. IsFileOf m b.held.0 j) is says.file) in
     inl (elim (brought_own i m l brought h.0.sound live file (subst (λ j. Value m j b.on) is (says.d, says.device, says.value)) cut.2) [
       | inl y ↦ let u = tried_new (with_standing x rs) name how x y.0 new.named (has_new rs (place_for x.name rs) x) in inl (as_judged l (tried_standings (with_standing x rs) name how) i x.held x.verdict u.0 u.1 u.2 u.3 (file_later m l x.held.0 i g file) y.1 u.4)
-      | inr y ↦ let z = named_later fs (unsettled_by name how) name y in inr (named_later es (entry.Judged x.number name x.held x.verdict x.cause ∷ (fs ++ unsettled_by name how)) name (z.0, inr z.1))
+      | inr y ↦ let z = named_later fs (unsettled_by name how) name y in inr (named_later es (Entry.Judged x.number name x.held x.verdict x.cause ∷ (fs ++ unsettled_by name how)) name (z.0, inr z.1))
     ])
-
--- the device of that name is as judged, or the name is told; or it has no standing where nothing is bound
-pub piece_own : {J : Type 0} {answer : Answers J} {later : Laters J} {binds present : Bool}
-    {name : List ℕ} {how : Settled} {ok : Bool} {ms : List Made} {k l : Kernel} {w v : State J}
-    (i : ℕ) → IsKernel k → Files k w.standings → LiveAs k i name → LiveAs l i name
-    → Piece answer later binds present name w ok ms how v → Along calls k ms l
-    → Good w.entries l v.standings v.entries i name
-    ⊎ ((binds ≡ false) × (Has (names_of v.standings) name → ⊥))
-piece_own {k = k} {l = l} i sound f first live p a =
-    elim (flat_own i k l sound f first live p.flat a) [
-      | inl h ↦ inl (elim h [ inl s ↦ inl s | inr n ↦ inr (p.rest, p.entries, n) ])
-      | inr h ↦ inr h
-    ]
 
 -- Each device that lived through a sweep is as judged, or its name is told, or it has no standing and the failed listing is told.
 
--- what is wanted of a device at the end
-abbrev pub Well : Bool → List Entry → Kernel → List Standing → List Entry → ℕ → List ℕ → Type 0
-Well binds es l ss fs i name = Good es l ss fs i name ⊎ ((binds ≡ false) × (HasStanding l ss i → ⊥))
-
-well_before : (binds : Bool) (es fs gs : List Entry) (l : Kernel) (ss : List Standing) (i : ℕ) (name : List ℕ) → Appends es fs → Well binds fs l ss gs i name → Well binds es l ss gs i name
-well_before binds es fs gs l ss i name a (inl h) = inl (good_before es fs gs l ss i name a h)
-well_before binds es fs gs l ss i name a (inr h) = inr h
+-- it stands so, or nothing is bound and it has no standing
+abbrev pub Well : Bool → Kernel → List Standing → ℕ → Type 0
+Well binds l ss i = StandsSo l ss i ⊎ ((binds ≡ false) × (HasStanding l ss i → ⊥))
 
 -- no standing of its name, no standing
 pub none_stands : (k : Kernel) (ss : List Standing) (i : ℕ) (name : List ℕ) → Files k ss → LiveAs k i name → (Has (names_of ss) name → ⊥) → HasStanding k ss i → ⊥
@@ -380,18 +320,19 @@ stood k l ss rs i f g was h =
 pub piece_well : {J : Type 0} {answer : Answers J} {later : Laters J} {binds present : Bool}
     {name : List ℕ} {how : Settled} {ok : Bool} {ms : List Made} {k l : Kernel} {w v : State J}
     (i : ℕ) → IsKernel k → Files k w.standings → LiveAs k i name → LiveAs l i name
-    → Piece answer later binds present name w ok ms how v → Along calls k ms l
-    → Well binds w.entries l v.standings v.entries i name
+    → (p : Piece answer later binds present name w ok ms how v) → Along calls k ms l
+    → Well binds l v.standings i ⊎ IsNamed p.rest name
 piece_well {name = name} {l = l} {v = v} i sound f first live p a =
-    elim (piece_own i sound f first live p a) [
-      | inl h ↦ inl h
-      | inr h ↦ inr (h.0, none_stands l v.standings i name (piece_apart sound f p a).files live h.1)
+    elim (flat_own i _ l sound f first live p.flat a) [
+      | inl (inl s) ↦ inl (inl s)
+      | inl (inr n) ↦ inr n
+      | inr h ↦ inl (inr (h.0, none_stands l v.standings i name (piece_apart sound f p a).files live h.1))
     ]
 
 -- each standing was there before
 
 flat_was : {binds : Bool} {given : List Standing → Bound → Standing → Type 0} {name : List ℕ} {ss : List Standing} {ok : Bool} {ms : List Made} {rest : List Entry} {how : Settled} {rs : List Standing} {o : Option (List Standing × Bound)} → binds ≡ false → Flat binds given name ss ok ms rest how rs o → (s : Standing) → Has rs s → Was ss s
-flat_was {name = name} {ss = ss} f (Unprobed known failed at) s a = tried_was ss name (settled.Fault failed) s a
+flat_was {name = name} {ss = ss} f (Unprobed known failed at) s a = tried_was ss name (Settled.Fault failed) s a
 flat_was {name = name} {ss = ss} f (Tried known on failed ms es how at b) s a = tried_was ss name how s a
 flat_was f (Stopped ms es rs g opening) s a = (s, opening_less opening s a, refl, refl)
 flat_was f (Unbound ms ns es fs rs r how t opening way end) s a = let none : ⊥ = cc in absurd none
@@ -400,18 +341,13 @@ flat_was f (Judged_so ms ns os es fs rs b x how t opening way given new brought)
 
 -- another name leaves it so
 
-good_apart : (other name : List ℕ) (i : ℕ) (es : List Entry) (k : Kernel) (ss : List Standing) (fs : List Entry) (l : Kernel) (rs : List Standing) (gs : List Entry) → (other ≡ name → ⊥) → Files k ss → LiveAs k i name → Grows k l → Apart other k ss fs l rs gs → Good es k ss fs i name → Good es l rs gs i name
-good_apart other name i es k ss fs l rs gs ne f live g apart (inr h) =
-    inr (h.0 ++ apart.entries.0, apart.entries.1 ∙ ap (λ v. v ++ apart.entries.0) h.1 ∙ append_assoc es h.0 apart.entries.0, (h.2.0, has_left h.0 apart.entries.0 (entry.Unsettled name h.2.0) h.2.1))
-good_apart other name i es k ss fs l rs gs ne f live g apart (inl e) =
+well_apart : (binds : Bool) (other name : List ℕ) (i : ℕ) (k : Kernel) (ss : List Standing) (l : Kernel) (rs : List Standing) → (other ≡ name → ⊥) → Files k ss → LiveAs k i name → Grows k l → Apart other k ss l rs → (binds ≡ false → HasStanding l rs i → HasStanding k ss i) → Well binds k ss i → Well binds l rs i
+well_apart binds other name i k ss l rs ne f live g apart back (inl e) =
     let s = e.standing.s in
     let named = open_named k s.name name s.held.0 i (f s e.standing.has) e.standing.file live in
     let value = apart.others i (wants s.verdict) live.d live.live.at (λ x. ne (sym x ∙ live.named)) (e.d, e.device, e.value) in
     inl (as_judged l rs i s.held s.verdict s (apart.rest s e.standing.has (λ x. ne (sym x ∙ named))) refl refl (file_later k l s.held.0 i g e.standing.file) value e.removed)
-
-well_apart : (binds : Bool) (other name : List ℕ) (i : ℕ) (es : List Entry) (k : Kernel) (ss : List Standing) (fs : List Entry) (l : Kernel) (rs : List Standing) (gs : List Entry) → (other ≡ name → ⊥) → Files k ss → LiveAs k i name → Grows k l → Apart other k ss fs l rs gs → (binds ≡ false → HasStanding l rs i → HasStanding k ss i) → Well binds es k ss fs i name → Well binds es l rs gs i name
-well_apart binds other name i es k ss fs l rs gs ne f live g apart back (inl h) = inl (good_apart other name i es k ss fs l rs gs ne f live g apart h)
-well_apart binds other name i es k ss fs l rs gs ne f live g apart back (inr h) = inr (h.0, λ a. h.1 (back h.0 a))
+well_apart binds other name i k ss l rs ne f live g apart back (inr h) = inr (h.0, λ a. h.1 (back h.0 a))
 
 -- one name of a list: it is the device's, or another's
 step : (P Q : Type 0) (n name : List ℕ) (names : List (List ℕ)) (b : Bool) → same_name n name ≡ b → (n ≡ name → Q) → ((n ≡ name → ⊥) → P → Q) → Has (n ∷ names) name ⊎ P → Has names name ⊎ Q
@@ -424,70 +360,62 @@ step P Q n name names false e own other (inr p) = inr (other (λ is. let same = 
 
 chain_well : {J : Type 0} {answer : Answers J} {later : Laters J} {binds present : Bool}
     {names : List (List ℕ)} {k l : Kernel} {w v : State J} {ok : Bool} {ms : List Made}
-    {added : List Entry} (name : List ℕ) (i : ℕ) (es : List Entry) → IsKernel k
-    → Files k w.standings → LiveAs k i name → LiveAs l i name → Appends es w.entries
-    → Has names name ⊎ Well binds es k w.standings w.entries i name
+    {added : List Entry} (name : List ℕ) (i : ℕ) → IsKernel k → Files k w.standings
+    → LiveAs k i name → LiveAs l i name → Has names name ⊎ Well binds k w.standings i
     → Chain answer later binds present names w ok ms added v → Along calls k ms l
-    → Appends es v.entries × Well binds es l v.standings v.entries i name
-chain_well name i es sound f first live a (inl c) (Over w) b = absurd c
-chain_well {binds = binds} name i es sound f first live a (inr c) (Over w) b =
-    (a, subst (λ (m : Kernel). Well binds es m w.standings w.entries i name) (sym b) c)
-chain_well {answer = answer} {later = later} {binds = binds} {present = present} {k = k} {l = l}
-    name i es sound f first live a c (First n names how w x v ok more ms ns added p rest) b =
+    → Well binds l v.standings i ⊎ IsNamed added name
+chain_well name i sound f first live (inl c) (Over w) b = absurd c
+chain_well {binds = binds} name i sound f first live (inr c) (Over w) b =
+    inl (subst (λ (m : Kernel). Well binds m w.standings i) (sym b) c)
+chain_well {binds = binds} {k = k} {l = l} {v = v} name i sound f first live c
+    (First n names how w x _ ok more ms ns added p rest) b =
     let cut = along_split calls ms ns k l b in
     let u = cut.0 in
     let g = along_grows ms k u cut.1 in
     let mid = lives_between k u l i name g (along_grows ns u l cut.2) first live in
     let apart = piece_apart sound f p cut.1 in
-    let Q = Well binds es u x.standings x.entries i name in
-    let own : n ≡ name → Q = λ e. well_before binds es w.entries x.entries u x.standings i name a
-    (piece_well i sound f first mid
-    (subst (λ (y : List ℕ). Piece answer later binds present y w ok ms how x) e p) cut.1) in
-    chain_well name i es (along_sound ms k u sound cut.1) apart.files mid live
-    (appends_trans es w.entries x.entries a apart.entries)
-    (step (Well binds es k w.standings w.entries i name) Q n name names (same_name n name) refl own
-    (λ ne h. well_apart binds n name i es k w.standings w.entries u x.standings x.entries ne f
-    first g apart (λ e. stood k u w.standings x.standings i f g (flat_was e p.flat)) h) c) rest cut.2
+    let after : List ℕ → Type 0 = λ y. Well binds u x.standings i ⊎ IsNamed p.rest y in
+    let own : n ≡ name → after name = λ e.
+    subst (λ (y : List ℕ). LiveAs k i y → LiveAs u i y → after y) e
+    (λ y z. piece_well i sound f y z p cut.1) first mid in
+    let on : Has names name ⊎ Well binds u x.standings i
+    → Well binds l v.standings i ⊎ IsNamed (p.rest ++ added) name = λ d.
+    elim (chain_well name i (along_sound ms k u sound cut.1) apart.files mid live d rest cut.2) [
+      | inl y ↦ inl y
+      | inr y ↦ inr (named_later p.rest added name y)
+    ] in
+    elim (step (Well binds k w.standings i) (after name) n name names (same_name n name) refl own
+    (λ ne h. inl (well_apart binds n name i k w.standings u x.standings ne f first g apart
+    (λ e. stood k u w.standings x.standings i f g (flat_was e p.flat)) h)) c) [
+      | inl h ↦ on (inl h)
+      | inr (inl h) ↦ on (inr h)
+      | inr (inr t) ↦ inr (t.0, has_left p.rest added (Entry.Unsettled name t.0) t.1)
+    ]
 
 -- what is said of a device at the end of a sweep
 abbrev EndsSo : Kernel → List Standing → List Entry → ℕ → List ℕ → Type 0
 EndsSo l ss rest i name = StandsSo l ss i ⊎
-    (IsNamed rest name ⊎ (((why : Fault) × Has rest (entry.UnsettledAll why)) ×
+    (IsNamed rest name ⊎ (((why : Fault) × Has rest (Entry.UnsettledAll why)) ×
     (HasStanding l ss i → ⊥)))
 
-good_ended : (es : List Entry) (l : Kernel) (ss : List Standing) (fs rest : List Entry) (i : ℕ)
-    (name : List ℕ) → fs ≡ es ++ rest → Good es l ss fs i name → EndsSo l ss rest i name
-good_ended es l ss fs rest i name e (inl h) = inl h
-good_ended es l ss fs rest i name e (inr h) = inr (inl (subst (λ v. IsNamed v name) (cancel es h.0 rest (sym h.1 ∙ e)) h.2))
-
-well_ended : (binds : Bool) (es : List Entry) (why : Fault) (l : Kernel) (ss : List Standing)
-    (fs rest : List Entry) (i : ℕ) (name : List ℕ) → fs ≡ es ++ rest
-    → Appends (es ++ entry.UnsettledAll why ∷ []) fs
-    → Well binds (es ++ entry.UnsettledAll why ∷ []) l ss fs i name → EndsSo l ss rest i name
-well_ended binds es why l ss fs rest i name e a (inl h) = good_ended es l ss fs rest i name e (good_before es (es ++ entry.UnsettledAll why ∷ []) fs l ss i name (entry.UnsettledAll why ∷ [], refl) h)
-well_ended binds es why l ss fs rest i name e a (inr h) =
-    let all = entry.UnsettledAll why in
-    let same : all ∷ a.0 ≡ rest = cancel es (all ∷ a.0) rest (sym (append_assoc es (all ∷ []) a.0) ∙ sym a.1 ∙ e) in
-    inr (inr ((why, subst (λ v. Has v all) same (inl refl)), h.1))
-
-begins : (name : List ℕ) (i : ℕ) (es : List Entry) (k : Kernel) (ss : List Standing) (known : Option Known) → standing_of name ss ≡ known → Files k ss → LiveAs k i name → Has (names_of ss) name ⊎ Well false es k ss es i name
-begins name i es k ss None e f live = inr (inr (refl, none_stands k ss i name f live (missing name ss e)))
-begins name i es k ss (Some known) e f live = inl (known_has name ss known e)
+begins : (name : List ℕ) (i : ℕ) (k : Kernel) (ss : List Standing) (known : Option Known) → standing_of name ss ≡ known → Files k ss → LiveAs k i name → Has (names_of ss) name ⊎ Well false k ss i
+begins name i k ss None e f live = inr (inr (refl, none_stands k ss i name f live (missing name ss e)))
+begins name i k ss (Some known) e f live = inl (known_has name ss known e)
 
 -- the whole sweep
 
 goes_ended : {J : Type 0} {answer : Answers J} {later : Laters J} {k l : Kernel} {w v : State J}
-    {ok : Bool} {ms : List Made} {es : List Entry} (rest : List Entry) (i : ℕ) (name : List ℕ)
-    → Files k w.standings → v.entries ≡ w.entries ++ rest → LiveAs k i name → LiveAs l i name
-    → Goes answer later w ok ms es v → Along calls k ms l → EndsSo l v.standings rest i name
-goes_ended {k = k} {l = l} {w = w} {v = v} rest i name f e first live
+    {ok : Bool} {ms : List Made} {es : List Entry} (i : ℕ) (name : List ℕ) → Files k w.standings
+    → LiveAs k i name → LiveAs l i name → Goes answer later w ok ms es v → Along calls k ms l
+    → EndsSo l v.standings es i name
+goes_ended {k = k} {l = l} {w = w} i name f first live
     (Listed found failed ok shut made es _ closings chain) b =
     let names = in_sweep_order found in
     let m = b.0 in
     let cut = along_split calls shut made m l b.2 in
     let u = cut.0 in
     let q = closings_quiet (unlisted_files names w.standings) shut m u b.1.sound closings cut.1 in
-    let h = called_grows Names (told_at (listing.Names found) failed) k m b.1 in
+    let h = called_grows Names (told_at (Listing.Names found) failed) k m b.1 in
     let j = quiet_grows m u q.1 in
     let late = lives_between k u l i name (grows_trans k m u h j) (along_grows made u l cut.2) first
     live in
@@ -495,21 +423,25 @@ goes_ended {k = k} {l = l} {w = w} {v = v} rest i name f e first live
     (subst (λ (n : List ℕ). Has found n) first.named
     (b.1.says.0 i first.d (lived k m i name first (lives_between k m u i name h j first late)))) in
     let files = files_later k u w.standings (grows_trans k m u h j) f in
-    let well = chain_well name i w.entries q.0
+    elim (chain_well name i q.0
     (λ s a. files s (filter_has (λ (v : Standing). lists names v.name) w.standings s a).0) late live
-    (farewells names w.standings, refl) (inl has) chain cut.2 in
-    good_ended w.entries l v.standings v.entries rest i name e
-    (elim well.1 [ inl g ↦ g | inr g ↦ absurd (true≢false g.0) ])
-goes_ended {k = k} {l = l} {w = w} {v = v} rest i name f e first live
+    (inl has) chain cut.2) [
+      | inl (inl so) ↦ inl so
+      | inl (inr g) ↦ absurd (true≢false g.0)
+      | inr n ↦ inr (inl (named_later (farewells names w.standings) es name n))
+    ]
+goes_ended {k = k} {l = l} {w = w} i name f first live
     (Unlisted list failed room why ok made added _ by chain) b =
     let m = b.0 in
     let h = called_grows Names (told_at list failed) k m b.1 in
     let files = files_later k m w.standings h f in
     let mid = lives_between k m l i name h (along_grows made m l b.2) first live in
-    let es = w.entries ++ entry.UnsettledAll why ∷ [] in
-    let at = chain_well name i es b.1.sound files mid live (appends_refl es)
-    (begins name i es m w.standings (standing_of name w.standings) refl files mid) chain b.2 in
-    well_ended false w.entries why l v.standings v.entries rest i name e at.0 at.1
+    elim (chain_well name i b.1.sound files mid live
+    (begins name i m w.standings (standing_of name w.standings) refl files mid) chain b.2) [
+      | inl (inl so) ↦ inl so
+      | inl (inr g) ↦ inr (inr ((why, inl refl), g.1))
+      | inr n ↦ inr (inl (n.0, inr n.1))
+    ]
 
 pub lives_first : (k l : Kernel) (i : ℕ) (d : Device) → Lived k.devices l.devices i d → LiveAs k i d.name
 lives_first k l i d lives = record { d = d; live = lives.entry; named = refl }
@@ -539,7 +471,9 @@ sweeping_settled answer later w k l v rest stand end r e i d lives =
     let x = sweeping_run calls answer later k w l v r in
     let last = lives_last k l i d (along_grows x.made k l x.along) lives in
     let files = stand_files k w.standings w.next stand in
-    elim (goes_ended rest i d.name files e (lives_first k l i d lives) last x.so.1 x.along) [
+    let same = cancel w.entries x.so.0 rest (sym (goes_entries x.so.1) ∙ e) in
+    elim (subst (λ es. EndsSo l v.standings es i d.name) same
+    (goes_ended i d.name files (lives_first k l i d lives) last x.so.1 x.along)) [
       | inl h ↦ inl (judged_at l v.standings v.next i end h)
       | inr h ↦ inr h
     ]

@@ -1,13 +1,13 @@
 -- One name more.
-use Rattle.std.proofs.Common.{◌≡◌, ℕ, ◌+◌, ◌*◌, ◌<◌, Bool, List, ◌∷◌, length, get_or, drop, sym, ap, ◌∙◌, subst, arith}
-use Rattle.std.proofs.lemmas.List.{drop_more}
-use Rattle.ug_table.proofs.Common.{Entry, Standing, Call, Answer, Runs, State, Kept, Answers, Laters, Settled}
+use Rattle.std.proofs.Common.{◌≡◌, ℕ, ◌+◌, ◌<◌, ◌≤◌, Bool, List, ◌∷◌, ◌++◌, length, get_or, set, map, take, drop, sym, ap, ◌∙◌, subst, arith}
+use Rattle.std.proofs.lemmas.List.Edits.{map_over_more}
+use Rattle.std.proofs.lemmas.Grind.{common_steps}
+use Rattle.std.proofs.lemmas.List.{drop_more, get_or_default}
+use Rattle.ug_table.proofs.Common.{Entry, Standing, Call, Answer, Runs, State, Kept, Answers, Laters, Settled, settling_all, resettling_all, settling, resettling}
 use Rattle.ug_kernel.proofs.Runs.{runs_then}
 use Rattle.ug_audit.specs.declared.journal.Journal.{Journal}
 use Rattle.ug_audit.specs.Journal.{Notes, Told}
 use Rattle.ug_audit.proofs.Noting.{goes_on}
-use Rattle.ug_table.specs.Settle.{settling, resettling}
-use Rattle.ug_table.specs.Sweep.{settling_all, resettling_all}
 
 next_of : {X : Type 0} (xs : List X) (i : ℕ) (x : X) → i < length xs → x ≡ get_or xs i x → drop i xs ≡ x ∷ drop (i + 1) xs
 next_of {X} xs i x lt e = drop_more xs i x lt ∙ ap (λ (y : X). y ∷ drop (i + 1) xs) (sym e)
@@ -22,9 +22,16 @@ resettling_more {S} gives names i name w s u p lt e h r t k =
     subst (λ (xs : List (List ℕ)). Runs gives s (resettling_all xs w) r t) (sym (next_of names i name lt e))
     (runs_then gives s (resettling name w) (λ (q : Settled × Kept). resettling_all (drop (i + 1) names) q.1) p u r t h k)
 
--- what each name notes
-pub notes_more : {X : Type 0} {F : X → Type 0} (told : Told X F) (each i : ℕ) (a b c : Journal X F) → Notes told (each * i) a b → Notes told each b c → Notes told (each * (i + 1)) a c
-notes_more told each i a b c h k = (goes_on told a b c h.0 k.0, k.1 ∙ h.1, let first = h.2 in let next = k.2 in grind (arith, first, next))
+-- what is noted in two parts
+pub notes_then : {X : Type 0} {F : X → Type 0} (told : Told X F) (m n most : ℕ) (a b c : Journal X F) → Notes told m a b → Notes told n b c → m + n ≤ most → Notes told most a c
+notes_then told m n most a b c h k le = (goes_on told a b c h.0 k.0, k.1 ∙ h.1, omega (arith, h.2, k.2, le))
+
+-- one standing more is changed
+pub changed_more : (f : Standing → Standing) (xs ys : List Standing) (i : ℕ) (d y : Standing) → y ≡ f (get_or ys i d) → i < length xs → length ys ≡ length xs → ys ≡ map f (take i xs) ++ drop i xs → set ys i y ≡ map f (take (i + 1) xs) ++ drop (i + 1) xs
+changed_more f xs ys i d y is lt same h =
+    let within : i < length ys = omega arith in
+    let read : get_or ys i d ≡ get_or ys i (get_or ys i d) = grind (arith, common_steps, get_or_default) in
+    ap (set ys i) is ∙ map_over_more f xs ys i (get_or ys i d) lt h read
 
 -- a state whose fields are those of another
 pub same_state : {J : Type 0} (ss rs : List Standing) (next after : ℕ) (listed seen : Bool) (judge : J) (es : List Entry) → rs ≡ ss → after ≡ next → seen ≡ listed → let made : State J = record { standings = rs; next = after; listed = seen; judge = judge; entries = es } in let was : State J = record { standings = ss; next = next; listed = listed; judge = judge; entries = es } in made ≡ was

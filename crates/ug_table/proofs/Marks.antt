@@ -1,27 +1,19 @@
 -- Marks and the order of standings.
-use Rattle.std.proofs.Common.{◌≡◌, ℕ, Bool, true, false, not, cond, List, [], ◌∷◌, ◌++◌, map, Option, inl, inr, refl, sym, ◌∙◌, ap, subst, Some, append_assoc, ◌⊎◌, append-nil, ◌+◌, add-one, true≢false, ◌<◌, ◌≤◌, None, length, min, take, get_or, arith}
-use Rattle.ug_table.proofs.Common.{Has, AllDistinct, Bound, Binding, Entry, State, Answers, Laters, same_name, without, marked, place_for, with_standing, known_of, standing_of, lists, farewells, IsNamed, IsMarked, IsUnlisted, IsListed, swept_before, AreInOrder, Tries, IsMarkedIn, AreMarkedIn, numbers_of, Standing, Known, Settled, Made, Along, Fault, EndsUnsettled, sweep_cmp, in_place, in_sweep_order, sweep_total, sweep_exact, Kernel, Runs, calls}
-use Rattle.ug_audit.specs.declared.entry.Entry.TheVariants as entry
-use Rattle.ug_audit.specs.declared.entry.Fault.TheVariants as fault
-use Rattle.ug_table.specs.Settle.{unsettled_by, kept_standings, tried_standings, dropped}
-use Rattle.ug_table.specs.Sweep.{names_of, parted, sweeping}
-use Rattle.ug_table.specs.declared.standing.Settled.TheVariants as settled
-use Rattle.ug_types.proofs.Elements.{has_left, has_right, has_cases, filter_has, map_has, has_map, cancel, last_is, distinct_filter, distinct_insert}
-use Rattle.ug_table.proofs.Shapes.{Piece, Unbound_end, Absent_so, Flat, Unprobed, Tried, Stopped, Unbound, No_place, Judged_so, opening_absent, opening_less, new_known}
-use Rattle.ug_table.proofs.Standings.{kept_tried, each_with, farewells_by, is_same, missing, missing_without, found, marked_other, tried_own, lists_has, either_listed, same_is, fields_stay}
-use Rattle.ug_table.specs.One.{whys, why_of}
+use Rattle.std.proofs.Common.{◌≡◌, ℕ, Bool, true, false, not, cond, List, [], ◌∷◌, ◌++◌, map, Option, inl, inr, refl, sym, ◌∙◌, ap, subst, Some, append_assoc, ◌⊎◌, ◌+◌, add-one, true≢false, ◌<◌, ◌≤◌, None, length, min, take, get_or, arith}
+use Rattle.ug_table.proofs.Common.{Has, AllDistinct, Bound, Binding, Entry, State, Answers, Laters, same_name, without, marked, place_for, with_standing, known_of, standing_of, lists, farewells, IsNamed, IsMarked, IsUnlisted, IsListed, swept_before, AreInOrder, Tries, IsMarkedIn, AreMarkedIn, numbers_of, Standing, Known, Settled, Made, Along, Fault, EndsUnsettled, sweep_cmp, in_place, in_sweep_order, sweep_total, sweep_exact, Kernel, Runs, calls, names_of, parted, sweeping, unsettled_by, kept_standings, tried_standings, dropped, has_left, has_right, has_cases, filter_has, map_has, has_map, cancel, last_is, distinct_filter, distinct_insert, filter, insert, whys, why_of, StandInOrder, KeepsOrder, IsNextNumbered, is_nearer}
+use Rattle.ug_table.proofs.Shapes.{Unbound_end, Absent_so, Flat, Unprobed, Tried, Stopped, Unbound, No_place, Judged_so, opening_absent, flat_rest, new_known}
+use Rattle.ug_table.proofs.Standings.{kept_tried, each_with, farewells_by, is_same, missing, missing_without, found, others_have, tried_own, lists_has, either_listed, same_is, fields_stay}
 use Rattle.ug_table.proofs.OnePart.{flat_is_part, flat_whys, told_in}
 use Rattle.ug_table.proofs.Says.{Each, NamesOnly, each_has, each_append, each_map, NamesNone, none_named}
-use Rattle.std.specs.List.{filter, insert}
 use Rattle.std.specs.Ordering.{is_gt, is_lt, ordering_reverse}
-use Rattle.ug_table.proofs.Chains.{Chain, Over, First, Goes, Listed, Unlisted, sweeping_run}
+use Rattle.ug_table.proofs.Chains.{Chain, Over, First, Goes, Listed, Unlisted, goes_entries, sweeping_run}
 use Rattle.std.specs.declared.cmp.Ordering.{Ordering}
 use Rattle.std.specs.declared.cmp.Ordering.TheVariants.{Less, Equal, Greater}
 use Rattle.std.proofs.lemmas.Bool.{cond_both}
 use Rattle.std.proofs.lemmas.Cmp.{tied_itself}
+use Rattle.std.proofs.lemmas.List.Sorted.{ranks_by}
 use Rattle.std.proofs.Math.Nat.{min-le_right}
 use Rattle.std.proofs.lemmas.List.{take_more}
-use Rattle.ug_table.specs.Order.{StandInOrder, KeepsOrder, IsNextNumbered, is_nearer}
 
 -- What settling a name tells as unsettled, and how it leaves the marks, whatever the kernel answers.
 
@@ -32,63 +24,45 @@ unnamed es name e a = subst (λ (v : List Fault). Has v a.0) e (told_in name a.0
 -- an entry that tells it unsettled is the last, and names it
 pub ends_only : (name : List ℕ) (es : List Entry) → EndsUnsettled name es → Each (NamesOnly name) es
 ends_only name [] h = tt
-ends_only name (entry.Unsettled n why ∷ es) h = (h.0.0, ends_only name es h.1)
-ends_only name (entry.UnsettledAll why ∷ es) h = absurd h.0
+ends_only name (Entry.Unsettled n why ∷ es) h = (h.0.0, ends_only name es h.1)
+ends_only name (Entry.UnsettledAll why ∷ es) h = absurd h.0
 ends_only name (e ∷ es) h = (tt, ends_only name es h.1)
 
 why_named : (name : List ℕ) (es : List Entry) (why : Fault) → EndsUnsettled name es → whys es ≡ why ∷ [] → IsNamed es name
 why_named name [] why h e = let none : ⊥ = cc in absurd none
-why_named name (entry.Unsettled n x ∷ es) why h e = (x, inl (ap (λ (v : List ℕ). entry.Unsettled v x) h.0.0))
-why_named name (entry.UnsettledAll x ∷ es) why h e = absurd h.0
+why_named name (Entry.Unsettled n x ∷ es) why h e = (x, inl (ap (λ (v : List ℕ). Entry.Unsettled v x) h.0.0))
+why_named name (Entry.UnsettledAll x ∷ es) why h e = absurd h.0
 why_named name (x ∷ es) why h e = let k = why_named name es why h.1 e in (k.0, inr k.1)
 
 -- what the entries say of a name, by how it was settled
 abbrev Tells : Settled → List ℕ → List Entry → Type 0
-Tells settled.Stands name rest = IsNamed rest name → ⊥
-Tells settled.Nobody name rest = Unit {0}
+Tells Settled.Stands name rest = IsNamed rest name → ⊥
+Tells Settled.Nobody name rest = Unit {0}
 Tells how name rest = IsNamed rest name
 
 tells_how : (how : Settled) (name : List ℕ) (es : List Entry) → EndsUnsettled name es → whys es ≡ why_of how → Tells how name es
-tells_how settled.Stands name es h e = unnamed es name e
-tells_how settled.Nobody name es h e = tt
-tells_how (settled.Fault failed) name es h e = why_named name es (fault.Call failed) h e
-tells_how settled.Memory name es h e = why_named name es fault.Memory h e
+tells_how Settled.Stands name es h e = unnamed es name e
+tells_how Settled.Nobody name es h e = tt
+tells_how (Settled.Fault failed) name es h e = why_named name es (Fault.Call failed) h e
+tells_how Settled.Memory name es h e = why_named name es Fault.Memory h e
 
 -- the standings
 
 -- other names' standings are as they were; its own is marked by what is told
-pub record Part (name : List ℕ) (ss : List Standing) (es : List Entry) (rs : List Standing) (fs : List Entry) : Type 0 where
-  pub rest : List Entry
-  pub entries : fs ≡ es ++ rest
+pub record Part (name : List ℕ) (ss : List Standing) (rest : List Entry) (rs : List Standing) : Type 0 where
   pub only : Each (NamesOnly name) rest
   pub others : (s : Standing) → Has rs s → (s.name ≡ name → ⊥) → Has ss s
   pub mark : (s : Standing) → Has rs s → s.name ≡ name → IsMarked rest s
 
 pub marked_left : (es fs : List Entry) (s : Standing) → (IsNamed es s.name → ⊥) → IsMarked fs s → IsMarked (es ++ fs) s
-marked_left es fs s none (inl h) = inl (h.0, λ a. elim (has_cases es fs (entry.Unsettled s.name a.0) a.1) [ inl b ↦ none (a.0, b) | inr b ↦ h.1 (a.0, b) ])
-marked_left es fs s none (inr h) = inr (h.0, (h.1.0, has_right es fs (entry.Unsettled s.name h.1.0) h.1.1))
+marked_left es fs s none (inl h) = inl (h.0, λ a. elim (has_cases es fs (Entry.Unsettled s.name a.0) a.1) [ inl b ↦ none (a.0, b) | inr b ↦ h.1 (a.0, b) ])
+marked_left es fs s none (inr h) = inr (h.0, (h.1.0, has_right es fs (Entry.Unsettled s.name h.1.0) h.1.1))
 
 pub marked_right : (es fs : List Entry) (s : Standing) → (IsNamed fs s.name → ⊥) → IsMarked es s → IsMarked (es ++ fs) s
-marked_right es fs s none (inl h) = inl (h.0, λ a. elim (has_cases es fs (entry.Unsettled s.name a.0) a.1) [ inl b ↦ h.1 (a.0, b) | inr b ↦ none (a.0, b) ])
-marked_right es fs s none (inr h) = inr (h.0, (h.1.0, has_left es fs (entry.Unsettled s.name h.1.0) h.1.1))
-
--- a new standing
-
-new_others : (ss : List Standing) (x s : Standing) → Has (with_standing x ss) s → (s.name ≡ x.name → ⊥) → Has ss s
-new_others ss x s a ne = each_with (λ (t : Standing). (t.name ≡ x.name → ⊥) → Has ss t) x ss (λ f. absurd (f refl)) (λ t b f. b) s a ne
+marked_right es fs s none (inl h) = inl (h.0, λ a. elim (has_cases es fs (Entry.Unsettled s.name a.0) a.1) [ inl b ↦ h.1 (a.0, b) | inr b ↦ none (a.0, b) ])
+marked_right es fs s none (inr h) = inr (h.0, (h.1.0, has_left es fs (Entry.Unsettled s.name h.1.0) h.1.1))
 
 -- a standing that is tried again
-
-marked_others : (ss : List Standing) (name : List ℕ) (b : Bool) (s : Standing) → Has (map (marked name b) ss) s → (s.name ≡ name → ⊥) → Has ss s
-marked_others ss name b s a ne =
-    let m = map_has (marked name b) ss s a in
-    let same : m.0 ≡ s = sym (marked_other name b m.0 (λ e. ne (sym (ap (λ (v : Standing). v.name) m.2) ∙ e))) ∙ m.2 in
-    subst (λ (v : Standing). Has ss v) same m.1
-
-tried_others : (ss : List Standing) (name : List ℕ) (how : Settled) (s : Standing) → Has (tried_standings ss name how) s → (s.name ≡ name → ⊥) → Has ss s
-tried_others ss name settled.Nobody s a ne = (filter_has (λ (v : Standing). not (same_name v.name name)) ss s a).0
-tried_others ss name settled.Stands s a ne = marked_others ss name true s a ne
-tried_others ss name how s a ne = marked_others ss name false s a ne
 
 marked_mark : (ss : List Standing) (name : List ℕ) (b : Bool) (s : Standing) → Has (map (marked name b) ss) s → s.name ≡ name → s.settled ≡ b
 marked_mark ss name b s a e =
@@ -97,44 +71,26 @@ marked_mark ss name b s a e =
     sym (ap (λ (v : Standing). v.settled) m.2) ∙ ap (λ (t : Bool). cond t b m.0.settled) test
 
 tried_mark : (ss : List Standing) (name : List ℕ) (how : Settled) (rest : List Entry) (s : Standing) → Tells how name rest → Has (tried_standings ss name how) s → s.name ≡ name → IsMarked rest s
-tried_mark ss name settled.Nobody rest s t a e = absurd (missing_without name ss (subst (λ (v : List ℕ). Has (names_of (without name ss)) v) e (has_map (λ (v : Standing). v.name) (without name ss) s a)))
-tried_mark ss name settled.Stands rest s t a e = inl (marked_mark ss name true s a e, subst (λ (v : List ℕ). IsNamed rest v → ⊥) (sym e) t)
+tried_mark ss name Settled.Nobody rest s t a e = absurd (missing_without name ss (subst (λ (v : List ℕ). Has (names_of (without name ss)) v) e (has_map (λ (v : Standing). v.name) (without name ss) s a)))
+tried_mark ss name Settled.Stands rest s t a e = inl (marked_mark ss name true s a e, subst (λ (v : List ℕ). IsNamed rest v → ⊥) (sym e) t)
 tried_mark ss name how rest s t a e = inr (marked_mark ss name false s a e, subst (λ (v : List ℕ). IsNamed rest v) (sym e) t)
 
 -- a standing of the name
 own_name : (ss : List Standing) (name : List ℕ) (s : Standing) → Has ss s → s.name ≡ name → Has (names_of ss) name
 own_name ss name s a e = subst (λ (v : List ℕ). Has (names_of ss) v) e (has_map (λ (v : Standing). v.name) ss s a)
 
-flat_others : {binds : Bool} {given : List Standing → Bound → Standing → Type 0} {name : List ℕ} {ss : List Standing} {ok : Bool} {ms : List Made} {rest : List Entry} {how : Settled} {rs : List Standing} {o : Option (List Standing × Bound)} → Flat binds given name ss ok ms rest how rs o → (s : Standing) → Has rs s → (s.name ≡ name → ⊥) → Has ss s
-flat_others {name = name} {ss = ss} (Unprobed known failed at) s a ne = tried_others ss name (settled.Fault failed) s a ne
-flat_others {name = name} {ss = ss} (Tried known on failed ms es how at b) s a ne = tried_others ss name how s a ne
-flat_others (Stopped ms es rs f opening) s a ne = opening_less opening s a
-flat_others (Unbound ms ns es fs rs r how t opening way end) s a ne = opening_less opening s a
-flat_others (No_place ms ns es rs b shut t opening way) s a ne = opening_less opening s a
-flat_others {name = name} (Judged_so ms ns os es fs rs b x how t opening way given new brought) s a ne =
-    opening_less opening s (new_others rs x s (tried_others (with_standing x rs) name how s a ne) (λ f. ne (f ∙ new.named)))
-
 flat_mark : {binds : Bool} {given : List Standing → Bound → Standing → Type 0} {name : List ℕ} {ss : List Standing} {ok : Bool} {ms : List Made} {rest : List Entry} {how : Settled} {rs : List Standing} {o : Option (List Standing × Bound)} → Tells how name rest → Flat binds given name ss ok ms rest how rs o → (s : Standing) → Has rs s → s.name ≡ name → IsMarked rest s
-flat_mark {name = name} {ss = ss} t (Unprobed known failed at) s a is = tried_mark ss name (settled.Fault failed) (entry.Unsettled name (fault.Call failed) ∷ []) s t a is
+flat_mark {name = name} {ss = ss} t (Unprobed known failed at) s a is = tried_mark ss name (Settled.Fault failed) (Entry.Unsettled name (Fault.Call failed) ∷ []) s t a is
 flat_mark {name = name} {ss = ss} t (Tried known on failed ms es how at b) s a is = tried_mark ss name how (es ++ unsettled_by name how) s t a is
 flat_mark {name = name} t (Stopped ms es rs f opening) s a is = absurd (opening_absent opening (own_name rs name s a is))
 flat_mark {name = name} t (Unbound ms ns es fs rs r how f opening way end) s a is = absurd (opening_absent opening (own_name rs name s a is))
 flat_mark {name = name} t (No_place ms ns es rs b shut f opening way) s a is = absurd (opening_absent opening (own_name rs name s a is))
 flat_mark {name = name} {rest = rest} t (Judged_so ms ns os es fs rs b x how f opening way given new brought) s a is = tried_mark (with_standing x rs) name how rest s t a is
 
-flat_part : {binds : Bool} {given : List Standing → Bound → Standing → Type 0} {name : List ℕ} {ss : List Standing} {ok : Bool} {ms : List Made} {rest : List Entry} {how : Settled} {rs : List Standing} {o : Option (List Standing × Bound)} (es fs : List Entry) → fs ≡ es ++ rest → Flat binds given name ss ok ms rest how rs o → Part name ss es rs fs
-flat_part {name = name} {rest = rest} {how = how} xs ys e f =
+pub flat_part : {binds : Bool} {given : List Standing → Bound → Standing → Type 0} {name : List ℕ} {ss : List Standing} {ok : Bool} {ms : List Made} {rest : List Entry} {how : Settled} {rs : List Standing} {o : Option (List Standing × Bound)} → Flat binds given name ss ok ms rest how rs o → Part name ss rest rs
+flat_part {name = name} {ss = ss} {rest = rest} {how = how} {rs = rs} f =
     let last = (flat_is_part f).last in
-    record { rest = rest; entries = e; only = ends_only name rest last; others = flat_others f; mark = flat_mark (tells_how how name rest last (flat_whys f)) f }
-
--- of states, which keep whether a listing has succeeded
-abbrev pub PartOf : {J : Type 0} → List ℕ → State J → State J → Type 0
-PartOf name w v = Part name w.standings w.entries v.standings v.entries × (v.listed ≡ w.listed)
-
-pub piece_part : {J : Type 0} {answer : Answers J} {later : Laters J} {binds present : Bool}
-    {name : List ℕ} {how : Settled} {ok : Bool} {ms : List Made} {w v : State J}
-    → Piece answer later binds present name w ok ms how v → PartOf name w v
-piece_part {w = w} {v = v} p = (flat_part w.entries v.entries p.entries p.flat, p.listed)
+    record { only = ends_only name rest last; others = λ s. others_have name rs ss s (flat_rest f); mark = flat_mark (tells_how how name rest last (flat_whys f)) f }
 
 -- the answer says whether the name has a standing
 
@@ -143,27 +99,27 @@ pub known_has : (name : List ℕ) (ss : List Standing) (known : Known)
 known_has name ss known e =
     let s = found name ss known e in own_name ss name s.s s.has s.named
 
-tried_stands : (name : List ℕ) (ss : List Standing) (known : Known) (how : Settled) → standing_of name ss ≡ Some known → how ≡ settled.Stands → Has (names_of (tried_standings ss name how)) name
+tried_stands : (name : List ℕ) (ss : List Standing) (known : Known) (how : Settled) → standing_of name ss ≡ Some known → how ≡ Settled.Stands → Has (names_of (tried_standings ss name how)) name
 tried_stands name ss known how at e =
     let k = tried_own name ss how known at (λ n. let none : ⊥ = cc in none) in
     known_has name (tried_standings ss name how) k.0 k.1
 
-pub tried_nobody : (ss : List Standing) (name : List ℕ) (how : Settled) → how ≡ settled.Nobody → Has (names_of (tried_standings ss name how)) name → ⊥
-tried_nobody ss name settled.Nobody e = missing_without name ss
+pub tried_nobody : (ss : List Standing) (name : List ℕ) (how : Settled) → how ≡ Settled.Nobody → Has (names_of (tried_standings ss name how)) name → ⊥
+tried_nobody ss name Settled.Nobody e = missing_without name ss
 tried_nobody ss name how e = let none : ⊥ = cc in absurd none
 
 unbound_stands : {name : List ℕ} {r : Binding} {es : List Entry} {how : Settled}
-    → Unbound_end name r es how → how ≡ settled.Stands → ⊥
+    → Unbound_end name r es how → how ≡ Settled.Stands → ⊥
 unbound_stands Absent_so e = let none : ⊥ = cc in none
 unbound_stands x e = let none : ⊥ = cc in none
 
-pub flat_stands : {binds : Bool} {given : List Standing → Bound → Standing → Type 0} {name : List ℕ} {ss : List Standing} {ok : Bool} {ms : List Made} {rest : List Entry} {how : Settled} {rs : List Standing} {o : Option (List Standing × Bound)} → Flat binds given name ss ok ms rest how rs o → how ≡ settled.Stands → Has (names_of rs) name
+pub flat_stands : {binds : Bool} {given : List Standing → Bound → Standing → Type 0} {name : List ℕ} {ss : List Standing} {ok : Bool} {ms : List Made} {rest : List Entry} {how : Settled} {rs : List Standing} {o : Option (List Standing × Bound)} → Flat binds given name ss ok ms rest how rs o → how ≡ Settled.Stands → Has (names_of rs) name
 flat_stands {name = name} {ss = ss} (Tried known on failed ms es how at b) e = tried_stands name ss known how at e
 flat_stands (Unbound ms ns es fs rs r how t opening way end) e = absurd (unbound_stands end e)
 flat_stands {name = name} (Judged_so ms ns os es fs rs b x how t opening way given new brought) e = tried_stands name (with_standing x rs) (known_of x) how (new_known opening new) e
 flat_stands x e = let none : ⊥ = cc in absurd none
 
-pub flat_nobody : {binds : Bool} {given : List Standing → Bound → Standing → Type 0} {name : List ℕ} {ss : List Standing} {ok : Bool} {ms : List Made} {rest : List Entry} {how : Settled} {rs : List Standing} {o : Option (List Standing × Bound)} → Flat binds given name ss ok ms rest how rs o → how ≡ settled.Nobody → Has (names_of rs) name → ⊥
+pub flat_nobody : {binds : Bool} {given : List Standing → Bound → Standing → Type 0} {name : List ℕ} {ss : List Standing} {ok : Bool} {ms : List Made} {rest : List Entry} {how : Settled} {rs : List Standing} {o : Option (List Standing × Bound)} → Flat binds given name ss ok ms rest how rs o → how ≡ Settled.Nobody → Has (names_of rs) name → ⊥
 flat_nobody (Unprobed known failed at) e = let none : ⊥ = cc in absurd none
 flat_nobody {name = name} {ss = ss} (Tried known on failed ms es how at b) e = tried_nobody ss name how e
 flat_nobody (Stopped ms es rs f opening) e = opening_absent opening
@@ -175,45 +131,38 @@ flat_nobody {name = name} (Judged_so ms ns os es fs rs b x how t opening way giv
 
 -- it names none but these as unsettled, and no listing
 abbrev NamesIn : List (List ℕ) → Entry → Type 0
-NamesIn names (entry.Unsettled n why) = Has names n
-NamesIn names (entry.UnsettledAll why) = ⊥
+NamesIn names (Entry.Unsettled n why) = Has names n
+NamesIn names (Entry.UnsettledAll why) = ⊥
 NamesIn names e = Unit {0}
 
 -- what settling these names tells, and how it leaves the marks
-pub record Parts (names : List (List ℕ)) (ss : List Standing) (es : List Entry) (rs : List Standing) (fs : List Entry) : Type 0 where
-  pub rest : List Entry
-  pub entries : fs ≡ es ++ rest
+pub record Parts (names : List (List ℕ)) (ss : List Standing) (rest : List Entry) (rs : List Standing) : Type 0 where
   pub only : Each (NamesIn names) rest
   pub others : (s : Standing) → Has rs s → (Has names s.name → ⊥) → Has ss s
   pub mark : (s : Standing) → Has rs s → Has names s.name → IsMarked rest s
 
 pub named_only : (n name : List ℕ) (es : List Entry) → Each (NamesOnly n) es → IsNamed es name → name ≡ n
-named_only n name es h a = each_has (NamesOnly n) es (entry.Unsettled name a.0) h a.1
+named_only n name es h a = each_has (NamesOnly n) es (Entry.Unsettled name a.0) h a.1
 
 only_first : (n : List ℕ) (names : List (List ℕ)) (e : Entry) → NamesOnly n e → NamesIn (n ∷ names) e
-only_first n names (entry.Unsettled m why) h = inl (sym h)
+only_first n names (Entry.Unsettled m why) h = inl (sym h)
 only_first n names x h = h
 
 only_later : (n : List ℕ) (names : List (List ℕ)) (e : Entry) → NamesIn names e → NamesIn (n ∷ names) e
-only_later n names (entry.Unsettled m why) h = inr h
+only_later n names (Entry.Unsettled m why) h = inr h
 only_later n names e h = h
 
-none_parts : (ss : List Standing) (es : List Entry) → Parts [] ss es ss es
-none_parts ss es = record { rest = []; entries = sym (append-nil es); only = tt; others = λ s a ne. a; mark = λ s a h. absurd h }
-
 -- one name more
-parts_more : (n : List ℕ) (names : List (List ℕ)) (ss ms rs : List Standing) (es gs fs : List Entry) → AllDistinct (n ∷ names) → Part n ss es ms gs → Parts names ms gs rs fs → Parts (n ∷ names) ss es rs fs
-parts_more n names ss ms rs es gs fs distinct a b =
-    let mark : (s : Standing) → Has rs s → (n ≡ s.name) ⊎ Has names s.name → IsMarked (a.rest ++ b.rest) s = λ s h c. elim c [
+parts_more : (n : List ℕ) (names : List (List ℕ)) (ss ms rs : List Standing) (es fs : List Entry) → AllDistinct (n ∷ names) → Part n ss es ms → Parts names ms fs rs → Parts (n ∷ names) ss (es ++ fs) rs
+parts_more n names ss ms rs es fs distinct a b =
+    let mark : (s : Standing) → Has rs s → (n ≡ s.name) ⊎ Has names s.name → IsMarked (es ++ fs) s = λ s h c. elim c [
       | inl e ↦
           let apart : Has names s.name → ⊥ = λ x. distinct.0 (subst (λ (v : List ℕ). Has names v) (sym e) x) in
-          marked_right a.rest b.rest s (λ x. apart (each_has (NamesIn names) b.rest (entry.Unsettled s.name x.0) b.only x.1)) (a.mark s (b.others s h apart) (sym e))
-      | inr x ↦ marked_left a.rest b.rest s (λ y. distinct.0 (subst (λ (v : List ℕ). Has names v) (named_only n s.name a.rest a.only y) x)) (b.mark s h x)
+          marked_right es fs s (λ x. apart (each_has (NamesIn names) fs (Entry.Unsettled s.name x.0) b.only x.1)) (a.mark s (b.others s h apart) (sym e))
+      | inr x ↦ marked_left es fs s (λ y. distinct.0 (subst (λ (v : List ℕ). Has names v) (named_only n s.name es a.only y) x)) (b.mark s h x)
     ] in
     record {
-      rest = a.rest ++ b.rest;
-      entries = b.entries ∙ ap (λ (v : List Entry). v ++ b.rest) a.entries ∙ append_assoc es a.rest b.rest;
-      only = each_append (NamesIn (n ∷ names)) a.rest b.rest (each_map (NamesOnly n) (NamesIn (n ∷ names)) a.rest (only_first n names) a.only) (each_map (NamesIn names) (NamesIn (n ∷ names)) b.rest (only_later n names) b.only);
+      only = each_append (NamesIn (n ∷ names)) es fs (each_map (NamesOnly n) (NamesIn (n ∷ names)) es (only_first n names) a.only) (each_map (NamesIn names) (NamesIn (n ∷ names)) fs (only_later n names) b.only);
       others = λ s h ne. a.others s (b.others s h (λ x. ne (inr x))) (λ e. ne (inl (sym e)));
       mark = λ s h c. mark s h c;
     }
@@ -221,12 +170,11 @@ parts_more n names ss ms rs es gs fs distinct a b =
 chain_parts : {J : Type 0} {answer : Answers J} {later : Laters J} {binds present : Bool}
     {names : List (List ℕ)} {w v : State J} {ok : Bool} {ms : List Made} {es : List Entry}
     → AllDistinct names → Chain answer later binds present names w ok ms es v
-    → Parts names w.standings w.entries v.standings v.entries × (v.listed ≡ w.listed)
-chain_parts distinct (Over w) = (none_parts w.standings w.entries, refl)
+    → Parts names w.standings es v.standings × (v.listed ≡ w.listed)
+chain_parts distinct (Over w) = (record { only = tt; others = λ s a ne. a; mark = λ s a h. absurd h }, refl)
 chain_parts distinct (First n names how w x v ok more ms ns es p c) =
-    let a = piece_part p in
-    let b = chain_parts distinct.1 c in
-    (parts_more n names w.standings x.standings v.standings w.entries x.entries v.entries distinct a.0 b.0, b.1 ∙ a.1)
+    let rest = chain_parts distinct.1 c in
+    (parts_more n names w.standings x.standings v.standings p.rest es distinct (flat_part p.flat) rest.0, rest.1 ∙ p.listed)
 
 -- the order of a sweep has each name once
 
@@ -236,80 +184,16 @@ place_has name (first ∷ names) x h = cond_both (is_gt (sweep_cmp name first)) 
     (λ b k. elim k [ inl e ↦ inr (inl e) | inr a ↦ elim (place_has name names x a) [ inl e ↦ inl e | inr c ↦ inr (inr c) ] ])
     (λ b k. k) h
 
-place_distinct : (name : List ℕ) (names : List (List ℕ)) → (Has names name → ⊥) → AllDistinct names → AllDistinct (in_place name names)
-place_distinct name [] none d = (none, d)
-place_distinct name (first ∷ names) none d =
-    let rest = place_distinct name names (λ a. none (inr a)) d.1 in
-    let apart : Has (in_place name names) first → ⊥ = λ a. elim (place_has name names first a) [ inl e ↦ none (inl (sym e)) | inr b ↦ d.0 b ] in
-    elim (is_gt (sweep_cmp name first)) as (λ (b : Bool). AllDistinct (cond b (first ∷ in_place name names) (name ∷ first ∷ names))) [ true ↦ (apart, rest) | false ↦ (none, d) ]
-
 pub order_has : (names : List (List ℕ)) (x : List ℕ) → Has (in_sweep_order names) x → Has names x
 order_has [] x h = h
 order_has (name ∷ names) x h = elim (place_has name (in_sweep_order names) x h) [ inl e ↦ inl e | inr a ↦ inr (order_has names x a) ]
-
-pub order_distinct : (names : List (List ℕ)) → AllDistinct names → AllDistinct (in_sweep_order names)
-order_distinct [] d = tt
-order_distinct (name ∷ names) d = place_distinct name (in_sweep_order names) (λ a. d.0 (order_has names name a)) (order_distinct names d.1)
-
--- the whole sweep
-
-abbrev Ends : {J : Type 0} → State J → State J → List Entry → Type 0
-Ends w v rest = IsListed rest w.listed v.listed × ((s : Standing) → Has v.standings s → IsMarked rest s)
-
-pub farewell_none : (names : List (List ℕ)) (ss : List Standing) → Each NamesNone (farewells names ss)
-farewell_none names ss = farewells_by (Each NamesNone) tt (λ number name es h. (tt, h)) names ss
-
--- each standing at the end has one of the names
-stands_in : (names : List (List ℕ)) (P : Standing → Type 0) (rs : List Standing) → ((s : Standing) → P s → Has names s.name) → ((s : Standing) → Has rs s → (Has names s.name → ⊥) → P s) → (s : Standing) → Has rs s → Has names s.name
-stands_in names P rs named others s a = elim (either_listed names s.name) [ inl h ↦ h | inr ne ↦ named s (others s a ne) ]
-
-goes_ends : {J : Type 0} {answer : Answers J} {later : Laters J} {w v : State J} {ok : Bool}
-    {ms : List Made} {es : List Entry} (k l : Kernel) (rest : List Entry)
-    → AllDistinct (names_of w.standings) → v.entries ≡ w.entries ++ rest
-    → Goes answer later w ok ms es v → Along calls k ms l → Ends w v rest
-goes_ends {w = w} {v = v} k l rest known e (Listed found failed ok shut made es _ closings chain) a =
-    let names = in_sweep_order found in
-    let bye = farewells names w.standings in
-    let listed : Standing → Bool = λ s. lists names s.name in
-    let h = chain_parts (order_distinct found a.1.says.1) chain in
-    let same : bye ++ h.0.rest ≡ rest = cancel w.entries (bye ++ h.0.rest) rest (sym (append_assoc w.entries bye h.0.rest) ∙ sym h.0.entries ∙ e) in
-    let none = farewell_none names w.standings in
-    let told : IsUnlisted (bye ++ h.0.rest) → ⊥ = λ n. elim (has_cases bye h.0.rest (entry.UnsettledAll n.0) n.1) [
-      | inl b ↦ each_has NamesNone bye (entry.UnsettledAll n.0) none b
-      | inr b ↦ each_has (NamesIn names) h.0.rest (entry.UnsettledAll n.0) h.0.only b
-    ] in
-    let named = stands_in names (Has (filter listed w.standings)) v.standings (λ s b. lists_has names s.name (filter_has listed w.standings s b).1) h.0.others in
-    let marks : (s : Standing) → Has v.standings s → IsMarked (bye ++ h.0.rest) s = λ s b. marked_left bye h.0.rest s (none_named bye s.name none) (h.0.mark s b (named s b)) in
-    subst (λ (y : List Entry). Ends w v y) same (inl (told, h.1), marks)
-goes_ends {w = w} {v = v} k l rest known e (Unlisted list failed room why ok made es _ by chain) a =
-    let all = entry.UnsettledAll why in
-    let names = names_of w.standings in
-    let h = chain_parts known chain in
-    let same : all ∷ h.0.rest ≡ rest = cancel w.entries (all ∷ h.0.rest) rest (sym (append_assoc w.entries (all ∷ []) h.0.rest) ∙ sym h.0.entries ∙ e) in
-    let named = stands_in names (Has w.standings) v.standings (λ s b. has_map (λ (x : Standing). x.name) w.standings s b) h.0.others in
-    let marks : (s : Standing) → Has v.standings s → IsMarked (all ∷ h.0.rest) s = λ s b. marked_left (all ∷ []) h.0.rest s (λ n. elim n.1 [ inl q ↦ let none : ⊥ = cc in none | inr none ↦ none ]) (h.0.mark s b (named s b)) in
-    subst (λ (y : List Entry). Ends w v y) same (inr ((why, inl refl), h.1), marks)
-
--- whatever the entries that were added
-pub sweeping_marks : {J : Type 0} (answer : Answers J) (later : Laters J) (w : State J)
-    (k l : Kernel) (v : State J) (rest : List Entry) → AllDistinct (names_of w.standings)
-    → Runs calls k (sweeping answer later w) v l → v.entries ≡ w.entries ++ rest → Ends w v rest
-sweeping_marks answer later w k l v rest known r e =
-    let x = sweeping_run calls answer later k w l v r in
-    goes_ends k l rest known e x.so.1 x.along
-
--- Lists in sweep order.
 
 less_is : (r : Ordering) → is_lt r ≡ true → r ≡ Less
 less_is Less e = refl
 less_is x e = absurd (true≢false (sym e))
 
-turned_less : (r : Ordering) → is_lt r ≡ true → is_lt (ordering_reverse r) ≡ false
-turned_less Greater e = absurd (true≢false (sym e))
-turned_less x e = refl
-
 pub not_behind : (x y : List ℕ) → swept_before x y ≡ true → swept_before y x ≡ false
-not_behind x y h = ap is_lt (sweep_total.antisymm y x) ∙ turned_less (sweep_cmp x y) h
+not_behind x y h = (ranks_by sweep_total (λ (v : List ℕ). v)).one_way x y h
 
 pub not_itself : (x : List ℕ) → swept_before x x ≡ false
 not_itself x = ap is_lt (tied_itself sweep_total x)
@@ -346,7 +230,51 @@ pub sweep_in_order : (names : List (List ℕ)) → AllDistinct names → AreInOr
 sweep_in_order [] d = tt
 sweep_in_order (x ∷ names) d = placed_order x (in_sweep_order names) (λ a. d.0 (order_has names x a)) (sweep_in_order names d.1)
 
--- of standings
+pub order_distinct : (names : List (List ℕ)) → AllDistinct names → AllDistinct (in_sweep_order names)
+order_distinct names d = names_distinct (in_sweep_order names) (sweep_in_order names d)
+
+-- the whole sweep
+
+abbrev Ends : {J : Type 0} → State J → State J → List Entry → Type 0
+Ends w v rest = IsListed rest w.listed v.listed × ((s : Standing) → Has v.standings s → IsMarked rest s)
+
+pub farewell_none : (names : List (List ℕ)) (ss : List Standing) → Each NamesNone (farewells names ss)
+farewell_none names ss = farewells_by (Each NamesNone) tt (λ number name es h. (tt, h)) names ss
+
+-- each standing at the end has one of the names
+stands_in : (names : List (List ℕ)) (P : Standing → Type 0) (rs : List Standing) → ((s : Standing) → P s → Has names s.name) → ((s : Standing) → Has rs s → (Has names s.name → ⊥) → P s) → (s : Standing) → Has rs s → Has names s.name
+stands_in names P rs named others s a = elim (either_listed names s.name) [ inl h ↦ h | inr ne ↦ named s (others s a ne) ]
+
+goes_ends : {J : Type 0} {answer : Answers J} {later : Laters J} {w v : State J} {ok : Bool}
+    {ms : List Made} {es : List Entry} (k l : Kernel) → AllDistinct (names_of w.standings)
+    → Goes answer later w ok ms es v → Along calls k ms l → Ends w v es
+goes_ends {w = w} {v = v} k l known (Listed found failed ok shut made es _ closings chain) a =
+    let names = in_sweep_order found in
+    let bye = farewells names w.standings in
+    let listed : Standing → Bool = λ s. lists names s.name in
+    let h = chain_parts (order_distinct found a.1.says.1) chain in
+    let none = farewell_none names w.standings in
+    let told : IsUnlisted (bye ++ es) → ⊥ = λ n. elim (has_cases bye es (Entry.UnsettledAll n.0) n.1) [
+      | inl b ↦ each_has NamesNone bye (Entry.UnsettledAll n.0) none b
+      | inr b ↦ each_has (NamesIn names) es (Entry.UnsettledAll n.0) h.0.only b
+    ] in
+    let named = stands_in names (Has (filter listed w.standings)) v.standings (λ s b. lists_has names s.name (filter_has listed w.standings s b).1) h.0.others in
+    (inl (told, h.1), λ s b. marked_left bye es s (none_named bye s.name none) (h.0.mark s b (named s b)))
+goes_ends {w = w} {v = v} k l known (Unlisted list failed room why ok made es _ by chain) a =
+    let names = names_of w.standings in
+    let h = chain_parts known chain in
+    let named = stands_in names (Has w.standings) v.standings (λ s b. has_map (λ (x : Standing). x.name) w.standings s b) h.0.others in
+    (inr ((why, inl refl), h.1), λ s b. marked_left (Entry.UnsettledAll why ∷ []) es s (λ n. elim n.1 [ inl q ↦ let none : ⊥ = cc in none | inr none ↦ none ]) (h.0.mark s b (named s b)))
+
+-- whatever the entries that were added
+pub sweeping_marks : {J : Type 0} (answer : Answers J) (later : Laters J) (w : State J)
+    (k l : Kernel) (v : State J) (rest : List Entry) → AllDistinct (names_of w.standings)
+    → Runs calls k (sweeping answer later w) v l → v.entries ≡ w.entries ++ rest → Ends w v rest
+sweeping_marks answer later w k l v rest known r e =
+    let x = sweeping_run calls answer later k w l v r in
+    subst (Ends w v) (cancel w.entries x.so.0 rest (sym (goes_entries x.so.1) ∙ e)) (goes_ends k l known x.so.1 x.along)
+
+-- Standings in sweep order of their names.
 
 -- those that a test leaves
 pub order_filter : (test : Standing → Bool) (ss : List Standing) → AreInOrder (names_of ss) → AreInOrder (names_of (filter test ss))
@@ -358,14 +286,15 @@ order_filter test (s ∷ ss) o =
     subst (λ (v : List ℕ). swept_before s.name v ≡ true) m.2 (o.0 m.0.name (has_map (λ (v : Standing). v.name) ss m.0 (filter_has test ss m.0 m.1).0)) in
     elim (test s) as (λ (b : Bool). AreInOrder (names_of (cond b (s ∷ filter test ss) (filter test ss)))) [ true ↦ (below, rest) | false ↦ rest ]
 
-with_by : (s x : Standing) (ss : List Standing) (b : Bool) → names_of (insert ss (place_for s.name ss) s) ≡ in_place s.name (names_of ss) → names_of (insert (x ∷ ss) (cond b (place_for s.name ss + 1) 0) s) ≡ cond b (x.name ∷ in_place s.name (names_of ss)) (s.name ∷ x.name ∷ names_of ss)
-with_by s x ss true e = ap (λ (k : ℕ). names_of (insert (x ∷ ss) k s)) (add-one (place_for s.name ss)) ∙ ap (λ (v : List (List ℕ)). x.name ∷ v) e
-with_by s x ss false e = refl
-
 -- the names with a new standing
 names_with : (s : Standing) (ss : List Standing) → names_of (with_standing s ss) ≡ in_place s.name (names_of ss)
 names_with s [] = refl
-names_with s (x ∷ ss) = with_by s x ss (is_gt (sweep_cmp s.name x.name)) (names_with s ss)
+names_with s (x ∷ ss) =
+    let rest = ap (λ (v : List (List ℕ)). x.name ∷ v) (names_with s ss) in
+    elim (is_gt (sweep_cmp s.name x.name)) as (λ (b : Bool). names_of (insert (x ∷ ss) (cond b (place_for s.name ss + 1) 0) s) ≡ cond b (x.name ∷ in_place s.name (names_of ss)) (s.name ∷ x.name ∷ names_of ss)) [
+      | true ↦ ap (λ (k : ℕ). names_of (insert (x ∷ ss) k s)) (add-one (place_for s.name ss)) ∙ rest
+      | false ↦ refl
+    ]
 
 pub order_with : (s : Standing) (ss : List Standing) → AreInOrder (names_of ss) → (Has (names_of ss) s.name → ⊥) → AreInOrder (names_of (with_standing s ss))
 order_with s ss o absent = subst (λ (v : List (List ℕ)). AreInOrder v) (sym (names_with s ss)) (placed_order s.name (names_of ss) absent o)
@@ -404,7 +333,7 @@ added_rest es fs gs rest more e f = cancel es (gs ++ more) rest (sym (append_ass
 -- a standing is dropped
 pub dropped_in : {J : Type 0} (tried : Tries) (w u : State J) (name : List ℕ) (number : ℕ) (gs : List Entry) → u.entries ≡ w.entries ++ gs → AreIn tried name w u → AreIn tried name w (dropped u name number)
 dropped_in tried w u name number gs e so rest f s a =
-    let e1 = entry.Gone number name ∷ [] in
+    let e1 = Entry.Gone number name ∷ [] in
     let was = so gs e s (filter_has (λ (v : Standing). not (same_name v.name name)) u.standings s a).0 in
     subst (λ (v : List Entry). IsMarkedIn tried name w.standings v s) (added_rest w.entries u.entries gs rest e1 e f) (elim was [
       | inl h ↦ inl (h.0, marked_right gs e1 s (none_named e1 s.name (tt, tt)) h.1)
@@ -424,30 +353,28 @@ parted_fresh names w rest e n a named =
     none_named bye n (farewell_none names w.standings) (subst (λ (v : List Entry). IsNamed v n) (sym same) named)
 
 -- one name's part
-part_mark : {J : Type 0} (w u : State J) (name : List ℕ) (names : List (List ℕ)) (gs : List Entry) (z : State J) (s : Standing) (b : Bool) → same_name s.name name ≡ b → AreInOrder (name ∷ names) → ((s : Standing) → Has u.standings s → IsSplit (name ∷ names) w.standings gs s) → (IsNamed gs name → ⊥) → (x : Part name u.standings u.entries z.standings z.entries) → Has z.standings s → IsSplit names w.standings (gs ++ x.rest) s
-part_mark w u name names gs z s true is o split fresh x a =
+part_mark : {J : Type 0} (w u : State J) (name : List ℕ) (names : List (List ℕ)) (gs more : List Entry) (z : State J) (s : Standing) (b : Bool) → same_name s.name name ≡ b → AreInOrder (name ∷ names) → ((s : Standing) → Has u.standings s → IsSplit (name ∷ names) w.standings gs s) → (IsNamed gs name → ⊥) → Part name u.standings more z.standings → Has z.standings s → IsSplit names w.standings (gs ++ more) s
+part_mark w u name names gs more z s true is o split fresh x a =
     let e = same_is s.name name is in
-    inl (λ n h. subst (λ (v : List ℕ). swept_before v n ≡ true) (sym e) (o.0 n h), marked_left gs x.rest s (λ n. fresh (subst (λ (v : List ℕ). IsNamed gs v) e n)) (x.mark s a e))
-part_mark w u name names gs z s false is o split fresh x a =
+    inl (λ n h. subst (λ (v : List ℕ). swept_before v n ≡ true) (sym e) (o.0 n h), marked_left gs more s (λ n. fresh (subst (λ (v : List ℕ). IsNamed gs v) e n)) (x.mark s a e))
+part_mark w u name names gs more z s false is o split fresh x a =
     let ne : s.name ≡ name → ⊥ = λ e. let same = is_same s.name name e in let none : ⊥ = cc in none in
     elim (split s (x.others s a ne)) [
-      | inl h ↦ inl (λ n b. h.0 n (inr b), marked_right gs x.rest s (λ n. ne (named_only name s.name x.rest x.only n)) h.1)
+      | inl h ↦ inl (λ n b. h.0 n (inr b), marked_right gs more s (λ n. ne (named_only name s.name more x.only n)) h.1)
       | inr h ↦ elim h.0 [ inl e ↦ absurd (ne (sym e)) | inr b ↦ inr (b, h.1) ]
     ]
 
-pub part_split : {J : Type 0} (w u : State J) (name : List ℕ) (names : List (List ℕ)) (gs : List Entry) (z : State J) → u.entries ≡ w.entries ++ gs → AreInOrder (name ∷ names) → AreSplit (name ∷ names) w u → (IsNamed gs name → ⊥) → PartOf name u z → AreSplit names w z
-part_split w u name names gs z e o split fresh part rest f s a =
-    let x = part.0 in
-    subst (λ (v : List Entry). IsSplit names w.standings v s) (added_rest w.entries u.entries gs rest x.rest e (sym x.entries ∙ f)) (part_mark w u name names gs z s (same_name s.name name) refl o (split gs e) fresh x a)
+pub part_split : {J : Type 0} (w u : State J) (name : List ℕ) (names : List (List ℕ)) (gs more : List Entry) (z : State J) → u.entries ≡ w.entries ++ gs → z.entries ≡ u.entries ++ more → AreInOrder (name ∷ names) → AreSplit (name ∷ names) w u → (IsNamed gs name → ⊥) → Part name u.standings more z.standings → AreSplit names w z
+part_split w u name names gs more z e d o split fresh x rest f s a =
+    subst (λ (v : List Entry). IsSplit names w.standings v s) (added_rest w.entries u.entries gs rest more e (sym d ∙ f)) (part_mark w u name names gs more z s (same_name s.name name) refl o (split gs e) fresh x a)
 
-pub part_fresh : {J : Type 0} (w u : State J) (name : List ℕ) (names : List (List ℕ)) (gs : List Entry) (z : State J) → u.entries ≡ w.entries ++ gs → AllDistinct (name ∷ names) → AreFresh (name ∷ names) w u → PartOf name u z → AreFresh names w z
-part_fresh w u name names gs z e distinct fresh part rest f n a named =
-    let x = part.0 in
-    let same = added_rest w.entries u.entries gs rest x.rest e (sym x.entries ∙ f) in
+pub part_fresh : {J : Type 0} (w u : State J) (name : List ℕ) (names : List (List ℕ)) (gs more : List Entry) (z : State J) → u.entries ≡ w.entries ++ gs → z.entries ≡ u.entries ++ more → AllDistinct (name ∷ names) → AreFresh (name ∷ names) w u → Part name u.standings more z.standings → AreFresh names w z
+part_fresh w u name names gs more z e d distinct fresh x rest f n a named =
+    let same = added_rest w.entries u.entries gs rest more e (sym d ∙ f) in
     let told = subst (λ (v : List Entry). IsNamed v n) (sym same) named in
-    elim (has_cases gs x.rest (entry.Unsettled n told.0) told.1) [
+    elim (has_cases gs more (Entry.Unsettled n told.0) told.1) [
       | inl b ↦ fresh gs e n (inr a) (told.0, b)
-      | inr b ↦ distinct.0 (subst (λ (v : List ℕ). Has names v) (named_only name n x.rest x.only (told.0, b)) a)
+      | inr b ↦ distinct.0 (subst (λ (v : List ℕ). Has names v) (named_only name n more x.only (told.0, b)) a)
     ]
 
 -- What is done to a table's standings keeps them in order.
@@ -467,13 +394,13 @@ keeps_map f ss named numbered next o = record {
   numbers = λ s a. let m = map_has f ss s a in subst (λ (v : ℕ). v < next) (sym (numbered m.0) ∙ ap (λ (v : Standing). v.number) m.2) (o.numbers m.0 m.1);
 }
 
-keeps_marked : (name : List ℕ) (mark : Bool) (ss : List Standing) → KeepsOrder ss (map (marked name mark) ss)
+pub keeps_marked : (name : List ℕ) (mark : Bool) (ss : List Standing) → KeepsOrder ss (map (marked name mark) ss)
 keeps_marked name mark ss = keeps_map (marked name mark) ss (λ s. refl) (λ s. refl)
 
 -- one that is tried again
 pub keeps_tried : (name : List ℕ) (how : Settled) (ss : List Standing) → KeepsOrder ss (tried_standings ss name how)
-keeps_tried name settled.Nobody ss = keeps_filter (λ (s : Standing). not (same_name s.name name)) ss
-keeps_tried name settled.Stands ss = keeps_marked name true ss
+keeps_tried name Settled.Nobody ss = keeps_filter (λ (s : Standing). not (same_name s.name name)) ss
+keeps_tried name Settled.Stands ss = keeps_marked name true ss
 keeps_tried name how ss = keeps_marked name false ss
 
 -- a new one
@@ -505,40 +432,21 @@ kept_more next cap other room ss rs after s how is fresh same none e place made 
 
 -- the standing with the next number, as one more is looked at
 
+-- what holds of those that were there and of the new one
+added_all : (P : Standing → Type 0) (ss : List Standing) (x : Standing) → ((s : Standing) → Has ss s → P s) → P x → (s : Standing) → Has (ss ++ x ∷ []) s → P s
+added_all P ss x rest own s a = elim (last_is ss x s a) [ inl b ↦ rest s b | inr is ↦ subst P is own ]
+
 nearer_found : (ss : List Standing) (number : ℕ) (found : Option Standing) (x : Standing) → is_nearer number found x ≡ true → IsNextNumbered ss number found → IsNextNumbered (ss ++ x ∷ []) number (Some x)
-nearer_found ss number None x e h = (
-  has_right ss (x ∷ []) x (inl refl),
-  grind (arith, e),
-  λ s a above. elim (last_is ss x s a) [
-    | inl b ↦ let most = h s b in absurd (omega (arith, most, above))
-    | inr is ↦ let same = ap (λ (v : Standing). v.number) is in omega (arith, same)
-  ],
-)
-nearer_found ss number (Some found) x e h = (
-  has_right ss (x ∷ []) x (inl refl),
-  grind (arith, e),
-  λ s a above. elim (last_is ss x s a) [
-    | inl b ↦ let least = h.2 s b above in let less : x.number < found.number = grind (arith, e) in omega (arith, least, less)
-    | inr is ↦ let same = ap (λ (v : Standing). v.number) is in omega (arith, same)
-  ],
-)
+nearer_found ss number None x e h =
+    (has_right ss (x ∷ []) x (inl refl), grind (arith, e), added_all (λ (s : Standing). number < s.number → x.number ≤ s.number) ss x (λ s b above. absurd (omega (arith, h s b, above))) (λ above. omega arith))
+nearer_found ss number (Some found) x e h =
+    let less : x.number < found.number = grind (arith, e) in
+    (has_right ss (x ∷ []) x (inl refl), grind (arith, e), added_all (λ (s : Standing). number < s.number → x.number ≤ s.number) ss x (λ s b above. omega (arith, h.2 s b above, less)) (λ above. omega arith))
 
 no_nearer_found : (ss : List Standing) (number : ℕ) (found : Option Standing) (x : Standing) → is_nearer number found x ≡ false → IsNextNumbered ss number found → IsNextNumbered (ss ++ x ∷ []) number found
-no_nearer_found ss number None x e h = λ s a. elim (last_is ss x s a) [
-  | inl b ↦ h s b
-  | inr is ↦ let same = ap (λ (v : Standing). v.number) is in let most : x.number ≤ number = grind (arith, e) in omega (arith, same, most)
-]
-no_nearer_found ss number (Some found) x e h = (
-  has_left ss (x ∷ []) found h.0,
-  h.1,
-  λ s a above. elim (last_is ss x s a) [
-    | inl b ↦ h.2 s b above
-    | inr is ↦
-        let same = ap (λ (v : Standing). v.number) is in
-        let over : number < x.number = omega (arith, same, above) in
-        let least : found.number ≤ x.number = grind (arith, e, over) in omega (arith, same, least)
-  ],
-)
+no_nearer_found ss number None x e h = added_all (λ (s : Standing). s.number ≤ number) ss x h (grind (arith, e))
+no_nearer_found ss number (Some found) x e h =
+    (has_left ss (x ∷ []) found h.0, h.1, added_all (λ (s : Standing). number < s.number → found.number ≤ s.number) ss x h.2 (λ above. grind (arith, e, above)))
 
 -- the first of them, and one more
 passed_more : (ss : List Standing) (i : ℕ) (x : Standing) → i < length ss → x ≡ get_or ss i x → take (i + 1) ss ≡ take i ss ++ x ∷ []

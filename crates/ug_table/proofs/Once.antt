@@ -1,21 +1,12 @@
 -- The names that a sweep tells, none twice; and that no device is told for want of memory that had a standing, lived through it, and
 -- wasn't still to be removed.
 use Rattle.std.proofs.Common.{◌≡◌, ℕ, Bool, true, List, [], ◌∷◌, ◌++◌, Option, Some, ◌⊎◌, inl, inr, refl, sym, ◌∙◌, ap, subst, append_assoc}
-use Rattle.ug_table.proofs.Common.{Has, AllDistinct, Call, Answer, Names, Ask_alive, Kernel, Follows, says_probe, Runs, calls, Made, answered, Along, Entry, State, Answers, Laters, farewells, standing_of, name_in, unsettled_names, EndsUnsettled, NamesOnce, Part, Standing, in_sweep_order, Grows, Probe, Fault, Stand, IsSpared, Known}
-use Rattle.ug_kernel.specs.declared.calls.Listing.TheVariants as listing
-use Rattle.ug_kernel.proofs.Told.{told_run}
-use Rattle.ug_audit.specs.declared.entry.Entry.TheVariants as entry
-use Rattle.ug_table.specs.Sweep.{names_of, sweeping}
-use Rattle.ug_types.proofs.Elements.{has_cases, cancel, has_right}
+use Rattle.ug_table.proofs.Common.{Has, AllDistinct, Call, Answer, Names, Ask_alive, Kernel, Follows, says_probe, Runs, calls, Made, answered, Along, Entry, State, Answers, Laters, farewells, standing_of, name_in, unsettled_names, EndsUnsettled, NamesOnce, Part, Standing, in_sweep_order, Grows, Probe, Fault, Stand, IsSpared, Known, Listing, names_of, sweeping, has_cases, cancel, has_right, is_to_go, along_split, along_grows, some_same, called_grows, grows_trans, told_run}
 use Rattle.ug_table.proofs.Marks.{order_distinct, ends_only, named_only, farewell_none}
 use Rattle.ug_table.proofs.Says.{none_named}
 use Rattle.ug_table.proofs.Chains.{Chain, Over, First, Goes, Listed, Unlisted, goes_entries, sweeping_run}
 use Rattle.ug_table.proofs.OnePart.{flat_is_part}
 use Rattle.ug_table.proofs.Shapes.{told_at}
-use Rattle.ug_kernel.proofs.Grow.{some_same, called_grows, grows_trans}
-use Rattle.ug_kernel.proofs.Ways.{along_split, along_grows}
-use Rattle.ug_audit.specs.declared.entry.Fault.TheVariants as fault
-use Rattle.ug_table.specs.Bring.{is_to_go}
 use Rattle.ug_table.proofs.Standings.{farewells_by, IsFileOf, file_later, LiveAs, lives_between, gone_no, open_named, stands_one, listed_is, listed_stand}
 use Rattle.ug_table.proofs.Lived.{lives_first, lives_last, stand_files}
 
@@ -26,8 +17,8 @@ names_more (e ∷ es) fs = ap (λ (v : List (List ℕ)). name_in e ++ v) (names_
 -- the names that a part tells
 part_name : (name : List ℕ) (es : List Entry) → EndsUnsettled name es → (unsettled_names es ≡ []) ⊎ (unsettled_names es ≡ name ∷ [])
 part_name name [] h = inl refl
-part_name name (entry.Unsettled other why ∷ es) h = inr (ap (λ (v : List ℕ). v ∷ unsettled_names es) h.0.0 ∙ ap (λ (v : List Entry). name ∷ unsettled_names v) h.0.1)
-part_name name (entry.UnsettledAll why ∷ es) h = absurd h.0
+part_name name (Entry.Unsettled other why ∷ es) h = inr (ap (λ (v : List ℕ). v ∷ unsettled_names es) h.0.0 ∙ ap (λ (v : List Entry). name ∷ unsettled_names v) h.0.1)
+part_name name (Entry.UnsettledAll why ∷ es) h = absurd h.0
 part_name name (e ∷ es) h = part_name name es h.1
 
 chain_names : {J : Type 0} {answer : Answers J} {later : Laters J} {binds present : Bool}
@@ -104,7 +95,7 @@ lives_on {name} {known} {i} {k = k} {l = l} u same g h x = record {
 }
 
 -- a part that tells the name for want of memory
-part_spared : (name : List ℕ) (known : Known) (i : ℕ) (k l : Kernel) (ss rs : List Standing) (ms : List Made) (es : List Entry) → Part name ss rs ms es → Lives name known i ss k l → Along calls k ms l → Has es (entry.Unsettled name fault.Memory) → is_to_go known ≡ true
+part_spared : (name : List ℕ) (known : Known) (i : ℕ) (k l : Kernel) (ss rs : List Standing) (ms : List Made) (es : List Entry) → Part name ss rs ms es → Lives name known i ss k l → Along calls k ms l → Has es (Entry.Unsettled name Fault.Memory) → is_to_go known ≡ true
 part_spared name known i k l ss rs ms es part lives a told = elim (part.memory told) [
   | inl anew ↦ absurd (elim anew [
     | inl none ↦ let at = lives.at in let none : ⊥ = cc in none
@@ -122,7 +113,7 @@ part_spared name known i k l ss rs ms es part lives a told = elim (part.memory t
   | inr lacks ↦ subst (λ (v : Known). is_to_go v ≡ true) (some_same (standing_of name ss) lacks.0.0 known lacks.0.1 lives.at) lacks.0.2
 ]
 
-name_told : (es : List Entry) (name : List ℕ) (why : Fault) → Has es (entry.Unsettled name why) → Has (unsettled_names es) name
+name_told : (es : List Entry) (name : List ℕ) (why : Fault) → Has es (Entry.Unsettled name why) → Has (unsettled_names es) name
 name_told [] name why a = absurd a
 name_told (e ∷ es) name why (inl is) = subst (λ (v : Entry). Has (name_in v ++ unsettled_names es) name) (sym is) (inl refl)
 name_told (e ∷ es) name why (inr a) = has_right (name_in e) (unsettled_names es) name (name_told es name why a)
@@ -133,7 +124,7 @@ chain_spared : {J : Type 0} {answer : Answers J} {later : Laters J} {binds prese
     {names : List (List ℕ)} {w v : State J} {ok : Bool} {ms : List Made} {es : List Entry}
     {name : List ℕ} {known : Known} {i : ℕ} {k l : Kernel} → AllDistinct names
     → Chain answer later binds present names w ok ms es v → Lives name known i w.standings k l
-    → Along calls k ms l → Has es (entry.Unsettled name fault.Memory) → is_to_go known ≡ true
+    → Along calls k ms l → Has es (Entry.Unsettled name Fault.Memory) → is_to_go known ≡ true
 chain_spared d (Over w) lives a told = absurd told
 chain_spared {name = name} {known = known} {i = i} {k = k} {l = l} d
     (First n names how w x v ok more ms ns es p c) lives a told =
@@ -142,16 +133,16 @@ chain_spared {name = name} {known = known} {i = i} {k = k} {l = l} d
     let g = along_grows ms k u cut.1 in
     let h = along_grows ns u l cut.2 in
     let part = flat_is_part p.flat in
-    elim (has_cases p.rest es (entry.Unsettled name fault.Memory) told) [
+    elim (has_cases p.rest es (Entry.Unsettled name Fault.Memory) told) [
       | inl y ↦
-          let is : name ≡ n = named_only n name p.rest (ends_only n p.rest part.last) (fault.Memory, y) in
+          let is : name ≡ n = named_only n name p.rest (ends_only n p.rest part.last) (Fault.Memory, y) in
           let own = subst (λ (z : List ℕ). Part z w.standings x.standings ms p.rest) (sym is) part
           in
           let mid = lives_between k u l i name g h lives.first lives.last in
           part_spared name known i k u w.standings x.standings ms p.rest own
           (record { at = lives.at; file = lives.file; first = lives.first; last = mid }) cut.1 y
       | inr y ↦
-          let there = chain_names name c (name_told es name fault.Memory y) in
+          let there = chain_names name c (name_told es name Fault.Memory y) in
           let ne : name ≡ n → ⊥ = λ e. d.0 (subst (λ (z : List ℕ). Has names z) e there) in
           chain_spared d.1 c (lives_on u (part.others name ne) g h lives) cut.2 y
     ]
@@ -162,7 +153,7 @@ goes_spared : {J : Type 0} {answer : Answers J} {later : Laters J} {w v : State 
     {ms : List Made} {es : List Entry} {name : List ℕ} {known : Known} {i : ℕ} {k l : Kernel}
     → AllDistinct (names_of w.standings) → Goes answer later w ok ms es v
     → Lives name known i w.standings k l → Along calls k ms l
-    → Has es (entry.Unsettled name fault.Memory) → is_to_go known ≡ true
+    → Has es (Entry.Unsettled name Fault.Memory) → is_to_go known ≡ true
 goes_spared {w = w} {name = name} {k = k} {l = l} d
     (Listed found failed ok shut made es v closings c) lives a told =
     let names = in_sweep_order found in
@@ -170,12 +161,12 @@ goes_spared {w = w} {name = name} {k = k} {l = l} d
     let m = a.0 in
     let cut = along_split calls shut made m l a.2 in
     let u = cut.0 in
-    let t = told_at (listing.Names found) failed in
+    let t = told_at (Listing.Names found) failed in
     let g = grows_trans k m u (called_grows Names t k m a.1) (along_grows shut m u cut.1) in
-    elim (has_cases bye es (entry.Unsettled name fault.Memory) told) [
-      | inl b ↦ absurd (none_named bye name (farewell_none names w.standings) (fault.Memory, b))
+    elim (has_cases bye es (Entry.Unsettled name Fault.Memory) told) [
+      | inl b ↦ absurd (none_named bye name (farewell_none names w.standings) (Fault.Memory, b))
       | inr b ↦
-          let has = chain_names name c (name_told es name fault.Memory b) in
+          let has = chain_names name c (name_told es name Fault.Memory b) in
           let same = listed_stand names name w.standings (listed_is names name has) in
           let later = lives_on u same g (along_grows made u l cut.2) lives in
           chain_spared (order_distinct found a.1.says.1) c later cut.2 b
@@ -205,4 +196,4 @@ sweeping_spared answer later w k l v rest stand r e i d lives stood told =
       first = first;
       last = lives_last k l i d (along_grows x.made k l x.along) lives;
     })
-    x.along (subst (λ (es : List Entry). Has es (entry.Unsettled d.name fault.Memory)) same told)
+    x.along (subst (λ (es : List Entry). Has es (Entry.Unsettled d.name Fault.Memory)) same told)

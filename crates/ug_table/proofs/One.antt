@@ -1,27 +1,19 @@
 -- What the settling of one name does, over the states of a run.
 use Rattle.std.proofs.Common.{◌≡◌, ℕ, Bool, true, false, not, nat_eq, ◌&&◌, ◌||◌, List, [], ◌∷◌, ◌++◌, Option, Some, map, cond, inl, inr, refl, sym, ◌∙◌, ap, subst, arith, true≢false, ◌⊎◌, slice_get}
-use Rattle.std.specs.List.{filter}
 use Rattle.std.proofs.lemmas.Bool.{false_from_ne_true}
-use Rattle.ug_table.proofs.Common.{Has, AllDistinct, Call, Answer, Runs, calls, Made, Along, Bound, Entry, State, Kept, Answers, Laters, kept_of, with_kept, same_name, known_of, numbered, without, marked, removed_of, with_standing, numbers_of, Tries, none_before, Stand, IsGone, IsNamed, HasStanding, IsAsJudged, Standing, Settled, Device, Kernel, IsKernel, Follows}
-use Rattle.ug_table.specs.Bring.{is_reject, is_to_go}
-use Rattle.ug_table.specs.Settle.{stands, tried_standings, settling, resettling}
-use Rattle.ug_table.specs.Sweep.{names_of}
-use Rattle.ug_table.specs.Order.{StandInOrder}
+use Rattle.std.proofs.lemmas.Bool.Decides.{same_from_decides}
+use Rattle.std.specs.Cmp.Lexicographic.{bytes_decides}
+use Rattle.ug_table.proofs.Common.{Has, AllDistinct, Call, Answer, Runs, calls, Made, Along, Bound, Entry, State, Kept, Answers, Laters, kept_of, with_kept, same_name, known_of, numbered, without, marked, removed_of, with_standing, numbers_of, Tries, none_before, Stand, IsGone, IsNamed, HasStanding, IsAsJudged, Standing, Settled, Device, Kernel, IsKernel, Follows, names_of, stands, tried_standings, settling, resettling, filter_has, map_has, has_map, distinct_one, cancel, is_reject, is_to_go, grows_refl, some_same, resettling_numbered, NeedsRoom, failed_of, whys, why_of, GoesAsPart, LivedAs, SettledOne, SettlesOne, IsOf, ResettledOne, ResettlesOne, told_run, StandInOrder}
 use Rattle.ug_table.specs.Marks.{has_name, has_number, stood_removed, LeavesMarks}
-use Rattle.ug_table.specs.One.{resettling_numbered, NeedsRoom, failed_of, whys, why_of, GoesAsPart, LivedAs, SettledOne, SettlesOne, IsOf, ResettledOne, ResettlesOne}
-use Rattle.ug_table.specs.declared.standing.Settled.TheVariants as settled
-use Rattle.ug_types.proofs.Elements.{filter_has, map_has, has_map, distinct_one, cancel}
 use Rattle.ug_table.proofs.Marks.{names_distinct, unnamed, flat_stands, flat_nobody}
-use Rattle.ug_table.proofs.Standings.{marked_other, without_with, each_with, same_is, is_same, found, missing, numbered_has, IsFileOf, file_same, file_later, LiveAs, IsOpen, or_none, open_name, open_later, open_named}
-use Rattle.ug_table.proofs.Shapes.{Opening, Fresh, Lost, Flat, Unprobed, Tried, Stopped, Unbound, No_place, Judged_so, Piece, opening_absent}
+use Rattle.ug_table.proofs.Standings.{Test, own, rest_of, AreNamed, marked_rest, without_rest, of_name, without_with, each_with, same_is, found, missing, numbered_has, IsFileOf, file_same, file_later, LiveAs, IsOpen, or_none, open_name, open_later, open_named}
+use Rattle.ug_table.proofs.Shapes.{Opening, Fresh, Lost, Flat, Unprobed, Tried, Stopped, Unbound, No_place, Judged_so, Piece, opening_absent, opening_rest}
 use Rattle.ug_table.proofs.PartCalls.{failed_by}
 use Rattle.ug_table.proofs.OnePart.{flat_room, tells_why, flat_whys, flat_is_part}
 use Rattle.ug_table.proofs.Chains.{settling_run, numbered_run, resettling_run, run_numbered, no_verdict, no_later}
-use Rattle.ug_kernel.proofs.Grow.{grows_refl, some_same}
 use Rattle.ug_kernel.proofs.Rises.{Counting, along_numbered, along_rises}
-use Rattle.ug_kernel.proofs.Told.{told_run}
 use Rattle.ug_table.proofs.Steps.{FairFrom, had_before, fair_refl}
-use Rattle.ug_table.proofs.Lived.{none_stands, lives_first, lives_last, stand_files, judged_at, piece_well, piece_own}
+use Rattle.ug_table.proofs.Lived.{none_stands, lives_first, lives_last, stand_files, judged_at, piece_well}
 use Rattle.ug_table.proofs.Fair.{piece_fair}
 
 -- How the settling of a name leaves the marks, whatever the kernel answers.
@@ -44,43 +36,9 @@ stood_at (t ∷ ss) s d (inr a) =
     let other = false_from_ne_true (nat_eq t.number s.number) (λ e. let is : t.number ≡ s.number = grind (arith, e) in d.0 (subst (λ (v : ℕ). Has (numbers_of ss) v) (sym is) (has_map (λ (v : Standing). v.number) ss s a))) in
     ap (λ (b : Bool). (b && t.removed) || stood_removed s.number ss) other ∙ stood_at ss s d.1 a
 
--- those that are meant, by name and number
-abbrev pub Test : Type 0
-Test = List ℕ → ℕ → Bool
-
-abbrev pub own : Test → Standing → Bool
-own test s = test s.name s.number
-
-abbrev pub rest_of : Test → List Standing → List Standing
-rest_of test ss = filter (λ (s : Standing). not (own test s)) ss
-
--- among these standings, they are those of that name
-abbrev pub AreNamed : Test → List ℕ → List Standing → Type 0
-AreNamed test name ss = (s : Standing) → Has ss s → own test s ≡ same_name s.name name
-
 -- those that are meant were marked as removed before as they are now
 abbrev pub AreStood : Test → List Standing → List Standing → Type 0
 AreStood test before ss = (s : Standing) → Has ss s → own test s ≡ true → stood_removed s.number before ≡ s.removed
-
-marked_rest : (test : Test) (name : List ℕ) (mark : Bool) (ss : List Standing) → AreNamed test name ss → rest_of test (map (marked name mark) ss) ≡ rest_of test ss
-marked_rest test name mark [] named = refl
-marked_rest test name mark (s ∷ ss) named = by (own test s) refl (marked_rest test name mark ss (λ t a. named t (inr a)))
-  where
-    by : (b : Bool) → own test s ≡ b → rest_of test (map (marked name mark) ss) ≡ rest_of test ss → cond (not b) (marked name mark s ∷ rest_of test (map (marked name mark) ss)) (rest_of test (map (marked name mark) ss)) ≡ cond (not b) (s ∷ rest_of test ss) (rest_of test ss)
-    by true e h = h
-    by false e h =
-        let other : s.name ≡ name → ⊥ = λ f. true≢false (sym (is_same s.name name f) ∙ sym (named s (inl refl)) ∙ e) in
-        ap (λ (v : Standing). v ∷ rest_of test (map (marked name mark) ss)) (marked_other name mark s other) ∙ ap (λ (v : List Standing). s ∷ v) h
-
-without_rest : (test : Test) (name : List ℕ) (ss : List Standing) → AreNamed test name ss → rest_of test (without name ss) ≡ rest_of test ss
-without_rest test name [] named = refl
-without_rest test name (s ∷ ss) named = by (own test s) refl (same_name s.name name) (sym (named s (inl refl))) (without_rest test name ss (λ t a. named t (inr a)))
-  where
-    by : (b : Bool) → own test s ≡ b → (c : Bool) → c ≡ own test s → rest_of test (without name ss) ≡ rest_of test ss → rest_of test (cond (not c) (s ∷ without name ss) (without name ss)) ≡ cond (not b) (s ∷ rest_of test ss) (rest_of test ss)
-    by true e true f h = h
-    by false e false f h = ap (λ (v : Bool). cond (not v) (s ∷ rest_of test (without name ss)) (rest_of test (without name ss))) e ∙ ap (λ (v : List Standing). s ∷ v) h
-    by true e false f h = absurd (true≢false (sym e ∙ sym f))
-    by false e true f h = absurd (true≢false (f ∙ e))
 
 -- standings that are tried again
 
@@ -114,29 +72,19 @@ none_leaves test before after how rest none = record {
 
 without_leaves : (test : Test) (name : List ℕ) (before ss : List Standing) (how : Settled) → AreNamed test name ss → rest_of test ss ≡ rest_of test before → LeavesMarks (own test) before (without name ss) how
 without_leaves test name before ss how named rest =
-    none_leaves test before (without name ss) how (without_rest test name ss named ∙ rest) none
-  where
-    none : (s : Standing) → Has (without name ss) s → own test s ≡ true → ⊥
-    none s a o =
-        let f = filter_has (λ (v : Standing). not (same_name v.name name)) ss s a in
-        true≢false (sym f.1 ∙ ap not (sym (named s f.0) ∙ o))
+    none_leaves test before (without name ss) how (without_rest test name ss named ∙ rest) (λ s a h.
+    let f = filter_has (λ (v : Standing). not (same_name v.name name)) ss s a in
+    true≢false (sym f.1 ∙ ap not (sym (named s f.0) ∙ h)))
 
 pub tried_leaves : (test : Test) (name : List ℕ) (before ss : List Standing) (how : Settled) → AreNamed test name ss → rest_of test ss ≡ rest_of test before → AreStood test before ss → LeavesMarks (own test) before (tried_standings ss name how) how
-tried_leaves test name before ss settled.Nobody named rest stood = without_leaves test name before ss settled.Nobody named rest
-tried_leaves test name before ss settled.Stands named rest stood = marked_leaves test name before ss true settled.Stands refl named rest stood
+tried_leaves test name before ss Settled.Nobody named rest stood = without_leaves test name before ss Settled.Nobody named rest
+tried_leaves test name before ss Settled.Stands named rest stood = marked_leaves test name before ss true Settled.Stands refl named rest stood
 tried_leaves test name before ss how named rest stood = marked_leaves test name before ss false how refl named rest stood
 
 -- a name
 
-abbrev of_name : List ℕ → Test
-of_name name = λ other number. same_name other name
-
 own_missing : (name : List ℕ) (ss : List Standing) (s : Standing) → (Has (names_of ss) name → ⊥) → Has ss s → same_name s.name name ≡ true → ⊥
 own_missing name ss s n a o = n (subst (λ (v : List ℕ). Has (names_of ss) v) (same_is s.name name o) (has_map (λ (v : Standing). v.name) ss s a))
-
-opening_rest : {name : List ℕ} {ss : List Standing} {ms : List Made} {es : List Entry} {rs : List Standing} → Opening name ss ms es rs → rest_of (of_name name) rs ≡ rest_of (of_name name) ss
-opening_rest (Fresh e) = refl
-opening_rest {name = name} {ss = ss} (Lost known failed shut e) = without_rest (of_name name) name ss (λ s a. refl)
 
 -- none stands for it
 opening_leaves : {name : List ℕ} {ss : List Standing} {ms : List Made} {es : List Entry} {rs : List Standing} (how : Settled) → Opening name ss ms es rs → LeavesMarks (has_name name) ss rs how
@@ -149,11 +97,11 @@ next_stood next ss o = none_stood next ss (λ a.
     omega (arith, o.numbers m.0 m.1, m.2))
 
 flat_leaves : {binds : Bool} {given : List Standing → Bound → Standing → Type 0} {name : List ℕ} {ss : List Standing} {ok : Bool} {ms : List Made} {rest : List Entry} {how : Settled} {rs : List Standing} {o : Option (List Standing × Bound)} (next : ℕ) → StandInOrder next ss → ((rs : List Standing) (b : Bound) (x : Standing) → given rs b x → x.number ≡ next) → Flat binds given name ss ok ms rest how rs o → LeavesMarks (has_name name) ss rs how
-flat_leaves {name = name} {ss = ss} next order numbered (Unprobed known failed at) = tried_leaves (of_name name) name ss ss (settled.Fault failed) (λ s a. refl) refl (λ s a o. stood_at ss s order.distinct a)
+flat_leaves {name = name} {ss = ss} next order numbered (Unprobed known failed at) = tried_leaves (of_name name) name ss ss (Settled.Fault failed) (λ s a. refl) refl (λ s a o. stood_at ss s order.distinct a)
 flat_leaves {name = name} {ss = ss} next order numbered (Tried known on failed ms es how at b) = tried_leaves (of_name name) name ss ss how (λ s a. refl) refl (λ s a o. stood_at ss s order.distinct a)
-flat_leaves next order numbered (Stopped ms es rs f opening) = opening_leaves settled.Nobody opening
+flat_leaves next order numbered (Stopped ms es rs f opening) = opening_leaves Settled.Nobody opening
 flat_leaves next order numbered (Unbound ms ns es fs rs r how t opening way end) = opening_leaves how opening
-flat_leaves next order numbered (No_place ms ns es rs b shut t opening way) = opening_leaves settled.Memory opening
+flat_leaves next order numbered (No_place ms ns es rs b shut t opening way) = opening_leaves Settled.Memory opening
 flat_leaves {name = name} {ss = ss} next order numbered (Judged_so ms ns os es fs rs b x how t opening way given new brought) =
     let none = ap (λ (v : ℕ). stood_removed v ss) (numbered rs b x given) ∙ next_stood next ss order ∙ sym new.stays in
     tried_leaves (of_name name) name ss (with_standing x rs) how (λ s a. refl) (without_with name x rs new.named ∙ opening_rest opening) (each_with (λ (v : Standing). same_name v.name name ≡ true → stood_removed v.number ss ≡ v.removed) x rs (λ o. none) (λ s a o. absurd (own_missing name rs s (opening_absent opening) a o)))
@@ -169,25 +117,12 @@ abbrev pub of_number : ℕ → Test
 of_number number = λ name other. nat_eq other number
 
 pub numbered_named : (next number : ℕ) (ss : List Standing) (x : Standing) → StandInOrder next ss → numbered number ss ≡ Some x → AreNamed (of_number number) x.name ss
-numbered_named next number ss x order at s a = by (nat_eq s.number number) refl (same_name s.name x.name) refl
-  where
-    has : Has ss x
-    has = (numbered_has number ss x at).0
-
-    is : x.number ≡ number
-    is = (numbered_has number ss x at).1
-
-    by : (b : Bool) → nat_eq s.number number ≡ b → (c : Bool) → same_name s.name x.name ≡ c → b ≡ c
-    by true e true f = refl
-    by false e false f = refl
-    by true e false f =
-        let n : s.number ≡ number = grind (arith, e) in
-        let same : s ≡ x = distinct_one (λ (v : Standing). v.number) ss s x order.distinct a has (n ∙ sym is) in
-        sym (is_same s.name x.name (ap (λ (v : Standing). v.name) same)) ∙ f
-    by false e true f =
-        let same : s ≡ x = distinct_one (λ (v : Standing). v.name) ss s x (names_distinct (names_of ss) order.order) a has (same_is s.name x.name f) in
-        let was : nat_eq s.number number ≡ true = grind (arith, ap (λ (v : Standing). v.number) same ∙ is) in
-        sym e ∙ was
+numbered_named next number ss x order at s a =
+    let h = numbered_has number ss x at in
+    same_from_decides (nat_eq s.number number) (same_name s.name x.name) (
+      λ e. (let n : s.number ≡ number = grind (arith, e) in ap (λ (v : Standing). v.name) (distinct_one (λ (v : Standing). v.number) ss s x order.distinct a h.0 (n ∙ sym h.1))),
+      λ e. (let n : s.number ≡ number = ap (λ (v : Standing). v.number) (distinct_one (λ (v : Standing). v.name) ss s x (names_distinct (names_of ss) order.order) a h.0 e) ∙ h.1 in grind (arith, n)),
+    ) (bytes_decides s.name x.name)
 
 flat_tried : {given : List Standing → Bound → Standing → Type 0} {binds : Bool} {name : List ℕ} {ss : List Standing} {ok : Bool} {ms : List Made} {rest : List Entry} {how : Settled} {rs : List Standing} {o : Option (List Standing × Bound)} → Flat binds given name ss ok ms rest how rs o → binds ≡ false → Has (names_of ss) name → rs ≡ tried_standings ss name how
 flat_tried (Unprobed known failed at) f a = refl
@@ -205,7 +140,7 @@ numbered_leaves gives next number k x s p t order at r =
     subst (λ (v : List Standing). LeavesMarks (has_number number) k.standings v p.0) (sym tried) (tried_leaves (of_number number) x.name k.standings k.standings p.0 (numbered_named next number k.standings x order at) refl (λ s a o. stood_at k.standings s order.distinct a))
 
 -- want of memory
-pub needs_room : {S : Type 0} (gives : S → (call : Call) → Answer call → S → Type 0) (next number : ℕ) (k : Kept) (x : Standing) (s : S) (p : Settled × Kept) (t : S) → StandInOrder next k.standings → numbered number k.standings ≡ Some x → Runs gives s (resettling_numbered number k) p t → p.0 ≡ settled.Memory → NeedsRoom number k.standings
+pub needs_room : {S : Type 0} (gives : S → (call : Call) → Answer call → S → Type 0) (next number : ℕ) (k : Kept) (x : Standing) (s : S) (p : Settled × Kept) (t : S) → StandInOrder next k.standings → numbered number k.standings ≡ Some x → Runs gives s (resettling_numbered number k) p t → p.0 ≡ Settled.Memory → NeedsRoom number k.standings
 needs_room gives next number k x s p t order at r e =
     let room = flat_room (numbered_run gives number k x s p t at r).so.flat refl e in
     let f = found x.name k.standings room.0 room.1 in
@@ -217,7 +152,7 @@ added : (es fs xs ys : List Entry) → fs ≡ es ++ xs → fs ≡ es ++ ys → y
 added es fs xs ys e f = cancel es ys xs (sym f ∙ e)
 
 pub told_of : (how : Settled) → failed_by (why_of how) ≡ failed_of how
-told_of settled.Stands = refl
+told_of Settled.Stands = refl
 told_of how = refl
 
 as_part : {S J : Type 0} (gives : S → (call : Call) → Answer call → S → Type 0)
@@ -258,10 +193,10 @@ settling_one {J} answer later name present w k l p sound stand r =
     let last : (i : ℕ) → LivedAs k l name i → LiveAs l i name = λ i x. subst (λ (v : List ℕ). LiveAs l i v) x.2 (lives_last k l i x.0 a.fair.grows x.1) in
     let ended : (i : ℕ) → LivedAs k l name i → IsAsJudged l p.1.standings i ⊎ IsNamed a.fair.rest name = λ i x.
     let first = subst (λ (v : List ℕ). LiveAs k i v) x.2 (lives_first k l i x.0 x.1) in
-    elim (piece_own i sound (stand_files k w.standings w.next stand) first (last i x) piece along) [
+    elim (piece_well i sound (stand_files k w.standings w.next stand) first (last i x) piece along) [
       | inl (inl g) ↦ inl (judged_at l p.1.standings p.1.next i a.fair.stand g)
-      | inl (inr n) ↦ inr (subst (λ (v : List Entry). IsNamed v name) (added w.entries p.1.entries a.fair.rest n.0 a.fair.entries n.1) n.2)
-      | inr e ↦ let same = e.0 in absurd (let none : ⊥ = cc in none)
+      | inr n ↦ inr (subst (λ (v : List Entry). IsNamed v name) (added w.entries p.1.entries a.fair.rest piece.rest a.fair.entries piece.entries) n)
+      | inl (inr e) ↦ let same = e.0 in absurd (let none : ⊥ = cc in none)
     ] in
     record {
       fair = a.fair;
@@ -333,8 +268,8 @@ resettling_one w k l p x sound stand has r =
           let last = subst (λ (v : List ℕ). LiveAs l i v) (sym named) (lives_last k l i d g lives) in
           elim (piece_well i sound files first last piece y.along) [
             | inl (inl good) ↦ inl (judged_at l p.1.standings w.next i a.fair.stand good)
-            | inl (inr n) ↦ inr n
-            | inr none ↦ elim (stands_or_gone x has a i file) [
+            | inr n ↦ inr (piece.rest, piece.entries, n)
+            | inl (inr none) ↦ elim (stands_or_gone x has a i file) [
               | inl s ↦ absurd (none.1 s)
               | inr gone ↦ absurd (dead l i x.name gone last)
             ]

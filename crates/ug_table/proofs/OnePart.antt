@@ -1,21 +1,9 @@
 -- One name's part of a sweep, from its shapes: one law on its calls, and one on its entries.
 use Rattle.std.proofs.Common.{◌≡◌, ℕ, ◌≤◌, Bool, true, false, not, ◌||◌, List, [], ◌∷◌, ◌++◌, length, Option, Some, None, ◌⊎◌, inl, inr, refl, sym, ◌∙◌, ap, subst, append_assoc, append-nil, arith}
-use Rattle.ug_table.proofs.Common.{Has, Held, Target, Authorized, Remove, Write, FailedCall, Probe, Wrote, Open, Ask_alive, Put, Close, Told, Made, answered, failures, count_calls, Bound, Binding, RemoveHold, Entry, Fault, known_of, with_standing, standing_of, wrote_entries, OpenFile, open_file, Behind, behind_more, IsWriteDue, PutMade, AtMostOneEach, told_by, failure_in, failures_told, write_in, writes_in, TellsWrites, EndsUnsettled, IsBoundAnew, LacksRoom, control_of, known_files, AllBear, number_of, AreOfNumber, numbers_given, Part, Standing, Known, Settled}
-use Rattle.ug_types.specs.declared.verdict.Target.TheVariants as target
-use Rattle.ug_types.specs.declared.control.Write.TheVariants as write
-use Rattle.ug_kernel.specs.declared.calls.Probe.TheVariants as probe
-use Rattle.ug_node.specs.declared.identity.Binding.TheVariants as bound
-use Rattle.ug_node.specs.declared.removal.RemoveHold.TheVariants as hold
+use Rattle.ug_table.proofs.Common.{Has, Held, Target, Authorized, Remove, Write, FailedCall, Probe, Wrote, Open, Ask_alive, Put, Close, Told, Made, answered, failures, count_calls, Bound, Binding, RemoveHold, Entry, Fault, known_of, with_standing, standing_of, wrote_entries, OpenFile, open_file, Behind, behind_more, IsWriteDue, PutMade, AtMostOneEach, told_by, failure_in, failures_told, write_in, writes_in, TellsWrites, EndsUnsettled, IsBoundAnew, LacksRoom, control_of, known_files, AllBear, number_of, AreOfNumber, numbers_given, Part, Standing, Known, Settled, unsettled_by, tried_standings, has_right, wants, write_of, is_to_go, why_in, whys, why_of}
 use Rattle.ug_node.proofs.BindShapes.{way_binds, Holds_by, way_holds}
-use Rattle.ug_audit.specs.declared.entry.Entry.TheVariants as entry
-use Rattle.ug_audit.specs.declared.entry.Fault.TheVariants as fault
-use Rattle.ug_table.specs.Settle.{unsettled_by, tried_standings}
-use Rattle.ug_table.specs.Bring.{wants, write_of, is_to_go}
-use Rattle.ug_table.specs.One.{why_in, whys, why_of}
-use Rattle.ug_table.specs.declared.standing.Settled.TheVariants as settled
-use Rattle.ug_types.proofs.Elements.{has_right}
-use Rattle.ug_table.proofs.Shapes.{Written, Done, Went, Valued, Same, Set, Unheld, Gone_by, Short_by, Removal, Not_held, Put_on, Carried, By_value, And_removal, Brought, Left_open, Let_go, Opening, Fresh, Lost, Unbound_end, Absent_so, Vanished_so, Flat, Unprobed, Tried, Stopped, Unbound, No_place, Judged_so, told_at, opening_none, new_known}
-use Rattle.ug_table.proofs.Standings.{OthersStand, others_stand, without_stand, with_stand, not_named, tried_stand, stands_file, stands_number, without_own, tried_own}
+use Rattle.ug_table.proofs.Shapes.{Written, Done, Went, Valued, Same, Set, Unheld, Gone_by, Short_by, Removal, Not_held, Put_on, Carried, By_value, And_removal, Brought, Left_open, Let_go, Opening, Fresh, Lost, Unbound_end, Absent_so, Vanished_so, Flat, Unprobed, Tried, Stopped, Unbound, No_place, Judged_so, told_at, opening_none, flat_rest, new_known}
+use Rattle.ug_table.proofs.Standings.{others_stand, stands_file, stands_number, without_own, tried_own}
 use Rattle.ug_table.proofs.PartCalls.{has_want, failed_by, are_short, behind_after, CallsOf, calls_are, calls_more, calls_as, closed_first, binding_faults, binding_files, binds_calls, IsFound, bound_found, hold_faults, hold_files, holds_calls, ready_due, IsShort, hold_short}
 
 -- entries
@@ -59,12 +47,12 @@ entries_are n y w l b g = record
 numbers_more : (a b c : Option ℕ) (es fs : List Entry) → AreOfNumber a es b → AreOfNumber b fs c
     → AreOfNumber a (es ++ fs) c
 numbers_more a b c [] fs h k = subst (λ (v : Option ℕ). AreOfNumber v fs c) h k
-numbers_more a b c (entry.Judged number n held verdict cause ∷ es) fs h k =
+numbers_more a b c (Entry.Judged number n held verdict cause ∷ es) fs h k =
     (h.0, numbers_more (Some number) b c es fs h.1 k)
-numbers_more a b c (entry.Intent number n what ∷ es) fs h k = (h.0, numbers_more a b c es fs h.1 k)
-numbers_more a b c (entry.Wrote number n what outcome ∷ es) fs h k =
+numbers_more a b c (Entry.Intent number n what ∷ es) fs h k = (h.0, numbers_more a b c es fs h.1 k)
+numbers_more a b c (Entry.Wrote number n what outcome ∷ es) fs h k =
     (h.0, numbers_more a b c es fs h.1 k)
-numbers_more a b c (entry.Gone number n ∷ es) fs h k = (h.0, numbers_more None b c es fs h.1 k)
+numbers_more a b c (Entry.Gone number n ∷ es) fs h k = (h.0, numbers_more None b c es fs h.1 k)
 numbers_more a b c (e ∷ es) fs h k = numbers_more a b c es fs h k
 
 bears_more : (name : List ℕ) (es fs : List Entry) → AllBear name es → AllBear name fs
@@ -75,15 +63,15 @@ bears_more name (e ∷ es) fs a b = (a.0, bears_more name es fs a.1 b)
 last_more : (name : List ℕ) (es fs : List Entry) → whys es ≡ [] → EndsUnsettled name es
     → EndsUnsettled name fs → EndsUnsettled name (es ++ fs)
 last_more name [] fs w a h = h
-last_more name (entry.Unsettled other why ∷ es) fs w a h = let none : ⊥ = cc in absurd none
-last_more name (entry.UnsettledAll why ∷ es) fs w a h = absurd a.0
-last_more name (entry.Reply answered ∷ es) fs w a h = absurd a.0
+last_more name (Entry.Unsettled other why ∷ es) fs w a h = let none : ⊥ = cc in absurd none
+last_more name (Entry.UnsettledAll why ∷ es) fs w a h = absurd a.0
+last_more name (Entry.Reply answered ∷ es) fs w a h = absurd a.0
 last_more name (e ∷ es) fs w a h = (tt, last_more name es fs w a.1 h)
 
 pub given_more : (es fs : List Entry)
     → numbers_given (es ++ fs) ≡ numbers_given es ++ numbers_given fs
 given_more [] fs = refl
-given_more (entry.Judged number name held verdict cause ∷ es) fs =
+given_more (Entry.Judged number name held verdict cause ∷ es) fs =
     ap (λ (v : List ℕ). number ∷ v) (given_more es fs)
 given_more (e ∷ es) fs = given_more es fs
 
@@ -124,20 +112,20 @@ entries_to {name} {from} {es = es} {faults = faults} {ps = ps} {ns = ns} e h =
 -- the file and the number of a standing, which end where its device is gone
 
 abbrev pub ended_files : Settled → ℕ → List OpenFile
-ended_files settled.Nobody held = []
+ended_files Settled.Nobody held = []
 ended_files how held = open_file held Authorized ∷ []
 
 abbrev pub ended_number : Settled → ℕ → Option ℕ
-ended_number settled.Nobody number = None
+ended_number Settled.Nobody number = None
 ended_number how number = Some number
 
 -- the value's writes: none, or one that is no removal
 abbrev AreValue : List PutMade → Type 0
-AreValue ps = (ps ≡ []) ⊎ ((p : PutMade) × (ps ≡ p ∷ []) × (p.write ≡ write.Remove → ⊥))
+AreValue ps = (ps ≡ []) ⊎ ((p : PutMade) × (ps ≡ p ∷ []) × (p.write ≡ Write.Remove → ⊥))
 
 -- the removal's: none, or a removal
 abbrev AreRemoval : List PutMade → Type 0
-AreRemoval ps = (ps ≡ []) ⊎ ((p : PutMade) × (ps ≡ p ∷ []) × (p.write ≡ write.Remove))
+AreRemoval ps = (ps ≡ []) ⊎ ((p : PutMade) × (ps ≡ p ∷ []) × (p.write ≡ Write.Remove))
 
 single_value : (ps : List PutMade) → AreValue ps → AtMostOneEach ps
 single_value ps (inl e) = subst (λ v. AtMostOneEach v) (sym e) tt
@@ -165,13 +153,13 @@ pub record Goes (P : List PutMade → Type 0) (Q : Type 0) (name : List ℕ) (kn
   pub calls : CallsOf name files b ms after (why_of how) ps n
   pub entries : EntriesOf name (Some known.number) es (ended_number how known.number) [] ps []
   pub single : P ps
-  pub short : how ≡ settled.Memory → Q
+  pub short : how ≡ Settled.Memory → Q
 
 goes_are : {P : List PutMade → Type 0} {Q : Type 0} {name : List ℕ} {known : Known}
     {files after : List OpenFile} {b : Behind} {ms : List Made} {es : List Entry} {how : Settled}
     {n : ℕ} {ps : List PutMade} → CallsOf name files b ms after (why_of how) ps n
     → EntriesOf name (Some known.number) es (ended_number how known.number) [] ps []
-    → P ps → (how ≡ settled.Memory → Q) → Goes P Q name known files b ms es how after n
+    → P ps → (how ≡ Settled.Memory → Q) → Goes P Q name known files b ms es how after n
 goes_are {ps = ps} c e p q = record { ps = ps; calls = c; entries = e; single = p; short = q }
 
 written_entries : {name : List ℕ} {number : ℕ} {what : Write} {t : Told Wrote} {es : List Entry}
@@ -188,26 +176,26 @@ written_entries {number = n} x =
 written_faults : {name : List ℕ} {number : ℕ} {what : Write} {t : Told Wrote} {es : List Entry}
     {how : Settled} (held : ℕ) → Written name number what t es how
     → (failures (answered (Put held what) t ∷ []) ≡ failed_by (why_of how))
-    × (false ≡ are_short (why_of how)) × (how ≡ settled.Memory → ⊥)
+    × (false ≡ are_short (why_of how)) × (how ≡ Settled.Memory → ⊥)
 written_faults held (Done failed) = (refl, refl, λ e. let none : ⊥ = cc in none)
 written_faults held x = (refl, refl, λ e. let none : ⊥ = cc in none)
 
 value_due : (verdict : Target) (on : Bool) (held : ℕ) (b : Behind) → IsFound b held on
     → (wants verdict ≡ on → ⊥) → IsWriteDue b held (write_of verdict)
-value_due target.Allow true held b f ne = absurd (ne refl)
-value_due target.Allow false held b f ne = f
-value_due target.Block false held b f ne = absurd (ne refl)
-value_due target.Reject false held b f ne = absurd (ne refl)
+value_due Target.Allow true held b f ne = absurd (ne refl)
+value_due Target.Allow false held b f ne = f
+value_due Target.Block false held b f ne = absurd (ne refl)
+value_due Target.Reject false held b f ne = absurd (ne refl)
 value_due x true held b f ne = f
 
 value_file : (verdict : Target) (held : ℕ) (files : List OpenFile)
     → Has files (open_file held Authorized)
     → Has files (open_file held (control_of (write_of verdict)))
-value_file target.Allow held files h = h
+value_file Target.Allow held files h = h
 value_file x held files h = h
 
-pub no_removal : (verdict : Target) → write_of verdict ≡ write.Remove → ⊥
-no_removal target.Allow e = let none : ⊥ = cc in none
+pub no_removal : (verdict : Target) → write_of verdict ≡ Write.Remove → ⊥
+no_removal Target.Allow e = let none : ⊥ = cc in none
 no_removal x e = let none : ⊥ = cc in none
 
 valued_goes : {name : List ℕ} {known : Known} {on : Bool} {ms : List Made} {es : List Entry}
@@ -229,24 +217,21 @@ valued_goes {known = known} {on = on} b f (Set t es how ne w) =
     (written_entries w) (inr
     (record { write = write_of v; outcome = t.answer }, refl, no_removal v)) faults.2
 
-unheld_calls : {name : List ℕ} {number : ℕ} {r : RemoveHold} {es : List Entry} {how : Settled}
-    {files : List OpenFile} {b : Behind} {ms : List Made} → Unheld name number r es how
+unheld_goes : {name : List ℕ} {known : Known} {held : ℕ} {ms : List Made} {r : RemoveHold}
+    {es : List Entry} {how : Settled} {files : List OpenFile} {b : Behind}
+    → Unheld name known.number r es how → Holds_by name held ms r
     → CallsOf name files b ms (hold_files r files) (hold_faults r) [] 2
-    → CallsOf name files b ms files (why_of how) [] 2
-unheld_calls Gone_by c = c
-unheld_calls x c = c
-
-unheld_entries : {name : List ℕ} {number : ℕ} {r : RemoveHold} {es : List Entry} {how : Settled}
-    → Unheld name number r es how
-    → EntriesOf name (Some number) es (ended_number how number) [] [] []
-unheld_entries Gone_by = entries_are (refl, refl) refl refl (tt, tt) (refl, tt) refl
-unheld_entries x = entries_are refl refl refl tt tt refl
-
-unheld_short : {name : List ℕ} {held number : ℕ} {ms : List Made} {r : RemoveHold} {es : List Entry}
-    {how : Settled} → Holds_by name held ms r → Unheld name number r es how → how ≡ settled.Memory
-    → IsShort ms
-unheld_short h Short_by e = hold_short h
-unheld_short h x e = let none : ⊥ = cc in absurd none
+    → Goes AreRemoval (IsShort ms) name known files b ms es how files 3
+unheld_goes Gone_by h c =
+    goes_are (calls_as refl (omega arith) c)
+    (entries_are (refl, refl) refl refl (tt, tt) (refl, tt) refl) (inl refl)
+    (λ e. let none : ⊥ = cc in absurd none)
+unheld_goes Short_by h c =
+    goes_are (calls_as refl (omega arith) c) (entries_are refl refl refl tt tt refl) (inl refl)
+    (λ e. hold_short h)
+unheld_goes x h c =
+    goes_are (calls_as refl (omega arith) c) (entries_are refl refl refl tt tt refl) (inl refl)
+    (λ e. let none : ⊥ = cc in absurd none)
 
 removal_goes : {name : List ℕ} {known : Known} {ms : List Made} {es : List Entry} {how : Settled}
     (b : Behind) → Removal name known ms es how
@@ -255,10 +240,9 @@ removal_goes : {name : List ℕ} {known : Known} {ms : List Made} {es : List Ent
 removal_goes {name} {known} b (Not_held ms r es how way u) =
     let by = way_holds name known.held.0 ms r way in
     let own : List OpenFile = open_file known.held.0 Authorized ∷ [] in
-    goes_are (calls_as refl (omega arith) (unheld_calls u (holds_calls own b (inl refl) by)))
-    (unheld_entries u) (inl refl) (unheld_short by u)
+    unheld_goes u by (holds_calls own b (inl refl) by)
 removal_goes {name} {known} b (Put_on ms file t shut es how way w) =
-    let by = way_holds name known.held.0 ms (hold.Ready file) way in
+    let by = way_holds name known.held.0 ms (RemoveHold.Ready file) way in
     let own : List OpenFile = open_file known.held.0 Authorized ∷ [] in
     let faults = written_faults file.0 w in
     goes_are
@@ -266,7 +250,7 @@ removal_goes {name} {known} b (Put_on ms file t shut es how way w) =
     (calls_are (inl refl, ((Remove, inl refl), tt)) (inl refl, (inr tt, tt))
     (ready_due b by, (tt, tt))
     (closed_first file.0 Remove own) faults.0 faults.1 refl (omega arith)))
-    (written_entries w) (inr (record { write = write.Remove; outcome = t.answer }, refl, refl))
+    (written_entries w) (inr (record { write = Write.Remove; outcome = t.answer }, refl, refl))
     (λ e. absurd (faults.2 e))
 
 -- both
@@ -291,9 +275,9 @@ carried_goes b f (And_removal ms ns es fs how go v r) =
     let y = k.short e in
     (go, (y.0, y.1, has_right ms ns (answered (Open y.0 Remove) y.1) y.2, y.3)))
 
-still_open : (how : Settled) (held : ℕ) → (how ≡ settled.Nobody → ⊥)
+still_open : (how : Settled) (held : ℕ) → (how ≡ Settled.Nobody → ⊥)
     → open_file held Authorized ∷ [] ≡ ended_files how held
-still_open settled.Nobody held n = absurd (n refl)
+still_open Settled.Nobody held n = absurd (n refl)
 still_open how held n = refl
 
 pub brought_goes : {name : List ℕ} {known : Known} {on : Bool} {ms : List Made} {es : List Entry}
@@ -331,8 +315,8 @@ told_entries {name} {from} {es} {ps} {ns} number how h =
   where
     by : (x : Settled) → EntriesOf name (ended_number x number) (unsettled_by name x)
         (ended_number x number) (why_of x) [] []
-    by settled.Stands = entries_are refl refl refl tt tt refl
-    by settled.Nobody = entries_are refl refl refl tt tt refl
+    by Settled.Stands = entries_are refl refl refl tt tt refl
+    by Settled.Nobody = entries_are refl refl refl tt tt refl
     by x = entries_are refl refl refl ((refl, refl), tt) (refl, tt) refl
 
 -- a name
@@ -356,10 +340,10 @@ opening_goes {name} b (Fresh e) =
       anew = λ ns. inl refl;
     })
 opening_goes {name} b (Lost known failed shut e) =
-    let t : Told Probe = told_at probe.Gone failed in
+    let t : Told Probe = told_at Probe.Gone failed in
     let m : Made = answered (Ask_alive known.held.0) t in
     let n : Made = answered (Close known.held.0) shut in
-    subst (λ o. OpeningGoes name o b (m ∷ n ∷ []) (entry.Gone known.number name ∷ [])) (sym e)
+    subst (λ o. OpeningGoes name o b (m ∷ n ∷ []) (Entry.Gone known.number name ∷ [])) (sym e)
     (record {
       calls = calls_are (inl refl, ((Authorized, inl refl), tt)) (inl refl, (inl refl, tt))
           (tt, (tt, tt))
@@ -368,18 +352,13 @@ opening_goes {name} b (Lost known failed shut e) =
       anew = λ ns. inr (m, n ∷ ns, refl, (known, t, refl, refl, refl));
     })
 
-unbound_calls : {name : List ℕ} {r : Binding} {es : List Entry} {how : Settled} {b : Behind}
+unbound_goes : {name : List ℕ} {r : Binding} {es : List Entry} {how : Settled} {b : Behind}
     {ms : List Made} → Unbound_end name r es how
     → CallsOf name [] b ms (binding_files r []) (binding_faults r) [] 9
-    → CallsOf name [] b ms [] (why_of how) [] 9
-unbound_calls Absent_so c = c
-unbound_calls x c = c
-
-unbound_entries : {name : List ℕ} {r : Binding} {es : List Entry} {how : Settled}
-    → Unbound_end name r es how → EntriesOf name None es None (why_of how) [] []
-unbound_entries Absent_so = entries_are refl refl refl tt tt refl
-unbound_entries Vanished_so = entries_are refl refl refl tt tt refl
-unbound_entries x = entries_are refl refl refl ((refl, refl), tt) (refl, tt) refl
+    → CallsOf name [] b ms [] (why_of how) [] 9 × EntriesOf name None es None (why_of how) [] []
+unbound_goes Absent_so c = (c, entries_are refl refl refl tt tt refl)
+unbound_goes Vanished_so c = (c, entries_are refl refl refl tt tt refl)
+unbound_goes x c = (c, entries_are refl refl refl ((refl, refl), tt) (refl, tt) refl)
 
 -- the file and the number of the standing that is left
 
@@ -387,7 +366,7 @@ pub tried_so : (name : List ℕ) (ss : List Standing) (how : Settled) (known : K
     → standing_of name ss ≡ Some known
     → (ended_files how known.held.0 ≡ known_files (standing_of name (tried_standings ss name how)))
     × (ended_number how known.number ≡ number_of (standing_of name (tried_standings ss name how)))
-tried_so name ss settled.Nobody known e =
+tried_so name ss Settled.Nobody known e =
     (sym (ap known_files (without_own name ss)), sym (ap number_of (without_own name ss)))
 tried_so name ss how known e =
     let own = tried_own name ss how known e (λ s. let none : ⊥ = cc in none) in (
@@ -415,7 +394,7 @@ record FlatGoes (binds : Bool) (name : List ℕ) (o p : Option Known) (ok : Bool
   single : AtMostOneEach ps
   failed : failed_by faults ≡ failed_by (why_of how)
   short : (not ok || are_short faults) ≡ are_short (why_of how)
-  memory : how ≡ settled.Memory → ((binds ≡ true) × IsBoundAnew o ms) ⊎ LacksRoom o ms
+  memory : how ≡ Settled.Memory → ((binds ≡ true) × IsBoundAnew o ms) ⊎ LacksRoom o ms
   count : length ns ≡ given
 
 flat_are : {binds : Bool} {name : List ℕ} {o p : Option Known} {ok : Bool} {ms : List Made}
@@ -424,7 +403,7 @@ flat_are : {binds : Bool} {name : List ℕ} {o p : Option Known} {ok : Bool} {ms
     → EntriesOf name (number_of o) es (number_of p) (why_of how) ps ns → AtMostOneEach ps
     → failed_by faults ≡ failed_by (why_of how)
     → (not ok || are_short faults) ≡ are_short (why_of how)
-    → (how ≡ settled.Memory → ((binds ≡ true) × IsBoundAnew o ms) ⊎ LacksRoom o ms)
+    → (how ≡ Settled.Memory → ((binds ≡ true) × IsBoundAnew o ms) ⊎ LacksRoom o ms)
     → length ns ≡ given → FlatGoes binds name o p ok ms es how given
 flat_are {faults = faults} {ps = ps} {ns = ns} c e a f s m n = record {
   faults = faults;
@@ -445,18 +424,18 @@ flat_goes : {binds : Bool} {given : List Standing → Bound → Standing → Typ
     → Flat binds given name ss ok ms rest how rs o
     → FlatGoes binds name (standing_of name ss) (standing_of name rs) ok ms rest how (given_count o)
 flat_goes {binds} {name = name} {ss = ss} {how = how} {rs = rs} (Unprobed known failed at) =
-    let m : Made = answered (Ask_alive known.held.0) (told_at probe.Failed failed) in
+    let m : Made = answered (Ask_alive known.held.0) (told_at Probe.Failed failed) in
     let own : List OpenFile = open_file known.held.0 Authorized ∷ [] in
-    let e : Entry = entry.Unsettled name (fault.Call failed) in
+    let e : Entry = Entry.Unsettled name (Fault.Call failed) in
     let so = tried_so name ss how known at in
-    let one : CallsOf name own start (m ∷ []) own (fault.Call failed ∷ []) [] 14 =
+    let one : CallsOf name own start (m ∷ []) own (Fault.Call failed ∷ []) [] 14 =
     calls_are (inl refl, tt) (inl refl, tt) (tt, tt) refl refl refl refl (omega arith) in
     subst (λ o. FlatGoes binds name o (standing_of name rs) true (m ∷ []) (e ∷ []) how 0) (sym at)
     (flat_are (calls_as so.0 (omega arith) one)
     (entries_to so.1 (entries_are refl refl refl ((refl, refl), tt) (refl, tt) refl))
     tt refl refl (λ e. let none : ⊥ = cc in absurd none) refl)
 flat_goes {binds} {name = name} {ss = ss} {rs = rs} (Tried known on failed ms es how at brought) =
-    let t : Told Probe = told_at (probe.Alive on) failed in
+    let t : Told Probe = told_at (Probe.Alive on) failed in
     let m : Made = answered (Ask_alive known.held.0) t in
     let own : List OpenFile = open_file known.held.0 Authorized ∷ [] in
     let so = tried_so name ss how known at in
@@ -478,14 +457,14 @@ flat_goes (Stopped ms es rs f opening) =
 flat_goes {name = name} (Unbound ms ns es fs rs r how t opening way end) =
     let h = opening_goes start opening in
     let none = sym (opening_none opening) in
-    let x = unbound_calls end (binds_calls [] (behind_after start ms) (way_binds name ns r way)) in
-    flat_are (calls_as (ap known_files none) (omega arith) (calls_more h.calls x))
-    (entries_to (ap number_of none) (entries_more h.entries (unbound_entries end)))
+    let x = unbound_goes end (binds_calls [] (behind_after start ms) (way_binds name ns r way)) in
+    flat_are (calls_as (ap known_files none) (omega arith) (calls_more h.calls x.0))
+    (entries_to (ap number_of none) (entries_more h.entries x.1))
     tt refl refl (λ e. inl (t, h.anew ns)) refl
 flat_goes {name = name} (No_place ms ns es rs v shut t opening way) =
     let h = opening_goes start opening in
     let none = sym (opening_none opening) in
-    let x = binds_calls [] (behind_after start ms) (way_binds name ns (bound.Bound v) way) in
+    let x = binds_calls [] (behind_after start ms) (way_binds name ns (Binding.Bound v) way) in
     let last : List Made = answered (Close v.held.0) shut ∷ [] in
     let own : List OpenFile = open_file v.held.0 Authorized ∷ [] in
     let end : CallsOf name own (behind_after (behind_after start ms) ns) last [] [] [] 0 =
@@ -499,13 +478,13 @@ flat_goes {name = name} (No_place ms ns es rs v shut t opening way) =
 flat_goes {name = name} (Judged_so ms ns os es fs rs v x how t opening way given new brought) =
     let h = opening_goes start opening in
     let c : Behind = behind_after start ms in
-    let by = way_binds name ns (bound.Bound v) way in
+    let by = way_binds name ns (Binding.Bound v) way in
     let f = bound_found c by in
     let found = subst (λ (w : Held). IsFound (behind_after c ns) w.0 v.on) (sym new.held) f in
     let k = brought_goes (behind_after c ns) found brought in
     let held = ap (λ (w : Held). open_file w.0 Authorized ∷ []) (sym new.held) in
     let so = tried_so name (with_standing x rs) how (known_of x) (new_known opening new) in
-    let e : List Entry = entry.Judged x.number name x.held x.verdict x.cause ∷ [] in
+    let e : List Entry = Entry.Judged x.number name x.held x.verdict x.cause ∷ [] in
     let given : EntriesOf name None e (Some x.number) [] [] (x.number ∷ []) =
     entries_are (refl, refl) refl refl (tt, tt) (refl, tt) refl in
     let bound = calls_as {m = 9} held (omega arith) (binds_calls [] c by) in
@@ -513,26 +492,6 @@ flat_goes {name = name} (Judged_so ms ns os es fs rs v x how t opening way given
     (entries_to so.1
     (entries_more h.entries (entries_more given (told_entries x.number how k.entries))))
     k.single refl refl (λ e. inl (t, h.anew (ns ++ os))) refl
-
--- and the standings of other names stay
-
-opening_others : {name : List ℕ} {ss : List Standing} {ms : List Made} {es : List Entry}
-    {rs : List Standing} → Opening name ss ms es rs → OthersStand name ss rs
-opening_others {name} {ss} (Fresh e) = others_stand name ss
-opening_others {name} {ss} (Lost known failed shut e) = λ other n. without_stand name other ss n
-
-flat_others : {binds : Bool} {given : List Standing → Bound → Standing → Type 0} {name : List ℕ}
-    {ss : List Standing} {ok : Bool} {ms : List Made} {rest : List Entry} {how : Settled}
-    {rs : List Standing} {o : Option (List Standing × Bound)}
-    → Flat binds given name ss ok ms rest how rs o → OthersStand name ss rs
-flat_others {name = name} {ss = ss} (Unprobed known failed at) = tried_stand name ss (settled.Fault failed)
-flat_others {name = name} {ss = ss} (Tried known on failed ms es how at b) = tried_stand name ss how
-flat_others (Stopped ms es rs f opening) = opening_others opening
-flat_others (Unbound ms ns es fs rs r how t opening way end) = opening_others opening
-flat_others (No_place ms ns es rs b shut t opening way) = opening_others opening
-flat_others {name = name} (Judged_so ms ns os es fs rs b x how t opening way given new brought) =
-    λ other n. tried_stand name (with_standing x rs) how other n
-    ∙ with_stand other x rs (not_named name other x new.named n) ∙ opening_others opening other n
 
 -- where nothing is bound, no number is given out
 pub flat_none : {binds : Bool} {given : List Standing → Bound → Standing → Type 0} {name : List ℕ}
@@ -548,14 +507,14 @@ flat_none f x = refl
 pub tells_why : (name : List ℕ) (es : List Entry) → EndsUnsettled name es
     → failures_told es ≡ failed_by (whys es)
 tells_why name [] last = refl
-tells_why name (entry.Unsettled other why ∷ es) last =
+tells_why name (Entry.Unsettled other why ∷ es) last =
     ap (λ (v : List FailedCall). told_by why ++ v) (tells_why name es last.1)
-tells_why name (entry.UnsettledAll why ∷ es) last = absurd last.0
-tells_why name (entry.Reply answered ∷ es) last = absurd last.0
+tells_why name (Entry.UnsettledAll why ∷ es) last = absurd last.0
+tells_why name (Entry.Reply answered ∷ es) last = absurd last.0
 tells_why name (e ∷ es) last = tells_why name es last.1
 
 -- why a name is told is among them
-pub told_in : (name : List ℕ) (why : Fault) (es : List Entry) → Has es (entry.Unsettled name why)
+pub told_in : (name : List ℕ) (why : Fault) (es : List Entry) → Has es (Entry.Unsettled name why)
     → Has (whys es) why
 told_in name why [] a = a
 told_in name why (e ∷ es) (inl is) =
@@ -564,20 +523,16 @@ told_in name why (e ∷ es) (inr a) = has_right (why_in e) (whys es) why (told_i
 
 -- so want of memory is told where it ended so
 tells_memory : (es : List Entry) (name : List ℕ) (how : Settled) → whys es ≡ why_of how
-    → Has es (entry.Unsettled name fault.Memory) → how ≡ settled.Memory
+    → Has es (Entry.Unsettled name Fault.Memory) → how ≡ Settled.Memory
 tells_memory es name how e a = by how
-    (subst (λ (v : List Fault). Has v fault.Memory) e (told_in name fault.Memory es a))
+    (subst (λ (v : List Fault). Has v Fault.Memory) e (told_in name Fault.Memory es a))
   where
-    by : (x : Settled) → Has (why_of x) fault.Memory → x ≡ settled.Memory
-    by settled.Stands b = absurd b
-    by settled.Nobody b = absurd b
-    by (settled.Fault failed) (inl is) = let none : ⊥ = cc in absurd none
-    by (settled.Fault failed) (inr none) = absurd none
-    by settled.Memory b = refl
-
-at_most_one : (o : Option (List Standing × Bound)) → given_count o ≤ 1
-at_most_one None = omega arith
-at_most_one (Some judged) = omega arith
+    by : (x : Settled) → Has (why_of x) Fault.Memory → x ≡ Settled.Memory
+    by Settled.Stands b = absurd b
+    by Settled.Nobody b = absurd b
+    by (Settled.Fault failed) (inl is) = let none : ⊥ = cc in absurd none
+    by (Settled.Fault failed) (inr none) = absurd none
+    by Settled.Memory b = refl
 
 module _ {binds : Bool} {given : List Standing → Bound → Standing → Type 0} {name : List ℕ}
     {ss : List Standing} {ok : Bool} {ms : List Made} {rest : List Entry} {how : Settled}
@@ -598,7 +553,7 @@ module _ {binds : Bool} {given : List Standing → Bound → Standing → Type 0
   flat_given = let h = flat_goes f in ap length h.entries.given ∙ h.count
 
   -- where nothing is bound, it ends for want of memory only if the standing's device is to be removed
-  pub flat_room : binds ≡ false → how ≡ settled.Memory
+  pub flat_room : binds ≡ false → how ≡ Settled.Memory
       → (known : Known) × (standing_of name ss ≡ Some known) × (is_to_go known ≡ true)
   flat_room unbound e = elim ((flat_goes f).memory e) [
     | inl x ↦ let bound = x.0 in absurd (let none : ⊥ = cc in none)
@@ -626,6 +581,6 @@ module _ {binds : Bool} {given : List Standing → Bound → Standing → Type 0
         few = c.few;
         bears = e.bears;
         numbers = e.numbers;
-        given = omega (arith, flat_given, at_most_one o);
-        others = flat_others f;
+        given = omega (arith, flat_given, elim o as (λ v. given_count v ≤ 1) [ None ↦ omega arith | Some x ↦ omega arith ]);
+        others = λ other. others_stand name other ss rs (flat_rest f);
       }

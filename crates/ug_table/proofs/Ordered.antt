@@ -1,36 +1,24 @@
 -- What an order does, over the states of a run.
-use Rattle.std.proofs.Common.{◌≡◌, ℕ, ◌≤◌, Bool, true, false, not, cond, nat_eq, List, [], ◌∷◌, ◌++◌, Option, Some, None, map, ◌⊎◌, inl, inr, refl, sym, ◌∙◌, ap, subst, append_assoc, arith}
+use Rattle.std.proofs.Common.{◌≡◌, ℕ, ◌≤◌, Bool, true, false, cond, nat_eq, List, [], ◌∷◌, ◌++◌, Option, Some, None, map, ◌⊎◌, inl, inr, refl, sym, ◌∙◌, ap, subst, append_assoc, arith}
 use Rattle.ug_types.specs.Principals.{Named}
-use Rattle.ug_types.specs.declared.verdict.Cause.TheVariants as cause
-use Rattle.ug_kernel.specs.declared.calls.Probe.TheVariants as probe
 use Rattle.ug_kernel.specs.declared.device.Effect.{Effect}
-use Rattle.ug_audit.specs.declared.entry.Entry.TheVariants as entry
-use Rattle.ug_table.proofs.Common.{Has, Authorized, open_file, Quiet, says_probe, none_before, Held, Target, Call, Answer, Ask_alive, Told, Follows, Runs, calls, Made, Entry, State, Kept, Answers, Laters, kept_of, with_kept, known_of, known_files, standing_of, numbered, number_of, AreOfNumber, numbers_given, AtMostOneEach, TellsWrites, writes_in, HasRemoval, wrote_entries, Account, Start, Note, Judge, Had, Had_not, Went, Tries, IsNamed, Stand, IsDevice, Standing, Settled, Probe, Kernel, IsKernel}
-use Rattle.ug_table.specs.Bring.{bringing}
+use Rattle.ug_table.proofs.Common.{Has, Authorized, open_file, Quiet, says_probe, none_before, Held, Target, Call, Answer, Ask_alive, Told, Follows, Runs, calls, Made, Entry, State, Kept, Answers, Laters, kept_of, with_kept, known_of, known_files, standing_of, numbered, number_of, AreOfNumber, numbers_given, AtMostOneEach, TellsWrites, writes_in, HasRemoval, wrote_entries, Account, Start, Note, Judge, Had, Had_not, Went, Tries, IsNamed, Stand, IsDevice, Standing, Settled, Probe, Kernel, IsKernel, Cause, names_of, unsettled_by, tried_standings, cancel, has_left, has_right, last_is, map_has, distinct_one, bringing, Ways, Sure, Ran, ways_run, sure_last, NeedsRoom, told_run, called_quiet, StandInOrder, KeepsOrder, AllBear}
 use Rattle.ug_table.specs.Marks.{has_number, stood_removed, LeavesMarks}
-use Rattle.ug_kernel.specs.Along.{count_calls, failures}
-use Rattle.ug_table.specs.One.{NeedsRoom, whys, why_of, failed_of}
-use Rattle.ug_table.specs.Order.{StandInOrder, KeepsOrder}
-use Rattle.ug_table.specs.Parts.{AllBear, AreAbout}
-use Rattle.ug_table.proofs.PartCalls.{has_want, are_short}
 use Rattle.ug_table.specs.Orders.{to_probe, probing, ProbesOne, with_verdict, ordered_standing, with_order, verdict_entry, to_tried, to_order, ordering, behind_probe, GoesAsOrder, HasOrdered, IsStopped, just_ordered, OrderedOne, OrdersOne}
-use Rattle.ug_table.specs.Settle.{unsettled_by, tried_standings}
-use Rattle.ug_table.specs.Sweep.{names_of}
-use Rattle.ug_table.specs.declared.standing.Settled.TheVariants as settled
-use Rattle.ug_types.proofs.Elements.{cancel, has_left, has_right, last_is, map_has, has_map, distinct_one}
-use Rattle.ug_kernel.proofs.Quiet.{called_quiet}
+use Rattle.ug_kernel.specs.Along.{count_calls}
+use Rattle.ug_kernel.proofs.Ways.{ways_more}
+use Rattle.ug_table.specs.One.{whys, why_of}
+use Rattle.ug_table.proofs.PartCalls.{has_want, are_short}
 use Rattle.ug_kernel.proofs.Rises.{Counting, along_numbered, along_rises}
 use Rattle.ug_kernel.proofs.Runs.{runs_then}
-use Rattle.ug_kernel.proofs.Told.{told_run}
-use Rattle.ug_kernel.proofs.Ways.{Ways, Sure, Went as Ran, ways_more, ways_run, sure_last}
 use Rattle.ug_table.proofs.Fair.{known_brought}
 use Rattle.ug_table.proofs.Lived.{StandsSo, as_judged, brought_own, judged_at, lives_first, lives_last, stand_files}
 use Rattle.ug_table.proofs.Marks.{keeps_map, known_has, names_distinct, tried_nobody}
-use Rattle.ug_table.proofs.One.{AreNamed, AreStood, left_gone, numbered_named, of_number, rest_of, stood_at, told_of, tried_leaves}
+use Rattle.ug_table.proofs.One.{AreStood, left_gone, numbered_named, of_number, stood_at, told_of, tried_leaves}
 use Rattle.ug_table.proofs.OnePart.{Goes, ToGo, brought_goes, ended_files, tried_so}
 use Rattle.ug_table.proofs.Shapes.{Adds, Brought, brought, told_at}
-use Rattle.ug_table.proofs.Standings.{IsFileOf, LiveAs, file_later, numbered_has, open_named, stands_one, tried_new, tried_own}
-use Rattle.ug_table.proofs.Steps.{FairFrom, fair_refl, tried_one}
+use Rattle.ug_table.proofs.Standings.{AreNamed, rest_map, IsFileOf, LiveAs, file_later, numbered_has, open_named, stands_one, tried_new, tried_own}
+use Rattle.ug_table.proofs.Steps.{FairFrom, fair_refl, in_order, stand_by, tried_one}
 
 -- the probe
 
@@ -56,50 +44,30 @@ told_probes gives told did number ss s r t h = λ l e.
 pub ordered_is : (number : ℕ) (verdict : Target) (who : Named) (x : Standing) → x.number ≡ number → ordered_standing number verdict who x ≡ with_verdict verdict who x
 ordered_is number verdict who x e =
     let same : nat_eq x.number number ≡ true = grind (arith, e) in
-    ap (λ (t : Bool). let v : Standing = record x { verdict = cond t verdict x.verdict; cause = cond t (cause.Order who) x.cause } in v) same
+    ap (λ (t : Bool). let v : Standing = record x { verdict = cond t verdict x.verdict; cause = cond t (Cause.Order who) x.cause } in v) same
 
 pub ordered_other : (number : ℕ) (verdict : Target) (who : Named) (x : Standing) → nat_eq x.number number ≡ false → ordered_standing number verdict who x ≡ x
-ordered_other number verdict who x e = ap (λ (t : Bool). let v : Standing = record x { verdict = cond t verdict x.verdict; cause = cond t (cause.Order who) x.cause } in v) e
+ordered_other number verdict who x e = ap (λ (t : Bool). let v : Standing = record x { verdict = cond t verdict x.verdict; cause = cond t (Cause.Order who) x.cause } in v) e
 
 pub keeps_ordered : (number : ℕ) (verdict : Target) (who : Named) (ss : List Standing) → KeepsOrder ss (with_order number verdict who ss)
 keeps_ordered number verdict who ss = keeps_map (ordered_standing number verdict who) ss (λ s. refl) (λ s. refl)
 
 numbered_ordered : (number : ℕ) (verdict : Target) (who : Named) (ss : List Standing) (x : Standing) → numbered number ss ≡ Some x → numbered number (with_order number verdict who ss) ≡ Some (ordered_standing number verdict who x)
 numbered_ordered number verdict who [] x e = let none : ⊥ = cc in absurd none
-numbered_ordered number verdict who (s ∷ ss) x e = by (nat_eq s.number number) (numbered_ordered number verdict who ss x) e
-  where
-    f : Standing → Standing
-    f = ordered_standing number verdict who
-
-    by : (b : Bool) → (numbered number ss ≡ Some x → numbered number (map f ss) ≡ Some (f x)) → cond b (Some s) (numbered number ss) ≡ Some x → cond b (Some (f s)) (numbered number (map f ss)) ≡ Some (f x)
-    by true h e = let same : s ≡ x = cc in ap (λ (v : Standing). Some (f v)) same
-    by false h e = h e
-
--- the others stay
-ordered_rest : (number : ℕ) (verdict : Target) (who : Named) (ss : List Standing) → rest_of (of_number number) (with_order number verdict who ss) ≡ rest_of (of_number number) ss
-ordered_rest number verdict who [] = refl
-ordered_rest number verdict who (s ∷ ss) = by (nat_eq s.number number) refl (ordered_rest number verdict who ss)
-  where
-    f : Standing → Standing
-    f = ordered_standing number verdict who
-
-    rest : List Standing → List Standing
-    rest = rest_of (of_number number)
-
-    by : (b : Bool) → nat_eq s.number number ≡ b → rest (map f ss) ≡ rest ss → cond (not b) (f s ∷ rest (map f ss)) (rest (map f ss)) ≡ cond (not b) (s ∷ rest ss) (rest ss)
-    by true e h = h
-    by false e h = ap (λ (v : Standing). v ∷ rest (map f ss)) (ordered_other number verdict who s e) ∙ ap (λ (v : List Standing). s ∷ v) h
-
--- the standing of that number is there, with the verdict
-
-pub has_ordered : (number : ℕ) (verdict : Target) (who : Named) (ss : List Standing) (x : Standing) → numbered number ss ≡ Some x → Has (with_order number verdict who ss) (with_verdict verdict who x)
-has_ordered number verdict who ss x at =
-    let was = numbered_has number ss x at in
-    subst (λ (v : Standing). Has (with_order number verdict who ss) v) (ordered_is number verdict who x was.1) (has_map (ordered_standing number verdict who) ss x was.0)
+numbered_ordered number verdict who (s ∷ ss) x e =
+    let f = ordered_standing number verdict who in
+    elim (nat_eq s.number number) as (λ (b : Bool). cond b (Some s) (numbered number ss) ≡ Some x → cond b (Some (f s)) (numbered number (map f ss)) ≡ Some (f x)) [
+      | true ↦ λ h. (let same : s ≡ x = cc in ap (λ (v : Standing). Some (f v)) same)
+      | false ↦ numbered_ordered number verdict who ss x
+    ] e
 
 pub numbered_now : (number : ℕ) (verdict : Target) (who : Named) (ss : List Standing) (x : Standing) → numbered number ss ≡ Some x → numbered number (with_order number verdict who ss) ≡ Some (with_verdict verdict who x)
 numbered_now number verdict who ss x at =
     numbered_ordered number verdict who ss x at ∙ ap (λ (v : Standing). Some v) (ordered_is number verdict who x (numbered_has number ss x at).1)
+
+-- the standing of that number is there, with the verdict
+pub has_ordered : (number : ℕ) (verdict : Target) (who : Named) (ss : List Standing) (x : Standing) → numbered number ss ≡ Some x → Has (with_order number verdict who ss) (with_verdict verdict who x)
+has_ordered number verdict who ss x at = (numbered_has number (with_order number verdict who ss) (with_verdict verdict who x) (numbered_now number verdict who ss x at)).0
 
 -- its run: the calls, the entries, how it ended, and the standings then
 record Obeys (y : Standing) (ss : List Standing) (on : Bool) (es : List Entry) (ms : List Made) (p : Settled × Kept) : Type 0 where
@@ -120,38 +88,27 @@ unfolding ordering
 ordering_run gives number verdict who on k x s p t at r =
     ways_run gives (Sure (Obeys (with_verdict verdict who x) (with_order number verdict who k.standings) on k.entries)) (to_order number verdict who on k (Some x)) s p t (obeys number verdict who on k x) (subst (λ (o : Option Standing). Runs gives s (to_order number verdict who on k o) p t) at r)
 
--- on each way it asks for no room, and ends for want of memory just where a call found none
-pub record EndsOrder (x : Standing) (k : Kept) (ok : Bool) (ms : List Made) (p : Settled × Kept) : Type 0 where
+-- On each way it asks for no room, and ends for want of memory just where a call found none. No number is given out.
+pub record EndsOrder (x y : Standing) (k : Kept) (ok : Bool) (ms : List Made) (p : Settled × Kept) : Type 0 where
   pub sure : ok ≡ true
   pub want : has_want ms ≡ are_short (why_of p.0)
-  pub failed : failures ms ≡ failed_of p.0
   pub few : count_calls ms ≤ 4
-  pub about : AreAbout x.name (open_file x.held.0 Authorized ∷ []) ms
   pub rest : List Entry
-  pub entries : p.1.entries ≡ k.entries ++ rest
+  pub entries : p.1.entries ≡ k.entries ++ verdict_entry y ∷ rest
   pub bears : AllBear x.name rest
   pub quiet : whys rest ≡ []
+  pub given : numbers_given rest ≡ []
 
-pub ordering_ways : (number : ℕ) (verdict : Target) (who : Named) (on : Bool) (k : Kept) (x : Standing) → numbered number k.standings ≡ Some x → Ways (ordering number verdict who on k) (EndsOrder x k)
+pub ordering_ways : (number : ℕ) (verdict : Target) (who : Named) (on : Bool) (k : Kept) (x : Standing) → numbered number k.standings ≡ Some x → Ways (ordering number verdict who on k) (EndsOrder x (with_verdict verdict who x) k)
 unfolding ordering
 ordering_ways number verdict who on k x at =
     let y = with_verdict verdict who x in
-    let found = told_at (probe.Alive on) (record { call = 0; count = 0 }) in
-    subst (λ (o : Option Standing). Ways (to_order number verdict who on k o) (EndsOrder x k)) (sym at)
-    (ways_more (Sure (Obeys y (with_order number verdict who k.standings) on k.entries)) (EndsOrder x k) (to_order number verdict who on k (Some x)) (λ ok ms p h.
+    let found = told_at (Probe.Alive on) (record { call = 0; count = 0 }) in
+    subst (λ (o : Option Standing). Ways (to_order number verdict who on k o) (EndsOrder x y k)) (sym at)
+    (ways_more (Sure (Obeys y (with_order number verdict who k.standings) on k.entries)) (EndsOrder x y k) (to_order number verdict who on k (Some x)) (λ ok ms p h.
     let o = h.1 in
     let g = brought_goes (behind_probe y.held.0 found) (found, refl, refl) o.brought in
-    record {
-      sure = h.0;
-      want = g.calls.short;
-      failed = g.calls.failed ∙ told_of p.0;
-      few = g.calls.few;
-      about = g.calls.about;
-      rest = verdict_entry y ∷ o.rest;
-      entries = o.entries;
-      bears = (refl, g.entries.bears);
-      quiet = g.entries.why;
-    }) (obeys number verdict who on k x))
+    record { sure = h.0; want = g.calls.short; few = g.calls.few; rest = o.rest; entries = o.entries; bears = g.entries.bears; quiet = g.entries.why; given = g.entries.given }) (obeys number verdict who on k x))
 
 -- and from its parts
 pub ordering_goes : {S : Type 0} (gives : S → (call : Call) → Answer call → S → Type 0) (number : ℕ) (verdict : Target) (who : Named) (on : Bool) (ss after : List Standing) (es fs : List Entry) (x : Standing) (s u : S) (how : Settled) → numbered number ss ≡ Some x → Runs gives s (bringing x.name (known_of (with_verdict verdict who x)) on (es ++ verdict_entry (with_verdict verdict who x) ∷ [])) (how, fs) u → after ≡ tried_standings (with_order number verdict who ss) x.name how → Runs gives s (ordering number verdict who on (kept_of ss es)) (how, kept_of after fs) u
@@ -174,8 +131,8 @@ order_part gives calls faults counted next number verdict who on k x s p t order
     let kept = keeps_ordered number verdict who k.standings next order in
     let one = stands_one y.name ss y (names_distinct (names_of ss) kept.order) (has_ordered number verdict who k.standings x at) refl in
     let so = tried_so y.name ss p.0 (known_of y) one in
-    let goes : (t : Told Probe) → t.answer ≡ probe.Alive on → Goes AtMostOneEach (ToGo (known_of y) ms) y.name (known_of y) (open_file y.held.0 Authorized ∷ []) (behind_probe y.held.0 t) ms o.rest p.0 (ended_files p.0 y.held.0) 4 = λ t e. brought_goes (behind_probe y.held.0 t) (t, refl, e) o.brought in
-    let g = goes (told_at (probe.Alive on) (record { call = 0; count = 0 })) refl in
+    let goes : (t : Told Probe) → t.answer ≡ Probe.Alive on → Goes AtMostOneEach (ToGo (known_of y) ms) y.name (known_of y) (open_file y.held.0 Authorized ∷ []) (behind_probe y.held.0 t) ms o.rest p.0 (ended_files p.0 y.held.0) 4 = λ t e. brought_goes (behind_probe y.held.0 t) (t, refl, e) o.brought in
+    let g = goes (told_at (Probe.Alive on) (record { call = 0; count = 0 })) refl in
     let now : standing_of y.name (tried_standings ss y.name p.0) ≡ standing_of y.name p.1.standings = ap (standing_of y.name) (sym o.standings) in
     record {
       made = ms;
@@ -213,7 +170,7 @@ order_marks gives next number verdict who on k x s p t order at r =
     let m = map_has f k.standings s a in
     subst (λ (v : Standing). stood_removed v.number k.standings ≡ v.removed) m.2 (stood_at k.standings m.0 order.distinct m.1) in
     subst (λ (v : List Standing). LeavesMarks (has_number number) k.standings v p.0) (sym o.standings)
-    (tried_leaves (of_number number) y.name k.standings ss p.0 named (ordered_rest number verdict who k.standings) stood)
+    (tried_leaves (of_number number) y.name k.standings ss p.0 named (rest_map (of_number number) f k.standings (λ s. refl) (λ s a e. ordered_other number verdict who s e)) stood)
 
 pub order_verdict : {S : Type 0} (gives : S → (call : Call) → Answer call → S → Type 0) (next number : ℕ) (verdict : Target) (who : Named) (on : Bool) (k : Kept) (s : S) (p : Settled × Kept) (t : S) → StandInOrder next k.standings → Runs gives s (ordering number verdict who on k) p t → HasOrdered number verdict who k.standings p.1.standings
 order_verdict gives next number verdict who on k s p t order r = λ x at z a e.
@@ -228,11 +185,11 @@ order_verdict gives next number verdict who on k s p t order r = λ x at z a e.
     (j.3 ∙ ap (λ (v : Standing). v.name) same, j.4 ∙ ap (λ (v : Standing). v.held) same, j.5 ∙ ap (λ (v : Standing). v.judged) same, j.6 ∙ ap (λ (v : Standing). v.verdict) same, j.7 ∙ ap (λ (v : Standing). v.cause) same)
 
 -- want of memory
-pub order_short : {S : Type 0} (gives : S → (call : Call) → Answer call → S → Type 0) (number : ℕ) (verdict : Target) (who : Named) (on : Bool) (k : Kept) (x : Standing) (s : S) (p : Settled × Kept) (t : S) → numbered number k.standings ≡ Some x → Runs gives s (ordering number verdict who on k) p t → p.0 ≡ settled.Memory → NeedsRoom number (with_order number verdict who k.standings)
+pub order_short : {S : Type 0} (gives : S → (call : Call) → Answer call → S → Type 0) (number : ℕ) (verdict : Target) (who : Named) (on : Bool) (k : Kept) (x : Standing) (s : S) (p : Settled × Kept) (t : S) → numbered number k.standings ≡ Some x → Runs gives s (ordering number verdict who on k) p t → p.0 ≡ Settled.Memory → NeedsRoom number (with_order number verdict who k.standings)
 order_short gives number verdict who on k x s p t at r e =
     let run = ordering_run gives number verdict who on k x s p t at r in
     let y = with_verdict verdict who x in
-    let t = told_at (probe.Alive on) (record { call = 0; count = 0 }) in
+    let t = told_at (Probe.Alive on) (record { call = 0; count = 0 }) in
     let g = brought_goes (behind_probe y.held.0 t) (t, refl, refl) run.so.1.brought in
     (y, numbered_now number verdict who k.standings x at, (g.short e).0)
 
@@ -241,20 +198,14 @@ order_short gives number verdict who on k x s p t at r e =
 pub stand_ordered : (k : Kernel) (ss : List Standing) (next number : ℕ) (verdict : Target) (who : Named) → Stand k ss next → Stand k (with_order number verdict who ss) next
 stand_ordered k ss next number verdict who stand =
     let f = ordered_standing number verdict who in
-    let o = keeps_ordered number verdict who ss next (record { order = stand.order; distinct = stand.distinct; numbers = stand.numbers }) in
-    record {
-      devices = λ s a. let m = map_has f ss s a in subst (λ (v : Standing). (i : ℕ) × IsDevice k i v.name v.held v.judged) m.2 (stand.devices m.0 m.1);
-      numbers = o.numbers;
-      names = names_distinct (names_of (with_order number verdict who ss)) o.order;
-      order = o.order;
-      distinct = o.distinct;
-      removed = λ s a. let m = map_has f ss s a in subst (λ (v : Standing). v.removed ≡ true → HasRemoval k v.held) m.2 (stand.removed m.0 m.1);
-    }
+    stand_by k (with_order number verdict who ss) next (keeps_ordered number verdict who ss next (in_order stand))
+    (λ s a. let m = map_has f ss s a in subst (λ (v : Standing). (i : ℕ) × IsDevice k i v.name v.held v.judged) m.2 (stand.devices m.0 m.1))
+    (λ s a. let m = map_has f ss s a in subst (λ (v : Standing). v.removed ≡ true → HasRemoval k v.held) m.2 (stand.removed m.0 m.1))
 
 -- no verdict is told, and no write but of that number
 abbrev OnlyOf : ℕ → Entry → Type 0
-OnlyOf number (entry.Judged n name held verdict cause) = ⊥
-OnlyOf number (entry.Wrote n name what outcome) = n ≡ number
+OnlyOf number (Entry.Judged n name held verdict cause) = ⊥
+OnlyOf number (Entry.Wrote n name what outcome) = n ≡ number
 OnlyOf number e = Unit {0}
 
 -- a number whose standing was told gone has no write any more
@@ -263,13 +214,13 @@ IsAt number now = (now ≡ None) ⊎ (now ≡ Some number)
 
 only_of : (number : ℕ) (now : Option ℕ) (es : List Entry) (end : Option ℕ) → IsAt number now → AreOfNumber now es end → numbers_given es ≡ [] → (e : Entry) → Has es e → OnlyOf number e
 only_of number now [] end at h g e a = absurd a
-only_of number now (entry.Judged n name held verdict cause ∷ es) end at h g e a = let none : ⊥ = cc in absurd none
-only_of number now (entry.Wrote n name what outcome ∷ es) end at h g e (inl is) =
+only_of number now (Entry.Judged n name held verdict cause ∷ es) end at h g e a = let none : ⊥ = cc in absurd none
+only_of number now (Entry.Wrote n name what outcome ∷ es) end at h g e (inl is) =
     let same : n ≡ number = elim at [ inl x ↦ (let f = h.0 in let none : ⊥ = cc in absurd none) | inr x ↦ (let f = h.0 in cc) ] in
     subst (OnlyOf number) is same
-only_of number now (entry.Gone n name ∷ es) end at h g e (inr a) = only_of number None es end (inl refl) h.1 g e a
-only_of number now (entry.Intent n name what ∷ es) end at h g e (inr a) = only_of number now es end at h.1 g e a
-only_of number now (entry.Wrote n name what outcome ∷ es) end at h g e (inr a) = only_of number now es end at h.1 g e a
+only_of number now (Entry.Gone n name ∷ es) end at h g e (inr a) = only_of number None es end (inl refl) h.1 g e a
+only_of number now (Entry.Intent n name what ∷ es) end at h g e (inr a) = only_of number now es end at h.1 g e a
+only_of number now (Entry.Wrote n name what outcome ∷ es) end at h g e (inr a) = only_of number now es end at h.1 g e a
 only_of number now (x ∷ es) end at h g e (inl is) = subst (OnlyOf number) is tt
 only_of number now (x ∷ es) end at h g e (inr a) = only_of number now es end at h g e a
 
@@ -280,24 +231,21 @@ account_own number file own (Note es log judge next e t h) only f a = account_ow
 account_own number file own (Judge es log judge next i name held judged on ss d q st left marks h) only f a = account_own number file own h (λ x b. only x (has_left es _ x b)) f a
 account_own {k = k} number file own (Had es log judge next i n name held judged verdict what outcome d had due first may h) only f a =
     let told = wrote_entries n name what outcome in
-    let same : n ≡ number = only (entry.Wrote n name what outcome) (has_right es told (entry.Wrote n name what outcome) (inr (inl refl))) in
+    let same : n ≡ number = only (Entry.Wrote n name what outcome) (has_right es told (Entry.Wrote n name what outcome) (inr (inl refl))) in
     elim (last_is log (record { device = i; write = what }) f a) [
       | inl b ↦ account_own number file own h (λ x c. only x (has_left es told x c)) f b
       | inr is ↦ elim had [
         | inl s ↦ inr (subst (λ (v : Effect). IsFileOf k file.0 v.device) is (subst (λ (v : Held). IsFileOf k v.0 i) (sym s.4 ∙ own s.0 s.1 (s.2 ∙ same)) d.file))
-        | inr s ↦ absurd (only (entry.Judged n name held verdict s.0) (has_left es told _ s.1))
+        | inr s ↦ absurd (only (Entry.Judged n name held verdict s.0) (has_left es told _ s.1))
       ]
     ]
 account_own number file own (Had_not es log judge next i n name held judged verdict what outcome d had due first may h) only f a = account_own number file own h (λ x b. only x (has_left es _ x b)) f a
 account_own number file own (Went es log judge next i n name held judged verdict d gone had h) only f a = account_own number file own h (λ x b. only x (has_left es _ x b)) f a
 
 stopped : (how : Settled) (name : List ℕ) → IsNamed (unsettled_by name how) name → IsStopped how
-stopped settled.Stands name n = absurd n.1
-stopped settled.Nobody name n = absurd n.1
+stopped Settled.Stands name n = absurd n.1
+stopped Settled.Nobody name n = absurd n.1
 stopped how name n = tt
-
-kept_is : (v : Kept) (ss : List Standing) (es : List Entry) → v.standings ≡ ss → v.entries ≡ es → let made : Kept = record { standings = ss; entries = es } in v ≡ made
-kept_is v ss es a b = λ i. record { standings = a i; entries = b i }
 
 pub order_one : {J : Type 0} (number : ℕ) (verdict : Target) (who : Named) (on : Bool) (w : State J) (k l : Kernel) (p : Settled × Kept) (x : Standing) → IsKernel k → Stand k w.standings w.next → numbered number w.standings ≡ Some x → Runs calls k (ordering number verdict who on (kept_of w.standings w.entries)) p l → OrderedOne number verdict who on x k w l (with_kept w p.1) p.0
 order_one {J} number verdict who on w k l p x sound stand at r =
@@ -311,13 +259,14 @@ order_one {J} number verdict who on w k l p x sound stand at r =
     let was = numbered_has number w.standings x at in
     let one = stands_one y.name ss y stands.names mine refl in
     let added : p.1.entries ≡ u.entries ++ o.rest = o.entries ∙ sym (append_assoc w.entries (verdict_entry y ∷ []) o.rest) in
+    let is : p.1 ≡ kept_of (tried_standings ss y.name p.0) (u.entries ++ o.rest) = λ i. record { standings = o.standings i; entries = added i } in
     let fair : (answer : Answers J) (later : Laters J) (present : Bool) (tried : Tries) → FairFrom answer later present tried k u l (with_kept w p.1) = λ answer later present tried.
-    subst (λ (v : Kept). FairFrom answer later present tried k u l (with_kept w v)) (sym (kept_is p.1 (tried_standings ss y.name p.0) (u.entries ++ o.rest) o.standings added))
+    subst (λ (v : Kept). FairFrom answer later present tried k u l (with_kept w v)) (sym is)
     (known_brought l y.name (known_of y) on one (fair_refl answer later present tried k u sound stands) o.brought run.along) in
     let a = fair (λ judge dev controller present on ss. (x.verdict, x.cause)) (λ judge dev controller present on ss. judge) false none_before in
     let g = a.fair.grows in
     let files = stand_files k w.standings w.next stand in
-    let t = told_at (probe.Alive on) (record { call = 0; count = 0 }) in
+    let t = told_at (Probe.Alive on) (record { call = 0; count = 0 }) in
     let told = (brought_goes (behind_probe y.held.0 t) (t, refl, refl) o.brought).entries in
     let rest : o.rest ≡ a.fair.rest = cancel u.entries o.rest a.fair.rest (sym added ∙ a.fair.entries) in
     let only : (e : Entry) → Has a.fair.rest e → OnlyOf number e = subst (λ (v : List Entry). (e : Entry) → Has v e → OnlyOf number e) rest (λ e b. subst (λ (n : ℕ). OnlyOf n e) was.1 (only_of x.number (Some x.number) o.rest _ (inr refl) told.numbers told.given e b)) in
@@ -338,14 +287,6 @@ order_one {J} number verdict who on w k l p x sound stand at r =
           ];
       nobody = λ e i file. left_gone y mine a (subst (λ (v : List Standing). Has (names_of v) y.name → ⊥) (sym o.standings) (tried_nobody ss y.name p.0 e)) i file;
     }
-
--- no number is given out
-pub order_rest : {S : Type 0} (gives : S → (call : Call) → Answer call → S → Type 0) (number : ℕ) (verdict : Target) (who : Named) (on : Bool) (k : Kept) (x : Standing) (s : S) (p : Settled × Kept) (t : S) → numbered number k.standings ≡ Some x → Runs gives s (ordering number verdict who on k) p t → (rest : List Entry) × (p.1.entries ≡ k.entries ++ verdict_entry (with_verdict verdict who x) ∷ rest) × AllBear x.name rest × (numbers_given rest ≡ [])
-order_rest gives number verdict who on k x s p t at r =
-    let o = (ordering_run gives number verdict who on k x s p t at r).so.1 in
-    let found = told_at (probe.Alive on) (record { call = 0; count = 0 }) in
-    let told = (brought_goes (behind_probe x.held.0 found) (found, refl, refl) o.brought).entries in
-    (o.rest, o.entries, told.bears, told.given)
 
 pub told_orders : {S J : Type 0} (gives : S → (call : Call) → Answer call → S → Type 0) (told : S → Option Kernel) (did : (s : S) (call : Call) (answer : Answer call) (t : S) (l : Kernel) → gives s call answer t → told t ≡ Some l → Follows call answer (told s) l) (number : ℕ) (verdict : Target) (who : Named) (on : Bool) (s : S) (w : State J) (t : S) (p : Settled × Kept) → Runs gives s (ordering number verdict who on (kept_of w.standings w.entries)) p t → OrdersOne told number verdict who on s w t (with_kept w p.1) p.0
 told_orders gives told did number verdict who on s w t p r = λ l e.

@@ -1,38 +1,26 @@
 -- The calls of one name's part of a sweep, and those of a binding and of the opening of a `remove` file.
 use Rattle.std.proofs.Common.{◌≡◌, ℕ, ◌+◌, ◌≤◌, Bool, true, false, cond, ◌||◌, List, [], ◌∷◌, ◌++◌, Some, inl, inr, refl, sym, ◌∙◌, ap, subst, append_assoc, append-nil, arith}
-use Rattle.std.specs.List.{list_any}
 use Rattle.std.specs.Prelude.{if◌then◌else◌, nat_eq}
 use Rattle.std.proofs.lemmas.List.Folds.{list_any-append}
-use Rattle.ug_table.proofs.Common.{Has, Held, Control, Authorized, Remove, FailedCall, Listing, Probe, Call, Names, Open, Read, Ask_alive, Close, Closing, Told, Answer, failed_read, Made, answered, failure, failures, count_calls, Bound, Binding, RemoveHold, Fault, OpenFile, open_file, close_file, files_left, files_after, AreAbout, EndsAtFailure, Behind, behind_more, IsWriteDue, AreDue, PutMade, put_of, puts_of, told_by}
+use Rattle.ug_table.proofs.Common.{Has, Held, Control, Authorized, Remove, FailedCall, Listing, Probe, Call, Names, Open, Read, Ask_alive, Close, Closing, Told, Answer, failed_read, Made, answered, failure, failures, count_calls, Bound, Binding, RemoveHold, Fault, OpenFile, open_file, close_file, files_left, files_after, AreAbout, EndsAtFailure, Behind, behind_more, IsWriteDue, AreDue, PutMade, put_of, puts_of, told_by, Write, failures_more, list_any, binding_of}
 use Rattle.ug_types.specs.declared.control.Attr.{Attr}
-use Rattle.ug_types.specs.declared.control.Write.TheVariants as write
-use Rattle.ug_kernel.specs.declared.calls.Listing.TheVariants as listing
 use Rattle.ug_kernel.specs.declared.calls.Opened.{Opened}
-use Rattle.ug_kernel.specs.declared.calls.Opened.TheVariants as opened
-use Rattle.ug_kernel.specs.declared.calls.Probe.TheVariants as probe
 use Rattle.ug_kernel.specs.declared.calls.ReadOut.{ReadOut}
-use Rattle.ug_kernel.specs.declared.calls.ReadOut.TheVariants as out
-use Rattle.ug_kernel.proofs.Ways.{failures_more}
-use Rattle.ug_node.specs.Bind.{binding_of}
 use Rattle.ug_node.specs.declared.files.Stop.{Stop}
-use Rattle.ug_node.specs.declared.files.Stop.TheVariants as stop
-use Rattle.ug_node.specs.declared.identity.Binding.TheVariants as bound
-use Rattle.ug_node.specs.declared.removal.RemoveHold.TheVariants as hold
 use Rattle.ug_node.proofs.BindShapes.{told, IsReadable, Came, Reads, No_more, Then_read, Stops, No_descriptors, Binds_by, Cut, Probed_gone, Probe_failed, Bound_by, Holds_by, No_memory, Held_on, Died, Unasked, count_more}
-use Rattle.ug_audit.specs.declared.entry.Fault.TheVariants as fault
 
 -- answers that are want of memory
 
 abbrev pub short_listing : Listing → Bool
-short_listing listing.Memory = true
+short_listing Listing.Memory = true
 short_listing answer = false
 
 abbrev pub short_open : Opened → Bool
-short_open opened.Memory = true
+short_open Opened.Memory = true
 short_open answer = false
 
 abbrev pub short_read : ReadOut → Bool
-short_read out.Memory = true
+short_read ReadOut.Memory = true
 short_read answer = false
 
 abbrev pub is_want : (call : Call) → Answer call → Bool
@@ -55,8 +43,8 @@ failed_by [] = []
 failed_by (f ∷ fs) = told_by f ++ failed_by fs
 
 abbrev is_short : Fault → Bool
-is_short (fault.Call failed) = false
-is_short fault.Memory = true
+is_short (Fault.Call failed) = false
+is_short Fault.Memory = true
 
 abbrev pub are_short : List Fault → Bool
 are_short fs = list_any is_short fs
@@ -159,8 +147,8 @@ closed_first held control files =
 -- a binding
 
 came_well : (r : ReadOut) → Came r → (failed_read r ≡ false) × (short_read r ≡ false)
-came_well out.Failed c = absurd c
-came_well out.Memory c = absurd c
+came_well ReadOut.Failed c = absurd c
+came_well ReadOut.Memory c = absurd c
 came_well x c = (refl, refl)
 
 reads_calls : {name : List ℕ} {ms : List Made} (files : List OpenFile) (b : Behind) → Reads name ms
@@ -178,13 +166,13 @@ reads_calls {name} files b (Then_read of at t ms may came r) =
     calls_more one (reads_calls files (behind_more b m) r)
 
 abbrev pub binding_faults : Binding → List Fault
-binding_faults (bound.Failed failed) = fault.Call failed ∷ []
-binding_faults bound.Memory = fault.Memory ∷ []
+binding_faults (Binding.Failed failed) = Fault.Call failed ∷ []
+binding_faults Binding.Memory = Fault.Memory ∷ []
 binding_faults r = []
 
 -- a binding holds the file of the device that it bound
 abbrev pub binding_files : Binding → List OpenFile → List OpenFile
-binding_files (bound.Bound b) files = open_file b.held.0 Authorized ∷ files
+binding_files (Binding.Bound b) files = open_file b.held.0 Authorized ∷ files
 binding_files r files = files
 
 -- an opening, readings, and an end
@@ -192,10 +180,10 @@ open_calls : {name : List ℕ} {ms ns : List Made} {after : List OpenFile} {faul
     (files : List OpenFile) (b : Behind) (file : Held) (call count : ℕ) → Reads name ms
     → count_calls ms ≤ 7
     → ((c : Behind) → CallsOf name (open_file file.0 Authorized ∷ files) c ns after faults [] 1)
-    → let start = answered (Open name Authorized) (told (opened.Token file) call count) in
+    → let start = answered (Open name Authorized) (told (Opened.Token file) call count) in
     CallsOf name files b (start ∷ (ms ++ ns)) after faults [] 9
 open_calls {name} {ms} files b file call count r few k =
-    let start : Made = answered (Open name Authorized) (told (opened.Token file) call count) in
+    let start : Made = answered (Open name Authorized) (told (Opened.Token file) call count) in
     let own : List OpenFile = open_file file.0 Authorized ∷ files in
     let c : Behind = behind_more b start in
     let one : CallsOf name files b (start ∷ []) own [] [] 1 =
@@ -216,7 +204,7 @@ stop_calls files c of file shut may x =
     (closed_first file Authorized files) refl refl refl (omega arith)
 
 stop_files : (why : Stop) (files : List OpenFile) → files ≡ binding_files (binding_of why) files
-stop_files stop.Vanished files = refl
+stop_files Stop.Vanished files = refl
 stop_files x files = refl
 
 pub binds_calls : {name : List ℕ} {ms : List Made} {r : Binding} (files : List OpenFile)
@@ -244,32 +232,32 @@ binds_calls files b x = calls_are (refl, tt) (inl refl, tt) (tt, tt) refl refl r
 -- the device of that open file was found alive last
 abbrev pub IsFound : Behind → ℕ → Bool → Type 0
 IsFound b held on = (t : Told Probe) × (b.last ≡ Some (answered (Ask_alive held) t)) ×
-    (t.answer ≡ probe.Alive on)
+    (t.answer ≡ Probe.Alive on)
 
-stop_unbound : (why : Stop) (x : Bound) → bound.Bound x ≡ binding_of why → ⊥
-stop_unbound stop.Vanished x e = let none : ⊥ = cc in none
+stop_unbound : (why : Stop) (x : Bound) → Binding.Bound x ≡ binding_of why → ⊥
+stop_unbound Stop.Vanished x e = let none : ⊥ = cc in none
 stop_unbound y x e = let none : ⊥ = cc in none
 
 pub bound_found : {name : List ℕ} {ms : List Made} {x : Bound} (b : Behind)
-    → Binds_by name ms (bound.Bound x) → IsFound (behind_after b ms) x.held.0 x.on
+    → Binds_by name ms (Binding.Bound x) → IsFound (behind_after b ms) x.held.0 x.on
 bound_found {x = x} b (Cut file call count ms of at t shut why r a few may stops e) =
     absurd (stop_unbound why x e)
 bound_found {name} b (Bound_by call count number total ms x a few are) =
-    let start : Made = answered (Open name Authorized) (told (opened.Token x.held) call count) in
-    let end : Made = answered (Ask_alive x.held.0) (told (probe.Alive x.on) number total) in
+    let start : Made = answered (Open name Authorized) (told (Opened.Token x.held) call count) in
+    let end : Made = answered (Ask_alive x.held.0) (told (Probe.Alive x.on) number total) in
     let last = ap (λ (v : Behind). v.last) (behind_join (behind_more b start) ms (end ∷ [])) in
-    (told (probe.Alive x.on) number total, last, refl)
+    (told (Probe.Alive x.on) number total, last, refl)
 
 -- the opening of a `remove` file
 
 abbrev pub hold_faults : RemoveHold → List Fault
-hold_faults (hold.Failed failed) = fault.Call failed ∷ []
-hold_faults hold.Memory = fault.Memory ∷ []
+hold_faults (RemoveHold.Failed failed) = Fault.Call failed ∷ []
+hold_faults RemoveHold.Memory = Fault.Memory ∷ []
 hold_faults r = []
 
 -- it is held where it is ready
 abbrev pub hold_files : RemoveHold → List OpenFile → List OpenFile
-hold_files (hold.Ready file) files = open_file file.0 Remove ∷ files
+hold_files (RemoveHold.Ready file) files = open_file file.0 Remove ∷ files
 hold_files r files = files
 
 pub holds_calls : {name : List ℕ} {held : ℕ} {ms : List Made} {r : RemoveHold}
@@ -290,18 +278,18 @@ holds_calls files b has x =
     calls_are (refl, tt) (inl refl, tt) (tt, tt) refl refl refl refl (omega arith)
 
 pub ready_due : {name : List ℕ} {held : ℕ} {ms : List Made} {file : Held} (b : Behind)
-    → Holds_by name held ms (hold.Ready file) → IsWriteDue (behind_after b ms) file.0 write.Remove
+    → Holds_by name held ms (RemoveHold.Ready file) → IsWriteDue (behind_after b ms) file.0 Write.Remove
 ready_due {name} {held} b (Held_on file on call count number total) = (
-  (on, (held, told (probe.Alive on) number total, refl, refl)),
-  (name, told (opened.Token file) call count, file, refl, refl, refl),
+  (on, (held, told (Probe.Alive on) number total, refl, refl)),
+  (name, told (Opened.Token file) call count, file, refl, refl, refl),
 )
 
 -- an opening that was short of memory is among the calls
 abbrev pub IsShort : List Made → Type 0
 IsShort ms =
     (name : List ℕ) × (t : Told Opened) × Has ms (answered (Open name Remove) t) ×
-    (t.answer ≡ opened.Memory)
+    (t.answer ≡ Opened.Memory)
 
-pub hold_short : {name : List ℕ} {held : ℕ} {ms : List Made} → Holds_by name held ms hold.Memory
+pub hold_short : {name : List ℕ} {held : ℕ} {ms : List Made} → Holds_by name held ms RemoveHold.Memory
     → IsShort ms
-hold_short {name} (No_memory call count) = (name, told opened.Memory call count, inl refl, refl)
+hold_short {name} (No_memory call count) = (name, told Opened.Memory call count, inl refl, refl)

@@ -1,63 +1,48 @@
 -- One name's part, flat: each way through the trees of a settling and a resettling has one of these shapes.
 use Rattle.std.proofs.Common.{◌≡◌, ℕ, ◌+◌, Bool, true, false, ◌&&◌, not, is_none, List, [], ◌∷◌, ◌++◌, Option, Some, None, refl, sym, ◌∙◌, ap, subst, append_assoc, append-nil}
-use Rattle.ug_table.proofs.Common.{parent_of, Judged, Held, Target, Cause, Probe, Write, Wrote, Ask_alive, Put, Close, Closing, Told, Made, answered, failure_of, Bound, Binding, RemoveHold, Entry, State, Kept, with_kept, Answers, Laters, Has, known_of, standing_of, same_name, without, with_standing, Standing, Known, Settled, FailedCall}
-use Rattle.ug_kernel.specs.declared.calls.Probe.TheVariants as probe
-use Rattle.ug_types.specs.declared.control.Write.TheVariants as write
-use Rattle.ug_kernel.specs.declared.calls.Wrote.TheVariants as wrote
-use Rattle.ug_record.specs.Records.{judged_of}
-use Rattle.ug_node.specs.Bind.{binding}
-use Rattle.ug_node.specs.declared.identity.Binding.TheVariants as bound
+use Rattle.ug_table.proofs.Common.{parent_of, Judged, Held, Target, Cause, Probe, Write, Wrote, Ask_alive, Put, Close, Closing, Told, Made, answered, failure_of, Bound, Binding, RemoveHold, Entry, State, Kept, with_kept, Answers, Laters, Has, known_of, standing_of, same_name, without, with_standing, Standing, Known, Settled, FailedCall, Fault, names_of, unsettled_by, kept_standings, to_keep, no_room, standing_for, known_in, judged_entry, if_place, if_record, admitting, after_bind, entering, tried_standings, to_mark, after_known, from_standing, settling, to_keep_mark, after_again, again, resettling, filter_has, wants, write_of, after_write, to_value, valuing, after_hold, removing, is_to_go, if_to_go, after_value, writing, close_gone, bringing, Ways, Sure, Way, ways_more, behind_sure, sure_last, judged_of, binding}
 use Rattle.ug_node.specs.Removal.{holding_remove}
-use Rattle.ug_node.specs.declared.removal.RemoveHold.TheVariants as hold
-use Rattle.ug_audit.specs.declared.entry.Entry.TheVariants as entry
-use Rattle.ug_audit.specs.declared.entry.Fault.TheVariants as fault
-use Rattle.ug_table.specs.Bring.{wants, write_of, after_write, to_value, valuing, after_hold, removing, is_to_go, if_to_go, after_value, writing, close_gone, bringing}
-use Rattle.ug_table.specs.Settle.{unsettled_by, kept_standings, to_keep, no_room, standing_for, known_in, judged_entry, if_place, if_record, admitting, after_bind, entering, tried_standings, to_mark, after_known, from_standing, settling, to_keep_mark, after_again, again, resettling}
-use Rattle.ug_table.specs.declared.standing.Settled.TheVariants as settled
-use Rattle.ug_kernel.proofs.Ways.{Ways, Sure, Way, ways_more, behind_sure, sure_last}
 use Rattle.ug_node.proofs.BindShapes.{sure_binding, sure_hold}
-use Rattle.ug_types.proofs.Elements.{filter_has}
-use Rattle.ug_table.specs.Sweep.{names_of}
-use Rattle.ug_table.proofs.Standings.{missing, without_own, with_own, kept_tried}
+use Rattle.ug_table.proofs.Standings.{missing, without_own, without_with, with_own, kept_tried, tried_without}
 pub use Rattle.ug_table.proofs.Standings.{told_at}
 
 -- the shapes
 
 -- what came of a write, its entries, and how it ended
 pub data Written (name : List ℕ) (number : ℕ) (what : Write) : Told Wrote → List Entry → Settled → Type 0 where
-  Done : (failed : FailedCall) → Written name number what (told_at wrote.Done failed) (entry.Intent number name what ∷ entry.Wrote number name what wrote.Done ∷ []) settled.Stands
-  Went : (failed : FailedCall) → Written name number what (told_at wrote.Gone failed) (entry.Intent number name what ∷ entry.Wrote number name what wrote.Gone ∷ entry.Gone number name ∷ []) settled.Nobody
-  Broke : (failed : FailedCall) → Written name number what (told_at wrote.Failed failed) (entry.Intent number name what ∷ entry.Wrote number name what wrote.Failed ∷ []) (settled.Fault failed)
+  Done : (failed : FailedCall) → Written name number what (told_at Wrote.Done failed) (Entry.Intent number name what ∷ Entry.Wrote number name what Wrote.Done ∷ []) Settled.Stands
+  Went : (failed : FailedCall) → Written name number what (told_at Wrote.Gone failed) (Entry.Intent number name what ∷ Entry.Wrote number name what Wrote.Gone ∷ Entry.Gone number name ∷ []) Settled.Nobody
+  Broke : (failed : FailedCall) → Written name number what (told_at Wrote.Failed failed) (Entry.Intent number name what ∷ Entry.Wrote number name what Wrote.Failed ∷ []) (Settled.Fault failed)
 
 -- the value is as wanted, or is written
 pub data Valued (name : List ℕ) (known : Known) (on : Bool) : List Made → List Entry → Settled → Type 0 where
-  Same : wants known.verdict ≡ on → Valued name known on [] [] settled.Stands
+  Same : wants known.verdict ≡ on → Valued name known on [] [] Settled.Stands
   Set : (t : Told Wrote) (es : List Entry) (how : Settled) → (wants known.verdict ≡ on → ⊥) → Written name known.number (write_of known.verdict) t es how → Valued name known on (answered (Put known.held.0 (write_of known.verdict)) t ∷ []) es how
 
 -- the `remove` file isn't held
 pub data Unheld (name : List ℕ) (number : ℕ) : RemoveHold → List Entry → Settled → Type 0 where
-  Gone_by : Unheld name number hold.Gone (entry.Gone number name ∷ []) settled.Nobody
-  Failed_by : (failed : FailedCall) → Unheld name number (hold.Failed failed) [] (settled.Fault failed)
-  Short_by : Unheld name number hold.Memory [] settled.Memory
+  Gone_by : Unheld name number RemoveHold.Gone (Entry.Gone number name ∷ []) Settled.Nobody
+  Failed_by : (failed : FailedCall) → Unheld name number (RemoveHold.Failed failed) [] (Settled.Fault failed)
+  Short_by : Unheld name number RemoveHold.Memory [] Settled.Memory
 
 pub data Removal (name : List ℕ) (known : Known) : List Made → List Entry → Settled → Type 0 where
   Not_held : (ms : List Made) (answer : RemoveHold) (es : List Entry) (how : Settled) → Way (holding_remove name known.held.0) ms answer → Unheld name known.number answer es how → Removal name known ms es how
-  Put_on : (ms : List Made) (file : Held) (t : Told Wrote) (shut : Closing) (es : List Entry) (how : Settled) → Way (holding_remove name known.held.0) ms (hold.Ready file) → Written name known.number write.Remove t es how → Removal name known (ms ++ answered (Put file.0 write.Remove) t ∷ answered (Close file.0) shut ∷ []) es how
+  Put_on : (ms : List Made) (file : Held) (t : Told Wrote) (shut : Closing) (es : List Entry) (how : Settled) → Way (holding_remove name known.held.0) ms (RemoveHold.Ready file) → Written name known.number Write.Remove t es how → Removal name known (ms ++ answered (Put file.0 Write.Remove) t ∷ answered (Close file.0) shut ∷ []) es how
 
 -- the value, and then the removal
 pub data Carried (name : List ℕ) (known : Known) (on : Bool) : List Made → List Entry → Settled → Type 0 where
-  By_value : (ms : List Made) (es : List Entry) (how : Settled) → Valued name known on ms es how → (how ≡ settled.Stands → is_to_go known ≡ false) → Carried name known on ms es how
-  And_removal : (ms ns : List Made) (es fs : List Entry) (how : Settled) → is_to_go known ≡ true → Valued name known on ms es settled.Stands → Removal name known ns fs how → Carried name known on (ms ++ ns) (es ++ fs) how
+  By_value : (ms : List Made) (es : List Entry) (how : Settled) → Valued name known on ms es how → (how ≡ Settled.Stands → is_to_go known ≡ false) → Carried name known on ms es how
+  And_removal : (ms ns : List Made) (es fs : List Entry) (how : Settled) → is_to_go known ≡ true → Valued name known on ms es Settled.Stands → Removal name known ns fs how → Carried name known on (ms ++ ns) (es ++ fs) how
 
 -- and the held file is closed where the device is gone
 pub data Brought (name : List ℕ) (known : Known) (on : Bool) : List Made → List Entry → Settled → Type 0 where
-  Left_open : (ms : List Made) (es : List Entry) (how : Settled) → Carried name known on ms es how → (how ≡ settled.Nobody → ⊥) → Brought name known on ms es how
-  Let_go : (ms : List Made) (es : List Entry) (shut : Closing) → Carried name known on ms es settled.Nobody → Brought name known on (ms ++ answered (Close known.held.0) shut ∷ []) es settled.Nobody
+  Left_open : (ms : List Made) (es : List Entry) (how : Settled) → Carried name known on ms es how → (how ≡ Settled.Nobody → ⊥) → Brought name known on ms es how
+  Let_go : (ms : List Made) (es : List Entry) (shut : Closing) → Carried name known on ms es Settled.Nobody → Brought name known on (ms ++ answered (Close known.held.0) shut ∷ []) es Settled.Nobody
 
 -- the name has no standing, or its device is found gone
 pub data Opening (name : List ℕ) (ss : List Standing) : List Made → List Entry → List Standing → Type 0 where
   Fresh : standing_of name ss ≡ None → Opening name ss [] [] ss
-  Lost : (known : Known) (failed : FailedCall) (shut : Closing) → standing_of name ss ≡ Some known → Opening name ss (answered (Ask_alive known.held.0) (told_at probe.Gone failed) ∷ answered (Close known.held.0) shut ∷ []) (entry.Gone known.number name ∷ []) (without name ss)
+  Lost : (known : Known) (failed : FailedCall) (shut : Closing) → standing_of name ss ≡ Some known → Opening name ss (answered (Ask_alive known.held.0) (told_at Probe.Gone failed) ∷ answered (Close known.held.0) shut ∷ []) (Entry.Gone known.number name ∷ []) (without name ss)
 
 -- so none of the name is left, and no other is new
 pub opening_none : {name : List ℕ} {ss : List Standing} {ms : List Made} {es : List Entry} {rs : List Standing} → Opening name ss ms es rs → standing_of name rs ≡ None
@@ -73,10 +58,10 @@ opening_less {name} {ss} (Lost known failed shut e) s a = (filter_has (λ (v : S
 
 -- no device was bound
 pub data Unbound_end (name : List ℕ) : Binding → List Entry → Settled → Type 0 where
-  Absent_so : Unbound_end name bound.Absent [] settled.Nobody
-  Vanished_so : Unbound_end name bound.Vanished [] settled.Nobody
-  Failed_so : (failed : FailedCall) → Unbound_end name (bound.Failed failed) (entry.Unsettled name (fault.Call failed) ∷ []) (settled.Fault failed)
-  Short_so : Unbound_end name bound.Memory (entry.Unsettled name fault.Memory ∷ []) settled.Memory
+  Absent_so : Unbound_end name Binding.Absent [] Settled.Nobody
+  Vanished_so : Unbound_end name Binding.Vanished [] Settled.Nobody
+  Failed_so : (failed : FailedCall) → Unbound_end name (Binding.Failed failed) (Entry.Unsettled name (Fault.Call failed) ∷ []) (Settled.Fault failed)
+  Short_so : Unbound_end name Binding.Memory (Entry.Unsettled name Fault.Memory ∷ []) Settled.Memory
 
 -- a new standing
 pub record IsNew (name : List ℕ) (b : Bound) (s : Standing) : Type 0 where
@@ -92,12 +77,27 @@ new_known {name} {rs = rs} {x = x} opening new = with_own name x rs new.named (o
 -- A name's part: whether room was granted, the calls, the entries, how it ended, the standings then, and the device that was judged
 -- beside which standings, if one was. Only a settling binds; `given` is what is known of a new standing.
 pub data Flat (binds : Bool) (given : List Standing → Bound → Standing → Type 0) (name : List ℕ) (ss : List Standing) : Bool → List Made → List Entry → Settled → List Standing → Option (List Standing × Bound) → Type 0 where
-  Unprobed : (known : Known) (failed : FailedCall) → standing_of name ss ≡ Some known → Flat binds given name ss true (answered (Ask_alive known.held.0) (told_at probe.Failed failed) ∷ []) (entry.Unsettled name (fault.Call failed) ∷ []) (settled.Fault failed) (tried_standings ss name (settled.Fault failed)) None
-  Tried : (known : Known) (on : Bool) (failed : FailedCall) (ms : List Made) (es : List Entry) (how : Settled) → standing_of name ss ≡ Some known → Brought name known on ms es how → Flat binds given name ss true (answered (Ask_alive known.held.0) (told_at (probe.Alive on) failed) ∷ ms) (es ++ unsettled_by name how) how (tried_standings ss name how) None
-  Stopped : (ms : List Made) (es : List Entry) (rs : List Standing) → binds ≡ false → Opening name ss ms es rs → Flat binds given name ss true ms es settled.Nobody rs None
+  Unprobed : (known : Known) (failed : FailedCall) → standing_of name ss ≡ Some known → Flat binds given name ss true (answered (Ask_alive known.held.0) (told_at Probe.Failed failed) ∷ []) (Entry.Unsettled name (Fault.Call failed) ∷ []) (Settled.Fault failed) (tried_standings ss name (Settled.Fault failed)) None
+  Tried : (known : Known) (on : Bool) (failed : FailedCall) (ms : List Made) (es : List Entry) (how : Settled) → standing_of name ss ≡ Some known → Brought name known on ms es how → Flat binds given name ss true (answered (Ask_alive known.held.0) (told_at (Probe.Alive on) failed) ∷ ms) (es ++ unsettled_by name how) how (tried_standings ss name how) None
+  Stopped : (ms : List Made) (es : List Entry) (rs : List Standing) → binds ≡ false → Opening name ss ms es rs → Flat binds given name ss true ms es Settled.Nobody rs None
   Unbound : (ms ns : List Made) (es fs : List Entry) (rs : List Standing) (r : Binding) (how : Settled) → binds ≡ true → Opening name ss ms es rs → Way (binding name (parent_of name)) ns r → Unbound_end name r fs how → Flat binds given name ss true (ms ++ ns) (es ++ fs) how rs None
-  No_place : (ms ns : List Made) (es : List Entry) (rs : List Standing) (b : Bound) (shut : Closing) → binds ≡ true → Opening name ss ms es rs → Way (binding name (parent_of name)) ns (bound.Bound b) → Flat binds given name ss false (ms ++ (ns ++ answered (Close b.held.0) shut ∷ [])) (es ++ entry.Unsettled name fault.Memory ∷ []) settled.Memory rs None
-  Judged_so : (ms ns os : List Made) (es fs : List Entry) (rs : List Standing) (b : Bound) (x : Standing) (how : Settled) → binds ≡ true → Opening name ss ms es rs → Way (binding name (parent_of name)) ns (bound.Bound b) → given rs b x → IsNew name b x → Brought name (known_of x) b.on os fs how → Flat binds given name ss true (ms ++ (ns ++ os)) (es ++ entry.Judged x.number name x.held x.verdict x.cause ∷ (fs ++ unsettled_by name how)) how (tried_standings (with_standing x rs) name how) (Some (rs, b))
+  No_place : (ms ns : List Made) (es : List Entry) (rs : List Standing) (b : Bound) (shut : Closing) → binds ≡ true → Opening name ss ms es rs → Way (binding name (parent_of name)) ns (Binding.Bound b) → Flat binds given name ss false (ms ++ (ns ++ answered (Close b.held.0) shut ∷ [])) (es ++ Entry.Unsettled name Fault.Memory ∷ []) Settled.Memory rs None
+  Judged_so : (ms ns os : List Made) (es fs : List Entry) (rs : List Standing) (b : Bound) (x : Standing) (how : Settled) → binds ≡ true → Opening name ss ms es rs → Way (binding name (parent_of name)) ns (Binding.Bound b) → given rs b x → IsNew name b x → Brought name (known_of x) b.on os fs how → Flat binds given name ss true (ms ++ (ns ++ os)) (es ++ Entry.Judged x.number name x.held x.verdict x.cause ∷ (fs ++ unsettled_by name how)) how (tried_standings (with_standing x rs) name how) (Some (rs, b))
+
+-- the standings of other names stay
+
+pub opening_rest : {name : List ℕ} {ss : List Standing} {ms : List Made} {es : List Entry} {rs : List Standing} → Opening name ss ms es rs → without name rs ≡ without name ss
+opening_rest (Fresh e) = refl
+opening_rest {name} {ss} (Lost known failed shut e) = tried_without name ss Settled.Nobody
+
+pub flat_rest : {binds : Bool} {given : List Standing → Bound → Standing → Type 0} {name : List ℕ} {ss : List Standing} {ok : Bool} {ms : List Made} {rest : List Entry} {how : Settled} {rs : List Standing} {o : Option (List Standing × Bound)} → Flat binds given name ss ok ms rest how rs o → without name rs ≡ without name ss
+flat_rest {name = name} {ss = ss} (Unprobed known failed at) = tried_without name ss (Settled.Fault failed)
+flat_rest {name = name} {ss = ss} (Tried known on failed ms es how at b) = tried_without name ss how
+flat_rest (Stopped ms es rs f opening) = opening_rest opening
+flat_rest (Unbound ms ns es fs rs r how t opening way end) = opening_rest opening
+flat_rest (No_place ms ns es rs b shut t opening way) = opening_rest opening
+flat_rest {name = name} (Judged_so ms ns os es fs rs b x how t opening way given new brought) =
+    tried_without name (with_standing x rs) how ∙ without_with name x rs new.named ∙ opening_rest opening
 
 -- the walk
 
@@ -108,16 +108,16 @@ Adds entries Q ms p = (es : List Entry) × (p.1 ≡ entries ++ es) × Q ms es p.
 behind : (a : List Entry) (e : Entry) (b : List Entry) → (a ++ e ∷ []) ++ b ≡ a ++ e ∷ b
 behind a e b = append_assoc a (e ∷ []) b
 
-written : (name : List ℕ) (number : ℕ) (what : Write) (entries : List Entry) (outcome : Wrote) (failed : FailedCall) (P : Bool → List Made → Settled × List Entry → Type 0) → ((es fs : List Entry) (how : Settled) → fs ≡ entries ++ es → Written name number what (told_at outcome failed) es how → P true [] (how, fs)) → Ways (after_write name number what (entries ++ entry.Intent number name what ∷ []) outcome failed) P
-written name number what entries wrote.Done failed P k = k _ _ _ (behind entries (entry.Intent number name what) (entry.Wrote number name what wrote.Done ∷ [])) (Done failed)
-written name number what entries wrote.Gone failed P k = k _ _ _ (behind (entries ++ entry.Intent number name what ∷ []) (entry.Wrote number name what wrote.Gone) (entry.Gone number name ∷ []) ∙ behind entries (entry.Intent number name what) _) (Went failed)
-written name number what entries wrote.Failed failed P k = k _ _ _ (behind entries (entry.Intent number name what) (entry.Wrote number name what wrote.Failed ∷ [])) (Broke failed)
+written : (name : List ℕ) (number : ℕ) (what : Write) (entries : List Entry) (outcome : Wrote) (failed : FailedCall) (P : Bool → List Made → Settled × List Entry → Type 0) → ((es fs : List Entry) (how : Settled) → fs ≡ entries ++ es → Written name number what (told_at outcome failed) es how → P true [] (how, fs)) → Ways (after_write name number what (entries ++ Entry.Intent number name what ∷ []) outcome failed) P
+written name number what entries Wrote.Done failed P k = k _ _ _ (behind entries (Entry.Intent number name what) (Entry.Wrote number name what Wrote.Done ∷ [])) (Done failed)
+written name number what entries Wrote.Gone failed P k = k _ _ _ (behind (entries ++ Entry.Intent number name what ∷ []) (Entry.Wrote number name what Wrote.Gone) (Entry.Gone number name ∷ []) ∙ behind entries (Entry.Intent number name what) _) (Went failed)
+written name number what entries Wrote.Failed failed P k = k _ _ _ (behind entries (Entry.Intent number name what) (Entry.Wrote number name what Wrote.Failed ∷ [])) (Broke failed)
 
 valued : (name : List ℕ) (known : Known) (on : Bool) (entries : List Entry) → Ways (valuing name known on entries) (Sure (Adds entries (Valued name known on)))
 unfolding valuing
 valued name known on entries = by (wants known.verdict) on refl refl
   where
-    set : (b : Bool) → (wants known.verdict ≡ b → ⊥) → b ≡ on → (t : Told Wrote) → Ways (after_write name known.number (write_of known.verdict) (entries ++ entry.Intent known.number name (write_of known.verdict) ∷ []) t.answer (failure_of t)) (Sure (λ ms p. Adds entries (Valued name known on) (answered (Put known.held.0 (write_of known.verdict)) t ∷ ms) p))
+    set : (b : Bool) → (wants known.verdict ≡ b → ⊥) → b ≡ on → (t : Told Wrote) → Ways (after_write name known.number (write_of known.verdict) (entries ++ Entry.Intent known.number name (write_of known.verdict) ∷ []) t.answer (failure_of t)) (Sure (λ ms p. Adds entries (Valued name known on) (answered (Put known.held.0 (write_of known.verdict)) t ∷ ms) p))
     set b ne e t = written name known.number (write_of known.verdict) entries t.answer (failure_of t) (Sure (λ ms p. Adds entries (Valued name known on) (answered (Put known.held.0 (write_of known.verdict)) t ∷ ms) p)) (λ es fs how is w. (refl, (es, is, Set t es how (λ s. ne (s ∙ sym e)) w)))
 
     by : (a b : Bool) → wants known.verdict ≡ a → b ≡ on → Ways (to_value name known entries a b) (Sure (Adds entries (Valued name known on)))
@@ -134,10 +134,10 @@ removed name known entries = behind_sure (Way (holding_remove name known.held.0)
     at_end ms p h = (refl, subst (λ v. Adds entries (Removal name known) v p) (sym (append-nil ms)) h)
 
     by : (ms : List Made) (a : RemoveHold) → Way (holding_remove name known.held.0) ms a → Ways (after_hold name known entries a) (Sure (λ ns p. Adds entries (Removal name known) (ms ++ ns) p))
-    by ms (hold.Ready file) way = λ t shut. written name known.number write.Remove entries t.answer (failure_of t) (Sure (λ ns p. Adds entries (Removal name known) (ms ++ answered (Put file.0 write.Remove) t ∷ answered (Close file.0) shut ∷ ns) p)) (λ es fs how is w. (refl, (es, is, Put_on ms file t shut es how way w)))
-    by ms hold.Gone way = at_end ms _ (_, refl, Not_held ms hold.Gone _ _ way Gone_by)
-    by ms (hold.Failed failed) way = at_end ms _ ([], sym (append-nil entries), Not_held ms (hold.Failed failed) _ _ way (Failed_by failed))
-    by ms hold.Memory way = at_end ms _ ([], sym (append-nil entries), Not_held ms hold.Memory _ _ way Short_by)
+    by ms (RemoveHold.Ready file) way = λ t shut. written name known.number Write.Remove entries t.answer (failure_of t) (Sure (λ ns p. Adds entries (Removal name known) (ms ++ answered (Put file.0 Write.Remove) t ∷ answered (Close file.0) shut ∷ ns) p)) (λ es fs how is w. (refl, (es, is, Put_on ms file t shut es how way w)))
+    by ms RemoveHold.Gone way = at_end ms _ (_, refl, Not_held ms RemoveHold.Gone _ _ way Gone_by)
+    by ms (RemoveHold.Failed failed) way = at_end ms _ ([], sym (append-nil entries), Not_held ms (RemoveHold.Failed failed) _ _ way (Failed_by failed))
+    by ms RemoveHold.Memory way = at_end ms _ ([], sym (append-nil entries), Not_held ms RemoveHold.Memory _ _ way Short_by)
 
 carried : (name : List ℕ) (known : Known) (on : Bool) (entries : List Entry) → Ways (writing name known on entries) (Sure (Adds entries (Carried name known on)))
 unfolding writing
@@ -146,26 +146,26 @@ carried name known on entries = behind_sure (Adds entries (Valued name known on)
     Q : List Made → Settled × List Entry → Type 0
     Q = Adds entries (Carried name known on)
 
-    stops : (ms : List Made) (how : Settled) (es fs : List Entry) → fs ≡ entries ++ es → Valued name known on ms es how → (how ≡ settled.Stands → is_to_go known ≡ false) → Sure (λ ns p. Adds entries (Carried name known on) (ms ++ ns) p) true [] (how, fs)
+    stops : (ms : List Made) (how : Settled) (es fs : List Entry) → fs ≡ entries ++ es → Valued name known on ms es how → (how ≡ Settled.Stands → is_to_go known ≡ false) → Sure (λ ns p. Adds entries (Carried name known on) (ms ++ ns) p) true [] (how, fs)
     stops ms how es fs e v k = (refl, subst (λ w. Adds entries (Carried name known on) w (how, fs)) (sym (append-nil ms)) (es, e, By_value ms es how v k))
 
-    goes : (ms : List Made) (es fs : List Entry) (b : Bool) → is_to_go known ≡ b → fs ≡ entries ++ es → Valued name known on ms es settled.Stands → Ways (if_to_go name known fs b) (Sure (λ ns p. Adds entries (Carried name known on) (ms ++ ns) p))
+    goes : (ms : List Made) (es fs : List Entry) (b : Bool) → is_to_go known ≡ b → fs ≡ entries ++ es → Valued name known on ms es Settled.Stands → Ways (if_to_go name known fs b) (Sure (λ ns p. Adds entries (Carried name known on) (ms ++ ns) p))
     goes ms es fs true t e v = ways_more (Sure (Adds fs (Removal name known))) (Sure (λ ns p. Adds entries (Carried name known on) (ms ++ ns) p)) (removing name known fs) (λ ok ns p k. let h = k.1 in (k.0, (es ++ h.0, h.1 ∙ ap (λ w. w ++ h.0) e ∙ append_assoc entries es h.0, And_removal ms ns es h.0 p.0 t v h.2))) (removed name known fs)
-    goes ms es fs false t e v = stops ms settled.Stands es fs e v (λ s. t)
+    goes ms es fs false t e v = stops ms Settled.Stands es fs e v (λ s. t)
 
     by : (ms : List Made) (how : Settled) (fs es : List Entry) → fs ≡ entries ++ es → Valued name known on ms es how → Ways (after_value name known fs how) (Sure (λ ns p. Adds entries (Carried name known on) (ms ++ ns) p))
-    by ms settled.Stands fs es e v = goes ms es fs (is_to_go known) refl e v
+    by ms Settled.Stands fs es e v = goes ms es fs (is_to_go known) refl e v
     by ms how fs es e v = stops ms how es fs e v (λ s. let none : ⊥ = cc in absurd none)
 
 pub brought : (name : List ℕ) (known : Known) (on : Bool) (entries : List Entry) → Ways (bringing name known on entries) (Sure (Adds entries (Brought name known on)))
 unfolding bringing
 brought name known on entries = behind_sure (Adds entries (Carried name known on)) (Sure (Adds entries (Brought name known on))) (writing name known on entries) (λ (q : Settled × List Entry). close_gone known.held.0 q.1 q.0) (carried name known on entries) (λ ms q h. by ms q.0 q.1 h.0 h.1 h.2)
   where
-    stays : (ms : List Made) (how : Settled) (fs es : List Entry) → fs ≡ entries ++ es → Carried name known on ms es how → (how ≡ settled.Nobody → ⊥) → Sure (λ ns p. Adds entries (Brought name known on) (ms ++ ns) p) true [] (how, fs)
+    stays : (ms : List Made) (how : Settled) (fs es : List Entry) → fs ≡ entries ++ es → Carried name known on ms es how → (how ≡ Settled.Nobody → ⊥) → Sure (λ ns p. Adds entries (Brought name known on) (ms ++ ns) p) true [] (how, fs)
     stays ms how fs es e c n = (refl, subst (λ w. Adds entries (Brought name known on) w (how, fs)) (sym (append-nil ms)) (es, e, Left_open ms es how c n))
 
     by : (ms : List Made) (how : Settled) (fs es : List Entry) → fs ≡ entries ++ es → Carried name known on ms es how → Ways (close_gone known.held.0 fs how) (Sure (λ ns p. Adds entries (Brought name known on) (ms ++ ns) p))
-    by ms settled.Nobody fs es e c = λ shut. (refl, (es, e, Let_go ms es shut c))
+    by ms Settled.Nobody fs es e c = λ shut. (refl, (es, e, Let_go ms es shut c))
     by ms how fs es e c = stays ms how fs es e c (λ s. let none : ⊥ = cc in none)
 
 -- where the name is told as unsettled behind them
@@ -214,10 +214,10 @@ entered {J} answer later name present w ms es fs rs same opening = behind_sure (
     unbound : (ns : List Made) (r : Binding) (xs gs : List Entry) (how : Settled) → gs ≡ fs ++ xs → Way (binding name (parent_of name)) ns r → Unbound_end name r xs how → Settles answer later name present w true (ms ++ (ns ++ [])) (how, record u { entries = gs })
     unbound ns r xs gs how e way end = subst (λ v. Settles answer later name present w true (ms ++ v) (how, record u { entries = gs })) (sym (append-nil ns)) (record { rest = es ++ xs; judged = None; flat = Unbound ms ns es xs rs r how refl opening way end; entries = more gs xs e; listed = refl; next = refl; judge = refl })
 
-    no_place : (ns : List Made) (b : Bound) → Way (binding name (parent_of name)) ns (bound.Bound b) → Ways (no_room u name b.held.0) (λ ok os p. Settles answer later name present w false (ms ++ (ns ++ os)) p)
-    no_place ns b way = λ shut. record { rest = es ++ entry.Unsettled name fault.Memory ∷ []; judged = None; flat = No_place ms ns es rs b shut refl opening way; entries = more _ _ refl; listed = refl; next = refl; judge = refl }
+    no_place : (ns : List Made) (b : Bound) → Way (binding name (parent_of name)) ns (Binding.Bound b) → Ways (no_room u name b.held.0) (λ ok os p. Settles answer later name present w false (ms ++ (ns ++ os)) p)
+    no_place ns b way = λ shut. record { rest = es ++ Entry.Unsettled name Fault.Memory ∷ []; judged = None; flat = No_place ms ns es rs b shut refl opening way; entries = more _ _ refl; listed = refl; next = refl; judge = refl }
 
-    judged : (ns : List Made) (b : Bound) → Way (binding name (parent_of name)) ns (bound.Bound b) → Ways (if_place answer later name present u b (judged_of name b.attrs b.parent) true) (λ ok os p. Settles answer later name present w ok (ms ++ (ns ++ os)) p)
+    judged : (ns : List Made) (b : Bound) → Way (binding name (parent_of name)) ns (Binding.Bound b) → Ways (if_place answer later name present u b (judged_of name b.attrs b.parent) true) (λ ok os p. Settles answer later name present w ok (ms ++ (ns ++ os)) p)
     judged ns b way =
         let dev : Judged = judged_of name b.attrs b.parent in
         let given : Target × Cause = answer w.judge dev (is_none (parent_of name)) present b.on rs in
@@ -235,31 +235,31 @@ entered {J} answer later name present w ms es fs rs same opening = behind_sure (
           judge = refl;
         })
 
-    place : (ns : List Made) (b : Bound) → Way (binding name (parent_of name)) ns (bound.Bound b) → (room : Bool) → Ways (if_place answer later name present u b (judged_of name b.attrs b.parent) room) (λ ok os p. Settles answer later name present w (room && ok) (ms ++ (ns ++ os)) p)
+    place : (ns : List Made) (b : Bound) → Way (binding name (parent_of name)) ns (Binding.Bound b) → (room : Bool) → Ways (if_place answer later name present u b (judged_of name b.attrs b.parent) room) (λ ok os p. Settles answer later name present w (room && ok) (ms ++ (ns ++ os)) p)
     place ns b way true = judged ns b way
     place ns b way false = no_place ns b way
 
-    room : (ns : List Made) (b : Bound) → Way (binding name (parent_of name)) ns (bound.Bound b) → (room : Bool) → Ways (if_record answer later name present u b room) (λ ok os p. Settles answer later name present w (room && ok) (ms ++ (ns ++ os)) p)
+    room : (ns : List Made) (b : Bound) → Way (binding name (parent_of name)) ns (Binding.Bound b) → (room : Bool) → Ways (if_record answer later name present u b room) (λ ok os p. Settles answer later name present w (room && ok) (ms ++ (ns ++ os)) p)
     room ns b way true = λ c. place ns b way c
     room ns b way false = no_place ns b way
 
     by : (ns : List Made) (r : Binding) → Way (binding name (parent_of name)) ns r → Ways (after_bind answer later name present u r) (λ ok os p. Settles answer later name present w ok (ms ++ (ns ++ os)) p)
-    by ns (bound.Bound b) way = λ c. room ns b way c
-    by ns bound.Absent way = unbound ns bound.Absent [] fs settled.Nobody (sym (append-nil fs)) way Absent_so
-    by ns bound.Vanished way = unbound ns bound.Vanished [] fs settled.Nobody (sym (append-nil fs)) way Vanished_so
-    by ns (bound.Failed failed) way = unbound ns (bound.Failed failed) _ _ (settled.Fault failed) refl way (Failed_so failed)
-    by ns bound.Memory way = unbound ns bound.Memory _ _ settled.Memory refl way Short_so
+    by ns (Binding.Bound b) way = λ c. room ns b way c
+    by ns Binding.Absent way = unbound ns Binding.Absent [] fs Settled.Nobody (sym (append-nil fs)) way Absent_so
+    by ns Binding.Vanished way = unbound ns Binding.Vanished [] fs Settled.Nobody (sym (append-nil fs)) way Vanished_so
+    by ns (Binding.Failed failed) way = unbound ns (Binding.Failed failed) _ _ (Settled.Fault failed) refl way (Failed_so failed)
+    by ns Binding.Memory way = unbound ns Binding.Memory _ _ Settled.Memory refl way Short_so
 
 pub settles : {J : Type 0} (answer : Answers J) (later : Laters J) (name : List ℕ) (present : Bool) (w : State J) → Ways (settling answer later name present w) (Settles answer later name present w)
 unfolding settling
 settles {J} answer later name present w = from (standing_of name w.standings) refl
   where
     known_by : (known : Known) → standing_of name w.standings ≡ Some known → (r : Probe) (failed : FailedCall) → Ways (after_known answer later name present w known r failed) (λ ok ms p. Settles answer later name present w ok (answered (Ask_alive known.held.0) (told_at r failed) ∷ ms) p)
-    known_by known e (probe.Alive on) failed =
-        sure_last (Adds w.entries (Brought name known on)) (λ ok ms p. Settles answer later name present w ok (answered (Ask_alive known.held.0) (told_at (probe.Alive on) failed) ∷ ms) p) (bringing name known on w.entries) (to_mark w name) (λ (q : Settled × List Entry). (q.0, record w { standings = tried_standings w.standings name q.0; entries = q.1 ++ unsettled_by name q.0 })) (λ q. refl) (brought name known on w.entries)
+    known_by known e (Probe.Alive on) failed =
+        sure_last (Adds w.entries (Brought name known on)) (λ ok ms p. Settles answer later name present w ok (answered (Ask_alive known.held.0) (told_at (Probe.Alive on) failed) ∷ ms) p) (bringing name known on w.entries) (to_mark w name) (λ (q : Settled × List Entry). (q.0, record w { standings = tried_standings w.standings name q.0; entries = q.1 ++ unsettled_by name q.0 })) (λ q. refl) (brought name known on w.entries)
         (λ ms q h. record { rest = h.0 ++ unsettled_by name q.0; judged = None; flat = Tried known on failed ms h.0 q.0 e h.2; entries = adds_told w.entries q.1 h.0 name q.0 h.1; listed = refl; next = refl; judge = refl })
-    known_by known e probe.Gone failed = λ shut. entered answer later name present w (answered (Ask_alive known.held.0) (told_at probe.Gone failed) ∷ answered (Close known.held.0) shut ∷ []) (entry.Gone known.number name ∷ []) (w.entries ++ entry.Gone known.number name ∷ []) (without name w.standings) refl (Lost known failed shut e)
-    known_by known e probe.Failed failed = record { rest = _; judged = None; flat = Unprobed known failed e; entries = refl; listed = refl; next = refl; judge = refl }
+    known_by known e Probe.Gone failed = λ shut. entered answer later name present w (answered (Ask_alive known.held.0) (told_at Probe.Gone failed) ∷ answered (Close known.held.0) shut ∷ []) (Entry.Gone known.number name ∷ []) (w.entries ++ Entry.Gone known.number name ∷ []) (without name w.standings) refl (Lost known failed shut e)
+    known_by known e Probe.Failed failed = record { rest = _; judged = None; flat = Unprobed known failed e; entries = refl; listed = refl; next = refl; judge = refl }
 
     from : (o : Option Known) → standing_of name w.standings ≡ o → Ways (from_standing answer later name present w o) (Settles answer later name present w)
     from (Some known) e = λ t. known_by known e t.answer (failure_of t)
@@ -279,11 +279,11 @@ resettles {J} answer later name present w k = from (standing_of name k.standings
     R = Resettles answer later name present w k
 
     known_by : (known : Known) → standing_of name k.standings ≡ Some known → (r : Probe) (failed : FailedCall) → Ways (after_again name k known r failed) (λ ok ms p. R ok (answered (Ask_alive known.held.0) (told_at r failed) ∷ ms) p)
-    known_by known e (probe.Alive on) failed =
-        sure_last (Adds k.entries (Brought name known on)) (λ ok ms p. R ok (answered (Ask_alive known.held.0) (told_at (probe.Alive on) failed) ∷ ms) p) (bringing name known on k.entries) (to_keep_mark k name) (λ (q : Settled × List Entry). (q.0, record { standings = tried_standings k.standings name q.0; entries = q.1 ++ unsettled_by name q.0 })) (λ q. refl) (brought name known on k.entries)
+    known_by known e (Probe.Alive on) failed =
+        sure_last (Adds k.entries (Brought name known on)) (λ ok ms p. R ok (answered (Ask_alive known.held.0) (told_at (Probe.Alive on) failed) ∷ ms) p) (bringing name known on k.entries) (to_keep_mark k name) (λ (q : Settled × List Entry). (q.0, record { standings = tried_standings k.standings name q.0; entries = q.1 ++ unsettled_by name q.0 })) (λ q. refl) (brought name known on k.entries)
         (λ ms q h. record { rest = h.0 ++ unsettled_by name q.0; judged = None; flat = Tried known on failed ms h.0 q.0 e h.2; entries = adds_told k.entries q.1 h.0 name q.0 h.1; listed = refl; next = refl; judge = refl })
-    known_by known e probe.Gone failed = λ shut. record { rest = _; judged = None; flat = Stopped _ _ _ refl (Lost known failed shut e); entries = refl; listed = refl; next = refl; judge = refl }
-    known_by known e probe.Failed failed = record { rest = _; judged = None; flat = Unprobed known failed e; entries = refl; listed = refl; next = refl; judge = refl }
+    known_by known e Probe.Gone failed = λ shut. record { rest = _; judged = None; flat = Stopped _ _ _ refl (Lost known failed shut e); entries = refl; listed = refl; next = refl; judge = refl }
+    known_by known e Probe.Failed failed = record { rest = _; judged = None; flat = Unprobed known failed e; entries = refl; listed = refl; next = refl; judge = refl }
 
     from : (o : Option Known) → standing_of name k.standings ≡ o → Ways (again name k o) R
     from (Some known) e = λ t. known_by known e t.answer (failure_of t)

@@ -1,25 +1,13 @@
 -- Standings, and the devices of their held files.
-use Rattle.std.proofs.Common.{◌≡◌, ◌↔◌, ℕ, nat_eq, Option, option_copied, IsNone, IsSome, Bor, sym, Bool, true, false, not, ◌∙◌, ◌||◌, List, [], ◌∷◌, Some, None, map, cond, ◌⊎◌, inl, inr, refl, ap, subst, arith, slice_get, ◌&&◌, ◌++◌, take, drop}
+use Rattle.std.proofs.Common.{◌≡◌, ◌↔◌, ℕ, nat_eq, Option, option_copied, IsNone, IsSome, Bor, sym, Bool, true, false, not, ◌∙◌, ◌||◌, List, [], ◌∷◌, Some, None, map, cond, ◌⊎◌, inl, inr, refl, ap, subst, arith, true≢false, slice_get, ◌&&◌, ◌++◌, take, drop}
 use Rattle.std.proofs.lemmas.Bool.{or_right, or_cases, cases_Bool, cond_both, cond-false, both_ways, not-true, not-false, false_from_ne_true}
 use Rattle.std.specs.Cmp.Lexicographic.{bytes_decides}
-use Rattle.ug_table.proofs.Common.{Has, AllDistinct, same_name, known_of, standing_of, numbered, without, marked, lists, removed_of, place_for, with_standing, settled_standing, numbers_of, Standing, Known, Target, Device, Control, Authorized, Remove, Write, Wrote, Told, Put, Kernel, Live, IsKernel, Lived, value_after, does_put, IsWritten, IsGoneAt, IsAlive, Called, Quiet, Grows, FailedCall, Settled, Held, open_file, known_files, number_of, Entry, farewells}
-use Rattle.ug_table.specs.Sweep.{names_of}
-use Rattle.ug_types.proofs.Elements.{filter_has, map_has, has_map, distinct_one, has_filter, insert_has}
-use Rattle.ug_table.specs.Bring.{is_reject, wants, write_of}
-use Rattle.ug_types.specs.declared.verdict.Target.TheVariants as target
+use Rattle.ug_table.proofs.Common.{Has, AllDistinct, same_name, known_of, standing_of, numbered, without, marked, lists, removed_of, place_for, with_standing, settled_standing, Standing, Known, Target, Device, Control, Authorized, Remove, Write, Wrote, Told, Put, Kernel, Live, IsKernel, Lived, value_after, does_put, IsWritten, IsGoneAt, IsAlive, Called, Quiet, Grows, FailedCall, Settled, Held, open_file, known_files, number_of, Entry, farewells, names_of, kept_standings, tried_standings, filter_has, map_has, has_map, distinct_one, has_filter, insert_has, is_reject, wants, write_of, filter, insert, some_same, moves_quiet}
 use Rattle.ug_kernel.specs.declared.device.HeldFile.{HeldFile}
-use Rattle.ug_types.specs.declared.control.Write.TheVariants as write
-use Rattle.ug_kernel.specs.declared.calls.Wrote.TheVariants as wrote
-use Rattle.ug_kernel.proofs.Grow.{some_same}
-use Rattle.ug_kernel.proofs.Quiet.{moves_quiet}
 use Rattle.ug_kernel.proofs.Held.{live_before}
 use Rattle.ug_node.proofs.BindShapes.{told}
 use Rattle.std.specs.Prelude.{if◌then◌else◌}
-use Rattle.ug_table.specs.Settle.{kept_standings, tried_standings}
-use Rattle.ug_table.specs.declared.standing.Settled.TheVariants as settled
 use Rattle.std.proofs.lemmas.List.{take-append-drop}
-use Rattle.std.specs.List.{filter, insert}
-use Rattle.ug_audit.specs.declared.entry.Entry.TheVariants as entry
 
 -- what a call was answered, with its number and the count of failed calls after it
 abbrev pub told_at : {X : Type 0} → X → FailedCall → Told X
@@ -27,18 +15,12 @@ told_at answer last = told answer last.call last.count
 
 -- what holds of no entry, and stays with one that tells a standing gone, holds of those that tell what isn't listed
 pub farewells_by : (P : List Entry → Type 0) → P []
-    → ((number : ℕ) (name : List ℕ) (es : List Entry) → P es → P (entry.Gone number name ∷ es))
+    → ((number : ℕ) (name : List ℕ) (es : List Entry) → P es → P (Entry.Gone number name ∷ es))
     → (names : List (List ℕ)) (ss : List Standing) → P (farewells names ss)
 farewells_by P none more names [] = none
-farewells_by P none more names (s ∷ ss) = by (lists names s.name)
-    (farewells_by P none more names ss)
-  where
-    rest : List Entry
-    rest = farewells names ss
-
-    by : (b : Bool) → P rest → P (cond b rest (entry.Gone s.number s.name ∷ rest))
-    by true h = h
-    by false h = more s.number s.name rest h
+farewells_by P none more names (s ∷ ss) =
+    let rest = farewells_by P none more names ss in
+    elim (lists names s.name) as (λ (b : Bool). P (cond b (farewells names ss) (Entry.Gone s.number s.name ∷ farewells names ss))) [ true ↦ rest | false ↦ more s.number s.name (farewells names ss) rest ]
 
 -- The standings of names.
 
@@ -118,12 +100,6 @@ none_numbered (Some x) number ss e = (λ n. let none : ⊥ = cc in absurd none, 
 pub fields_stay : {X : Type 0} (f : Standing → Standing) (field : Standing → X) (ss : List Standing) → ((s : Standing) → field (f s) ≡ field s) → map field (map f ss) ≡ map field ss
 fields_stay f field [] e = refl
 fields_stay {X} f field (s ∷ ss) e = ap (λ (v : X). v ∷ map field (map f ss)) (e s) ∙ ap (λ (v : List X). field s ∷ v) (fields_stay f field ss e)
-
-pub names_marked : (name : List ℕ) (mark : Bool) (ss : List Standing) → names_of (map (marked name mark) ss) ≡ names_of ss
-names_marked name mark ss = fields_stay (marked name mark) (λ (s : Standing). s.name) ss (λ s. refl)
-
-pub numbers_marked : (name : List ℕ) (mark : Bool) (ss : List Standing) → numbers_of (map (marked name mark) ss) ≡ numbers_of ss
-numbers_marked name mark ss = fields_stay (marked name mark) (λ (s : Standing). s.number) ss (λ s. refl)
 
 -- the marks of removed devices
 
@@ -216,10 +192,10 @@ written_other : (held i : ℕ) (write : Write) (on : Bool) (k l : Kernel) (w : I
 written_other held i write on k l w ne v = (v.0, w.others i (λ e. ne (sym e)) ∙ v.1, v.2)
 
 does_put_other : (held i : ℕ) (write : Write) (answer : Wrote) (on : Bool) (k l : Kernel) → ((w : IsWritten held write k l) → w.i ≡ i → ⊥) → does_put held write answer k l → Value k i on → Value l i on
-does_put_other held i write wrote.Done on k l ne w v = written_other held i write on k l w (ne w) v
-does_put_other held i write wrote.Gone on k l ne e v = subst (λ x. Value x i on) (sym e) v
-does_put_other held i write wrote.Failed on k l ne (inl e) v = subst (λ x. Value x i on) (sym e) v
-does_put_other held i write wrote.Failed on k l ne (inr w) v = written_other held i write on k l w (ne w) v
+does_put_other held i write Wrote.Done on k l ne w v = written_other held i write on k l w (ne w) v
+does_put_other held i write Wrote.Gone on k l ne e v = subst (λ x. Value x i on) (sym e) v
+does_put_other held i write Wrote.Failed on k l ne (inl e) v = subst (λ x. Value x i on) (sym e) v
+does_put_other held i write Wrote.Failed on k l ne (inr w) v = written_other held i write on k l w (ne w) v
 
 -- a write to another device
 put_other : (held i j : ℕ) (control : Control) (write : Write) (answer : Told Wrote) (on : Bool) (k l : Kernel) → IsHeldAs k held j control → (j ≡ i → ⊥) → Called (Put held write) answer k l → Value k i on → Value l i on
@@ -230,11 +206,11 @@ put_other held i j control write answer on k l file ne c v =
     (does_put_other held i write answer.answer on c.before c.after (λ w e. ne (sym (written_device held j control write c.before c.after w at) ∙ e)) c.effect (quiet_value k c.before i on before v))
 
 verdict_value : (verdict : Target) (was : Bool) → value_after (write_of verdict) was ≡ wants verdict
-verdict_value target.Allow was = refl
+verdict_value Target.Allow was = refl
 verdict_value x was = refl
 
 -- a write that is done leaves what the verdict wants
-pub done_value : (held i : ℕ) (verdict : Target) (failed : FailedCall) (k l : Kernel) → IsFileOf k held i → Called (Put held (write_of verdict)) (told_at wrote.Done failed) k l → Value l i (wants verdict)
+pub done_value : (held i : ℕ) (verdict : Target) (failed : FailedCall) (k l : Kernel) → IsFileOf k held i → Called (Put held (write_of verdict)) (told_at Wrote.Done failed) k l → Value l i (wants verdict)
 done_value held i verdict failed k l file c =
     let w : IsWritten held (write_of verdict) c.before c.after = c.effect in
     let at = (moves_quiet k c.before c.moves_before).held held (record { device = i; control = Authorized }) file in
@@ -244,11 +220,11 @@ done_value held i verdict failed k l file c =
     quiet_value c.after l i (wants verdict) (moves_quiet c.after l c.moves_after) (d, now, verdict_value verdict w.d.on)
 
 -- a removal leaves the value
-pub removal_value : (file i : ℕ) (on : Bool) (failed : FailedCall) (k l : Kernel) → IsHeldAs k file i Remove → Called (Put file write.Remove) (told_at wrote.Done failed) k l → Value k i on → Value l i on
+pub removal_value : (file i : ℕ) (on : Bool) (failed : FailedCall) (k l : Kernel) → IsHeldAs k file i Remove → Called (Put file Write.Remove) (told_at Wrote.Done failed) k l → Value k i on → Value l i on
 removal_value file i on failed k l of c v =
-    let w : IsWritten file write.Remove c.before c.after = c.effect in
+    let w : IsWritten file Write.Remove c.before c.after = c.effect in
     let moved = moves_quiet k c.before c.moves_before in
-    let is = written_device file i Remove write.Remove c.before c.after w (moved.held file (record { device = i; control = Remove }) of) in
+    let is = written_device file i Remove Write.Remove c.before c.after w (moved.held file (record { device = i; control = Remove }) of) in
     let was = quiet_value k c.before i on moved v in
     let same : w.d ≡ was.0 = some_same (slice_get c.before.devices i) w.d was.0 (subst (λ x. slice_get c.before.devices x ≡ Some w.d) is w.live.at) was.1 in
     let now : slice_get c.after.devices i ≡ Some w.d = subst (λ x. slice_get c.after.devices x ≡ Some w.d) is w.now in
@@ -342,14 +318,6 @@ IsRemovedIf s = is_reject s.verdict ≡ true → s.removed ≡ true
 pub marked_other : (name : List ℕ) (b : Bool) (s : Standing) → (s.name ≡ name → ⊥) → marked name b s ≡ s
 marked_other name b s ne = ap (λ (t : Bool). let v : Standing = record s { settled = if t then b else s.settled; removed = if t then s.removed || (b && is_reject s.verdict) else s.removed } in v) (other_test s.name name ne)
 
-marked_has : (ss : List Standing) (name : List ℕ) (b : Bool) (s : Standing) → Has ss s → (s.name ≡ name → ⊥) → Has (map (marked name b) ss) s
-marked_has ss name b s h ne = subst (λ (v : Standing). Has (map (marked name b) ss) v) (marked_other name b s ne) (has_map (marked name b) ss s h)
-
-pub tried_has : (ss : List Standing) (name : List ℕ) (how : Settled) (s : Standing) → Has ss s → (s.name ≡ name → ⊥) → Has (tried_standings ss name how) s
-tried_has ss name settled.Nobody s h ne = has_filter (λ (v : Standing). not (same_name v.name name)) ss s h (ap not (other_test s.name name ne))
-tried_has ss name settled.Stands s h ne = marked_has ss name true s h ne
-tried_has ss name how s h ne = marked_has ss name false s h ne
-
 -- each was there
 abbrev pub Was : List Standing → Standing → Type 0
 Was ss s = (t : Standing) × Has ss t × (t.name ≡ s.name) × (t.held ≡ s.held)
@@ -358,8 +326,8 @@ marked_was : (ss : List Standing) (name : List ℕ) (b : Bool) (s : Standing) �
 marked_was ss name b s h = let m = map_has (marked name b) ss s h in (m.0, m.1, ap (λ (v : Standing). v.name) m.2, ap (λ (v : Standing). v.held) m.2)
 
 pub tried_was : (ss : List Standing) (name : List ℕ) (how : Settled) (s : Standing) → Has (tried_standings ss name how) s → Was ss s
-tried_was ss name settled.Nobody s h = (s, (filter_has (λ (v : Standing). not (same_name v.name name)) ss s h).0, refl, refl)
-tried_was ss name settled.Stands s h = marked_was ss name true s h
+tried_was ss name Settled.Nobody s h = (s, (filter_has (λ (v : Standing). not (same_name v.name name)) ss s h).0, refl, refl)
+tried_was ss name Settled.Stands s h = marked_was ss name true s h
 tried_was ss name how s h = marked_was ss name false s h
 
 pub tried_files : (k : Kernel) (ss : List Standing) (name : List ℕ) (how : Settled) → Files k ss → Files k (tried_standings ss name how)
@@ -367,7 +335,7 @@ tried_files k ss name how f s a =
     let t = tried_was ss name how s a in
     subst (λ v. IsOpen k v s.held.0) t.2 (subst (λ v. IsOpen k t.0.name v.0) t.3 (f t.0 t.1))
 
-pub tried_new : (ss : List Standing) (name : List ℕ) (how : Settled) (s : Standing) → how ≡ settled.Stands → s.name ≡ name → Has ss s → (t : Standing) × Has (tried_standings ss name how) t × (t.held ≡ s.held) × (t.verdict ≡ s.verdict) × IsRemovedIf t
+pub tried_new : (ss : List Standing) (name : List ℕ) (how : Settled) (s : Standing) → how ≡ Settled.Stands → s.name ≡ name → Has ss s → (t : Standing) × Has (tried_standings ss name how) t × (t.held ≡ s.held) × (t.verdict ≡ s.verdict) × IsRemovedIf t
 tried_new ss name how s e named h = subst (λ (v : Settled). (t : Standing) × Has (tried_standings ss name v) t × (t.held ≡ s.held) × (t.verdict ≡ s.verdict) × IsRemovedIf t) (sym e) (marked name true s, has_map (marked name true) ss s h, refl, refl, λ r. reject_removed name s (is_same s.name name named) r)
 
 -- The standing of a name once another name was settled, and once it was itself.
@@ -384,15 +352,11 @@ stands_number o number held h = ap number_of h.1 ∙ ap (λ (v : ℕ). Some v) h
 
 -- one that is tried again
 
-marked_by : (name : List ℕ) (mark : Bool) (s : Standing) (ss : List Standing) (known : Known) (b : Bool) → same_name s.name name ≡ b → (standing_of name ss ≡ Some known → StandsAs known.number known.held (standing_of name (map (marked name mark) ss))) → cond b (Some (known_of s)) (standing_of name ss) ≡ Some known → StandsAs known.number known.held (cond b (Some (known_of (marked name mark s))) (standing_of name (map (marked name mark) ss)))
-marked_by name mark s ss known true e h f =
-    let same : known_of s ≡ known = cc in
-    (known_of (marked name mark s), refl, ap (λ (v : Known). v.number) same, ap (λ (v : Known). v.held) same)
-marked_by name mark s ss known false e h f = h f
-
 marked_own : (name : List ℕ) (mark : Bool) (ss : List Standing) (known : Known) → standing_of name ss ≡ Some known → StandsAs known.number known.held (standing_of name (map (marked name mark) ss))
 marked_own name mark [] known e = let none : ⊥ = cc in absurd none
-marked_own name mark (s ∷ ss) known e = marked_by name mark s ss known (same_name s.name name) refl (λ f. marked_own name mark ss known f) e
+marked_own name mark (s ∷ ss) known e =
+    let own : known_of s ≡ known → StandsAs known.number known.held (Some (known_of (marked name mark s))) = λ same. (known_of (marked name mark s), refl, ap (λ (v : Known). v.number) same, ap (λ (v : Known). v.held) same) in
+    elim (same_name s.name name) as (λ (b : Bool). cond b (Some (known_of s)) (standing_of name ss) ≡ Some known → StandsAs known.number known.held (cond b (Some (known_of (marked name mark s))) (standing_of name (map (marked name mark) ss)))) [ true ↦ (λ f. own (cc)) | false ↦ marked_own name mark ss known ] e
 
 pub without_own : (name : List ℕ) (ss : List Standing) → standing_of name (without name ss) ≡ None
 without_own name [] = refl
@@ -401,9 +365,9 @@ without_own name (s ∷ ss) = cond_both (not (same_name s.name name)) (s ∷ wit
     (λ e. cond-false (same_name s.name name) (Some (known_of s)) (standing_of name (without name ss)) (not-true (same_name s.name name) e) ∙ without_own name ss)
     (λ e. without_own name ss)
 
-pub tried_own : (name : List ℕ) (ss : List Standing) (how : Settled) (known : Known) → standing_of name ss ≡ Some known → (how ≡ settled.Nobody → ⊥) → StandsAs known.number known.held (standing_of name (tried_standings ss name how))
-tried_own name ss settled.Nobody known e n = absurd (n refl)
-tried_own name ss settled.Stands known e n = marked_own name true ss known e
+pub tried_own : (name : List ℕ) (ss : List Standing) (how : Settled) (known : Known) → standing_of name ss ≡ Some known → (how ≡ Settled.Nobody → ⊥) → StandsAs known.number known.held (standing_of name (tried_standings ss name how))
+tried_own name ss Settled.Nobody known e n = absurd (n refl)
+tried_own name ss Settled.Stands known e n = marked_own name true ss known e
 tried_own name ss how known e n = marked_own name false ss known e
 
 -- a new one
@@ -420,32 +384,12 @@ with_own name x ss e n =
     let p : ℕ = place_for x.name ss in
     between_own name x (take p ss) (drop p ss) (is_same x.name name e) (ap (λ (v : List Standing). standing_of name v) (take-append-drop p ss) ∙ n)
 
--- another name has the standing that it had
-abbrev pub OthersStand : List ℕ → List Standing → List Standing → Type 0
-OthersStand name before after = (other : List ℕ) → (other ≡ name → ⊥) → standing_of other after ≡ standing_of other before
-
-pub others_stand : (name : List ℕ) (ss : List Standing) → OthersStand name ss ss
-others_stand name ss = λ other n. refl
-
 -- a standing of another name is passed over
 passed : (other : List ℕ) (s : Standing) (ss : List Standing) → same_name s.name other ≡ false → standing_of other (s ∷ ss) ≡ standing_of other ss
 passed other s ss e = ap (λ (v : Bool). cond v (Some (known_of s)) (standing_of other ss)) e
 
 pub not_named : (name other : List ℕ) (s : Standing) → s.name ≡ name → (other ≡ name → ⊥) → same_name s.name other ≡ false
 not_named name other s e n = other_test s.name other (λ f. n (sym f ∙ e))
-
-other_marked_by : (name other : List ℕ) (mark : Bool) (s : Standing) (ss : List Standing) (b : Bool) → same_name s.name name ≡ b → (other ≡ name → ⊥) → standing_of other (map (marked name mark) ss) ≡ standing_of other ss → standing_of other (map (marked name mark) (s ∷ ss)) ≡ standing_of other (s ∷ ss)
-other_marked_by name other mark s ss true e n h =
-    let out : same_name s.name other ≡ false = not_named name other s (same_is s.name name e) n in
-    passed other (marked name mark s) (map (marked name mark) ss) out ∙ h ∙ sym (passed other s ss out)
-other_marked_by name other mark s ss false e n h =
-    let flag : removed_of name mark s ≡ s.removed = ap (λ (t : Bool). cond t (s.removed || (mark && is_reject s.verdict)) s.removed) e in
-    ap (λ (f : Bool). let k : Known = record { number = s.number; held = s.held; verdict = s.verdict; removed = f } in cond (same_name s.name other) (Some k) (standing_of other (map (marked name mark) ss))) flag
-    ∙ ap (λ (v : Option Known). cond (same_name s.name other) (Some (known_of s)) v) h
-
-marked_stand : (name other : List ℕ) (mark : Bool) (ss : List Standing) → (other ≡ name → ⊥) → standing_of other (map (marked name mark) ss) ≡ standing_of other ss
-marked_stand name other mark [] n = refl
-marked_stand name other mark (s ∷ ss) n = other_marked_by name other mark s ss (same_name s.name name) refl n (marked_stand name other mark ss n)
 
 pub without_stand : (name other : List ℕ) (ss : List Standing) → (other ≡ name → ⊥) → standing_of other (without name ss) ≡ standing_of other ss
 without_stand name other [] n = refl
@@ -461,20 +405,6 @@ listed_stand names name (s ∷ ss) has = cond_both (lists names s.name) (s ∷ f
     (λ (l : List Standing). standing_of name l ≡ standing_of name (s ∷ ss))
     (λ e. ap (λ (v : Option Known). cond (same_name s.name name) (Some (known_of s)) v) (listed_stand names name ss has))
     (λ e. listed_stand names name ss has ∙ sym (passed name s ss (other_test s.name name (λ f. both_ways (lists names s.name) e (ap (λ (v : List ℕ). lists names v) f ∙ has)))))
-
-between_stand : (other : List ℕ) (x : Standing) (ss rs : List Standing) → same_name x.name other ≡ false → standing_of other (ss ++ x ∷ rs) ≡ standing_of other (ss ++ rs)
-between_stand other x [] rs e = passed other x rs e
-between_stand other x (s ∷ ss) rs e = ap (λ (v : Option Known). cond (same_name s.name other) (Some (known_of s)) v) (between_stand other x ss rs e)
-
-pub with_stand : (other : List ℕ) (x : Standing) (ss : List Standing) → same_name x.name other ≡ false → standing_of other (with_standing x ss) ≡ standing_of other ss
-with_stand other x ss e =
-    between_stand other x (take (place_for x.name ss) ss) (drop (place_for x.name ss) ss) e
-    ∙ ap (λ (v : List Standing). standing_of other v) (take-append-drop (place_for x.name ss) ss)
-
-pub tried_stand : (name : List ℕ) (ss : List Standing) (how : Settled) → OthersStand name ss (tried_standings ss name how)
-tried_stand name ss settled.Nobody = λ other n. without_stand name other ss n
-tried_stand name ss settled.Stands = λ other n. marked_stand name other true ss n
-tried_stand name ss how = λ other n. marked_stand name other false ss n
 
 -- A new standing that is kept was added, and then tried.
 
@@ -517,6 +447,62 @@ without_with name x ss e =
     let p : ℕ = place_for x.name ss in
     without_between name x (take p ss) (drop p ss) e ∙ ap (without name) (take-append-drop p ss)
 
+-- The standings that aren't meant, as one settles a name, or the standing of a number.
+
+-- those that are meant, by name and number
+abbrev pub Test : Type 0
+Test = List ℕ → ℕ → Bool
+
+abbrev pub own : Test → Standing → Bool
+own test s = test s.name s.number
+
+abbrev pub rest_of : Test → List Standing → List Standing
+rest_of test ss = filter (λ (s : Standing). not (own test s)) ss
+
+-- among these standings, they are those of that name
+abbrev pub AreNamed : Test → List ℕ → List Standing → Type 0
+AreNamed test name ss = (s : Standing) → Has ss s → own test s ≡ same_name s.name name
+
+-- what is done to each of those alone that are meant
+pub rest_map : (test : Test) (f : Standing → Standing) (ss : List Standing) → ((s : Standing) → own test (f s) ≡ own test s) → ((s : Standing) → Has ss s → own test s ≡ false → f s ≡ s) → rest_of test (map f ss) ≡ rest_of test ss
+rest_map test f [] keeps other = refl
+rest_map test f (s ∷ ss) keeps other = ap (λ (v : Bool). cond (not v) (f s ∷ rest_of test (map f ss)) (rest_of test (map f ss))) (keeps s) ∙ by (own test s) refl (rest_map test f ss keeps (λ t a. other t (inr a)))
+  where
+    by : (b : Bool) → own test s ≡ b → rest_of test (map f ss) ≡ rest_of test ss → cond (not b) (f s ∷ rest_of test (map f ss)) (rest_of test (map f ss)) ≡ cond (not b) (s ∷ rest_of test ss) (rest_of test ss)
+    by true e h = h
+    by false e h = λ i. (other s (inl refl) e) i ∷ h i
+
+pub marked_rest : (test : Test) (name : List ℕ) (mark : Bool) (ss : List Standing) → AreNamed test name ss → rest_of test (map (marked name mark) ss) ≡ rest_of test ss
+marked_rest test name mark ss named = rest_map test (marked name mark) ss (λ s. refl) (λ s a e. marked_other name mark s (λ f. true≢false (sym (is_same s.name name f) ∙ sym (named s a) ∙ e)))
+
+pub without_rest : (test : Test) (name : List ℕ) (ss : List Standing) → AreNamed test name ss → rest_of test (without name ss) ≡ rest_of test ss
+without_rest test name [] named = refl
+without_rest test name (s ∷ ss) named = subst (λ (c : Bool). rest_of test (cond (not c) (s ∷ without name ss) (without name ss)) ≡ rest_of test (s ∷ ss)) (named s (inl refl)) (by (own test s) refl (without_rest test name ss (λ t a. named t (inr a))))
+  where
+    by : (b : Bool) → own test s ≡ b → rest_of test (without name ss) ≡ rest_of test ss → rest_of test (cond (not b) (s ∷ without name ss) (without name ss)) ≡ cond (not b) (s ∷ rest_of test ss) (rest_of test ss)
+    by true e h = h
+    by false e h = ap (λ (v : Bool). cond (not v) (s ∷ rest_of test (without name ss)) (rest_of test (without name ss))) e ∙ ap (λ (v : List Standing). s ∷ v) h
+
+pub tried_rest : (test : Test) (name : List ℕ) (ss : List Standing) (how : Settled) → AreNamed test name ss → rest_of test (tried_standings ss name how) ≡ rest_of test ss
+tried_rest test name ss Settled.Nobody named = without_rest test name ss named
+tried_rest test name ss Settled.Stands named = marked_rest test name true ss named
+tried_rest test name ss how named = marked_rest test name false ss named
+
+abbrev pub of_name : List ℕ → Test
+of_name name = λ other number. same_name other name
+
+pub tried_without : (name : List ℕ) (ss : List Standing) (how : Settled) → without name (tried_standings ss name how) ≡ without name ss
+tried_without name ss how = tried_rest (of_name name) name ss how (λ s a. refl)
+
+-- where those of other names are the same, one of them is there, and is found
+pub others_have : (name : List ℕ) (ss rs : List Standing) (s : Standing) → without name ss ≡ without name rs → Has ss s → (s.name ≡ name → ⊥) → Has rs s
+others_have name ss rs s e a ne =
+    let other : Standing → Bool = λ v. not (same_name v.name name) in
+    (filter_has other rs s (subst (λ (v : List Standing). Has v s) e (has_filter other ss s a (ap not (other_test s.name name ne))))).0
+
+pub others_stand : (name other : List ℕ) (ss rs : List Standing) → without name rs ≡ without name ss → (other ≡ name → ⊥) → standing_of other rs ≡ standing_of other ss
+others_stand name other ss rs e n = sym (without_stand name other rs n) ∙ ap (standing_of other) e ∙ without_stand name other ss n
+
 pub kept_tried : (ss : List Standing) (x : Standing) (how : Settled) → x.settled ≡ false
     → standing_of x.name ss ≡ None
     → kept_standings ss x how ≡ tried_standings (with_standing x ss) x.name how
@@ -540,7 +526,7 @@ kept_tried ss x how fresh none = by how
     stays = own false ∙ (λ i. record x { settled = (sym fresh) i; removed = (or_none x.removed) i })
 
     by : (how : Settled) → kept_standings ss x how ≡ tried_standings (with_standing x ss) x.name how
-    by settled.Nobody =
+    by Settled.Nobody =
         sym (without_with x.name x ss refl ∙ without_none x.name ss (missing x.name ss none))
-    by settled.Stands = into true (settled_standing x) (own true)
+    by Settled.Stands = into true (settled_standing x) (own true)
     by how = into false x stays

@@ -1,22 +1,12 @@
 -- Fair steps, one after another.
 use Rattle.std.proofs.Common.{◌≡◌, ℕ, Bool, List, ◌++◌, inl, inr, sym, ◌∙◌, subst, true, false, ◌⊎◌, refl, ap, ◌<◌, ◌≤◌, append-nil, [], ◌∷◌, Some, slice_get, append_assoc, arith, not, map}
-use Rattle.ug_table.proofs.Common.{Has, AllDistinct, Held, Target, Kernel, Live, IsKernel, Grows, Quiet, Entry, Tries, HasVerdict, Account, Start, Note, Judge, Had, Had_not, Went, IsTold, HasRemoval, Stand, numbers_of, wrote_entries, IsRemoveMarked, IsDevice, IsGone, IsProbed, IsOne, Stands, HasStanding, IsJudged, gone_of, IsFair, AreLeft, WasRemoved, IsFirst, AreInOrder, TellsNeither, Standing, Answers, Laters, State, noted, Judged, Cause, Device, Write, Wrote, Authorized, Call, Answer, IsGoneAt, Called, same_name, without, marked, removed_of, Settled}
+use Rattle.ug_table.proofs.Common.{Has, AllDistinct, Held, Target, Kernel, Live, IsKernel, Grows, Quiet, Entry, Tries, HasVerdict, Account, Start, Note, Judge, Had, Had_not, Went, IsTold, HasRemoval, Stand, numbers_of, wrote_entries, IsRemoveMarked, IsDevice, IsGone, IsProbed, IsOne, Stands, HasStanding, IsJudged, gone_of, IsFair, AreLeft, WasRemoved, IsFirst, TellsNeither, Standing, Answers, Laters, State, noted, Judged, Cause, Device, Write, Wrote, Authorized, Call, Answer, IsGoneAt, Called, same_name, without, marked, removed_of, Settled, names_of, tried_standings, has_left, has_right, distinct_one, has_cases, distinct_append, filter_has, has_filter, map_has, has_map, is_reject, some_same, quiet_grows, grows_trans, grows_refl, moves_quiet, WritesNothing, quiet_refl, called_quiet, StandInOrder, KeepsOrder}
 use Rattle.ug_kernel.specs.declared.device.Effect.{Effect}
-use Rattle.ug_audit.specs.declared.entry.Entry.TheVariants as entry
-use Rattle.ug_types.proofs.Elements.{has_left, has_right, distinct_one, has_cases, distinct_append, filter_has, has_filter, map_has, has_map, distinct_filter}
 use Rattle.ug_table.proofs.Devices.{device_stays, gone_stays, probed_stays, stand_stays}
-use Rattle.ug_types.specs.declared.control.Write.TheVariants as write
-use Rattle.ug_kernel.specs.declared.calls.Wrote.TheVariants as wrote
-use Rattle.ug_table.specs.Bring.{is_reject}
-use Rattle.ug_kernel.proofs.Grow.{some_same, quiet_grows, grows_trans, grows_refl}
-use Rattle.ug_kernel.proofs.Quiet.{moves_quiet, WritesNothing, quiet_refl, called_quiet}
 use Rattle.std.proofs.lemmas.Bool.{cases_Bool, both_ways, true_from_ne_false, true≢false}
-use Rattle.ug_table.proofs.Standings.{missing_without, IsFileOf, file_same, file_later, same_is, is_same, names_marked, numbers_marked, still_removed, settled_removed, reject_removed}
-use Rattle.ug_table.proofs.Says.{Says, gone_has, gone_append, account_says, one_held, AreLow, Plain, plain_none, plain_note, plain_distinct, one_neither}
-use Rattle.ug_table.specs.Settle.{tried_standings}
-use Rattle.ug_table.specs.Sweep.{names_of}
-use Rattle.ug_table.specs.declared.standing.Settled.TheVariants as settled
-use Rattle.ug_table.proofs.Marks.{order_filter}
+use Rattle.ug_table.proofs.Standings.{missing_without, IsFileOf, file_same, file_later, same_is, is_same, still_removed, settled_removed, reject_removed}
+use Rattle.ug_table.proofs.Says.{Says, gone_has, gone_append, account_says, one_held, AreLow, IsPlain, Plain, NoJudged, plain_unjudged, gone_unjudged, plain_note, plain_distinct, each_has, one_neither}
+use Rattle.ug_table.proofs.Marks.{keeps_filter, keeps_marked, names_distinct}
 
 -- Accounts of one part of a sweep after another.
 
@@ -36,19 +26,19 @@ pub verdict_before : (before middle : List Standing) (es fs : List Entry) (numbe
 verdict_before before middle es fs number name held verdict told (inl h) = elim (told h.0 h.1) [
   | inl b ↦ inl (b.0, b.1, sym b.2 ∙ h.2, sym b.3 ∙ h.3, sym b.4 ∙ h.4, sym b.6 ∙ h.5)
   | inr t ↦
-      let same : entry.Judged h.0.number h.0.name h.0.held h.0.verdict h.0.cause ≡ entry.Judged number name held verdict h.0.cause = cc (h.2, h.3, h.4, h.5) in
-      inr (h.0.cause, has_left es fs (entry.Judged number name held verdict h.0.cause) (subst (λ v. Has es v) same t))
+      let same : Entry.Judged h.0.number h.0.name h.0.held h.0.verdict h.0.cause ≡ Entry.Judged number name held verdict h.0.cause = cc (h.2, h.3, h.4, h.5) in
+      inr (h.0.cause, has_left es fs (Entry.Judged number name held verdict h.0.cause) (subst (λ v. Has es v) same t))
 ]
-verdict_before before middle es fs number name held verdict told (inr h) = inr (h.0, has_right es fs (entry.Judged number name held verdict h.0) h.1)
+verdict_before before middle es fs number name held verdict told (inr h) = inr (h.0, has_right es fs (Entry.Judged number name held verdict h.0) h.1)
 
 pub told_before : (before middle : List Standing) (es fs : List Entry) (s : Standing) → AreTold before es middle → IsTold middle fs s → IsTold before (es ++ fs) s
 told_before before middle es fs s told (inl h) = elim (told h.0 h.1) [
   | inl b ↦ inl (b.0, b.1, h.2 ∙ b.2, h.3 ∙ b.3, h.4 ∙ b.4, h.5 ∙ b.5, h.6 ∙ b.6, h.7 ∙ b.7)
   | inr t ↦
-      let same : entry.Judged h.0.number h.0.name h.0.held h.0.verdict h.0.cause ≡ entry.Judged s.number s.name s.held s.verdict s.cause = cc (h.2, h.3, h.4, h.6, h.7) in
-      inr (has_left es fs (entry.Judged s.number s.name s.held s.verdict s.cause) (subst (λ v. Has es v) same t))
+      let same : Entry.Judged h.0.number h.0.name h.0.held h.0.verdict h.0.cause ≡ Entry.Judged s.number s.name s.held s.verdict s.cause = cc (h.2, h.3, h.4, h.6, h.7) in
+      inr (has_left es fs (Entry.Judged s.number s.name s.held s.verdict s.cause) (subst (λ v. Has es v) same t))
 ]
-told_before before middle es fs s told (inr h) = inr (has_right es fs (entry.Judged s.number s.name s.held s.verdict s.cause) h)
+told_before before middle es fs s told (inr h) = inr (has_right es fs (Entry.Judged s.number s.name s.held s.verdict s.cause) h)
 
 -- Which standings are marked as removed, as entries are added.
 
@@ -64,7 +54,7 @@ keeps_itself ss s a = (s, a, refl, refl, refl)
 
 -- entries that tell of no removal that was done
 abbrev pub NoRemoval : List Entry → Type 0
-NoRemoval es = (number : ℕ) (name : List ℕ) → Has es (entry.Wrote number name write.Remove wrote.Done) → ⊥
+NoRemoval es = (number : ℕ) (name : List ℕ) → Has es (Entry.Wrote number name Write.Remove Wrote.Done) → ⊥
 
 abbrev pub AreMarked : List Standing → List Entry → List Standing → Type 0
 AreMarked ss es rs = (s : Standing) → Has rs s → IsRemoveMarked ss es s
@@ -72,7 +62,7 @@ AreMarked ss es rs = (s : Standing) → Has rs s → IsRemoveMarked ss es s
 abbrev pub AreRemoved : Kernel → List Standing → Type 0
 AreRemoved k ss = (s : Standing) → Has ss s → s.removed ≡ true → HasRemoval k s.held
 
-pub keep_one : (ss : List Standing) (es : List Entry) (s : Standing) → Keeps ss s → AllDistinct (numbers_of ss) → ((name : List ℕ) → Has es (entry.Wrote s.number name write.Remove wrote.Done) → ⊥) → IsRemoveMarked ss es s
+pub keep_one : (ss : List Standing) (es : List Entry) (s : Standing) → Keeps ss s → AllDistinct (numbers_of ss) → ((name : List ℕ) → Has es (Entry.Wrote s.number name Write.Remove Wrote.Done) → ⊥) → IsRemoveMarked ss es s
 keep_one ss es s b distinct none = elim (cases_Bool b.0.removed) [
   | inl e ↦ inl (sym b.4 ∙ e, inl (b.0, b.1, b.2, e))
   | inr e ↦
@@ -107,16 +97,16 @@ marks_keep ss rs x has was m s a = elim (m.each s a) [
 ]
 
 -- it was removed just now
-pub removal_marks : (ss rs : List Standing) (x : Standing) → AllDistinct (numbers_of ss) → is_reject x.verdict ≡ true → Marks x ss rs → AreMarked ss (wrote_entries x.number x.name write.Remove wrote.Done) rs
+pub removal_marks : (ss rs : List Standing) (x : Standing) → AllDistinct (numbers_of ss) → is_reject x.verdict ≡ true → Marks x ss rs → AreMarked ss (wrote_entries x.number x.name Write.Remove Wrote.Done) rs
 removal_marks ss rs x distinct reject m s a = elim (cases_Bool s.removed) [
   | inl e ↦ elim (m.each s a) [
     | inl b ↦ inl (e, inl (b.0, b.1, b.2, b.4 ∙ e))
-    | inr b ↦ inl (e, inr (x.name, inr (inl (ap (λ (v : ℕ). entry.Wrote v x.name write.Remove wrote.Done) (sym b.0)))))
+    | inr b ↦ inl (e, inr (x.name, inr (inl (ap (λ (v : ℕ). Entry.Wrote v x.name Write.Remove Wrote.Done) (sym b.0)))))
   ]
   | inr e ↦
       let other : s.number ≡ x.number → ⊥ = λ is. both_ways s.removed e (m.own s a is reject) in
       let kept : Keeps ss s = elim (m.each s a) [ inl b ↦ b | inr b ↦ absurd (other b.0) ] in
-      keep_one ss (wrote_entries x.number x.name write.Remove wrote.Done) s kept distinct (λ name h. elim h [
+      keep_one ss (wrote_entries x.number x.name Write.Remove Wrote.Done) s kept distinct (λ name h. elim h [
         | inl is ↦ let none : ⊥ = cc in none
         | inr g ↦ elim g [ inl is ↦ other (let same : s.number ≡ x.number = cc in same) | inr none ↦ none ]
       ])
@@ -130,25 +120,25 @@ removal_removed k ss rs x stand log m s a r = elim (m.each s a) [
 
 -- One fair part of a sweep after another.
 
-pub gone_as : (es : List Entry) (number n : ℕ) (name m : List ℕ) → number ≡ n → name ≡ m → Has es (entry.Gone number name) → Has es (entry.Gone n m)
-gone_as es number n name m e f h = let same : entry.Gone number name ≡ entry.Gone n m = cc in subst (λ (v : Entry). Has es v) same h
+pub gone_as : (es : List Entry) (number n : ℕ) (name m : List ℕ) → number ≡ n → name ≡ m → Has es (Entry.Gone number name) → Has es (Entry.Gone n m)
+gone_as es number n name m e f h = let same : Entry.Gone number name ≡ Entry.Gone n m = cc in subst (λ (v : Entry). Has es v) same h
 
-kept_later : (ss rs : List Standing) (es fs : List Entry) (x : Standing) → ((t : Standing) → Has ss t → IsOne rs t ⊎ Has fs (entry.Gone t.number t.name)) → IsOne ss x ⊎ Has es (entry.Gone x.number x.name) → IsOne rs x ⊎ Has (es ++ fs) (entry.Gone x.number x.name)
+kept_later : (ss rs : List Standing) (es fs : List Entry) (x : Standing) → ((t : Standing) → Has ss t → IsOne rs t ⊎ Has fs (Entry.Gone t.number t.name)) → IsOne ss x ⊎ Has es (Entry.Gone x.number x.name) → IsOne rs x ⊎ Has (es ++ fs) (Entry.Gone x.number x.name)
 kept_later ss rs es fs x kept (inl t) = elim (kept t.0 t.1) [
   | inl s ↦ inl (s.0, s.1, t.2 ∙ s.2, t.3 ∙ s.3, t.4 ∙ s.4, t.5 ∙ s.5, t.6 ∙ s.6, t.7 ∙ s.7)
-  | inr g ↦ inr (has_right es fs (entry.Gone x.number x.name) (gone_as fs t.0.number x.number t.0.name x.name (sym t.2) (sym t.3) g))
+  | inr g ↦ inr (has_right es fs (Entry.Gone x.number x.name) (gone_as fs t.0.number x.number t.0.name x.name (sym t.2) (sym t.3) g))
 ]
-kept_later ss rs es fs x kept (inr g) = inr (has_left es fs (entry.Gone x.number x.name) g)
+kept_later ss rs es fs x kept (inr g) = inr (has_left es fs (Entry.Gone x.number x.name) g)
 
-stands_by : (ss rs : List Standing) (es fs : List Entry) (number : ℕ) (name : List ℕ) (held : Held) (verdict : Target) (cause : Cause) → ((t : Standing) → Has ss t → IsOne rs t ⊎ Has fs (entry.Gone t.number t.name)) → Stands ss number name held verdict cause ⊎ Has es (entry.Gone number name) → Stands rs number name held verdict cause ⊎ Has (es ++ fs) (entry.Gone number name)
+stands_by : (ss rs : List Standing) (es fs : List Entry) (number : ℕ) (name : List ℕ) (held : Held) (verdict : Target) (cause : Cause) → ((t : Standing) → Has ss t → IsOne rs t ⊎ Has fs (Entry.Gone t.number t.name)) → Stands ss number name held verdict cause ⊎ Has es (Entry.Gone number name) → Stands rs number name held verdict cause ⊎ Has (es ++ fs) (Entry.Gone number name)
 stands_by ss rs es fs number name held verdict cause kept (inl t) = elim (kept t.0 t.1) [
   | inl s ↦ inl (s.0, s.1, sym s.2 ∙ t.2, sym s.3 ∙ t.3, sym s.4 ∙ t.4, sym s.6 ∙ t.5, sym s.7 ∙ t.6)
-  | inr g ↦ inr (has_right es fs (entry.Gone number name) (gone_as fs t.0.number number t.0.name name t.2 t.3 g))
+  | inr g ↦ inr (has_right es fs (Entry.Gone number name) (gone_as fs t.0.number number t.0.name name t.2 t.3 g))
 ]
-stands_by ss rs es fs number name held verdict cause kept (inr g) = inr (has_left es fs (entry.Gone number name) g)
+stands_by ss rs es fs number name held verdict cause kept (inr g) = inr (has_left es fs (Entry.Gone number name) g)
 
 -- a number of the second part that was marked or told as removed in the first is marked so between them
-removed_back : (before middle : List Standing) (es fs : List Entry) (bound number : ℕ) → AreLow before bound → ((n : ℕ) (name : List ℕ) (what : Write) (outcome : Wrote) → Has es (entry.Wrote n name what outcome) → n < bound) → AreLeft before es middle → ((t : Standing) × Has middle t × (t.number ≡ number)) ⊎ (bound ≤ number) → WasRemoved before (es ++ fs) number → WasRemoved middle fs number
+removed_back : (before middle : List Standing) (es fs : List Entry) (bound number : ℕ) → AreLow before bound → ((n : ℕ) (name : List ℕ) (what : Write) (outcome : Wrote) → Has es (Entry.Wrote n name what outcome) → n < bound) → AreLeft before es middle → ((t : Standing) × Has middle t × (t.number ≡ number)) ⊎ (bound ≤ number) → WasRemoved before (es ++ fs) number → WasRemoved middle fs number
 removed_back before middle es fs bound number low told a (inl t) w =
     let removed : WasRemoved before es number → WasRemoved middle fs number = λ x. elim (a.removed t.0 t.1) [
       | inl y ↦ inl (t.0, t.1, t.2, y.0)
@@ -156,14 +146,14 @@ removed_back before middle es fs bound number low told a (inl t) w =
     ] in
     elim w [
       | inl b ↦ removed (inl b)
-      | inr b ↦ elim (has_cases es fs (entry.Wrote number b.0 write.Remove wrote.Done) b.1) [ inl x ↦ removed (inr (b.0, x)) | inr x ↦ inr (b.0, x) ]
+      | inr b ↦ elim (has_cases es fs (Entry.Wrote number b.0 Write.Remove Wrote.Done) b.1) [ inl x ↦ removed (inr (b.0, x)) | inr x ↦ inr (b.0, x) ]
     ]
 removed_back before middle es fs bound number low told a (inr new) w = elim w [
   | inl b ↦
       absurd (omega (arith, low b.0 b.1, b.2, new))
-  | inr b ↦ elim (has_cases es fs (entry.Wrote number b.0 write.Remove wrote.Done) b.1) [
+  | inr b ↦ elim (has_cases es fs (Entry.Wrote number b.0 Write.Remove Wrote.Done) b.1) [
     | inl x ↦
-        absurd (omega (arith, told number b.0 write.Remove wrote.Done x, new))
+        absurd (omega (arith, told number b.0 Write.Remove Wrote.Done x, new))
     | inr x ↦ inr (b.0, x)
   ]
 ]
@@ -172,33 +162,33 @@ removed_on : (before middle : List Standing) (es fs : List Entry) (number : ℕ)
 removed_on before middle es fs number a (inl t) = elim (a.removed t.0 t.1) [
   | inl y ↦ elim y.1 [
     | inl b ↦ inl (b.0, b.1, b.2 ∙ t.2, b.3)
-    | inr b ↦ inr (b.0, has_left es fs (entry.Wrote number b.0 write.Remove wrote.Done) (subst (λ (v : ℕ). Has es (entry.Wrote v b.0 write.Remove wrote.Done)) t.2 b.1))
+    | inr b ↦ inr (b.0, has_left es fs (Entry.Wrote number b.0 Write.Remove Wrote.Done) (subst (λ (v : ℕ). Has es (Entry.Wrote v b.0 Write.Remove Wrote.Done)) t.2 b.1))
   ]
   | inr y ↦ let was : true ≡ false = sym t.3 ∙ y.0 in let none : ⊥ = cc in absurd none
 ]
-removed_on before middle es fs number a (inr b) = inr (b.0, has_right es fs (entry.Wrote number b.0 write.Remove wrote.Done) b.1)
+removed_on before middle es fs number a (inr b) = inr (b.0, has_right es fs (Entry.Wrote number b.0 Write.Remove Wrote.Done) b.1)
 
-first_on : (before middle : List Standing) (es fs : List Entry) (bound number : ℕ) (what : Write) → AreLow before bound → ((n : ℕ) (name : List ℕ) (w : Write) (outcome : Wrote) → Has es (entry.Wrote n name w outcome) → n < bound) → AreLeft before es middle → ((t : Standing) × Has middle t × (t.number ≡ number)) ⊎ (bound ≤ number) → IsFirst middle fs number what → IsFirst before (es ++ fs) number what
-first_on before middle es fs bound number write.Remove low told a n f = λ w. f (removed_back before middle es fs bound number low told a n w)
+first_on : (before middle : List Standing) (es fs : List Entry) (bound number : ℕ) (what : Write) → AreLow before bound → ((n : ℕ) (name : List ℕ) (w : Write) (outcome : Wrote) → Has es (Entry.Wrote n name w outcome) → n < bound) → AreLeft before es middle → ((t : Standing) × Has middle t × (t.number ≡ number)) ⊎ (bound ≤ number) → IsFirst middle fs number what → IsFirst before (es ++ fs) number what
+first_on before middle es fs bound number Write.Remove low told a n f = λ w. f (removed_back before middle es fs bound number low told a n w)
 first_on before middle es fs bound number x low told a n f = tt
 
-marked_on : (before middle : List Standing) (es fs : List Entry) (bound : ℕ) (s : Standing) → AreLow before bound → ((n : ℕ) (name : List ℕ) (w : Write) (outcome : Wrote) → Has es (entry.Wrote n name w outcome) → n < bound) → AreLeft before es middle → ((t : Standing) × Has middle t × (t.number ≡ s.number)) ⊎ (bound ≤ s.number) → IsRemoveMarked middle fs s → IsRemoveMarked before (es ++ fs) s
+marked_on : (before middle : List Standing) (es fs : List Entry) (bound : ℕ) (s : Standing) → AreLow before bound → ((n : ℕ) (name : List ℕ) (w : Write) (outcome : Wrote) → Has es (Entry.Wrote n name w outcome) → n < bound) → AreLeft before es middle → ((t : Standing) × Has middle t × (t.number ≡ s.number)) ⊎ (bound ≤ s.number) → IsRemoveMarked middle fs s → IsRemoveMarked before (es ++ fs) s
 marked_on before middle es fs bound s low told a n (inl y) = inl (y.0, removed_on before middle es fs s.number a y.1)
 marked_on before middle es fs bound s low told a n (inr y) = inr (y.0, λ w. y.1 (removed_back before middle es fs bound s.number low told a n w))
 
 -- what is left by entries, and then by others whose verdicts have numbers above those that the first tell gone
-left_trans : (before middle ss : List Standing) (es fs : List Entry) (bound : ℕ) → AreLow before bound → ((number : ℕ) (name : List ℕ) (what : Write) (outcome : Wrote) → Has es (entry.Wrote number name what outcome) → number < bound) → ((number : ℕ) (name : List ℕ) → Has es (entry.Gone number name) → number < bound) → ((number : ℕ) (name : List ℕ) (held : Held) (verdict : Target) (cause : Cause) → Has fs (entry.Judged number name held verdict cause) → bound ≤ number) → AreLeft before es middle → AreLeft middle fs ss → AreLeft before (es ++ fs) ss
+left_trans : (before middle ss : List Standing) (es fs : List Entry) (bound : ℕ) → AreLow before bound → ((number : ℕ) (name : List ℕ) (what : Write) (outcome : Wrote) → Has es (Entry.Wrote number name what outcome) → number < bound) → ((number : ℕ) (name : List ℕ) → Has es (Entry.Gone number name) → number < bound) → ((number : ℕ) (name : List ℕ) (held : Held) (verdict : Target) (cause : Cause) → Has fs (Entry.Judged number name held verdict cause) → bound ≤ number) → AreLeft before es middle → AreLeft middle fs ss → AreLeft before (es ++ fs) ss
 left_trans before middle ss es fs bound first wrote below after a b = record {
   told = λ s h. told_before before middle es fs s a.told (b.told s h);
   kept = λ x h. kept_later middle ss es fs x b.kept (a.kept x h);
-  judged = λ number name held verdict cause h. elim (has_cases es fs (entry.Judged number name held verdict cause) h) [
+  judged = λ number name held verdict cause h. elim (has_cases es fs (Entry.Judged number name held verdict cause) h) [
     | inl x ↦ stands_by middle ss es fs number name held verdict cause b.kept (a.judged number name held verdict cause x)
     | inr x ↦ elim (b.judged number name held verdict cause x) [
       | inl s ↦ inl s
-      | inr g ↦ inr (has_right es fs (entry.Gone number name) g)
+      | inr g ↦ inr (has_right es fs (Entry.Gone number name) g)
     ]
   ];
-  ended = λ s name h g. elim (has_cases es fs (entry.Gone s.number name) g) [
+  ended = λ s name h g. elim (has_cases es fs (Entry.Gone s.number name) g) [
     | inl x ↦ elim (b.told s h) [
       | inl t ↦ a.ended t.0 name t.1 (gone_as es s.number t.0.number name name t.2 refl x)
       | inr j ↦
@@ -219,12 +209,8 @@ had_number : {J : Type 0} (answer : Answers J) (later : Laters J) (present : Boo
 had_number answer later present tried mid k middle log1 judge1 next1 gs log judge next number name held verdict low a (inl h) = inl (h.0, h.1, h.2)
 had_number answer later present tried mid k middle log1 judge1 next1 gs log judge next number name held verdict low a (inr h) = inr ((account_says answer later present tried mid k middle log1 judge1 next1 gs log judge next low a).judged number name held verdict h.0 h.1).after
 
--- no verdict is told
-abbrev pub NoJudged : List Entry → Type 0
-NoJudged es = (number : ℕ) (name : List ℕ) (held : Held) (verdict : Target) (cause : Cause) → Has es (entry.Judged number name held verdict cause) → ⊥
-
 none_left : (es fs : List Entry) → NoJudged (es ++ fs) → NoJudged es
-none_left es fs none number name held verdict cause a = none number name held verdict cause (has_left es fs (entry.Judged number name held verdict cause) a)
+none_left es fs none number name held verdict cause a = none number name held verdict cause (has_left es fs (Entry.Judged number name held verdict cause) a)
 
 account_trans : {J : Type 0} (answer : Answers J) (later : Laters J) (present : Bool) (tried : Tries) (start mid k : Kernel) (before middle : List Standing) (log0 log1 : List Effect) (judge0 judge1 : J) (next0 next1 : ℕ) (es : List Entry) (log : List Effect) (judge : J) (next : ℕ) (fs : List Entry) → Grows start mid → AreLow before next0 → AreLow middle next1 → AreLeft before es middle → Account answer later present tried start k before log0 judge0 next0 es log1 judge1 next1 → Account answer later present tried mid k middle log1 judge1 next1 fs log judge next → NoJudged fs → Account answer later present tried start k before log0 judge0 next0 (es ++ fs) log judge next
 account_trans answer later present tried start mid k before middle log0 log1 judge0 judge1 next0 next1 es log judge next fs g low mlow left a Start none = subst (λ v. Account answer later present tried start k before log0 judge0 next0 v log1 judge1 next1) (sym (append-nil es)) a
@@ -250,7 +236,7 @@ account_trans answer later present tried start mid k before middle log0 log1 jud
     (had_number answer later present tried mid k middle log1 judge1 next1 gs m j n number name held verdict mlow h v) first)
     may (account_trans answer later present tried start mid k before middle log0 log1 judge0 judge1 next0 next1 es m j n gs g low mlow left a h (none_left gs _ none)))
 account_trans answer later present tried start mid k before middle log0 log1 judge0 judge1 next0 next1 es log judge next fs g low mlow left a (Went gs m j n i number name held judged verdict d o v h) none =
-    subst (λ x. Account answer later present tried start k before log0 judge0 next0 x m j n) (append_assoc es gs (entry.Gone number name ∷ []))
+    subst (λ x. Account answer later present tried start k before log0 judge0 next0 x m j n) (append_assoc es gs (Entry.Gone number name ∷ []))
     (Went (es ++ gs) m j n i number name held judged verdict d o (verdict_before before middle es gs number name held verdict left.told v) (account_trans answer later present tried start mid k before middle log0 log1 judge0 judge1 next0 next1 es m j n gs g low mlow left a h (none_left gs _ none)))
 
 -- a fair part, with the standings that it began with
@@ -281,7 +267,7 @@ judged_lives {m = m} {l = l} b i n x gone =
     probed_lives m l x.name x.held.0 j.i j.on j.probed (subst (λ (y : ℕ). IsGone m y) (sym is) gone)
 
 -- a verdict of the part, or from before it, stands after it, or its number is told gone
-stands_or_gone : {J : Type 0} {answer : Answers J} {later : Laters J} {present : Bool} {tried : Tries} {k m : Kernel} {w u : State J} (a : FairFrom answer later present tried k w m u) (number : ℕ) (name : List ℕ) (held : Held) (verdict : Target) → HasVerdict w.standings a.fair.rest number name held verdict → ((s : Standing) × Has u.standings s × (s.held ≡ held)) ⊎ Has a.fair.rest (entry.Gone number name)
+stands_or_gone : {J : Type 0} {answer : Answers J} {later : Laters J} {present : Bool} {tried : Tries} {k m : Kernel} {w u : State J} (a : FairFrom answer later present tried k w m u) (number : ℕ) (name : List ℕ) (held : Held) (verdict : Target) → HasVerdict w.standings a.fair.rest number name held verdict → ((s : Standing) × Has u.standings s × (s.held ≡ held)) ⊎ Has a.fair.rest (Entry.Gone number name)
 stands_or_gone a number name held verdict (inl h) = elim (a.fair.left.kept h.0 h.1) [
   | inl t ↦ inl (t.0, t.1, sym t.4 ∙ h.4)
   | inr g ↦ inr (gone_as a.fair.rest h.0.number number h.0.name name h.2 h.3 g)
@@ -311,7 +297,7 @@ judged_before {l = l} a b i number n name held verdict v file x = elim (had_befo
 ]
 
 judged_split : (l : Kernel) (es fs : List Entry) (n i : ℕ) → IsJudged l (es ++ fs) n i → IsJudged l es n i ⊎ IsJudged l fs n i
-judged_split l es fs n i x = elim (has_cases es fs (entry.Judged n x.name x.held x.verdict x.cause) x.has) [
+judged_split l es fs n i x = elim (has_cases es fs (Entry.Judged n x.name x.held x.verdict x.cause) x.has) [
   | inl h ↦ inl (record { name = x.name; held = x.held; verdict = x.verdict; cause = x.cause; has = h; file = x.file })
   | inr h ↦ inr (record { name = x.name; held = x.held; verdict = x.verdict; cause = x.cause; has = h; file = x.file })
 ]
@@ -389,9 +375,7 @@ fair_trans {J} {answer} {later} {present} {tried} {k} {m} {l} {w} {u} {v} a s =
 pub record Same (ss rs : List Standing) : Type 0 where
   pub there : (s : Standing) → Has rs s → IsOne ss s
   pub kept : (s : Standing) → Has ss s → IsOne rs s
-  pub names : AllDistinct (names_of rs)
-  pub order : AreInOrder (names_of rs)
-  pub distinct : AllDistinct (numbers_of rs)
+  pub order : KeepsOrder ss rs
 
 -- the same but for one, which ends
 pub record Less (x : Standing) (ss rs : List Standing) : Type 0 where
@@ -399,9 +383,7 @@ pub record Less (x : Standing) (ss rs : List Standing) : Type 0 where
   pub marks : KeepMarks ss rs
   pub kept : (s : Standing) → Has ss s → IsOne rs s ⊎ ((s.number ≡ x.number) × (s.name ≡ x.name))
   pub apart : (s : Standing) → Has rs s → s.number ≡ x.number → ⊥
-  pub names : AllDistinct (names_of rs)
-  pub order : AreInOrder (names_of rs)
-  pub distinct : AllDistinct (numbers_of rs)
+  pub order : KeepsOrder ss rs
 
 pub one_itself : (ss : List Standing) (s : Standing) → Has ss s → IsOne ss s
 one_itself ss s a = (s, a, refl, refl, refl, refl, refl, refl)
@@ -416,8 +398,8 @@ left_all ss distinct = record {
   removed = λ s a. keep_one ss [] s (keeps_itself ss s a) distinct (λ name h. h);
 }
 
-pub same_refl : (k : Kernel) (ss : List Standing) (next : ℕ) → Stand k ss next → Same ss ss
-same_refl k ss next stand = record { there = one_itself ss; kept = one_itself ss; names = stand.names; order = stand.order; distinct = stand.distinct }
+pub same_refl : (ss : List Standing) → Same ss ss
+same_refl ss = record { there = one_itself ss; kept = one_itself ss; order = λ next o. o }
 
 one_device : (k : Kernel) (before : List Standing) (next : ℕ) (s : Standing) → Stand k before next → IsOne before s → (i : ℕ) × IsDevice k i s.name s.held s.judged
 one_device k before next s stand b =
@@ -426,15 +408,22 @@ one_device k before next s stand b =
     let held : IsDevice k x.0 s.name s.held b.0.judged = subst (λ (v : Held). IsDevice k x.0 s.name v b.0.judged) (sym b.4) named in
     (x.0, subst (λ (v : Judged). IsDevice k x.0 s.name s.held v) (sym b.5) held)
 
-pub stand_of : (k : Kernel) (before ss : List Standing) (next : ℕ) → ((s : Standing) → Has ss s → IsOne before s) → AllDistinct (names_of ss) → AreInOrder (names_of ss) → AllDistinct (numbers_of ss) → AreRemoved k ss → Stand k before next → Stand k ss next
-stand_of k before ss next there names order distinct removed stand = record {
-  devices = λ s h. one_device k before next s stand (there s h);
-  numbers = λ s h. let b = there s h in subst (λ (v : ℕ). v < next) (sym b.2) (stand.numbers b.0 b.1);
-  names = names;
-  order = order;
-  distinct = distinct;
+pub in_order : {k : Kernel} {ss : List Standing} {next : ℕ} → Stand k ss next → StandInOrder next ss
+in_order stand = record { order = stand.order; distinct = stand.distinct; numbers = stand.numbers }
+
+pub stand_by : (k : Kernel) (ss : List Standing) (next : ℕ) → StandInOrder next ss → ((s : Standing) → Has ss s → (i : ℕ) × IsDevice k i s.name s.held s.judged) → AreRemoved k ss → Stand k ss next
+stand_by k ss next o devices removed = record {
+  devices = devices;
+  numbers = o.numbers;
+  names = names_distinct (names_of ss) o.order;
+  order = o.order;
+  distinct = o.distinct;
   removed = removed;
 }
+
+pub stand_of : (k : Kernel) (before ss : List Standing) (next : ℕ) → ((s : Standing) → Has ss s → IsOne before s) → KeepsOrder before ss → AreRemoved k ss → Stand k before next → Stand k ss next
+stand_of k before ss next there keeps removed stand =
+    stand_by k ss next (keeps next (in_order stand)) (λ s h. one_device k before next s stand (there s h)) removed
 
 -- a step whose entries tell no verdict and no end
 pub plain_fair : {J : Type 0} (answer : Answers J) (later : Laters J) (present : Bool) (tried : Tries) (m l : Kernel) (u : State J) (rs : List Standing) (fs : List Entry) → IsKernel l → Grows m l → Stand m u.standings u.next → Same u.standings rs → AreMarked u.standings fs rs → AreRemoved l rs → Plain fs → Account answer later present tried m l u.standings m.log u.judge u.next fs l.log u.judge u.next → StepFrom answer later present tried m u l (record u { standings = rs; entries = u.entries ++ fs })
@@ -444,20 +433,20 @@ plain_fair answer later present tried m l u rs fs sound g stand same marked remo
       grows = g;
       rest = fs;
       entries = refl;
-      stand = stand_of l u.standings rs u.next same.there same.names same.order same.distinct removed (stand_stays m l u.standings u.next g stand);
+      stand = stand_of l u.standings rs u.next same.there same.order removed (stand_stays m l u.standings u.next g stand);
       account = account;
       left = record {
         told = λ s h. inl (same.there s h);
         kept = λ s h. inl (same.kept s h);
-        judged = λ number name held verdict cause h. absurd (plain.judged number name held verdict cause h);
-        ended = λ s name h a. plain.gone s.number name a;
+        judged = λ number name held verdict cause h. absurd (plain_unjudged fs plain number name held verdict cause h);
+        ended = λ s name h a. each_has IsPlain fs (Entry.Gone s.number name) plain a;
         removed = marked;
       };
       gone = plain_distinct fs plain;
-      once = λ i a b p q. absurd (plain.judged a p.name p.held p.verdict p.cause p.has);
-      unjudged = λ i a h p. plain.judged a p.name p.held p.verdict p.cause p.has;
+      once = λ i a b p q. absurd (plain_unjudged fs plain a p.name p.held p.verdict p.cause p.has);
+      unjudged = λ i a h p. plain_unjudged fs plain a p.name p.held p.verdict p.cause p.has;
     } in
-    record { step = record { stood = stand; fair = fair }; none = plain.judged }
+    record { step = record { stood = stand; fair = fair }; none = plain_unjudged fs plain }
 
 -- a step that leaves the marks
 pub keep_fair : {J : Type 0} (answer : Answers J) (later : Laters J) (present : Bool) (tried : Tries) (m l : Kernel) (u : State J) (rs : List Standing) (fs : List Entry) → IsKernel l → Grows m l → Stand m u.standings u.next → Same u.standings rs → KeepMarks u.standings rs → NoRemoval fs → Plain fs → Account answer later present tried m l u.standings m.log u.judge u.next fs l.log u.judge u.next → StepFrom answer later present tried m u l (record u { standings = rs; entries = u.entries ++ fs })
@@ -468,7 +457,7 @@ keep_fair answer later present tried m l u rs fs sound g stand same keep none pl
 fair_quiet : {J : Type 0} (answer : Answers J) (later : Laters J) (present : Bool) (tried : Tries) (k l : Kernel) (w : State J) → IsKernel l → Quiet k l → Stand k w.standings w.next → StepFrom answer later present tried k w l w
 fair_quiet answer later present tried k l w sound q stand =
     let account : Account answer later present tried k l w.standings k.log w.judge w.next [] l.log w.judge w.next = subst (λ v. Account answer later present tried k l w.standings k.log w.judge w.next [] v w.judge w.next) (sym q.log) Start in
-    let step = keep_fair answer later present tried k l w w.standings [] sound (quiet_grows k l q) stand (same_refl k w.standings w.next stand) (keeps_itself w.standings) (λ number name h. h) plain_none account in
+    let step = keep_fair answer later present tried k l w w.standings [] sound (quiet_grows k l q) stand (same_refl w.standings) (keeps_itself w.standings) (λ number name h. h) tt account in
     subst (λ (x : List Entry). StepFrom answer later present tried k w l (record w { entries = x })) (append-nil w.entries) step
 
 pub fair_refl : {J : Type 0} (answer : Answers J) (later : Laters J) (present : Bool) (tried : Tries) (k : Kernel) (w : State J) → IsKernel k → Stand k w.standings w.next → FairFrom answer later present tried k w k w
@@ -486,11 +475,11 @@ fair_end {J} {answer} {later} {present} {tried} {k} {m} {w} {u} l v e f h = subs
 
 pub then_note : {J : Type 0} {answer : Answers J} {later : Laters J} {present : Bool} {tried : Tries} {k l : Kernel} {w u : State J} (e : Entry) → TellsNeither e → FairFrom answer later present tried k w l u → FairFrom answer later present tried k w l (noted u e)
 then_note {J} {answer} {later} {present} {tried} {k} {l} {w} {u} e t h =
-    fair_trans h (keep_fair answer later present tried l l u u.standings (e ∷ []) h.fair.sound (grows_refl l) h.fair.stand (same_refl l u.standings u.next h.fair.stand) (keeps_itself u.standings) (λ number name a. one_neither e (entry.Wrote number name write.Remove wrote.Done) t a) (plain_note e t) (Note [] l.log u.judge u.next e t Start))
+    fair_trans h (keep_fair answer later present tried l l u u.standings (e ∷ []) h.fair.sound (grows_refl l) h.fair.stand (same_refl u.standings) (keeps_itself u.standings) (λ number name a. one_neither e (Entry.Wrote number name Write.Remove Wrote.Done) t a) (plain_note e t, tt) (Note [] l.log u.judge u.next e t Start))
 
 pub then_same : {J : Type 0} {answer : Answers J} {later : Laters J} {present : Bool} {tried : Tries} {k l : Kernel} {w u : State J} (ss : List Standing) → Same u.standings ss → KeepMarks u.standings ss → FairFrom answer later present tried k w l u → FairFrom answer later present tried k w l (record u { standings = ss })
 then_same {J} {answer} {later} {present} {tried} {k} {l} {w} {u} ss same keep h =
-    let step = keep_fair answer later present tried l l u ss [] h.fair.sound (grows_refl l) h.fair.stand same keep (λ number name a. a) plain_none Start in
+    let step = keep_fair answer later present tried l l u ss [] h.fair.sound (grows_refl l) h.fair.stand same keep (λ number name a. a) tt Start in
     fair_trans h (subst (λ (x : List Entry). StepFrom answer later present tried l u l (record u { standings = ss; entries = x })) (append-nil u.entries) step)
 
 -- a standing that ends
@@ -501,17 +490,17 @@ gone_device k i name held judged x dead = (x.d, x.device, true_from_ne_false x.d
 gone_held : (k : Kernel) (i : ℕ) (name : List ℕ) (held : Held) (judged : Judged) → IsDevice k i name held judged → IsGoneAt held.0 k → IsGone k i
 gone_held k i name held judged x gone = gone_device k i name held judged x (λ live. gone i x.d (record { file = record { device = i; control = Authorized }; at = x.file; is = refl; device = x.device }) live)
 
-went_fair : {J : Type 0} (answer : Answers J) (later : Laters J) (present : Bool) (tried : Tries) (m : Kernel) (u : State J) (x : Standing) (rs : List Standing) → IsKernel m → Stand m u.standings u.next → Has u.standings x → Less x u.standings rs → IsGoneAt x.held.0 m → StepFrom answer later present tried m u m (record u { standings = rs; entries = u.entries ++ entry.Gone x.number x.name ∷ [] })
+went_fair : {J : Type 0} (answer : Answers J) (later : Laters J) (present : Bool) (tried : Tries) (m : Kernel) (u : State J) (x : Standing) (rs : List Standing) → IsKernel m → Stand m u.standings u.next → Has u.standings x → Less x u.standings rs → IsGoneAt x.held.0 m → StepFrom answer later present tried m u m (record u { standings = rs; entries = u.entries ++ Entry.Gone x.number x.name ∷ [] })
 went_fair answer later present tried m u x rs sound stand has less gone =
-    let e = entry.Gone x.number x.name in
+    let e = Entry.Gone x.number x.name in
     let d = stand.devices x has in
-    let none : (number : ℕ) (name : List ℕ) (held : Held) (verdict : _) (cause : _) → Has (e ∷ []) (entry.Judged number name held verdict cause) → ⊥ = λ number name held verdict cause h. elim h [ inl is ↦ let none : ⊥ = cc in none | inr n ↦ n ] in
+    let none = gone_unjudged x.number x.name in
     let fair : IsFair answer later present tried m u m (record u { standings = rs; entries = u.entries ++ e ∷ [] }) = record {
       sound = sound;
       grows = grows_refl m;
       rest = e ∷ [];
       entries = refl;
-      stand = stand_of m u.standings rs u.next less.there less.names less.order less.distinct (λ s h. keep_removal m u.standings s stand.removed (less.marks s h)) stand;
+      stand = stand_of m u.standings rs u.next less.there less.order (λ s h. keep_removal m u.standings s stand.removed (less.marks s h)) stand;
       account = Went [] m.log u.judge u.next d.0 x.number x.name x.held x.judged x.verdict d.1 (gone_held m d.0 x.name x.held x.judged d.1 gone) (inl (x, has, refl, refl, refl, refl)) Start;
       left = record {
         told = λ s h. inl (less.there s h);
@@ -529,30 +518,28 @@ went_fair answer later present tried m u x rs sound stand has less gone =
     } in
     record { step = record { stood = stand; fair = fair }; none = none }
 
-pub then_went : {J : Type 0} {answer : Answers J} {later : Laters J} {present : Bool} {tried : Tries} {k m : Kernel} {w u : State J} (x : Standing) (rs : List Standing) → Has u.standings x → Less x u.standings rs → IsGoneAt x.held.0 m → FairFrom answer later present tried k w m u → FairFrom answer later present tried k w m (record u { standings = rs; entries = u.entries ++ entry.Gone x.number x.name ∷ [] })
+pub then_went : {J : Type 0} {answer : Answers J} {later : Laters J} {present : Bool} {tried : Tries} {k m : Kernel} {w u : State J} (x : Standing) (rs : List Standing) → Has u.standings x → Less x u.standings rs → IsGoneAt x.held.0 m → FairFrom answer later present tried k w m u → FairFrom answer later present tried k w m (record u { standings = rs; entries = u.entries ++ Entry.Gone x.number x.name ∷ [] })
 then_went {J} {answer} {later} {present} {tried} {k} {m} {w} {u} x rs has less gone h = fair_trans h (went_fair answer later present tried m u x rs h.fair.sound h.fair.stand has less gone)
 
 -- what becomes of the standings as one of them is settled
 abbrev pub After : Standing → List Standing → Settled → List Standing → Type 0
-After x ss settled.Nobody rs = Less x ss rs
-After x ss settled.Stands rs = Same ss rs × Marks x ss rs
+After x ss Settled.Nobody rs = Less x ss rs
+After x ss Settled.Stands rs = Same ss rs × Marks x ss rs
 After x ss how rs = Same ss rs × KeepMarks ss rs
 
 marked_one : (ss : List Standing) (name : List ℕ) (mark : Bool) (s : Standing) → Has (map (marked name mark) ss) s → IsOne ss s
 marked_one ss name mark s a = let m = map_has (marked name mark) ss s a in (m.0, m.1, ap (λ (v : Standing). v.number) (sym m.2), ap (λ (v : Standing). v.name) (sym m.2), ap (λ (v : Standing). v.held) (sym m.2), ap (λ (v : Standing). v.judged) (sym m.2), ap (λ (v : Standing). v.verdict) (sym m.2), ap (λ (v : Standing). v.cause) (sym m.2))
 
 pub tried_one : (ss : List Standing) (name : List ℕ) (how : Settled) (s : Standing) → Has (tried_standings ss name how) s → IsOne ss s
-tried_one ss name settled.Nobody s a = one_itself ss s (filter_has (λ (v : Standing). not (same_name v.name name)) ss s a).0
-tried_one ss name settled.Stands s a = marked_one ss name true s a
+tried_one ss name Settled.Nobody s a = one_itself ss s (filter_has (λ (v : Standing). not (same_name v.name name)) ss s a).0
+tried_one ss name Settled.Stands s a = marked_one ss name true s a
 tried_one ss name how s a = marked_one ss name false s a
 
-marked_same : (k : Kernel) (ss : List Standing) (next : ℕ) (name : List ℕ) (mark : Bool) → Stand k ss next → Same ss (map (marked name mark) ss)
-marked_same k ss next name mark stand = record {
+marked_same : (ss : List Standing) (name : List ℕ) (mark : Bool) → Same ss (map (marked name mark) ss)
+marked_same ss name mark = record {
   there = marked_one ss name mark;
   kept = λ s a. (marked name mark s, has_map (marked name mark) ss s a, refl, refl, refl, refl, refl, refl);
-  names = subst (λ (v : List (List ℕ)). AllDistinct v) (sym (names_marked name mark ss)) stand.names;
-  order = subst (λ (v : List (List ℕ)). AreInOrder v) (sym (names_marked name mark ss)) stand.order;
-  distinct = subst (λ (v : List ℕ). AllDistinct v) (sym (numbers_marked name mark ss)) stand.distinct;
+  order = keeps_marked name mark ss;
 }
 
 -- marked as unsettled
@@ -590,12 +577,10 @@ without_less k ss next name x has named stand = record {
     | inl e ↦ let same : s ≡ x = distinct_one (λ (v : Standing). v.name) ss s x stand.names a has (same_is s.name name e ∙ sym named) in inr (ap (λ (v : Standing). v.number) same, ap (λ (v : Standing). v.name) same)
   ];
   apart = λ s a e. let same : s ≡ x = distinct_one (λ (v : Standing). v.number) ss s x stand.distinct (filter_has (λ (v : Standing). not (same_name v.name name)) ss s a).0 has e in missing_without name ss (subst (λ (v : List ℕ). Has (names_of (without name ss)) v) (ap (λ (v : Standing). v.name) same ∙ named) (has_map (λ (v : Standing). v.name) (without name ss) s a));
-  names = distinct_filter (λ (s : Standing). s.name) (λ (v : Standing). not (same_name v.name name)) ss stand.names;
-  order = order_filter (λ (v : Standing). not (same_name v.name name)) ss stand.order;
-  distinct = distinct_filter (λ (s : Standing). s.number) (λ (v : Standing). not (same_name v.name name)) ss stand.distinct;
+  order = keeps_filter (λ (v : Standing). not (same_name v.name name)) ss;
 }
 
 pub tried_after : (k : Kernel) (ss : List Standing) (next : ℕ) (name : List ℕ) (x : Standing) (how : Settled) → Has ss x → x.name ≡ name → Stand k ss next → After x ss how (tried_standings ss name how)
-tried_after k ss next name x settled.Nobody has named stand = without_less k ss next name x has named stand
-tried_after k ss next name x settled.Stands has named stand = (marked_same k ss next name true stand, settled_marks k ss next name x has named stand)
-tried_after k ss next name x how has named stand = (marked_same k ss next name false stand, unsettled_marks ss name)
+tried_after k ss next name x Settled.Nobody has named stand = without_less k ss next name x has named stand
+tried_after k ss next name x Settled.Stands has named stand = (marked_same ss name true, settled_marks k ss next name x has named stand)
+tried_after k ss next name x how has named stand = (marked_same ss name false, unsettled_marks ss name)

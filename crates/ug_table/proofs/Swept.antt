@@ -1,8 +1,6 @@
 -- The law of a sweep, over the states of a run.
 use Rattle.std.proofs.Common.{◌≡◌, Option, Some}
-use Rattle.ug_table.proofs.Common.{Call, Answer, Kernel, IsKernel, Follows, Runs, calls, State, Answers, Laters, Stand, Swept, Sweeps}
-use Rattle.ug_kernel.proofs.Told.{told_run}
-use Rattle.ug_table.specs.Sweep.{sweeping}
+use Rattle.ug_table.proofs.Common.{Call, Answer, Kernel, IsKernel, Follows, Runs, calls, State, Answers, Laters, Stand, Swept, Sweeps, sweeping, told_run}
 use Rattle.ug_table.proofs.Fair.{sweeping_fair}
 use Rattle.ug_table.proofs.Lived.{sweeping_settled}
 use Rattle.ug_table.proofs.Marks.{sweeping_marks}

@@ -1,12 +1,10 @@
 use Rattle.std.proofs.Common.{◌≡◌, ◌∙◌, List, Option, Some, Bor, option_copied, sym, ap, subst, arith}
 use Rattle.ug_audit.specs.Journal.{noted_in}
-use Rattle.ug_audit.proofs.Noting.{goes_on}
-use Rattle.ug_table.proofs.Common.{Entry, Runs, known_of, numbered}
+use Rattle.ug_table.proofs.Loops.{notes_then}
+use Rattle.ug_table.proofs.Common.{Entry, Runs, known_of, numbered, tried_standings, bringing}
 use Rattle.ug_table.proofs.Marks.{keeps_tried, kept_as}
 use Rattle.ug_table.proofs.Ordered.{keeps_ordered, ordering_goes}
-use Rattle.ug_table.specs.Bring.{bringing}
 use Rattle.ug_table.specs.Orders.{with_verdict}
-use Rattle.ug_table.specs.Settle.{tried_standings}
 use Rattle.ug_table.specs.declared.standing.Standing.{Standing}
 use Rattle.ug_table.proofs.order.order_standing.Goals as goal
 
@@ -22,11 +20,7 @@ returns-clause-runs g c =
     (c.remember.ensures.standings ∙ ap (λ (v : List Standing). tried_standings v x.name h.result) c.give_verdict.ensures.standings)
 
 pub returns-clause-journal : goal.returns-clause-journal
-returns-clause-journal g c = (
-  goes_on _ _ _ _ c.push.ensures.same c.bring-settled.ensures.journal.0,
-  c.bring-settled.ensures.journal.1 ∙ c.push.ensures.room,
-  omega (arith, c.push.ensures.spare, c.bring-settled.ensures.journal.2),
-)
+returns-clause-journal g c = notes_then _ 1 5 _ _ _ _ (c.push.ensures.same, c.push.ensures.room, omega (arith, c.push.ensures.spare)) c.bring-settled.ensures.journal (omega arith)
 
 pub returns-clause-keeps : goal.returns-clause-keeps
 returns-clause-keeps g c next o =

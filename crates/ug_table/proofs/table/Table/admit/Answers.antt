@@ -1,10 +1,8 @@
 use Rattle.std.proofs.Common.{true, false, subst, ◌∙◌, ap, Option}
 use Rattle.ug_types.specs.declared.record.Attrs.{Attrs}
-use Rattle.ug_record.specs.Records.{judged_of}
-use Rattle.ug_table.proofs.Common.{Judged, Runs}
+use Rattle.ug_table.proofs.Common.{Judged, Runs, no_room, to_judge, admitting, judged_of}
 use Rattle.ug_audit.specs.Journal.{noted_in}
 use Rattle.ug_table.specs.State.{State, state_of}
-use Rattle.ug_table.specs.Settle.{no_room, to_judge, admitting}
 use Rattle.ug_table.proofs.Loops.{same_state}
 use Rattle.ug_table.proofs.table.Table.admit.Goals as goal
 

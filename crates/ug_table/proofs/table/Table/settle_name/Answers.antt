@@ -4,6 +4,7 @@ use Rattle.ug_table.specs.declared.standing.Standing.{Standing}
 use Rattle.ug_table.proofs.Marks.{keeps_filter, keeps_tried, kept_as, kept_fields}
 use Rattle.ug_table.proofs.Standings.{without_own}
 use Rattle.ug_audit.proofs.Noting.{goes_on}
+use Rattle.ug_table.proofs.Loops.{notes_then}
 use Rattle.ug_table.proofs.table.Table.settle_name.Goals.{in-Alive, in-Failed}
 use Rattle.ug_table.proofs.table.Table.settle_name.Goals as goal
 
@@ -21,10 +22,6 @@ returns-in-Gone-clause-journal g c = search (rules, arith, goes_on)
 
 pub returns-clause-journal : goal.returns-clause-journal
 returns-clause-journal g c = elim c.match-reprobe.branch [
-  | in-Alive w ↦ rw w.out-is (
-    goes_on _ _ _ _ w.bring-settled.ensures.journal.0 w.note_unsettled.ensures.journal.0,
-    w.note_unsettled.ensures.journal.1 ∙ w.bring-settled.ensures.journal.1,
-    omega (arith, w.bring-settled.ensures.journal.2, w.note_unsettled.ensures.journal.2),
-  )
+  | in-Alive w ↦ rw w.out-is (notes_then _ 5 1 _ _ _ _ w.bring-settled.ensures.journal w.note_unsettled.ensures.journal (omega arith))
   | in-Failed w ↦ rw w.out-is (w.note_fault-settled.ensures.journal.0, w.note_fault-settled.ensures.journal.1, omega (arith, w.note_fault-settled.ensures.journal.2))
 ]
