@@ -1,0 +1,68 @@
+// What follows for one session, whatever is said and sent.
+ghost use Rattle.std.specs.Prelude.{◌≡◌, List, [], ◌∷◌, ℕ, Bool, ◌++◌, cond};
+ghost use Rattle.ug_links.specs.declared.step.LinkStep.{LinkStep};
+ghost use Rattle.ug_links.specs.Talk.{Path};
+ghost use Rattle.ug_types.specs.declared.waiter.LinkId.{LinkId};
+ghost use Rattle.ug_types.specs.Principals.{Named};
+ghost use Rattle.ug_types.specs.declared.waiter.Ready.{Ready};
+ghost use Rattle.ug_types.specs.declared.access.Section.{Section};
+ghost use Rattle.ug_sessions.specs.Reading.{reading_all};
+ghost use Rattle.ug_sessions.specs.Tried.{AllRead, IsOneRead};
+ghost use Rattle.ug_sessions.specs.declared.session.Session.{Session};
+ghost use Rattle.ug_sessions.specs.declared.session.Turn.{Turn};
+ghost use Rattle.ug_sessions.specs.Due.{Dues, over_due, Accounts, Answered, Watched, Noticed, Said, said_one, sent_to, AllAccounts, AreDistinct};
+ghost use Rattle.ug_sessions.specs.Answering.{Each, RefusesIf, is_due, AnswersOne, WatchesOne, NoticesOne, GivesUpOne};
+ghost use Rattle.ug_sessions.specs.Sending.{flushing_one, flushing_all};
+
+/// What a session was sent, followed by its unsent text while it is open, is its due text; once it is closed, what it was
+/// sent is a front of it. Whatever is said to it keeps that.
+pub fn saying_keeps_account()
+    ensures answers { (holds : Section → Named → Bool) (id : LinkId) (text : List ℕ) (a : Dues) (sent : List ℕ) (s t : Session)
+        → AnswersOne id text s t → Accounts a sent s → Accounts (said_one holds s.id s.principal a (Answered id text)) sent t }
+    ensures watches { (holds : Section → Named → Bool) (id : LinkId) (a : Dues) (sent : List ℕ) (s t : Session)
+        → WatchesOne id s t → Accounts a sent s → Accounts (said_one holds s.id s.principal a (Watched id)) sent t }
+    ensures notices { (holds : Section → Named → Bool) (section : Section) (text : List ℕ) (a : Dues) (sent : List ℕ) (s t : Session)
+        → NoticesOne (holds section) text s t → Accounts a sent s → Accounts (said_one holds s.id s.principal a (Noticed section text)) sent t }
+    ensures gives_up { (id : LinkId) (a : Dues) (sent : List ℕ) (s t : Session)
+        → GivesUpOne id s t → Accounts a sent s → Accounts a sent t }
+{}
+
+/// The refusal of a line that is too long keeps it: it stands in the due text where it is put.
+pub fn refusing_keeps_account()
+    ensures { (a : Dues) (sent : List ℕ) (s t : Session)
+        → RefusesIf (is_due s) s t → Accounts a sent s → Accounts (cond (is_due s) (over_due a) a) sent t }
+{}
+
+/// What is said to sessions keeps the accounts of all of them.
+pub fn saying_keeps_accounts()
+    ensures answers { (holds : Section → Named → Bool) (steps : List LinkStep) (said : List Said) (id : LinkId) (text : List ℕ) (ss ts : List Session)
+        → Each (AnswersOne id text) ss ts → AllAccounts holds steps said ss → AllAccounts holds steps (said ++ Answered id text ∷ []) ts }
+    ensures watches { (holds : Section → Named → Bool) (steps : List LinkStep) (said : List Said) (id : LinkId) (ss ts : List Session)
+        → Each (WatchesOne id) ss ts → AllAccounts holds steps said ss → AllAccounts holds steps (said ++ Watched id ∷ []) ts }
+    ensures notices { (holds : Section → Named → Bool) (steps : List LinkStep) (said : List Said) (section : Section) (text : List ℕ) (ss ts : List Session)
+        → Each (NoticesOne (holds section) text) ss ts → AllAccounts holds steps said ss → AllAccounts holds steps (said ++ Noticed section text ∷ []) ts }
+{}
+
+/// A flush keeps it too: what it sends stood in front of what was unsent.
+pub fn sending_keeps_account()
+    ensures { (a : Dues) (sent : List ℕ) (s : Session) (turn : Turn) (steps : List LinkStep) (r : Session × Turn)
+        → Path (flushing_one s turn) steps r → Accounts a sent s → Accounts a (sent ++ sent_to s.id steps) r.0 }
+{}
+
+/// The same over all sessions, where no two have one id: the calls of one session send nothing to another.
+pub fn flushing_keeps_accounts()
+    ensures { (holds : Section → Named → Bool) (before : List LinkStep) (said : List Said) (sessions : List Session) (turn : Turn) (steps : List LinkStep) (r : List Session × Turn)
+        → AreDistinct sessions → AllAccounts holds before said sessions → Path (flushing_all sessions turn) steps r → AllAccounts holds (before ++ steps) said r.0 }
+{}
+
+/// No session is read but those that are open, whose link hasn't said End, and that are named or owed a try.
+pub fn reading_tries_no_other()
+    ensures { (ready : List Ready) (sessions : List Session) (turn : Turn) (steps : List LinkStep) (r : List Session × Turn)
+        → Path (reading_all ready sessions turn) steps r → AllRead (IsOneRead ready sessions) steps }
+{}
+
+/// What is read keeps the accounts of all sessions: nothing is sent, and a session that is closed was sent a front of what was due.
+pub fn reading_keeps_accounts()
+    ensures { (holds : Section → Named → Bool) (before : List LinkStep) (said : List Said) (ready : List Ready) (sessions : List Session) (turn : Turn) (steps : List LinkStep) (r : List Session × Turn)
+        → AllAccounts holds before said sessions → Path (reading_all ready sessions turn) steps r → AllAccounts holds (before ++ steps) said r.0 }
+{}

@@ -1,0 +1,20 @@
+// The sessions of the daemon: what is accepted, read, handed out, answered and sent.
+#![tactic(auto)]
+
+mod accept;
+mod answer;
+mod laws;
+mod read;
+mod send;
+mod server;
+mod session;
+
+pub use accept::{MAX_ACCEPTS, MAX_SESSIONS};
+pub use answer::MAX_UNSENT;
+pub use laws::{
+    flushing_keeps_accounts, reading_keeps_accounts, reading_tries_no_other,
+    refusing_keeps_account, saying_keeps_account, saying_keeps_accounts, sending_keeps_account,
+};
+pub use read::{MAX_PIECES, PIECE};
+pub use server::Server;
+pub use session::{Life, Listener, Session, Turn, Why};
