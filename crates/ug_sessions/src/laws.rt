@@ -1,5 +1,5 @@
 // What follows for one session, whatever is said and sent.
-ghost use Rattle.std.specs.Prelude.{◌≡◌, List, [], ◌∷◌, ℕ, Bool, ◌++◌, cond};
+ghost use Rattle.std.specs.Prelude.{◌≡◌, List, [], ◌∷◌, ℕ, Bool, ◌++◌, cond, Some, None};
 ghost use Rattle.ug_links.specs.declared.step.LinkStep.{LinkStep};
 ghost use Rattle.ug_links.specs.Talk.{Path};
 ghost use Rattle.ug_types.specs.declared.waiter.LinkId.{LinkId};
@@ -11,7 +11,9 @@ ghost use Rattle.ug_sessions.specs.Tried.{AllRead, IsOneRead};
 ghost use Rattle.ug_sessions.specs.declared.session.Session.{Session};
 ghost use Rattle.ug_sessions.specs.declared.session.Turn.{Turn};
 ghost use Rattle.ug_sessions.specs.Due.{Dues, over_due, Accounts, Answered, Watched, Noticed, Said, said_one, sent_to, AllAccounts, AreDistinct};
-ghost use Rattle.ug_sessions.specs.Answering.{Each, RefusesIf, is_due, AnswersOne, WatchesOne, NoticesOne, GivesUpOne};
+ghost use Rattle.ug_sessions.specs.Answering.{Each, RefusesIf, is_due, AnswersOne, WatchesOne, NoticesOne, GivesUpOne, HandsOne};
+ghost use Rattle.ug_sessions.specs.Handed.{AreLinesOf};
+ghost use Rattle.ug_sessions.specs.Sessions.{new_session};
 ghost use Rattle.ug_sessions.specs.Sending.{flushing_one, flushing_all};
 
 /// What a session was sent, followed by its unsent text while it is open, is its due text; once it is closed, what it was
@@ -65,4 +67,22 @@ pub fn reading_tries_no_other()
 pub fn reading_keeps_accounts()
     ensures { (holds : Section → Named → Bool) (before : List LinkStep) (said : List Said) (ready : List Ready) (sessions : List Session) (turn : Turn) (steps : List LinkStep) (r : List Session × Turn)
         → AllAccounts holds before said sessions → Path (reading_all ready sessions turn) steps r → AllAccounts holds (before ++ steps) said r.0 }
+{}
+
+/// A session's lines are handed out in order, each once, and none is made up; nothing that is said to it changes that. Lines are
+/// lost only where it is closed for backlog or for want of memory.
+pub fn handing_keeps_lines()
+    ensures begins { (id : LinkId) (principal : Named) → AreLinesOf [] [] (new_session id principal) }
+    ensures hands { (handed : List (List ℕ)) (bytes line : List ℕ) (s t : Session)
+        → HandsOne s (Some line) t → AreLinesOf handed bytes s → AreLinesOf (handed ++ line ∷ []) bytes t }
+    ensures passes { (handed : List (List ℕ)) (bytes : List ℕ) (s t : Session)
+        → HandsOne s None t → AreLinesOf handed bytes s → AreLinesOf handed bytes t }
+    ensures answers { (handed : List (List ℕ)) (bytes : List ℕ) (id : LinkId) (text : List ℕ) (s t : Session)
+        → AnswersOne id text s t → AreLinesOf handed bytes s → AreLinesOf handed bytes t }
+    ensures watches { (handed : List (List ℕ)) (bytes : List ℕ) (id : LinkId) (s t : Session)
+        → WatchesOne id s t → AreLinesOf handed bytes s → AreLinesOf handed bytes t }
+    ensures notices { (handed : List (List ℕ)) (bytes : List ℕ) (holds : Named → Bool) (text : List ℕ) (s t : Session)
+        → NoticesOne holds text s t → AreLinesOf handed bytes s → AreLinesOf handed bytes t }
+    ensures gives_up { (handed : List (List ℕ)) (bytes : List ℕ) (id : LinkId) (s t : Session)
+        → GivesUpOne id s t → AreLinesOf handed bytes s → AreLinesOf handed bytes t }
 {}
