@@ -21,7 +21,7 @@ use Rattle.ug_sessions.specs.Reading.{closing_doomed, closing_by}
 use Rattle.ug_sessions.specs.Sending.{writing_some, writing_if, after_write, finishing, finish_sent, finish_open, finish_refused, finish_ended, sending_if, flushing_one}
 use Rattle.ug_sessions.specs.Due.{Dues, Accounts, AccountsBy, IsOpenAccount, IsFront, sent_to}
 
-own : (id : LinkId) → nat_eq id.0 id.0 ≡ true
+pub own : (id : LinkId) → nat_eq id.0 id.0 ≡ true
 own id = grind (arith, nat_tests)
 
 pub sent-append : (id : LinkId) (a b : List LinkStep) → sent_to id (a ++ b) ≡ sent_to id a ++ sent_to id b

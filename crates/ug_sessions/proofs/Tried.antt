@@ -76,7 +76,7 @@ upto_steps (suc n) s t steps r h =
     subst (λ (l : List LinkStep). AllRead (Own s) l) (sym k.whole) (all_append (Own s) k.front k.rest first.all (weaker (Own k.value.1.0) (Own s) own k.rest (f k.value.0 k.second)))
 
 -- closing a link reads nothing
-doomed_steps : (l : Life) (P : LinkId → Type 0) (s : Session) (t : Turn) (steps : List LinkStep) (r : Session × Turn) → Path (closing_by l s t) steps r → AllRead P steps
+pub doomed_steps : (l : Life) (P : LinkId → Type 0) (s : Session) (t : Turn) (steps : List LinkStep) (r : Session × Turn) → Path (closing_by l s t) steps r → AllRead P steps
 doomed_steps life.Open P s t steps r h = all_none P steps h.1
 doomed_steps (life.Closed w) P s t steps r h = all_none P steps h.1
 doomed_steps (life.Doomed w) P s t steps r h = closing P s.id steps h.0 h.1 h.2.1

@@ -6,13 +6,13 @@ ghost use Rattle.ug_types.specs.declared.waiter.LinkId.{LinkId};
 ghost use Rattle.ug_types.specs.Principals.{Named};
 ghost use Rattle.ug_types.specs.declared.waiter.Ready.{Ready};
 ghost use Rattle.ug_types.specs.declared.access.Section.{Section};
-ghost use Rattle.ug_sessions.specs.Reading.{reading_all};
+ghost use Rattle.ug_sessions.specs.Reading.{reading_all, reading_one};
 ghost use Rattle.ug_sessions.specs.Tried.{AllRead, IsOneRead};
 ghost use Rattle.ug_sessions.specs.declared.session.Session.{Session};
 ghost use Rattle.ug_sessions.specs.declared.session.Turn.{Turn};
 ghost use Rattle.ug_sessions.specs.Due.{Dues, over_due, Accounts, Answered, Watched, Noticed, Said, said_one, sent_to, AllAccounts, AreDistinct};
 ghost use Rattle.ug_sessions.specs.Answering.{Each, RefusesIf, is_due, AnswersOne, WatchesOne, NoticesOne, GivesUpOne, HandsOne};
-ghost use Rattle.ug_sessions.specs.Handed.{AreLinesOf};
+ghost use Rattle.ug_sessions.specs.Handed.{AreLinesOf, bytes_read};
 ghost use Rattle.ug_sessions.specs.Sessions.{new_session};
 ghost use Rattle.ug_sessions.specs.Sending.{flushing_one, flushing_all};
 
@@ -85,4 +85,11 @@ pub fn handing_keeps_lines()
         → NoticesOne holds text s t → AreLinesOf handed bytes s → AreLinesOf handed bytes t }
     ensures gives_up { (handed : List (List ℕ)) (bytes : List ℕ) (id : LinkId) (s t : Session)
         → GivesUpOne id s t → AreLinesOf handed bytes s → AreLinesOf handed bytes t }
+{}
+
+/// What is read of a session goes on with its lines, however the bytes are cut.
+pub fn reading_keeps_lines()
+    ensures { (ready : List Ready) (s : Session) (turn : Turn) (steps : List LinkStep) (r : Session × Turn)
+        → Path (reading_one ready s turn) steps r → (handed : List (List ℕ)) (bytes : List ℕ)
+        → AreLinesOf handed bytes s → AreLinesOf handed (bytes ++ bytes_read s.id steps) r.0 }
 {}

@@ -12,7 +12,7 @@ mod session;
 pub use accept::{MAX_ACCEPTS, MAX_SESSIONS};
 pub use answer::MAX_UNSENT;
 pub use laws::{
-    flushing_keeps_accounts, handing_keeps_lines, reading_keeps_accounts, reading_tries_no_other,
+    flushing_keeps_accounts, handing_keeps_lines, reading_keeps_lines, reading_keeps_accounts, reading_tries_no_other,
     refusing_keeps_account, saying_keeps_account, saying_keeps_accounts, sending_keeps_account,
 };
 pub use read::{MAX_PIECES, PIECE};
