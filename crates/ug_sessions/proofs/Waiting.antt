@@ -3,7 +3,9 @@ use Rattle.std.proofs.Common.{◌≡◌, ℕ, ◌+◌, ◌<◌, ◌≤◌, suc, 
 use Rattle.ug_types.specs.declared.waiter.LinkId.{LinkId}
 use Rattle.ug_types.specs.Principals.{Named}
 use Rattle.ug_sessions.specs.declared.session.Session.{Session}
-use Rattle.ug_sessions.specs.Answering.{Each, PutsWhere, PutsWithin, put_if, takes_text, with_answer, AnswersIf, NoticesIf, AnswersOne, WatchesOne, NoticesOne, RefusesIf, is_due, with_none_left, Passes, HandsFirst, refused_text}
+use Rattle.ug_sessions.specs.Answering.{Each, PutsWhere, PutsWithin, put_if, takes_text, with_answer, AnswersIf, NoticesIf, AnswersOne, WatchesOne, NoticesOne, GivesUpOne, RefusesIf, is_due, with_none_left, Passes, HandsFirst, refused_text}
+use Rattle.ug_sessions.specs.Sessions.{doomed_for, is_open_session}
+use Rattle.ug_sessions.specs.declared.session.Why.TheVariants as why
 use Rattle.ug_sessions.specs.Waiting.{lines_waiting}
 
 -- t has no more lines than s
@@ -73,3 +75,11 @@ hands_fewer xs ys id principal line h =
     let was : lines_waiting xs ≡ lines_waiting h.front + (length h.session.framer.lines + lines_waiting h.behind) = ap lines_waiting h.was ∙ lines_waiting-append h.front (h.session ∷ h.behind) in
     let is : lines_waiting ys ≡ lines_waiting h.passed + (length h.after.framer.lines + lines_waiting h.behind) = ap lines_waiting h.is ∙ lines_waiting-append h.passed (h.after ∷ h.behind) in
     omega arith
+
+give_up_fewer : (b c : Bool) (s t : Session) → t ≡ cond b (cond c (doomed_for why.Memory s) s) s → Fewer s t
+give_up_fewer true true s t e = subst (λ (x : Session). Fewer s x) (sym e) (none_less (length s.framer.lines))
+give_up_fewer true false s t e = same_lines s t e
+give_up_fewer false c s t e = same_lines s t e
+
+pub gives_up_no_more : (id : LinkId) (xs ys : List Session) → Each (GivesUpOne id) xs ys → lines_waiting ys ≤ lines_waiting xs
+gives_up_no_more id xs ys e = each_fewer (GivesUpOne id) (λ s t p. give_up_fewer (nat_eq s.id.0 id.0) (is_open_session s) s t p) xs ys e

@@ -1,5 +1,5 @@
 // What follows for one session, whatever is said and sent.
-ghost use Rattle.std.specs.Prelude.{◌≡◌, List, [], ◌∷◌, ℕ, Bool, ◌++◌, cond, Some, None};
+ghost use Rattle.std.specs.Prelude.{◌≡◌, ◌<◌, ◌≤◌, List, [], ◌∷◌, ℕ, Bool, ◌++◌, cond, Some, None};
 ghost use Rattle.ug_links.specs.declared.step.LinkStep.{LinkStep};
 ghost use Rattle.ug_links.specs.Talk.{Path};
 ghost use Rattle.ug_types.specs.declared.waiter.LinkId.{LinkId};
@@ -7,11 +7,14 @@ ghost use Rattle.ug_types.specs.Principals.{Named};
 ghost use Rattle.ug_types.specs.declared.waiter.Ready.{Ready};
 ghost use Rattle.ug_types.specs.declared.access.Section.{Section};
 ghost use Rattle.ug_sessions.specs.Reading.{reading_all, reading_one};
-ghost use Rattle.ug_sessions.specs.Tried.{AllRead, IsOneRead};
+ghost use Rattle.ug_sessions.specs.Tried.{AllAccepted, AllRead, IsOneRead, IsOneTried};
 ghost use Rattle.ug_sessions.specs.declared.session.Session.{Session};
 ghost use Rattle.ug_sessions.specs.declared.session.Turn.{Turn};
 ghost use Rattle.ug_sessions.specs.Due.{Dues, over_due, Accounts, Answered, Watched, Noticed, Said, said_one, sent_to, AllAccounts, AreDistinct};
-ghost use Rattle.ug_sessions.specs.Answering.{Each, RefusesIf, is_due, AnswersOne, WatchesOne, NoticesOne, GivesUpOne, HandsOne};
+ghost use Rattle.ug_sessions.specs.Answering.{Each, RefusesIf, is_due, AnswersOne, WatchesOne, NoticesOne, GivesUpOne, HandsOne, HandsFirst};
+ghost use Rattle.ug_sessions.specs.Waiting.{lines_waiting};
+ghost use Rattle.ug_sessions.specs.Accepting.{accepting_all};
+ghost use Rattle.ug_sessions.specs.declared.session.Listener.{Listener};
 ghost use Rattle.ug_sessions.specs.Handed.{AreLinesOf, bytes_read};
 ghost use Rattle.ug_sessions.specs.Sessions.{new_session};
 ghost use Rattle.ug_sessions.specs.Sending.{flushing_one, flushing_all};
@@ -92,4 +95,33 @@ pub fn reading_keeps_lines()
     ensures { (ready : List Ready) (s : Session) (turn : Turn) (steps : List LinkStep) (r : Session × Turn)
         → Path (reading_one ready s turn) steps r → (handed : List (List ℕ)) (bytes : List ℕ)
         → AreLinesOf handed bytes s → AreLinesOf handed (bytes ++ bytes_read s.id steps) r.0 }
+{}
+
+/// A flush reads nothing, and leaves the lines.
+pub fn flushing_keeps_lines()
+    ensures reads { (s : Session) (turn : Turn) (steps : List LinkStep) (r : Session × Turn)
+        → Path (flushing_one s turn) steps r → (id : LinkId) → bytes_read id steps ≡ [] }
+    ensures keeps { (s : Session) (turn : Turn) (steps : List LinkStep) (r : Session × Turn)
+        → Path (flushing_one s turn) steps r → (handed : List (List ℕ)) (bytes : List ℕ)
+        → AreLinesOf handed bytes s → AreLinesOf handed bytes r.0 }
+{}
+
+/// Asking for requests comes to an end: a request that is handed out is a line less, and what is said to sessions adds none.
+pub fn handing_out_ends()
+    ensures hands { (ss ts : List Session) (id : LinkId) (principal : Named) (line : List ℕ)
+        → HandsFirst ss id principal line ts → lines_waiting ts < lines_waiting ss }
+    ensures answers { (id : LinkId) (text : List ℕ) (ss ts : List Session)
+        → Each (AnswersOne id text) ss ts → lines_waiting ts ≤ lines_waiting ss }
+    ensures watches { (id : LinkId) (ss ts : List Session)
+        → Each (WatchesOne id) ss ts → lines_waiting ts ≤ lines_waiting ss }
+    ensures notices { (holds : Named → Bool) (text : List ℕ) (ss ts : List Session)
+        → Each (NoticesOne holds text) ss ts → lines_waiting ts ≤ lines_waiting ss }
+    ensures gives_up { (id : LinkId) (ss ts : List Session)
+        → Each (GivesUpOne id) ss ts → lines_waiting ts ≤ lines_waiting ss }
+{}
+
+/// No listener is tried but those that are named or owed a try.
+pub fn accepting_tries_no_other()
+    ensures { (ready : List Ready) (listeners : List Listener) (x : List Session × Turn) (steps : List LinkStep) (r : List Listener × (List Session × Turn))
+        → Path (accepting_all ready listeners x) steps r → AllAccepted (IsOneTried ready listeners) steps }
 {}
