@@ -36,7 +36,7 @@ who_within true s text t p =
     f p.0 p.1
 who_within false s text t p = ap who p
 
-who_where : (b : Bool) (s : Session) (text : List ℕ) (t : Session) → PutsWhere b s text t → who t ≡ who s
+pub who_where : (b : Bool) (s : Session) (text : List ℕ) (t : Session) → PutsWhere b s text t → who t ≡ who s
 who_where true s text t p = who_within (nat_le (length s.unsent + length text) 1048576) s text t p
 who_where false s text t p = ap who p
 

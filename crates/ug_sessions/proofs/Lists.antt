@@ -15,7 +15,7 @@ use Rattle.ug_sessions.specs.Due.{Accounts, AllAccounts, IsNoneOf, AreDistinct, 
 use Rattle.ug_sessions.proofs.Sends.{sent-append, flush_keeps}
 use Rattle.ug_sessions.proofs.Owning.{Who, who, OnlyTo, Owns, flush_owns}
 
-turned_round : (a b : ℕ) → nat_eq a b ≡ false → nat_eq b a ≡ false
+pub turned_round : (a b : ℕ) → nat_eq a b ≡ false → nat_eq b a ≡ false
 turned_round a b e = grind (arith, nat_tests)
 
 -- a flush of sessions sends nothing to one that is none of them

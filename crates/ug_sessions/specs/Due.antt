@@ -9,7 +9,7 @@ use Rattle.ug_types.specs.declared.access.Section.{Section}
 use Rattle.ug_sessions.specs.declared.session.Session.{Session}
 use Rattle.ug_sessions.specs.declared.session.Life.{Life}
 use Rattle.ug_sessions.specs.declared.session.Life.TheVariants as life
-use Rattle.ug_sessions.specs.Answering.{refused_text}
+use Rattle.ug_sessions.specs.Answering.{refused_text, is_due}
 
 -- what is said to sessions, in order
 pub data Said : Type 0 where
@@ -48,9 +48,13 @@ abbrev pub said_all : (Section → Named → Bool) → LinkId → Named → Dues
 said_all holds id principal a [] = a
 said_all holds id principal a (said ∷ more) = said_all holds id principal (said_one holds id principal a said) more
 
--- the text that is due to a session after all that was said
-abbrev pub due_text : (Section → Named → Bool) → LinkId → Named → List Said → List ℕ
-due_text holds id principal said = (said_all holds id principal nothing_due said).text
+-- what is said where a session without a line stands at its limit and wasn't told so
+abbrev pub overlong_of : Session → List Said
+overlong_of s = cond (is_due s) (Overlong s.id ∷ []) []
+
+abbrev pub overlong_all : List Session → List Said
+overlong_all [] = []
+overlong_all (s ∷ ss) = overlong_of s ++ overlong_all ss
 
 -- the bytes that were sent to a session
 abbrev pub sent_to : LinkId → List LinkStep → List ℕ

@@ -10,8 +10,8 @@ ghost use Rattle.ug_sessions.specs.Reading.{reading_all, reading_one};
 ghost use Rattle.ug_sessions.specs.Tried.{AllAccepted, AllRead, IsOneRead, IsOneTried};
 ghost use Rattle.ug_sessions.specs.declared.session.Session.{Session};
 ghost use Rattle.ug_sessions.specs.declared.session.Turn.{Turn};
-ghost use Rattle.ug_sessions.specs.Due.{Dues, over_due, Accounts, Answered, Watched, Noticed, Said, said_one, sent_to, AllAccounts, AreDistinct};
-ghost use Rattle.ug_sessions.specs.Answering.{Each, RefusesIf, is_due, AnswersOne, WatchesOne, NoticesOne, GivesUpOne, HandsOne, HandsFirst};
+ghost use Rattle.ug_sessions.specs.Due.{Dues, over_due, Accounts, Answered, Watched, Noticed, Said, said_one, sent_to, overlong_all, AllAccounts, AreDistinct};
+ghost use Rattle.ug_sessions.specs.Answering.{Each, RefusesIf, is_due, AnswersOne, WatchesOne, NoticesOne, GivesUpOne, HandsOne, HandsFirst, Passes};
 ghost use Rattle.ug_sessions.specs.Waiting.{lines_waiting};
 ghost use Rattle.ug_sessions.specs.Accepting.{accepting_all};
 ghost use Rattle.ug_sessions.specs.declared.session.Listener.{Listener};
@@ -124,4 +124,17 @@ pub fn handing_out_ends()
 pub fn accepting_tries_no_other()
     ensures { (ready : List Ready) (listeners : List Listener) (x : List Session × Turn) (steps : List LinkStep) (r : List Listener × (List Session × Turn))
         → Path (accepting_all ready listeners x) steps r → AllAccepted (IsOneTried ready listeners) steps }
+{}
+
+/// Handing out a request keeps the accounts of all sessions, where no two have one id: each that is passed at its limit is told
+/// so. Giving a session up keeps them too.
+pub fn handing_keeps_accounts()
+    ensures hands { (holds : Section → Named → Bool) (steps : List LinkStep) (said : List Said) (ss ts : List Session) (id : LinkId) (principal : Named) (line : List ℕ)
+        → AreDistinct ss → (h : HandsFirst ss id principal line ts)
+        → AllAccounts holds steps said ss → AllAccounts holds steps (said ++ overlong_all h.front) ts }
+    ensures passes { (holds : Section → Named → Bool) (steps : List LinkStep) (said : List Said) (ss ts : List Session)
+        → AreDistinct ss → Each Passes ss ts
+        → AllAccounts holds steps said ss → AllAccounts holds steps (said ++ overlong_all ss) ts }
+    ensures gives_up { (holds : Section → Named → Bool) (steps : List LinkStep) (said : List Said) (id : LinkId) (ss ts : List Session)
+        → Each (GivesUpOne id) ss ts → AllAccounts holds steps said ss → AllAccounts holds steps said ts }
 {}
