@@ -2,6 +2,7 @@ pub mod Accepting
 pub mod Answering
 pub mod Due
 pub mod Handed
+pub mod Known
 pub mod Reading
 pub mod Sending
 pub mod Serving

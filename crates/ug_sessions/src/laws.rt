@@ -1,7 +1,8 @@
 // What follows for one session, whatever is said and sent.
 ghost use Rattle.std.specs.Prelude.{◌≡◌, ◌<◌, ◌≤◌, List, [], ◌∷◌, ℕ, Bool, ◌++◌, cond, Some, None};
 ghost use Rattle.ug_links.specs.declared.step.LinkStep.{LinkStep};
-ghost use Rattle.ug_links.specs.Talk.{Path};
+ghost use Rattle.ug_links.specs.Talk.{Path, AreSteps};
+ghost use Rattle.ug_sessions.specs.Known.{AreSound};
 ghost use Rattle.ug_types.specs.declared.waiter.LinkId.{LinkId};
 ghost use Rattle.ug_types.specs.Principals.{Named};
 ghost use Rattle.ug_types.specs.declared.waiter.Ready.{Ready};
@@ -137,4 +138,11 @@ pub fn handing_keeps_accounts()
         → AllAccounts holds steps said ss → AllAccounts holds steps (said ++ overlong_all ss) ts }
     ensures gives_up { (holds : Section → Named → Bool) (steps : List LinkStep) (said : List Said) (id : LinkId) (ss ts : List Session)
         → Each (GivesUpOne id) ss ts → AllAccounts holds steps said ss → AllAccounts holds steps said ts }
+{}
+
+/// Accepting keeps the accounts of all sessions; a new session has an id that no other had, and nothing is due to it.
+pub fn accepting_keeps_accounts()
+    ensures { (holds : Section → Named → Bool) (before : List LinkStep) (said : List Said) (ready : List Ready) (listeners : List Listener) (x : List Session × Turn) (steps : List LinkStep) (r : List Listener × (List Session × Turn))
+        → AreSteps before steps → Path (accepting_all ready listeners x) steps r
+        → AreSound holds before said x.0 → AreSound holds (before ++ steps) said r.1.0 }
 {}
