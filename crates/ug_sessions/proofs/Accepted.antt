@@ -1,5 +1,5 @@
 -- Accepting keeps the accounts of all sessions, and gives each new one an empty account.
-use Rattle.std.proofs.Common.{◌≡◌, ℕ, zero, suc, ◌+◌, ◌<◌, ◌≤◌, max, Bool, true, false, cond, nat_eq, nat_lt, count_by, List, [], ◌∷◌, ◌++◌, take, refl, sym, ap, ◌∙◌, subst, append_assoc, arith}
+use Rattle.std.proofs.Common.{◌≡◌, ℕ, zero, suc, ◌<◌, ◌≤◌, max, Bool, true, false, cond, nat_eq, nat_lt, count_by, List, [], ◌∷◌, ◌++◌, take, refl, sym, ap, ◌∙◌, subst, append_assoc, arith}
 use Rattle.std.proofs.lemmas.List.{append-nil}
 use Rattle.std.proofs.lemmas.Bool.Decides.{nat_tests}
 use Rattle.ug_types.specs.Principals.{Named}
@@ -11,7 +11,7 @@ use Rattle.ug_links.specs.declared.links.Accepted.TheVariants as accepted
 use Rattle.ug_links.specs.declared.links.LinkWrote.TheVariants as wrote
 use Rattle.ug_links.specs.declared.step.LinkStep.{LinkStep}
 use Rattle.ug_links.specs.declared.step.LinkStep.TheVariants.{Listened, AcceptedAt, ReadFrom, WroteTo, Closed}
-use Rattle.ug_links.specs.Steps.{IsStep, id_end, ids_end}
+use Rattle.ug_links.specs.Steps.{IsStep, ids_end}
 use Rattle.ug_links.specs.Talk.{Return, Path, AreSteps, walk, upto}
 use Rattle.ug_links.proofs.Paths.{path_split}
 use Rattle.ug_sessions.specs.declared.session.Session.{Session}
@@ -34,7 +34,7 @@ pub ids_behind : (a b : List LinkStep) → ids_end (a ++ b) ≡ max (ids_end a) 
 ids_behind [] b = omega arith
 ids_behind (x ∷ a) b = let e = ids_behind a b in omega (arith, e)
 
-known_more : (n m : ℕ) (ss : List Session) → n ≤ m → AreKnown n ss → AreKnown m ss
+pub known_more : (n m : ℕ) (ss : List Session) → n ≤ m → AreKnown n ss → AreKnown m ss
 known_more n m [] le h = tt
 known_more n m (s ∷ ss) le h = let a : s.id.0 < n = h.0 in (omega (arith, a, le), known_more n m ss le h.1)
 
@@ -44,7 +44,7 @@ said_one_more n m (Watched id) le h = omega (arith, h, le)
 said_one_more n m (Noticed section text) le h = tt
 said_one_more n m (Overlong id) le h = omega (arith, h, le)
 
-said_more : (n m : ℕ) (said : List Said) → n ≤ m → AreSaidBelow n said → AreSaidBelow m said
+pub said_more : (n m : ℕ) (said : List Said) → n ≤ m → AreSaidBelow n said → AreSaidBelow m said
 said_more n m [] le h = tt
 said_more n m (x ∷ said) le h = (said_one_more n m x le h.0, said_more n m said le h.1)
 
@@ -55,7 +55,7 @@ call_more n m (Listened principal answer) le h = tt
 call_more n m (AcceptedAt listener answer) le h = tt
 call_more n m (Closed id) le h = tt
 
-calls_more : (n m : ℕ) (steps : List LinkStep) → n ≤ m → AreCallsBelow n steps → AreCallsBelow m steps
+pub calls_more : (n m : ℕ) (steps : List LinkStep) → n ≤ m → AreCallsBelow n steps → AreCallsBelow m steps
 calls_more n m [] le h = tt
 calls_more n m (step ∷ steps) le h = (call_more n m step le h.0, calls_more n m steps le h.1)
 

@@ -1,5 +1,5 @@
 -- Handing out, and giving up, keep the accounts of all sessions.
-use Rattle.std.proofs.Common.{◌≡◌, ℕ, Bool, true, false, cond, nat_eq, Some, None, List, [], ◌∷◌, ◌++◌, refl, sym, ap, ◌∙◌, subst, append_assoc}
+use Rattle.std.proofs.Common.{◌≡◌, ℕ, Bool, true, false, cond, nat_eq, List, [], ◌∷◌, ◌++◌, refl, sym, ap, ◌∙◌, subst, append_assoc}
 use Rattle.std.proofs.lemmas.List.{append-nil}
 use Rattle.ug_types.specs.Principals.{Named}
 use Rattle.ug_types.specs.declared.access.Section.{Section}
@@ -10,7 +10,7 @@ use Rattle.ug_sessions.specs.declared.session.Life.{Life}
 use Rattle.ug_sessions.specs.declared.session.Life.TheVariants as life
 use Rattle.ug_sessions.specs.declared.session.Why.TheVariants as why
 use Rattle.ug_sessions.specs.Sessions.{is_open_session, doomed_for}
-use Rattle.ug_sessions.specs.Answering.{Each, PutsWhere, takes_text, refused_text, RefusesIf, is_due, with_none_left, with_lines, Passes, GivesUpOne, HandsFirst}
+use Rattle.ug_sessions.specs.Answering.{Each, takes_text, refused_text, RefusesIf, is_due, with_none_left, with_lines, Passes, GivesUpOne, HandsFirst}
 use Rattle.ug_sessions.specs.Due.{Dues, Accounts, AccountsBy, AllAccounts, IsNoneOf, AreDistinct, Said, Overlong, said_one, said_all, nothing_due, over_due, overlong_of, overlong_all, sent_to}
 use Rattle.ug_sessions.proofs.Saying.{gives_up_if}
 use Rattle.ug_sessions.proofs.Sends.{own}

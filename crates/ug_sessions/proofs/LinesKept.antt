@@ -1,16 +1,12 @@
 -- What is said to a session, and what is sent, leaves its lines.
-use Rattle.std.proofs.Common.{◌≡◌, ℕ, ◌+◌, Bool, true, false, cond, not, nat_eq, nat_le, List, [], ◌∷◌, ◌++◌, length, refl, sym, ap, ◌∙◌, subst, append_assoc}
-use Rattle.std.proofs.lemmas.List.{append-nil}
+use Rattle.std.proofs.Common.{◌≡◌, ℕ, ◌+◌, Bool, true, false, cond, not, nat_le, List, [], ◌∷◌, ◌++◌, length, refl, sym, ap, ◌∙◌, subst, append_assoc}
 use Rattle.ug_sessions.specs.declared.session.Session.{Session}
 use Rattle.ug_sessions.specs.declared.session.Why.{Why}
 use Rattle.ug_sessions.specs.declared.session.Why.TheVariants as why
 use Rattle.ug_sessions.specs.declared.session.Life.{Life}
 use Rattle.ug_sessions.specs.declared.session.Life.TheVariants as life
-use Rattle.ug_types.specs.Principals.{Named}
-use Rattle.ug_types.specs.declared.waiter.LinkId.{LinkId}
-use Rattle.ug_proto.specs.Lines.{Begun, stream_lines}
-use Rattle.ug_sessions.specs.Sessions.{is_open_life, is_overlong, doomed_for, closed_for, unsending, emptied}
-use Rattle.ug_sessions.specs.Answering.{PutsBehind, PutsWhere, PutsWithin, put_if, takes_text, with_text, with_answer, AnswersIf, NoticesIf, AnswersOne, WatchesOne, GivesUpOne, NoticesOne, RefusesIf, is_due, with_none_left, with_lines, HandsOne, refused_text}
+use Rattle.ug_sessions.specs.Sessions.{is_open_life, is_overlong, doomed_for}
+use Rattle.ug_sessions.specs.Answering.{PutsBehind, PutsWhere, PutsWithin, put_if, with_text, with_answer, AnswersIf, NoticesIf, RefusesIf, is_due, with_none_left, with_lines, refused_text}
 use Rattle.ug_sessions.specs.Handed.{AreAllLines, AreFirstLines, AreLinesFor, AreLinesBy, AreLinesOf}
 
 -- what came is as it was

@@ -13,14 +13,13 @@ use Rattle.ug_proto.specs.Lines.{Begun, Partial, stream_lines, lines_ended_in, b
 use Rattle.ug_proto.proofs.Pieces.{lines_more, begun_more}
 use Rattle.ug_sessions.specs.declared.session.Session.{Session}
 use Rattle.ug_sessions.specs.declared.session.Turn.{Turn}
-use Rattle.ug_sessions.specs.declared.session.Why.TheVariants as why
 use Rattle.ug_sessions.specs.declared.session.Life.{Life}
 use Rattle.ug_sessions.specs.declared.session.Life.TheVariants as life
 use Rattle.ug_sessions.specs.Tokens.{is_read}
-use Rattle.ug_sessions.specs.Sessions.{fed, not_owed, at_end, closed_for, unsending, emptied}
+use Rattle.ug_sessions.specs.Sessions.{fed, not_owed, at_end, closed_for}
 use Rattle.ug_sessions.specs.Reading.{after_feed, after_read, reading_piece, closing_by, closing_doomed, reading_if, reading_one}
 use Rattle.ug_sessions.specs.Tried.{AllRead}
-use Rattle.ug_sessions.specs.Handed.{bytes_read, AreAllLines, AreLinesFor, AreLinesBy, AreLinesOf}
+use Rattle.ug_sessions.specs.Handed.{bytes_read, AreAllLines, AreLinesBy, AreLinesOf}
 use Rattle.ug_sessions.proofs.Sends.{own}
 use Rattle.ug_sessions.proofs.Tried.{doomed_steps}
 use Rattle.ug_sessions.proofs.LinesKept.{by_same, of_same}

@@ -1,5 +1,5 @@
 -- A flush leaves a session's lines.
-use Rattle.std.proofs.Common.{◌≡◌, ℕ, zero, suc, Bool, true, false, cond, nat_eq, List, [], ◌∷◌, ◌++◌, length, ◌⊎◌, inl, inr, refl, sym, ap, ◌∙◌, subst}
+use Rattle.std.proofs.Common.{◌≡◌, ℕ, zero, suc, Bool, true, false, cond, nat_eq, List, [], ◌++◌, length, ◌⊎◌, inl, inr, refl, sym, ap, ◌∙◌, subst}
 use Rattle.ug_types.specs.declared.waiter.LinkId.{LinkId}
 use Rattle.ug_links.specs.declared.links.LinkWrote.{LinkWrote}
 use Rattle.ug_links.specs.declared.links.LinkWrote.TheVariants as wrote
@@ -8,10 +8,9 @@ use Rattle.ug_links.specs.Talk.{Return, Path, upto}
 use Rattle.ug_links.proofs.Paths.{path_split}
 use Rattle.ug_sessions.specs.declared.session.Session.{Session}
 use Rattle.ug_sessions.specs.declared.session.Turn.{Turn}
-use Rattle.ug_sessions.specs.declared.session.Why.TheVariants as why
 use Rattle.ug_sessions.specs.declared.session.Life.{Life}
 use Rattle.ug_sessions.specs.declared.session.Life.TheVariants as life
-use Rattle.ug_sessions.specs.Sessions.{is_open_life, is_open_session, closed_for}
+use Rattle.ug_sessions.specs.Sessions.{is_open_life, is_open_session}
 use Rattle.ug_sessions.specs.Reading.{closing_doomed}
 use Rattle.ug_sessions.specs.Sending.{writing_some, writing_if, after_write, is_served, finishing, finish_sent, finish_open, finish_refused, finish_ended, sending_if, flushing_one}
 use Rattle.ug_sessions.specs.Handed.{bytes_read, AreAllLines, AreLinesBy, AreLinesOf}

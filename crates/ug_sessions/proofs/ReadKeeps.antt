@@ -24,9 +24,9 @@ use Rattle.ug_sessions.proofs.Owning.{Who, who, who_rests}
 use Rattle.ug_sessions.proofs.Tried.{walk_steps}
 
 -- a session stays who it is, and its account is kept
-record Stays (s r : Session) : Type 0 where
-  same : who r ≡ who s
-  keeps : (a : Dues) (sent : List ℕ) → Accounts a sent s → Accounts a sent r
+pub record Stays (s r : Session) : Type 0 where
+  pub same : who r ≡ who s
+  pub keeps : (a : Dues) (sent : List ℕ) → Accounts a sent s → Accounts a sent r
 
 stays_then : (s m r : Session) → Stays s m → Stays m r → Stays s r
 stays_then s m r h k = record { same = k.same ∙ h.same; keeps = λ a sent x. k.keeps a sent (h.keeps a sent x) }
@@ -76,7 +76,7 @@ if_stays : (b : Bool) (s : Session) (t : Turn) (steps : List LinkStep) (r : Sess
 if_stays true s t steps r h = upto_stays 16 s t steps r h
 if_stays false s t steps r h = as_was s r.0 (ap (λ (x : Session × Turn). x.0) h.0)
 
-one_stays : (ready : List Ready) (s : Session) (t : Turn) (steps : List LinkStep) (r : Session × Turn) → Path (reading_one ready s t) steps r → Stays s r.0
+pub one_stays : (ready : List Ready) (s : Session) (t : Turn) (steps : List LinkStep) (r : Session × Turn) → Path (reading_one ready s t) steps r → Stays s r.0
 unfolding reading_one closing_doomed
 one_stays ready s t steps r h =
     let p = path_split (closing_doomed s t) (λ (q : Session × Turn). reading_if (is_read ready q.0) q.0 q.1) steps r h in

@@ -82,7 +82,7 @@ doomed_steps (life.Closed w) P s t steps r h = all_none P steps h.1
 doomed_steps (life.Doomed w) P s t steps r h = closing P s.id steps h.0 h.1 h.2.1
 
 -- what is to be read afterwards was to be read before
-abbrev One : List Ready → Session → LinkId → Type 0
+abbrev pub One : List Ready → Session → LinkId → Type 0
 One ready s id = (s.id ≡ id) × (is_read ready s ≡ true)
 
 was_read : (ready : List Ready) (s r : Session) → (r ≡ s) ⊎ ((w : Why) × (r ≡ closed_for w s)) → is_read ready r ≡ true → (id : LinkId) → Own r id → One ready s id
@@ -93,7 +93,7 @@ if_steps : (b : Bool) (ready : List Ready) (s q : Session) (t : Turn) (steps : L
 if_steps true ready s q t steps r w e h = weaker (Own q) (One ready s) (was_read ready s q w e) steps (upto_steps 16 q t steps r h)
 if_steps false ready s q t steps r w e h = all_none (One ready s) steps h.1
 
-one_steps : (ready : List Ready) (s : Session) (t : Turn) (steps : List LinkStep) (r : Session × Turn) → Path (reading_one ready s t) steps r → AllRead (One ready s) steps
+pub one_steps : (ready : List Ready) (s : Session) (t : Turn) (steps : List LinkStep) (r : Session × Turn) → Path (reading_one ready s t) steps r → AllRead (One ready s) steps
 unfolding reading_one closing_doomed
 one_steps ready s t steps r h =
     let p = path_split (closing_doomed s t) (λ (q : Session × Turn). reading_if (is_read ready q.0) q.0 q.1) steps r h in

@@ -3,6 +3,8 @@ ghost use Rattle.std.specs.Prelude.{◌≡◌, ◌<◌, ◌≤◌, List, [], ◌
 ghost use Rattle.ug_links.specs.declared.step.LinkStep.{LinkStep};
 ghost use Rattle.ug_links.specs.Talk.{Path, AreSteps};
 ghost use Rattle.ug_sessions.specs.Known.{AreSound};
+ghost use Rattle.ug_sessions.specs.States.{ServerState};
+ghost use Rattle.ug_sessions.specs.Serving.{turning, flushing};
 ghost use Rattle.ug_types.specs.declared.waiter.LinkId.{LinkId};
 ghost use Rattle.ug_types.specs.Principals.{Named};
 ghost use Rattle.ug_types.specs.declared.waiter.Ready.{Ready};
@@ -145,4 +147,14 @@ pub fn accepting_keeps_accounts()
     ensures { (holds : Section → Named → Bool) (before : List LinkStep) (said : List Said) (ready : List Ready) (listeners : List Listener) (x : List Session × Turn) (steps : List LinkStep) (r : List Listener × (List Session × Turn))
         → AreSteps before steps → Path (accepting_all ready listeners x) steps r
         → AreSound holds before said x.0 → AreSound holds (before ++ steps) said r.1.0 }
+{}
+
+/// A whole turn and a whole flush keep the accounts of all sessions, and with them that no two have one id.
+pub fn turns_keep_accounts()
+    ensures turns { (holds : Section → Named → Bool) (said : List Said) (ready : List Ready) (before : List LinkStep) (v : ServerState) (steps : List LinkStep) (r : ServerState × Turn)
+        → AreSteps before steps → Path (turning ready v) steps r
+        → AreSound holds before said v.sessions → AreSound holds (before ++ steps) said r.0.sessions }
+    ensures flushes { (holds : Section → Named → Bool) (said : List Said) (before : List LinkStep) (v : ServerState) (steps : List LinkStep) (r : ServerState × Turn)
+        → Path (flushing v) steps r
+        → AreSound holds before said v.sessions → AreSound holds (before ++ steps) said r.0.sessions }
 {}
