@@ -1,7 +1,7 @@
 -- The element at a place of a list, and what the script there fixes.
 use Rattle.std.proofs.Common.{◌≡◌, ℕ, zero, suc, ◌<◌, ◌≤◌, List, [], ◌∷◌, length, get_or, set, None, refl, ap, arith}
 use Rattle.ug_links.specs.Peers.{first_item, read_answer, write_answer}
-use Rattle.ug_links.specs.Scripts.{changed_at, arrival_at, read_at, write_at}
+use Rattle.ug_links.specs.Scripts.{changed_at, arrival_at, read_from_peer, written_to_peer}
 use Rattle.ug_links.specs.declared.links.LinkWrote.TheVariants as wrote
 use Rattle.ug_links.specs.declared.step.Reading.TheVariants as given
 use Rattle.ug_links.specs.declared.peer.Peer.{Peer}
@@ -27,22 +27,22 @@ arrival_in n [] d lt = let none : ⊥ = omega (arith, lt) in absurd none
 arrival_in zero (a ∷ rest) d lt = refl
 arrival_in (suc n) (a ∷ rest) d lt = arrival_in n rest d (omega (arith, lt))
 
-pub read_past : (room n : ℕ) (xs : List Peer) → length xs ≤ n → given.End ≡ read_at room n xs
+pub read_past : (room n : ℕ) (xs : List Peer) → length xs ≤ n → given.End ≡ read_from_peer room n xs
 read_past room n [] le = refl
 read_past room zero (a ∷ rest) le = let none : ⊥ = omega (arith, le) in absurd none
 read_past room (suc n) (a ∷ rest) le = read_past room n rest (omega (arith, le))
 
-pub read_in : (room n : ℕ) (xs : List Peer) (d : Peer) → n < length xs → read_answer room (get_or xs n d) ≡ read_at room n xs
+pub read_in : (room n : ℕ) (xs : List Peer) (d : Peer) → n < length xs → read_answer room (get_or xs n d) ≡ read_from_peer room n xs
 read_in room n [] d lt = let none : ⊥ = omega (arith, lt) in absurd none
 read_in room zero (a ∷ rest) d lt = refl
 read_in room (suc n) (a ∷ rest) d lt = read_in room n rest d (omega (arith, lt))
 
-pub write_past : (size n : ℕ) (xs : List Peer) → length xs ≤ n → wrote.Sent size ≡ write_at size n xs
+pub write_past : (size n : ℕ) (xs : List Peer) → length xs ≤ n → wrote.Sent size ≡ written_to_peer size n xs
 write_past size n [] le = refl
 write_past size zero (a ∷ rest) le = let none : ⊥ = omega (arith, le) in absurd none
 write_past size (suc n) (a ∷ rest) le = write_past size n rest (omega (arith, le))
 
-pub write_in : (size n : ℕ) (xs : List Peer) (d : Peer) → n < length xs → write_answer size (get_or xs n d) ≡ write_at size n xs
+pub write_in : (size n : ℕ) (xs : List Peer) (d : Peer) → n < length xs → write_answer size (get_or xs n d) ≡ written_to_peer size n xs
 write_in size n [] d lt = let none : ⊥ = omega (arith, lt) in absurd none
 write_in size zero (a ∷ rest) d lt = refl
 write_in size (suc n) (a ∷ rest) d lt = write_in size n rest d (omega (arith, lt))

@@ -9,15 +9,15 @@ use Rattle.ug_links.specs.declared.step.LinkStep.{LinkStep}
 use Rattle.ug_links.specs.declared.step.LinkStep.TheVariants.{Listened, AcceptedAt, ReadFrom, WroteTo, Closed}
 use Rattle.ug_links.specs.declared.mem_links.MemLinks.{MemLinks}
 use Rattle.ug_links.specs.Planned.{Planned}
-use Rattle.ug_links.specs.Scripts.{listen_answer, after_listen, accept_answer, after_accept, read_at, after_read, write_at, after_write}
+use Rattle.ug_links.specs.Scripts.{listen_answer, scripts_after_listen, accept_answer, scripts_after_accept, read_from_peer, scripts_after_read, written_to_peer, scripts_after_write}
 use Rattle.ug_links.specs.Steps.{IsStep}
 
 -- the answer of the call, and what is left, are those that the scripts fix
 abbrev pub IsScripted : Planned → LinkStep → Planned → Type 0
-IsScripted p (Listened principal answer) q = (answer ≡ listen_answer p) × (q ≡ after_listen p)
-IsScripted p (AcceptedAt listener answer) q = (answer ≡ accept_answer p listener) × (q ≡ after_accept p listener)
-IsScripted p (ReadFrom id room answer) q = (answer ≡ read_at room id.0 p.peers) × (q ≡ after_read room id.0 p)
-IsScripted p (WroteTo id bytes answer) q = (answer ≡ write_at (length bytes) id.0 p.peers) × (q ≡ after_write id.0 p)
+IsScripted p (Listened principal answer) q = (answer ≡ listen_answer p) × (q ≡ scripts_after_listen p)
+IsScripted p (AcceptedAt listener answer) q = (answer ≡ accept_answer p listener) × (q ≡ scripts_after_accept p listener)
+IsScripted p (ReadFrom id room answer) q = (answer ≡ read_from_peer room id.0 p.peers) × (q ≡ scripts_after_read room id.0 p)
+IsScripted p (WroteTo id bytes answer) q = (answer ≡ written_to_peer (length bytes) id.0 p.peers) × (q ≡ scripts_after_write id.0 p)
 IsScripted p (Closed id) q = q ≡ p
 
 -- the call failed, or is a closing

@@ -39,8 +39,8 @@ more_listening n (listening.Ready number) = n + 1
 more_listening n listening.Failed = n
 more_listening n listening.Memory = n
 
-abbrev pub after_listen : Planned → Planned
-after_listen p = record p { listens = other_items p.listens; listening = more_listening p.listening (listen_answer p) }
+abbrev pub scripts_after_listen : Planned → Planned
+scripts_after_listen p = record p { listens = other_items p.listens; listening = more_listening p.listening (listen_answer p) }
 
 -- the next arrival at a listener
 abbrev pub arrival_at : List (List Arrival) → ℕ → Option Arrival
@@ -64,23 +64,23 @@ peer_come (Some (arrival.Comes peer)) = peer ∷ []
 peer_come (Some arrival.Wait) = []
 peer_come (Some arrival.Fail) = []
 
-abbrev pub after_accept : Planned → ℕ → Planned
-after_accept p listener = record p { arrivals = changed_at other_items listener p.arrivals; peers = p.peers ++ peer_come (arrival_at p.arrivals listener) }
+abbrev pub scripts_after_accept : Planned → ℕ → Planned
+scripts_after_accept p listener = record p { arrivals = changed_at other_items listener p.arrivals; peers = p.peers ++ peer_come (arrival_at p.arrivals listener) }
 
 -- where no session has the number, nothing more comes
-abbrev pub read_at : ℕ → ℕ → List Peer → Reading
-read_at room n [] = given.End
-read_at room zero (peer ∷ peers) = read_answer room peer
-read_at room (suc n) (peer ∷ peers) = read_at room n peers
+abbrev pub read_from_peer : ℕ → ℕ → List Peer → Reading
+read_from_peer room n [] = given.End
+read_from_peer room zero (peer ∷ peers) = read_answer room peer
+read_from_peer room (suc n) (peer ∷ peers) = read_from_peer room n peers
 
-abbrev pub after_read : ℕ → ℕ → Planned → Planned
-after_read room n p = record p { peers = changed_at (read_after room) n p.peers }
+abbrev pub scripts_after_read : ℕ → ℕ → Planned → Planned
+scripts_after_read room n p = record p { peers = changed_at (read_after room) n p.peers }
 
 -- where no session has the number, all is sent
-abbrev pub write_at : ℕ → ℕ → List Peer → LinkWrote
-write_at size n [] = wrote.Sent size
-write_at size zero (peer ∷ peers) = write_answer size peer
-write_at size (suc n) (peer ∷ peers) = write_at size n peers
+abbrev pub written_to_peer : ℕ → ℕ → List Peer → LinkWrote
+written_to_peer size n [] = wrote.Sent size
+written_to_peer size zero (peer ∷ peers) = write_answer size peer
+written_to_peer size (suc n) (peer ∷ peers) = written_to_peer size n peers
 
-abbrev pub after_write : ℕ → Planned → Planned
-after_write n p = record p { peers = changed_at write_after n p.peers }
+abbrev pub scripts_after_write : ℕ → Planned → Planned
+scripts_after_write n p = record p { peers = changed_at write_after n p.peers }

@@ -1,7 +1,7 @@
 // What listeners and sessions in memory go by.
 ghost use Rattle.std.specs.Prelude.{◌≡◌, ◌<◌, length, IfOk};
 ghost use Rattle.ug_links.specs.Steps.{reading_given, FitsRead, FitsWrite};
-ghost use Rattle.ug_links.specs.Scripts.{listen_answer, after_listen, arrival_at, changed_at, accept_answer, after_accept, read_at, after_read, write_at, after_write};
+ghost use Rattle.ug_links.specs.Scripts.{listen_answer, scripts_after_listen, arrival_at, changed_at, accept_answer, scripts_after_accept, read_from_peer, scripts_after_read, written_to_peer, scripts_after_write};
 ghost use Rattle.ug_links.specs.Planned.{unopened};
 ghost use Rattle.ug_links.specs.Peers.{other_items, read_after, write_after};
 
@@ -66,7 +66,7 @@ fn next_arrival(arrivals: &mut Vec<Script<Arrival>>, listener: u32) -> Option<Ar
 fn read_peer_of(peers: &mut [Peer], id: LinkId, into: &mut [u8]) -> LinkRead
     requires room { 0 < length into.old }
     ensures size { FitsRead (length into.old) result }
-    ensures answer { reading_given result into.new ≡ read_at (length into.old) id.0 peers.old }
+    ensures answer { reading_given result into.new ≡ read_from_peer (length into.old) id.0 peers.old }
     ensures after { peers.new ≡ changed_at (read_after (length into.old)) id.0 peers.old }
 {
     let i = id.0 as usize;
@@ -80,7 +80,7 @@ fn read_peer_of(peers: &mut [Peer], id: LinkId, into: &mut [u8]) -> LinkRead
 fn read_peer(peers: &mut Vec<Peer>, id: LinkId, into: &mut [u8]) -> LinkRead
     requires room { 0 < length into.old }
     ensures size { FitsRead (length into.old) result }
-    ensures answer { reading_given result into.new ≡ read_at (length into.old) id.0 peers.old.items }
+    ensures answer { reading_given result into.new ≡ read_from_peer (length into.old) id.0 peers.old.items }
     ensures after { peers.new.items ≡ changed_at (read_after (length into.old)) id.0 peers.old.items }
 {
     read_peer_of(peers, id, into)
@@ -89,7 +89,7 @@ fn read_peer(peers: &mut Vec<Peer>, id: LinkId, into: &mut [u8]) -> LinkRead
 fn write_peer_of(peers: &mut [Peer], id: LinkId, bytes: &[u8]) -> LinkWrote
     requires { 0 < length bytes.now }
     ensures size { FitsWrite (length bytes.now) result }
-    ensures answer { result ≡ write_at (length bytes.now) id.0 peers.old }
+    ensures answer { result ≡ written_to_peer (length bytes.now) id.0 peers.old }
     ensures after { peers.new ≡ changed_at write_after id.0 peers.old }
 {
     let i = id.0 as usize;
@@ -103,7 +103,7 @@ fn write_peer_of(peers: &mut [Peer], id: LinkId, bytes: &[u8]) -> LinkWrote
 fn write_peer(peers: &mut Vec<Peer>, id: LinkId, bytes: &[u8]) -> LinkWrote
     requires { 0 < length bytes.now }
     ensures size { FitsWrite (length bytes.now) result }
-    ensures answer { result ≡ write_at (length bytes.now) id.0 peers.old.items }
+    ensures answer { result ≡ written_to_peer (length bytes.now) id.0 peers.old.items }
     ensures after { peers.new.items ≡ changed_at write_after id.0 peers.old.items }
 {
     write_peer_of(peers, id, bytes)
@@ -129,7 +129,7 @@ impl Scripts {
     /// Opens the next listener, or fails where the next item does. There are at most 2^32 - 1 listeners.
     pub fn listen(&mut self) -> Listening
         ensures answer { result ≡ listen_answer self.old }
-        ensures after { self.new ≡ after_listen self.old }
+        ensures after { self.new ≡ scripts_after_listen self.old }
     {
         match self.listens.next() {
             Some(ListenItem::Fails) => return Listening::Failed,
@@ -147,7 +147,7 @@ impl Scripts {
     /// Takes the next arrival. A session's id is the number of sessions that came before it.
     pub fn accept(&mut self, listener: u32) -> Result<Accepted, NoMemory>
         ensures answer { IfOk result (λ answer. answer ≡ accept_answer self.old listener) }
-        ensures after { IfOk result (λ _. self.new ≡ after_accept self.old listener) }
+        ensures after { IfOk result (λ _. self.new ≡ scripts_after_accept self.old listener) }
     {
         match next_arrival(&mut self.arrivals, listener) {
             None => Ok(Accepted::NotYet),
@@ -167,8 +167,8 @@ impl Scripts {
     pub fn read(&mut self, id: LinkId, into: &mut [u8]) -> LinkRead
         requires room { 0 < length into.old }
         ensures size { FitsRead (length into.old) result }
-        ensures answer { reading_given result into.new ≡ read_at (length into.old) id.0 self.old.peers }
-        ensures after { self.new ≡ after_read (length into.old) id.0 self.old }
+        ensures answer { reading_given result into.new ≡ read_from_peer (length into.old) id.0 self.old.peers }
+        ensures after { self.new ≡ scripts_after_read (length into.old) id.0 self.old }
     {
         read_peer(&mut self.peers, id, into)
     }
@@ -177,8 +177,8 @@ impl Scripts {
     pub fn write(&mut self, id: LinkId, bytes: &[u8]) -> LinkWrote
         requires { 0 < length bytes.now }
         ensures size { FitsWrite (length bytes.now) result }
-        ensures answer { result ≡ write_at (length bytes.now) id.0 self.old.peers }
-        ensures after { self.new ≡ after_write id.0 self.old }
+        ensures answer { result ≡ written_to_peer (length bytes.now) id.0 self.old.peers }
+        ensures after { self.new ≡ scripts_after_write id.0 self.old }
     {
         write_peer(&mut self.peers, id, bytes)
     }

@@ -18,8 +18,8 @@ use Rattle.ug_sessions.specs.declared.session.Session.{Session}
 use Rattle.ug_sessions.specs.declared.session.Listener.{Listener}
 use Rattle.ug_sessions.specs.declared.session.Turn.{Turn}
 use Rattle.ug_sessions.specs.Sessions.{new_session, is_open_session}
-use Rattle.ug_sessions.specs.Accepting.{AtListener, after_room, after_count, after_accept, accepting_once, accepting_if, accepting_one}
-use Rattle.ug_sessions.specs.Due.{Dues, Accounts, AllAccounts, IsNoneOf, AreDistinct, Said, Answered, Watched, Noticed, Overlong, said_all, nothing_due, over_due, sent_to}
+use Rattle.ug_sessions.specs.Accepting.{AtListener, after_room, after_count, after_accepting, accepting_once, accepting_if, accepting_one}
+use Rattle.ug_sessions.specs.Due.{Dues, Accounts, AllAccounts, IsNoneOf, HaveOwnIds, Said, Answered, Watched, Noticed, Overlong, said_all, nothing_due, over_due, sent_to}
 use Rattle.ug_sessions.specs.Known.{AreKnown, IsSaidBelow, AreSaidBelow, IsCallBelow, AreCallsBelow, AreSound}
 use Rattle.ug_sessions.specs.Tried.{is_tried}
 use Rattle.ug_sessions.proofs.Sends.{sent-append}
@@ -110,7 +110,7 @@ none_of_more : (id : LinkId) (ss : List Session) (t : Session) → IsNoneOf id s
 none_of_more id [] t n e = (e, tt)
 none_of_more id (s ∷ ss) t n e = (n.0, none_of_more id ss t n.1 e)
 
-distinct_more : (n : ℕ) (ss : List Session) (t : Session) → AreKnown n ss → n ≤ t.id.0 → AreDistinct ss → AreDistinct (ss ++ t ∷ [])
+distinct_more : (n : ℕ) (ss : List Session) (t : Session) → AreKnown n ss → n ≤ t.id.0 → HaveOwnIds ss → HaveOwnIds (ss ++ t ∷ [])
 distinct_more n [] t k le d = (tt, tt)
 distinct_more n (s ∷ ss) t k le d = (none_of_more s.id ss t d.0 (differs_round s.id.0 n t.id.0 k.0 le), distinct_more n ss t k.1 le d.1)
 
@@ -179,7 +179,7 @@ module _ (holds : Section → Named → Bool) (said : List Said) where
   count_sound true before x id rest r le h k = room_sound h.0 before x id rest r le h.1 k
   count_sound false before x id rest r le h k = closing_sound (before ++ AcceptedAt x.0.number (accepted.Session id) ∷ []) id rest h.0 x.1.0 r.1.1.0 h.1 h.2.1 (ap (λ (y : Bool × AtListener). y.1.1.0) h.2.0) (quiet_sound before (AcceptedAt x.0.number (accepted.Session id)) x.1.0 tt k)
 
-  answer_sound : (a : Accepted) (before : List LinkStep) (x : AtListener) (rest : List LinkStep) (r : Bool × AtListener) → IsStep before (AcceptedAt x.0.number a) → Path (after_accept x a) rest r → Sound before x.1.0 → Sound ((before ++ AcceptedAt x.0.number a ∷ []) ++ rest) r.1.1.0
+  answer_sound : (a : Accepted) (before : List LinkStep) (x : AtListener) (rest : List LinkStep) (r : Bool × AtListener) → IsStep before (AcceptedAt x.0.number a) → Path (after_accepting x a) rest r → Sound before x.1.0 → Sound ((before ++ AcceptedAt x.0.number a ∷ []) ++ rest) r.1.1.0
   answer_sound (accepted.Session id) before x rest r le h k = count_sound (nat_lt (count_by is_open_session x.1.0) 64) before x id rest r le h k
   answer_sound accepted.NotYet before x rest r le h k = ended_sound (before ++ AcceptedAt x.0.number accepted.NotYet ∷ []) rest x.1.0 r.1.1.0 h.1 (ap (λ (y : Bool × AtListener). y.1.1.0) h.0) (quiet_sound before (AcceptedAt x.0.number accepted.NotYet) x.1.0 tt k)
   answer_sound accepted.Failed before x rest r le h k = ended_sound (before ++ AcceptedAt x.0.number accepted.Failed ∷ []) rest x.1.0 r.1.1.0 h.1 (ap (λ (y : Bool × AtListener). y.1.1.0) h.0) (quiet_sound before (AcceptedAt x.0.number accepted.Failed) x.1.0 tt k)

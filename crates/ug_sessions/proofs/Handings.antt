@@ -11,7 +11,7 @@ use Rattle.ug_sessions.specs.declared.session.Life.TheVariants as life
 use Rattle.ug_sessions.specs.declared.session.Why.TheVariants as why
 use Rattle.ug_sessions.specs.Sessions.{is_open_session, doomed_for}
 use Rattle.ug_sessions.specs.Answering.{Each, takes_text, refused_text, RefusesIf, is_due, with_none_left, with_lines, Passes, GivesUpOne, HandsFirst}
-use Rattle.ug_sessions.specs.Due.{Dues, Accounts, AccountsBy, AllAccounts, IsNoneOf, AreDistinct, Said, Overlong, said_one, said_all, nothing_due, over_due, overlong_of, overlong_all, sent_to}
+use Rattle.ug_sessions.specs.Due.{Dues, Accounts, AccountsBy, AllAccounts, IsNoneOf, HaveOwnIds, Said, Overlong, said_one, said_all, nothing_due, over_due, overlong_of, overlong_all, sent_to}
 use Rattle.ug_sessions.proofs.Saying.{gives_up_if}
 use Rattle.ug_sessions.proofs.Sends.{own}
 use Rattle.ug_sessions.proofs.Refusing.{refuses}
@@ -64,7 +64,7 @@ module _ (holds : Section → Named → Bool) (steps : List LinkStep) where
       let quiet : Accounts a sent (with_none_left s) = marks_keep s.life a sent s (with_none_left s) refl (refl, refl, refl) h in
       subst (λ (b : Dues). Accounts b sent t) (sym (over_own s s.principal a)) (refuses a sent (with_none_left s) t p.1 quiet)
 
-  pub passes_keep : (said : List Said) (ss ts : List Session) → AreDistinct ss → Each Passes ss ts → AllAccounts holds steps said ss → AllAccounts holds steps (said ++ overlong_all ss) ts
+  pub passes_keep : (said : List Said) (ss ts : List Session) → HaveOwnIds ss → Each Passes ss ts → AllAccounts holds steps said ss → AllAccounts holds steps (said ++ overlong_all ss) ts
   passes_keep said [] [] d e k = tt
   passes_keep said [] (t ∷ ts) d e k = absurd e
   passes_keep said (s ∷ ss) [] d e k = absurd e
@@ -90,7 +90,7 @@ module _ (holds : Section → Named → Bool) (steps : List LinkStep) where
   none_split id [] b n = (tt, n)
   none_split id (x ∷ a) b n = let k = none_split id a b n.1 in ((n.0, k.0), k.1)
 
-  distinct_split : (a b : List Session) → AreDistinct (a ++ b) → AreDistinct a × Apart a b × AreDistinct b
+  distinct_split : (a b : List Session) → HaveOwnIds (a ++ b) → HaveOwnIds a × Apart a b × HaveOwnIds b
   distinct_split [] b d = (tt, tt, d)
   distinct_split (x ∷ a) b d = let k = distinct_split a b d.1 in let n = none_split x.id a b d.0 in ((n.0, k.0), (n.1, k.1), k.2)
 
@@ -111,10 +111,10 @@ module _ (holds : Section → Named → Bool) (steps : List LinkStep) where
       subst (λ (x : Session). Accounts (said_all holds x.id x.principal nothing_due said) (sent_to x.id steps) x) (sym e)
       (marks_keep s.life (said_all holds s.id s.principal nothing_due said) (sent_to s.id steps) s (with_lines lines s) refl (refl, refl, refl) k)
 
-  pub hands_keep : (said : List Said) (ss ts : List Session) (id : LinkId) (principal : Named) (line : List ℕ) → AreDistinct ss → (h : HandsFirst ss id principal line ts) → AllAccounts holds steps said ss → AllAccounts holds steps (said ++ overlong_all h.front) ts
+  pub hands_keep : (said : List Said) (ss ts : List Session) (id : LinkId) (principal : Named) (line : List ℕ) → HaveOwnIds ss → (h : HandsFirst ss id principal line ts) → AllAccounts holds steps said ss → AllAccounts holds steps (said ++ overlong_all h.front) ts
   hands_keep said ss ts id principal line d h k =
       let now = said ++ overlong_all h.front in
-      let apart = distinct_split h.front (h.session ∷ h.behind) (subst AreDistinct h.was d) in
+      let apart = distinct_split h.front (h.session ∷ h.behind) (subst HaveOwnIds h.was d) in
       let each = accounts_split said h.front (h.session ∷ h.behind) (subst (λ (l : List Session). AllAccounts holds steps said l) h.was k) in
       let front : AllAccounts holds steps now h.passed = passes_keep said h.front h.passed apart.0 h.none each.0 in
       let rest : AllAccounts holds steps now (h.session ∷ h.behind) = apart_said said h.front (h.session ∷ h.behind) apart.1 each.1 in

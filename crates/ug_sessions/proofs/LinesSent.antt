@@ -12,8 +12,8 @@ use Rattle.ug_sessions.specs.declared.session.Life.{Life}
 use Rattle.ug_sessions.specs.declared.session.Life.TheVariants as life
 use Rattle.ug_sessions.specs.Sessions.{is_open_life, is_open_session}
 use Rattle.ug_sessions.specs.Reading.{closing_doomed}
-use Rattle.ug_sessions.specs.Sending.{writing_some, writing_if, after_write, is_served, finishing, finish_sent, finish_open, finish_refused, finish_ended, sending_if, flushing_one}
-use Rattle.ug_sessions.specs.Handed.{bytes_read, AreAllLines, AreLinesBy, AreLinesOf}
+use Rattle.ug_sessions.specs.Sending.{writing_some, writing_if, after_writing, is_served, finishing, finish_sent, finish_open, finish_refused, finish_ended, sending_if, flushing_one}
+use Rattle.ug_sessions.specs.Handed.{bytes_read, AreAllLines, AreLinesBy, HoldsLines}
 use Rattle.ug_sessions.proofs.Sends.{Sends, left, cut, sends_upto}
 use Rattle.ug_sessions.proofs.LinesKept.{of_same}
 use Rattle.ug_sessions.proofs.LinesRead.{read-append, closed_reads, closing_lines, doomed_reads}
@@ -28,7 +28,7 @@ none_more a b steps e h k id = ap (λ (l : List LinkStep). bytes_read id l) e �
 none_at : (steps : List LinkStep) → steps ≡ [] → ReadsNone steps
 none_at steps e id = ap (λ (l : List LinkStep). bytes_read id l) e
 
-written_reads : (s : Session) (t : Turn) (a : LinkWrote) (rest : List LinkStep) (r : Bool × (Session × Turn)) → Path (after_write s t a) rest r → ReadsNone rest
+written_reads : (s : Session) (t : Turn) (a : LinkWrote) (rest : List LinkStep) (r : Bool × (Session × Turn)) → Path (after_writing s t a) rest r → ReadsNone rest
 written_reads s t (wrote.Sent n) rest r h id = none_at rest h.1 id
 written_reads s t wrote.NotYet rest r h id = none_at rest h.1 id
 written_reads s t wrote.Failed rest r h id = closed_reads id s.id rest h.0 h.1 h.2.1
@@ -53,25 +53,25 @@ upto_reads (suc n) s t steps r h =
 -- a session whose end comes: nothing is read, and its lines stay
 record Ends (s : Session) (steps : List LinkStep) (r : Session) : Type 0 where
   none : ReadsNone steps
-  holds : (handed : List (List ℕ)) (bytes : List ℕ) → AreLinesOf handed bytes s → AreLinesOf handed bytes r
+  holds : (handed : List (List ℕ)) (bytes : List ℕ) → HoldsLines handed bytes s → HoldsLines handed bytes r
 
 ends_as_it_was : (s : Session) (t : Turn) (steps : List LinkStep) (r : Session × Turn) → Path (Return (s, t)) steps r → Ends s steps r.0
-ends_as_it_was s t steps r h = record { none = none_at steps h.1; holds = λ handed bytes k. subst (λ (y : Session). AreLinesOf handed bytes y) (sym (ap (λ (x : Session × Turn). x.0) h.0)) k }
+ends_as_it_was s t steps r h = record { none = none_at steps h.1; holds = λ handed bytes k. subst (λ (y : Session). HoldsLines handed bytes y) (sym (ap (λ (x : Session × Turn). x.0) h.0)) k }
 
-all_of : (handed : List (List ℕ)) (bytes : List ℕ) (s : Session) → s.life ≡ life.Open → AreLinesOf handed bytes s → AreAllLines handed bytes s
+all_of : (handed : List (List ℕ)) (bytes : List ℕ) (s : Session) → s.life ≡ life.Open → HoldsLines handed bytes s → AreAllLines handed bytes s
 all_of handed bytes s o k = subst (λ (l : Life). AreLinesBy l handed bytes s) o k
 
 ended_ends : (b : Bool) (s : Session) (t : Turn) (steps : List LinkStep) (r : Session × Turn) → s.life ≡ life.Open → Path (finish_ended b s t) steps r → Ends s steps r.0
 ended_ends true s t steps r o h = record {
   none = λ id. closed_reads id s.id steps h.0 h.1 h.2.1;
-  holds = λ handed bytes k. let a : AreAllLines handed bytes s = all_of handed bytes s o k in subst (λ (y : Session). AreLinesOf handed bytes y) (sym (ap (λ (x : Session × Turn). x.0) h.2.0)) (record { lines = a.lines; begun = a.begun; limit = a.limit });
+  holds = λ handed bytes k. let a : AreAllLines handed bytes s = all_of handed bytes s o k in subst (λ (y : Session). HoldsLines handed bytes y) (sym (ap (λ (x : Session × Turn). x.0) h.2.0)) (record { lines = a.lines; begun = a.begun; limit = a.limit });
 }
 ended_ends false s t steps r o h = ends_as_it_was s t steps r h
 
 refused_ends : (b : Bool) (s : Session) (t : Turn) (steps : List LinkStep) (r : Session × Turn) → s.life ≡ life.Open → Path (finish_refused b s t) steps r → Ends s steps r.0
 refused_ends true s t steps r o h = record {
   none = λ id. closed_reads id s.id steps h.0 h.1 h.2.1;
-  holds = λ handed bytes k. let a : AreAllLines handed bytes s = all_of handed bytes s o k in subst (λ (y : Session). AreLinesOf handed bytes y) (sym (ap (λ (x : Session × Turn). x.0) h.2.0)) (record { lines = a.lines; begun = a.begun; limit = a.limit });
+  holds = λ handed bytes k. let a : AreAllLines handed bytes s = all_of handed bytes s o k in subst (λ (y : Session). HoldsLines handed bytes y) (sym (ap (λ (x : Session × Turn). x.0) h.2.0)) (record { lines = a.lines; begun = a.begun; limit = a.limit });
 }
 refused_ends false s t steps r o h = ended_ends (is_served s) s t steps r o h
 
@@ -88,9 +88,9 @@ finish_ends : (s : Session) (t : Turn) (steps : List LinkStep) (r : Session × T
 unfolding finishing
 finish_ends s t steps r h = sent_ends (nat_eq (length s.unsent) 0) s t steps r h
 
-sent_lines : (handed : List (List ℕ)) (bytes : List ℕ) (s r : Session) (rest : List ℕ) → s.life ≡ life.Open → (r ≡ left s rest) ⊎ (r ≡ cut s) → AreLinesOf handed bytes s → AreLinesOf handed bytes r
-sent_lines handed bytes s r rest o (inl p) k = subst (λ (y : Session). AreLinesOf handed bytes y) (sym p) (of_same handed bytes s (left s rest) refl (refl, refl) k)
-sent_lines handed bytes s r rest o (inr p) k = let a : AreAllLines handed bytes s = all_of handed bytes s o k in subst (λ (y : Session). AreLinesOf handed bytes y) (sym p) (record { lines = a.lines; begun = a.begun; limit = a.limit })
+sent_lines : (handed : List (List ℕ)) (bytes : List ℕ) (s r : Session) (rest : List ℕ) → s.life ≡ life.Open → (r ≡ left s rest) ⊎ (r ≡ cut s) → HoldsLines handed bytes s → HoldsLines handed bytes r
+sent_lines handed bytes s r rest o (inl p) k = subst (λ (y : Session). HoldsLines handed bytes y) (sym p) (of_same handed bytes s (left s rest) refl (refl, refl) k)
+sent_lines handed bytes s r rest o (inr p) k = let a : AreAllLines handed bytes s = all_of handed bytes s o k in subst (λ (y : Session). HoldsLines handed bytes y) (sym p) (record { lines = a.lines; begun = a.begun; limit = a.limit })
 
 sending_ends : (l : Life) (s : Session) (t : Turn) (steps : List LinkStep) (r : Session × Turn) → s.life ≡ l → Path (sending_if (is_open_life l) s t) steps r → Ends s steps r.0
 sending_ends life.Open s t steps r o h =
@@ -114,7 +114,7 @@ flush_ends s t steps r h =
       holds = λ handed bytes k. e.holds handed bytes (closing_lines s.life handed bytes s t p.front p.value refl p.first k);
     }
 
-pub flush_lines : (s : Session) (t : Turn) (steps : List LinkStep) (r : Session × Turn) → Path (flushing_one s t) steps r → (handed : List (List ℕ)) (bytes : List ℕ) → AreLinesOf handed bytes s → AreLinesOf handed bytes r.0
+pub flush_lines : (s : Session) (t : Turn) (steps : List LinkStep) (r : Session × Turn) → Path (flushing_one s t) steps r → (handed : List (List ℕ)) (bytes : List ℕ) → HoldsLines handed bytes s → HoldsLines handed bytes r.0
 flush_lines s t steps r h = (flush_ends s t steps r h).holds
 
 pub flush_reads : (s : Session) (t : Turn) (steps : List LinkStep) (r : Session × Turn) → Path (flushing_one s t) steps r → ReadsNone steps

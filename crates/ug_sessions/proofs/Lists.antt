@@ -11,7 +11,7 @@ use Rattle.ug_links.proofs.Paths.{path_split}
 use Rattle.ug_sessions.specs.declared.session.Session.{Session}
 use Rattle.ug_sessions.specs.declared.session.Turn.{Turn}
 use Rattle.ug_sessions.specs.Sending.{flushing_one}
-use Rattle.ug_sessions.specs.Due.{Accounts, AllAccounts, IsNoneOf, AreDistinct, Said, said_all, nothing_due, sent_to}
+use Rattle.ug_sessions.specs.Due.{Accounts, AllAccounts, IsNoneOf, HaveOwnIds, Said, said_all, nothing_due, sent_to}
 use Rattle.ug_sessions.proofs.Sends.{sent-append, flush_keeps}
 use Rattle.ug_sessions.proofs.Owning.{Who, who, OnlyTo, Owns, flush_owns}
 
@@ -39,7 +39,7 @@ pub record Flushed (holds : Section → Named → Bool) (before steps : List Lin
   pub whole : r ≡ done ++ sessions
   pub each : AllAccounts holds (before ++ steps) said sessions
 
-pub flush_all_keeps : (holds : Section → Named → Bool) (before : List LinkStep) (said : List Said) (done ss : List Session) (t : Turn) (steps : List LinkStep) (r : List Session × Turn) → AreDistinct ss → AllAccounts holds before said ss → Path (walk flushing_one done ss t) steps r → Flushed holds before steps said done r.0
+pub flush_all_keeps : (holds : Section → Named → Bool) (before : List LinkStep) (said : List Said) (done ss : List Session) (t : Turn) (steps : List LinkStep) (r : List Session × Turn) → HaveOwnIds ss → AllAccounts holds before said ss → Path (walk flushing_one done ss t) steps r → Flushed holds before steps said done r.0
 flush_all_keeps holds before said done [] t steps r d a h = record { sessions = []; whole = ap (λ (x : List Session × Turn). x.0) h.0 ∙ sym (append-nil done); each = tt }
 flush_all_keeps holds before said done (s ∷ ss) t steps r d a h =
     let p = path_split (flushing_one s t) (λ (q : Session × Turn). walk flushing_one (done ++ q.0 ∷ []) ss q.1) steps r h in
@@ -59,7 +59,7 @@ flush_all_keeps holds before said done (s ∷ ss) t steps r d a h =
       each = (here, subst (λ (l : List LinkStep). AllAccounts holds l said rest.sessions) calls rest.each);
     }
 
-pub flushing_keeps : (holds : Section → Named → Bool) (before : List LinkStep) (said : List Said) (ss : List Session) (t : Turn) (steps : List LinkStep) (r : List Session × Turn) → AreDistinct ss → AllAccounts holds before said ss → Path (walk flushing_one [] ss t) steps r → AllAccounts holds (before ++ steps) said r.0
+pub flushing_keeps : (holds : Section → Named → Bool) (before : List LinkStep) (said : List Said) (ss : List Session) (t : Turn) (steps : List LinkStep) (r : List Session × Turn) → HaveOwnIds ss → AllAccounts holds before said ss → Path (walk flushing_one [] ss t) steps r → AllAccounts holds (before ++ steps) said r.0
 flushing_keeps holds before said ss t steps r d a h =
     let k = flush_all_keeps holds before said [] ss t steps r d a h in
     subst (λ (l : List Session). AllAccounts holds (before ++ steps) said l) (sym k.whole) k.each

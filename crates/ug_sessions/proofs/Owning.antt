@@ -13,7 +13,7 @@ use Rattle.ug_sessions.specs.declared.session.Turn.{Turn}
 use Rattle.ug_sessions.specs.declared.session.Why.{Why}
 use Rattle.ug_sessions.specs.Sessions.{is_open_session, closed_for}
 use Rattle.ug_sessions.specs.Reading.{closing_doomed}
-use Rattle.ug_sessions.specs.Sending.{writing_some, writing_if, after_write, finishing, sending_if, flushing_one}
+use Rattle.ug_sessions.specs.Sending.{writing_some, writing_if, after_writing, finishing, sending_if, flushing_one}
 use Rattle.ug_sessions.specs.Due.{sent_to}
 use Rattle.ug_sessions.proofs.Sends.{sent-append, left, cut, Sends, Rests, sends_upto, one_write, doomed_rests, finish_rests, rests}
 
@@ -43,7 +43,7 @@ only_more id a b h k other e = sent-append other a b ∙ ap (λ (l : List ℕ). 
 only_none : (id : LinkId) (steps : List LinkStep) → steps ≡ [] → OnlyTo id steps
 only_none id steps e other k = ap (λ (l : List LinkStep). sent_to other l) e
 
-only_answer : (s : Session) (t : Turn) (a : LinkWrote) (rest : List LinkStep) (r : Bool × (Session × Turn)) → Path (after_write s t a) rest r → OnlyTo s.id (WroteTo s.id s.unsent a ∷ rest)
+only_answer : (s : Session) (t : Turn) (a : LinkWrote) (rest : List LinkStep) (r : Bool × (Session × Turn)) → Path (after_writing s t a) rest r → OnlyTo s.id (WroteTo s.id s.unsent a ∷ rest)
 only_answer s t (wrote.Sent n) rest r h other e = ap (λ (v : Bool). cond v (take n s.unsent ++ sent_to other rest) (sent_to other rest)) e ∙ ap (λ (l : List LinkStep). sent_to other l) h.1
 only_answer s t wrote.NotYet rest r h other e = ap (λ (l : List LinkStep). sent_to other l) h.1
 only_answer s t wrote.Failed rest r h other e = ap (λ (l : List LinkStep). sent_to other l) h.1 ∙ ap (λ (l : List LinkStep). sent_to other l) h.2.1

@@ -18,7 +18,7 @@ use Rattle.ug_sessions.specs.declared.session.Life.TheVariants as life
 use Rattle.ug_sessions.specs.Sessions.{is_open_life, is_open_session}
 use Rattle.ug_sessions.specs.Sessions.{closed_for, unsending}
 use Rattle.ug_sessions.specs.Reading.{closing_doomed, closing_by}
-use Rattle.ug_sessions.specs.Sending.{writing_some, writing_if, after_write, finishing, finish_sent, finish_open, finish_refused, finish_ended, sending_if, flushing_one}
+use Rattle.ug_sessions.specs.Sending.{writing_some, writing_if, after_writing, finishing, finish_sent, finish_open, finish_refused, finish_ended, sending_if, flushing_one}
 use Rattle.ug_sessions.specs.Due.{Dues, Accounts, AccountsBy, IsOpenAccount, IsFront, sent_to}
 
 pub own : (id : LinkId) → nat_eq id.0 id.0 ≡ true
@@ -57,7 +57,7 @@ nothing_sent : (s : Session) (steps : List LinkStep) (r : Session) → sent_to s
 nothing_sent s steps r e f = record { rest = s.unsent; whole = ap (λ (l : List ℕ). l ++ s.unsent) e; is = inl f }
 
 abbrev answered : Session → Turn → LinkWrote → List LinkStep → Bool × (Session × Turn) → Type 0
-answered s t a rest r = Path (after_write s t a) rest r → Sends s (WroteTo s.id s.unsent a ∷ rest) r.1.0
+answered s t a rest r = Path (after_writing s t a) rest r → Sends s (WroteTo s.id s.unsent a ∷ rest) r.1.0
 
 one_answer : (s : Session) (t : Turn) (a : LinkWrote) (rest : List LinkStep) (r : Bool × (Session × Turn)) → answered s t a rest r
 one_answer s t (wrote.Sent n) rest r h =

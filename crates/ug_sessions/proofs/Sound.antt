@@ -18,9 +18,9 @@ use Rattle.ug_sessions.specs.declared.session.Life.{Life}
 use Rattle.ug_sessions.specs.declared.session.Life.TheVariants as life
 use Rattle.ug_sessions.specs.Answering.{Each}
 use Rattle.ug_sessions.specs.Reading.{reading_one, closing_by, closing_doomed}
-use Rattle.ug_sessions.specs.Sending.{writing_some, writing_if, after_write, is_served, finishing, finish_sent, finish_open, finish_refused, finish_ended, sending_if, flushing_one}
+use Rattle.ug_sessions.specs.Sending.{writing_some, writing_if, after_writing, is_served, finishing, finish_sent, finish_open, finish_refused, finish_ended, sending_if, flushing_one}
 use Rattle.ug_sessions.specs.Sessions.{is_open_session}
-use Rattle.ug_sessions.specs.Due.{AllAccounts, IsNoneOf, AreDistinct, Said}
+use Rattle.ug_sessions.specs.Due.{AllAccounts, IsNoneOf, HaveOwnIds, Said}
 use Rattle.ug_sessions.specs.Known.{AreKnown, AreCallsBelow, AreSound}
 use Rattle.ug_sessions.specs.Tried.{AllRead}
 use Rattle.ug_sessions.proofs.Owning.{Who, flush_owns}
@@ -40,7 +40,7 @@ none_same id [] (t ∷ ts) e n = absurd e
 none_same id (s ∷ ss) [] e n = absurd e
 none_same id (s ∷ ss) (t ∷ ts) e n = (ap (λ (i : LinkId). nat_eq i.0 id.0) e.0 ∙ n.0, none_same id ss ts e.1 n.1)
 
-distinct_same : (ss ts : List Session) → SameIds ss ts → AreDistinct ss → AreDistinct ts
+distinct_same : (ss ts : List Session) → SameIds ss ts → HaveOwnIds ss → HaveOwnIds ts
 distinct_same [] [] e d = tt
 distinct_same [] (t ∷ ts) e d = absurd e
 distinct_same (s ∷ ss) [] e d = absurd e
@@ -111,12 +111,12 @@ reading_sound holds before said ready ss t steps r h k =
     walk_sound (reading_one ready) (λ s t steps r h. ap (λ (w : Who). w.id) (one_stays ready s t steps r h).same) (reading_calls ready) holds before said ss t steps r h (reading_keeps holds before said ready ss t steps r k.accounts h) k
 
 -- the calls of a flush of one session are its own
-write_calls : (n : ℕ) (s : Session) (t : Turn) (a : LinkWrote) (rest : List LinkStep) (r : Bool × (Session × Turn)) → Path (after_write s t a) rest r → AreCallsBelow n rest
+write_calls : (n : ℕ) (s : Session) (t : Turn) (a : LinkWrote) (rest : List LinkStep) (r : Bool × (Session × Turn)) → Path (after_writing s t a) rest r → AreCallsBelow n rest
 write_calls n s t (wrote.Sent k) rest r h = calls_none n rest h.1
 write_calls n s t wrote.NotYet rest r h = calls_none n rest h.1
 write_calls n s t wrote.Failed rest r h = calls_closed n s.id rest h.0 h.1 h.2.1
 
-write_id : (s : Session) (t : Turn) (a : LinkWrote) (rest : List LinkStep) (r : Bool × (Session × Turn)) → Path (after_write s t a) rest r → r.1.0.id ≡ s.id
+write_id : (s : Session) (t : Turn) (a : LinkWrote) (rest : List LinkStep) (r : Bool × (Session × Turn)) → Path (after_writing s t a) rest r → r.1.0.id ≡ s.id
 write_id s t (wrote.Sent k) rest r h = ap (λ (x : Bool × (Session × Turn)). x.1.0.id) h.0
 write_id s t wrote.NotYet rest r h = ap (λ (x : Bool × (Session × Turn)). x.1.0.id) h.0
 write_id s t wrote.Failed rest r h = ap (λ (x : Bool × (Session × Turn)). x.1.0.id) h.2.0
@@ -202,10 +202,10 @@ module _ (keep : Session → Bool) where
       let f : (v : Bool) → T v = λ v. elim v as T [ true ↦ (n.0, some_none id ss n.1) | false ↦ some_none id ss n.1 ] in
       f (keep s)
 
-  some_distinct : (ss : List Session) → AreDistinct ss → AreDistinct (filter keep ss)
+  some_distinct : (ss : List Session) → HaveOwnIds ss → HaveOwnIds (filter keep ss)
   some_distinct [] d = tt
   some_distinct (s ∷ ss) d =
-      let T : Bool → Type 0 = λ v. AreDistinct (cond v (s ∷ filter keep ss) (filter keep ss)) in
+      let T : Bool → Type 0 = λ v. HaveOwnIds (cond v (s ∷ filter keep ss) (filter keep ss)) in
       let f : (v : Bool) → T v = λ v. elim v as T [ true ↦ (some_none s.id ss d.0, some_distinct ss d.1) | false ↦ some_distinct ss d.1 ] in
       f (keep s)
 

@@ -12,7 +12,7 @@ use Rattle.ug_sessions.specs.declared.session.Session.{Session}
 use Rattle.ug_sessions.specs.declared.session.Listener.{Listener}
 use Rattle.ug_sessions.specs.declared.session.Turn.{Turn}
 use Rattle.ug_sessions.specs.Sessions.{is_open_session}
-use Rattle.ug_sessions.specs.Accepting.{AtListener, after_room, after_count, after_accept, accepting_once, accepting_if, accepting_one}
+use Rattle.ug_sessions.specs.Accepting.{AtListener, after_room, after_count, after_accepting, accepting_once, accepting_if, accepting_one}
 use Rattle.ug_sessions.specs.Tried.{is_tried, IsOneTried, AllAccepted}
 
 all_append : (P : ℕ → Type 0) (a b : List LinkStep) → AllAccepted P a → AllAccepted P b → AllAccepted P (a ++ b)
@@ -46,7 +46,7 @@ count_steps : (b : Bool) (x : AtListener) (id : LinkId) (steps : List LinkStep) 
 count_steps true x id steps r h = room_steps h.0 x id steps r h.1
 count_steps false x id steps r h = record { all = closing _ id steps h.0 h.1 h.2.1; same = ap (λ (y : Bool × AtListener). y.1.0.number) h.2.0 }
 
-accept_steps : (a : Accepted) (x : AtListener) (steps : List LinkStep) (r : Bool × AtListener) → Path (after_accept x a) steps r → Accepts x.0.number steps r.1
+accept_steps : (a : Accepted) (x : AtListener) (steps : List LinkStep) (r : Bool × AtListener) → Path (after_accepting x a) steps r → Accepts x.0.number steps r.1
 accept_steps (accepted.Session id) x steps r h = count_steps (nat_lt (count_by is_open_session x.1.0) 64) x id steps r h
 accept_steps accepted.NotYet x steps r h = record { all = all_none _ steps h.1; same = ap (λ (y : Bool × AtListener). y.1.0.number) h.0 }
 accept_steps accepted.Failed x steps r h = record { all = all_none _ steps h.1; same = ap (λ (y : Bool × AtListener). y.1.0.number) h.0 }

@@ -89,6 +89,6 @@ IsNoneOf id [] = Unit {0}
 IsNoneOf id (s ∷ ss) = (nat_eq s.id.0 id.0 ≡ false) × IsNoneOf id ss
 
 -- no two sessions have one id
-abbrev pub AreDistinct : List Session → Type 0
-AreDistinct [] = Unit {0}
-AreDistinct (s ∷ ss) = IsNoneOf s.id ss × AreDistinct ss
+abbrev pub HaveOwnIds : List Session → Type 0
+HaveOwnIds [] = Unit {0}
+HaveOwnIds (s ∷ ss) = IsNoneOf s.id ss × HaveOwnIds ss

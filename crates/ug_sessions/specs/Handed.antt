@@ -44,5 +44,5 @@ AreLinesBy (life.Doomed w) handed bytes s = AreLinesFor w handed bytes s
 AreLinesBy (life.Closed w) handed bytes s = AreLinesFor w handed bytes s
 
 -- of a session these lines were handed out, and these bytes were read
-abbrev pub AreLinesOf : List (List ℕ) → List ℕ → Session → Type 0
-AreLinesOf handed bytes s = AreLinesBy s.life handed bytes s
+abbrev pub HoldsLines : List (List ℕ) → List ℕ → Session → Type 0
+HoldsLines handed bytes s = AreLinesBy s.life handed bytes s

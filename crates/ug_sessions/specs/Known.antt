@@ -6,7 +6,7 @@ use Rattle.ug_links.specs.declared.step.LinkStep.{LinkStep}
 use Rattle.ug_links.specs.declared.step.LinkStep.TheVariants.{ReadFrom, WroteTo}
 use Rattle.ug_links.specs.Steps.{ids_end}
 use Rattle.ug_sessions.specs.declared.session.Session.{Session}
-use Rattle.ug_sessions.specs.Due.{Said, Answered, Watched, Noticed, Overlong, AllAccounts, AreDistinct}
+use Rattle.ug_sessions.specs.Due.{Said, Answered, Watched, Noticed, Overlong, AllAccounts, HaveOwnIds}
 
 -- each session has an id below this number
 abbrev pub AreKnown : ℕ → List Session → Type 0
@@ -37,7 +37,7 @@ AreCallsBelow n (step ∷ steps) = IsCallBelow n step × AreCallsBelow n steps
 -- each session has its account, no two have one id, and all that was said and called is of sessions that were accepted
 pub record AreSound (holds : Section → Named → Bool) (steps : List LinkStep) (said : List Said) (sessions : List Session) : Type 0 where
   pub accounts : AllAccounts holds steps said sessions
-  pub distinct : AreDistinct sessions
+  pub distinct : HaveOwnIds sessions
   pub known : AreKnown (ids_end steps) sessions
   pub said_known : AreSaidBelow (ids_end steps) said
   pub calls_known : AreCallsBelow (ids_end steps) steps

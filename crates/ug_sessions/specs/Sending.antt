@@ -11,14 +11,14 @@ use Rattle.ug_sessions.specs.declared.session.Why.TheVariants as why
 use Rattle.ug_sessions.specs.Sessions.{counted_as, closed_for, unsending, is_open_session}
 use Rattle.ug_sessions.specs.Reading.{closing_doomed}
 
-abbrev pub after_write : Session → Turn → LinkWrote → Talk (Bool × (Session × Turn))
-after_write s t (wrote.Sent n) = Return (true, (record s { unsent = drop n s.unsent }, t))
-after_write s t wrote.NotYet = Return (false, (s, t))
-after_write s t wrote.Failed = Close s.id (Return (false, (closed_for why.Failed (unsending s), counted_as why.Failed t)))
+abbrev pub after_writing : Session → Turn → LinkWrote → Talk (Bool × (Session × Turn))
+after_writing s t (wrote.Sent n) = Return (true, (record s { unsent = drop n s.unsent }, t))
+after_writing s t wrote.NotYet = Return (false, (s, t))
+after_writing s t wrote.Failed = Close s.id (Return (false, (closed_for why.Failed (unsending s), counted_as why.Failed t)))
 
 abbrev pub writing_if : Bool → Session → Turn → Talk (Bool × (Session × Turn))
 writing_if true s t = Return (false, (s, t))
-writing_if false s t = Write s.id s.unsent (after_write s t)
+writing_if false s t = Write s.id s.unsent (after_writing s t)
 
 -- one write of all that is unsent, and whether there may be more
 unfoldable pub writing_some : Session × Turn → Talk (Bool × (Session × Turn))

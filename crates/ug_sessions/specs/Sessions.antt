@@ -12,19 +12,19 @@ use Rattle.ug_sessions.specs.declared.session.Why.{Why}
 use Rattle.ug_sessions.specs.declared.session.Why.TheVariants as why
 
 -- one more, up to the greatest number of 32 bits
-abbrev pub raised : ℕ → ℕ
-raised n = min (n + 1) (2 ^ 32 - 1)
+abbrev pub counted_up : ℕ → ℕ
+counted_up n = min (n + 1) (2 ^ 32 - 1)
 
 abbrev pub none_counted : Turn
 none_counted = record { accepted = 0; busy = 0; ended = 0; failed = 0; backlog = 0; too_long = 0; memory = 0 }
 
 -- a session was closed for this
 abbrev pub counted_as : Why → Turn → Turn
-counted_as why.Ended t = record t { ended = raised t.ended }
-counted_as why.Failed t = record t { failed = raised t.failed }
-counted_as why.Backlog t = record t { backlog = raised t.backlog }
-counted_as why.TooLong t = record t { too_long = raised t.too_long }
-counted_as why.Memory t = record t { memory = raised t.memory }
+counted_as why.Ended t = record t { ended = counted_up t.ended }
+counted_as why.Failed t = record t { failed = counted_up t.failed }
+counted_as why.Backlog t = record t { backlog = counted_up t.backlog }
+counted_as why.TooLong t = record t { too_long = counted_up t.too_long }
+counted_as why.Memory t = record t { memory = counted_up t.memory }
 
 abbrev pub is_open_life : Life → Bool
 is_open_life life.Open = true

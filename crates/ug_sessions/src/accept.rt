@@ -6,7 +6,7 @@ ghost use Rattle.ug_sessions.specs.Sessions.{is_open_session};
 ghost use Rattle.ug_sessions.specs.States.{listeners_from};
 ghost use Rattle.ug_sessions.specs.Tokens.{names_listener};
 
-use crate::session::{Listener, Session, Turn, Why, raised};
+use crate::session::{Listener, Session, Turn, Why, counted_up};
 use std::alloc::Global;
 use ug_links::{Accepted, Links};
 use ug_types::{NoMemory, Principal, Ready};
@@ -77,7 +77,7 @@ pub fn accept_once<N: Links>(
                 let session = Session::new(alloc, id, listener.principal);
                 match sessions.push(session) {
                     Ok(()) => {
-                        turn.accepted = raised(turn.accepted);
+                        turn.accepted = counted_up(turn.accepted);
                         true
                     }
                     Err(_) => {
@@ -88,7 +88,7 @@ pub fn accept_once<N: Links>(
                 }
             } else {
                 links.close(id);
-                turn.busy = raised(turn.busy);
+                turn.busy = counted_up(turn.busy);
                 true
             }
         }

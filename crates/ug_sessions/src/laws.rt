@@ -13,12 +13,12 @@ ghost use Rattle.ug_sessions.specs.Reading.{reading_all, reading_one};
 ghost use Rattle.ug_sessions.specs.Tried.{AllAccepted, AllRead, IsOneRead, IsOneTried};
 ghost use Rattle.ug_sessions.specs.declared.session.Session.{Session};
 ghost use Rattle.ug_sessions.specs.declared.session.Turn.{Turn};
-ghost use Rattle.ug_sessions.specs.Due.{Dues, over_due, Accounts, Answered, Watched, Noticed, Said, said_one, sent_to, overlong_all, AllAccounts, AreDistinct};
+ghost use Rattle.ug_sessions.specs.Due.{Dues, over_due, Accounts, Answered, Watched, Noticed, Said, said_one, sent_to, overlong_all, AllAccounts, HaveOwnIds};
 ghost use Rattle.ug_sessions.specs.Answering.{Each, RefusesIf, is_due, AnswersOne, WatchesOne, NoticesOne, GivesUpOne, HandsOne, HandsFirst, Passes};
 ghost use Rattle.ug_sessions.specs.Waiting.{lines_waiting};
 ghost use Rattle.ug_sessions.specs.Accepting.{accepting_all};
 ghost use Rattle.ug_sessions.specs.declared.session.Listener.{Listener};
-ghost use Rattle.ug_sessions.specs.Handed.{AreLinesOf, bytes_read};
+ghost use Rattle.ug_sessions.specs.Handed.{HoldsLines, bytes_read};
 ghost use Rattle.ug_sessions.specs.Sessions.{new_session};
 ghost use Rattle.ug_sessions.specs.Sending.{flushing_one, flushing_all};
 
@@ -60,7 +60,7 @@ pub fn sending_keeps_account()
 /// The same over all sessions, where no two have one id: the calls of one session send nothing to another.
 pub fn flushing_keeps_accounts()
     ensures { (holds : Section → Named → Bool) (before : List LinkStep) (said : List Said) (sessions : List Session) (turn : Turn) (steps : List LinkStep) (r : List Session × Turn)
-        → AreDistinct sessions → AllAccounts holds before said sessions → Path (flushing_all sessions turn) steps r → AllAccounts holds (before ++ steps) said r.0 }
+        → HaveOwnIds sessions → AllAccounts holds before said sessions → Path (flushing_all sessions turn) steps r → AllAccounts holds (before ++ steps) said r.0 }
 {}
 
 /// No session is read but those that are open, whose link hasn't said End, and that are named or owed a try.
@@ -78,26 +78,26 @@ pub fn reading_keeps_accounts()
 /// A session's lines are handed out in order, each once, and none is made up; nothing that is said to it changes that. Lines are
 /// lost only where it is closed for backlog or for want of memory.
 pub fn handing_keeps_lines()
-    ensures begins { (id : LinkId) (principal : Named) → AreLinesOf [] [] (new_session id principal) }
+    ensures begins { (id : LinkId) (principal : Named) → HoldsLines [] [] (new_session id principal) }
     ensures hands { (handed : List (List ℕ)) (bytes line : List ℕ) (s t : Session)
-        → HandsOne s (Some line) t → AreLinesOf handed bytes s → AreLinesOf (handed ++ line ∷ []) bytes t }
+        → HandsOne s (Some line) t → HoldsLines handed bytes s → HoldsLines (handed ++ line ∷ []) bytes t }
     ensures passes { (handed : List (List ℕ)) (bytes : List ℕ) (s t : Session)
-        → HandsOne s None t → AreLinesOf handed bytes s → AreLinesOf handed bytes t }
+        → HandsOne s None t → HoldsLines handed bytes s → HoldsLines handed bytes t }
     ensures answers { (handed : List (List ℕ)) (bytes : List ℕ) (id : LinkId) (text : List ℕ) (s t : Session)
-        → AnswersOne id text s t → AreLinesOf handed bytes s → AreLinesOf handed bytes t }
+        → AnswersOne id text s t → HoldsLines handed bytes s → HoldsLines handed bytes t }
     ensures watches { (handed : List (List ℕ)) (bytes : List ℕ) (id : LinkId) (s t : Session)
-        → WatchesOne id s t → AreLinesOf handed bytes s → AreLinesOf handed bytes t }
+        → WatchesOne id s t → HoldsLines handed bytes s → HoldsLines handed bytes t }
     ensures notices { (handed : List (List ℕ)) (bytes : List ℕ) (holds : Named → Bool) (text : List ℕ) (s t : Session)
-        → NoticesOne holds text s t → AreLinesOf handed bytes s → AreLinesOf handed bytes t }
+        → NoticesOne holds text s t → HoldsLines handed bytes s → HoldsLines handed bytes t }
     ensures gives_up { (handed : List (List ℕ)) (bytes : List ℕ) (id : LinkId) (s t : Session)
-        → GivesUpOne id s t → AreLinesOf handed bytes s → AreLinesOf handed bytes t }
+        → GivesUpOne id s t → HoldsLines handed bytes s → HoldsLines handed bytes t }
 {}
 
 /// What is read of a session goes on with its lines, however the bytes are cut.
 pub fn reading_keeps_lines()
     ensures { (ready : List Ready) (s : Session) (turn : Turn) (steps : List LinkStep) (r : Session × Turn)
         → Path (reading_one ready s turn) steps r → (handed : List (List ℕ)) (bytes : List ℕ)
-        → AreLinesOf handed bytes s → AreLinesOf handed (bytes ++ bytes_read s.id steps) r.0 }
+        → HoldsLines handed bytes s → HoldsLines handed (bytes ++ bytes_read s.id steps) r.0 }
 {}
 
 /// A flush reads nothing, and leaves the lines.
@@ -106,7 +106,7 @@ pub fn flushing_keeps_lines()
         → Path (flushing_one s turn) steps r → (id : LinkId) → bytes_read id steps ≡ [] }
     ensures keeps { (s : Session) (turn : Turn) (steps : List LinkStep) (r : Session × Turn)
         → Path (flushing_one s turn) steps r → (handed : List (List ℕ)) (bytes : List ℕ)
-        → AreLinesOf handed bytes s → AreLinesOf handed bytes r.0 }
+        → HoldsLines handed bytes s → HoldsLines handed bytes r.0 }
 {}
 
 /// Asking for requests comes to an end: a request that is handed out is a line less, and what is said to sessions adds none.
@@ -133,10 +133,10 @@ pub fn accepting_tries_no_other()
 /// so. Giving a session up keeps them too.
 pub fn handing_keeps_accounts()
     ensures hands { (holds : Section → Named → Bool) (steps : List LinkStep) (said : List Said) (ss ts : List Session) (id : LinkId) (principal : Named) (line : List ℕ)
-        → AreDistinct ss → (h : HandsFirst ss id principal line ts)
+        → HaveOwnIds ss → (h : HandsFirst ss id principal line ts)
         → AllAccounts holds steps said ss → AllAccounts holds steps (said ++ overlong_all h.front) ts }
     ensures passes { (holds : Section → Named → Bool) (steps : List LinkStep) (said : List Said) (ss ts : List Session)
-        → AreDistinct ss → Each Passes ss ts
+        → HaveOwnIds ss → Each Passes ss ts
         → AllAccounts holds steps said ss → AllAccounts holds steps (said ++ overlong_all ss) ts }
     ensures gives_up { (holds : Section → Named → Bool) (steps : List LinkStep) (said : List Said) (id : LinkId) (ss ts : List Session)
         → Each (GivesUpOne id) ss ts → AllAccounts holds steps said ss → AllAccounts holds steps said ts }

@@ -79,8 +79,8 @@ pub struct Turn {
 }
 
 /// One more, up to the greatest number.
-pub fn raised(n: u32) -> u32
-    ensures { result ≡ sessions.raised n }
+pub fn counted_up(n: u32) -> u32
+    ensures { result ≡ sessions.counted_up n }
 {
     n.saturating_add(1)
 }
@@ -105,11 +105,11 @@ impl Turn {
         ensures { self.new ≡ counted_as why self.old }
     {
         match why {
-            Why::Ended => self.ended = raised(self.ended),
-            Why::Failed => self.failed = raised(self.failed),
-            Why::Backlog => self.backlog = raised(self.backlog),
-            Why::TooLong => self.too_long = raised(self.too_long),
-            Why::Memory => self.memory = raised(self.memory),
+            Why::Ended => self.ended = counted_up(self.ended),
+            Why::Failed => self.failed = counted_up(self.failed),
+            Why::Backlog => self.backlog = counted_up(self.backlog),
+            Why::TooLong => self.too_long = counted_up(self.too_long),
+            Why::Memory => self.memory = counted_up(self.memory),
         }
     }
 }
