@@ -1,4 +1,4 @@
--- Accepting keeps the accounts of all sessions, and gives each new one an empty account.
+-- Accepting keeps accounts and lines of all sessions, and gives each new one an empty account and no line.
 use Rattle.std.proofs.Common.{◌≡◌, ℕ, zero, suc, ◌<◌, ◌≤◌, max, Bool, true, false, cond, nat_eq, nat_lt, count_by, List, [], ◌∷◌, ◌++◌, take, refl, sym, ap, ◌∙◌, subst, append_assoc, arith}
 use Rattle.std.proofs.lemmas.List.{append-nil}
 use Rattle.std.proofs.lemmas.Bool.Decides.{nat_tests}
@@ -11,6 +11,7 @@ use Rattle.ug_links.specs.declared.links.Accepted.TheVariants as accepted
 use Rattle.ug_links.specs.declared.links.LinkWrote.TheVariants as wrote
 use Rattle.ug_links.specs.declared.step.LinkStep.{LinkStep}
 use Rattle.ug_links.specs.declared.step.LinkStep.TheVariants.{Listened, AcceptedAt, ReadFrom, WroteTo, Closed}
+use Rattle.ug_links.specs.declared.step.Reading.TheVariants.{Bytes, NotYet, End, Failed}
 use Rattle.ug_links.specs.Steps.{IsStep, ids_end}
 use Rattle.ug_links.specs.Talk.{Return, Path, AreSteps, walk, upto}
 use Rattle.ug_links.proofs.Paths.{path_split}
@@ -20,7 +21,9 @@ use Rattle.ug_sessions.specs.declared.session.Turn.{Turn}
 use Rattle.ug_sessions.specs.Sessions.{new_session, is_open_session}
 use Rattle.ug_sessions.specs.Accepting.{AtListener, after_room, after_count, after_accepting, accepting_once, accepting_if, accepting_one}
 use Rattle.ug_sessions.specs.Due.{Dues, Accounts, AllAccounts, IsNoneOf, HaveOwnIds, Said, Answered, Watched, Noticed, Overlong, said_all, nothing_due, over_due, sent_to}
-use Rattle.ug_sessions.specs.Known.{AreKnown, IsSaidBelow, AreSaidBelow, IsCallBelow, AreCallsBelow, AreSound}
+use Rattle.ug_sessions.specs.Known.{AreKnown, IsSaidBelow, AreSaidBelow, AreHandedBelow, IsCallBelow, AreCallsBelow, AreSound}
+use Rattle.ug_sessions.specs.Handed.{bytes_read, lines_handed, AllLines, HoldsLines}
+use Rattle.ug_sessions.proofs.LinesRead.{read-append}
 use Rattle.ug_sessions.specs.Tried.{is_tried}
 use Rattle.ug_sessions.proofs.Sends.{sent-append}
 
@@ -84,7 +87,26 @@ none_sent n id (Listened principal answer ∷ steps) le h = none_sent n id steps
 none_sent n id (AcceptedAt listener answer ∷ steps) le h = none_sent n id steps le h.1
 none_sent n id (Closed other ∷ steps) le h = none_sent n id steps le h.1
 
--- a call that sends nothing
+pub handed_more : (n m : ℕ) (handed : List (LinkId × List ℕ)) → n ≤ m → AreHandedBelow n handed → AreHandedBelow m handed
+handed_more n m [] le h = tt
+handed_more n m (x ∷ handed) le h = let a : x.0.0 < n = h.0 in (omega (arith, a, le), handed_more n m handed le h.1)
+
+none_handed : (n : ℕ) (id : LinkId) (handed : List (LinkId × List ℕ)) → n ≤ id.0 → AreHandedBelow n handed → lines_handed id handed ≡ []
+none_handed n id [] le h = refl
+none_handed n id (x ∷ handed) le h = ap (λ (v : Bool). cond v (x.1 ∷ lines_handed id handed) (lines_handed id handed)) (differs x.0.0 n id.0 h.0 le) ∙ none_handed n id handed le h.1
+
+none_read : (n : ℕ) (id : LinkId) (steps : List LinkStep) → n ≤ id.0 → AreCallsBelow n steps → bytes_read id steps ≡ []
+none_read n id [] le h = refl
+none_read n id (ReadFrom other room (Bytes bytes) ∷ steps) le h = ap (λ (v : Bool). cond v (bytes ++ bytes_read id steps) (bytes_read id steps)) (differs other.0 n id.0 h.0 le) ∙ none_read n id steps le h.1
+none_read n id (ReadFrom other room NotYet ∷ steps) le h = none_read n id steps le h.1
+none_read n id (ReadFrom other room End ∷ steps) le h = none_read n id steps le h.1
+none_read n id (ReadFrom other room Failed ∷ steps) le h = none_read n id steps le h.1
+none_read n id (WroteTo other bytes answer ∷ steps) le h = none_read n id steps le h.1
+none_read n id (Listened principal answer ∷ steps) le h = none_read n id steps le h.1
+none_read n id (AcceptedAt listener answer ∷ steps) le h = none_read n id steps le h.1
+none_read n id (Closed other ∷ steps) le h = none_read n id steps le h.1
+
+-- a call that sends and reads nothing
 abbrev IsQuiet : LinkStep → Type 0
 IsQuiet (AcceptedAt listener answer) = Unit {0}
 IsQuiet (Closed id) = Unit {0}
@@ -98,6 +120,13 @@ quiet_sends id (Closed other) q = refl
 quiet_sends id (ReadFrom other room answer) q = absurd q
 quiet_sends id (WroteTo other bytes answer) q = absurd q
 quiet_sends id (Listened principal answer) q = absurd q
+
+quiet_reads : (id : LinkId) (step : LinkStep) → IsQuiet step → bytes_read id (step ∷ []) ≡ []
+quiet_reads id (AcceptedAt listener answer) q = refl
+quiet_reads id (Closed other) q = refl
+quiet_reads id (ReadFrom other room answer) q = absurd q
+quiet_reads id (WroteTo other bytes answer) q = absurd q
+quiet_reads id (Listened principal answer) q = absurd q
 
 quiet_call : (n : ℕ) (step : LinkStep) → IsQuiet step → IsCallBelow n step
 quiet_call n (AcceptedAt listener answer) q = tt
@@ -118,19 +147,31 @@ known_behind : (n : ℕ) (ss : List Session) (t : Session) → AreKnown n ss →
 known_behind n [] t k lt = (lt, tt)
 known_behind n (s ∷ ss) t k lt = (k.0, known_behind n ss t k.1 lt)
 
-module _ (holds : Section → Named → Bool) (said : List Said) where
+module _ (holds : Section → Named → Bool) (said : List Said) (handed : List (LinkId × List ℕ)) where
   accounts_quiet : (before : List LinkStep) (step : LinkStep) (ss : List Session) → IsQuiet step → AllAccounts holds before said ss → AllAccounts holds (before ++ step ∷ []) said ss
   accounts_quiet before step [] q h = tt
   accounts_quiet before step (s ∷ ss) q h =
       let same : sent_to s.id before ≡ sent_to s.id (before ++ step ∷ []) = sym (sent-append s.id before (step ∷ []) ∙ ap (λ (l : List ℕ). sent_to s.id before ++ l) (quiet_sends s.id step q) ∙ append-nil (sent_to s.id before)) in
       (subst (λ (l : List ℕ). Accounts (said_all holds s.id s.principal nothing_due said) l s) same h.0, accounts_quiet before step ss q h.1)
 
-  quiet_sound : (before : List LinkStep) (step : LinkStep) (ss : List Session) → IsQuiet step → AreSound holds before said ss → AreSound holds (before ++ step ∷ []) said ss
+  lines_quiet : (before : List LinkStep) (step : LinkStep) (ss : List Session) → IsQuiet step → AllLines before handed ss → AllLines (before ++ step ∷ []) handed ss
+  lines_quiet before step [] q h = tt
+  lines_quiet before step (s ∷ ss) q h =
+      let same : bytes_read s.id before ≡ bytes_read s.id (before ++ step ∷ []) = sym (read-append s.id before (step ∷ []) ∙ ap (λ (l : List ℕ). bytes_read s.id before ++ l) (quiet_reads s.id step q) ∙ append-nil (bytes_read s.id before)) in
+      (subst (λ (l : List ℕ). HoldsLines (lines_handed s.id handed) l s) same h.0, lines_quiet before step ss q h.1)
+
+  lines_behind : (steps : List LinkStep) (ss : List Session) (t : Session) → AllLines steps handed ss → HoldsLines (lines_handed t.id handed) (bytes_read t.id steps) t → AllLines steps handed (ss ++ t ∷ [])
+  lines_behind steps [] t h k = (k, tt)
+  lines_behind steps (s ∷ ss) t h k = (h.0, lines_behind steps ss t h.1 k)
+
+  quiet_sound : (before : List LinkStep) (step : LinkStep) (ss : List Session) → IsQuiet step → AreSound holds before said handed ss → AreSound holds (before ++ step ∷ []) said handed ss
   quiet_sound before step ss q h =
       let ends = ids_behind before (step ∷ []) in
       let le : ids_end before ≤ ids_end (before ++ step ∷ []) = omega (arith, ends) in
       record {
         accounts = accounts_quiet before step ss q h.accounts;
+        lines = lines_quiet before step ss q h.lines;
+        handed_known = handed_more (ids_end before) (ids_end (before ++ step ∷ [])) handed le h.handed_known;
         distinct = h.distinct;
         known = known_more (ids_end before) (ids_end (before ++ step ∷ [])) ss le h.known;
         said_known = said_more (ids_end before) (ids_end (before ++ step ∷ [])) said le h.said_known;
@@ -142,11 +183,11 @@ module _ (holds : Section → Named → Bool) (said : List Said) where
   accounts_behind steps (s ∷ ss) t h k = (h.0, accounts_behind steps ss t h.1 k)
 
   -- a session that was accepted just now
-  new_sound : (before : List LinkStep) (listener : ℕ) (id : LinkId) (p : Named) (ss : List Session) → ids_end before ≤ id.0 → AreSound holds before said ss → AreSound holds (before ++ AcceptedAt listener (accepted.Session id) ∷ []) said (ss ++ new_session id p ∷ [])
+  new_sound : (before : List LinkStep) (listener : ℕ) (id : LinkId) (p : Named) (ss : List Session) → ids_end before ≤ id.0 → AreSound holds before said handed ss → AreSound holds (before ++ AcceptedAt listener (accepted.Session id) ∷ []) said handed (ss ++ new_session id p ∷ [])
   new_sound before listener id p ss le h =
       let step : LinkStep = AcceptedAt listener (accepted.Session id) in
       let steps : List LinkStep = before ++ step ∷ [] in
-      let k : AreSound holds steps said ss = quiet_sound before step ss tt h in
+      let k : AreSound holds steps said handed ss = quiet_sound before step ss tt h in
       let ends = ids_behind before (step ∷ []) in
       let lt : id.0 < ids_end steps = omega (arith, ends) in
       let none : sent_to id steps ≡ [] = none_sent (ids_end before) id steps le (calls_behind (ids_end before) before step h.calls_known tt) in
@@ -157,11 +198,13 @@ module _ (holds : Section → Named → Bool) (said : List Said) where
         distinct = distinct_more (ids_end before) ss (new_session id p) h.known le h.distinct;
         known = known_behind (ids_end steps) ss (new_session id p) k.known lt;
         said_known = k.said_known;
+        lines = lines_behind steps ss (new_session id p) k.lines (subst (λ (l : List (List ℕ)). HoldsLines l (bytes_read id steps) (new_session id p)) (sym (none_handed (ids_end before) id handed le h.handed_known)) (subst (λ (l : List ℕ). HoldsLines [] l (new_session id p)) (sym (none_read (ids_end before) id steps le (calls_behind (ids_end before) before step h.calls_known tt))) (record { lines = refl; begun = refl; limit = refl })));
+        handed_known = k.handed_known;
         calls_known = k.calls_known;
       }
 
   abbrev Sound : List LinkStep → List Session → Type 0
-  Sound steps ss = AreSound holds steps said ss
+  Sound steps ss = AreSound holds steps said handed ss
 
   closing_sound : (before : List LinkStep) (id : LinkId) (rest more : List LinkStep) (ss ts : List Session) → rest ≡ Closed id ∷ more → more ≡ [] → ts ≡ ss → Sound before ss → Sound (before ++ rest) ts
   closing_sound before id rest more ss ts e f g h =

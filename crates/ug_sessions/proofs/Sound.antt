@@ -1,4 +1,4 @@
--- A turn and a flush keep the accounts of all sessions.
+-- Reads and writes keep accounts and lines of all sessions.
 use Rattle.std.proofs.Common.{◌≡◌, ℕ, zero, suc, ◌<◌, ◌≤◌, Bool, true, false, cond, nat_eq, filter, length, List, [], ◌∷◌, ◌++◌, sym, ap, ◌∙◌, subst, append_assoc, arith}
 use Rattle.std.proofs.lemmas.List.{append-nil}
 use Rattle.ug_types.specs.Principals.{Named}
@@ -28,7 +28,9 @@ use Rattle.ug_sessions.proofs.Tried.{One, one_steps}
 use Rattle.ug_sessions.proofs.ReadKeeps.{one_stays, reading_keeps}
 use Rattle.ug_sessions.proofs.LinesRead.{closing_id}
 use Rattle.ug_sessions.proofs.Lists.{flushing_keeps}
-use Rattle.ug_sessions.proofs.Accepted.{ids_behind, known_more, said_more, calls_more}
+use Rattle.ug_sessions.specs.Handed.{AllLines}
+use Rattle.ug_sessions.proofs.LinesOfAll.{reading_lines, flushing_lines}
+use Rattle.ug_sessions.proofs.Accepted.{ids_behind, known_more, said_more, handed_more, calls_more}
 
 -- the sessions have the same ids, in the same order
 abbrev pub SameIds : List Session → List Session → Type 0
@@ -80,8 +82,8 @@ module _ (f : Session → Turn → Talk (Session × Turn)) (same : (s : Session)
       let p = path_split (f s t) (λ (q : Session × Turn). walk f (done ++ q.0 ∷ []) ss q.1) steps r h in
       subst (λ (l : List LinkStep). AreCallsBelow n l) (sym p.whole) (calls_append n p.front p.rest (own n s t p.front p.value k.0 p.first) (calls_walk n (done ++ p.value.0 ∷ []) ss p.value.1 p.rest r k.1 p.second))
 
-  walk_sound : (holds : Section → Named → Bool) (before : List LinkStep) (said : List Said) (ss : List Session) (t : Turn) (steps : List LinkStep) (r : List Session × Turn) → Path (walk f [] ss t) steps r → AllAccounts holds (before ++ steps) said r.0 → AreSound holds before said ss → AreSound holds (before ++ steps) said r.0
-  walk_sound holds before said ss t steps r h a k =
+  walk_sound : (holds : Section → Named → Bool) (before : List LinkStep) (said : List Said) (handed : List (LinkId × List ℕ)) (ss : List Session) (t : Turn) (steps : List LinkStep) (r : List Session × Turn) → Path (walk f [] ss t) steps r → AllAccounts holds (before ++ steps) said r.0 → AllLines (before ++ steps) handed r.0 → AreSound holds before said handed ss → AreSound holds (before ++ steps) said handed r.0
+  walk_sound holds before said handed ss t steps r h a l k =
       let ends = ids_behind before steps in
       let n : ℕ = ids_end before in
       let m : ℕ = ids_end (before ++ steps) in
@@ -89,6 +91,8 @@ module _ (f : Session → Turn → Talk (Session × Turn)) (same : (s : Session)
       let ids = ids_walk ss t steps r h in
       record {
         accounts = a;
+        lines = l;
+        handed_known = handed_more n m handed le k.handed_known;
         distinct = distinct_same ss r.0 ids k.distinct;
         known = known_more n m r.0 le (known_same n ss r.0 ids k.known);
         said_known = said_more n m said le k.said_known;
@@ -106,9 +110,9 @@ read_calls n ready s (Listened principal answer ∷ steps) lt h = absurd h.0
 reading_calls : (ready : List Ready) (n : ℕ) (s : Session) (t : Turn) (steps : List LinkStep) (r : Session × Turn) → s.id.0 < n → Path (reading_one ready s t) steps r → AreCallsBelow n steps
 reading_calls ready n s t steps r lt h = read_calls n ready s steps lt (one_steps ready s t steps r h)
 
-pub reading_sound : (holds : Section → Named → Bool) (before : List LinkStep) (said : List Said) (ready : List Ready) (ss : List Session) (t : Turn) (steps : List LinkStep) (r : List Session × Turn) → Path (walk (reading_one ready) [] ss t) steps r → AreSound holds before said ss → AreSound holds (before ++ steps) said r.0
-reading_sound holds before said ready ss t steps r h k =
-    walk_sound (reading_one ready) (λ s t steps r h. ap (λ (w : Who). w.id) (one_stays ready s t steps r h).same) (reading_calls ready) holds before said ss t steps r h (reading_keeps holds before said ready ss t steps r k.accounts h) k
+pub reading_sound : (holds : Section → Named → Bool) (before : List LinkStep) (said : List Said) (handed : List (LinkId × List ℕ)) (ready : List Ready) (ss : List Session) (t : Turn) (steps : List LinkStep) (r : List Session × Turn) → Path (walk (reading_one ready) [] ss t) steps r → AreSound holds before said handed ss → AreSound holds (before ++ steps) said handed r.0
+reading_sound holds before said handed ready ss t steps r h k =
+    walk_sound (reading_one ready) (λ s t steps r h. ap (λ (w : Who). w.id) (one_stays ready s t steps r h).same) (reading_calls ready) holds before said handed ss t steps r h (reading_keeps holds before said ready ss t steps r k.accounts h) (reading_lines ready handed before ss t steps r k.distinct k.lines h) k
 
 -- the calls of a flush of one session are its own
 write_calls : (n : ℕ) (s : Session) (t : Turn) (a : LinkWrote) (rest : List LinkStep) (r : Bool × (Session × Turn)) → Path (after_writing s t a) rest r → AreCallsBelow n rest
@@ -182,9 +186,9 @@ flush_calls n s t steps r lt h =
     let id : p.value.0.id ≡ s.id = closing_id s.life s t p.front p.value p.first in
     subst (λ (l : List LinkStep). AreCallsBelow n l) (sym p.whole) (calls_append n p.front p.rest (closing_calls s.life n s t p.front p.value p.first) (sending_calls (is_open_session p.value.0) n p.value.0 p.value.1 p.rest r (subst (λ (i : LinkId). i.0 < n) (sym id) lt) p.second))
 
-pub flushing_sound : (holds : Section → Named → Bool) (before : List LinkStep) (said : List Said) (ss : List Session) (t : Turn) (steps : List LinkStep) (r : List Session × Turn) → Path (walk flushing_one [] ss t) steps r → AreSound holds before said ss → AreSound holds (before ++ steps) said r.0
-flushing_sound holds before said ss t steps r h k =
-    walk_sound flushing_one (λ s t steps r h. ap (λ (w : Who). w.id) (flush_owns s t steps r h).same) flush_calls holds before said ss t steps r h (flushing_keeps holds before said ss t steps r k.distinct k.accounts h) k
+pub flushing_sound : (holds : Section → Named → Bool) (before : List LinkStep) (said : List Said) (handed : List (LinkId × List ℕ)) (ss : List Session) (t : Turn) (steps : List LinkStep) (r : List Session × Turn) → Path (walk flushing_one [] ss t) steps r → AreSound holds before said handed ss → AreSound holds (before ++ steps) said handed r.0
+flushing_sound holds before said handed ss t steps r h k =
+    walk_sound flushing_one (λ s t steps r h. ap (λ (w : Who). w.id) (flush_owns s t steps r h).same) flush_calls holds before said handed ss t steps r h (flushing_keeps holds before said ss t steps r k.distinct k.accounts h) (flushing_lines handed before ss t steps r k.distinct k.lines h) k
 
 -- some of the sessions
 module _ (keep : Session → Bool) where
@@ -216,8 +220,17 @@ module _ (keep : Session → Bool) where
       let f : (v : Bool) → T v = λ v. elim v as T [ true ↦ (a.0, some_accounts holds steps said ss a.1) | false ↦ some_accounts holds steps said ss a.1 ] in
       f (keep s)
 
-  pub some_sound : (holds : Section → Named → Bool) (steps : List LinkStep) (said : List Said) (ss : List Session) → AreSound holds steps said ss → AreSound holds steps said (filter keep ss)
-  some_sound holds steps said ss k = record {
+  some_lines : (steps : List LinkStep) (handed : List (LinkId × List ℕ)) (ss : List Session) → AllLines steps handed ss → AllLines steps handed (filter keep ss)
+  some_lines steps handed [] a = tt
+  some_lines steps handed (s ∷ ss) a =
+      let T : Bool → Type 0 = λ v. AllLines steps handed (cond v (s ∷ filter keep ss) (filter keep ss)) in
+      let f : (v : Bool) → T v = λ v. elim v as T [ true ↦ (a.0, some_lines steps handed ss a.1) | false ↦ some_lines steps handed ss a.1 ] in
+      f (keep s)
+
+  pub some_sound : (holds : Section → Named → Bool) (steps : List LinkStep) (said : List Said) (handed : List (LinkId × List ℕ)) (ss : List Session) → AreSound holds steps said handed ss → AreSound holds steps said handed (filter keep ss)
+  some_sound holds steps said handed ss k = record {
+    lines = some_lines steps handed ss k.lines;
+    handed_known = k.handed_known;
     accounts = some_accounts holds steps said ss k.accounts;
     distinct = some_distinct ss k.distinct;
     known = some_known (ids_end steps) ss k.known;

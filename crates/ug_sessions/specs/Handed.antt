@@ -46,3 +46,13 @@ AreLinesBy (life.Closed w) handed bytes s = AreLinesFor w handed bytes s
 -- of a session these lines were handed out, and these bytes were read
 abbrev pub HoldsLines : List (List ℕ) → List ℕ → Session → Type 0
 HoldsLines handed bytes s = AreLinesBy s.life handed bytes s
+
+-- the lines that were handed out of a session, among all that were, each with its session
+abbrev pub lines_handed : LinkId → List (LinkId × List ℕ) → List (List ℕ)
+lines_handed id [] = []
+lines_handed id (h ∷ hs) = cond (nat_eq h.0.0 id.0) (h.1 ∷ lines_handed id hs) (lines_handed id hs)
+
+-- each session that is kept: handed is all that was handed out, and steps are all calls, since the server was made
+abbrev pub AllLines : List LinkStep → List (LinkId × List ℕ) → List Session → Type 0
+AllLines steps handed [] = Unit {0}
+AllLines steps handed (s ∷ ss) = HoldsLines (lines_handed s.id handed) (bytes_read s.id steps) s × AllLines steps handed ss

@@ -2,10 +2,12 @@
 use Rattle.std.specs.Prelude.{ℕ, ◌<◌, Bool, List, [], ◌∷◌}
 use Rattle.ug_types.specs.Principals.{Named}
 use Rattle.ug_types.specs.declared.access.Section.{Section}
+use Rattle.ug_types.specs.declared.waiter.LinkId.{LinkId}
 use Rattle.ug_links.specs.declared.step.LinkStep.{LinkStep}
 use Rattle.ug_links.specs.declared.step.LinkStep.TheVariants.{ReadFrom, WroteTo}
 use Rattle.ug_links.specs.Steps.{ids_end}
 use Rattle.ug_sessions.specs.declared.session.Session.{Session}
+use Rattle.ug_sessions.specs.Handed.{AllLines}
 use Rattle.ug_sessions.specs.Due.{Said, Answered, Watched, Noticed, Overlong, AllAccounts, HaveOwnIds}
 
 -- each session has an id below this number
@@ -34,10 +36,18 @@ abbrev pub AreCallsBelow : ℕ → List LinkStep → Type 0
 AreCallsBelow n [] = Unit {0}
 AreCallsBelow n (step ∷ steps) = IsCallBelow n step × AreCallsBelow n steps
 
--- each session has its account, no two have one id, and all that was said and called is of sessions that were accepted
-pub record AreSound (holds : Section → Named → Bool) (steps : List LinkStep) (said : List Said) (sessions : List Session) : Type 0 where
+-- so has the session of a line that was handed out
+abbrev pub AreHandedBelow : ℕ → List (LinkId × List ℕ) → Type 0
+AreHandedBelow n [] = Unit {0}
+AreHandedBelow n (h ∷ hs) = (h.0.0 < n) × AreHandedBelow n hs
+
+-- each session has its account and its lines, no two have one id, and all that was said, handed out and called is of sessions
+-- that were accepted
+pub record AreSound (holds : Section → Named → Bool) (steps : List LinkStep) (said : List Said) (handed : List (LinkId × List ℕ)) (sessions : List Session) : Type 0 where
   pub accounts : AllAccounts holds steps said sessions
+  pub lines : AllLines steps handed sessions
   pub distinct : HaveOwnIds sessions
   pub known : AreKnown (ids_end steps) sessions
   pub said_known : AreSaidBelow (ids_end steps) said
+  pub handed_known : AreHandedBelow (ids_end steps) handed
   pub calls_known : AreCallsBelow (ids_end steps) steps

@@ -144,17 +144,17 @@ pub fn handing_keeps_accounts()
 
 /// Accepting keeps the accounts of all sessions; a new session has an id that no other had, and nothing is due to it.
 pub fn accepting_keeps_accounts()
-    ensures { (holds : Section → Named → Bool) (before : List LinkStep) (said : List Said) (ready : List Ready) (listeners : List Listener) (x : List Session × Turn) (steps : List LinkStep) (r : List Listener × (List Session × Turn))
+    ensures { (holds : Section → Named → Bool) (before : List LinkStep) (said : List Said) (handed : List (LinkId × List ℕ)) (ready : List Ready) (listeners : List Listener) (x : List Session × Turn) (steps : List LinkStep) (r : List Listener × (List Session × Turn))
         → AreSteps before steps → Path (accepting_all ready listeners x) steps r
-        → AreSound holds before said x.0 → AreSound holds (before ++ steps) said r.1.0 }
+        → AreSound holds before said handed x.0 → AreSound holds (before ++ steps) said handed r.1.0 }
 {}
 
 /// A whole turn and a whole flush keep the accounts of all sessions, and with them that no two have one id.
 pub fn turns_keep_accounts()
-    ensures turns { (holds : Section → Named → Bool) (said : List Said) (ready : List Ready) (before : List LinkStep) (v : ServerState) (steps : List LinkStep) (r : ServerState × Turn)
+    ensures turns { (holds : Section → Named → Bool) (said : List Said) (handed : List (LinkId × List ℕ)) (ready : List Ready) (before : List LinkStep) (v : ServerState) (steps : List LinkStep) (r : ServerState × Turn)
         → AreSteps before steps → Path (turning ready v) steps r
-        → AreSound holds before said v.sessions → AreSound holds (before ++ steps) said r.0.sessions }
-    ensures flushes { (holds : Section → Named → Bool) (said : List Said) (before : List LinkStep) (v : ServerState) (steps : List LinkStep) (r : ServerState × Turn)
+        → AreSound holds before said handed v.sessions → AreSound holds (before ++ steps) said handed r.0.sessions }
+    ensures flushes { (holds : Section → Named → Bool) (said : List Said) (handed : List (LinkId × List ℕ)) (before : List LinkStep) (v : ServerState) (steps : List LinkStep) (r : ServerState × Turn)
         → Path (flushing v) steps r
-        → AreSound holds before said v.sessions → AreSound holds (before ++ steps) said r.0.sessions }
+        → AreSound holds before said handed v.sessions → AreSound holds (before ++ steps) said handed r.0.sessions }
 {}

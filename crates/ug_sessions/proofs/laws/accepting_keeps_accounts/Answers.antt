@@ -5,4 +5,4 @@ use Rattle.ug_sessions.proofs.laws.accepting_keeps_accounts.Goals as goal
 
 pub returns : goal.returns
 unfolding accepting_all
-returns c = λ holds before said ready ls x steps r a h k. accepts_sound holds said ready before [] ls x steps r a h k
+returns c = λ holds before said handed ready ls x steps r a h k. accepts_sound holds said handed ready before [] ls x steps r a h k
