@@ -40,15 +40,15 @@ pub who_where : (b : Bool) (s : Session) (text : List ℕ) (t : Session) → Put
 who_where true s text t p = who_within (nat_le (length s.unsent + length text) 1048576) s text t p
 who_where false s text t p = ap who p
 
-who_answers : (b : Bool) (s : Session) (text : List ℕ) (t : Session) → AnswersIf b text s t → who t ≡ who s
+pub who_answers : (b : Bool) (s : Session) (text : List ℕ) (t : Session) → AnswersIf b text s t → who t ≡ who s
 who_answers true s text t p = who_where (takes_text (with_answer s)) (with_answer s) text t p
 who_answers false s text t p = ap who p
 
-who_notices : (b : Bool) (s : Session) (text : List ℕ) (t : Session) → NoticesIf b text s t → who t ≡ who s
+pub who_notices : (b : Bool) (s : Session) (text : List ℕ) (t : Session) → NoticesIf b text s t → who t ≡ who s
 who_notices true s text t p = who_where (takes_text s) s text t p
 who_notices false s text t p = ap who p
 
-who_watches : (b : Bool) (s t : Session) → t ≡ cond b (record s { watch = true }) s → who t ≡ who s
+pub who_watches : (b : Bool) (s t : Session) → t ≡ cond b (record s { watch = true }) s → who t ≡ who s
 who_watches true s t p = ap who p
 who_watches false s t p = ap who p
 

@@ -55,7 +55,7 @@ module _ (holds : Section → Named → Bool) (steps : List LinkStep) where
       let same = said-more holds x.id x.principal nothing_due said (overlong_of s) ∙ over_other s x.id x.principal (said_all holds x.id x.principal nothing_due said) n.0 in
       (subst (λ (a : Dues). Accounts a (sent_to x.id steps) x) (sym same) k.0, others_said said s ss n.1 k.1)
 
-  who_passes : (b : Bool) (s t : Session) → RefusesIf b s t → who t ≡ who s
+  pub who_passes : (b : Bool) (s t : Session) → RefusesIf b s t → who t ≡ who s
   who_passes true s t p = ap who p.2 ∙ who_where (takes_text s) s refused_text p.0 p.1
   who_passes false s t p = ap who p
 
@@ -82,7 +82,7 @@ module _ (holds : Section → Named → Bool) (steps : List LinkStep) where
       (subst (λ (w : Who). Accounts (due w) (sent_to w.id steps) t) (sym is) here, subst (λ (l : List Said). AllAccounts holds steps l ts) (append_assoc said (overlong_of s) (overlong_all ss)) rest)
 
   -- no session of the first list is in the second
-  abbrev Apart : List Session → List Session → Type 0
+  abbrev pub Apart : List Session → List Session → Type 0
   Apart [] b = Unit {0}
   Apart (x ∷ a) b = IsNoneOf x.id b × Apart a b
 
@@ -90,7 +90,7 @@ module _ (holds : Section → Named → Bool) (steps : List LinkStep) where
   none_split id [] b n = (tt, n)
   none_split id (x ∷ a) b n = let k = none_split id a b n.1 in ((n.0, k.0), k.1)
 
-  distinct_split : (a b : List Session) → HaveOwnIds (a ++ b) → HaveOwnIds a × Apart a b × HaveOwnIds b
+  pub distinct_split : (a b : List Session) → HaveOwnIds (a ++ b) → HaveOwnIds a × Apart a b × HaveOwnIds b
   distinct_split [] b d = (tt, tt, d)
   distinct_split (x ∷ a) b d = let k = distinct_split a b d.1 in let n = none_split x.id a b d.0 in ((n.0, k.0), (n.1, k.1), k.2)
 
@@ -121,7 +121,7 @@ module _ (holds : Section → Named → Bool) (steps : List LinkStep) where
       let one = lines_keep now h.session h.after h.after.framer.lines h.hands.1 rest.0 in
       subst (λ (l : List Session). AllAccounts holds steps now l) (sym h.is) (accounts_join now h.passed (h.after ∷ h.behind) front (one, rest.1))
 
-  who_gives : (b c : Bool) (s t : Session) → t ≡ cond b (cond c (doomed_for why.Memory s) s) s → who t ≡ who s
+  pub who_gives : (b c : Bool) (s t : Session) → t ≡ cond b (cond c (doomed_for why.Memory s) s) s → who t ≡ who s
   who_gives true true s t e = ap who e
   who_gives true false s t e = ap who e
   who_gives false c s t e = ap who e

@@ -36,19 +36,19 @@ use Rattle.ug_sessions.proofs.Accepted.{ids_behind, known_more, said_more, hande
 abbrev pub SameIds : List Session → List Session → Type 0
 SameIds ss ts = Each (λ (s t : Session). t.id ≡ s.id) ss ts
 
-none_same : (id : LinkId) (ss ts : List Session) → SameIds ss ts → IsNoneOf id ss → IsNoneOf id ts
+pub none_same : (id : LinkId) (ss ts : List Session) → SameIds ss ts → IsNoneOf id ss → IsNoneOf id ts
 none_same id [] [] e n = tt
 none_same id [] (t ∷ ts) e n = absurd e
 none_same id (s ∷ ss) [] e n = absurd e
 none_same id (s ∷ ss) (t ∷ ts) e n = (ap (λ (i : LinkId). nat_eq i.0 id.0) e.0 ∙ n.0, none_same id ss ts e.1 n.1)
 
-distinct_same : (ss ts : List Session) → SameIds ss ts → HaveOwnIds ss → HaveOwnIds ts
+pub distinct_same : (ss ts : List Session) → SameIds ss ts → HaveOwnIds ss → HaveOwnIds ts
 distinct_same [] [] e d = tt
 distinct_same [] (t ∷ ts) e d = absurd e
 distinct_same (s ∷ ss) [] e d = absurd e
 distinct_same (s ∷ ss) (t ∷ ts) e d = (subst (λ (i : LinkId). IsNoneOf i ts) (sym e.0) (none_same s.id ss ts e.1 d.0), distinct_same ss ts e.1 d.1)
 
-known_same : (n : ℕ) (ss ts : List Session) → SameIds ss ts → AreKnown n ss → AreKnown n ts
+pub known_same : (n : ℕ) (ss ts : List Session) → SameIds ss ts → AreKnown n ss → AreKnown n ts
 known_same n [] [] e k = tt
 known_same n [] (t ∷ ts) e k = absurd e
 known_same n (s ∷ ss) [] e k = absurd e

@@ -2,7 +2,8 @@
 ghost use Rattle.std.specs.Prelude.{◌≡◌, ◌<◌, ◌≤◌, List, [], ◌∷◌, ℕ, Bool, ◌++◌, cond, Some, None};
 ghost use Rattle.ug_links.specs.declared.step.LinkStep.{LinkStep};
 ghost use Rattle.ug_links.specs.Talk.{Path, AreSteps};
-ghost use Rattle.ug_sessions.specs.Known.{AreSound};
+ghost use Rattle.ug_links.specs.Steps.{ids_end};
+ghost use Rattle.ug_sessions.specs.Known.{AreCallsBelow, AreSound};
 ghost use Rattle.ug_sessions.specs.States.{ServerState};
 ghost use Rattle.ug_sessions.specs.Serving.{turning, flushing};
 ghost use Rattle.ug_types.specs.declared.waiter.LinkId.{LinkId};
@@ -149,12 +150,40 @@ pub fn accepting_keeps_accounts()
         → AreSound holds before said handed x.0 → AreSound holds (before ++ steps) said handed r.1.0 }
 {}
 
-/// A whole turn and a whole flush keep the accounts of all sessions, and with them that no two have one id.
-pub fn turns_keep_accounts()
-    ensures turns { (holds : Section → Named → Bool) (said : List Said) (handed : List (LinkId × List ℕ)) (ready : List Ready) (before : List LinkStep) (v : ServerState) (steps : List LinkStep) (r : ServerState × Turn)
+/// Every call of the server keeps accounts and lines of all sessions, and with them that no two have one id: a whole turn, a whole
+/// flush, and what is handed out and said between, to sessions that came.
+pub fn calls_keep_all()
+    ensures begins { (holds : Section → Named → Bool) (steps : List LinkStep)
+        → AreCallsBelow (ids_end steps) steps → AreSound holds steps [] [] [] }
+    ensures turns { (holds : Section → Named → Bool) (said : List Said) (handed : List (LinkId × List ℕ)) (ready : List Ready)
+        (before : List LinkStep) (v : ServerState) (steps : List LinkStep) (r : ServerState × Turn)
         → AreSteps before steps → Path (turning ready v) steps r
         → AreSound holds before said handed v.sessions → AreSound holds (before ++ steps) said handed r.0.sessions }
-    ensures flushes { (holds : Section → Named → Bool) (said : List Said) (handed : List (LinkId × List ℕ)) (before : List LinkStep) (v : ServerState) (steps : List LinkStep) (r : ServerState × Turn)
+    ensures flushes { (holds : Section → Named → Bool) (said : List Said) (handed : List (LinkId × List ℕ))
+        (before : List LinkStep) (v : ServerState) (steps : List LinkStep) (r : ServerState × Turn)
         → Path (flushing v) steps r
         → AreSound holds before said handed v.sessions → AreSound holds (before ++ steps) said handed r.0.sessions }
+    ensures hands { (holds : Section → Named → Bool) (steps : List LinkStep) (said : List Said) (handed : List (LinkId × List ℕ))
+        (ss ts : List Session) (id : LinkId) (principal : Named) (line : List ℕ)
+        → (h : HandsFirst ss id principal line ts)
+        → AreSound holds steps said handed ss → AreSound holds steps (said ++ overlong_all h.front) (handed ++ (id, line) ∷ []) ts }
+    ensures passes { (holds : Section → Named → Bool) (steps : List LinkStep) (said : List Said) (handed : List (LinkId × List ℕ)) (ss ts : List Session)
+        → Each Passes ss ts
+        → AreSound holds steps said handed ss → AreSound holds steps (said ++ overlong_all ss) handed ts }
+    ensures answers { (holds : Section → Named → Bool) (steps : List LinkStep) (said : List Said) (handed : List (LinkId × List ℕ))
+        (id : LinkId) (text : List ℕ) (ss ts : List Session)
+        → id.0 < ids_end steps → Each (AnswersOne id text) ss ts
+        → AreSound holds steps said handed ss → AreSound holds steps (said ++ Answered id text ∷ []) handed ts }
+    ensures watches { (holds : Section → Named → Bool) (steps : List LinkStep) (said : List Said) (handed : List (LinkId × List ℕ))
+        (id : LinkId) (ss ts : List Session)
+        → id.0 < ids_end steps → Each (WatchesOne id) ss ts
+        → AreSound holds steps said handed ss → AreSound holds steps (said ++ Watched id ∷ []) handed ts }
+    ensures notices { (holds : Section → Named → Bool) (steps : List LinkStep) (said : List Said) (handed : List (LinkId × List ℕ))
+        (section : Section) (text : List ℕ) (ss ts : List Session)
+        → Each (NoticesOne (holds section) text) ss ts
+        → AreSound holds steps said handed ss → AreSound holds steps (said ++ Noticed section text ∷ []) handed ts }
+    ensures gives_up { (holds : Section → Named → Bool) (steps : List LinkStep) (said : List Said) (handed : List (LinkId × List ℕ))
+        (id : LinkId) (ss ts : List Session)
+        → Each (GivesUpOne id) ss ts
+        → AreSound holds steps said handed ss → AreSound holds steps said handed ts }
 {}
