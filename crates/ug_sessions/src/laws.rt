@@ -4,6 +4,7 @@ ghost use Rattle.ug_links.specs.declared.step.LinkStep.{LinkStep};
 ghost use Rattle.ug_links.specs.Talk.{Path, AreSteps};
 ghost use Rattle.ug_links.specs.Steps.{ids_end};
 ghost use Rattle.ug_sessions.specs.Known.{AreCallsBelow, AreSound};
+ghost use Rattle.ug_sessions.specs.Counting.{counted_over};
 ghost use Rattle.ug_sessions.specs.States.{ServerState};
 ghost use Rattle.ug_sessions.specs.Serving.{turning, flushing};
 ghost use Rattle.ug_types.specs.declared.waiter.LinkId.{LinkId};
@@ -186,4 +187,13 @@ pub fn calls_keep_all()
         (id : LinkId) (ss ts : List Session)
         → Each (GivesUpOne id) ss ts
         → AreSound holds steps said handed ss → AreSound holds steps said handed ts }
+{}
+
+/// Where sessions are read, and where they are flushed, the counts are those before and one more for each session whose link is
+/// closed there, for what it was closed, and no other.
+pub fn closings_are_counted()
+    ensures reads { (ready : List Ready) (sessions : List Session) (turn : Turn) (steps : List LinkStep) (r : List Session × Turn)
+        → Path (reading_all ready sessions turn) steps r → r.1 ≡ counted_over sessions r.0 turn }
+    ensures flushes { (sessions : List Session) (turn : Turn) (steps : List LinkStep) (r : List Session × Turn)
+        → Path (flushing_all sessions turn) steps r → r.1 ≡ counted_over sessions r.0 turn }
 {}
