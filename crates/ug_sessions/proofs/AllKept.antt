@@ -1,5 +1,5 @@
 -- What is said to sessions, and what is handed out, keeps accounts and lines of all of them.
-use Rattle.std.proofs.Common.{◌≡◌, ℕ, ◌<◌, Bool, true, false, cond, nat_eq, Some, None, List, [], ◌∷◌, ◌++◌, refl, sym, ap, ◌∙◌, subst}
+use Rattle.std.proofs.Common.{◌≡◌, ℕ, ◌<◌, Bool, true, false, cond, nat_eq, List, [], ◌∷◌, ◌++◌, refl, sym, ap, ◌∙◌, subst}
 use Rattle.std.proofs.lemmas.List.{append-nil}
 use Rattle.ug_types.specs.Principals.{Named}
 use Rattle.ug_types.specs.declared.access.Section.{Section}
@@ -11,7 +11,7 @@ use Rattle.ug_sessions.specs.Sessions.{is_open_session}
 use Rattle.ug_sessions.specs.Answering.{Each, AnswersOne, WatchesOne, GivesUpOne, NoticesOne, is_due, with_none_left, HandsFirst, Passes}
 use Rattle.ug_sessions.specs.Due.{AllAccounts, IsNoneOf, HaveOwnIds, Said, Answered, Watched, Noticed, Overlong, overlong_all}
 use Rattle.ug_sessions.specs.Handed.{bytes_read, HoldsLines, lines_handed, AllLines}
-use Rattle.ug_sessions.specs.Known.{AreKnown, AreSaidBelow, AreHandedBelow, AreCallsBelow, AreSound}
+use Rattle.ug_sessions.specs.Known.{AreKnown, AreSaidBelow, AreHandedBelow, AreSound}
 use Rattle.ug_sessions.proofs.Each.{each_append}
 use Rattle.ug_sessions.proofs.Sends.{own}
 use Rattle.ug_sessions.proofs.Owning.{Who}

@@ -1,7 +1,10 @@
 -- What is sent to the sessions, and when they are closed.
-use Rattle.std.specs.Prelude.{List, [], Bool, true, false, cond, not, nat_eq, length, drop}
+use Rattle.std.specs.Prelude.{◌≡◌, ℕ, List, [], ◌∷◌, ◌++◌, Bool, true, false, cond, not, nat_eq, length, drop}
 use Rattle.ug_links.specs.declared.links.LinkWrote.{LinkWrote}
 use Rattle.ug_links.specs.declared.links.LinkWrote.TheVariants as wrote
+use Rattle.ug_types.specs.declared.waiter.LinkId.{LinkId}
+use Rattle.ug_links.specs.declared.step.LinkStep.{LinkStep}
+use Rattle.ug_links.specs.declared.step.LinkStep.TheVariants.{WroteTo}
 use Rattle.ug_links.specs.Talk.{Talk, Return, Write, Close, and_then, walk, upto}
 use Rattle.ug_sessions.specs.declared.session.Session.{Session}
 use Rattle.ug_sessions.specs.declared.session.Turn.{Turn}
@@ -66,3 +69,7 @@ stays_by (life.Closed w) drained = not drained
 -- a session is kept while it is open, its link isn't closed, or it may have lines to hand out
 abbrev pub stays : Session → Bool
 stays s = stays_by s.life s.drained
+
+-- the last of the calls is a write of these bytes to the session, which wasn't ready
+abbrev pub EndsWaiting : LinkId → List ℕ → List LinkStep → Type 0
+EndsWaiting id bytes steps = (front : List LinkStep) × (steps ≡ front ++ WroteTo id bytes wrote.NotYet ∷ [])
