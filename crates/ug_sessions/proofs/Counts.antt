@@ -17,7 +17,7 @@ use Rattle.ug_sessions.specs.declared.session.Life.{Life}
 use Rattle.ug_sessions.specs.declared.session.Life.TheVariants as life
 use Rattle.ug_sessions.specs.Tokens.{is_read, names_session}
 use Rattle.ug_sessions.specs.Sessions.{is_open_life, is_open_session, closed_for, unsending, emptied, counted_as}
-use Rattle.ug_sessions.specs.Reading.{after_feed, after_reading, reading_piece, closing_by, closing_doomed, reading_if, reading_one}
+use Rattle.ug_sessions.specs.Reading.{after_feed, after_read_answer, reading_piece, closing_by, closing_doomed, reading_if, reading_one}
 use Rattle.ug_sessions.specs.Sending.{after_writing, writing_if, writing_some, is_served, finish_ended, finish_refused, finish_open, finish_sent, finishing, sending_if, flushing_one}
 use Rattle.ug_sessions.specs.Counting.{counted_if_closed, counted_over}
 
@@ -46,7 +46,7 @@ fed_goes : (b : Bool) (s : Session) (t : Turn) (new : List ℕ) (steps : List Li
 fed_goes true s t new steps r o h = goes_on true _ t r o h.0
 fed_goes false s t new steps r o h = goes_closed why.Memory (emptied s) t r h.2.0
 
-answer_goes : (a : Reading) (s : Session) (t : Turn) (steps : List LinkStep) (r : Bool × (Session × Turn)) → s.life ≡ life.Open → Path (after_reading s t a) steps r → Goes t r
+answer_goes : (a : Reading) (s : Session) (t : Turn) (steps : List LinkStep) (r : Bool × (Session × Turn)) → s.life ≡ life.Open → Path (after_read_answer s t a) steps r → Goes t r
 answer_goes (Bytes new) s t steps r o h = fed_goes h.0 s t new steps r o h.1
 answer_goes NotYet s t steps r o h = goes_on false _ t r o h.0
 answer_goes End s t steps r o h = goes_on false _ t r o h.0

@@ -17,7 +17,7 @@ use Rattle.ug_sessions.specs.declared.session.Life.{Life}
 use Rattle.ug_sessions.specs.declared.session.Life.TheVariants as life
 use Rattle.ug_sessions.specs.Tokens.{is_read}
 use Rattle.ug_sessions.specs.Sessions.{fed, not_owed, at_end, closed_for}
-use Rattle.ug_sessions.specs.Reading.{after_feed, after_reading, reading_piece, closing_by, closing_doomed, reading_if, reading_one}
+use Rattle.ug_sessions.specs.Reading.{after_feed, after_read_answer, reading_piece, closing_by, closing_doomed, reading_if, reading_one}
 use Rattle.ug_sessions.specs.Tried.{AllRead}
 use Rattle.ug_sessions.specs.Handed.{bytes_read, AreAllLines, AreLinesBy, HoldsLines}
 use Rattle.ug_sessions.proofs.Sends.{own}
@@ -108,7 +108,7 @@ quiet s x steps more r o l e i n p = record {
   same = ap (λ (y : Session). y.id) p ∙ i;
 }
 
-answer_on : (a : Reading) (s : Session) (t : Turn) (rest : List LinkStep) (r : Bool × (Session × Turn)) → s.life ≡ life.Open → Path (after_reading s t a) rest r → ReadsOn s (ReadFrom s.id 4096 a ∷ rest) r.0 r.1.0
+answer_on : (a : Reading) (s : Session) (t : Turn) (rest : List LinkStep) (r : Bool × (Session × Turn)) → s.life ≡ life.Open → Path (after_read_answer s t a) rest r → ReadsOn s (ReadFrom s.id 4096 a ∷ rest) r.0 r.1.0
 answer_on (Bytes new) s t rest r o h = record {
   holds = λ handed bytes k. subst (λ (l : List ℕ). HoldsLines handed (bytes ++ l) r.1.0) (sym (own_read s.id 4096 new rest (fed_reads h.0 s t new rest r h.1))) (fed_of h.0 handed bytes new s t rest r o h.1 k);
   going = fed_going h.0 s t new rest r o h.1;

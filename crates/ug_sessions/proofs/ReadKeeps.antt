@@ -16,7 +16,7 @@ use Rattle.ug_sessions.specs.declared.session.Turn.{Turn}
 use Rattle.ug_sessions.specs.declared.session.Life.{Life}
 use Rattle.ug_sessions.specs.declared.session.Life.TheVariants as life
 use Rattle.ug_sessions.specs.Tokens.{is_read}
-use Rattle.ug_sessions.specs.Reading.{after_feed, after_reading, reading_piece, closing_doomed, reading_if, reading_one}
+use Rattle.ug_sessions.specs.Reading.{after_feed, after_read_answer, reading_piece, closing_doomed, reading_if, reading_one}
 use Rattle.ug_sessions.specs.Tried.{IsOneRead, AllRead}
 use Rattle.ug_sessions.specs.Due.{Dues, Accounts, AccountsBy, AllAccounts, Said, said_all, nothing_due, sent_to}
 use Rattle.ug_sessions.proofs.Sends.{sent-append, Rests, doomed_rests, any_front, kept_by_rest}
@@ -47,7 +47,7 @@ fed_stays : (b : Bool) (s : Session) (t : Turn) (bytes : List ℕ) (steps : List
 fed_stays true s t bytes steps r h = stays_as s r.1.0 _ (ap (λ (x : Bool × (Session × Turn)). x.1.0) h.0) (record { same = refl; keeps = λ a sent k. untouched s.life a sent s _ (refl, refl, refl) k })
 fed_stays false s t bytes steps r h = stays_as s r.1.0 _ (ap (λ (x : Bool × (Session × Turn)). x.1.0) h.2.0) (record { same = refl; keeps = λ a sent k. any_front s.life a sent s k })
 
-answer_stays : (a : Reading) (s : Session) (t : Turn) (steps : List LinkStep) (r : Bool × (Session × Turn)) → Path (after_reading s t a) steps r → Stays s r.1.0
+answer_stays : (a : Reading) (s : Session) (t : Turn) (steps : List LinkStep) (r : Bool × (Session × Turn)) → Path (after_read_answer s t a) steps r → Stays s r.1.0
 answer_stays (Bytes bytes) s t steps r h = fed_stays h.0 s t bytes steps r h.1
 answer_stays NotYet s t steps r h = stays_as s r.1.0 _ (ap (λ (x : Bool × (Session × Turn)). x.1.0) h.0) (record { same = refl; keeps = λ a sent k. untouched s.life a sent s _ (refl, refl, refl) k })
 answer_stays End s t steps r h = stays_as s r.1.0 _ (ap (λ (x : Bool × (Session × Turn)). x.1.0) h.0) (record { same = refl; keeps = λ a sent k. untouched s.life a sent s _ (refl, refl, refl) k })

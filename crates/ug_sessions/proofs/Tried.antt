@@ -15,7 +15,7 @@ use Rattle.ug_sessions.specs.declared.session.Life.TheVariants as life
 use Rattle.ug_sessions.specs.declared.session.Why.{Why}
 use Rattle.ug_sessions.specs.Tokens.{is_read}
 use Rattle.ug_sessions.specs.Sessions.{closed_for}
-use Rattle.ug_sessions.specs.Reading.{after_feed, after_reading, reading_piece, closing_by, closing_doomed, reading_if, reading_one}
+use Rattle.ug_sessions.specs.Reading.{after_feed, after_read_answer, reading_piece, closing_by, closing_doomed, reading_if, reading_one}
 use Rattle.ug_sessions.specs.Tried.{IsOneRead, AllRead}
 use Rattle.ug_sessions.proofs.Sends.{Rests, doomed_rests}
 
@@ -49,7 +49,7 @@ fed_steps : (b : Bool) (s : Session) (t : Turn) (bytes : List ℕ) (steps : List
 fed_steps true s t bytes steps r h = record { all = all_none (Own s) steps h.1; same = ap (λ (x : Bool × (Session × Turn)). x.1.0.id) h.0 }
 fed_steps false s t bytes steps r h = record { all = closing (Own s) s.id steps h.0 h.1 h.2.1; same = ap (λ (x : Bool × (Session × Turn)). x.1.0.id) h.2.0 }
 
-answer_steps : (a : Reading) (s : Session) (t : Turn) (steps : List LinkStep) (r : Bool × (Session × Turn)) → Path (after_reading s t a) steps r → Reads s steps r.1.0
+answer_steps : (a : Reading) (s : Session) (t : Turn) (steps : List LinkStep) (r : Bool × (Session × Turn)) → Path (after_read_answer s t a) steps r → Reads s steps r.1.0
 answer_steps (Bytes bytes) s t steps r h = fed_steps h.0 s t bytes steps r h.1
 answer_steps NotYet s t steps r h = record { all = all_none (Own s) steps h.1; same = ap (λ (x : Bool × (Session × Turn)). x.1.0.id) h.0 }
 answer_steps End s t steps r h = record { all = all_none (Own s) steps h.1; same = ap (λ (x : Bool × (Session × Turn)). x.1.0.id) h.0 }

@@ -16,15 +16,15 @@ abbrev pub after_feed : Session → Turn → List ℕ → Bool → Talk (Bool ×
 after_feed s t bytes true = Return (true, (fed s bytes, t))
 after_feed s t bytes false = Close s.id (Return (false, (closed_for why.Memory (emptied s), counted_as why.Memory t)))
 
-abbrev pub after_reading : Session → Turn → Reading → Talk (Bool × (Session × Turn))
-after_reading s t (given.Bytes bytes) = Room (after_feed s t bytes)
-after_reading s t given.NotYet = Return (false, (not_owed s, t))
-after_reading s t given.End = Return (false, (at_end s, t))
-after_reading s t given.Failed = Close s.id (Return (false, (closed_for why.Failed (unsending s), counted_as why.Failed t)))
+abbrev pub after_read_answer : Session → Turn → Reading → Talk (Bool × (Session × Turn))
+after_read_answer s t (given.Bytes bytes) = Room (after_feed s t bytes)
+after_read_answer s t given.NotYet = Return (false, (not_owed s, t))
+after_read_answer s t given.End = Return (false, (at_end s, t))
+after_read_answer s t given.Failed = Close s.id (Return (false, (closed_for why.Failed (unsending s), counted_as why.Failed t)))
 
 -- one piece, and whether there may be another
 unfoldable pub reading_piece : Session × Turn → Talk (Bool × (Session × Turn))
-reading_piece x = Read x.0.id 4096 (after_reading x.0 x.1)
+reading_piece x = Read x.0.id 4096 (after_read_answer x.0 x.1)
 
 abbrev pub closing_by : Life → Session → Turn → Talk (Session × Turn)
 closing_by life.Open s t = Return (s, t)
