@@ -26,6 +26,8 @@ mod intent;
 #[cfg(test)]
 mod serve;
 #[cfg(test)]
+mod sessions;
+#[cfg(test)]
 mod store;
 #[cfg(test)]
 mod sysfs;

@@ -1,0 +1,6 @@
+pub mod Runs
+pub mod Told
+pub mod Paths
+pub mod Extending
+mod Places
+mod Numbering

@@ -1,0 +1,18 @@
+use Rattle.std.proofs.Common.{◌∙◌, length, arith}
+use Rattle.ug_links.proofs.Places.{changed_past, changed_in, read_past, read_in}
+use Rattle.ug_links.specs.Peers.{read_after}
+use Rattle.ug_links.proofs.scripts.read_peer_of.Goals as goal
+
+pub returns-then-i-peers-clause-answer : goal.returns-then-i-peers-clause-answer
+returns-then-i-peers-clause-answer c = read_past (length c.args.into.now) c.args.id.0 c.args.peers.now (omega (arith, c.if-i-peers.true))
+
+pub returns-then-i-peers-clause-after : goal.returns-then-i-peers-clause-after
+returns-then-i-peers-clause-after c = changed_past (read_after (length c.args.into.now)) c.args.id.0 c.args.peers.now (omega (arith, c.if-i-peers.true))
+
+pub returns-clause-answer : goal.returns-clause-answer
+returns-clause-answer c =
+    c.read.ensures.answer ∙ read_in (length c.args.into.now) c.args.id.0 c.args.peers.now c.index-peers-i.result (omega (arith, c.if-i-peers.false))
+
+pub returns-clause-after : goal.returns-clause-after
+returns-clause-after c =
+    changed_in (read_after (length c.args.into.now)) c.args.id.0 c.args.peers.now c.index-peers-i.result c.read.new.self (omega (arith, c.if-i-peers.false)) c.read.ensures.after

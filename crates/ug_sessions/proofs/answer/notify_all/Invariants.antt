@@ -1,0 +1,9 @@
+use Rattle.std.proofs.Common.{◌≡◌, take, drop}
+use Rattle.ug_sessions.specs.Answering.{Each, NoticesOne, may_listen}
+use Rattle.ug_sessions.proofs.answer.notify_all.Given as goal
+
+abbrev pub invariant-loop-i : goal.invariant-loop-i
+invariant-loop-i l = record {
+  front : Each (NoticesOne (may_listen l.acl l.section) l.text) (take l.i l.fn.sessions) (take l.i l.sessions);
+  same : drop l.i l.sessions ≡ drop l.i l.fn.sessions;
+}

@@ -1,0 +1,14 @@
+pub mod Accepting
+pub mod Answering
+pub mod Counting
+pub mod Due
+pub mod Handed
+pub mod Known
+pub mod Reading
+pub mod Sending
+pub mod Serving
+pub mod Sessions
+pub mod States
+pub mod Tokens
+pub mod Tried
+pub mod Waiting
