@@ -28,6 +28,10 @@ use Rattle.ug_audit.specs.declared.entry.Entry.{Entry}
 use Rattle.ug_audit.specs.declared.entry.Entry.TheVariants as entry
 use Rattle.ug_types.proofs.Elements.{has_left}
 use Rattle.ug_proto.specs.declared.reply.Reply.{Reply}
+use Rattle.ug_proto.specs.declared.reply.Reply.TheVariants as reply
+use Rattle.ug_policy.specs.declared.entry.RuleEntry.{RuleEntry}
+use Rattle.ug_core.specs.DeviceRows.{device_rows}
+use Rattle.ug_core.specs.RuleRows.{rule_rows}
 use Rattle.ug_proto.specs.declared.request.Request.{Request}
 use Rattle.ug_proto.specs.declared.request.Request.TheVariants as request
 use Rattle.ug_proto.specs.Privileges.{needs}
@@ -47,9 +51,9 @@ use Rattle.ug_table.proofs.OnePart.{told_more}
 use Rattle.ug_table.proofs.Once.{names_more}
 use Rattle.ug_table.proofs.Ordered.{EndsOrder, order_one, order_part, ordering_ways}
 use Rattle.ug_table.proofs.Standings.{numbered_has}
-use Rattle.ug_core.specs.Answering.{by_probe, by_standing, by_privilege, by_request, if_read, asking, answer_to, keeping, answered_with, acting, answering, replying}
+use Rattle.ug_core.specs.Answering.{by_probe, by_standing, by_privilege, by_list, by_request, if_room, if_read, asking, answer_of, reply_to, keeping, answered_with, acting, answering, replying}
 use Rattle.ug_core.specs.Event.{DaemonState, ready}
-use Rattle.ug_core.specs.Laws.{RefusesOrder, CarriesOut, AnswersEvent, Answers, GoesAsAnswer, Replies, TellsSweep}
+use Rattle.ug_core.specs.Laws.{RefusesOrder, TellsList, CarriesOut, AnswersEvent, Answers, GoesAsAnswer}
 use Rattle.ug_core.specs.Policy.{Judging, policy_answer, policy_later}
 use Rattle.ug_core.specs.Privileges.{first_denied, is_granted}
 use Rattle.ug_core.specs.declared.daemon.Event.{Event}
@@ -83,16 +87,23 @@ record IsProbedFor {S : Type 0} (gives : S → (call : Call) → Answer call →
   probed : gives s (Ask_alive standing.held.0) found t
   is : c ≡ by_probe number verdict found.count found.answer
 
-abbrev Asked : {S : Type 0} → (S → (call : Call) → Answer call → S → Type 0) → List Addition → List Standing → Named → Result Request ℕ → Choice → S → S → Type 0
-Asked gives access ss who read c s t = IsRefused c s t ⊎ IsProbedFor gives access ss who read c s t
+-- or it is told a list
+record IsTold {S : Type 0} (access : List Addition) (ss : List Standing) (rules : List RuleEntry) (who : Named) (read : Result Request ℕ) (c : Choice) (s t : S) : Type 0 where
+  rows : List (List ℕ)
+  list : ((read ≡ Ok request.ListDevices) × (is_granted access who (needs request.ListDevices) ≡ true) × (rows ≡ device_rows ss)) ⊎ ((read ≡ Ok request.ListRules) × (is_granted access who (needs request.ListRules) ≡ true) × (rows ≡ rule_rows rules))
+  is : c ≡ choice.Tell rows
+  same : t ≡ s
 
-module _ {S : Type 0} (gives : S → (call : Call) → Answer call → S → Type 0) (access : List Addition) (ss : List Standing) (who : Named) (c : Choice) (s t : S) where
-  refuses : (r : Refusal) (read : Result Request ℕ) → told_in_reply (Err r) ≡ [] → (c ≡ choice.Refuse r) × (t ≡ s) → Asked gives access ss who read c s t
+abbrev Asked : {S : Type 0} → (S → (call : Call) → Answer call → S → Type 0) → List Addition → List Standing → List RuleEntry → Named → Result Request ℕ → Choice → S → S → Type 0
+Asked gives access ss rules who read c s t = IsRefused c s t ⊎ (IsTold access ss rules who read c s t ⊎ IsProbedFor gives access ss who read c s t)
+
+module _ {S : Type 0} (gives : S → (call : Call) → Answer call → S → Type 0) (access : List Addition) (ss : List Standing) (rules : List RuleEntry) (who : Named) (c : Choice) (s t : S) where
+  refuses : (r : Refusal) (read : Result Request ℕ) → told_in_reply (Err r) ≡ [] → (c ≡ choice.Refuse r) × (t ≡ s) → Asked gives access ss rules who read c s t
   refuses r read silent h = inl (record { refused = r; is = h.0; silent = silent; same = h.1 })
 
-  by_standing_asked : (number : ℕ) (verdict : Target) (o : Option Standing) → numbered number ss ≡ o → is_granted access who (needs (request.Device number verdict false)) ≡ true → Runs gives s (by_standing number verdict o) c t → Asked gives access ss who (Ok (request.Device number verdict false)) c s t
+  by_standing_asked : (number : ℕ) (verdict : Target) (o : Option Standing) → numbered number ss ≡ o → is_granted access who (needs (request.Device number verdict false)) ≡ true → Runs gives s (by_standing number verdict o) c t → Asked gives access ss rules who (Ok (request.Device number verdict false)) c s t
   by_standing_asked number verdict None at granted h = refuses (refusal.NoDevice number) (Ok (request.Device number verdict false)) refl h
-  by_standing_asked number verdict (Some x) at granted h = inr (record {
+  by_standing_asked number verdict (Some x) at granted h = inr (inr (record {
     number = number;
     verdict = verdict;
     standing = x;
@@ -102,29 +113,41 @@ module _ {S : Type 0} (gives : S → (call : Call) → Answer call → S → Typ
     found = h.0;
     probed = subst (λ (u : S). gives s (Ask_alive x.held.0) h.0 u) (sym h.3.1) h.2;
     is = h.3.0;
-  })
+  }))
 
-  by_privilege_asked : (number : ℕ) (verdict : Target) (b : Bool) → is_granted access who (needs (request.Device number verdict false)) ≡ b → Runs gives s (by_privilege ss number verdict (cond b None (first_denied (needs (request.Device number verdict false))))) c t → Asked gives access ss who (Ok (request.Device number verdict false)) c s t
+  by_privilege_asked : (number : ℕ) (verdict : Target) (b : Bool) → is_granted access who (needs (request.Device number verdict false)) ≡ b → Runs gives s (by_privilege ss number verdict (cond b None (first_denied (needs (request.Device number verdict false))))) c t → Asked gives access ss rules who (Ok (request.Device number verdict false)) c s t
   by_privilege_asked number verdict true granted h = by_standing_asked number verdict (numbered number ss) refl granted h
   by_privilege_asked number verdict false denied h = refuses (refusal.Denied section.Devices privilege.Modify) (Ok (request.Device number verdict false)) refl h
 
-  by_request_asked : (read : Result Request ℕ) → Runs gives s (by_request access ss who read) c t → Asked gives access ss who read c s t
+  room_asked : (rows : List (List ℕ)) (read : Result Request ℕ) → (((read ≡ Ok request.ListDevices) × (is_granted access who (needs request.ListDevices) ≡ true) × (rows ≡ device_rows ss)) ⊎ ((read ≡ Ok request.ListRules) × (is_granted access who (needs request.ListRules) ≡ true) × (rows ≡ rule_rows rules))) → (b : Bool) → Runs gives s (if_room rows b) c t → Asked gives access ss rules who read c s t
+  room_asked rows read list true h = inr (inl (record { rows = rows; list = list; is = h.0; same = h.1 }))
+  room_asked rows read list false h = refuses (refusal.Memory false) read refl h
+
+  devices_asked : (b : Bool) → is_granted access who (needs request.ListDevices) ≡ b → Runs gives s (by_list (device_rows ss) (cond b None (first_denied (needs request.ListDevices)))) c t → Asked gives access ss rules who (Ok request.ListDevices) c s t
+  devices_asked true granted h = room_asked (device_rows ss) (Ok request.ListDevices) (inl (refl, granted, refl)) h.0 h.1
+  devices_asked false denied h = refuses (refusal.Denied section.Devices privilege.List) (Ok request.ListDevices) refl h
+
+  rules_asked : (b : Bool) → is_granted access who (needs request.ListRules) ≡ b → Runs gives s (by_list (rule_rows rules) (cond b None (first_denied (needs request.ListRules)))) c t → Asked gives access ss rules who (Ok request.ListRules) c s t
+  rules_asked true granted h = room_asked (rule_rows rules) (Ok request.ListRules) (inr (refl, granted, refl)) h.0 h.1
+  rules_asked false denied h = refuses (refusal.Denied section.Policy privilege.List) (Ok request.ListRules) refl h
+
+  by_request_asked : (read : Result Request ℕ) → Runs gives s (by_request access ss rules who read) c t → Asked gives access ss rules who read c s t
   by_request_asked (Err place) h = refuses (refusal.BadRequest place) (Err place) refl h
   by_request_asked (Ok (request.Device number verdict false)) h = by_privilege_asked number verdict (is_granted access who (needs (request.Device number verdict false))) refl h
   by_request_asked (Ok (request.Device number verdict true)) h = refuses (refusal.BadRequest 0) _ refl h
   by_request_asked (Ok (request.GetParameter name)) h = refuses (refusal.BadRequest 0) _ refl h
   by_request_asked (Ok (request.SetParameter name value)) h = refuses (refusal.BadRequest 0) _ refl h
-  by_request_asked (Ok request.ListDevices) h = refuses (refusal.BadRequest 0) _ refl h
-  by_request_asked (Ok request.ListRules) h = refuses (refusal.BadRequest 0) _ refl h
+  by_request_asked (Ok request.ListDevices) h = devices_asked (is_granted access who (needs request.ListDevices)) refl h
+  by_request_asked (Ok request.ListRules) h = rules_asked (is_granted access who (needs request.ListRules)) refl h
   by_request_asked (Ok (request.AppendRule after permanent rule)) h = refuses (refusal.BadRequest 0) _ refl h
   by_request_asked (Ok (request.RemoveRule id)) h = refuses (refusal.BadRequest 0) _ refl h
   by_request_asked (Ok request.Watch) h = refuses (refusal.BadRequest 0) _ refl h
 
-  asked_of : (line : List ℕ) → Runs gives s (asking access ss who line) c t → Asked gives access ss who (request_read line) c s t
+  asked_of : (line : List ℕ) → Runs gives s (asking access ss rules who line) c t → Asked gives access ss rules who (request_read line) c s t
   unfolding asking
   asked_of line h = by_room h.0 h.1
     where
-      by_room : (b : Bool) → Runs gives s (if_read access ss who line b) c t → Asked gives access ss who (request_read line) c s t
+      by_room : (b : Bool) → Runs gives s (if_read access ss rules who line b) c t → Asked gives access ss rules who (request_read line) c s t
       by_room true k = by_request_asked (request_read line) k
       by_room false k = refuses (refusal.Memory false) (request_read line) refl k
 
@@ -140,7 +163,7 @@ rest_quiet name (entry.Gone number other ∷ es) h w = rest_quiet name es h.1 w
 rest_quiet name (entry.Unsettled other why ∷ es) h w = let none : ⊥ = cc in absurd none
 rest_quiet name (e ∷ es) h w = absurd h.0
 
-told_answer : (how : Settled) → told_in_reply (answer_to how) ≡ failed_of how
+told_answer : (how : Settled) → told_in_reply (answer_of (reply_to how)) ≡ failed_of how
 told_answer settled.Stands = refl
 told_answer settled.Nobody = refl
 told_answer (settled.Fault failed) = refl
@@ -154,26 +177,26 @@ pub record Answered {S : Type 0} (gives : S → (call : Call) → Answer call �
   pub told : failures_told a.sweep.entries ≡ failures made
   pub nameless : unsettled_names a.sweep.entries ≡ []
 
-reply_told : (answer : Result (Unit {0}) Refusal) (a b : DaemonState) → a ≡ replying answer b → failures_told a.sweep.entries ≡ failures_told b.sweep.entries ++ told_in_reply answer
-reply_told answer a b is =
+reply_told : (said : Reply) (a b : DaemonState) → a ≡ replying said b → failures_told a.sweep.entries ≡ failures_told b.sweep.entries ++ told_in_reply (answer_of said)
+reply_told said a b is =
     ap (λ (x : DaemonState). failures_told x.sweep.entries) is
-    ∙ told_more b.sweep.entries (entry.Reply answer ∷ [])
-    ∙ ap (λ (x : List FailedCall). failures_told b.sweep.entries ++ x) (append-nil (told_in_reply answer))
+    ∙ told_more b.sweep.entries (entry.Reply (answer_of said) ∷ [])
+    ∙ ap (λ (x : List FailedCall). failures_told b.sweep.entries ++ x) (append-nil (told_in_reply (answer_of said)))
 
-reply_names : (answer : Result (Unit {0}) Refusal) (a b : DaemonState) → a ≡ replying answer b → unsettled_names a.sweep.entries ≡ unsettled_names b.sweep.entries
-reply_names answer a b is =
+reply_names : (said : Reply) (a b : DaemonState) → a ≡ replying said b → unsettled_names a.sweep.entries ≡ unsettled_names b.sweep.entries
+reply_names said a b is =
     ap (λ (x : DaemonState). unsettled_names x.sweep.entries) is
-    ∙ names_more b.sweep.entries (entry.Reply answer ∷ [])
+    ∙ names_more b.sweep.entries (entry.Reply (answer_of said) ∷ [])
     ∙ append-nil (unsettled_names b.sweep.entries)
 
 module _ {S : Type 0} (gives : S → (call : Call) → Answer call → S → Type 0) (calls faults : S → ℕ) (counting : Counting gives calls faults) (moment : Moment) (who : Named) (line : List ℕ) (s : S) (d : DaemonState) (t : S) (a : DaemonState) (none : calls s ≡ 0) (order : StandInOrder d.sweep.next d.sweep.standings) (quiet : failures_told d.sweep.entries ≡ []) (nameless : unsettled_names d.sweep.entries ≡ []) where
-  refused_made : (r : Refusal) (made : List Made) → Along gives s made t → (made ≡ []) ⊎ ((x : Standing) × (f : Told Probe) × Has d.sweep.standings x × (made ≡ answered (Ask_alive x.held.0) f ∷ [])) → failures made ≡ told_in_reply (Err r) → a ≡ replying (Err r) d → Answered gives calls faults (Order moment who line) s d t a
+  refused_made : (r : Refusal) (made : List Made) → Along gives s made t → (made ≡ []) ⊎ ((x : Standing) × (f : Told Probe) × Has d.sweep.standings x × (made ≡ answered (Ask_alive x.held.0) f ∷ [])) → failures made ≡ told_in_reply (Err r) → a ≡ replying (reply.Refused r) d → Answered gives calls faults (Order moment who line) s d t a
   refused_made r made along calls told is = record {
     made = made;
     along = along;
     goes = inl (record { refused = r; calls = calls; told = told; state = is });
-    told = reply_told (Err r) a d is ∙ ap (λ (x : List FailedCall). x ++ told_in_reply (Err r)) quiet ∙ sym told;
-    nameless = reply_names (Err r) a d is ∙ nameless;
+    told = reply_told (reply.Refused r) a d is ∙ ap (λ (x : List FailedCall). x ++ told_in_reply (Err r)) quiet ∙ sym told;
+    nameless = reply_names (reply.Refused r) a d is ∙ nameless;
   }
 
   -- the first call of an event has number 1
@@ -193,9 +216,9 @@ module _ {S : Type 0} (gives : S → (call : Call) → Answer call → S → Typ
       record {
         made = m ∷ g.made;
         along = (u, probed, g.along);
-        goes = inr (record { number = number; verdict = verdict; standing = x; stands = stands; on = on; found = found; alive = alive; behind = u; probed = probed; how = p.0; kept = p.1; goes = g; made_is = refl; state = is });
-        told = reply_told (answer_to p.0) a b is ∙ ap (λ (fs : List FailedCall). fs ++ told_in_reply (answer_to p.0)) before ∙ told_answer p.0 ∙ sym g.failed ∙ ap (λ (fs : List FailedCall). fs ++ failures g.made) (sym silent);
-        nameless = reply_names (answer_to p.0) a b is ∙ names;
+        goes = inr (inr (record { number = number; verdict = verdict; standing = x; stands = stands; on = on; found = found; alive = alive; behind = u; probed = probed; how = p.0; kept = p.1; goes = g; made_is = refl; state = is }));
+        told = reply_told (reply_to p.0) a b is ∙ ap (λ (fs : List FailedCall). fs ++ told_in_reply (answer_of (reply_to p.0))) before ∙ told_answer p.0 ∙ sym g.failed ∙ ap (λ (fs : List FailedCall). fs ++ failures g.made) (sym silent);
+        nameless = reply_names (reply_to p.0) a b is ∙ names;
       }
 
   found_made : (number : ℕ) (verdict : Target) (x : Standing) (found : Told Probe) (u : S) (q : Probe) → numbered number d.sweep.standings ≡ Some x → found.answer ≡ q → gives s (Ask_alive x.held.0) found u → Runs gives u (acting who d (by_probe number verdict found.count q)) a t → Answered gives calls faults (Order moment who line) s d t a
@@ -211,14 +234,28 @@ module _ {S : Type 0} (gives : S → (call : Call) → Answer call → S → Typ
       (ap (λ (q : Probe). (cond (failed_probe q) (failure_of found ∷ []) []) ++ []) is ∙ ap (λ (n : ℕ). let f : FailedCall = record { call = n; count = found.count } in f ∷ []) (first_number x.held.0 found u probed))
       h.0
 
-  order_made : Runs gives s (then (asking d.access d.sweep.standings who line) (acting who d)) a t → Answered gives calls faults (Order moment who line) s d t a
+  told_made : (x : TellsList who line d a) → t ≡ s → Answered gives calls faults (Order moment who line) s d t a
+  told_made x same = record {
+    made = [];
+    along = same;
+    goes = inr (inl (refl, x));
+    told = reply_told (reply.Lines x.rows) a d x.state ∙ append-nil (failures_told d.sweep.entries) ∙ quiet;
+    nameless = reply_names (reply.Lines x.rows) a d x.state ∙ nameless;
+  }
+
+  order_made : Runs gives s (then (asking d.access d.sweep.standings d.sweep.judge.rules who line) (acting who d)) a t → Answered gives calls faults (Order moment who line) s d t a
   order_made h =
-      let x = runs_split gives s (asking d.access d.sweep.standings who line) (acting who d) a t h in
-      elim (asked_of gives d.access d.sweep.standings who x.0 s x.1 line x.2) [
+      let x = runs_split gives s (asking d.access d.sweep.standings d.sweep.judge.rules who line) (acting who d) a t h in
+      elim (asked_of gives d.access d.sweep.standings d.sweep.judge.rules who x.0 s x.1 line x.2) [
         | inl r ↦
             let run = subst (λ (c : Choice). Runs gives x.1 (acting who d c) a t) r.is x.3 in
             refused_made r.refused [] (run.1 ∙ r.same) (inl refl) (sym r.silent) run.0
-        | inr p ↦ found_made p.number p.verdict p.standing p.found x.1 p.found.answer p.stands refl p.probed (subst (λ (c : Choice). Runs gives x.1 (acting who d c) a t) p.is x.3)
+        | inr z ↦ elim z [
+          | inl l ↦
+              let run = subst (λ (c : Choice). Runs gives x.1 (acting who d c) a t) l.is x.3 in
+              told_made (record { rows = l.rows; list = l.list; state = run.0 }) (run.1 ∙ l.same)
+          | inr p ↦ found_made p.number p.verdict p.standing p.found x.1 p.found.answer p.stands refl p.probed (subst (λ (c : Choice). Runs gives x.1 (acting who d c) a t) p.is x.3)
+        ]
       ]
 
 pub answering_made : {S : Type 0} (gives : S → (call : Call) → Answer call → S → Type 0) (calls faults : S → ℕ) → Counting gives calls faults → (event : Event) (s : S) (d : DaemonState) (t : S) (a : DaemonState) → calls s ≡ 0 → StandInOrder d.sweep.next d.sweep.standings → failures_told d.sweep.entries ≡ [] → unsettled_names d.sweep.entries ≡ [] → Runs gives s (answering d event) a t → Answered gives calls faults event s d t a
@@ -249,17 +286,17 @@ ready_names (Order moment who line) (Some saved) d = refl
 -- ---- in the words of devices
 
 module _ (who : Named) (line : List ℕ) (k : Kernel) (d : DaemonState) (l : Kernel) (a : DaemonState) (sound : IsKernel l) (stand : Stand k d.sweep.standings d.sweep.next) where
-  refused_so : (r : Refusal) → Quiet k l → a ≡ replying (Err r) d → RefusesOrder k d l a ⊎ CarriesOut who line k d l a
+  refused_so : (r : Refusal) → Quiet k l → a ≡ replying (reply.Refused r) d → RefusesOrder k d l a ⊎ (((l ≡ k) × TellsList who line d a) ⊎ CarriesOut who line k d l a)
   refused_so r quiet is = inl (record { refused = r; sound = sound; quiet = quiet; state = is })
 
-  found_so : (number : ℕ) (verdict : Target) (x : Standing) (found : Told Probe) (m : Kernel) (q : Probe) → request_read line ≡ Ok (request.Device number verdict false) → is_granted d.access who (needs (request.Device number verdict false)) ≡ true → numbered number d.sweep.standings ≡ Some x → found.answer ≡ q → Called (Ask_alive x.held.0) found k m → Runs calls m (acting who d (by_probe number verdict found.count q)) a l → RefusesOrder k d l a ⊎ CarriesOut who line k d l a
+  found_so : (number : ℕ) (verdict : Target) (x : Standing) (found : Told Probe) (m : Kernel) (q : Probe) → request_read line ≡ Ok (request.Device number verdict false) → is_granted d.access who (needs (request.Device number verdict false)) ≡ true → numbered number d.sweep.standings ≡ Some x → found.answer ≡ q → Called (Ask_alive x.held.0) found k m → Runs calls m (acting who d (by_probe number verdict found.count q)) a l → RefusesOrder k d l a ⊎ (((l ≡ k) × TellsList who line d a) ⊎ CarriesOut who line k d l a)
   found_so number verdict x found m (probe.Alive on) asked granted stands is c h =
       let r = runs_split calls m (ordering number verdict who on (kept_of d.sweep.standings d.sweep.entries)) (λ (p : Settled × Kept). Return (answered_with d p)) a l h in
       let run = subst (λ (v : Kernel). Runs calls m (ordering number verdict who on (kept_of d.sweep.standings d.sweep.entries)) r.0 v) (sym r.3.1) r.2 in
       let quiet = called_quiet (Ask_alive x.held.0) found k m tt c in
       let was : Kept = kept_of d.sweep.standings d.sweep.entries in
       let told = (ways_run calls (EndsOrder x (with_verdict verdict who x) was) (ordering number verdict who on was) m r.0 l (ordering_ways number verdict who on was x stands) run).so in
-      inr (record {
+      inr (inr (record {
         number = number;
         verdict = verdict;
         asked = asked;
@@ -277,40 +314,37 @@ module _ (who : Named) (line : List ℕ) (k : Kernel) (d : DaemonState) (l : Ker
         bears = told.bears;
         given = told.given;
         state = r.3.0;
-      })
+      }))
   found_so number verdict x found m probe.Gone asked granted stands is c h = refused_so (refusal.NoDevice number) (subst (λ (v : Kernel). Quiet k v) (sym h.1) (called_quiet (Ask_alive x.held.0) found k m tt c)) h.0
   found_so number verdict x found m probe.Failed asked granted stands is c h = refused_so (refusal.ProbeFault found.count) (subst (λ (v : Kernel). Quiet k v) (sym h.1) (called_quiet (Ask_alive x.held.0) found k m tt c)) h.0
 
-  order_so : Runs calls k (then (asking d.access d.sweep.standings who line) (acting who d)) a l → RefusesOrder k d l a ⊎ CarriesOut who line k d l a
+  order_so : Runs calls k (then (asking d.access d.sweep.standings d.sweep.judge.rules who line) (acting who d)) a l → RefusesOrder k d l a ⊎ (((l ≡ k) × TellsList who line d a) ⊎ CarriesOut who line k d l a)
   order_so h =
-      let x = runs_split calls k (asking d.access d.sweep.standings who line) (acting who d) a l h in
-      elim (asked_of calls d.access d.sweep.standings who x.0 k x.1 line x.2) [
+      let x = runs_split calls k (asking d.access d.sweep.standings d.sweep.judge.rules who line) (acting who d) a l h in
+      elim (asked_of calls d.access d.sweep.standings d.sweep.judge.rules who x.0 k x.1 line x.2) [
         | inl r ↦
             let run = subst (λ (c : Choice). Runs calls x.1 (acting who d c) a l) r.is x.3 in
             refused_so r.refused (subst (λ (v : Kernel). Quiet k v) (sym (run.1 ∙ r.same)) (quiet_refl k)) run.0
-        | inr p ↦ found_so p.number p.verdict p.standing p.found x.1 p.found.answer p.asked p.granted p.stands refl p.probed (subst (λ (c : Choice). Runs calls x.1 (acting who d c) a l) p.is x.3)
+        | inr z ↦ elim z [
+          | inl t ↦
+              let run = subst (λ (c : Choice). Runs calls x.1 (acting who d c) a l) t.is x.3 in
+              inr (inl (run.1 ∙ t.same, record { rows = t.rows; list = t.list; state = run.0 }))
+          | inr p ↦ found_so p.number p.verdict p.standing p.found x.1 p.found.answer p.asked p.granted p.stands refl p.probed (subst (λ (c : Choice). Runs calls x.1 (acting who d c) a l) p.is x.3)
+        ]
       ]
 
 pub answering_told : {S : Type 0} (gives : S → (call : Call) → Answer call → S → Type 0) (told : S → Option Kernel) → ((s : S) (call : Call) (answer : Answer call) (t : S) (l : Kernel) → gives s call answer t → told t ≡ Some l → Follows call answer (told s) l) → (event : Event) (s : S) (d : DaemonState) (t : S) (a : DaemonState) → Runs gives s (answering d event) a t → Answers told event s d t a
 unfolding answering
 answering_told gives told did (Sweep moment) s d t a h = λ l e. (l, subst (λ (v : _). told v ≡ Some l) h.1 e, λ sound stand. (refl, h.0))
 answering_told gives told did (Order moment who line) s d t a h = λ l e.
-    let m = told_run gives told did (then (asking d.access d.sweep.standings who line) (acting who d)) s a t l h e in
+    let m = told_run gives told did (then (asking d.access d.sweep.standings d.sweep.judge.rules who line) (acting who d)) s a t l h e in
     (m.kernel, m.was, λ sound stand. let run = m.run sound in order_so who line m.kernel d l a run.1 stand run.0)
 
 -- behind an order the kernel is sound, and the standings are of its devices
 pub answered_stands : (event : Event) (k : Kernel) (d : DaemonState) (l : Kernel) (a : DaemonState) → IsKernel k → Stand k d.sweep.standings d.sweep.next → AnswersEvent event k d l a → IsKernel l × Stand l a.sweep.standings a.sweep.next
 answered_stands (Sweep moment) k d l a sound stand h = (subst (λ (v : Kernel). IsKernel v) (sym h.0) sound, subst (λ (v : Kernel). Stand v a.sweep.standings a.sweep.next) (sym h.0) (subst (λ (x : DaemonState). Stand k x.sweep.standings x.sweep.next) (sym h.1) stand))
 answered_stands (Order moment who line) k d l a sound stand (inl h) = (h.sound, subst (λ (x : DaemonState). Stand l x.sweep.standings x.sweep.next) (sym h.state) (stand_stays k l d.sweep.standings d.sweep.next (quiet_grows k l h.quiet) stand))
-answered_stands (Order moment who line) k d l a sound stand (inr h) =
+answered_stands (Order moment who line) k d l a sound stand (inr (inl h)) = (subst (λ (v : Kernel). IsKernel v) (sym h.0) sound, subst (λ (v : Kernel). Stand v a.sweep.standings a.sweep.next) (sym h.0) (subst (λ (x : DaemonState). Stand k x.sweep.standings x.sweep.next) (sym h.1.state) stand))
+answered_stands (Order moment who line) k d l a sound stand (inr (inr h)) =
     let fair = h.law.fair policy_answer policy_later false swept_before in
     (fair.sound, subst (λ (x : DaemonState). Stand l x.sweep.standings x.sweep.next) (sym h.state) fair.stand)
-
--- what the sweep adds leaves the reply
-pub replies_more : {S : Type 0} (gives : S → (call : Call) → Answer call → S → Type 0) (calls faults : S → ℕ) (event : Event) (m : S) (a : DaemonState) (t : S) (e : DaemonState) (said later : Option Reply) → TellsSweep gives calls faults m a t e → later ≡ said → Replies event a.sweep.entries said → Replies event e.sweep.entries later
-replies_more gives calls faults (Sweep moment) m a t e said later h same r = same ∙ r
-replies_more gives calls faults (Order moment who line) m a t e said later h same r =
-    let both : List Entry = h.tells.goes.head ++ h.tells.goes.rest in
-    let last : List Entry = entry.End a.event ∷ [] in
-    let has = has_left (a.sweep.entries ++ both) last (entry.Reply r.0) (has_left a.sweep.entries both (entry.Reply r.0) r.1) in
-    (r.0, subst (λ (es : List Entry). Has es (entry.Reply r.0)) (sym (ap (λ (v : State Judging). v.entries) h.entries ∙ ap (λ (es : List Entry). es ++ last) h.tells.goes.entries)) has, same ∙ r.2)

@@ -29,6 +29,7 @@ use Rattle.ug_conf.specs.declared.settings.Present.TheVariants as present
 use Rattle.ug_policy.specs.Deciding.{Found, decider}
 use Rattle.ug_policy.specs.Matching.{answer_by}
 use Rattle.ug_policy.specs.declared.entry.RuleEntry.{RuleEntry}
+use Rattle.ug_proto.specs.declared.reply.Reply.TheVariants as reply
 use Rattle.ug_proto.specs.declared.request.Request.TheVariants as request
 use Rattle.ug_store.specs.Disk.{Disk}
 use Rattle.ug_table.specs.Allowed.{allowed_records}
@@ -42,13 +43,13 @@ use Rattle.ug_table.proofs.Devices.{device_stays, stand_stays}
 use Rattle.ug_table.proofs.Ordered.{has_ordered, ordered_is, ordered_other, stand_ordered}
 use Rattle.ug_table.proofs.Says.{account_says}
 use Rattle.ug_table.proofs.Standings.{numbered_has}
-use Rattle.ug_core.specs.Answering.{answer_to, answered_with, replying}
+use Rattle.ug_core.specs.Answering.{answer_of, reply_to, answered_with, replying}
 use Rattle.ug_core.specs.Policy.{Judging, cause_for, choice_for, kept, by_choice, found_for, verdict_of, policy_answer, policy_later}
 use Rattle.ug_core.specs.Event.{DaemonState, IsStarted, first_entry, moment_of, saved_entries}
 use Rattle.ug_core.specs.declared.daemon.Event.{Event}
 use Rattle.ug_core.specs.declared.daemon.Event.TheVariants.{Sweep, Order}
 use Rattle.ug_core.specs.InForce.{Decision, decision_of, decisions_in, or_else, on_number, last_decision, last_judged, standing_decision, in_force, Agree, is_ordered, unordered, numbers_on, given_numbers, Follow}
-use Rattle.ug_core.specs.Laws.{RefusesOrder, CarriesOut, AnswersEvent, Handled}
+use Rattle.ug_core.specs.Laws.{RefusesOrder, TellsList, CarriesOut, AnswersEvent, Handled}
 use Rattle.ug_core.specs.Rulings.{Ruling, at_moment, ruling_answer, after_ruling, after_rulings, decision_by, decisions_by}
 use Rattle.ug_core.specs.Chain.{Happened, ready_of, IsEvent, StaysOnDisk, Chain, IsKeptThroughout, journal, tells_unlisted, has_listed, IsPlaced, WasOrdered, WasDecided, IsExplained, IsJudgedOnce, IsRun}
 use Rattle.ug_core.proofs.Verdicts.{is_verdict}
@@ -526,12 +527,16 @@ module _ (policy : Judging) (first : Kernel) (hs : List Happened) (h : Happened)
   replied_so : (k : Kernel) (w : State Judging) (answer : Result (Unit {0}) Refusal) → SoFar policy first k (hs ++ h ∷ []) (journal hs ++ w.entries) w → SoFar policy first k (hs ++ h ∷ []) (journal hs ++ (w.entries ++ entry.Reply answer ∷ [])) (record w { entries = w.entries ++ entry.Reply answer ∷ [] })
   replied_so k w answer so = subst (λ (es : List Entry). SoFar policy first k (hs ++ h ∷ []) es (record w { entries = w.entries ++ entry.Reply answer ∷ [] })) (append_assoc (journal hs) w.entries (entry.Reply answer ∷ [])) (noted_so policy first k (hs ++ h ∷ []) (journal hs ++ w.entries) (entry.Reply answer ∷ []) w (record w { entries = w.entries ++ entry.Reply answer ∷ [] }) refl refl refl (λ m. refl) so)
 
-  behind_order : (moment : Moment) (who : Named) (line : List ℕ) → h.event ≡ Order moment who line → list_any tells_unlisted (ready_of h).sweep.entries ≡ false → SoFar policy first h.kernel (hs ++ h ∷ []) (journal hs ++ (ready_of h).sweep.entries) (ready_of h).sweep → RefusesOrder h.kernel (ready_of h) h.kernel_answered h.answered ⊎ CarriesOut who line h.kernel (ready_of h) h.kernel_answered h.answered → Behind policy first hs h
+  behind_order : (moment : Moment) (who : Named) (line : List ℕ) → h.event ≡ Order moment who line → list_any tells_unlisted (ready_of h).sweep.entries ≡ false → SoFar policy first h.kernel (hs ++ h ∷ []) (journal hs ++ (ready_of h).sweep.entries) (ready_of h).sweep → RefusesOrder h.kernel (ready_of h) h.kernel_answered h.answered ⊎ (((h.kernel_answered ≡ h.kernel) × TellsList who line (ready_of h) h.answered) ⊎ CarriesOut who line h.kernel (ready_of h) h.kernel_answered h.answered) → Behind policy first hs h
   behind_order moment who line is silent so (inl r) =
       let d : DaemonState = ready_of h in
       let still = subst (λ (x : List Happened). SoFar policy first h.kernel_answered x (journal hs ++ d.sweep.entries) d.sweep) (append-nil (hs ++ h ∷ [])) (still_so policy first h.kernel h.kernel_answered (hs ++ h ∷ []) [] (journal hs ++ d.sweep.entries) d.sweep r.quiet so) in
-      behind_of (replying (Err r.refused) d) r.state (replied_so h.kernel_answered d.sweep (Err r.refused) still) refl refl (any_append d.sweep.entries (entry.Reply (Err r.refused) ∷ []) refl ∙ silent)
-  behind_order moment who line is silent so (inr c) =
+      behind_of (replying (reply.Refused r.refused) d) r.state (replied_so h.kernel_answered d.sweep (Err r.refused) still) refl refl (any_append d.sweep.entries (entry.Reply (Err r.refused) ∷ []) refl ∙ silent)
+  behind_order moment who line is silent so (inr (inl t)) =
+      let d : DaemonState = ready_of h in
+      let still = subst (λ (k : Kernel). SoFar policy first k (hs ++ h ∷ []) (journal hs ++ d.sweep.entries) d.sweep) (sym t.0) so in
+      behind_of (replying (reply.Lines t.1.rows) d) t.1.state (replied_so h.kernel_answered d.sweep (Ok tt) still) refl refl (any_append d.sweep.entries (entry.Reply (Ok tt) ∷ []) refl ∙ silent)
+  behind_order moment who line is silent so (inr (inr c)) =
       let d : DaemonState = ready_of h in
       let w : State Judging = d.sweep in
       let y : Standing = with_verdict c.verdict who c.standing in
@@ -540,7 +545,7 @@ module _ (policy : Judging) (first : Kernel) (hs : List Happened) (h : Happened)
       let one = numbered_has c.number w.standings c.standing c.stands in
       let fair = c.law.fair policy_answer policy_later false swept_before in
       let rest : c.rest ≡ fair.rest = cancel (w.entries ++ told ∷ []) c.rest fair.rest (append_assoc w.entries (told ∷ []) c.rest ∙ sym c.entries ∙ fair.entries) in
-      let inside : h.answered.sweep.entries ≡ w.entries ++ told ∷ (c.rest ++ entry.Reply (answer_to c.how) ∷ []) = ap (λ (x : DaemonState). x.sweep.entries) c.state ∙ ap (λ (es : List Entry). es ++ entry.Reply (answer_to c.how) ∷ []) c.entries ∙ append_assoc w.entries (told ∷ c.rest) (entry.Reply (answer_to c.how) ∷ []) in
+      let inside : h.answered.sweep.entries ≡ w.entries ++ told ∷ (c.rest ++ entry.Reply (answer_of (reply_to c.how)) ∷ []) = ap (λ (x : DaemonState). x.sweep.entries) c.state ∙ ap (λ (es : List Entry). es ++ entry.Reply (answer_of (reply_to c.how)) ∷ []) c.entries ∙ append_assoc w.entries (told ∷ c.rest) (entry.Reply (answer_of (reply_to c.how)) ∷ []) in
       let was : WasOrdered (hs ++ h ∷ []) (decision_of y) = record {
         earlier = hs;
         event = h;
@@ -557,7 +562,7 @@ module _ (policy : Judging) (first : Kernel) (hs : List Happened) (h : Happened)
         stands = ap (λ (n : ℕ). numbered n w.standings) one.1 ∙ c.stands;
         name = refl;
         held = refl;
-        in_event = subst (λ (es : List Entry). Has es told) (sym inside) (has_right w.entries (told ∷ (c.rest ++ entry.Reply (answer_to c.how) ∷ [])) told (inl refl));
+        in_event = subst (λ (es : List Entry). Has es told) (sym inside) (has_right w.entries (told ∷ (c.rest ++ entry.Reply (answer_of (reply_to c.how)) ∷ [])) told (inl refl));
       } in
       let probed = subst (λ (x : List Happened). SoFar policy first c.middle x (journal hs ++ w.entries) w) (append-nil (hs ++ h ∷ [])) (still_so policy first h.kernel c.middle (hs ++ h ∷ []) [] (journal hs ++ w.entries) w c.probed.quiet so) in
       let set = ordered_so policy first c.middle (hs ++ h ∷ []) (journal hs ++ w.entries) w c.number c.verdict who c.standing c.stands was probed in
@@ -565,10 +570,10 @@ module _ (policy : Judging) (first : Kernel) (hs : List Happened) (h : Happened)
       let written = fair_so policy first (hs ++ h ∷ []) ((journal hs ++ w.entries) ++ told ∷ []) (moment_of h.event) false c.middle h.kernel_answered (just_ordered c.number c.verdict who c.standing w) v refl fair (λ r p. no_ruling fair.rest r none p) set in
       let same : ((journal hs ++ w.entries) ++ told ∷ []) ++ fair.rest ≡ journal hs ++ v.entries = append_assoc (journal hs ++ w.entries) (told ∷ []) fair.rest ∙ append_assoc (journal hs) w.entries (told ∷ fair.rest) ∙ ap (λ (es : List Entry). journal hs ++ es) (sym (fair.entries ∙ append_assoc w.entries (told ∷ []) fair.rest)) in
       behind_of (answered_with d (c.how, c.kept)) c.state
-      (replied_so h.kernel_answered v (answer_to c.how) (subst (λ (es : List Entry). SoFar policy first h.kernel_answered (hs ++ h ∷ []) es v) same written))
+      (replied_so h.kernel_answered v (answer_of (reply_to c.how)) (subst (λ (es : List Entry). SoFar policy first h.kernel_answered (hs ++ h ∷ []) es v) same written))
       refl
       refl
-      (any_append c.kept.entries (entry.Reply (answer_to c.how) ∷ []) refl ∙ ap (λ (es : List Entry). list_any tells_unlisted es) c.entries ∙ any_front w.entries (told ∷ c.rest) silent ∙ rest_listings c.standing.name c.rest c.bears)
+      (any_append c.kept.entries (entry.Reply (answer_of (reply_to c.how)) ∷ []) refl ∙ ap (λ (es : List Entry). list_any tells_unlisted es) c.entries ∙ any_front w.entries (told ∷ c.rest) silent ∙ rest_listings c.standing.name c.rest c.bears)
     where
       given_none : (es : List Entry) → numbers_given es ≡ [] → decisions_in es ≡ []
       given_none [] g = refl

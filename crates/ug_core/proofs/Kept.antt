@@ -1,5 +1,5 @@
 -- What a crash may leave of the rule file in an event, and along a run.
-use Rattle.std.proofs.Common.{◌≡◌, ℕ, Bool, true, false, cond, List, [], ◌∷◌, ◌++◌, Option, Some, None, Err, inl, inr, refl, sym, ◌∙◌, ap, subst, append-nil}
+use Rattle.std.proofs.Common.{◌≡◌, ℕ, Bool, true, false, cond, List, [], ◌∷◌, ◌++◌, Option, Some, None, Ok, Err, inl, inr, refl, sym, ◌∙◌, ap, subst, append-nil}
 use Rattle.ug_types.specs.Elements.{Has}
 use Rattle.ug_types.specs.declared.rule.Rule.{Rule}
 use Rattle.ug_types.specs.declared.saved.Saved.{Saved}
@@ -28,7 +28,7 @@ use Rattle.ug_kernel.specs.declared.calls.Listing.TheVariants as listing
 use Rattle.ug_kernel.specs.declared.calls.FailedCall.{FailedCall}
 use Rattle.ug_core.specs.Policy.{Judging, as_given}
 use Rattle.ug_core.specs.RuleFile.{saved_of, permanent_rules, permanent_text}
-use Rattle.ug_core.specs.Answering.{answer_to}
+use Rattle.ug_core.specs.Answering.{answer_of, reply_to}
 use Rattle.ug_core.specs.Event.{DaemonState, first_entry, if_text, if_pending, trying, saved_entries, ready}
 use Rattle.ug_core.specs.Laws.{GoesAsAnswer, TellsEvent}
 use Rattle.ug_core.specs.declared.daemon.Event.{Event}
@@ -120,10 +120,12 @@ calm_answer : {S : Type 0} (gives : S → (call : Call) → Answer call → S �
 calm_answer gives calls faults (Sweep moment) s d made t a unsure h = ap (λ (x : DaemonState). unsure_after unsure x.sweep.entries) h.1
 calm_answer gives calls faults (Order moment who line) s d made t a unsure (inl h) =
     ap (λ (x : DaemonState). unsure_after unsure x.sweep.entries) h.state ∙ unsure_append unsure d.sweep.entries (entry.Reply (Err h.refused) ∷ [])
-calm_answer gives calls faults (Order moment who line) s d made t a unsure (inr h) =
+calm_answer gives calls faults (Order moment who line) s d made t a unsure (inr (inl h)) =
+    ap (λ (x : DaemonState). unsure_after unsure x.sweep.entries) h.1.state ∙ unsure_append unsure d.sweep.entries (entry.Reply (Ok tt) ∷ [])
+calm_answer gives calls faults (Order moment who line) s d made t a unsure (inr (inr h)) =
     let told : List Entry = verdict_entry (with_verdict h.verdict who h.standing) ∷ h.goes.rest in
     ap (λ (x : DaemonState). unsure_after unsure x.sweep.entries) h.state
-    ∙ unsure_append unsure h.kept.entries (entry.Reply (answer_to h.how) ∷ [])
+    ∙ unsure_append unsure h.kept.entries (entry.Reply (answer_of (reply_to h.how)) ∷ [])
     ∙ ap (λ (x : List Entry). unsure_after unsure x) h.goes.entries
     ∙ unsure_append unsure d.sweep.entries told
     ∙ calm_bears h.standing.name h.goes.rest h.goes.bears (unsure_after unsure d.sweep.entries)
@@ -202,7 +204,8 @@ text_given es = ap (λ (rs : List Rule). rules_text_of rs) (rules_given es)
 pub answer_judge : {S : Type 0} (gives : S → (call : Call) → Answer call → S → Type 0) (calls faults : S → ℕ) (event : Event) (s : S) (d : DaemonState) (made : List Made) (t : S) (a : DaemonState) → GoesAsAnswer gives calls faults event s d made t a → a.sweep.judge ≡ d.sweep.judge
 answer_judge gives calls faults (Sweep moment) s d made t a h = ap (λ (x : DaemonState). x.sweep.judge) h.1
 answer_judge gives calls faults (Order moment who line) s d made t a (inl h) = ap (λ (x : DaemonState). x.sweep.judge) h.state
-answer_judge gives calls faults (Order moment who line) s d made t a (inr h) = ap (λ (x : DaemonState). x.sweep.judge) h.state
+answer_judge gives calls faults (Order moment who line) s d made t a (inr (inl h)) = ap (λ (x : DaemonState). x.sweep.judge) h.1.state
+answer_judge gives calls faults (Order moment who line) s d made t a (inr (inr h)) = ap (λ (x : DaemonState). x.sweep.judge) h.state
 
 pub file_kept : {S T : Type 0} (gives : S → (call : Call) → Answer call → S → Type 0) (calls faults : S → ℕ) (keeps : T → (call : DiskCall) → DiskTold call → T → Type 0) (told : T → Option Disk) (did : (s : T) (call : DiskCall) (a : DiskTold call) (t : T) (n : Disk) → keeps s call a t → told t ≡ Some n → FollowsOnDisk call a (told s) n) (event : Event) (s : S) (o : T) (d : DaemonState) (tried : Option Saved) (m : S) (a : DaemonState) (t : S) (p : T) (e : DaemonState) → RunsDisk keeps o (trying d) tried p → TellsEvent gives calls faults event s (ready event tried d) m a t e → SameRules a.sweep.judge e.sweep → KeepsFile told o d p e
 unfolding trying

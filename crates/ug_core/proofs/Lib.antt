@@ -12,3 +12,7 @@ pub mod Chained
 pub mod Numbering
 pub mod Readable
 pub mod Started
+pub mod RowLines
+pub mod RowOrder
+pub mod RuleRowWalk
+pub mod RowWalk

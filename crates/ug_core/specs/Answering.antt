@@ -10,6 +10,7 @@ use Rattle.ug_kernel.specs.Calls.{Ask_alive}
 use Rattle.ug_kernel.specs.Tree.{Prog, Return, Ask, Room, then}
 use Rattle.ug_acl.specs.Acls.{Addition}
 use Rattle.ug_audit.specs.declared.entry.Entry.TheVariants as entry
+use Rattle.ug_policy.specs.declared.entry.RuleEntry.{RuleEntry}
 use Rattle.ug_proto.specs.declared.request.Request.{Request}
 use Rattle.ug_proto.specs.declared.request.Request.TheVariants as request
 use Rattle.ug_proto.specs.declared.reply.Reply.{Reply}
@@ -24,6 +25,8 @@ use Rattle.ug_table.specs.declared.standing.Settled.TheVariants as settled
 use Rattle.ug_table.specs.declared.standing.Standing.{Standing}
 use Rattle.ug_core.specs.Event.{DaemonState, noting}
 use Rattle.ug_core.specs.Privileges.{denied_of}
+use Rattle.ug_core.specs.DeviceRows.{device_rows}
+use Rattle.ug_core.specs.RuleRows.{rule_rows}
 use Rattle.ug_core.specs.declared.daemon.Event.{Event}
 use Rattle.ug_core.specs.declared.daemon.Event.TheVariants.{Sweep, Order}
 use Rattle.ug_core.specs.declared.orders.Choice.{Choice}
@@ -47,56 +50,70 @@ abbrev pub by_privilege : List Standing → ℕ → Target → Option Refusal �
 by_privilege ss number verdict (Some refused) = Return (choice.Refuse refused)
 by_privilege ss number verdict None = by_standing number verdict (numbered number ss)
 
--- Of the requests those that set the verdict of a device, and no rule, are carried out yet. The others are refused as no requests.
-abbrev pub by_request : List Addition → List Standing → Named → Result Request ℕ → Prog Choice
-by_request access ss who (Err place) = Return (choice.Refuse (refusal.BadRequest place))
-by_request access ss who (Ok (request.Device number verdict false)) =
+-- a list takes memory
+abbrev pub if_room : List (List ℕ) → Bool → Prog Choice
+if_room rows true = Return (choice.Tell rows)
+if_room rows false = Return (choice.Refuse (refusal.Memory false))
+
+abbrev pub by_list : List (List ℕ) → Option Refusal → Prog Choice
+by_list rows (Some refused) = Return (choice.Refuse refused)
+by_list rows None = Room (if_room rows)
+
+-- Of the requests these are carried out yet: the lists, and those that set the verdict of a device, and no rule. The others are refused
+-- as no requests.
+abbrev pub by_request : List Addition → List Standing → List RuleEntry → Named → Result Request ℕ → Prog Choice
+by_request access ss rules who (Err place) = Return (choice.Refuse (refusal.BadRequest place))
+by_request access ss rules who (Ok request.ListDevices) = by_list (device_rows ss) (denied_of access who (needs request.ListDevices))
+by_request access ss rules who (Ok request.ListRules) = by_list (rule_rows rules) (denied_of access who (needs request.ListRules))
+by_request access ss rules who (Ok (request.Device number verdict false)) =
     by_privilege ss number verdict (denied_of access who (needs (request.Device number verdict false)))
-by_request access ss who (Ok other) = Return (choice.Refuse (refusal.BadRequest 0))
+by_request access ss rules who (Ok other) = Return (choice.Refuse (refusal.BadRequest 0))
 
--- memory is taken to read the line, and for nothing else
-abbrev pub if_read : List Addition → List Standing → Named → List ℕ → Bool → Prog Choice
-if_read access ss who line true = by_request access ss who (request_read line)
-if_read access ss who line false = Return (choice.Refuse (refusal.Memory false))
+-- memory is taken to read the line
+abbrev pub if_read : List Addition → List Standing → List RuleEntry → Named → List ℕ → Bool → Prog Choice
+if_read access ss rules who line true = by_request access ss rules who (request_read line)
+if_read access ss rules who line false = Return (choice.Refuse (refusal.Memory false))
 
-unfoldable pub asking : List Addition → List Standing → Named → List ℕ → Prog Choice
-asking access ss who line = Room (if_read access ss who line)
+unfoldable pub asking : List Addition → List Standing → List RuleEntry → Named → List ℕ → Prog Choice
+asking access ss rules who line = Room (if_read access ss rules who line)
 
 -- a verdict is to be set of a device that has a standing
 abbrev pub IsThere : List Standing → Choice → Type 0
 IsThere ss (choice.Refuse refused) = Unit {0}
+IsThere ss (choice.Tell rows) = Unit {0}
 IsThere ss (choice.SetVerdict number verdict on) = IsSome (numbered number ss)
 
 -- ---- and what is then done
 
--- what is answered behind the writes: an order on a device that has left since is done
-abbrev pub answer_to : Settled → Result (Unit {0}) Refusal
-answer_to settled.Stands = Ok tt
-answer_to settled.Nobody = Ok tt
-answer_to (settled.Fault failed) = Err (refusal.DeviceFault failed.call failed.count)
-answer_to settled.Memory = Err (refusal.Memory true)
+-- the reply behind the writes: an order on a device that has left since is done
+abbrev pub reply_to : Settled → Reply
+reply_to settled.Stands = reply.Lines []
+reply_to settled.Nobody = reply.Lines []
+reply_to (settled.Fault failed) = reply.Refused (refusal.DeviceFault failed.call failed.count)
+reply_to settled.Memory = reply.Refused (refusal.Memory true)
 
 abbrev pub keeping : Kept → DaemonState → DaemonState
 keeping k d = record d { sweep = with_kept d.sweep k }
 
--- the reply that an entry tells: these orders have no lines
-abbrev pub reply_of : Result (Unit {0}) Refusal → Reply
-reply_of (Ok done) = reply.Lines []
-reply_of (Err refused) = reply.Refused refused
+-- what the journal tells of a reply
+abbrev pub answer_of : Reply → Result (Unit {0}) Refusal
+answer_of (reply.Lines lines) = Ok tt
+answer_of (reply.Refused refused) = Err refused
 
--- the answer is noted, and is the event's reply
-abbrev pub replying : Result (Unit {0}) Refusal → DaemonState → DaemonState
-replying answer d = record (noting (entry.Reply answer) d) { reply = Some (reply_of answer) }
+-- it is noted, and is the event's reply
+abbrev pub replying : Reply → DaemonState → DaemonState
+replying said d = record (noting (entry.Reply (answer_of said)) d) { reply = Some said }
 
 abbrev pub answered_with : DaemonState → Settled × Kept → DaemonState
-answered_with d p = replying (answer_to p.0) (keeping p.1 d)
+answered_with d p = replying (reply_to p.0) (keeping p.1 d)
 
 abbrev pub acting : Named → DaemonState → Choice → Prog DaemonState
-acting who d (choice.Refuse refused) = Return (replying (Err refused) d)
+acting who d (choice.Refuse refused) = Return (replying (reply.Refused refused) d)
+acting who d (choice.Tell rows) = Return (replying (reply.Lines rows) d)
 acting who d (choice.SetVerdict number verdict on) =
     then (ordering number verdict who on (kept_of d.sweep.standings d.sweep.entries)) (λ p. Return (answered_with d p))
 
 -- the order of an event; a sweep alone has none
 unfoldable pub answering : DaemonState → Event → Prog DaemonState
 answering d (Sweep moment) = Return d
-answering d (Order moment who line) = then (asking d.access d.sweep.standings who line) (acting who d)
+answering d (Order moment who line) = then (asking d.access d.sweep.standings d.sweep.judge.rules who line) (acting who d)

@@ -14,7 +14,7 @@ use Rattle.ug_kernel.specs.Along.{Made, answered, Along, failures, AreNumbered, 
 use Rattle.ug_kernel.specs.Tree.{Runs}
 use Rattle.ug_audit.specs.declared.entry.Entry.{Entry}
 use Rattle.ug_audit.specs.declared.entry.Entry.TheVariants as entry
-use Rattle.ug_proto.specs.declared.reply.Reply.{Reply}
+use Rattle.ug_proto.specs.declared.reply.Reply.TheVariants as replies
 use Rattle.ug_proto.specs.declared.request.Request.TheVariants as request
 use Rattle.ug_proto.specs.Privileges.{needs}
 use Rattle.ug_proto.specs.Requests.{request_read}
@@ -28,7 +28,9 @@ use Rattle.ug_table.specs.Parts.{AllBear, failures_told, told_in_reply, unsettle
 use Rattle.ug_table.specs.Standings.{numbered}
 use Rattle.ug_table.specs.declared.standing.Settled.{Settled}
 use Rattle.ug_table.specs.declared.standing.Standing.{Standing}
-use Rattle.ug_core.specs.Answering.{answering, answered_with, replying, reply_of}
+use Rattle.ug_core.specs.Answering.{answering, answered_with, replying}
+use Rattle.ug_core.specs.DeviceRows.{device_rows}
+use Rattle.ug_core.specs.RuleRows.{rule_rows}
 use Rattle.ug_core.specs.Policy.{Judging, policy_answer, policy_later}
 use Rattle.ug_core.specs.Privileges.{is_granted}
 use Rattle.ug_core.specs.Event.{DaemonState, ready, trying, handling}
@@ -46,6 +48,7 @@ pub record Handled (k : Kernel) (d : DaemonState) (l : Kernel) (e : DaemonState)
   pub access : e.access ≡ d.access
   pub pending : e.pending ≡ d.pending
   pub event : e.event ≡ d.event + 1
+  pub reply : e.reply ≡ d.reply
 
 -- where a kernel is told after the event, one was told before it; and where that is sound and the standings are of its devices,
 -- this is so
@@ -71,7 +74,7 @@ pub record RefusesOrder (k : Kernel) (d : DaemonState) (l : Kernel) (e : DaemonS
   pub refused : Refusal
   pub sound : IsKernel l
   pub quiet : Quiet k l
-  pub state : e ≡ replying (Err refused) d
+  pub state : e ≡ replying (replies.Refused refused) d
 
 -- A verdict that was ordered by one who may. The device of that number's standing was there, with that value. Its verdict is set and
 -- told, and the device is brought to it; and the reply tells what came of it.
@@ -94,10 +97,22 @@ pub record CarriesOut (who : Named) (line : List ℕ) (k : Kernel) (d : DaemonSt
   pub given : numbers_given rest ≡ []
   pub state : e ≡ answered_with d (how, kept)
 
+-- the lines are those of a list that the line asks for, and that the user or group may see
+abbrev pub IsList : Named → List ℕ → DaemonState → List (List ℕ) → Type 0
+IsList who line d rows =
+    ((request_read line ≡ Ok request.ListDevices) × (is_granted d.access who (needs request.ListDevices) ≡ true) × (rows ≡ device_rows d.sweep.standings))
+    ⊎ ((request_read line ≡ Ok request.ListRules) × (is_granted d.access who (needs request.ListRules) ≡ true) × (rows ≡ rule_rows d.sweep.judge.rules))
+
+-- A list is told to one who may see it, without a call, and changes nothing.
+pub record TellsList (who : Named) (line : List ℕ) (d : DaemonState) (e : DaemonState) : Type 0 where
+  pub rows : List (List ℕ)
+  pub list : IsList who line d rows
+  pub state : e ≡ replying (replies.Lines rows) d
+
 -- over kernels from k to l
 abbrev pub AnswersEvent : Event → Kernel → DaemonState → Kernel → DaemonState → Type 0
 AnswersEvent (Sweep moment) k d l e = (l ≡ k) × (e ≡ d)
-AnswersEvent (Order moment who line) k d l e = RefusesOrder k d l e ⊎ CarriesOut who line k d l e
+AnswersEvent (Order moment who line) k d l e = RefusesOrder k d l e ⊎ (((l ≡ k) × TellsList who line d e) ⊎ CarriesOut who line k d l e)
 
 -- where a kernel is told behind it, one was told before it; and where that is sound and the standings are of its devices, this is so
 abbrev pub Answers : {S : Type 0} → (S → Option Kernel) → Event → S → DaemonState → S → DaemonState → Type 0
@@ -108,7 +123,7 @@ pub record GoesAsRefusal (d : DaemonState) (made : List Made) (e : DaemonState) 
   pub refused : Refusal
   pub calls : (made ≡ []) ⊎ ((x : Standing) × (t : Told Probe) × Has d.sweep.standings x × (made ≡ answered (Ask_alive x.held.0) t ∷ []))
   pub told : failures made ≡ told_in_reply (Err refused)
-  pub state : e ≡ replying (Err refused) d
+  pub state : e ≡ replying (replies.Refused refused) d
 
 -- those of one that was carried out: a probe that finds the device, and then those that bring it to its verdict
 pub record GoesAsVerdict {S : Type 0} (gives : S → (call : Call) → Answer call → S → Type 0) (calls faults : S → ℕ) (who : Named) (s : S) (d : DaemonState) (made : List Made) (t : S) (e : DaemonState) : Type 0 where
@@ -129,12 +144,7 @@ pub record GoesAsVerdict {S : Type 0} (gives : S → (call : Call) → Answer ca
 
 abbrev pub GoesAsAnswer : {S : Type 0} → (S → (call : Call) → Answer call → S → Type 0) → (S → ℕ) → (S → ℕ) → Event → S → DaemonState → List Made → S → DaemonState → Type 0
 GoesAsAnswer gives calls faults (Sweep moment) s d made t e = (made ≡ []) × (e ≡ d)
-GoesAsAnswer gives calls faults (Order moment who line) s d made t e = GoesAsRefusal d made e ⊎ GoesAsVerdict gives calls faults who s d made t e
-
--- what the reply says is what was answered; a sweep has no reply
-abbrev pub Replies : Event → List Entry → Option Reply → Type 0
-Replies (Sweep moment) es said = said ≡ None
-Replies (Order moment who line) es said = (answer : Result (Unit {0}) Refusal) × Has es (entry.Reply answer) × (said ≡ Some (reply_of answer))
+GoesAsAnswer gives calls faults (Order moment who line) s d made t e = GoesAsRefusal d made e ⊎ (((made ≡ []) × TellsList who line d e) ⊎ GoesAsVerdict gives calls faults who s d made t e)
 
 -- ---- a whole event
 

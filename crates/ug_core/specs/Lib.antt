@@ -11,3 +11,6 @@ pub mod InForce
 pub mod Rulings
 pub mod Chain
 pub mod Starting
+pub mod DeviceRows
+pub mod Rows
+pub mod RuleRows

@@ -6,7 +6,7 @@ ghost use Rattle.ug_audit.specs.Noting.{NotesEntries, tells_drop, without_drops}
 ghost use Rattle.ug_store.specs.Store.{RunsDisk, pending_after};
 ghost use Rattle.ug_table.specs.Parts.{unsettled_names};
 ghost use Rattle.ug_core.specs.Event.{begun, daemon_of, first_entry, handling, has_numbers, is_low, moment_of, noting, NotesMore, saving_rules, tried_with, trying};
-ghost use Rattle.ug_core.specs.Laws.{Handles, HandlesEvent, NamesOnceIn, Replies, TellsSweep, TellsTried};
+ghost use Rattle.ug_core.specs.Laws.{Handles, HandlesEvent, NamesOnceIn, TellsSweep, TellsTried};
 
 use crate::daemon::{Daemon, Event};
 use crate::report::Report;
@@ -99,7 +99,6 @@ impl<'z, R: Rng> Daemon<'z, R> {
         requires { IsTrue (has_numbers (daemon_of self.old) (Y.faults sysfs.old) (D.faults disk.old)) }
         ensures handles { HandlesEvent Y.begins Y.gives Y.told Y.calls Y.faults D.keeps D.told D.faults
             event.now sysfs.old disk.old (daemon_of self.old) sysfs.new disk.new (daemon_of self.new) }
-        ensures replies { Replies event.now (daemon_of self.new).sweep.entries self.new.report.reply }
         ensures number { self.new.report.event ≡ self.old.next_event }
         ensures noted { NotesEntries self.new.report.entries.entries
             (members (λ b. ⟦<dyn Auditor as Auditor>⟧ b.vtable) panel.old)

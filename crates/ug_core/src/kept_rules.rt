@@ -6,14 +6,16 @@ ghost use Rattle.ug_cond.specs.Words.{behind};
 ghost use Rattle.ug_print.specs.Bytes.{RuleOfBytes};
 ghost use Rattle.ug_print.specs.RuleTexts.{rules_text_of};
 ghost use Rattle.ug_rule.specs.Files.{file_read};
+ghost use Rattle.ug_core.specs.RuleRows.{rule_rows};
 ghost use Rattle.ug_core.specs.RuleFile.{ReadsBack, permanent_rules, permanent_text, rules_in, saved_of};
 
+use crate::rule_list::list_rules;
 use rand_core::Rng;
 use std::alloc::Global;
 use ug_cond::{Allowed, Context};
 use ug_policy::{RuleEntry, RuleList};
 use ug_print::{RulesText, RulesTextFault};
-use ug_types::{Cause, DeviceRecord, Target, Text};
+use ug_types::{Cause, DeviceRecord, List, NoMemory, Target, Text};
 
 /// Rules, each of which reads again from its canonical text.
 #[derive(Drop)]
@@ -54,6 +56,13 @@ impl KeptRules {
         ensures { result.list ≡ list }
     {
         KeptRules { list }
+    }
+
+    /// The rows of a list of the rules.
+    pub fn rows(&self, alloc: Global) -> Result<List<Text>, NoMemory>
+        ensures { IfOk result (λ rows. rows ≡ rule_rows self.now.list.entries) }
+    {
+        list_rules(alloc, &self.list)
     }
 
     /// The id that the next rule gets.

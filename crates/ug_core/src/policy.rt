@@ -4,6 +4,7 @@ ghost use Rattle.ug_policy.specs.Deciding.{find_decider};
 ghost use Rattle.ug_rule.specs.Files.{file_read};
 ghost use Rattle.ug_table.specs.Allowed.{allowed_records};
 ghost use Rattle.ug_core.specs.Policy.{Judging, asks, by_class, clock_of, context_at, judging_of, policy_answer, policy_later, rules_if, stream_if};
+ghost use Rattle.ug_core.specs.RuleRows.{rule_rows};
 ghost use Rattle.ug_core.specs.RuleFile.{ReadsBack, permanent_rules, permanent_text, rules_in};
 
 use crate::classes::{Class, Classes, cause_for, keep};
@@ -16,7 +17,7 @@ use ug_conf::Present;
 use ug_policy::RuleList;
 use ug_print::RulesTextFault;
 use ug_table::{Judge, Table};
-use ug_types::{Cause, DeviceRecord, Judged, Moment, Query, Target, Text};
+use ug_types::{Cause, DeviceRecord, Judged, List, Moment, NoMemory, Query, Target, Text};
 
 /// The settings for classes of devices, the rules in order, the local time zone, when devices are judged, and the generator of random words.
 #[derive(Drop)]
@@ -100,6 +101,13 @@ impl<'z, R: Rng> Policy<'z, R> {
         ensures reads { IfOk result (λ text. file_read text ≡ Ok (permanent_rules (judging_of R.stream self.now).rules)) }
     {
         self.rules.text(alloc)
+    }
+
+    /// The rows of a list of the rules.
+    pub fn rule_rows(&self, alloc: Global) -> Result<List<Text>, NoMemory>
+        ensures { IfOk result (λ rows. rows ≡ rule_rows (judging_of R.stream self.now).rules) }
+    {
+        self.rules.rows(alloc)
     }
 
     /// The next verdicts are given at that moment.

@@ -14,6 +14,12 @@ use Rattle.ug_kernel.proofs.Ways.{Ways, ways_next, ways_last}
 use Rattle.ug_acl.specs.Acls.{Addition}
 use Rattle.ug_audit.specs.declared.entry.Entry.{Entry}
 use Rattle.ug_audit.specs.declared.entry.Entry.TheVariants as entry
+use Rattle.ug_types.specs.declared.access.Section.{Section}
+use Rattle.ug_types.specs.declared.access.Privilege.{Privilege}
+use Rattle.ug_policy.specs.declared.entry.RuleEntry.{RuleEntry}
+use Rattle.ug_proto.specs.declared.reply.Reply.TheVariants as reply
+use Rattle.ug_core.specs.DeviceRows.{device_rows}
+use Rattle.ug_core.specs.RuleRows.{rule_rows}
 use Rattle.ug_proto.specs.declared.request.Request.{Request}
 use Rattle.ug_proto.specs.declared.request.Request.TheVariants as request
 use Rattle.ug_proto.specs.Privileges.{needs}
@@ -34,7 +40,7 @@ use Rattle.ug_play.specs.Play.{is_short_reply, tells_memory, NameNobody}
 use Rattle.ug_play.proofs.Plays.{refused}
 use Rattle.ug_play.proofs.Sweeps.{Sums, refused_more, sweeping_sums, nobody_told, nobody_more, nothing_behind}
 use Rattle.ug_play.proofs.Wants.{memory_more}
-use Rattle.ug_core.specs.Answering.{by_probe, by_standing, by_privilege, by_request, if_read, asking, answer_to, keeping, answered_with, acting, answering, replying}
+use Rattle.ug_core.specs.Answering.{by_probe, by_standing, by_privilege, by_list, by_request, if_room, if_read, asking, answer_of, reply_to, keeping, answered_with, acting, answering, replying}
 use Rattle.ug_core.specs.Event as event
 use Rattle.ug_core.specs.Event.{DaemonState, handling}
 use Rattle.ug_core.specs.Policy.{Judging, policy_answer, policy_later}
@@ -49,6 +55,7 @@ use Rattle.ug_core.specs.declared.orders.Choice.TheVariants as choice
 -- The probe is the one call. A refusal tells want of memory just where the line found no room; a verdict is set where there was room.
 abbrev Asks : List Standing → Bool → List Made → Choice → Type 0
 Asks ss ok ms (choice.Refuse r) = (is_short_reply (Err r) ≡ refused ok ms) × (count_calls ms ≤ 1)
+Asks ss ok ms (choice.Tell rows) = (ok ≡ true) × (ms ≡ [])
 Asks ss ok ms (choice.SetVerdict number verdict on) = (ok ≡ true) × (has_want ms ≡ false) × (count_calls ms ≤ 1) × ((x : Standing) × (numbered number ss ≡ Some x))
 
 found_asks : (ss : List Standing) (number : ℕ) (verdict : Target) (x : Standing) (t : Told Probe) (a : Probe) → numbered number ss ≡ Some x → Asks ss true (answered (Ask_alive x.held.0) t ∷ []) (by_probe number verdict t.count a)
@@ -64,24 +71,32 @@ privilege_asks : (ss : List Standing) (number : ℕ) (verdict : Target) (b : Boo
 privilege_asks ss number verdict true = standing_asks ss number verdict (numbered number ss) refl
 privilege_asks ss number verdict false = (refl, omega arith)
 
-request_asks : (access : List Addition) (ss : List Standing) (who : Named) (read : Result Request ℕ) → Ways (by_request access ss who read) (Asks ss)
-request_asks access ss who (Err place) = (refl, omega arith)
-request_asks access ss who (Ok (request.Device number verdict false)) = privilege_asks ss number verdict (is_granted access who (needs (request.Device number verdict false)))
-request_asks access ss who (Ok (request.Device number verdict true)) = (refl, omega arith)
-request_asks access ss who (Ok (request.GetParameter name)) = (refl, omega arith)
-request_asks access ss who (Ok (request.SetParameter name value)) = (refl, omega arith)
-request_asks access ss who (Ok request.ListDevices) = (refl, omega arith)
-request_asks access ss who (Ok request.ListRules) = (refl, omega arith)
-request_asks access ss who (Ok (request.AppendRule after permanent rule)) = (refl, omega arith)
-request_asks access ss who (Ok (request.RemoveRule id)) = (refl, omega arith)
-request_asks access ss who (Ok request.Watch) = (refl, omega arith)
-
-asking_ways : (access : List Addition) (ss : List Standing) (who : Named) (line : List ℕ) → Ways (asking access ss who line) (Asks ss)
-unfolding asking
-asking_ways access ss who line = by_room
+list_asks : (ss : List Standing) (rows : List (List ℕ)) (section : Section) (b : Bool) → Ways (by_list rows (cond b None (Some (Refusal.Denied section Privilege.List)))) (Asks ss)
+list_asks ss rows section false = (refl, omega arith)
+list_asks ss rows section true = by_room
   where
-    by_room : (b : Bool) → Ways (if_read access ss who line b) (λ ok ms c. Asks ss (b && ok) ms c)
-    by_room true = request_asks access ss who (request_read line)
+    by_room : (b : Bool) → Ways (if_room rows b) (λ ok ms c. Asks ss (b && ok) ms c)
+    by_room true = (refl, refl)
+    by_room false = (refl, omega arith)
+
+request_asks : (access : List Addition) (ss : List Standing) (rules : List RuleEntry) (who : Named) (read : Result Request ℕ) → Ways (by_request access ss rules who read) (Asks ss)
+request_asks access ss rules who (Err place) = (refl, omega arith)
+request_asks access ss rules who (Ok (request.Device number verdict false)) = privilege_asks ss number verdict (is_granted access who (needs (request.Device number verdict false)))
+request_asks access ss rules who (Ok (request.Device number verdict true)) = (refl, omega arith)
+request_asks access ss rules who (Ok (request.GetParameter name)) = (refl, omega arith)
+request_asks access ss rules who (Ok (request.SetParameter name value)) = (refl, omega arith)
+request_asks access ss rules who (Ok request.ListDevices) = list_asks ss (device_rows ss) Section.Devices (is_granted access who (needs request.ListDevices))
+request_asks access ss rules who (Ok request.ListRules) = list_asks ss (rule_rows rules) Section.Policy (is_granted access who (needs request.ListRules))
+request_asks access ss rules who (Ok (request.AppendRule after permanent rule)) = (refl, omega arith)
+request_asks access ss rules who (Ok (request.RemoveRule id)) = (refl, omega arith)
+request_asks access ss rules who (Ok request.Watch) = (refl, omega arith)
+
+asking_ways : (access : List Addition) (ss : List Standing) (rules : List RuleEntry) (who : Named) (line : List ℕ) → Ways (asking access ss rules who line) (Asks ss)
+unfolding asking
+asking_ways access ss rules who line = by_room
+  where
+    by_room : (b : Bool) → Ways (if_read access ss rules who line b) (λ ok ms c. Asks ss (b && ok) ms c)
+    by_room true = request_asks access ss rules who (request_read line)
     by_room false = (refl, omega arith)
 
 -- ---- what is done
@@ -107,13 +122,13 @@ bears_sure name (entry.Gone number other ∷ es) b w = bears_sure name es b.1 w
 bears_sure name (entry.Unsettled other why ∷ es) b w = let none : ⊥ = cc in absurd none
 bears_sure name (e ∷ es) b w = absurd b.0
 
-short_answer : (how : Settled) → is_short_reply (answer_to how) ≡ are_short (why_of how)
+short_answer : (how : Settled) → is_short_reply (answer_of (reply_to how)) ≡ are_short (why_of how)
 short_answer settled.Stands = refl
 short_answer settled.Nobody = refl
 short_answer (settled.Fault failed) = refl
 short_answer settled.Memory = refl
 
-reply_so : (d : DaemonState) (ms : List Made) (ok : Bool) (r : Refusal) → is_short_reply (Err r) ≡ refused ok ms → count_calls ms ≤ 1 → AnswersSo d ok ms (replying (Err r) d)
+reply_so : (d : DaemonState) (ms : List Made) (ok : Bool) (r : Refusal) → is_short_reply (Err r) ≡ refused ok ms → count_calls ms ≤ 1 → AnswersSo d ok ms (replying (reply.Refused r) d)
 reply_so d ms ok r wants few = record {
   rest = entry.Reply (Err r) ∷ [];
   entries = refl;
@@ -128,11 +143,19 @@ reply_so d ms ok r wants few = record {
     or_none false = refl
 
 acting_ways : (who : Named) (d : DaemonState) (ms : List Made) (ok : Bool) (c : Choice) → Asks d.sweep.standings ok ms c → Ways (acting who d c) (λ more ns a. AnswersSo d (ok && more) (ms ++ ns) a)
-acting_ways who d ms ok (choice.Refuse r) h = subst (λ (xs : List Made). AnswersSo d (ok && true) xs (replying (Err r) d)) (sym (append-nil ms)) (subst (λ (b : Bool). AnswersSo d b ms (replying (Err r) d)) (sym (and_true ok)) (reply_so d ms ok r h.0 h.1))
+acting_ways who d ms ok (choice.Refuse r) h = subst (λ (xs : List Made). AnswersSo d (ok && true) xs (replying (reply.Refused r) d)) (sym (append-nil ms)) (subst (λ (b : Bool). AnswersSo d b ms (replying (reply.Refused r) d)) (sym (and_true ok)) (reply_so d ms ok r h.0 h.1))
   where
     and_true : (b : Bool) → (b && true) ≡ b
     and_true true = refl
     and_true false = refl
+acting_ways who d ms ok (choice.Tell rows) h = subst (λ (xs : List Made). AnswersSo d (ok && true) (xs ++ []) (replying (reply.Lines rows) d)) (sym h.1) (subst (λ (b : Bool). AnswersSo d (b && true) [] (replying (reply.Lines rows) d)) (sym h.0) (record {
+  rest = entry.Reply (Ok tt) ∷ [];
+  entries = refl;
+  wants = refl;
+  nobody = refl;
+  few = omega arith;
+  beside = refl;
+}))
 acting_ways who d ms ok (choice.SetVerdict number verdict on) h =
     let k : Kept = kept_of d.sweep.standings d.sweep.entries in
     let x : Standing = h.3.0 in
@@ -140,23 +163,23 @@ acting_ways who d ms ok (choice.SetVerdict number verdict on) h =
   where
     set_so : (more : Bool) (ns : List Made) (p : Settled × Kept) → EndsOrder h.3.0 (with_verdict verdict who h.3.0) (kept_of d.sweep.standings d.sweep.entries) more ns p → AnswersSo d (ok && (more && true)) (ms ++ (ns ++ [])) (answered_with d p)
     set_so more ns p o =
-        let reply : Entry = entry.Reply (answer_to p.0) in
+        let told : Entry = entry.Reply (answer_of (reply_to p.0)) in
         let rest : List Entry = verdict_entry (with_verdict verdict who h.3.0) ∷ o.rest in
         let sure = bears_sure h.3.0.name o.rest o.bears o.quiet in
         let made : ms ++ (ns ++ []) ≡ ms ++ ns = ap (λ (xs : List Made). ms ++ xs) (append-nil ns) in
         let granted : (ok && (more && true)) ≡ true = ap (λ (b : Bool). b && (more && true)) h.0 ∙ ap (λ (b : Bool). b && true) o.sure in
-        let wants : tells_memory (rest ++ reply ∷ []) ≡ refused true (ms ++ ns) =
-        memory_more rest (reply ∷ [])
-        ∙ ap (λ (b : Bool). b || tells_memory (reply ∷ [])) sure.0
-        ∙ or_none (is_short_reply (answer_to p.0))
+        let wants : tells_memory (rest ++ told ∷ []) ≡ refused true (ms ++ ns) =
+        memory_more rest (told ∷ [])
+        ∙ ap (λ (b : Bool). b || tells_memory (told ∷ [])) sure.0
+        ∙ or_none (is_short_reply (answer_of (reply_to p.0)))
         ∙ short_answer p.0
         ∙ sym o.want
         ∙ sym (want_more ms ns ∙ ap (λ (b : Bool). b || has_want ns) h.1) in
         subst (λ (xs : List Made). AnswersSo d (ok && (more && true)) xs (answered_with d p)) (sym made) (subst (λ (b : Bool). AnswersSo d b (ms ++ ns) (answered_with d p)) (sym granted) (record {
-          rest = rest ++ reply ∷ [];
-          entries = ap (λ (es : List Entry). es ++ reply ∷ []) o.entries ∙ append_assoc d.sweep.entries rest (reply ∷ []);
+          rest = rest ++ told ∷ [];
+          entries = ap (λ (es : List Entry). es ++ told ∷ []) o.entries ∙ append_assoc d.sweep.entries rest (told ∷ []);
           wants = wants;
-          nobody = nobody_more rest (reply ∷ []) sure.1 refl;
+          nobody = nobody_more rest (told ∷ []) sure.1 refl;
           few = (let first = h.2 in let later = o.few in let all = count_more ms ns in omega (arith, first, later, all));
           beside = refl;
         }))
@@ -168,7 +191,7 @@ acting_ways who d ms ok (choice.SetVerdict number verdict on) h =
 pub answering_ways : (event : Event) (d : DaemonState) → Ways (answering d event) (AnswersSo d)
 unfolding answering
 answering_ways (Sweep moment) d = record { rest = []; entries = sym (append-nil d.sweep.entries); wants = refl; nobody = refl; few = omega arith; beside = refl }
-answering_ways (Order moment who line) d = ways_next (Asks d.sweep.standings) (AnswersSo d) (asking d.access d.sweep.standings who line) (acting who d) (asking_ways d.access d.sweep.standings who line) (λ ok ms c h. acting_ways who d ms ok c h)
+answering_ways (Order moment who line) d = ways_next (Asks d.sweep.standings) (AnswersSo d) (asking d.access d.sweep.standings d.sweep.judge.rules who line) (acting who d) (asking_ways d.access d.sweep.standings d.sweep.judge.rules who line) (λ ok ms c h. acting_ways who d ms ok c h)
 
 -- ---- and the sweep behind it
 

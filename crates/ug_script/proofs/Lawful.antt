@@ -101,6 +101,7 @@ swept_from a m h =
       access = refl;
       pending = refl;
       event = refl;
+      reply = refl;
     })
 
 -- an event from a kernel that is told

@@ -6,7 +6,7 @@ use Rattle.ug_core.specs.Answering.{answering}
 use Rattle.ug_core.specs.Event.{DaemonState, daemon_of, tried_with, ready, trying}
 use Rattle.ug_audit.proofs.Noting.{live_members}
 use Rattle.ug_audit.proofs.Texts.{all_entries}
-use Rattle.ug_core.proofs.Answered.{Answered, answering_made, answering_told, ready_failures, ready_names, replies_more}
+use Rattle.ug_core.proofs.Answered.{Answered, answering_made, answering_told, ready_failures, ready_names}
 use Rattle.ug_core.proofs.Failures.{event_tells}
 use Rattle.ug_core.proofs.Kept.{file_kept}
 use Rattle.ug_core.proofs.Noted.{all_noted}
@@ -60,9 +60,6 @@ returns-clause-handles g c =
       faults_told = tells;
       once = c.sweep.ensures.once;
     }
-
-pub returns-clause-replies : goal.returns-clause-replies
-returns-clause-replies g c = replies_more g.Y.Sysfs.gives g.Y.Sysfs.calls g.Y.Sysfs.faults c.args.event.now c.answer.new.sysfs (daemon_of c.answer.new.self) c.sweep.new.sysfs (daemon_of c.sweep.new.self) c.answer.new.self.report.reply _ c.sweep.ensures.tells c.sweep.ensures.reply (c.answer.ensures.replies (c.save_pending-tried.ensures.reply ∙ c.begin.ensures.reply))
 
 pub returns-clause-noted : goal.returns-clause-noted
 returns-clause-noted g c =

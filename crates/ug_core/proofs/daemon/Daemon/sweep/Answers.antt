@@ -25,6 +25,7 @@ returns-clause-law g c = λ l e.
           (ap (λ (es : List Entry). record (state_of c.sweep.new.self (judging_of g.R.Rng.stream c.sweep.new.judge) (noted_in c.sweep.new.out).entries) { entries = es }) c.push.ensures.entries)
           refl
           refl
+          refl
           refl,
     )
 

@@ -1,4 +1,0 @@
-pub mod Lines
-pub mod Order
-pub mod RuleWalk
-pub mod Walk

@@ -1,3 +1,0 @@
-pub mod DeviceRows
-pub mod Rows
-pub mod RuleRows
