@@ -12,7 +12,8 @@ use ug_types::{Line, Privilege, Section};
 
 // Whether the privilege was granted or is asked for.
 fn is_wanted(granted: &Grants, asked: &Asked, section: Section, privilege: Privilege) -> bool
-    ensures { result ≡ holds granted.now section privilege || holds (pairs_asked asked.now) section privilege }
+    ensures { result ≡ holds granted.now section privilege
+        || holds (pairs_asked asked.now) section privilege }
 {
     granted.has(section, privilege) || asked.has(section, privilege)
 }
