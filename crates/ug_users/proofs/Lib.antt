@@ -1,0 +1,3 @@
+pub mod ListsRead
+pub mod Members
+pub mod Unions
