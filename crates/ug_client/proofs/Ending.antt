@@ -55,3 +55,6 @@ module _ (line : List ℕ) (sent0 sent1 sent left0 left1 left : Option (List ℕ
 
   pub asks_memory : (held0 held : Option (List ℕ)) (bytes : List ℕ) (result : Awaited) → Awaits left1 left bytes result → Keeps held0 held → Asks line sent0 sent left0 left held0 held asked.Memory
   asks_memory held0 held bytes result a w = record { taken = a.taken; source = kept_consumes left0 left1 left a.taken before a.source; requested = whole_part sent0 sent line line_sent; told = w }
+
+  pub asks_none : (held0 held : Option (List ℕ)) (bytes : List ℕ) → Awaits left1 left bytes awaited.NoReply → Keeps held0 held → Asks line sent0 sent left0 left held0 held asked.NoReply
+  asks_none held0 held bytes a w = record { taken = a.taken; source = kept_consumes left0 left1 left a.taken before a.source; requested = line_sent; told = (a.told, w) }

@@ -40,6 +40,10 @@ one_notice line rest reply behind n r = record {
   whole = ap (λ (l : List ℕ). line ++ 10 ∷ l) r.whole ∙ sym (append_assoc line (10 ∷ ended_lines r.notices) (reply_text reply ++ behind));
 }
 
+-- where a notice stands, no reply does
+pub reply_or_notice : (line more : List ℕ) (reply : Reply) (behind : List ℕ) → IsNotice line → ¬ (line ++ more ≡ reply_text reply ++ behind)
+reply_or_notice line more reply behind n = no_reply_first (line ++ more) behind reply (omega (arith, notice_first line more n))
+
 -- one notice less
 behind_one : (line rest : List ℕ) (reply : Reply) (behind : List ℕ) (notices : List (List ℕ)) → IsNotice line → AreNotices notices → IsReply reply
     → line ++ 10 ∷ rest ≡ ended_lines notices ++ (reply_text reply ++ behind) → Replied rest reply behind

@@ -2,3 +2,5 @@ pub mod Answers
 pub mod Asking
 pub mod Awaiting
 pub mod Notices
+pub mod Watching
+pub mod WholeBytes

@@ -4,11 +4,15 @@
 mod answer;
 mod asked;
 mod call;
+mod laws;
+mod lines;
 mod notice;
 mod receive;
 mod send;
+mod stream;
 mod write;
 
 pub use answer::read_answer;
 pub use asked::Asked;
-pub use call::ask;
+pub use call::{ask, watch};
+pub use laws::one_answer_law;

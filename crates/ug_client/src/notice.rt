@@ -14,7 +14,7 @@ pub enum Front {
 }
 
 /// How many bytes stand before the first newline.
-fn line_length(text: &[u8]) -> Option<usize>
+pub fn line_length(text: &[u8]) -> Option<usize>
     ensures within { IfSome result (λ n. n < length text.now) }
     ensures some { IfSome result (λ n. text.now ≡ take n text.now ++ 10 ∷ drop (n + 1) text.now) }
     ensures line { IfSome result (λ n. ¬ Has (take n text.now) 10) }
