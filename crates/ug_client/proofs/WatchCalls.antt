@@ -1,5 +1,5 @@
 -- How a request for notices ends.
-use Rattle.std.proofs.Common.{◌≡◌, ℕ, ◌≤◌, List, ◌++◌, drop, Option, ap, subst, ◌∙◌, append_assoc, arith}
+use Rattle.std.proofs.Common.{refl, inl, inr, ◌≡◌, ℕ, ◌≤◌, List, ◌++◌, drop, Option, ap, subst, ◌∙◌, append_assoc, arith}
 use Rattle.std.proofs.KnownBytes.{Appends-kept, Consumes-trans, Keeps-trans}
 use Rattle.std.specs.Io.KnownBytes.{Appends, Keeps}
 use Rattle.ug_types.specs.Ends.{Rose}
@@ -8,7 +8,7 @@ use Rattle.ug_proto.specs.Replies.{ended_lines, reply_text}
 use Rattle.ug_client.specs.Answers.{Replied}
 use Rattle.ug_client.specs.Awaiting.{Awaits}
 use Rattle.ug_client.specs.Asking.{Writes, SentBy, Asks}
-use Rattle.ug_client.specs.Watching.{WatchEnds, WatchesOn, Watches, Before, Behind}
+use Rattle.ug_client.specs.Watching.{WatchEnds, WatchesOn, Watches}
 use Rattle.ug_client.specs.declared.receive.Awaited.TheVariants as awaited
 use Rattle.ug_client.specs.declared.asked.Asked.{Asked}
 use Rattle.ug_client.specs.declared.asked.Asked.TheVariants as asked
@@ -16,7 +16,7 @@ use Rattle.ug_client.proofs.Ending.{kept_consumes, whole_part}
 
 -- what ends before an Ok reply
 pub ends_before : (line : List ℕ) (most : ℕ) (sent0 sent left0 left held0 held : Option (List ℕ)) (result : Asked) → ¬ (result ≡ asked.Done) → Asks line sent0 sent left0 left held0 held result → Watches line most sent0 sent left0 left held0 held result
-ends_before line most sent0 sent left0 left held0 held result n a = record { taken = a.taken; source = a.source; requested = a.requested; told = Before n a.told }
+ends_before line most sent0 sent left0 left held0 held result n a = record { taken = a.taken; source = a.source; requested = a.requested; told = inl (record { undone = n; enough = a.enough; told = a.told }) }
 
 -- more behind a reply
 pub replied_more : (bytes : List ℕ) (reply : Reply) (behind more : List ℕ) → Replied bytes reply behind → Replied (bytes ++ more) reply (behind ++ more)
@@ -43,8 +43,21 @@ module _ (line : List ℕ) (most : ℕ) (sent0 sent1 sent2 sent left0 left1 left
     taken = a.taken ++ o.taken;
     source = kept_consumes left0 left1 left (a.taken ++ o.taken) before (Consumes-trans left1 left2 left a.taken o.taken a.source o.source);
     requested = sent_by sent0 sent line result (Appends-kept sent0 sent1 sent line request (Keeps-trans sent1 sent2 sent kept1 kept2));
-    told = Behind reply (drop place a.taken ++ o.taken) held1 (replied_more a.taken reply (drop place a.taken) o.taken a.told.2) w.0 w.1
-        (subst (λ (b : List ℕ). WatchEnds (drop place b ++ o.taken) left most held1 held result) a.told.0 o.told);
+    told = inr (
+        record {
+          front = a.taken;
+          further = o.taken;
+          whole = refl;
+          enough = a.enough;
+          reply = reply;
+          ok = w.0;
+          behind = drop place a.taken;
+          replied = a.told.2;
+          held1 = held1;
+          written = w.1;
+          told = subst (λ (b : List ℕ). WatchEnds (drop place b ++ o.taken) left most held1 held result) a.told.0 o.told;
+        }
+        );
   }
 
 -- a count that rose behind one that didn't fall

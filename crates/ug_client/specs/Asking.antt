@@ -6,7 +6,7 @@ use Rattle.ug_proto.specs.Texts.{request_text}
 use Rattle.ug_proto.specs.declared.reply.Reply.{Reply}
 use Rattle.ug_proto.specs.declared.reply.Reply.TheVariants.{Lines, Refused}
 use Rattle.ug_client.specs.Answers.{Replied, printed}
-use Rattle.ug_client.specs.Awaiting.{GivesNoReply}
+use Rattle.ug_client.specs.Awaiting.{TakesNoMore, GivesNoReply}
 use Rattle.ug_client.specs.declared.send.Sent.{Sent}
 use Rattle.ug_client.specs.declared.send.Sent.TheVariants as sent
 use Rattle.ug_client.specs.declared.asked.Asked.{Asked}
@@ -70,5 +70,6 @@ ToldBy taken left before after asked.Memory = Keeps before after
 pub record Asks (line : List ℕ) (sent0 sent left0 left held0 held : Option (List ℕ)) (result : Asked) : Type 0 where
   pub taken : List ℕ
   pub source : Consumes left0 left taken
+  pub enough : TakesNoMore taken
   pub requested : SentBy sent0 sent line result
   pub told : ToldBy taken left held0 held result

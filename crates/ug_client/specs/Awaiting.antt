@@ -9,6 +9,14 @@ use Rattle.ug_client.specs.declared.receive.Awaited.TheVariants as awaited
 abbrev pub answer_limit : ℕ
 answer_limit = 67108864
 
+-- no more was taken once a reply stood there, or none could come, and no more than the limit
+pub record TakesNoMore (taken : List ℕ) : Type 0 where
+  pub short : length taken ≤ answer_limit
+  pub earlier : List ℕ
+  pub last : List ℕ
+  pub whole : taken ≡ earlier ++ last
+  pub awaiting : IsAwaiting earlier
+
 -- why these bytes of a link are no whole reply
 pub data GivesNoReply (taken : List ℕ) (left : Option (List ℕ)) : Type 0 where
   Ended : IsAtEnd left → IsUnanswered taken → GivesNoReply taken left
@@ -25,10 +33,5 @@ CameTo taken left kept awaited.Memory = Unit {0}
 pub record Awaits (left0 left : Option (List ℕ)) (kept : List ℕ) (result : Awaited) : Type 0 where
   pub taken : List ℕ
   pub source : Consumes left0 left taken
-  pub short : length taken ≤ answer_limit
-  -- no more was waited for once a reply stood there, or none could come
-  pub earlier : List ℕ
-  pub last : List ℕ
-  pub whole : taken ≡ earlier ++ last
-  pub awaiting : IsAwaiting earlier
+  pub enough : TakesNoMore taken
   pub told : CameTo taken left kept result

@@ -6,6 +6,7 @@ use Rattle.ug_proto.specs.declared.reply.Reply.{Reply}
 use Rattle.ug_proto.specs.Lines.{IsBeginning}
 use Rattle.ug_proto.specs.Replies.{ended_lines}
 use Rattle.ug_client.specs.Answers.{IsNotice, Replied, printed}
+use Rattle.ug_client.specs.Awaiting.{TakesNoMore}
 use Rattle.ug_client.specs.Asking.{AppendsPart, SentBy, ToldBy, end_of}
 use Rattle.ug_client.specs.declared.asked.Asked.{Asked}
 use Rattle.ug_client.specs.declared.asked.Asked.TheVariants as asked
@@ -117,15 +118,29 @@ pub record IsWatching (start : List ℕ) (left0 left : Option (List ℕ)) (most 
   pub source : Consumes left0 left taken
   pub shows : Shows (start ++ taken) most held0 bytes room held
 
--- the call ended as a request ends that isn't done; or behind an Ok reply, which was written
-pub data WatchTold (taken : List ℕ) (left : Option (List ℕ)) (most : ℕ) (held0 held : Option (List ℕ)) (result : Asked) : Type 0 where
-  Before : ¬ (result ≡ asked.Done) → ToldBy taken left held0 held result → WatchTold taken left most held0 held result
-  Behind : (reply : Reply) (behind : List ℕ) (held1 : Option (List ℕ)) → Replied taken reply behind → end_of reply ≡ asked.Done → Appends held0 held1 (printed reply) → WatchEnds behind left most held1 held result
-      → WatchTold taken left most held0 held result
+-- the call ended as a request ends that isn't done
+pub record EndsBefore (taken : List ℕ) (left held0 held : Option (List ℕ)) (result : Asked) : Type 0 where
+  pub undone : ¬ (result ≡ asked.Done)
+  pub enough : TakesNoMore taken
+  pub told : ToldBy taken left held0 held result
+
+-- an Ok reply stands in front, and its lines were written; then it ended
+pub record EndsBehind (taken : List ℕ) (left : Option (List ℕ)) (most : ℕ) (held0 held : Option (List ℕ)) (result : Asked) : Type 0 where
+  pub front : List ℕ
+  pub further : List ℕ
+  pub whole : taken ≡ front ++ further
+  pub enough : TakesNoMore front
+  pub reply : Reply
+  pub ok : end_of reply ≡ asked.Done
+  pub behind : List ℕ
+  pub replied : Replied front reply behind
+  pub held1 : Option (List ℕ)
+  pub written : Appends held0 held1 (printed reply)
+  pub told : WatchEnds (behind ++ further) left most held1 held result
 
 -- the whole call
 pub record Watches (line : List ℕ) (most : ℕ) (sent0 sent left0 left held0 held : Option (List ℕ)) (result : Asked) : Type 0 where
   pub taken : List ℕ
   pub source : Consumes left0 left taken
   pub requested : SentBy sent0 sent line result
-  pub told : WatchTold taken left most held0 held result
+  pub told : EndsBefore taken left held0 held result ⊎ EndsBehind taken left most held0 held result

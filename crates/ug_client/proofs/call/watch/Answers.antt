@@ -6,7 +6,7 @@ use Rattle.ug_client.specs.Asking.{request_line, Writes}
 use Rattle.ug_client.specs.Watching.{WatchesOn}
 use Rattle.ug_client.specs.declared.asked.Asked.{Asked}
 use Rattle.ug_client.specs.declared.asked.Asked.TheVariants as asked
-use Rattle.ug_client.proofs.Ending.{asks_replied, asks_failed, asks_memory, asks_none}
+use Rattle.ug_client.proofs.Ending.{asks_replied, asks_failed, asks_memory, asks_none, unsent_failed, unsent_memory}
 use Rattle.ug_client.proofs.WatchCalls.{ends_before, ends_behind, rose_after}
 use Rattle.ug_client.proofs.call.watch.Goals as goal
 
@@ -93,3 +93,23 @@ returns-clause-watches g c =
     ends_before line c.args.most sent0 sent left0 left held held asked.Memory memory_undone
     (asks_memory line sent0 (g.L.Link.sent c.send_request.new.link) sent left0 (g.L.Link.left c.send_request.new.link) left c.in-Done.ensures.sent c.await_reply.ensures.sent c.send_request.ensures.left
     held held c.await_reply.new.kept.items c.await_reply.result c.await_reply.ensures.awaits (Keeps-refl held))
+
+pub returns-in-Failed-clause-watches : goal.returns-in-Failed-clause-watches
+returns-in-Failed-clause-watches g c =
+    let line = request_line request.Watch in
+    let sent0 = g.L.Link.sent c.args.link.now in
+    let left0 = g.L.Link.left c.args.link.now in
+    let sent = g.L.Link.sent c.send_request.new.link in
+    let left = g.L.Link.left c.send_request.new.link in
+    let held = g.K.Sink.held c.args.out.now in
+    ends_before line c.args.most sent0 sent left0 left held held asked.LinkFailed failed_undone (unsent_failed line sent0 sent left0 left held c.in-Failed.ensures.sent c.send_request.ensures.left)
+
+pub returns-in-Memory-clause-watches : goal.returns-in-Memory-clause-watches
+returns-in-Memory-clause-watches g c =
+    let line = request_line request.Watch in
+    let sent0 = g.L.Link.sent c.args.link.now in
+    let left0 = g.L.Link.left c.args.link.now in
+    let sent = g.L.Link.sent c.send_request.new.link in
+    let left = g.L.Link.left c.send_request.new.link in
+    let held = g.K.Sink.held c.args.out.now in
+    ends_before line c.args.most sent0 sent left0 left held held asked.Memory memory_undone (unsent_memory line sent0 sent left0 left held c.in-Memory.ensures.sent c.send_request.ensures.left)

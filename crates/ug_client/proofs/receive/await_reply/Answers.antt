@@ -24,11 +24,13 @@ returns-then-is_err-clause-awaits g c =
     record {
       taken = c.pieces.kept.items ++ piece;
       source = Consumes-trans (g.L.Link.left c.args.link.now) (g.L.Link.left c.pieces.link) (g.L.Link.left c.receive.new.self) c.pieces.kept.items piece c.pieces.invariant.source c.in-Bytes.ensures.bytes;
-      short = omega (arith, length-append c.pieces.kept.items piece, length-take c.in-Bytes.n c.receive.new.into, c.in-Bytes.ensures.size, c.min-room.ensures, length-take {A = ℕ});
-      earlier = c.pieces.kept.items;
-      last = piece;
-      whole = λ i. c.pieces.kept.items ++ piece;
-      awaiting = c.pieces.invariant.awaiting;
+      enough = record {
+        short = omega (arith, length-append c.pieces.kept.items piece, length-take c.in-Bytes.n c.receive.new.into, c.in-Bytes.ensures.size, c.min-room.ensures, length-take {A = ℕ});
+        earlier = c.pieces.kept.items;
+        last = piece;
+        whole = λ i. c.pieces.kept.items ++ piece;
+        awaiting = c.pieces.invariant.awaiting;
+      };
       told = tt;
     }
 
@@ -36,10 +38,12 @@ pub returns-in-End-clause-awaits : goal.returns-in-End-clause-awaits
 returns-in-End-clause-awaits g c = record {
   taken = c.pieces.kept.items;
   source = Consumes-kept (g.L.Link.left c.args.link.now) (g.L.Link.left c.pieces.link) (g.L.Link.left c.receive.new.self) c.pieces.kept.items c.pieces.invariant.source c.in-End.ensures.bytes.0;
-  short = omega (arith, c.pieces.invariant.short);
-  earlier = c.pieces.kept.items;
-  last = [];
-  whole = sym (append-nil c.pieces.kept.items);
-  awaiting = c.pieces.invariant.awaiting;
+  enough = record {
+    short = omega (arith, c.pieces.invariant.short);
+    earlier = c.pieces.kept.items;
+    last = [];
+    whole = sym (append-nil c.pieces.kept.items);
+    awaiting = c.pieces.invariant.awaiting;
+  };
   told = Ended c.in-End.ensures.bytes.1 c.pieces.invariant.awaiting.none;
 }
