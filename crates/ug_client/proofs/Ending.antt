@@ -61,7 +61,7 @@ module _ (line : List ℕ) (sent0 sent1 sent left0 left1 left : Option (List ℕ
 
 -- before anything was taken
 nothing_taken : TakesNoMore []
-nothing_taken = record { short = omega arith; earlier = []; last = []; whole = refl; awaiting = empty_awaits }
+nothing_taken = record { short = omega arith; earlier = []; last = []; whole = refl; piece = omega arith; awaiting = empty_awaits }
 
 nothing_consumed : (a b : Option (List ℕ)) → Keeps a b → Consumes a b []
 nothing_consumed a b h = kept_consumes a b b [] h (Consumes-nil b)

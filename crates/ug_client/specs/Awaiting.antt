@@ -9,12 +9,13 @@ use Rattle.ug_client.specs.declared.receive.Awaited.TheVariants as awaited
 abbrev pub answer_limit : ℕ
 answer_limit = 67108864
 
--- no more was taken once a reply stood there, or none could come, and no more than the limit
+-- no more than the limit was taken, and at most one piece behind bytes to which a reply was to come
 pub record TakesNoMore (taken : List ℕ) : Type 0 where
   pub short : length taken ≤ answer_limit
   pub earlier : List ℕ
   pub last : List ℕ
   pub whole : taken ≡ earlier ++ last
+  pub piece : length last ≤ 65536
   pub awaiting : IsAwaiting earlier
 
 -- why these bytes of a link are no whole reply

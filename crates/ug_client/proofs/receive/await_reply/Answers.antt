@@ -29,6 +29,7 @@ returns-then-is_err-clause-awaits g c =
         earlier = c.pieces.kept.items;
         last = piece;
         whole = λ i. c.pieces.kept.items ++ piece;
+        piece = omega (arith, length-take c.in-Bytes.n c.receive.new.into, c.in-Bytes.ensures.size, c.min-room.ensures, length-take {A = ℕ});
         awaiting = c.pieces.invariant.awaiting;
       };
       told = tt;
@@ -43,6 +44,7 @@ returns-in-End-clause-awaits g c = record {
     earlier = c.pieces.kept.items;
     last = [];
     whole = sym (append-nil c.pieces.kept.items);
+    piece = omega arith;
     awaiting = c.pieces.invariant.awaiting;
   };
   told = Ended c.in-End.ensures.bytes.1 c.pieces.invariant.awaiting.none;
