@@ -1,12 +1,12 @@
 -- What stands in front of bytes.
-use Rattle.std.proofs.Common.{◌≡◌, ℕ, ◌+◌, ◌<◌, inl, inr, List, [], ◌∷◌, ◌++◌, length, take, drop, get_or, nat_eq, true, false, sym, ap, subst, ◌∙◌, append_assoc, arith}
+use Rattle.std.proofs.Common.{◌≡◌, ℕ, ◌+◌, ◌<◌, inl, inr, List, [], ◌∷◌, ◌++◌, length, take, drop, get_or, nat_eq, true, false, sym, ap, subst, ◌∙◌, arith}
 use Rattle.std.specs.Prelude.{codes}
 use Rattle.std.specs.Cmp.Lexicographic.{pointwise}
 use Rattle.std.proofs.lemmas.List.{append-nil}
 use Rattle.ug_types.specs.Elements.{Has}
 use Rattle.ug_types.proofs.Known.{to_end}
-use Rattle.ug_proto.proofs.Scans.{end_here, word_then, word_begun, word_never}
-use Rattle.ug_client.specs.Notices.{IsNoticeThen, IsNoticeBegun, BeginsOtherwise}
+use Rattle.ug_proto.proofs.Scans.{end_here, word_then, word_begun}
+use Rattle.ug_client.specs.Notices.{IsNoticeThen, IsNoticeBegun}
 
 -- the newline behind the first line
 pub newline_at : (xs : List ℕ) (i : ℕ) → i < length xs → get_or xs i 0 ≡ 10 → xs ≡ take i xs ++ 10 ∷ drop (i + 1) xs
@@ -29,13 +29,6 @@ notice_then bytes n m h w =
     let t = marked_line bytes (drop 2 bytes) (take n bytes) (drop (n + 1) bytes) (marked bytes m) h w in
     record { line = take n bytes; notice = record { words = t.0; is = t.1; one_line = h }; whole = w }
 
-pub notice_open : (bytes : List ℕ) → pointwise nat_eq (codes "! ") (take 2 bytes) ≡ true → ¬ Has bytes 10 → IsNoticeBegun bytes
-notice_open bytes m h = record {
-  one_line = h;
-  more = [];
-  notice = record { words = drop 2 bytes; is = append-nil bytes ∙ marked bytes m; one_line = subst (λ (l : List ℕ). ¬ Has l 10) (sym (append-nil bytes)) h };
-}
-
 mark_has_no : ¬ Has (codes "! ") 10
 mark_has_no (inl e) = omega (arith, e)
 mark_has_no (inr (inl e)) = omega (arith, e)
@@ -54,7 +47,3 @@ mark_begun bytes f h =
       more = b.more;
       notice = record { words = []; is = b.whole ∙ sym (append-nil (codes "! ")); one_line = no };
     }
-
-pub otherwise : (bytes : List ℕ) → pointwise nat_eq (codes "! ") (take 2 bytes) ≡ false → pointwise nat_eq bytes (take (length bytes) (codes "! ")) ≡ false → BeginsOtherwise bytes
-otherwise bytes f g line more rest n e = word_never bytes (codes "! ") f g tt more (n.words ++ 10 ∷ rest) tt
-    (e ∙ ap (λ (l : List ℕ). l ++ 10 ∷ rest) n.is ∙ append_assoc (codes "! ") n.words (10 ∷ rest))

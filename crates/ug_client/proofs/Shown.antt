@@ -14,12 +14,6 @@ use Rattle.ug_types.proofs.Elements.{has_left}
 use Rattle.ug_proto.specs.Replies.{ended_lines}
 use Rattle.ug_client.specs.Answers.{IsNotice}
 use Rattle.ug_client.specs.Watching.{IsShort, AreShort, IsNoNotice, Other, Overlong, IsShortThen, Shows, ShowsPart}
-use Rattle.ug_client.proofs.Front.{notice_then}
-
-pub short_then : (bytes : List ℕ) (n : ℕ) → n < length bytes → n ≤ 65535 → pointwise nat_eq (codes "! ") (take 2 bytes) ≡ true → ¬ Has (take n bytes) 10 → bytes ≡ take n bytes ++ 10 ∷ drop (n + 1) bytes → IsShortThen bytes (drop (n + 1) bytes)
-short_then bytes n l s m h w =
-    let t = notice_then bytes n m h w in
-    record { line = t.line; is = record { notice = t.notice; short = omega (arith, s, ap (λ (b : List ℕ). length b) t.whole, ap (λ (b : List ℕ). length b) w, length-append t.line (10 ∷ drop (n + 1) bytes), length-take n bytes, length-append (take n bytes) (10 ∷ drop (n + 1) bytes)) }; whole = t.whole }
 
 marked_front : (line rest : List ℕ) → IsNotice line → pointwise nat_eq (codes "! ") (take 2 (line ++ rest)) ≡ true
 marked_front line rest n = ap (λ (l : List ℕ). pointwise nat_eq (codes "! ") (take 2 (l ++ rest))) n.is

@@ -54,11 +54,13 @@ fn next_line(text: &[u8]) -> Next
 
 /// Prints the notices that stand whole, but no more than so many.
 pub fn show_notices<K: Sink>(out: &mut K, text: &[u8], most: u64) -> Shown
-    ensures shows { ShowsBy text.now most (K.held out.old) (drop result.at text.now) result.room (K.held out.new) result.ended }
+    ensures shows { ShowsBy text.now most (K.held out.old)
+        (drop result.at text.now) result.room (K.held out.new) result.ended }
     ensures within { result.at ≤ length text.now }
     ensures no_link { result.ended ≢ Some Asked.LinkFailed }
     ensures counted { K.faults out.old ≤ K.faults out.new }
-    ensures cause { result.ended ≡ Some Asked.WriteFault → Rose (K.faults out.old) (K.faults out.new) }
+    ensures cause { result.ended ≡ Some Asked.WriteFault
+        → Rose (K.faults out.old) (K.faults out.new) }
 {
     let mut at = 0;
     let mut room = most;

@@ -16,7 +16,8 @@ fn show_kept<K: Sink>(
     kept: &mut Vec<u8>,
     room: &mut u64,
 ) -> Option<Asked>
-    ensures shows { KeepsShown kept.old.items room.old (K.held out.old) kept.new.items room.new (K.held out.new) result }
+    ensures shows { KeepsShown kept.old.items room.old (K.held out.old)
+        kept.new.items room.new (K.held out.new) result }
     ensures no_link { result ≢ Some Asked.LinkFailed }
     ensures counted { K.faults out.old ≤ K.faults out.new }
     ensures cause { result ≡ Some Asked.WriteFault → Rose (K.faults out.old) (K.faults out.new) }
@@ -44,7 +45,8 @@ fn watch_notices<L: Link, K: Sink>(
     kept: &mut Vec<u8>,
     most: u64,
 ) -> Asked
-    ensures watches { WatchesOn kept.old.items (L.left link.old) (L.left link.new) most (K.held out.old) (K.held out.new) result }
+    ensures watches { WatchesOn kept.old.items (L.left link.old) (L.left link.new)
+        most (K.held out.old) (K.held out.new) result }
     ensures sent { Keeps (L.sent link.old) (L.sent link.new) }
     ensures link { result ≡ Asked.LinkFailed → Rose (L.faults link.old) (L.faults link.new) }
     ensures sink { result ≡ Asked.WriteFault → Rose (K.faults out.old) (K.faults out.new) }
@@ -82,7 +84,8 @@ pub fn watch_behind<L: Link, K: Sink>(
     bytes: &[u8],
     most: u64,
 ) -> Asked
-    ensures watches { WatchesOn bytes.now (L.left link.old) (L.left link.new) most (K.held out.old) (K.held out.new) result }
+    ensures watches { WatchesOn bytes.now (L.left link.old) (L.left link.new)
+        most (K.held out.old) (K.held out.new) result }
     ensures sent { Keeps (L.sent link.old) (L.sent link.new) }
     ensures link { result ≡ Asked.LinkFailed → Rose (L.faults link.old) (L.faults link.new) }
     ensures sink { result ≡ Asked.WriteFault → Rose (K.faults out.old) (K.faults out.new) }
