@@ -1,0 +1,7 @@
+pub mod Ending
+pub mod Front
+pub mod OneAnswer
+pub mod Shown
+pub mod Skipping
+pub mod WatchCalls
+pub mod Watched

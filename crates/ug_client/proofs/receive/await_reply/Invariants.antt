@@ -1,0 +1,17 @@
+use Rattle.std.proofs.Common.{◌≤◌, ◌-◌, vec_len}
+use Rattle.std.specs.Io.KnownBytes.{Consumes, Keeps}
+use Rattle.ug_client.specs.Answers.{IsAwaiting}
+use Rattle.ug_client.specs.Awaiting.{answer_limit}
+use Rattle.ug_client.proofs.receive.await_reply.Given as goal
+
+abbrev pub invariant-pieces : goal.invariant-pieces
+invariant-pieces g l = record {
+  source : Consumes (g.L.Link.left l.fn.link) (g.L.Link.left l.link) l.kept.items;
+  sent : Keeps (g.L.Link.sent l.fn.link) (g.L.Link.sent l.link);
+  awaiting : IsAwaiting l.kept.items;
+  short : vec_len l.kept ≤ answer_limit;
+  counted : g.L.Link.faults l.fn.link ≤ g.L.Link.faults l.link;
+}
+
+abbrev pub decreases-pieces : goal.decreases-pieces
+decreases-pieces g l = answer_limit - vec_len l.kept

@@ -1,0 +1,6 @@
+pub mod Answers
+pub mod Asking
+pub mod Awaiting
+pub mod Notices
+pub mod Watching
+pub mod WholeBytes

@@ -1,0 +1,18 @@
+// The client's half of the commands that speak to the daemon.
+#![tactic(auto)]
+
+mod answer;
+mod asked;
+mod call;
+mod laws;
+mod lines;
+mod notice;
+mod receive;
+mod send;
+mod stream;
+mod write;
+
+pub use answer::read_answer;
+pub use asked::Asked;
+pub use call::{ask, watch};
+pub use laws::one_answer_law;
