@@ -2,7 +2,7 @@
 use std::alloc::Global;
 use ug_casefile::{push_escaped, push_number};
 use ug_conf::{
-    AuthDefault, Inserted, LineFault, Present, Settings, SettingsReader, default_settings,
+    AuthDefault, LineFault, Present, Settings, SettingsReader, default_settings,
     parse_conf,
 };
 use ug_types::{FileFault, NoMemory, Numbered};
@@ -14,14 +14,6 @@ fn present_word(present: Present) -> &'static [u8] {
         Present::Reject => b"reject",
         Present::Keep => b"keep",
         Present::Apply => b"apply-policy",
-    }
-}
-
-fn inserted_word(inserted: Inserted) -> &'static [u8] {
-    match inserted {
-        Inserted::Block => b"block",
-        Inserted::Reject => b"reject",
-        Inserted::Apply => b"apply-policy",
     }
 }
 
@@ -92,7 +84,7 @@ fn tell_settings(alloc: Global, settings: &Settings) -> Result<Vec<u8>, NoMemory
     push_word(
         &mut told,
         b"InsertedDevicePolicy",
-        inserted_word(settings.inserted),
+        settings.inserted.word(),
     )?;
     push_word(
         &mut told,

@@ -8,11 +8,12 @@ use Rattle.ug_conf.specs.declared.values.Setting.{Setting}
 use Rattle.ug_conf.specs.declared.values.Setting.TheVariants as setting
 use Rattle.ug_conf.specs.Grammar.{IsValue}
 use Rattle.ug_conf.specs.Names.{words_of, all_named}
-use Rattle.ug_conf.specs.Values.{setting_of, path_of, present_of, inserted_of, default_of, flag_of}
+use Rattle.ug_conf.specs.Values.{setting_of, path_of, present_of, default_of, flag_of}
 use Rattle.ug_conf.proofs.Spacing.{names_read, names_found}
+use Rattle.ug_types.specs.Parameters.{inserted_of}
 use Rattle.ug_types.specs.Targets.{target_of}
-use Rattle.ug_types.proofs.AccessWords.{target_written, target_read}
-use Rattle.ug_conf.proofs.Tables.{present_written, present_read, inserted_written, inserted_read, default_written, default_read, flag_written, flag_read}
+use Rattle.ug_types.proofs.AccessWords.{inserted_written, inserted_read, target_written, target_read}
+use Rattle.ug_conf.proofs.Tables.{present_written, present_read, default_written, default_read, flag_written, flag_read}
 
 mapped : {X : Type 0} (what : X → Setting) (o : Option X) (set : Setting) → option_map what o ≡ Some set → (x : X) × (o ≡ Some x) × (set ≡ what x)
 mapped what None set h = absurd (none-some set h)

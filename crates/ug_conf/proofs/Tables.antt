@@ -7,13 +7,11 @@ use Rattle.ug_conf.specs.declared.keys.Key.{Key}
 use Rattle.ug_conf.specs.declared.keys.Key.TheVariants as key
 use Rattle.ug_conf.specs.declared.settings.AuthDefault.{AuthDefault}
 use Rattle.ug_conf.specs.declared.settings.AuthDefault.TheVariants as auth_default
-use Rattle.ug_conf.specs.declared.settings.Inserted.{Inserted}
-use Rattle.ug_conf.specs.declared.settings.Inserted.TheVariants as inserted
 use Rattle.ug_conf.specs.declared.settings.Present.{Present}
 use Rattle.ug_conf.specs.declared.settings.Present.TheVariants as present
 use Rattle.ug_conf.specs.Keys.{key_of, unused_key_of}
-use Rattle.ug_conf.specs.Values.{present_of, inserted_of, default_of, flag_of}
-use Rattle.ug_conf.specs.Grammar.{word_of, present_word, inserted_word, default_word, flag_word}
+use Rattle.ug_conf.specs.Values.{present_of, default_of, flag_of}
+use Rattle.ug_conf.specs.Grammar.{word_of, present_word, default_word, flag_word}
 
 -- one row of a table
 named : {X : Type 0} (spell : X → List ℕ) (word text : List ℕ) (here it : X) (rest : Option X) → text ≡ spell here → (rest ≡ Some it → word ≡ spell it) → cond (pointwise nat_eq word text) (Some here) rest ≡ Some it → word ≡ spell it
@@ -61,16 +59,6 @@ present_read present.Block = refl
 present_read present.Reject = refl
 present_read present.Keep = refl
 present_read present.Apply = refl
-
-pub inserted_written : (word : List ℕ) (it : Inserted) → inserted_of word ≡ Some it → word ≡ inserted_word it
-unfolding inserted_of
-inserted_written word it h = named inserted_word word (codes "block") inserted.Block it _ refl (λ h. named inserted_word word (codes "reject") inserted.Reject it _ refl (λ h. named inserted_word word (codes "apply-policy") inserted.Apply it _ refl (λ h. absurd (none-some it h)) h) h) h
-
-pub inserted_read : (it : Inserted) → inserted_of (inserted_word it) ≡ Some it
-unfolding inserted_of
-inserted_read inserted.Block = refl
-inserted_read inserted.Reject = refl
-inserted_read inserted.Apply = refl
 
 pub default_written : (word : List ℕ) (it : AuthDefault) → default_of word ≡ Some it → word ≡ default_word it
 unfolding default_of

@@ -4,6 +4,7 @@ use Rattle.ug_lines.specs.Equations.{IsBlank, AreBlanks, IsTextOf, IsSkipped, Is
 use Rattle.ug_types.specs.Elements.{Has}
 use Rattle.ug_equations.specs.Entries.{IsSkippedLine}
 use Rattle.ug_types.specs.declared.verdict.Target.{Target}
+use Rattle.ug_types.specs.Parameters.{inserted_word}
 use Rattle.ug_types.specs.Targets.{target_word}
 use Rattle.ug_conf.specs.declared.fault.FaultKind.{FaultKind}
 use Rattle.ug_conf.specs.declared.fault.FaultKind.TheVariants.{NoEquals, UnknownKey, BadValue, Repeated}
@@ -11,8 +12,7 @@ use Rattle.ug_conf.specs.declared.keys.Key.{Key}
 use Rattle.ug_conf.specs.declared.keys.Key.TheVariants as key
 use Rattle.ug_conf.specs.declared.settings.AuthDefault.{AuthDefault}
 use Rattle.ug_conf.specs.declared.settings.AuthDefault.TheVariants as auth_default
-use Rattle.ug_conf.specs.declared.settings.Inserted.{Inserted}
-use Rattle.ug_conf.specs.declared.settings.Inserted.TheVariants as inserted
+use Rattle.ug_types.specs.declared.parameter.Inserted.{Inserted}
 use Rattle.ug_conf.specs.declared.settings.Present.{Present}
 use Rattle.ug_conf.specs.declared.settings.Present.TheVariants as present
 use Rattle.ug_conf.specs.declared.values.Setting.{Setting}
@@ -45,11 +45,6 @@ present_word present.Block = codes "block"
 present_word present.Reject = codes "reject"
 present_word present.Keep = codes "keep"
 present_word present.Apply = codes "apply-policy"
-
-abbrev pub inserted_word : Inserted → List ℕ
-inserted_word inserted.Block = codes "block"
-inserted_word inserted.Reject = codes "reject"
-inserted_word inserted.Apply = codes "apply-policy"
 
 abbrev pub default_word : AuthDefault → List ℕ
 default_word auth_default.Keep = codes "keep"

@@ -2,13 +2,12 @@
 use Rattle.std.specs.Prelude.{ℕ, Bool, true, false, nat_eq, if◌then◌else◌, List, [], ◌∷◌, codes, Option, Some, None}
 use Rattle.std.specs.Cmp.Lexicographic.{pointwise}
 use Rattle.std.specs.Option.{option_map}
+use Rattle.ug_types.specs.Parameters.{inserted_of}
 use Rattle.ug_types.specs.Targets.{target_of}
 use Rattle.ug_conf.specs.declared.keys.Key.{Key}
 use Rattle.ug_conf.specs.declared.keys.Key.TheVariants as key
 use Rattle.ug_conf.specs.declared.settings.AuthDefault.{AuthDefault}
 use Rattle.ug_conf.specs.declared.settings.AuthDefault.TheVariants as auth_default
-use Rattle.ug_conf.specs.declared.settings.Inserted.{Inserted}
-use Rattle.ug_conf.specs.declared.settings.Inserted.TheVariants as inserted
 use Rattle.ug_conf.specs.declared.settings.Present.{Present}
 use Rattle.ug_conf.specs.declared.settings.Present.TheVariants as present
 use Rattle.ug_conf.specs.declared.values.Setting.{Setting}
@@ -22,12 +21,6 @@ present_of word =
     if pointwise nat_eq word (codes "reject") then Some present.Reject else
     if pointwise nat_eq word (codes "keep") then Some present.Keep else
     if pointwise nat_eq word (codes "apply-policy") then Some present.Apply else None
-
-unfoldable pub inserted_of : List ℕ → Option Inserted
-inserted_of word =
-    if pointwise nat_eq word (codes "block") then Some inserted.Block else
-    if pointwise nat_eq word (codes "reject") then Some inserted.Reject else
-    if pointwise nat_eq word (codes "apply-policy") then Some inserted.Apply else None
 
 unfoldable pub default_of : List ℕ → Option AuthDefault
 default_of word =

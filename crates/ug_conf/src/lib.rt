@@ -21,7 +21,7 @@ pub use files::{ConfFiles, FileRead, FolderRead};
 pub use laws::{lines_law, one_meaning, reading_is_grammar};
 pub use mem_files::MemFiles;
 pub use reader::SettingsReader;
-pub use settings::{AuthDefault, Inserted, Present, Settings};
+pub use settings::{AuthDefault, Present, Settings};
 pub use texts::parse_conf;
 pub use tree::{MemFile, MemFolder};
 pub use ug_types::{Fault, LineFault, Principal};

@@ -1,5 +1,5 @@
 // What the daemon's settings are: usbguard-daemon.conf(5).
-use ug_types::{List, Principal, Target, Text};
+use ug_types::{Inserted, List, Principal, Target, Text};
 
 /// PresentDevicePolicy and PresentControllerPolicy: what is done with a device that was there at the start.
 #[derive(Clone, Copy, Debug, PartialEq, Eq)]
@@ -9,15 +9,6 @@ pub enum Present {
     Reject,
     /// The device keeps its state.
     Keep,
-    /// The rules decide.
-    Apply,
-}
-
-/// InsertedDevicePolicy: what is done with a device that comes later.
-#[derive(Clone, Copy, Debug, PartialEq, Eq)]
-pub enum Inserted {
-    Block,
-    Reject,
     /// The rules decide.
     Apply,
 }

@@ -1,12 +1,12 @@
 // The values of settings: usbguard-daemon.conf(5).
 ghost use Rattle.std.specs.Prelude.{◌≡◌, IfOk};
-ghost use Rattle.ug_conf.specs.Values.{present_of, inserted_of, default_of, flag_of, path_of, setting_of};
+ghost use Rattle.ug_conf.specs.Values.{present_of, default_of, flag_of, path_of, setting_of};
 
 use crate::keys::Key;
 use crate::names::named;
-use crate::settings::{AuthDefault, Inserted, Present};
+use crate::settings::{AuthDefault, Present};
 use std::alloc::Global;
-use ug_types::{List, NoMemory, Principal, Target, Text};
+use ug_types::{Inserted, List, NoMemory, Principal, Target, Text};
 
 /// A key with its value.
 #[derive(Drop)]
@@ -44,22 +44,6 @@ fn present(word: &[u8]) -> Option<Present>
     }
     if word == b"apply-policy".as_slice() {
         return Some(Present::Apply);
-    }
-    None
-}
-
-#[tactic(auto, unfolding(crate::specs::Values::inserted_of))]
-fn inserted(word: &[u8]) -> Option<Inserted>
-    ensures { result ≡ inserted_of word.now }
-{
-    if word == b"block".as_slice() {
-        return Some(Inserted::Block);
-    }
-    if word == b"reject".as_slice() {
-        return Some(Inserted::Reject);
-    }
-    if word == b"apply-policy".as_slice() {
-        return Some(Inserted::Apply);
     }
     None
 }
@@ -115,7 +99,7 @@ pub fn make_setting(alloc: Global, key: Key, value: &[u8]) -> Result<Option<Sett
         Key::ImplicitPolicyTarget => Ok(Target::named(value).map(Setting::Implicit)),
         Key::PresentDevicePolicy => Ok(present(value).map(Setting::PresentDevice)),
         Key::PresentControllerPolicy => Ok(present(value).map(Setting::PresentController)),
-        Key::InsertedDevicePolicy => Ok(inserted(value).map(Setting::Inserted)),
+        Key::InsertedDevicePolicy => Ok(Inserted::named(value).map(Setting::Inserted)),
         Key::AuthorizedDefault => Ok(auth_default(value).map(Setting::Default)),
         Key::IpcAllowedUsers => Ok(named(alloc, false, value)?.map(Setting::Users)),
         Key::IpcAllowedGroups => Ok(named(alloc, true, value)?.map(Setting::Groups)),

@@ -3,8 +3,8 @@ ghost use Rattle.std.specs.Prelude.{◌≡◌};
 ghost use Rattle.ug_core.specs.Policy as policy;
 ghost use Rattle.ug_core.specs.Settings.{classes_of};
 
-use ug_conf::{Inserted, Present, Settings};
-use ug_types::{Cause, Target};
+use ug_conf::{Present, Settings};
+use ug_types::{Inserted, Cause, Target};
 
 /// The settings that verdicts go by: usbguard-daemon.conf(5).
 #[derive(Clone, Copy, Debug, PartialEq, Eq)]

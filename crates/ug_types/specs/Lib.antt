@@ -6,6 +6,7 @@ pub mod Failing
 pub mod Names
 pub mod NodeNames
 pub mod Padded
+pub mod Parameters
 pub mod PrincipalBytes
 pub mod Principals
 pub mod Reading

@@ -4,6 +4,10 @@ ghost use Rattle.std.specs.declared.cmp.Ordering.TheVariants.{Less};
 ghost use Rattle.ug_types.specs.NodeNames.{IsBus, IsDevice, IsNodeName, IsPort, IsRootHub};
 ghost use Rattle.ug_types.specs.declared.verdict.Target.{Target};
 ghost use Rattle.ug_types.specs.Targets.{target_of, target_word};
+ghost use Rattle.ug_types.specs.Parameters.{inserted_of, inserted_word, parameter_name, parameter_of, parameter_set, value_of, value_word};
+ghost use Rattle.ug_types.specs.declared.parameter.Inserted.{Inserted};
+ghost use Rattle.ug_types.specs.declared.parameter.Parameter.{Parameter};
+ghost use Rattle.ug_types.specs.declared.parameter.ParameterName.{ParameterName};
 ghost use Rattle.ug_types.specs.Names.{depth_of, parent_of, sweep_cmp};
 
 /// A root hub alone has no parent. What hangs on a root hub has that hub, and what hangs on a device has that device.
@@ -21,4 +25,11 @@ pub fn parents_law()
 /// A word is a target exactly where it is the target's own.
 pub fn targets_law()
     ensures { (target : Target) (word : List ℕ) → (target_of word ≡ Some target) ↔ (word ≡ target_word target) }
+{}
+
+/// A word names a setting exactly where it is the setting's own, and is a value of it exactly where it is that value's.
+pub fn parameters_law()
+    ensures name { (name : ParameterName) (word : List ℕ) → (parameter_of word ≡ Some name) ↔ (word ≡ parameter_name name) }
+    ensures value { (name : ParameterName) (set : Parameter) (word : List ℕ) → (value_of name word ≡ Some set) ↔ ((parameter_set set ≡ name) × (word ≡ value_word set)) }
+    ensures inserted { (policy : Inserted) (word : List ℕ) → (inserted_of word ≡ Some policy) ↔ (word ≡ inserted_word policy) }
 {}
