@@ -6,10 +6,15 @@ use Rattle.std.specs.Str.Parse.{digits_value}
 use Rattle.std.proofs.lemmas.List.{append-nil}
 use Rattle.ug_types.specs.Elements.{Has}
 use Rattle.ug_types.specs.NodeNames.{IsNodeName}
+use Rattle.ug_types.specs.Parameters.{inserted_word, parameter_name, parameter_set, value_word}
 use Rattle.ug_types.specs.Principals.{principal_text}
 use Rattle.ug_types.specs.Refusals.{refusal_words}
 use Rattle.ug_types.specs.declared.saved.Saved.{Saved}
 use Rattle.ug_types.specs.declared.saved.Saved.TheVariants as saved
+use Rattle.ug_types.specs.declared.parameter.Inserted.{Inserted}
+use Rattle.ug_types.specs.declared.parameter.Inserted.TheVariants as inserted
+use Rattle.ug_types.specs.declared.parameter.Parameter.{Parameter}
+use Rattle.ug_types.specs.declared.parameter.Parameter.TheVariants as parameter
 use Rattle.ug_types.specs.declared.verdict.Target.{Target}
 use Rattle.ug_types.specs.declared.verdict.Target.TheVariants as target
 use Rattle.ug_types.specs.Targets.{target_word}
@@ -81,6 +86,14 @@ saved_read word = if same_word word (codes "done") then saved.Done else if same_
 abbrev change_read : List ℕ → RuleChange
 change_read word = if same_word word (codes "added") then change.Added else if same_word word (codes "removed") then change.Removed else change.Changed
 
+abbrev inserted_read : List ℕ → Inserted
+inserted_read word = if same_word word (codes "block") then inserted.Block else if same_word word (codes "reject") then inserted.Reject else inserted.Apply
+
+abbrev parameter_read : List ℕ → List ℕ → Parameter
+parameter_read name value =
+    if same_word name (codes "ImplicitPolicyTarget") then parameter.ImplicitPolicyTarget (target_read value) else
+    parameter.InsertedDevicePolicy (inserted_read value)
+
 abbrev part_read : List ℕ → ConfigPart
 part_read word = if same_word word (codes "settings") then part.Settings else if same_word word (codes "rules") then part.Rules else part.Access
 
@@ -118,6 +131,7 @@ entry_read words =
     if same_word (nth words 0) (codes "gone") then entry.Gone (nth_number words 1) (nth words 2) else
     if same_word (nth words 0) (codes "unsettled") then unsettled_read words else
     if same_word (nth words 0) (codes "rules") then entry.Rules (change_read (nth words 1)) (nth_number words 2) else
+    if same_word (nth words 0) (codes "parameter") then entry.Parameter (parameter_read (nth words 1) (nth words 2)) else
     if same_word (nth words 0) (codes "reply") then reply_read words else
     if same_word (nth words 0) (codes "dropped") then entry.Dropped (nth_number words 1) else
     if same_word (nth words 0) (codes "end") then entry.End (nth_number words 1) else
@@ -148,6 +162,15 @@ unfolding change_word
 change_back change.Added = (refl, refl)
 change_back change.Removed = (refl, refl)
 change_back change.Changed = (refl, refl)
+
+inserted_back : (p : Inserted) → (is_graphic (inserted_word p) ≡ true) × (inserted_read (inserted_word p) ≡ p)
+inserted_back inserted.Block = (refl, refl)
+inserted_back inserted.Reject = (refl, refl)
+inserted_back inserted.Apply = (refl, refl)
+
+parameter_back : (p : Parameter) → AllGraphic (parameter_name (parameter_set p) ∷ value_word p ∷ []) × (parameter_read (parameter_name (parameter_set p)) (value_word p) ≡ p)
+parameter_back (parameter.ImplicitPolicyTarget to) = ((refl, ((target_back to).0, tt)), ap parameter.ImplicitPolicyTarget (target_back to).1)
+parameter_back (parameter.InsertedDevicePolicy to) = ((refl, ((inserted_back to).0, tt)), ap parameter.InsertedDevicePolicy (inserted_back to).1)
 
 part_back : (p : ConfigPart) → (is_graphic (part_word p) ≡ true) × (part_read (part_word p) ≡ p)
 unfolding part_word
@@ -229,6 +252,8 @@ entry_back (entry.UnsettledAll why) h =
 entry_back (entry.Rules done id) h =
     read_as (codes "rules") (change_word done ∷ decimal id ∷ []) (entry.Rules done id) refl ((change_back done).0, (number_graphic id h, tt))
     (λ i. entry.Rules ((change_back done).1 i) (number_back id h i))
+entry_back (entry.Parameter set) h =
+    read_as (codes "parameter") (parameter_name (parameter_set set) ∷ value_word set ∷ []) (entry.Parameter set) refl (parameter_back set).0 (ap entry.Parameter (parameter_back set).1)
 entry_back (entry.Reply (Ok done)) h = (refl, refl)
 entry_back (entry.Reply (Err refusal)) h =
     let words = split_words (refusal_words refusal) in (

@@ -1,5 +1,6 @@
 -- The journal's lines, without their newlines.
 use Rattle.std.specs.Prelude.{ℕ, List, [], ◌∷◌, ◌++◌, Ok, Err, codes, decimal}
+use Rattle.ug_types.specs.Parameters.{parameter_name, parameter_set, value_word}
 use Rattle.ug_types.specs.Principals.{principal_text}
 use Rattle.ug_types.specs.Refusals.{refusal_words}
 use Rattle.ug_types.specs.declared.saved.Saved.{Saved}
@@ -75,6 +76,7 @@ entry_line (entry.Gone number name) = and_words (codes "gone") (decimal number �
 entry_line (entry.Unsettled name why) = and_words (codes "unsettled") (name ∷ fault_words why)
 entry_line (entry.UnsettledAll why) = and_words (codes "unsettled") (codes "*" ∷ fault_words why)
 entry_line (entry.Rules done id) = and_words (codes "rules") (change_word done ∷ decimal id ∷ [])
+entry_line (entry.Parameter set) = and_words (codes "parameter") (parameter_name (parameter_set set) ∷ value_word set ∷ [])
 entry_line (entry.Reply (Ok done)) = and_words (codes "reply") (codes "ok" ∷ [])
 entry_line (entry.Reply (Err refusal)) = and_words (codes "reply") (refusal_words refusal ∷ [])
 entry_line (entry.Dropped member) = and_words (codes "dropped") (decimal member ∷ [])

@@ -37,6 +37,7 @@ IsEntry (entry.Gone number name) = (number < 2 ^ 64) × IsNodeName name
 IsEntry (entry.Unsettled name why) = IsNodeName name × IsUnsettling why
 IsEntry (entry.UnsettledAll why) = IsUnsettling why
 IsEntry (entry.Rules done id) = id < 2 ^ 64
+IsEntry (entry.Parameter set) = Unit {0}
 IsEntry (entry.Reply (Ok done)) = Unit {0}
 IsEntry (entry.Reply (Err refusal)) = IsRefusal refusal
 IsEntry (entry.Dropped member) = member < 256

@@ -1,6 +1,6 @@
 // What the daemon notes of an event.
 use ug_kernel::{FailedCall, Write, Wrote};
-use ug_types::{Cause, Held, Moment, NodeName, Principal, Refusal, Saved, Target};
+use ug_types::{Cause, Held, Moment, NodeName, Parameter, Principal, Refusal, Saved, Target};
 
 /// Why a name is unsettled.
 #[derive(Clone, Copy, Debug, PartialEq, Eq)]
@@ -81,6 +81,8 @@ pub enum Entry {
         change: RuleChange,
         id: u64,
     },
+    /// A setting was changed.
+    Parameter(Parameter),
     /// The answer to the order, without its lines.
     Reply(Result<(), Refusal>),
     /// That auditor is given no more lines.

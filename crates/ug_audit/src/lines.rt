@@ -2,13 +2,14 @@
 ghost use Rattle.std.specs.Prelude.{◌≡◌, ◌≤◌, ◌<◌, ◌+◌, ◌++◌, [], ◌∷◌, length, codes, decimal};
 ghost use Rattle.ug_audit.specs.Lines.{and_words, cause_words, change_word, entry_line, fault_words, part_word, saved_word, wrote_word};
 ghost use Rattle.ug_audit.specs.Lines as lines;
+ghost use Rattle.ug_types.specs.Parameters.{parameter_name, parameter_set, value_word};
 ghost use Rattle.ug_types.specs.Principals.{principal_text};
 ghost use Rattle.ug_types.specs.Refusals.{refusal_words};
 ghost use Rattle.ug_types.specs.Targets.{target_word};
 
 use crate::entry::{ConfigPart, Entry, Fault, RuleChange};
 use ug_kernel::{Write, Wrote};
-use ug_types::{Cause, Line, Moment, NodeName, Principal, Refusal, Saved, Target};
+use ug_types::{Cause, Line, Moment, NodeName, Parameter, Principal, Refusal, Saved, Target};
 
 /// Appends a space and a name.
 fn push_name(line: &mut Line, name: &NodeName)
@@ -238,6 +239,15 @@ fn line_of_refusal(refusal: &Refusal) -> Line
     line
 }
 
+fn line_of_parameter(parameter: Parameter) -> Line
+    ensures { result ≡ and_words (codes "parameter") (parameter_name (parameter_set parameter) ∷ value_word parameter ∷ []) }
+{
+    let mut line = Line::of(b"parameter");
+    line.push_word(parameter.name().word());
+    line.push_word(parameter.value());
+    line
+}
+
 /// A line that is a word and a number.
 fn of_number(word: &[u8], number: u64) -> Line
     requires { length word.now ≤ 10 }
@@ -303,6 +313,7 @@ pub fn line_of(entry: &Entry) -> Line
         Entry::Unsettled { name, fault } => line_of_unsettled(name, *fault),
         Entry::UnsettledAll { fault } => line_of_all_unsettled(*fault),
         Entry::Rules { change, id } => line_of_change(*change, *id),
+        Entry::Parameter(parameter) => line_of_parameter(*parameter),
         Entry::Reply(Ok(())) => of_words(b"reply", b"ok"),
         Entry::Reply(Err(refusal)) => line_of_refusal(refusal),
         Entry::Dropped { member } => of_number(b"dropped", *member as u64),

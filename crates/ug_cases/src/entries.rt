@@ -4,7 +4,8 @@ use ug_audit::{ConfigPart, Entry, Fault, RuleChange, line_of};
 use ug_casefile::number_of;
 use ug_kernel::{FailedCall, Write, Wrote};
 use ug_types::{
-    Cause, Held, Moment, NoMemory, NodeName, Principal, Privilege, Refusal, Saved, Section, Target,
+    Cause, Held, Moment, NoMemory, NodeName, ParameterName, Principal, Privilege, Refusal, Saved,
+    Section, Target,
 };
 
 fn number(word: &str) -> Option<u64> {
@@ -141,6 +142,9 @@ fn entry_of_order(words: &[&str]) -> Option<Entry> {
             change: change(word)?,
             id: number(id)?,
         }),
+        ["parameter", setting, value] => Some(Entry::Parameter(
+            ParameterName::named(setting.as_bytes())?.with_value(value.as_bytes())?,
+        )),
         ["reply", "ok"] => Some(Entry::Reply(Ok(()))),
         ["reply", "refused", rest @ ..] => Some(Entry::Reply(Err(refusal(rest)?))),
         _ => entry_of_device(words),

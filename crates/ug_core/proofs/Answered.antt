@@ -1,11 +1,19 @@
 -- What an order does, from the tree of its calls.
-use Rattle.std.proofs.Common.{◌≡◌, ℕ, Bool, true, false, cond, List, [], ◌∷◌, ◌++◌, Option, Some, None, Result, Ok, Err, ◌⊎◌, inl, inr, refl, sym, ◌∙◌, ap, subst, append-nil}
+use Rattle.std.proofs.Common.{◌≡◌, ℕ, ◌<◌, ◌≤◌, nat_lt, length, arith, Bool, true, false, ◌||◌, cond, List, [], ◌∷◌, ◌++◌, Option, Some, None, Result, Ok, Err, ◌⊎◌, inl, inr, refl, sym, ◌∙◌, ap, subst, append-nil}
+use Rattle.std.specs.Option.{option_map}
+use Rattle.std.proofs.lemmas.Option.{same_Some}
 use Rattle.ug_types.specs.Elements.{Has}
 use Rattle.ug_types.specs.Principals.{Named}
 use Rattle.ug_types.specs.declared.refusal.Refusal.{Refusal}
 use Rattle.ug_types.specs.declared.refusal.Refusal.TheVariants as refusal
-use Rattle.ug_types.specs.declared.access.Section.TheVariants as section
-use Rattle.ug_types.specs.declared.access.Privilege.TheVariants as privilege
+use Rattle.ug_types.specs.Parameters.{parameter_of, value_of, value_word}
+use Rattle.ug_types.specs.declared.access.Privilege.{Privilege}
+use Rattle.ug_types.specs.declared.access.Section.{Section}
+use Rattle.ug_types.specs.declared.parameter.Parameter.{Parameter}
+use Rattle.ug_types.specs.declared.parameter.ParameterName.{ParameterName}
+use Rattle.ug_types.specs.declared.rule.After.{After}
+use Rattle.ug_types.specs.declared.rule.After.TheVariants as after
+use Rattle.ug_types.specs.declared.rule.Rule.{Rule}
 use Rattle.ug_types.specs.declared.saved.Saved.{Saved}
 use Rattle.ug_types.specs.declared.verdict.Moment.{Moment}
 use Rattle.ug_types.specs.declared.verdict.Target.{Target}
@@ -29,7 +37,11 @@ use Rattle.ug_audit.specs.declared.entry.Entry.TheVariants as entry
 use Rattle.ug_types.proofs.Elements.{has_left}
 use Rattle.ug_proto.specs.declared.reply.Reply.{Reply}
 use Rattle.ug_proto.specs.declared.reply.Reply.TheVariants as reply
+use Rattle.ug_policy.specs.Edits.{IsThere}
 use Rattle.ug_policy.specs.declared.entry.RuleEntry.{RuleEntry}
+use Rattle.ug_rule.specs.Faults.{kind_number}
+use Rattle.ug_rule.specs.Rules.{rule_read}
+use Rattle.ug_rule.specs.declared.fault.Fault.{Fault}
 use Rattle.ug_core.specs.DeviceRows.{device_rows}
 use Rattle.ug_core.specs.RuleRows.{rule_rows}
 use Rattle.ug_proto.specs.declared.request.Request.{Request}
@@ -39,7 +51,7 @@ use Rattle.ug_proto.specs.Requests.{request_read}
 use Rattle.ug_table.specs.Laws.{Stand, swept_before}
 use Rattle.ug_table.specs.One.{failed_of, whys}
 use Rattle.ug_table.specs.Order.{StandInOrder}
-use Rattle.ug_table.specs.Orders.{with_verdict, verdict_entry, ordering}
+use Rattle.ug_table.specs.Orders.{ProbedOne, with_verdict, verdict_entry, ordering}
 use Rattle.ug_table.specs.Parts.{AllBear, failures_told, told_in_reply, unsettled_names}
 use Rattle.ug_table.specs.Standings.{numbered}
 use Rattle.ug_table.specs.State.{State, Kept, kept_of}
@@ -51,15 +63,20 @@ use Rattle.ug_table.proofs.OnePart.{told_more}
 use Rattle.ug_table.proofs.Once.{names_more}
 use Rattle.ug_table.proofs.Ordered.{EndsOrder, order_one, order_part, ordering_ways}
 use Rattle.ug_table.proofs.Standings.{numbered_has}
-use Rattle.ug_core.specs.Answering.{by_probe, by_standing, by_privilege, by_list, by_request, if_room, if_read, asking, answer_of, reply_to, keeping, answered_with, acting, answering, replying}
+use Rattle.ug_core.specs.Answering.{acting, answer_of, answered_with, answering, asking, asking_of, by_name, by_probe, by_request, by_rule, by_setting, by_standing, by_value, changing, if_added, if_granted, if_read, if_room, if_rule_read, keeping, reply_to, replying, unless, with_change}
+use Rattle.ug_core.specs.Changes.{change_entry, parameter_at, rule_asked, setting_asked}
+use Rattle.ug_core.specs.RulePlaces.{has_permanent, has_rule, if_few}
+use Rattle.ug_core.proofs.Places.{few_below, rule_there}
 use Rattle.ug_core.specs.Event.{DaemonState, ready}
-use Rattle.ug_core.specs.Laws.{RefusesOrder, TellsList, CarriesOut, AnswersEvent, Answers, GoesAsAnswer}
+use Rattle.ug_core.specs.Laws.{Answers, AnswersAtOnce, AnswersEvent, Bad_rule, By_facts, CarriesOut, Changes, ComesTo, Denied, Devices, Full, GoesAsAnswer, No_device, No_memory, No_parameter, No_place, No_rule, No_setting, No_value, Outcome, Permanent_removal, Permanent_rule, Permanent_verdict, ProbeRefuses, Refuses, RefusesOrder, Rules, Unread, Value, Watches, WhyRefused, if_watching, only_lines, outcome_of_change, with_changes}
 use Rattle.ug_core.specs.Policy.{Judging, policy_answer, policy_later}
-use Rattle.ug_core.specs.Privileges.{first_denied, is_granted}
+use Rattle.ug_core.specs.Privileges.{denied_of, first_denied, is_granted}
+use Rattle.ug_core.specs.declared.changes.Change.{Change}
+use Rattle.ug_core.specs.declared.changes.Change.TheVariants.{Insert, Remove, Set}
 use Rattle.ug_core.specs.declared.daemon.Event.{Event}
 use Rattle.ug_core.specs.declared.daemon.Event.TheVariants.{Sweep, Order}
-use Rattle.ug_core.specs.declared.orders.Choice.{Choice}
-use Rattle.ug_core.specs.declared.orders.Choice.TheVariants as choice
+use Rattle.ug_core.specs.declared.choosing.Choice.{Choice}
+use Rattle.ug_core.specs.declared.choosing.Choice.TheVariants as choice
 
 runs_split : {S A B : Type 0} (gives : S → (call : Call) → Answer call → S → Type 0) (s : S) (p : Prog A) (f : A → Prog B) (r : B) (t : S) → Runs gives s (then p f) r t → (a : A) × (u : S) × Runs gives s p a u × Runs gives u (f a) r t
 runs_split gives s (Return value) f r t h = (value, s, (refl, refl), h)
@@ -69,45 +86,99 @@ runs_split gives s (Room next) f r t h = let k = runs_split gives s (next h.0) f
 -- ---- what an order comes to
 
 -- it is refused without a call
-record IsRefused {S : Type 0} (c : Choice) (s t : S) : Type 0 where
+record IsRefused {S : Type 0} (who : Named) (line : List ℕ) (d : DaemonState) (c : Choice) (s t : S) : Type 0 where
   refused : Refusal
+  why : WhyRefused who line d refused
   is : c ≡ choice.Refuse refused
   silent : told_in_reply (Err refused) ≡ []
   same : t ≡ s
 
 -- or its device is probed
-record IsProbedFor {S : Type 0} (gives : S → (call : Call) → Answer call → S → Type 0) (access : List Addition) (ss : List Standing) (who : Named) (read : Result Request ℕ) (c : Choice) (s t : S) : Type 0 where
+record IsProbedFor {S : Type 0} (gives : S → (call : Call) → Answer call → S → Type 0) (who : Named) (line : List ℕ) (d : DaemonState) (c : Choice) (s t : S) : Type 0 where
   number : ℕ
   verdict : Target
   standing : Standing
-  asked : read ≡ Ok (request.Device number verdict false)
-  granted : is_granted access who (needs (request.Device number verdict false)) ≡ true
-  stands : numbered number ss ≡ Some standing
+  asked : request_read line ≡ Ok (request.Device number verdict false)
+  granted : is_granted d.access who (needs (request.Device number verdict false)) ≡ true
+  stands : numbered number d.sweep.standings ≡ Some standing
   found : Told Probe
   probed : gives s (Ask_alive standing.held.0) found t
   is : c ≡ by_probe number verdict found.count found.answer
 
--- or it is told a list
-record IsTold {S : Type 0} (access : List Addition) (ss : List Standing) (rules : List RuleEntry) (who : Named) (read : Result Request ℕ) (c : Choice) (s t : S) : Type 0 where
-  rows : List (List ℕ)
-  list : ((read ≡ Ok request.ListDevices) × (is_granted access who (needs request.ListDevices) ≡ true) × (rows ≡ device_rows ss)) ⊎ ((read ≡ Ok request.ListRules) × (is_granted access who (needs request.ListRules) ≡ true) × (rows ≡ rule_rows rules))
-  is : c ≡ choice.Tell rows
+-- or it needs no call
+data Chosen (d : DaemonState) : Outcome → Choice → Type 0 where
+  Told_lines : (rows : List (List ℕ)) → Chosen d (only_lines rows) (choice.Tell rows)
+  Told_change : (change : Change) → Chosen d (outcome_of_change d change) (choice.Change change)
+  Told_watch : Chosen d (record { lines = []; change = None; watches = true }) choice.Watch
+
+record IsChosen {S : Type 0} (who : Named) (line : List ℕ) (d : DaemonState) (c : Choice) (s t : S) : Type 0 where
+  asked : Request
+  reads : request_read line ≡ Ok asked
+  granted : is_granted d.access who (needs asked) ≡ true
+  outcome : Outcome
+  comes : ComesTo d asked outcome
+  chosen : Choice
+  how : Chosen d outcome chosen
+  is : c ≡ chosen
   same : t ≡ s
 
-abbrev Asked : {S : Type 0} → (S → (call : Call) → Answer call → S → Type 0) → List Addition → List Standing → List RuleEntry → Named → Result Request ℕ → Choice → S → S → Type 0
-Asked gives access ss rules who read c s t = IsRefused c s t ⊎ (IsTold access ss rules who read c s t ⊎ IsProbedFor gives access ss who read c s t)
+abbrev Asked : {S : Type 0} → (S → (call : Call) → Answer call → S → Type 0) → Named → List ℕ → DaemonState → Choice → S → S → Type 0
+Asked gives who line d c s t = IsRefused who line d c s t ⊎ (IsChosen who line d c s t ⊎ IsProbedFor gives who line d c s t)
 
-module _ {S : Type 0} (gives : S → (call : Call) → Answer call → S → Type 0) (access : List Addition) (ss : List Standing) (rules : List RuleEntry) (who : Named) (c : Choice) (s t : S) where
-  refuses : (r : Refusal) (read : Result Request ℕ) → told_in_reply (Err r) ≡ [] → (c ≡ choice.Refuse r) × (t ≡ s) → Asked gives access ss rules who read c s t
-  refuses r read silent h = inl (record { refused = r; is = h.0; silent = silent; same = h.1 })
+full_from : (n : ℕ) → nat_lt n 65536 ≡ false → 65536 ≤ n
+full_from n h = grind (arith, h)
 
-  by_standing_asked : (number : ℕ) (verdict : Target) (o : Option Standing) → numbered number ss ≡ o → is_granted access who (needs (request.Device number verdict false)) ≡ true → Runs gives s (by_standing number verdict o) c t → Asked gives access ss rules who (Ok (request.Device number verdict false)) c s t
-  by_standing_asked number verdict None at granted h = refuses (refusal.NoDevice number) (Ok (request.Device number verdict false)) refl h
-  by_standing_asked number verdict (Some x) at granted h = inr (inr (record {
+undenied : (b : Bool) (needed : List (Section × Privilege)) → (needed ≡ [] → ⊥) → cond b None (first_denied needed) ≡ None → b ≡ true
+undenied true needed some h = refl
+undenied false [] some h = absurd (some refl)
+undenied false (p ∷ needed) some h = let none : ⊥ = cc in absurd none
+
+needs_one : (asked : Request) → needs asked ≡ [] → ⊥
+needs_one (request.GetParameter name) e = let none : ⊥ = cc in none
+needs_one (request.SetParameter name value) e = let none : ⊥ = cc in none
+needs_one request.ListDevices e = let none : ⊥ = cc in none
+needs_one (request.Device number verdict permanent) e = let none : ⊥ = cc in none
+needs_one request.ListRules e = let none : ⊥ = cc in none
+needs_one (request.AppendRule place permanent text) e = let none : ⊥ = cc in none
+needs_one (request.RemoveRule id) e = let none : ⊥ = cc in none
+needs_one request.Watch e = let none : ⊥ = cc in none
+
+undenied_by : (access : List Addition) (who : Named) (asked : Request) → denied_of access who (needs asked) ≡ None → is_granted access who (needs asked) ≡ true
+undenied_by access who asked h = undenied (is_granted access who (needs asked)) (needs asked) (needs_one asked) h
+
+denied_silent : (access : List Addition) (who : Named) (asked : Request) (refused : Refusal) → denied_of access who (needs asked) ≡ Some refused → told_in_reply (Err refused) ≡ []
+denied_silent access who asked refused h = by_first (is_granted access who (needs asked)) (needs asked) h
+  where
+    by_first : (b : Bool) (needed : List (Section × Privilege)) → cond b None (first_denied needed) ≡ Some refused → told_in_reply (Err refused) ≡ []
+    by_first true needed k = let none : ⊥ = cc in absurd none
+    by_first false [] k = let none : ⊥ = cc in absurd none
+    by_first false (p ∷ needed) k = subst (λ (r : Refusal). told_in_reply (Err r) ≡ []) (same_Some (refusal.Denied p.0 p.1) refused k) refl
+
+module _ {S : Type 0} (gives : S → (call : Call) → Answer call → S → Type 0) (who : Named) (line : List ℕ) (d : DaemonState) (c : Choice) (s t : S) where
+  abbrev It : Type 0
+  It = Asked gives who line d c s t
+
+  refuses : (r : Refusal) → WhyRefused who line d r → told_in_reply (Err r) ≡ [] → (c ≡ choice.Refuse r) × (t ≡ s) → It
+  refuses r why silent h = inl (record { refused = r; why = why; is = h.0; silent = silent; same = h.1 })
+
+  module _ (asked : Request) (reads : request_read line ≡ Ok asked) (granted : is_granted d.access who (needs asked) ≡ true) where
+    facts : (r : Refusal) → Refuses d asked r → told_in_reply (Err r) ≡ [] → (c ≡ choice.Refuse r) × (t ≡ s) → It
+    facts r why silent h = refuses r (By_facts asked r reads granted why) silent h
+
+    chooses : (outcome : Outcome) (chosen : Choice) → ComesTo d asked outcome → Chosen d outcome chosen → (c ≡ chosen) × (t ≡ s) → It
+    chooses outcome chosen comes how h = inr (inl (record { asked = asked; reads = reads; granted = granted; outcome = outcome; comes = comes; chosen = chosen; how = how; is = h.0; same = h.1 }))
+
+    tells_rows : (rows : List (List ℕ)) → ComesTo d asked (only_lines rows) → (b : Bool) → Runs gives s (if_room rows b) c t → It
+    tells_rows rows comes true h = chooses (only_lines rows) (choice.Tell rows) comes (Told_lines rows) h
+    tells_rows rows comes false h = refuses (refusal.Memory false) No_memory refl h
+
+  by_standing_asked : (number : ℕ) (verdict : Target) (o : Option Standing) → numbered number d.sweep.standings ≡ o → request_read line ≡ Ok (request.Device number verdict false) → is_granted d.access who (needs (request.Device number verdict false)) ≡ true → Runs gives s (by_standing number verdict o) c t → It
+  by_standing_asked number verdict None at reads granted h = facts (request.Device number verdict false) reads granted (refusal.NoDevice number) (No_device number verdict at) refl h
+  by_standing_asked number verdict (Some x) at reads granted h = inr (inr (record {
     number = number;
     verdict = verdict;
     standing = x;
-    asked = refl;
+    asked = reads;
     granted = granted;
     stands = at;
     found = h.0;
@@ -115,41 +186,97 @@ module _ {S : Type 0} (gives : S → (call : Call) → Answer call → S → Typ
     is = h.3.0;
   }))
 
-  by_privilege_asked : (number : ℕ) (verdict : Target) (b : Bool) → is_granted access who (needs (request.Device number verdict false)) ≡ b → Runs gives s (by_privilege ss number verdict (cond b None (first_denied (needs (request.Device number verdict false))))) c t → Asked gives access ss rules who (Ok (request.Device number verdict false)) c s t
-  by_privilege_asked number verdict true granted h = by_standing_asked number verdict (numbered number ss) refl granted h
-  by_privilege_asked number verdict false denied h = refuses (refusal.Denied section.Devices privilege.Modify) (Ok (request.Device number verdict false)) refl h
+  by_name_asked : (name : List ℕ) (o : Option ParameterName) → parameter_of name ≡ o → request_read line ≡ Ok (request.GetParameter name) → is_granted d.access who (needs (request.GetParameter name)) ≡ true → Runs gives s (by_name d.sweep.judge.classes o) c t → It
+  by_name_asked name None at reads granted h = facts (request.GetParameter name) reads granted refusal.BadParameter (No_parameter name at) refl h
+  by_name_asked name (Some set) at reads granted h = tells_rows (request.GetParameter name) reads granted (value_word (parameter_at set d.sweep.judge.classes) ∷ []) (Value name set at) h.0 h.1
 
-  room_asked : (rows : List (List ℕ)) (read : Result Request ℕ) → (((read ≡ Ok request.ListDevices) × (is_granted access who (needs request.ListDevices) ≡ true) × (rows ≡ device_rows ss)) ⊎ ((read ≡ Ok request.ListRules) × (is_granted access who (needs request.ListRules) ≡ true) × (rows ≡ rule_rows rules))) → (b : Bool) → Runs gives s (if_room rows b) c t → Asked gives access ss rules who read c s t
-  room_asked rows read list true h = inr (inl (record { rows = rows; list = list; is = h.0; same = h.1 }))
-  room_asked rows read list false h = refuses (refusal.Memory false) read refl h
+  by_value_asked : (name value : List ℕ) (set : ParameterName) (o : Option Parameter) → parameter_of name ≡ Some set → value_of set value ≡ o → request_read line ≡ Ok (request.SetParameter name value) → is_granted d.access who (needs (request.SetParameter name value)) ≡ true → (c ≡ by_value o) × (t ≡ s) → It
+  by_value_asked name value set None at with reads granted h = facts (request.SetParameter name value) reads granted refusal.BadValue (No_value name value set at with) refl h
+  by_value_asked name value set (Some to) at with reads granted h =
+      chooses (request.SetParameter name value) reads granted (outcome_of_change d (Set to)) (choice.Change (Set to))
+      (Changes (request.SetParameter name value) (Set to) (ap (λ (o : Option ParameterName). setting_asked o value) at ∙ ap (λ (o : Option Parameter). option_map Set o) with) tt)
+      (Told_change (Set to)) h
 
-  devices_asked : (b : Bool) → is_granted access who (needs request.ListDevices) ≡ b → Runs gives s (by_list (device_rows ss) (cond b None (first_denied (needs request.ListDevices)))) c t → Asked gives access ss rules who (Ok request.ListDevices) c s t
-  devices_asked true granted h = room_asked (device_rows ss) (Ok request.ListDevices) (inl (refl, granted, refl)) h.0 h.1
-  devices_asked false denied h = refuses (refusal.Denied section.Devices privilege.List) (Ok request.ListDevices) refl h
+  by_setting_asked : (name value : List ℕ) (o : Option ParameterName) → parameter_of name ≡ o → request_read line ≡ Ok (request.SetParameter name value) → is_granted d.access who (needs (request.SetParameter name value)) ≡ true → (c ≡ by_setting o value) × (t ≡ s) → It
+  by_setting_asked name value None at reads granted h = facts (request.SetParameter name value) reads granted refusal.BadParameter (No_setting name value at) refl h
+  by_setting_asked name value (Some set) at reads granted h = by_value_asked name value set (value_of set value) at refl reads granted h
 
-  rules_asked : (b : Bool) → is_granted access who (needs request.ListRules) ≡ b → Runs gives s (by_list (rule_rows rules) (cond b None (first_denied (needs request.ListRules)))) c t → Asked gives access ss rules who (Ok request.ListRules) c s t
-  rules_asked true granted h = room_asked (rule_rows rules) (Ok request.ListRules) (inr (refl, granted, refl)) h.0 h.1
-  rules_asked false denied h = refuses (refusal.Denied section.Policy privilege.List) (Ok request.ListRules) refl h
+  by_id_asked : (id : ℕ) (there permanent : Bool) → has_rule id d.sweep.judge.rules ≡ there → has_permanent id d.sweep.judge.rules ≡ permanent → request_read line ≡ Ok (request.RemoveRule id) → is_granted d.access who (needs (request.RemoveRule id)) ≡ true → (c ≡ unless (cond there None (Some (refusal.NoRule id))) (cond permanent (choice.Refuse (refusal.BadRequest 0)) (choice.Change (Remove id)))) × (t ≡ s) → It
+  by_id_asked id false permanent at kept reads granted h = facts (request.RemoveRule id) reads granted (refusal.NoRule id) (No_rule id at) refl h
+  by_id_asked id true true at kept reads granted h = facts (request.RemoveRule id) reads granted (refusal.BadRequest 0) (Permanent_removal id at kept) refl h
+  by_id_asked id true false at kept reads granted h = chooses (request.RemoveRule id) reads granted (outcome_of_change d (Remove id)) (choice.Change (Remove id)) (Changes (request.RemoveRule id) (Remove id) refl (rule_there id d.sweep.judge.rules at, kept)) (Told_change (Remove id)) h
 
-  by_request_asked : (read : Result Request ℕ) → Runs gives s (by_request access ss rules who read) c t → Asked gives access ss rules who read c s t
-  by_request_asked (Err place) h = refuses (refusal.BadRequest place) (Err place) refl h
-  by_request_asked (Ok (request.Device number verdict false)) h = by_privilege_asked number verdict (is_granted access who (needs (request.Device number verdict false))) refl h
-  by_request_asked (Ok (request.Device number verdict true)) h = refuses (refusal.BadRequest 0) _ refl h
-  by_request_asked (Ok (request.GetParameter name)) h = refuses (refusal.BadRequest 0) _ refl h
-  by_request_asked (Ok (request.SetParameter name value)) h = refuses (refusal.BadRequest 0) _ refl h
-  by_request_asked (Ok request.ListDevices) h = devices_asked (is_granted access who (needs request.ListDevices)) refl h
-  by_request_asked (Ok request.ListRules) h = rules_asked (is_granted access who (needs request.ListRules)) refl h
-  by_request_asked (Ok (request.AppendRule after permanent rule)) h = refuses (refusal.BadRequest 0) _ refl h
-  by_request_asked (Ok (request.RemoveRule id)) h = refuses (refusal.BadRequest 0) _ refl h
-  by_request_asked (Ok request.Watch) h = refuses (refusal.BadRequest 0) _ refl h
+  module _ (place : After) (text : List ℕ) (reads : request_read line ≡ Ok (request.AppendRule place false text)) (granted : is_granted d.access who (needs (request.AppendRule place false text)) ≡ true) where
+    by_few_asked : (rule : Rule) (b : Bool) → nat_lt (length d.sweep.judge.rules) 65536 ≡ b → rule_read text ≡ Ok rule → IsThere place d.sweep.judge.rules → (c ≡ unless (cond b None (Some refusal.RulesFull)) (choice.Change (Insert place rule true))) × (t ≡ s) → It
+    by_few_asked rule false few read there h = facts (request.AppendRule place false text) reads granted refusal.RulesFull (Full place text rule read there (full_from (length d.sweep.judge.rules) few)) refl h
+    by_few_asked rule true few read there h =
+        chooses (request.AppendRule place false text) reads granted (outcome_of_change d (Insert place rule true)) (choice.Change (Insert place rule true))
+        (Changes (request.AppendRule place false text) (Insert place rule true) (ap (λ (r : Result Rule Fault). rule_asked place false r) read) (there, few_below (length d.sweep.judge.rules) few, refl))
+        (Told_change (Insert place rule true)) h
 
-  asked_of : (line : List ℕ) → Runs gives s (asking access ss rules who line) c t → Asked gives access ss rules who (request_read line) c s t
-  unfolding asking
-  asked_of line h = by_room h.0 h.1
+  by_place_asked : (place : After) (text : List ℕ) (rule : Rule) → rule_read text ≡ Ok rule → request_read line ≡ Ok (request.AppendRule place false text) → is_granted d.access who (needs (request.AppendRule place false text)) ≡ true → (c ≡ by_rule d.sweep.judge.rules place (Ok rule)) × (t ≡ s) → It
+  by_place_asked after.End text rule read reads granted h = by_few_asked after.End text reads granted rule (nat_lt (length d.sweep.judge.rules) 65536) refl read tt h
+  by_place_asked after.Front text rule read reads granted h = by_few_asked after.Front text reads granted rule (nat_lt (length d.sweep.judge.rules) 65536) refl read tt h
+  by_place_asked (after.Rule id) text rule read reads granted h = by_there (has_rule id d.sweep.judge.rules) refl h
     where
-      by_room : (b : Bool) → Runs gives s (if_read access ss rules who line b) c t → Asked gives access ss rules who (request_read line) c s t
-      by_room true k = by_request_asked (request_read line) k
-      by_room false k = refuses (refusal.Memory false) (request_read line) refl k
+      by_there : (b : Bool) → has_rule id d.sweep.judge.rules ≡ b → (c ≡ unless (cond b None (Some (refusal.NoRule id))) (unless (if_few d.sweep.judge.rules) (choice.Change (Insert (after.Rule id) rule true)))) × (t ≡ s) → It
+      by_there false at k = facts (request.AppendRule (after.Rule id) false text) reads granted (refusal.NoRule id) (No_place id text rule read at) refl k
+      by_there true at k = by_few_asked (after.Rule id) text reads granted rule (nat_lt (length d.sweep.judge.rules) 65536) refl read (rule_there id d.sweep.judge.rules at) k
+
+  by_rule_asked : (place : After) (text : List ℕ) (b : Bool) → request_read line ≡ Ok (request.AppendRule place false text) → is_granted d.access who (needs (request.AppendRule place false text)) ≡ true → Runs gives s (if_rule_read d.sweep.judge.rules place text b) c t → It
+  by_rule_asked place text false reads granted h = refuses (refusal.Memory false) No_memory refl h
+  by_rule_asked place text true reads granted h = by_read (rule_read text) refl h
+    where
+      by_read : (r : Result Rule Fault) → rule_read text ≡ r → (c ≡ by_rule d.sweep.judge.rules place r) × (t ≡ s) → It
+      by_read (Err bad) read k = facts (request.AppendRule place false text) reads granted (refusal.BadRule (kind_number bad.kind) bad.place) (Bad_rule place text bad read) refl k
+      by_read (Ok rule) read k = by_place_asked place text rule read reads granted k
+
+  granted_asked : (asked : Request) → request_read line ≡ Ok asked → is_granted d.access who (needs asked) ≡ true → Runs gives s (asking_of d asked) c t → It
+  granted_asked (request.GetParameter name) reads granted h = by_name_asked name (parameter_of name) refl reads granted h
+  granted_asked (request.SetParameter name value) reads granted h = by_setting_asked name value (parameter_of name) refl reads granted h
+  granted_asked request.ListDevices reads granted h = tells_rows request.ListDevices reads granted (device_rows d.sweep.standings) Devices h.0 h.1
+  granted_asked (request.Device number verdict false) reads granted h = by_standing_asked number verdict (numbered number d.sweep.standings) refl reads granted h
+  granted_asked (request.Device number verdict true) reads granted h = facts (request.Device number verdict true) reads granted (refusal.BadRequest 0) (Permanent_verdict number verdict) refl h
+  granted_asked request.ListRules reads granted h = tells_rows request.ListRules reads granted (rule_rows d.sweep.judge.rules) Rules h.0 h.1
+  granted_asked (request.AppendRule place false text) reads granted h = by_rule_asked place text h.0 reads granted h.1
+  granted_asked (request.AppendRule place true text) reads granted h = facts (request.AppendRule place true text) reads granted (refusal.BadRequest 0) (Permanent_rule place text) refl h
+  granted_asked (request.RemoveRule id) reads granted h = by_id_asked id (has_rule id d.sweep.judge.rules) (has_permanent id d.sweep.judge.rules) refl refl reads granted h
+  granted_asked request.Watch reads granted h = chooses request.Watch reads granted (record { lines = []; change = None; watches = true }) choice.Watch Watches Told_watch h
+
+  by_request_asked : (read : Result Request ℕ) → request_read line ≡ read → Runs gives s (by_request d who read) c t → It
+  by_request_asked (Err place) reads h = refuses (refusal.BadRequest place) (Unread place reads) refl h
+  by_request_asked (Ok asked) reads h = by_denied (denied_of d.access who (needs asked)) refl h
+    where
+      by_denied : (o : Option Refusal) → denied_of d.access who (needs asked) ≡ o → Runs gives s (if_granted o (asking_of d asked)) c t → It
+      by_denied (Some refused) is k = refuses refused (Denied asked refused reads is) (denied_silent d.access who asked refused is) k
+      by_denied None is k = granted_asked asked reads (undenied_by d.access who asked is) k
+
+  asked_of : Runs gives s (asking d who line) c t → It
+  unfolding asking
+  asked_of h = by_room h.0 h.1
+    where
+      by_room : (b : Bool) → Runs gives s (if_read d who line b) c t → It
+      by_room true k = by_request_asked (request_read line) refl k
+      by_room false k = refuses (refusal.Memory false) No_memory refl k
+
+-- what is done of it, unless memory is wanting
+
+abbrev IsDone : DaemonState → Outcome → DaemonState → Type 0
+IsDone d outcome a = (a ≡ if_watching outcome.watches (replying (reply.Lines outcome.lines) (with_changes outcome.change d))) ⊎ (a ≡ replying (reply.Refused (refusal.Memory false)) d)
+
+changed_done : {S : Type 0} (gives : S → (call : Call) → Answer call → S → Type 0) (d a : DaemonState) (change : Change) (s t : S) → Runs gives s (changing d change) a t → IsDone d (outcome_of_change d change) a × (t ≡ s)
+changed_done gives d a (Insert place rule temporary) s t h = by_room h.0 h.1
+  where
+    by_room : (b : Bool) → Runs gives s (if_added d (Insert place rule temporary) b) a t → IsDone d (outcome_of_change d (Insert place rule temporary)) a × (t ≡ s)
+    by_room true k = (inl k.0, k.1)
+    by_room false k = (inr k.0, k.1)
+changed_done gives d a (Remove id) s t h = (inl h.0, h.1)
+changed_done gives d a (Set set) s t h = (inl h.0, h.1)
+
+chosen_done : {S : Type 0} (gives : S → (call : Call) → Answer call → S → Type 0) (who : Named) (d a : DaemonState) (outcome : Outcome) (c : Choice) (s t : S) → Chosen d outcome c → Runs gives s (acting who d c) a t → IsDone d outcome a × (t ≡ s)
+chosen_done gives who d a _ _ s t (Told_lines rows) h = (inl h.0, h.1)
+chosen_done gives who d a _ _ s t (Told_change change) h = changed_done gives d a change s t h
+chosen_done gives who d a _ _ s t Told_watch h = (inl h.0, h.1)
 
 -- ---- in the words of calls
 
@@ -168,6 +295,12 @@ told_answer settled.Stands = refl
 told_answer settled.Nobody = refl
 told_answer (settled.Fault failed) = refl
 told_answer settled.Memory = refl
+
+-- a change tells no failure, and names nothing
+change_silent : (change : Change) (next : ℕ) → (failures_told (change_entry change next ∷ []) ≡ []) × (unsettled_names (change_entry change next ∷ []) ≡ [])
+change_silent (Insert place rule temporary) next = (refl, refl)
+change_silent (Remove id) next = (refl, refl)
+change_silent (Set set) next = (refl, refl)
 
 -- what an order made
 pub record Answered {S : Type 0} (gives : S → (call : Call) → Answer call → S → Type 0) (calls faults : S → ℕ) (event : Event) (s : S) (d : DaemonState) (t : S) (a : DaemonState) : Type 0 where
@@ -234,26 +367,47 @@ module _ {S : Type 0} (gives : S → (call : Call) → Answer call → S → Typ
       (ap (λ (q : Probe). (cond (failed_probe q) (failure_of found ∷ []) []) ++ []) is ∙ ap (λ (n : ℕ). let f : FailedCall = record { call = n; count = found.count } in f ∷ []) (first_number x.held.0 found u probed))
       h.0
 
-  told_made : (x : TellsList who line d a) → t ≡ s → Answered gives calls faults (Order moment who line) s d t a
-  told_made x same = record {
-    made = [];
-    along = same;
-    goes = inr (inl (refl, x));
-    told = reply_told (reply.Lines x.rows) a d x.state ∙ append-nil (failures_told d.sweep.entries) ∙ quiet;
-    nameless = reply_names (reply.Lines x.rows) a d x.state ∙ nameless;
-  }
+  -- what the state that is left tells of a failed call, and whom it names
+  done_told : (outcome : Outcome) → a ≡ if_watching outcome.watches (replying (reply.Lines outcome.lines) (with_changes outcome.change d)) → (failures_told a.sweep.entries ≡ []) × (unsettled_names a.sweep.entries ≡ [])
+  done_told outcome is = by_change outcome.change outcome.watches is
+    where
+      watching_sweep : (b : Bool) (x : DaemonState) → (if_watching b x).sweep ≡ x.sweep
+      watching_sweep true x = refl
+      watching_sweep false x = refl
 
-  order_made : Runs gives s (then (asking d.access d.sweep.standings d.sweep.judge.rules who line) (acting who d)) a t → Answered gives calls faults (Order moment who line) s d t a
+      by_change : (change : Option Change) (b : Bool) → a ≡ if_watching b (replying (reply.Lines outcome.lines) (with_changes change d)) → (failures_told a.sweep.entries ≡ []) × (unsettled_names a.sweep.entries ≡ [])
+      by_change None b same =
+          let entries : a.sweep.entries ≡ d.sweep.entries ++ entry.Reply (Ok tt) ∷ [] = ap (λ (x : DaemonState). x.sweep.entries) same ∙ ap (λ (x : State Judging). x.entries) (watching_sweep b (replying (reply.Lines outcome.lines) d)) in (
+            ap (λ (es : List Entry). failures_told es) entries ∙ told_more d.sweep.entries (entry.Reply (Ok tt) ∷ []) ∙ append-nil (failures_told d.sweep.entries) ∙ quiet,
+            ap (λ (es : List Entry). unsettled_names es) entries ∙ names_more d.sweep.entries (entry.Reply (Ok tt) ∷ []) ∙ append-nil (unsettled_names d.sweep.entries) ∙ nameless,
+          )
+      by_change (Some change) b same =
+          let e : Entry = change_entry change d.sweep.judge.next in
+          let entries : a.sweep.entries ≡ (d.sweep.entries ++ e ∷ []) ++ entry.Reply (Ok tt) ∷ [] = ap (λ (x : DaemonState). x.sweep.entries) same ∙ ap (λ (x : State Judging). x.entries) (watching_sweep b (replying (reply.Lines outcome.lines) (with_change change d))) in
+          let silent = change_silent change d.sweep.judge.next in (
+            ap (λ (es : List Entry). failures_told es) entries ∙ told_more (d.sweep.entries ++ e ∷ []) (entry.Reply (Ok tt) ∷ []) ∙ append-nil (failures_told (d.sweep.entries ++ e ∷ [])) ∙ told_more d.sweep.entries (e ∷ []) ∙ ap (λ (fs : List FailedCall). failures_told d.sweep.entries ++ fs) silent.0 ∙ append-nil (failures_told d.sweep.entries) ∙ quiet,
+            ap (λ (es : List Entry). unsettled_names es) entries ∙ names_more (d.sweep.entries ++ e ∷ []) (entry.Reply (Ok tt) ∷ []) ∙ append-nil (unsettled_names (d.sweep.entries ++ e ∷ [])) ∙ names_more d.sweep.entries (e ∷ []) ∙ ap (λ (ns : List (List ℕ)). unsettled_names d.sweep.entries ++ ns) silent.1 ∙ append-nil (unsettled_names d.sweep.entries) ∙ nameless,
+          )
+
+  at_once_made : (x : AnswersAtOnce who line d a) → t ≡ s → Answered gives calls faults (Order moment who line) s d t a
+  at_once_made x same =
+      let says = done_told x.outcome x.state in
+      record { made = []; along = same; goes = inr (inl (refl, x)); told = says.0; nameless = says.1 }
+
+  order_made : Runs gives s (then (asking d who line) (acting who d)) a t → Answered gives calls faults (Order moment who line) s d t a
   order_made h =
-      let x = runs_split gives s (asking d.access d.sweep.standings d.sweep.judge.rules who line) (acting who d) a t h in
-      elim (asked_of gives d.access d.sweep.standings d.sweep.judge.rules who x.0 s x.1 line x.2) [
+      let x = runs_split gives s (asking d who line) (acting who d) a t h in
+      elim (asked_of gives who line d x.0 s x.1 x.2) [
         | inl r ↦
             let run = subst (λ (c : Choice). Runs gives x.1 (acting who d c) a t) r.is x.3 in
             refused_made r.refused [] (run.1 ∙ r.same) (inl refl) (sym r.silent) run.0
         | inr z ↦ elim z [
           | inl l ↦
-              let run = subst (λ (c : Choice). Runs gives x.1 (acting who d c) a t) l.is x.3 in
-              told_made (record { rows = l.rows; list = l.list; state = run.0 }) (run.1 ∙ l.same)
+              let run = chosen_done gives who d a l.outcome l.chosen x.1 t l.how (subst (λ (c : Choice). Runs gives x.1 (acting who d c) a t) l.is x.3) in
+              elim run.0 [
+                | inl is ↦ at_once_made (record { asked = l.asked; reads = l.reads; granted = l.granted; outcome = l.outcome; comes = l.comes; state = is }) (run.1 ∙ l.same)
+                | inr is ↦ refused_made (refusal.Memory false) [] (run.1 ∙ l.same) (inl refl) refl is
+              ]
           | inr p ↦ found_made p.number p.verdict p.standing p.found x.1 p.found.answer p.stands refl p.probed (subst (λ (c : Choice). Runs gives x.1 (acting who d c) a t) p.is x.3)
         ]
       ]
@@ -285,11 +439,28 @@ ready_names (Order moment who line) (Some saved) d = refl
 
 -- ---- in the words of devices
 
-module _ (who : Named) (line : List ℕ) (k : Kernel) (d : DaemonState) (l : Kernel) (a : DaemonState) (sound : IsKernel l) (stand : Stand k d.sweep.standings d.sweep.next) where
-  refused_so : (r : Refusal) → Quiet k l → a ≡ replying (reply.Refused r) d → RefusesOrder k d l a ⊎ (((l ≡ k) × TellsList who line d a) ⊎ CarriesOut who line k d l a)
-  refused_so r quiet is = inl (record { refused = r; sound = sound; quiet = quiet; state = is })
+module _ (who : Named) (line : List ℕ) (k : Kernel) (d : DaemonState) (l : Kernel) (a : DaemonState) (sound : IsKernel k) (stand : Stand k d.sweep.standings d.sweep.next) where
+  abbrev It_is : Type 0
+  It_is = RefusesOrder who line k d l a ⊎ (((l ≡ k) × AnswersAtOnce who line d a) ⊎ CarriesOut who line k d l a)
 
-  found_so : (number : ℕ) (verdict : Target) (x : Standing) (found : Told Probe) (m : Kernel) (q : Probe) → request_read line ≡ Ok (request.Device number verdict false) → is_granted d.access who (needs (request.Device number verdict false)) ≡ true → numbered number d.sweep.standings ≡ Some x → found.answer ≡ q → Called (Ask_alive x.held.0) found k m → Runs calls m (acting who d (by_probe number verdict found.count q)) a l → RefusesOrder k d l a ⊎ (((l ≡ k) × TellsList who line d a) ⊎ CarriesOut who line k d l a)
+  -- before a call
+  refused_so : (r : Refusal) → WhyRefused who line d r → l ≡ k → a ≡ replying (reply.Refused r) d → It_is
+  refused_so r why same is = inl (record { refused = r; why = inl (why, same); sound = subst (λ (v : Kernel). IsKernel v) (sym same) sound; quiet = subst (λ (v : Kernel). Quiet k v) (sym same) (quiet_refl k); state = is })
+
+  -- by what the probe says
+  unfound_so : (number : ℕ) (verdict : Target) (x : Standing) (found : Told Probe) (m : Kernel) (q : Probe) (r : Refusal) → request_read line ≡ Ok (request.Device number verdict false) → is_granted d.access who (needs (request.Device number verdict false)) ≡ true → numbered number d.sweep.standings ≡ Some x → found.answer ≡ q → Called (Ask_alive x.held.0) found k m → ProbeRefuses number q r → l ≡ m → a ≡ replying (reply.Refused r) d → It_is
+  unfound_so number verdict x found m q r asked granted stands is c why same state =
+      let quiet = called_quiet (Ask_alive x.held.0) found k m tt c in
+      let probed : ProbedOne x k m q = record { sound = c.sound; quiet = quiet; says = subst (λ (v : Probe). says_probe x.held.0 v k m) is c.says } in
+      inl (record {
+        refused = r;
+        why = inr (record { number = number; verdict = verdict; asked = asked; granted = granted; standing = x; stands = stands; found = q; probed = subst (λ (v : Kernel). ProbedOne x k v q) (sym same) probed; is = why });
+        sound = subst (λ (v : Kernel). IsKernel v) (sym same) c.sound;
+        quiet = subst (λ (v : Kernel). Quiet k v) (sym same) quiet;
+        state = state;
+      })
+
+  found_so : (number : ℕ) (verdict : Target) (x : Standing) (found : Told Probe) (m : Kernel) (q : Probe) → request_read line ≡ Ok (request.Device number verdict false) → is_granted d.access who (needs (request.Device number verdict false)) ≡ true → numbered number d.sweep.standings ≡ Some x → found.answer ≡ q → Called (Ask_alive x.held.0) found k m → Runs calls m (acting who d (by_probe number verdict found.count q)) a l → It_is
   found_so number verdict x found m (probe.Alive on) asked granted stands is c h =
       let r = runs_split calls m (ordering number verdict who on (kept_of d.sweep.standings d.sweep.entries)) (λ (p : Settled × Kept). Return (answered_with d p)) a l h in
       let run = subst (λ (v : Kernel). Runs calls m (ordering number verdict who on (kept_of d.sweep.standings d.sweep.entries)) r.0 v) (sym r.3.1) r.2 in
@@ -315,20 +486,23 @@ module _ (who : Named) (line : List ℕ) (k : Kernel) (d : DaemonState) (l : Ker
         given = told.given;
         state = r.3.0;
       }))
-  found_so number verdict x found m probe.Gone asked granted stands is c h = refused_so (refusal.NoDevice number) (subst (λ (v : Kernel). Quiet k v) (sym h.1) (called_quiet (Ask_alive x.held.0) found k m tt c)) h.0
-  found_so number verdict x found m probe.Failed asked granted stands is c h = refused_so (refusal.ProbeFault found.count) (subst (λ (v : Kernel). Quiet k v) (sym h.1) (called_quiet (Ask_alive x.held.0) found k m tt c)) h.0
+  found_so number verdict x found m probe.Gone asked granted stands is c h = unfound_so number verdict x found m probe.Gone (refusal.NoDevice number) asked granted stands is c refl h.1 h.0
+  found_so number verdict x found m probe.Failed asked granted stands is c h = unfound_so number verdict x found m probe.Failed (refusal.ProbeFault found.count) asked granted stands is c (found.count, refl) h.1 h.0
 
-  order_so : Runs calls k (then (asking d.access d.sweep.standings d.sweep.judge.rules who line) (acting who d)) a l → RefusesOrder k d l a ⊎ (((l ≡ k) × TellsList who line d a) ⊎ CarriesOut who line k d l a)
+  order_so : Runs calls k (then (asking d who line) (acting who d)) a l → It_is
   order_so h =
-      let x = runs_split calls k (asking d.access d.sweep.standings d.sweep.judge.rules who line) (acting who d) a l h in
-      elim (asked_of calls d.access d.sweep.standings d.sweep.judge.rules who x.0 k x.1 line x.2) [
+      let x = runs_split calls k (asking d who line) (acting who d) a l h in
+      elim (asked_of calls who line d x.0 k x.1 x.2) [
         | inl r ↦
             let run = subst (λ (c : Choice). Runs calls x.1 (acting who d c) a l) r.is x.3 in
-            refused_so r.refused (subst (λ (v : Kernel). Quiet k v) (sym (run.1 ∙ r.same)) (quiet_refl k)) run.0
+            refused_so r.refused r.why (run.1 ∙ r.same) run.0
         | inr z ↦ elim z [
           | inl t ↦
-              let run = subst (λ (c : Choice). Runs calls x.1 (acting who d c) a l) t.is x.3 in
-              inr (inl (run.1 ∙ t.same, record { rows = t.rows; list = t.list; state = run.0 }))
+              let run = chosen_done calls who d a t.outcome t.chosen x.1 l t.how (subst (λ (c : Choice). Runs calls x.1 (acting who d c) a l) t.is x.3) in
+              elim run.0 [
+                | inl is ↦ inr (inl (run.1 ∙ t.same, record { asked = t.asked; reads = t.reads; granted = t.granted; outcome = t.outcome; comes = t.comes; state = is }))
+                | inr is ↦ refused_so (refusal.Memory false) No_memory (run.1 ∙ t.same) is
+              ]
           | inr p ↦ found_so p.number p.verdict p.standing p.found x.1 p.found.answer p.asked p.granted p.stands refl p.probed (subst (λ (c : Choice). Runs calls x.1 (acting who d c) a l) p.is x.3)
         ]
       ]
@@ -337,14 +511,28 @@ pub answering_told : {S : Type 0} (gives : S → (call : Call) → Answer call �
 unfolding answering
 answering_told gives told did (Sweep moment) s d t a h = λ l e. (l, subst (λ (v : _). told v ≡ Some l) h.1 e, λ sound stand. (refl, h.0))
 answering_told gives told did (Order moment who line) s d t a h = λ l e.
-    let m = told_run gives told did (then (asking d.access d.sweep.standings d.sweep.judge.rules who line) (acting who d)) s a t l h e in
-    (m.kernel, m.was, λ sound stand. let run = m.run sound in order_so who line m.kernel d l a run.1 stand run.0)
+    let m = told_run gives told did (then (asking d who line) (acting who d)) s a t l h e in
+    (m.kernel, m.was, λ sound stand. let run = m.run sound in order_so who line m.kernel d l a sound stand run.0)
+
+-- what an order that needs no call leaves of the standings
+pub left_standings : (d a : DaemonState) (outcome : Outcome) → a ≡ if_watching outcome.watches (replying (reply.Lines outcome.lines) (with_changes outcome.change d)) → (a.sweep.standings ≡ d.sweep.standings) × (a.sweep.next ≡ d.sweep.next)
+left_standings d a outcome is = by_parts outcome.change outcome.watches is
+  where
+    by_parts : (change : Option Change) (b : Bool) → a ≡ if_watching b (replying (reply.Lines outcome.lines) (with_changes change d)) → (a.sweep.standings ≡ d.sweep.standings) × (a.sweep.next ≡ d.sweep.next)
+    by_parts None true same = (ap (λ (x : DaemonState). x.sweep.standings) same, ap (λ (x : DaemonState). x.sweep.next) same)
+    by_parts None false same = (ap (λ (x : DaemonState). x.sweep.standings) same, ap (λ (x : DaemonState). x.sweep.next) same)
+    by_parts (Some change) true same = (ap (λ (x : DaemonState). x.sweep.standings) same, ap (λ (x : DaemonState). x.sweep.next) same)
+    by_parts (Some change) false same = (ap (λ (x : DaemonState). x.sweep.standings) same, ap (λ (x : DaemonState). x.sweep.next) same)
 
 -- behind an order the kernel is sound, and the standings are of its devices
 pub answered_stands : (event : Event) (k : Kernel) (d : DaemonState) (l : Kernel) (a : DaemonState) → IsKernel k → Stand k d.sweep.standings d.sweep.next → AnswersEvent event k d l a → IsKernel l × Stand l a.sweep.standings a.sweep.next
 answered_stands (Sweep moment) k d l a sound stand h = (subst (λ (v : Kernel). IsKernel v) (sym h.0) sound, subst (λ (v : Kernel). Stand v a.sweep.standings a.sweep.next) (sym h.0) (subst (λ (x : DaemonState). Stand k x.sweep.standings x.sweep.next) (sym h.1) stand))
 answered_stands (Order moment who line) k d l a sound stand (inl h) = (h.sound, subst (λ (x : DaemonState). Stand l x.sweep.standings x.sweep.next) (sym h.state) (stand_stays k l d.sweep.standings d.sweep.next (quiet_grows k l h.quiet) stand))
-answered_stands (Order moment who line) k d l a sound stand (inr (inl h)) = (subst (λ (v : Kernel). IsKernel v) (sym h.0) sound, subst (λ (v : Kernel). Stand v a.sweep.standings a.sweep.next) (sym h.0) (subst (λ (x : DaemonState). Stand k x.sweep.standings x.sweep.next) (sym h.1.state) stand))
+answered_stands (Order moment who line) k d l a sound stand (inr (inl h)) =
+    let left = left_standings d a h.1.outcome h.1.state in (
+      subst (λ (v : Kernel). IsKernel v) (sym h.0) sound,
+      subst (λ (v : Kernel). Stand v a.sweep.standings a.sweep.next) (sym h.0) (subst (λ (ss : List Standing). Stand k ss a.sweep.next) (sym left.0) (subst (λ (n : ℕ). Stand k d.sweep.standings n) (sym left.1) stand)),
+    )
 answered_stands (Order moment who line) k d l a sound stand (inr (inr h)) =
     let fair = h.law.fair policy_answer policy_later false swept_before in
     (fair.sound, subst (λ (x : DaemonState). Stand l x.sweep.standings x.sweep.next) (sym h.state) fair.stand)

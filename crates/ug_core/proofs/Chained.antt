@@ -2,6 +2,7 @@
 use Rattle.std.proofs.Common.{◌≡◌, ℕ, ◌<◌, Bool, true, false, not, ◌||◌, is_none, nat_eq, List, [], ◌∷◌, ◌++◌, Option, Some, None, Result, Ok, Err, ◌⊎◌, slice_get, inl, inr, refl, sym, ◌∙◌, ap, subst, append_assoc, append-nil, arith}
 use Rattle.std.specs.List.{list_any}
 use Rattle.ug_types.specs.Elements.{Has, AllDistinct}
+use Rattle.ug_types.specs.Parameters.{value_word}
 use Rattle.ug_types.specs.Principals.{Named}
 use Rattle.ug_types.specs.Names.{parent_of}
 use Rattle.ug_types.specs.declared.record.DeviceRecord.{DeviceRecord}
@@ -29,7 +30,11 @@ use Rattle.ug_conf.specs.declared.settings.Present.TheVariants as present
 use Rattle.ug_policy.specs.Deciding.{Found, decider}
 use Rattle.ug_policy.specs.Matching.{answer_by}
 use Rattle.ug_policy.specs.declared.entry.RuleEntry.{RuleEntry}
+use Rattle.ug_proto.specs.Privileges.{needs}
+use Rattle.ug_proto.specs.Requests.{request_read}
+use Rattle.ug_proto.specs.declared.reply.Reply.{Reply}
 use Rattle.ug_proto.specs.declared.reply.Reply.TheVariants as reply
+use Rattle.ug_proto.specs.declared.request.Request.{Request}
 use Rattle.ug_proto.specs.declared.request.Request.TheVariants as request
 use Rattle.ug_store.specs.Disk.{Disk}
 use Rattle.ug_table.specs.Allowed.{allowed_records}
@@ -43,18 +48,25 @@ use Rattle.ug_table.proofs.Devices.{device_stays, stand_stays}
 use Rattle.ug_table.proofs.Ordered.{has_ordered, ordered_is, ordered_other, stand_ordered}
 use Rattle.ug_table.proofs.Says.{account_says}
 use Rattle.ug_table.proofs.Standings.{numbered_has}
-use Rattle.ug_core.specs.Answering.{answer_of, reply_to, answered_with, replying}
+use Rattle.ug_core.specs.Answering.{answer_of, reply_to, answered_with, changed_with, replying, with_change}
+use Rattle.ug_core.specs.Changes.{CanChange, change_asked, change_entry, changed_by, parameter_at}
+use Rattle.ug_core.specs.DeviceRows.{device_rows}
+use Rattle.ug_core.specs.Privileges.{is_granted}
+use Rattle.ug_core.specs.RuleRows.{rule_rows}
+use Rattle.ug_core.specs.declared.changes.Change.{Change}
+use Rattle.ug_core.specs.declared.changes.Change.TheVariants.{Insert, Remove, Set}
 use Rattle.ug_core.specs.Policy.{Judging, cause_for, choice_for, kept, by_choice, found_for, verdict_of, policy_answer, policy_later}
 use Rattle.ug_core.specs.Event.{DaemonState, IsStarted, first_entry, moment_of, saved_entries}
 use Rattle.ug_core.specs.declared.daemon.Event.{Event}
 use Rattle.ug_core.specs.declared.daemon.Event.TheVariants.{Sweep, Order}
 use Rattle.ug_core.specs.InForce.{Decision, decision_of, decisions_in, or_else, on_number, last_decision, last_judged, standing_decision, in_force, Agree, is_ordered, unordered, numbers_on, given_numbers, Follow}
-use Rattle.ug_core.specs.Laws.{RefusesOrder, TellsList, CarriesOut, AnswersEvent, Handled}
-use Rattle.ug_core.specs.Rulings.{Ruling, at_moment, ruling_answer, after_ruling, after_rulings, decision_by, decisions_by}
-use Rattle.ug_core.specs.Chain.{Happened, ready_of, IsEvent, StaysOnDisk, Chain, IsKeptThroughout, journal, tells_unlisted, has_listed, IsPlaced, WasOrdered, WasDecided, IsExplained, IsJudgedOnce, IsRun}
+use Rattle.ug_core.specs.Laws.{AnswersAtOnce, AnswersEvent, CarriesOut, Changes, ComesTo, Devices, Handled, Outcome, RefusesOrder, Rules, Value, Watches, if_watching, with_changes}
+use Rattle.ug_core.specs.Rulings.{CanTake, Changed, Decided, PolicyStep, Ruled, Ruling, Told, Was_changed, after_ruling, after_steps, at_moment, decision_by, ruling_answer, told_by}
+use Rattle.ug_core.specs.Chain.{Happened, ready_of, IsEvent, StaysOnDisk, Chain, IsKeptThroughout, changes_asked, decided, journal, told_if, told_in, told_of, was_done, tells_unlisted, has_listed, IsPlaced, WasAsked, WasOrdered, WasDecided, IsExplained, IsJudgedOnce, IsRun}
 use Rattle.ug_core.proofs.Verdicts.{is_verdict}
 use Rattle.ug_core.proofs.InForce.{told_numbers, in_force_append, on_itself, on_another, unordered_append, unordered_all, unordered_has, decisions_append, decisions_more, has_decision, or_else_none, standing_found, fresh, numbers_append, follow_append, lift, lift_agree, last_has}
-use Rattle.ug_core.proofs.Walk.{after_append, decisions_then, IsAt, WasWritten, written_more, walk}
+use Rattle.ug_core.proofs.Steps.{after_ruled, can_ruled, can_then, ruled, ruled_has, ruled_unchanged, steps_append, told_ruled, told_then}
+use Rattle.ug_core.proofs.Walk.{after_rulings, decisions_by, IsAt, WasWritten, written_more, walk}
 use Rattle.ug_core.proofs.Kept.{stays_there, stays_then, kept_along}
 use Rattle.ug_core.proofs.Known.{same_device, IsKnown, AreKnown, known_grow, known_still, known_new, only_number}
 
@@ -183,38 +195,61 @@ alike_after p q (r ∷ rs) h = λ m. ap (λ (x : Judging). at_moment m (after_ru
 
 alike_decisions : (p q : Judging) (rs : List Ruling) → Alike p q → decisions_by p rs ≡ decisions_by q rs
 alike_decisions p q [] h = refl
-alike_decisions p q (r ∷ rs) h = ap (λ (x : Judging). decided x) (h r.moment)
+alike_decisions p q (r ∷ rs) h = ap (λ (x : Judging). made x) (h r.moment)
   where
-    decided : Judging → List Decision
-    decided x =
+    made : Judging → List Decision
+    made x =
         let a : Target × Cause = policy_answer x r.judged (is_none (parent_of r.name)) r.present r.on r.standings in
         record { number = r.number; name = r.name; held = r.held; verdict = a.0; cause = a.1 } ∷ decisions_by (policy_later x r.judged (is_none (parent_of r.name)) r.present r.on r.standings) rs
 
 -- the ruling of a decision
-record IsRuled (policy : Judging) (rs : List Ruling) (d : Decision) : Type 0 where
-  before : List Ruling
+record IsRuled (policy : Judging) (steps : List PolicyStep) (d : Decision) : Type 0 where
+  before : List PolicyStep
   ruling : Ruling
-  after : List Ruling
-  at : rs ≡ before ++ ruling ∷ after
-  is : decision_by (after_rulings policy before) ruling ≡ d
+  after : List PolicyStep
+  at : steps ≡ before ++ Ruled ruling ∷ after
+  is : decision_by (after_steps policy before) ruling ≡ d
 
-ruling_of : (policy : Judging) (rs : List Ruling) (d : Decision) → Has (decisions_by policy rs) d → IsRuled policy rs d
+ruling_of : (policy : Judging) (steps : List PolicyStep) (d : Decision) → Has (told_by policy steps) (Decided d) → IsRuled policy steps d
 ruling_of policy [] d h = absurd h
-ruling_of policy (r ∷ rs) d (inl same) = record { before = []; ruling = r; after = rs; at = refl; is = same }
-ruling_of policy (r ∷ rs) d (inr h) =
-    let k = ruling_of (after_ruling policy r) rs d h in
-    record { before = r ∷ k.before; ruling = k.ruling; after = k.after; at = ap (λ (l : List Ruling). r ∷ l) k.at; is = k.is }
+ruling_of policy (Ruled r ∷ steps) d (inl same) = record { before = []; ruling = r; after = steps; at = refl; is = (let one : decision_by policy r ≡ d = cc in one) }
+ruling_of policy (Ruled r ∷ steps) d (inr h) =
+    let k = ruling_of (after_ruling policy r) steps d h in
+    record { before = Ruled r ∷ k.before; ruling = k.ruling; after = k.after; at = ap (λ (l : List PolicyStep). Ruled r ∷ l) k.at; is = k.is }
+ruling_of policy (Changed change ∷ steps) d (inl same) = let none : ⊥ = cc in absurd none
+ruling_of policy (Changed change ∷ steps) d (inr h) =
+    let k = ruling_of (changed_by change policy) steps d h in
+    record { before = Changed change ∷ k.before; ruling = k.ruling; after = k.after; at = ap (λ (l : List PolicyStep). Changed change ∷ l) k.at; is = k.is }
 
-ruling_has : (rs before after : List Ruling) (r : Ruling) → rs ≡ before ++ r ∷ after → Has rs r
-ruling_has rs before after r at = subst (λ (l : List Ruling). Has l r) (sym at) (has_right before (r ∷ after) r (inl refl))
+step_has : (steps before after : List PolicyStep) (r : Ruling) → steps ≡ before ++ Ruled r ∷ after → Has steps (Ruled r)
+step_has steps before after r at = subst (λ (l : List PolicyStep). Has l (Ruled r)) (sym at) (has_right before (Ruled r ∷ after) (Ruled r) (inl refl))
 
--- what is kept along a run, with all entries so far
-pub record SoFar (policy : Judging) (first k : Kernel) (hs : List Happened) (es : List Entry) (w : State Judging) : Type 0 where
+-- a decision that the events tell
+told_has : (hs : List Happened) (d : Decision) → Has (unordered (decisions_in (journal hs))) d → Has (told_of hs) (Decided d)
+told_has [] d h = absurd h
+told_has (g ∷ hs) d h =
+    let here : List Decision = unordered (decisions_in g.after.sweep.entries) in
+    let later : List Decision = unordered (decisions_in (journal hs)) in
+    let first : List Told = told_if (was_done g.after.reply) (changes_asked g.event) in
+    let both = subst (λ (ds : List Decision). Has ds d) (ap (λ (ds : List Decision). unordered ds) (decisions_append g.after.sweep.entries (journal hs)) ∙ unordered_append (decisions_in g.after.sweep.entries) (decisions_in (journal hs))) h in
+    elim (has_cases here later d both) [
+      | inl b ↦ has_left (first ++ decided here) (told_of hs) (Decided d) (has_right first (decided here) (Decided d) (has_map Decided here d b))
+      | inr b ↦ has_right (first ++ decided here) (told_of hs) (Decided d) (told_has hs d b)
+    ]
+
+told_append : (hs : List Happened) (h : Happened) → told_of (hs ++ h ∷ []) ≡ told_of hs ++ told_in h
+told_append [] h = append-nil (told_in h)
+told_append (g ∷ hs) h = ap (λ (l : List Told). told_in g ++ l) (told_append hs h) ∙ sym (append_assoc (told_in g) (told_of hs) (told_in h))
+
+-- what is kept along a run, with all that was told of the policy so far, and all entries
+pub record SoFar (policy : Judging) (first k : Kernel) (hs : List Happened) (tl : List Told) (es : List Entry) (w : State Judging) : Type 0 where
   pub stand : Stand k w.standings w.next
-  pub rulings : List Ruling
-  pub told : unordered (decisions_in es) ≡ decisions_by policy rulings
-  pub judge : Alike w.judge (after_rulings policy rulings)
-  pub placed : (r : Ruling) → Has rulings r → IsPlaced hs k r
+  pub steps : List PolicyStep
+  pub told : tl ≡ told_by policy steps
+  pub can : CanTake policy steps
+  pub judge : Alike w.judge (after_steps policy steps)
+  pub placed : (r : Ruling) → Has steps (Ruled r) → IsPlaced hs k r
+  pub changed : (change : Change) → Has steps (Changed change) → WasAsked hs change
   pub ordered : (d : Decision) → Has (decisions_in es) d → is_ordered d.cause ≡ true → WasOrdered hs d
   pub written : AllWritten es first k
   pub numbers : Follow 1 (given_numbers es) w.next
@@ -241,6 +276,20 @@ placed_stays hs more k l r g p = record {
   marked = p.marked;
 }
 
+asked_stays : (hs more : List Happened) (change : Change) → WasAsked hs change → WasAsked (hs ++ more) change
+asked_stays hs more change a = record {
+  event = a.event;
+  in_run = has_left hs more a.event a.in_run;
+  moment = a.moment;
+  who = a.who;
+  line = a.line;
+  is_order = a.is_order;
+  asked = a.asked;
+  reads = a.reads;
+  asks = a.asks;
+  granted = a.granted;
+}
+
 ordered_stays : (hs more : List Happened) (d : Decision) → WasOrdered hs d → WasOrdered (hs ++ more) d
 ordered_stays hs more d o = record {
   earlier = o.earlier;
@@ -262,15 +311,17 @@ ordered_stays hs more d o = record {
 }
 
 -- nothing is written, while the run gets longer
-still_so : (policy : Judging) (first k l : Kernel) (hs more : List Happened) (es : List Entry) (w : State Judging) → Quiet k l → SoFar policy first k hs es w → SoFar policy first l (hs ++ more) es w
-still_so policy first k l hs more es w quiet so =
+still_so : (policy : Judging) (first k l : Kernel) (hs more : List Happened) (tl : List Told) (es : List Entry) (w : State Judging) → Quiet k l → SoFar policy first k hs tl es w → SoFar policy first l (hs ++ more) tl es w
+still_so policy first k l hs more tl es w quiet so =
     let g = quiet_grows k l quiet in
     record {
       stand = stand_stays k l w.standings w.next g so.stand;
-      rulings = so.rulings;
+      steps = so.steps;
       told = so.told;
+      can = so.can;
       judge = so.judge;
       placed = λ r a. placed_stays hs more k l r g (so.placed r a);
+      changed = λ c a. asked_stays hs more c (so.changed c a);
       ordered = λ d a is. ordered_stays hs more d (so.ordered d a is);
       written = record { added = so.written.added; log = quiet.log ∙ so.written.log; each = λ e a. written_stays [] es k l e g (so.written.each e a) };
       numbers = so.numbers;
@@ -279,20 +330,63 @@ still_so policy first k l hs more es w quiet so =
     }
 
 -- entries that tell no decision, and a judge whose context alone is another
-noted_so : (policy : Judging) (first k : Kernel) (hs : List Happened) (es fs : List Entry) (w v : State Judging) → decisions_in fs ≡ [] → v.standings ≡ w.standings → v.next ≡ w.next → Alike v.judge w.judge → SoFar policy first k hs es w → SoFar policy first k hs (es ++ fs) v
-noted_so policy first k hs es fs w v none standings next judge so =
+noted_so : (policy : Judging) (first k : Kernel) (hs : List Happened) (tl : List Told) (es fs : List Entry) (w v : State Judging) → decisions_in fs ≡ [] → v.standings ≡ w.standings → v.next ≡ w.next → Alike v.judge w.judge → SoFar policy first k hs tl es w → SoFar policy first k hs tl (es ++ fs) v
+noted_so policy first k hs tl es fs w v none standings next judge so =
     let same : decisions_in (es ++ fs) ≡ decisions_in es = decisions_more es fs none in
     record {
       stand = subst (λ (n : ℕ). Stand k v.standings n) (sym next) (subst (λ (ss : List Standing). Stand k ss w.next) (sym standings) so.stand);
-      rulings = so.rulings;
-      told = ap (λ (ds : List Decision). unordered ds) same ∙ so.told;
+      steps = so.steps;
+      told = so.told;
+      can = so.can;
       judge = λ m. judge m ∙ so.judge m;
       placed = so.placed;
+      changed = so.changed;
       ordered = λ d a is. so.ordered d (subst (λ (ds : List Decision). Has ds d) same a) is;
       written = record { added = so.written.added; log = so.written.log; each = λ e a. written_more [] es fs k e (so.written.each e a) };
       numbers = subst (λ (n : ℕ). Follow 1 (given_numbers (es ++ fs)) n) (sym next) (subst (λ (ds : List Decision). Follow 1 (numbers_on (unordered ds)) w.next) (sym same) so.numbers);
       agree = λ s a. ap (λ (ds : List Decision). or_else (last_decision ds s.number) None) same ∙ so.agree s (subst (λ (ss : List Standing). Has ss s) standings a);
       known = subst (λ (ss : List Standing). AreKnown (decisions_in (es ++ fs)) k ss) (sym standings) (subst (λ (ds : List Decision). AreKnown ds k w.standings) (sym same) so.known);
+    }
+
+-- rules or a setting are changed
+
+entry_silent : (change : Change) (next : ℕ) → decisions_in (change_entry change next ∷ []) ≡ []
+entry_silent (Insert after rule temporary) next = refl
+entry_silent (Remove id) next = refl
+entry_silent (Set set) next = refl
+
+at_changed : (change : Change) (p : Judging) (m : Moment) → at_moment m (changed_by change p) ≡ changed_by change (at_moment m p)
+at_changed (Insert after rule temporary) p m = refl
+at_changed (Remove id) p m = refl
+at_changed (Set set) p m = refl
+
+changed_so : (policy : Judging) (first k : Kernel) (hs : List Happened) (tl : List Told) (es : List Entry) (w : State Judging) (change : Change) → CanChange change w.judge.rules → WasAsked hs change → SoFar policy first k hs tl es w
+    → SoFar policy first k hs (tl ++ Was_changed change ∷ []) (es ++ change_entry change w.judge.next ∷ []) (record w { judge = changed_by change w.judge; entries = w.entries ++ change_entry change w.judge.next ∷ [] })
+changed_so policy first k hs tl es w change can was so =
+    let e : Entry = change_entry change w.judge.next in
+    let noted = noted_so policy first k hs tl es (e ∷ []) w (record w { entries = w.entries ++ e ∷ [] }) (entry_silent change w.judge.next) refl refl (λ m. refl) so in
+    let q : Judging = after_steps policy so.steps in
+    let one : List PolicyStep = Changed change ∷ [] in
+    let rules : w.judge.rules ≡ q.rules = ap (λ (j : Judging). j.rules) (so.judge (record { 0 = 0 })) in
+    record {
+      stand = noted.stand;
+      steps = so.steps ++ one;
+      told = ap (λ (l : List Told). l ++ Was_changed change ∷ []) so.told ∙ sym (told_then policy so.steps one);
+      can = can_then policy so.steps one so.can (subst (λ (rs : List RuleEntry). CanChange change rs) rules can, tt);
+      judge = λ m. at_changed change w.judge m ∙ ap (λ (j : Judging). changed_by change j) (so.judge m) ∙ sym (at_changed change q m) ∙ ap (λ (j : Judging). at_moment m j) (sym (steps_append policy so.steps one));
+      placed = λ r a. elim (has_cases so.steps one (Ruled r) a) [
+        | inl b ↦ so.placed r b
+        | inr b ↦ elim b [ inl same ↦ (let none : ⊥ = cc in absurd none) | inr none ↦ absurd none ]
+      ];
+      changed = λ c a. elim (has_cases so.steps one (Changed c) a) [
+        | inl b ↦ so.changed c b
+        | inr b ↦ elim b [ inl same ↦ (let is : change ≡ c = cc in subst (λ (x : Change). WasAsked hs x) is was) | inr none ↦ absurd none ]
+      ];
+      ordered = noted.ordered;
+      written = noted.written;
+      numbers = noted.numbers;
+      agree = noted.agree;
+      known = noted.known;
     }
 
 -- a verdict that was ordered is set and told
@@ -320,8 +414,8 @@ one_ordered number verdict who ss x s distinct at a =
         let now : s ≡ y = sym same ∙ ordered_other number verdict who y is in
         record { before = y; has = has; is = inr (λ n. let other : y.number ≡ number = sym (ap (λ (v : Standing). v.number) now) ∙ n in grind (arith, is, other), now); same_number = ap (λ (v : Standing). v.number) now; same_held = ap (λ (v : Standing). v.held) now }
 
-ordered_so : (policy : Judging) (first k : Kernel) (hs : List Happened) (es : List Entry) (w : State Judging) (number : ℕ) (verdict : Target) (who : Named) (x : Standing) → numbered number w.standings ≡ Some x → WasOrdered hs (decision_of (with_verdict verdict who x)) → SoFar policy first k hs es w → SoFar policy first k hs (es ++ verdict_entry (with_verdict verdict who x) ∷ []) (just_ordered number verdict who x w)
-ordered_so policy first k hs es w number verdict who x at was so =
+ordered_so : (policy : Judging) (first k : Kernel) (hs : List Happened) (tl : List Told) (es : List Entry) (w : State Judging) (number : ℕ) (verdict : Target) (who : Named) (x : Standing) → numbered number w.standings ≡ Some x → WasOrdered hs (decision_of (with_verdict verdict who x)) → SoFar policy first k hs tl es w → SoFar policy first k hs tl (es ++ verdict_entry (with_verdict verdict who x) ∷ []) (just_ordered number verdict who x w)
+ordered_so policy first k hs tl es w number verdict who x at was so =
     let y : Standing = with_verdict verdict who x in
     let c : Decision = decision_of y in
     let ds : List Decision = decisions_in es in
@@ -332,10 +426,12 @@ ordered_so policy first k hs es w number verdict who x at was so =
     let device = so.stand.devices x numbered_x.0 in
     record {
       stand = stand_ordered k w.standings w.next number verdict who so.stand;
-      rulings = so.rulings;
-      told = same ∙ so.told;
+      steps = so.steps;
+      told = so.told;
+      can = so.can;
       judge = so.judge;
       placed = so.placed;
+      changed = so.changed;
       ordered = λ d a is. elim (has_cases ds (c ∷ []) d (subst (λ (l : List Decision). Has l d) whole a)) [
         | inl b ↦ so.ordered d b is
         | inr b ↦ elim b [ inl e ↦ subst (λ (v : Decision). WasOrdered hs v) e was | inr none ↦ absurd none ]
@@ -396,23 +492,34 @@ verdict_given : (p : Judging) (records : List DeviceRecord) (judged : Judged) (c
 verdict_given p records (judged.Malformed kind place) controller was on = refl
 verdict_given p records (judged.Good dev) controller was on = choice_given (choice_for p.classes controller was) was on p.classes.implicit (found_for p records dev)
 
+-- the ruling of a decision of a sweep
+record IsRulingOf (p : Judging) (rs : List Ruling) (d : Decision) : Type 0 where
+  policy : Judging
+  ruling : Ruling
+  has : Has rs ruling
+  is : decision_by policy ruling ≡ d
+
+ruling_in : (p : Judging) (rs : List Ruling) (d : Decision) → Has (decisions_by p rs) d → IsRulingOf p rs d
+ruling_in p rs d h =
+    let x = ruling_of p (ruled rs) d (subst (λ (l : List Told). Has l (Decided d)) (sym (told_ruled p rs)) (has_map Decided (decisions_by p rs) d h)) in
+    record { policy = after_steps p x.before; ruling = x.ruling; has = ruled_has rs x.ruling (step_has (ruled rs) x.before x.after x.ruling x.at); is = x.is }
+
 decision_given : (p : Judging) (rs : List Ruling) (d : Decision) → Has (decisions_by p rs) d → is_ordered d.cause ≡ false
 decision_given p rs d h =
-    let x = ruling_of p rs d h in
+    let x = ruling_in p rs d h in
     let r : Ruling = x.ruling in
-    ap (λ (v : Decision). is_ordered v.cause) (sym x.is) ∙ verdict_given (at_moment r.moment (after_rulings p x.before)) (allowed_records r.standings) r.judged (is_none (parent_of r.name)) r.present r.on
+    ap (λ (v : Decision). is_ordered v.cause) (sym x.is) ∙ verdict_given (at_moment r.moment x.policy) (allowed_records r.standings) r.judged (is_none (parent_of r.name)) r.present r.on
 
 -- the device of a decision of a sweep
 device_of : (policy : Judging) (rs : List Ruling) (l : Kernel) (d : Decision) → ((r : Ruling) → Has rs r → IsDevice l r.device r.name r.held r.judged) → Has (decisions_by policy rs) d → (i : ℕ) × (judged : Judged) × IsDevice l i d.name d.held judged
 device_of policy rs l d devices h =
-    let x = ruling_of policy rs d h in
+    let x = ruling_in policy rs d h in
     let r : Ruling = x.ruling in
-    let at = devices r (ruling_has rs x.before x.after r x.at) in
-    (r.device, r.judged, subst (λ (y : Decision). IsDevice l r.device y.name y.held r.judged) x.is at)
+    (r.device, r.judged, subst (λ (y : Decision). IsDevice l r.device y.name y.held r.judged) x.is (devices r x.has))
 
 -- a sweep, or the writes of an order
-fair_so : (policy : Judging) (first : Kernel) (hs : List Happened) (es : List Entry) (moment : Moment) (present : Bool) (k l : Kernel) (w v : State Judging) → at_moment moment w.judge ≡ w.judge → (fair : IsFair policy_answer policy_later present swept_before k w l v) → ((r : Ruling) → IsAt present moment k l w.standings fair.rest r → IsPlaced hs l r) → SoFar policy first k hs es w → SoFar policy first l hs (es ++ fair.rest) v
-fair_so policy first hs es moment present k l w v at fair placing so =
+fair_so : (policy : Judging) (first : Kernel) (hs : List Happened) (tl : List Told) (es : List Entry) (moment : Moment) (present : Bool) (k l : Kernel) (w v : State Judging) → at_moment moment w.judge ≡ w.judge → (fair : IsFair policy_answer policy_later present swept_before k w l v) → ((r : Ruling) → IsAt present moment k l w.standings fair.rest r → IsPlaced hs l r) → SoFar policy first k hs tl es w → SoFar policy first l hs (tl ++ decided (unordered (decisions_in fair.rest))) (es ++ fair.rest) v
+fair_so policy first hs tl es moment present k l w v at fair placing so =
     let rest : List Entry = fair.rest in
     let ss : List Standing = w.standings in
     let account = subst (λ (j : Judging). Account policy_answer policy_later present swept_before k l ss k.log j w.next rest l.log v.judge v.next) (sym at) fair.account in
@@ -428,12 +535,20 @@ fair_so policy first hs es moment present k l w v at fair placing so =
     ] in
     record {
       stand = fair.stand;
-      rulings = so.rulings ++ x.rulings;
-      told = given ∙ ap (λ (ds : List Decision). ds ++ decisions_in rest) so.told ∙ ap (λ (ds : List Decision). decisions_by policy so.rulings ++ ds) (x.told ∙ alike_decisions w.judge (after_rulings policy so.rulings) x.rulings so.judge) ∙ sym (decisions_then policy so.rulings x.rulings);
-      judge = λ m. ap (λ (j : Judging). at_moment m j) x.judge_is ∙ alike_after w.judge (after_rulings policy so.rulings) x.rulings so.judge m ∙ ap (λ (j : Judging). at_moment m j) (sym (after_append policy so.rulings x.rulings));
-      placed = λ r a. elim (has_cases so.rulings x.rulings r a) [
+      steps = so.steps ++ ruled x.rulings;
+      told = ap (λ (l : List Told). l ++ decided (unordered (decisions_in rest))) so.told
+          ∙ ap (λ (ds : List Decision). told_by policy so.steps ++ decided ds) (inner ∙ x.told ∙ alike_decisions w.judge (after_steps policy so.steps) x.rulings so.judge)
+          ∙ ap (λ (l : List Told). told_by policy so.steps ++ l) (sym (told_ruled (after_steps policy so.steps) x.rulings))
+          ∙ sym (told_then policy so.steps (ruled x.rulings));
+      can = can_then policy so.steps (ruled x.rulings) so.can (can_ruled (after_steps policy so.steps) x.rulings);
+      judge = λ m. ap (λ (j : Judging). at_moment m j) x.judge_is ∙ alike_after w.judge (after_steps policy so.steps) x.rulings so.judge m ∙ ap (λ (j : Judging). at_moment m j) (sym (after_ruled (after_steps policy so.steps) x.rulings) ∙ sym (steps_append policy so.steps (ruled x.rulings)));
+      placed = λ r a. elim (has_cases so.steps (ruled x.rulings) (Ruled r) a) [
         | inl b ↦ placed_same hs k l r fair.grows (so.placed r b)
-        | inr b ↦ placing r (x.placed r b)
+        | inr b ↦ placing r (x.placed r (ruled_has x.rulings r b))
+      ];
+      changed = λ c a. elim (has_cases so.steps (ruled x.rulings) (Changed c) a) [
+        | inl b ↦ so.changed c b
+        | inr b ↦ absurd (ruled_unchanged x.rulings c b)
       ];
       ordered = λ d a is. elim (has_cases (decisions_in es) (decisions_in rest) d (subst (λ (ds : List Decision). Has ds d) all a)) [
         | inl b ↦ so.ordered d b is
@@ -495,6 +610,11 @@ first_listings number (Sweep moment) (Some saved) = refl
 first_listings number (Order moment who line) None = refl
 first_listings number (Order moment who line) (Some saved) = refl
 
+entry_unlisted : (change : Change) (next : ℕ) → list_any tells_unlisted (change_entry change next ∷ []) ≡ false
+entry_unlisted (Insert after rule temporary) next = refl
+entry_unlisted (Remove id) next = refl
+entry_unlisted (Set set) next = refl
+
 -- nor do an order's own entries tell of a listing
 rest_listings : (name : List ℕ) (es : List Entry) → AllBear name es → list_any tells_unlisted es ≡ false
 rest_listings name [] h = refl
@@ -511,31 +631,98 @@ any_front (e ∷ es) fs none = by_first (tells_unlisted e) none (any_front es fs
 
 -- what holds where the sweep begins
 record Behind (policy : Judging) (first : Kernel) (hs : List Happened) (h : Happened) : Type 0 where
-  so : SoFar policy first h.kernel_answered (hs ++ h ∷ []) (journal hs ++ h.answered.sweep.entries) h.answered.sweep
+  so : SoFar policy first h.kernel_answered (hs ++ h ∷ []) (told_of hs ++ told_if (was_done h.answered.reply) (changes_asked h.event)) (journal hs ++ h.answered.sweep.entries) h.answered.sweep
   at : at_moment (moment_of h.event) h.answered.sweep.judge ≡ h.answered.sweep.judge
   listed : h.answered.sweep.listed ≡ h.before.sweep.listed
   silent : list_any tells_unlisted h.answered.sweep.entries ≡ false
+  ordered : unordered (decisions_in h.answered.sweep.entries) ≡ []
+
+told_none : (done : Bool) → told_if done None ≡ []
+told_none true = refl
+told_none false = refl
+
+told_undone : (change : Option Change) → told_if false change ≡ []
+told_undone None = refl
+told_undone (Some change) = refl
 
 module _ (policy : Judging) (first : Kernel) (hs : List Happened) (h : Happened) where
-  -- from a state with these entries
-  behind_of : (a : DaemonState) → h.answered ≡ a → SoFar policy first h.kernel_answered (hs ++ h ∷ []) (journal hs ++ a.sweep.entries) a.sweep → at_moment (moment_of h.event) a.sweep.judge ≡ a.sweep.judge → a.sweep.listed ≡ h.before.sweep.listed → list_any tells_unlisted a.sweep.entries ≡ false → Behind policy first hs h
-  behind_of a is so at listed silent =
-      subst (λ (x : DaemonState). SoFar policy first h.kernel_answered (hs ++ h ∷ []) (journal hs ++ x.sweep.entries) x.sweep → at_moment (moment_of h.event) x.sweep.judge ≡ x.sweep.judge → x.sweep.listed ≡ h.before.sweep.listed → list_any tells_unlisted x.sweep.entries ≡ false → Behind policy first hs h) is
-      (λ b c d e. record { so = b; at = c; listed = d; silent = e }) so at listed silent
+  -- as the event begins
+  abbrev Ready : Type 0
+  Ready = SoFar policy first h.kernel (hs ++ h ∷ []) (told_of hs) (journal hs ++ (ready_of h).sweep.entries) (ready_of h).sweep
+
+  -- from a state with these entries, of which this was told
+  behind_of : (a : DaemonState) (tl : List Told) → h.answered ≡ a → told_if (was_done a.reply) (changes_asked h.event) ≡ tl → SoFar policy first h.kernel_answered (hs ++ h ∷ []) (told_of hs ++ tl) (journal hs ++ a.sweep.entries) a.sweep → at_moment (moment_of h.event) a.sweep.judge ≡ a.sweep.judge → a.sweep.listed ≡ h.before.sweep.listed → list_any tells_unlisted a.sweep.entries ≡ false → unordered (decisions_in a.sweep.entries) ≡ [] → Behind policy first hs h
+  behind_of a tl is told so at listed silent ordered =
+      subst (λ (x : DaemonState). told_if (was_done x.reply) (changes_asked h.event) ≡ tl → SoFar policy first h.kernel_answered (hs ++ h ∷ []) (told_of hs ++ tl) (journal hs ++ x.sweep.entries) x.sweep → at_moment (moment_of h.event) x.sweep.judge ≡ x.sweep.judge → x.sweep.listed ≡ h.before.sweep.listed → list_any tells_unlisted x.sweep.entries ≡ false → unordered (decisions_in x.sweep.entries) ≡ [] → Behind policy first hs h) is
+      (λ t b c d e f. record { so = subst (λ (l : List Told). SoFar policy first h.kernel_answered (hs ++ h ∷ []) (told_of hs ++ l) (journal hs ++ h.answered.sweep.entries) h.answered.sweep) (sym t) b; at = c; listed = d; silent = e; ordered = f }) told so at listed silent ordered
+
+  -- nothing was told of the policy
+  untold : (k : Kernel) (es : List Entry) (w : State Judging) → SoFar policy first k (hs ++ h ∷ []) (told_of hs) es w → SoFar policy first k (hs ++ h ∷ []) (told_of hs ++ []) es w
+  untold k es w so = subst (λ (l : List Told). SoFar policy first k (hs ++ h ∷ []) l es w) (sym (append-nil (told_of hs))) so
 
   -- the reply
-  replied_so : (k : Kernel) (w : State Judging) (answer : Result (Unit {0}) Refusal) → SoFar policy first k (hs ++ h ∷ []) (journal hs ++ w.entries) w → SoFar policy first k (hs ++ h ∷ []) (journal hs ++ (w.entries ++ entry.Reply answer ∷ [])) (record w { entries = w.entries ++ entry.Reply answer ∷ [] })
-  replied_so k w answer so = subst (λ (es : List Entry). SoFar policy first k (hs ++ h ∷ []) es (record w { entries = w.entries ++ entry.Reply answer ∷ [] })) (append_assoc (journal hs) w.entries (entry.Reply answer ∷ [])) (noted_so policy first k (hs ++ h ∷ []) (journal hs ++ w.entries) (entry.Reply answer ∷ []) w (record w { entries = w.entries ++ entry.Reply answer ∷ [] }) refl refl refl (λ m. refl) so)
+  replied_so : (k : Kernel) (tl : List Told) (w : State Judging) (answer : Result (Unit {0}) Refusal) → SoFar policy first k (hs ++ h ∷ []) tl (journal hs ++ w.entries) w → SoFar policy first k (hs ++ h ∷ []) tl (journal hs ++ (w.entries ++ entry.Reply answer ∷ [])) (record w { entries = w.entries ++ entry.Reply answer ∷ [] })
+  replied_so k tl w answer so = subst (λ (es : List Entry). SoFar policy first k (hs ++ h ∷ []) tl es (record w { entries = w.entries ++ entry.Reply answer ∷ [] })) (append_assoc (journal hs) w.entries (entry.Reply answer ∷ [])) (noted_so policy first k (hs ++ h ∷ []) tl (journal hs ++ w.entries) (entry.Reply answer ∷ []) w (record w { entries = w.entries ++ entry.Reply answer ∷ [] }) refl refl refl (λ m. refl) so)
 
-  behind_order : (moment : Moment) (who : Named) (line : List ℕ) → h.event ≡ Order moment who line → list_any tells_unlisted (ready_of h).sweep.entries ≡ false → SoFar policy first h.kernel (hs ++ h ∷ []) (journal hs ++ (ready_of h).sweep.entries) (ready_of h).sweep → RefusesOrder h.kernel (ready_of h) h.kernel_answered h.answered ⊎ (((h.kernel_answered ≡ h.kernel) × TellsList who line (ready_of h) h.answered) ⊎ CarriesOut who line h.kernel (ready_of h) h.kernel_answered h.answered) → Behind policy first hs h
+  -- a reply behind entries that tell no verdict
+  reply_plain : (es : List Entry) (answer : Result (Unit {0}) Refusal) → decisions_in es ≡ [] → unordered (decisions_in (es ++ entry.Reply answer ∷ [])) ≡ []
+  reply_plain es answer none = ap (λ (ds : List Decision). unordered ds) (decisions_more es (entry.Reply answer ∷ []) refl ∙ none)
+
+  ready_plain : decisions_in (ready_of h).sweep.entries ≡ []
+  ready_plain = first_decisions h.before.event h.event h.tried
+
+  module _ (moment : Moment) (who : Named) (line : List ℕ) (is : h.event ≡ Order moment who line) (silent : list_any tells_unlisted (ready_of h).sweep.entries ≡ false) where
+    asks_so : changes_asked h.event ≡ change_asked (request_read line)
+    asks_so = ap (λ (e : Event). changes_asked e) is
+
+    -- an answer that leaves the policy
+    lines_so : (lines : List (List ℕ)) (a : DaemonState) → h.answered ≡ a → a.sweep ≡ (replying (reply.Lines lines) (ready_of h)).sweep → a.reply ≡ Some (reply.Lines lines) → change_asked (request_read line) ≡ None → SoFar policy first h.kernel_answered (hs ++ h ∷ []) (told_of hs) (journal hs ++ (ready_of h).sweep.entries) (ready_of h).sweep → Behind policy first hs h
+    lines_so lines a state sweep said unasked still =
+        let d : DaemonState = ready_of h in
+        let w : State Judging = (replying (reply.Lines lines) d).sweep in
+        let there = untold h.kernel_answered (journal hs ++ w.entries) w (replied_so h.kernel_answered (told_of hs) d.sweep (Ok tt) still) in
+        behind_of a [] state
+        (ap (λ (c : Option Change). told_if (was_done a.reply) c) (asks_so ∙ unasked) ∙ told_none (was_done a.reply))
+        (subst (λ (v : State Judging). SoFar policy first h.kernel_answered (hs ++ h ∷ []) (told_of hs ++ []) (journal hs ++ v.entries) v) (sym sweep) there)
+        (subst (λ (v : State Judging). at_moment (moment_of h.event) v.judge ≡ v.judge) (sym sweep) refl)
+        (ap (λ (v : State Judging). v.listed) sweep)
+        (ap (λ (v : State Judging). list_any tells_unlisted v.entries) sweep ∙ any_append d.sweep.entries (entry.Reply (Ok tt) ∷ []) refl ∙ silent)
+        (ap (λ (v : State Judging). unordered (decisions_in v.entries)) sweep ∙ reply_plain d.sweep.entries (Ok tt) ready_plain)
+
+    -- and one that changes it
+    change_so : (asked : Request) (change : Change) → request_read line ≡ Ok asked → is_granted h.before.access who (needs asked) ≡ true → change_asked (Ok asked) ≡ Some change → CanChange change (ready_of h).sweep.judge.rules → h.answered ≡ changed_with (ready_of h) change → SoFar policy first h.kernel_answered (hs ++ h ∷ []) (told_of hs) (journal hs ++ (ready_of h).sweep.entries) (ready_of h).sweep → Behind policy first hs h
+    change_so asked change reads granted asks can state still =
+        let d : DaemonState = ready_of h in
+        let e : Entry = change_entry change d.sweep.judge.next in
+        let v : State Judging = (with_change change d).sweep in
+        let was : WasAsked (hs ++ h ∷ []) change = record { event = h; in_run = has_right hs (h ∷ []) h (inl refl); moment = moment; who = who; line = line; is_order = is; asked = asked; reads = reads; asks = asks; granted = granted } in
+        let changed = changed_so policy first h.kernel_answered (hs ++ h ∷ []) (told_of hs) (journal hs ++ d.sweep.entries) d.sweep change can was still in
+        let there : SoFar policy first h.kernel_answered (hs ++ h ∷ []) (told_of hs ++ Was_changed change ∷ []) (journal hs ++ v.entries) v = subst (λ (es : List Entry). SoFar policy first h.kernel_answered (hs ++ h ∷ []) (told_of hs ++ Was_changed change ∷ []) es v) (append_assoc (journal hs) d.sweep.entries (e ∷ [])) changed in
+        behind_of (changed_with d change) (Was_changed change ∷ []) state
+        (ap (λ (c : Option Change). told_if true c) (asks_so ∙ ap (λ (read : Result Request ℕ). change_asked read) reads ∙ asks))
+        (replied_so h.kernel_answered (told_of hs ++ Was_changed change ∷ []) v (Ok tt) there)
+        (at_changed change d.sweep.judge (moment_of h.event))
+        refl
+        (any_append v.entries (entry.Reply (Ok tt) ∷ []) refl ∙ any_append d.sweep.entries (e ∷ []) (entry_unlisted change d.sweep.judge.next) ∙ silent)
+        (reply_plain v.entries (Ok tt) (decisions_more d.sweep.entries (e ∷ []) (entry_silent change d.sweep.judge.next) ∙ ready_plain))
+
+    at_once : (asked : Request) (outcome : Outcome) → request_read line ≡ Ok asked → is_granted h.before.access who (needs asked) ≡ true → ComesTo (ready_of h) asked outcome → h.answered ≡ if_watching outcome.watches (replying (reply.Lines outcome.lines) (with_changes outcome.change (ready_of h))) → SoFar policy first h.kernel_answered (hs ++ h ∷ []) (told_of hs) (journal hs ++ (ready_of h).sweep.entries) (ready_of h).sweep → Behind policy first hs h
+    at_once _ _ reads granted (Value name set known) state still = lines_so (value_word (parameter_at set (ready_of h).sweep.judge.classes) ∷ []) _ state refl refl (ap (λ (read : Result Request ℕ). change_asked read) reads) still
+    at_once _ _ reads granted Devices state still = lines_so (device_rows (ready_of h).sweep.standings) _ state refl refl (ap (λ (read : Result Request ℕ). change_asked read) reads) still
+    at_once _ _ reads granted Rules state still = lines_so (rule_rows (ready_of h).sweep.judge.rules) _ state refl refl (ap (λ (read : Result Request ℕ). change_asked read) reads) still
+    at_once _ _ reads granted (Changes asked change asks can) state still = change_so asked change reads granted asks can state still
+    at_once _ _ reads granted Watches state still = lines_so [] _ state refl refl (ap (λ (read : Result Request ℕ). change_asked read) reads) still
+
+  behind_order : (moment : Moment) (who : Named) (line : List ℕ) → h.event ≡ Order moment who line → list_any tells_unlisted (ready_of h).sweep.entries ≡ false → Ready → RefusesOrder who line h.kernel (ready_of h) h.kernel_answered h.answered ⊎ (((h.kernel_answered ≡ h.kernel) × AnswersAtOnce who line (ready_of h) h.answered) ⊎ CarriesOut who line h.kernel (ready_of h) h.kernel_answered h.answered) → Behind policy first hs h
   behind_order moment who line is silent so (inl r) =
       let d : DaemonState = ready_of h in
-      let still = subst (λ (x : List Happened). SoFar policy first h.kernel_answered x (journal hs ++ d.sweep.entries) d.sweep) (append-nil (hs ++ h ∷ [])) (still_so policy first h.kernel h.kernel_answered (hs ++ h ∷ []) [] (journal hs ++ d.sweep.entries) d.sweep r.quiet so) in
-      behind_of (replying (reply.Refused r.refused) d) r.state (replied_so h.kernel_answered d.sweep (Err r.refused) still) refl refl (any_append d.sweep.entries (entry.Reply (Err r.refused) ∷ []) refl ∙ silent)
+      let a : DaemonState = replying (reply.Refused r.refused) d in
+      let still = subst (λ (x : List Happened). SoFar policy first h.kernel_answered x (told_of hs) (journal hs ++ d.sweep.entries) d.sweep) (append-nil (hs ++ h ∷ [])) (still_so policy first h.kernel h.kernel_answered (hs ++ h ∷ []) [] (told_of hs) (journal hs ++ d.sweep.entries) d.sweep r.quiet so) in
+      behind_of a [] r.state (told_undone (changes_asked h.event)) (untold h.kernel_answered (journal hs ++ a.sweep.entries) a.sweep (replied_so h.kernel_answered (told_of hs) d.sweep (Err r.refused) still)) refl refl (any_append d.sweep.entries (entry.Reply (Err r.refused) ∷ []) refl ∙ silent) (reply_plain d.sweep.entries (Err r.refused) ready_plain)
   behind_order moment who line is silent so (inr (inl t)) =
       let d : DaemonState = ready_of h in
-      let still = subst (λ (k : Kernel). SoFar policy first k (hs ++ h ∷ []) (journal hs ++ d.sweep.entries) d.sweep) (sym t.0) so in
-      behind_of (replying (reply.Lines t.1.rows) d) t.1.state (replied_so h.kernel_answered d.sweep (Ok tt) still) refl refl (any_append d.sweep.entries (entry.Reply (Ok tt) ∷ []) refl ∙ silent)
+      let still = subst (λ (k : Kernel). SoFar policy first k (hs ++ h ∷ []) (told_of hs) (journal hs ++ d.sweep.entries) d.sweep) (sym t.0) so in
+      at_once moment who line is silent t.1.asked t.1.outcome t.1.reads t.1.granted t.1.comes t.1.state still
   behind_order moment who line is silent so (inr (inr c)) =
       let d : DaemonState = ready_of h in
       let w : State Judging = d.sweep in
@@ -564,16 +751,20 @@ module _ (policy : Judging) (first : Kernel) (hs : List Happened) (h : Happened)
         held = refl;
         in_event = subst (λ (es : List Entry). Has es told) (sym inside) (has_right w.entries (told ∷ (c.rest ++ entry.Reply (answer_of (reply_to c.how)) ∷ [])) told (inl refl));
       } in
-      let probed = subst (λ (x : List Happened). SoFar policy first c.middle x (journal hs ++ w.entries) w) (append-nil (hs ++ h ∷ [])) (still_so policy first h.kernel c.middle (hs ++ h ∷ []) [] (journal hs ++ w.entries) w c.probed.quiet so) in
-      let set = ordered_so policy first c.middle (hs ++ h ∷ []) (journal hs ++ w.entries) w c.number c.verdict who c.standing c.stands was probed in
+      let probed = subst (λ (x : List Happened). SoFar policy first c.middle x (told_of hs) (journal hs ++ w.entries) w) (append-nil (hs ++ h ∷ [])) (still_so policy first h.kernel c.middle (hs ++ h ∷ []) [] (told_of hs) (journal hs ++ w.entries) w c.probed.quiet so) in
+      let set = ordered_so policy first c.middle (hs ++ h ∷ []) (told_of hs) (journal hs ++ w.entries) w c.number c.verdict who c.standing c.stands was probed in
       let none : decisions_in fair.rest ≡ [] = subst (λ (es : List Entry). decisions_in es ≡ []) rest (given_none c.rest c.given) in
-      let written = fair_so policy first (hs ++ h ∷ []) ((journal hs ++ w.entries) ++ told ∷ []) (moment_of h.event) false c.middle h.kernel_answered (just_ordered c.number c.verdict who c.standing w) v refl fair (λ r p. no_ruling fair.rest r none p) set in
+      let unfair = fair_so policy first (hs ++ h ∷ []) (told_of hs) ((journal hs ++ w.entries) ++ told ∷ []) (moment_of h.event) false c.middle h.kernel_answered (just_ordered c.number c.verdict who c.standing w) v refl fair (λ r p. no_ruling fair.rest r none p) set in
+      let written = subst (λ (ds : List Decision). SoFar policy first h.kernel_answered (hs ++ h ∷ []) (told_of hs ++ decided (unordered ds)) (((journal hs ++ w.entries) ++ told ∷ []) ++ fair.rest) v) none unfair in
       let same : ((journal hs ++ w.entries) ++ told ∷ []) ++ fair.rest ≡ journal hs ++ v.entries = append_assoc (journal hs ++ w.entries) (told ∷ []) fair.rest ∙ append_assoc (journal hs) w.entries (told ∷ fair.rest) ∙ ap (λ (es : List Entry). journal hs ++ es) (sym (fair.entries ∙ append_assoc w.entries (told ∷ []) fair.rest)) in
-      behind_of (answered_with d (c.how, c.kept)) c.state
-      (replied_so h.kernel_answered v (answer_of (reply_to c.how)) (subst (λ (es : List Entry). SoFar policy first h.kernel_answered (hs ++ h ∷ []) es v) same written))
+      let all : decisions_in c.kept.entries ≡ decision_of y ∷ [] = ap (λ (es : List Entry). decisions_in es) c.entries ∙ decisions_append w.entries (told ∷ c.rest) ∙ ap (λ (ds : List Decision). ds ++ (decision_of y ∷ decisions_in c.rest)) ready_plain ∙ ap (λ (ds : List Decision). decision_of y ∷ ds) (given_none c.rest c.given) in
+      behind_of (answered_with d (c.how, c.kept)) [] c.state
+      (ap (λ (o : Option Change). told_if (was_done (Some (reply_to c.how))) o) (ap (λ (e : Event). changes_asked e) is ∙ ap (λ (read : Result Request ℕ). change_asked read) c.asked) ∙ told_none (was_done (Some (reply_to c.how))))
+      (replied_so h.kernel_answered (told_of hs ++ []) v (answer_of (reply_to c.how)) (subst (λ (es : List Entry). SoFar policy first h.kernel_answered (hs ++ h ∷ []) (told_of hs ++ []) es v) same written))
       refl
       refl
       (any_append c.kept.entries (entry.Reply (answer_of (reply_to c.how)) ∷ []) refl ∙ ap (λ (es : List Entry). list_any tells_unlisted es) c.entries ∙ any_front w.entries (told ∷ c.rest) silent ∙ rest_listings c.standing.name c.rest c.bears)
+      (ap (λ (ds : List Decision). unordered ds) (decisions_more c.kept.entries (entry.Reply (answer_of (reply_to c.how)) ∷ []) refl ∙ all))
     where
       given_none : (es : List Entry) → numbers_given es ≡ [] → decisions_in es ≡ []
       given_none [] g = refl
@@ -585,15 +776,20 @@ module _ (policy : Judging) (first : Kernel) (hs : List Happened) (h : Happened)
           let there : Has (decisions_in es) (record { number = r.number; name = r.name; held = r.held; verdict = p.verdict; cause = p.cause }) = has_decision es r.number r.name r.held p.verdict p.cause (subst (λ (x : List Entry). Has x (entry.Judged r.number r.name r.held p.verdict p.cause)) (sym p.at) (has_right p.front (entry.Judged r.number r.name r.held p.verdict p.cause ∷ p.back) (entry.Judged r.number r.name r.held p.verdict p.cause) (inl refl))) in
           absurd (subst (λ (ds : List Decision). Has ds (record { number = r.number; name = r.name; held = r.held; verdict = p.verdict; cause = p.cause })) none there)
 
-  behind_event : (event : Event) → h.event ≡ event → list_any tells_unlisted (ready_of h).sweep.entries ≡ false → SoFar policy first h.kernel (hs ++ h ∷ []) (journal hs ++ (ready_of h).sweep.entries) (ready_of h).sweep → AnswersEvent event h.kernel (ready_of h) h.kernel_answered h.answered → Behind policy first hs h
-  behind_event (Sweep moment) is silent so a = behind_of (ready_of h) a.1 (subst (λ (k : Kernel). SoFar policy first k (hs ++ h ∷ []) (journal hs ++ (ready_of h).sweep.entries) (ready_of h).sweep) (sym a.0) so) refl refl silent
+  behind_event : (event : Event) → h.event ≡ event → list_any tells_unlisted (ready_of h).sweep.entries ≡ false → Ready → AnswersEvent event h.kernel (ready_of h) h.kernel_answered h.answered → Behind policy first hs h
+  behind_event (Sweep moment) is silent so a =
+      behind_of (ready_of h) [] a.1
+      (ap (λ (o : Option Change). told_if (was_done (ready_of h).reply) o) (ap (λ (e : Event). changes_asked e) is) ∙ told_none (was_done (ready_of h).reply))
+      (untold h.kernel_answered (journal hs ++ (ready_of h).sweep.entries) (ready_of h).sweep (subst (λ (k : Kernel). SoFar policy first k (hs ++ h ∷ []) (told_of hs) (journal hs ++ (ready_of h).sweep.entries) (ready_of h).sweep) (sym a.0) so))
+      refl refl silent
+      (ap (λ (ds : List Decision). unordered ds) ready_plain)
   behind_event (Order moment who line) is silent so a = behind_order moment who line is silent so a
 
   -- the whole event
-  one_more : AnswersEvent h.event h.kernel (ready_of h) h.kernel_answered h.answered → Handled h.kernel_answered h.answered h.kernel_after h.after → h.before.sweep.listed ≡ has_listed hs → SoFar policy first h.kernel hs (journal hs) h.before.sweep → SoFar policy first h.kernel_after (hs ++ h ∷ []) (journal (hs ++ h ∷ [])) h.after.sweep × (h.after.sweep.listed ≡ has_listed (hs ++ h ∷ []))
+  one_more : AnswersEvent h.event h.kernel (ready_of h) h.kernel_answered h.answered → Handled h.kernel_answered h.answered h.kernel_after h.after → h.before.sweep.listed ≡ has_listed hs → SoFar policy first h.kernel hs (told_of hs) (journal hs) h.before.sweep → SoFar policy first h.kernel_after (hs ++ h ∷ []) (told_of (hs ++ h ∷ [])) (journal (hs ++ h ∷ [])) h.after.sweep × (h.after.sweep.listed ≡ has_listed (hs ++ h ∷ []))
   one_more answers law listed so =
-      let longer = still_so policy first h.kernel h.kernel hs (h ∷ []) (journal hs) h.before.sweep (quiet_refl h.kernel) so in
-      let begun = noted_so policy first h.kernel (hs ++ h ∷ []) (journal hs) (ready_of h).sweep.entries h.before.sweep (ready_of h).sweep (first_decisions h.before.event h.event h.tried) refl refl (λ m. refl) longer in
+      let longer = still_so policy first h.kernel h.kernel hs (h ∷ []) (told_of hs) (journal hs) h.before.sweep (quiet_refl h.kernel) so in
+      let begun = noted_so policy first h.kernel (hs ++ h ∷ []) (told_of hs) (journal hs) (ready_of h).sweep.entries h.before.sweep (ready_of h).sweep (first_decisions h.before.event h.event h.tried) refl refl (λ m. refl) longer in
       let b = behind_event h.event refl (first_listings h.before.event h.event h.tried) begun answers in
       let a : State Judging = h.answered.sweep in
       let v : State Judging = law.swept in
@@ -605,9 +801,23 @@ module _ (policy : Judging) (first : Kernel) (hs : List Happened) (h : Happened)
       ∙ append_assoc (journal hs) a.entries (fair.rest ++ y ∷ [])
       ∙ ap (λ (es : List Entry). journal hs ++ es) (sym entries ∙ sym (append-nil h.after.sweep.entries))
       ∙ sym (journal_append hs (h ∷ [])) in
-      let swept = fair_so policy first (hs ++ h ∷ []) (journal hs ++ a.entries) (moment_of h.event) (not a.listed) h.kernel_answered h.kernel_after a v b.at fair (λ r p. placed_new hs h fair.rest r entries (b.listed ∙ listed) p) b.so in
-      let last = noted_so policy first h.kernel_after (hs ++ h ∷ []) ((journal hs ++ a.entries) ++ fair.rest) (y ∷ []) v h.after.sweep refl (ap (λ (z : State Judging). z.standings) law.entries) (ap (λ (z : State Judging). z.next) law.entries) (λ m. ap (λ (z : State Judging). at_moment m z.judge) law.entries) swept in (
-        subst (λ (es : List Entry). SoFar policy first h.kernel_after (hs ++ h ∷ []) es h.after.sweep) whole last,
+      let first_told : List Told = told_if (was_done h.answered.reply) (changes_asked h.event) in
+      let ruled_told : List Told = decided (unordered (decisions_in fair.rest)) in
+      let inside : unordered (decisions_in h.after.sweep.entries) ≡ unordered (decisions_in fair.rest) =
+      ap (λ (es : List Entry). unordered (decisions_in es)) entries
+      ∙ ap (λ (ds : List Decision). unordered ds) (decisions_append a.entries (fair.rest ++ y ∷ []))
+      ∙ unordered_append (decisions_in a.entries) (decisions_in (fair.rest ++ y ∷ []))
+      ∙ ap (λ (ds : List Decision). ds ++ unordered (decisions_in (fair.rest ++ y ∷ []))) b.ordered
+      ∙ ap (λ (ds : List Decision). unordered ds) (decisions_more fair.rest (y ∷ []) refl) in
+      let told : (told_of hs ++ first_told) ++ ruled_told ≡ told_of (hs ++ h ∷ []) =
+      append_assoc (told_of hs) first_told ruled_told
+      ∙ ap (λ (l : List Told). told_of hs ++ (first_told ++ l)) (ap (λ (ds : List Decision). decided ds) (sym inside))
+      ∙ ap (λ (o : Option Reply). told_of hs ++ (told_if (was_done o) (changes_asked h.event) ++ decided (unordered (decisions_in h.after.sweep.entries)))) (sym law.reply)
+      ∙ sym (told_append hs h) in
+      let swept = fair_so policy first (hs ++ h ∷ []) (told_of hs ++ first_told) (journal hs ++ a.entries) (moment_of h.event) (not a.listed) h.kernel_answered h.kernel_after a v b.at fair (λ r p. placed_new hs h fair.rest r entries (b.listed ∙ listed) p) b.so in
+      let last = noted_so policy first h.kernel_after (hs ++ h ∷ []) ((told_of hs ++ first_told) ++ ruled_told) ((journal hs ++ a.entries) ++ fair.rest) (y ∷ []) v h.after.sweep refl (ap (λ (z : State Judging). z.standings) law.entries) (ap (λ (z : State Judging). z.next) law.entries) (λ m. ap (λ (z : State Judging). at_moment m z.judge) law.entries) swept in (
+        subst (λ (l : List Told). SoFar policy first h.kernel_after (hs ++ h ∷ []) l (journal (hs ++ h ∷ [])) h.after.sweep) told
+            (subst (λ (es : List Entry). SoFar policy first h.kernel_after (hs ++ h ∷ []) ((told_of hs ++ first_told) ++ ruled_told) es h.after.sweep) whole last),
         ap (λ (z : State Judging). z.listed) law.entries
             ∙ listed_after fair.rest a.listed v.listed law.law.listed
             ∙ ap (λ (t : Bool). not t || a.listed) (sym (ap (λ (es : List Entry). list_any tells_unlisted es) entries ∙ any_front a.entries (fair.rest ++ y ∷ []) b.silent ∙ any_append fair.rest (y ∷ []) refl))
@@ -615,27 +825,29 @@ module _ (policy : Judging) (first : Kernel) (hs : List Happened) (h : Happened)
             ∙ sym (listed_append hs h),
       )
 
-moved : (policy : Judging) (first k l : Kernel) (hs : List Happened) (w : State Judging) → Moves k l → SoFar policy first k hs (journal hs) w → SoFar policy first l hs (journal hs) w
-moved policy first k l hs w m so = subst (λ (x : List Happened). SoFar policy first l x (journal hs) w) (append-nil hs) (still_so policy first k l hs [] (journal hs) w (moves_quiet k l m) so)
+moved : (policy : Judging) (first k l : Kernel) (hs : List Happened) (w : State Judging) → Moves k l → SoFar policy first k hs (told_of hs) (journal hs) w → SoFar policy first l hs (told_of hs) (journal hs) w
+moved policy first k l hs w m so = subst (λ (x : List Happened). SoFar policy first l x (told_of hs) (journal hs) w) (append-nil hs) (still_so policy first k l hs [] (told_of hs) (journal hs) w (moves_quiet k l m) so)
 
-pub along : (policy : Judging) (first : Kernel) (done hs : List Happened) (k : Kernel) (o : Option Disk) (d : DaemonState) (l : Kernel) (p : Option Disk) (e : DaemonState) → Chain k o d hs l p e → d.sweep.listed ≡ has_listed done → SoFar policy first k done (journal done) d.sweep → SoFar policy first l (done ++ hs) (journal (done ++ hs)) e.sweep × (e.sweep.listed ≡ has_listed (done ++ hs))
+pub along : (policy : Judging) (first : Kernel) (done hs : List Happened) (k : Kernel) (o : Option Disk) (d : DaemonState) (l : Kernel) (p : Option Disk) (e : DaemonState) → Chain k o d hs l p e → d.sweep.listed ≡ has_listed done → SoFar policy first k done (told_of done) (journal done) d.sweep → SoFar policy first l (done ++ hs) (told_of (done ++ hs)) (journal (done ++ hs)) e.sweep × (e.sweep.listed ≡ has_listed (done ++ hs))
 along policy first done [] k o d l p e c listed so =
-    subst (λ (x : DaemonState). SoFar policy first l (done ++ []) (journal (done ++ [])) x.sweep × (x.sweep.listed ≡ has_listed (done ++ []))) (sym c.2)
-    (subst (λ (x : List Happened). SoFar policy first l x (journal x) d.sweep × (d.sweep.listed ≡ has_listed x)) (sym (append-nil done)) (moved policy first k l done d.sweep c.0 so, listed))
+    subst (λ (x : DaemonState). SoFar policy first l (done ++ []) (told_of (done ++ [])) (journal (done ++ [])) x.sweep × (x.sweep.listed ≡ has_listed (done ++ []))) (sym c.2)
+    (subst (λ (x : List Happened). SoFar policy first l x (told_of x) (journal x) d.sweep × (d.sweep.listed ≡ has_listed x)) (sym (append-nil done)) (moved policy first k l done d.sweep c.0 so, listed))
 along policy first done (h ∷ hs) k o d l p e c listed so =
-    let start = subst (λ (x : DaemonState). SoFar policy first h.kernel done (journal done) x.sweep) (sym c.2) (moved policy first k h.kernel done d.sweep c.0 so) in
+    let start = subst (λ (x : DaemonState). SoFar policy first h.kernel done (told_of done) (journal done) x.sweep) (sym c.2) (moved policy first k h.kernel done d.sweep c.0 so) in
     let more = one_more policy first done h c.3.answers c.3.handled (ap (λ (x : DaemonState). x.sweep.listed) c.2 ∙ listed) start in
-    subst (λ (x : List Happened). SoFar policy first l x (journal x) e.sweep × (e.sweep.listed ≡ has_listed x)) (append_assoc done (h ∷ []) hs) (along policy first (done ++ h ∷ []) hs h.kernel_after h.disk_after h.after l p e c.4 more.1 more.0)
+    subst (λ (x : List Happened). SoFar policy first l x (told_of x) (journal x) e.sweep × (e.sweep.listed ≡ has_listed x)) (append_assoc done (h ∷ []) hs) (along policy first (done ++ h ∷ []) hs h.kernel_after h.disk_after h.after l p e c.4 more.1 more.0)
 
-pub started_so : (policy : Judging) (number : ℕ) (k : Kernel) (d : DaemonState) → IsStarted policy number d → SoFar policy k k [] [] d.sweep
+pub started_so : (policy : Judging) (number : ℕ) (k : Kernel) (d : DaemonState) → IsStarted policy number d → SoFar policy k k [] [] [] d.sweep
 started_so policy number k d s =
     let none : (x : Standing) → Has d.sweep.standings x → ⊥ = λ x a. subst (λ (ss : List Standing). Has ss x) s.standings a in
     record {
       stand = subst (λ (ss : List Standing). Stand k ss d.sweep.next) (sym s.standings) (record { devices = λ x a. absurd a; numbers = λ x a. absurd a; names = tt; order = tt; distinct = tt; removed = λ x a. absurd a });
-      rulings = [];
+      steps = [];
       told = refl;
+      can = tt;
       judge = λ m. ap (λ (j : Judging). at_moment m j) s.judge;
       placed = λ r a. absurd a;
+      changed = λ c a. absurd a;
       ordered = λ c a is. absurd a;
       written = record { added = []; log = sym (append-nil k.log); each = λ e a. absurd a };
       numbers = s.next;
@@ -644,18 +856,18 @@ started_so policy number k d s =
     }
 
 -- a decision that was told, on the device of its held file
-decided_on : (policy : Judging) (first k : Kernel) (hs : List Happened) (w : State Judging) (so : SoFar policy first k hs (journal hs) w) (d : Decision) (i : ℕ) → Has (decisions_in (journal hs)) d → slice_get k.held d.held.0 ≡ Some (record { device = i; control = Authorized }) → WasDecided policy hs so.rulings k i d
+decided_on : (policy : Judging) (first k : Kernel) (hs : List Happened) (w : State Judging) (so : SoFar policy first k hs (told_of hs) (journal hs) w) (d : Decision) (i : ℕ) → Has (decisions_in (journal hs)) d → slice_get k.held d.held.0 ≡ Some (record { device = i; control = Authorized }) → WasDecided policy hs so.steps k i d
 decided_on policy first k hs w so d i h file = by_cause (is_ordered d.cause) refl
   where
-    by_cause : (b : Bool) → is_ordered d.cause ≡ b → WasDecided policy hs so.rulings k i d
+    by_cause : (b : Bool) → is_ordered d.cause ≡ b → WasDecided policy hs so.steps k i d
     by_cause true is = inr (so.ordered d h is, file)
     by_cause false is =
-        let x = ruling_of policy so.rulings d (subst (λ (ds : List Decision). Has ds d) so.told (unordered_has (decisions_in (journal hs)) d is h)) in
+        let x = ruling_of policy so.steps d (subst (λ (l : List Told). Has l (Decided d)) so.told (told_has hs d (unordered_has (decisions_in (journal hs)) d is h))) in
         let r : Ruling = x.ruling in
-        let p = so.placed r (ruling_has so.rulings x.before x.after r x.at) in
+        let p = so.placed r (step_has so.steps x.before x.after r x.at) in
         let held : r.held ≡ d.held = ap (λ (y : Decision). y.held) x.is in
         let there : slice_get k.held r.held.0 ≡ Some (record { device = i; control = Authorized }) = subst (λ (y : Held). slice_get k.held y.0 ≡ Some (record { device = i; control = Authorized })) (sym held) file in
-        let q : Judging = after_rulings policy x.before in
+        let q : Judging = after_steps policy x.before in
         let said : ruling_answer q r ≡ (d.verdict, d.cause) = ap (λ (y : Decision). (y.verdict, y.cause)) x.is in
         inl (record {
           before = x.before;
@@ -676,7 +888,7 @@ force_told es front back n d at force =
     let last : last_decision (decisions_in front) n ≡ Some d = sym (or_else_none (last_decision (decisions_in front) n)) ∙ force in
     subst (λ (ds : List Decision). Has ds d) (sym (ap (λ (x : List Entry). decisions_in x) at ∙ decisions_append front back)) (has_left (decisions_in front) (decisions_in back) d (last_has (decisions_in front) n d last).0)
 
-explained : (policy : Judging) (first k : Kernel) (hs : List Happened) (v : State Judging) (so : SoFar policy first k hs (journal hs) v) (effect : Effect) → WasWritten [] (journal hs) k effect → IsExplained policy hs so.rulings k effect
+explained : (policy : Judging) (first k : Kernel) (hs : List Happened) (v : State Judging) (so : SoFar policy first k hs (told_of hs) (journal hs) v) (effect : Effect) → WasWritten [] (journal hs) k effect → IsExplained policy hs so.steps k effect
 explained policy first k hs v so effect w =
     let two : List Entry = wrote_entries w.decision.number w.decision.name effect.write w.outcome in
     record {
@@ -691,7 +903,7 @@ explained policy first k hs v so effect w =
       decided = decided_on policy first k hs v so w.decision effect.device (force_told (journal hs) w.front (two ++ w.back) w.decision.number w.decision w.at w.force) w.device.file;
     }
 
-judged_once : (policy : Judging) (first k : Kernel) (hs : List Happened) (w : State Judging) (so : SoFar policy first k hs (journal hs) w) (i : ℕ) (d : Device) → Live k.devices i d → IsAsJudged k w.standings i → IsJudgedOnce policy hs so.rulings k w.standings i
+judged_once : (policy : Judging) (first k : Kernel) (hs : List Happened) (w : State Judging) (so : SoFar policy first k hs (told_of hs) (journal hs) w) (i : ℕ) (d : Device) → Live k.devices i d → IsAsJudged k w.standings i → IsJudgedOnce policy hs so.steps k w.standings i
 judged_once policy first k hs w so i d live a =
     let s : Standing = a.standing.s in
     let told : Has (decisions_in (journal hs)) (decision_of s) = force_told (journal hs) (journal hs) [] s.number (decision_of s) (sym (append-nil (journal hs))) (so.agree s a.standing.has) in
@@ -701,11 +913,13 @@ judged_once policy first k hs w so i d live a =
       once = only_number (journal hs) k w.standings w.next i d s so.stand so.known live a.standing.has a.standing.file;
     }
 
-pub run_of : (policy : Judging) (first k : Kernel) (o : Option Disk) (hs : List Happened) (p : Option Disk) (e : DaemonState) → e.sweep.listed ≡ has_listed hs → SoFar policy first k hs (journal hs) e.sweep → IsKeptThroughout policy.rules o hs p e.sweep.judge.rules → IsRun policy first o hs k p e
+pub run_of : (policy : Judging) (first k : Kernel) (o : Option Disk) (hs : List Happened) (p : Option Disk) (e : DaemonState) → e.sweep.listed ≡ has_listed hs → SoFar policy first k hs (told_of hs) (journal hs) e.sweep → IsKeptThroughout policy.rules o hs p e.sweep.judge.rules → IsRun policy first o hs k p e
 run_of policy first k o hs p e listed so file = record {
-  rulings = so.rulings;
+  steps = so.steps;
   told = so.told;
+  can = so.can;
   placed = so.placed;
+  changed = so.changed;
   ordered = so.ordered;
   explained = record { added = so.written.added; log = so.written.log; each = λ x a. explained policy first k hs e.sweep so x (so.written.each x a) };
   numbers = so.numbers;

@@ -12,8 +12,8 @@ use Rattle.ug_core.specs.Policy.{Judging, policy_answer, policy_later}
 use Rattle.ug_core.specs.Event.{DaemonState, saved_entries}
 use Rattle.ug_core.specs.Laws.{Handled}
 
-pub handled : (d : DaemonState) (k l : Kernel) (v : State Judging) (es : List Entry) (e : DaemonState) → es ≡ d.sweep.entries → Swept policy_answer policy_later k (record d.sweep { entries = es }) l v → e.sweep ≡ record v { entries = v.entries ++ entry.End d.event ∷ [] } → e.access ≡ d.access → e.pending ≡ d.pending → e.event ≡ d.event + 1 → e.reply ≡ d.reply → Handled k d l e
-handled d k l v es e first law last access pending number reply = record {
+pub handled : (d : DaemonState) (k l : Kernel) (v : State Judging) (es : List Entry) (e : DaemonState) → es ≡ d.sweep.entries → Swept policy_answer policy_later k (record d.sweep { entries = es }) l v → e.sweep ≡ record v { entries = v.entries ++ entry.End d.event ∷ [] } → e.access ≡ d.access → e.pending ≡ d.pending → e.event ≡ d.event + 1 → e.reply ≡ d.reply → e.watch ≡ d.watch → Handled k d l e
+handled d k l v es e first law last access pending number reply watch = record {
   swept = v;
   law = subst (λ (x : List Entry). Swept policy_answer policy_later k (record d.sweep { entries = x }) l v) first law;
   entries = last;
@@ -21,4 +21,5 @@ handled d k l v es e first law last access pending number reply = record {
   pending = pending;
   event = number;
   reply = reply;
+  watch = watch;
 }

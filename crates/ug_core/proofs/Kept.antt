@@ -28,13 +28,19 @@ use Rattle.ug_kernel.specs.declared.calls.Listing.TheVariants as listing
 use Rattle.ug_kernel.specs.declared.calls.FailedCall.{FailedCall}
 use Rattle.ug_core.specs.Policy.{Judging, as_given}
 use Rattle.ug_core.specs.RuleFile.{saved_of, permanent_rules, permanent_text}
-use Rattle.ug_core.specs.Answering.{answer_of, reply_to}
+use Rattle.ug_core.specs.Answering.{answer_of, reply_to, replying, with_change}
+use Rattle.ug_core.specs.Changes.{change_entry}
+use Rattle.ug_core.specs.declared.changes.Change.{Change}
+use Rattle.ug_core.specs.declared.changes.Change.TheVariants.{Insert, Remove, Set}
+use Rattle.ug_proto.specs.declared.reply.Reply.TheVariants as reply
+use Rattle.ug_proto.specs.declared.request.Request.{Request}
 use Rattle.ug_core.specs.Event.{DaemonState, first_entry, if_text, if_pending, trying, saved_entries, ready}
-use Rattle.ug_core.specs.Laws.{GoesAsAnswer, TellsEvent}
+use Rattle.ug_core.specs.Laws.{Changes, ComesTo, Devices, GoesAsAnswer, Outcome, Rules, TellsEvent, Value, Watches, if_watching, with_changes}
 use Rattle.ug_core.specs.declared.daemon.Event.{Event}
 use Rattle.ug_core.specs.declared.daemon.Event.TheVariants.{Sweep, Order}
 use Rattle.ug_core.specs.Durable.{IsKept, unsure_by, unsure_after, KeepsFile}
 use Rattle.ug_core.specs.Chain.{Happened, StaysOnDisk, Chain, IsKeptThroughout}
+use Rattle.ug_core.proofs.Changed.{permanent_changed}
 use Rattle.ug_core.proofs.Plain.{SameRules}
 
 -- ---- between events
@@ -116,12 +122,36 @@ calm_head listing.Memory failed ss es left names shut h unsure = calm_unlisted f
 
 -- an order's entries leave it
 
+calm_change : (change : Change) (next : ℕ) → Calm (change_entry change next ∷ [])
+calm_change (Insert place rule temporary) next unsure = refl
+calm_change (Remove id) next unsure = refl
+calm_change (Set set) next unsure = refl
+
+calm_done : (d a : DaemonState) (outcome : Outcome) (unsure : List (List ℕ)) → a ≡ if_watching outcome.watches (replying (reply.Lines outcome.lines) (with_changes outcome.change d)) → unsure_after unsure a.sweep.entries ≡ unsure_after unsure d.sweep.entries
+calm_done d a outcome unsure is = by_parts outcome.change outcome.watches is
+  where
+    watching_entries : (b : Bool) (x : DaemonState) → (if_watching b x).sweep.entries ≡ x.sweep.entries
+    watching_entries true x = refl
+    watching_entries false x = refl
+
+    by_parts : (change : Option Change) (b : Bool) → a ≡ if_watching b (replying (reply.Lines outcome.lines) (with_changes change d)) → unsure_after unsure a.sweep.entries ≡ unsure_after unsure d.sweep.entries
+    by_parts None b same =
+        ap (λ (x : DaemonState). unsure_after unsure x.sweep.entries) same
+        ∙ ap (λ (es : List Entry). unsure_after unsure es) (watching_entries b (replying (reply.Lines outcome.lines) d))
+        ∙ unsure_append unsure d.sweep.entries (entry.Reply (Ok tt) ∷ [])
+    by_parts (Some change) b same =
+        let e : Entry = change_entry change d.sweep.judge.next in
+        ap (λ (x : DaemonState). unsure_after unsure x.sweep.entries) same
+        ∙ ap (λ (es : List Entry). unsure_after unsure es) (watching_entries b (replying (reply.Lines outcome.lines) (with_change change d)))
+        ∙ unsure_append unsure (d.sweep.entries ++ e ∷ []) (entry.Reply (Ok tt) ∷ [])
+        ∙ unsure_append unsure d.sweep.entries (e ∷ [])
+        ∙ calm_change change d.sweep.judge.next (unsure_after unsure d.sweep.entries)
+
 calm_answer : {S : Type 0} (gives : S → (call : Call) → Answer call → S → Type 0) (calls faults : S → ℕ) (event : Event) (s : S) (d : DaemonState) (made : List Made) (t : S) (a : DaemonState) (unsure : List (List ℕ)) → GoesAsAnswer gives calls faults event s d made t a → unsure_after unsure a.sweep.entries ≡ unsure_after unsure d.sweep.entries
 calm_answer gives calls faults (Sweep moment) s d made t a unsure h = ap (λ (x : DaemonState). unsure_after unsure x.sweep.entries) h.1
 calm_answer gives calls faults (Order moment who line) s d made t a unsure (inl h) =
     ap (λ (x : DaemonState). unsure_after unsure x.sweep.entries) h.state ∙ unsure_append unsure d.sweep.entries (entry.Reply (Err h.refused) ∷ [])
-calm_answer gives calls faults (Order moment who line) s d made t a unsure (inr (inl h)) =
-    ap (λ (x : DaemonState). unsure_after unsure x.sweep.entries) h.1.state ∙ unsure_append unsure d.sweep.entries (entry.Reply (Ok tt) ∷ [])
+calm_answer gives calls faults (Order moment who line) s d made t a unsure (inr (inl h)) = calm_done d a h.1.outcome unsure h.1.state
 calm_answer gives calls faults (Order moment who line) s d made t a unsure (inr (inr h)) =
     let told : List Entry = verdict_entry (with_verdict h.verdict who h.standing) ∷ h.goes.rest in
     ap (λ (x : DaemonState). unsure_after unsure x.sweep.entries) h.state
@@ -200,12 +230,20 @@ text_given es = ap (λ (rs : List Rule). rules_text_of rs) (rules_given es)
     rules_given [] = refl
     rules_given (e ∷ es) = ap (λ (rs : List Rule). saved_of e ++ rs) (rules_given es)
 
--- an order leaves the judge
-pub answer_judge : {S : Type 0} (gives : S → (call : Call) → Answer call → S → Type 0) (calls faults : S → ℕ) (event : Event) (s : S) (d : DaemonState) (made : List Made) (t : S) (a : DaemonState) → GoesAsAnswer gives calls faults event s d made t a → a.sweep.judge ≡ d.sweep.judge
-answer_judge gives calls faults (Sweep moment) s d made t a h = ap (λ (x : DaemonState). x.sweep.judge) h.1
-answer_judge gives calls faults (Order moment who line) s d made t a (inl h) = ap (λ (x : DaemonState). x.sweep.judge) h.state
-answer_judge gives calls faults (Order moment who line) s d made t a (inr (inl h)) = ap (λ (x : DaemonState). x.sweep.judge) h.1.state
-answer_judge gives calls faults (Order moment who line) s d made t a (inr (inr h)) = ap (λ (x : DaemonState). x.sweep.judge) h.state
+-- an order leaves the text of the permanent rules
+
+done_text : (d a : DaemonState) (asked : Request) (outcome : Outcome) → ComesTo d asked outcome → a ≡ if_watching outcome.watches (replying (reply.Lines outcome.lines) (with_changes outcome.change d)) → permanent_text a.sweep.judge.rules ≡ permanent_text d.sweep.judge.rules
+done_text d a _ _ (Value name set known) is = ap (λ (x : DaemonState). permanent_text x.sweep.judge.rules) is
+done_text d a _ _ Devices is = ap (λ (x : DaemonState). permanent_text x.sweep.judge.rules) is
+done_text d a _ _ Rules is = ap (λ (x : DaemonState). permanent_text x.sweep.judge.rules) is
+done_text d a _ _ (Changes asked change asks can) is = ap (λ (x : DaemonState). permanent_text x.sweep.judge.rules) is ∙ permanent_changed change d.sweep.judge can
+done_text d a _ _ Watches is = ap (λ (x : DaemonState). permanent_text x.sweep.judge.rules) is
+
+pub answer_text : {S : Type 0} (gives : S → (call : Call) → Answer call → S → Type 0) (calls faults : S → ℕ) (event : Event) (s : S) (d : DaemonState) (made : List Made) (t : S) (a : DaemonState) → GoesAsAnswer gives calls faults event s d made t a → permanent_text a.sweep.judge.rules ≡ permanent_text d.sweep.judge.rules
+answer_text gives calls faults (Sweep moment) s d made t a h = ap (λ (x : DaemonState). permanent_text x.sweep.judge.rules) h.1
+answer_text gives calls faults (Order moment who line) s d made t a (inl h) = ap (λ (x : DaemonState). permanent_text x.sweep.judge.rules) h.state
+answer_text gives calls faults (Order moment who line) s d made t a (inr (inl h)) = done_text d a h.1.asked h.1.outcome h.1.comes h.1.state
+answer_text gives calls faults (Order moment who line) s d made t a (inr (inr h)) = ap (λ (x : DaemonState). permanent_text x.sweep.judge.rules) h.state
 
 pub file_kept : {S T : Type 0} (gives : S → (call : Call) → Answer call → S → Type 0) (calls faults : S → ℕ) (keeps : T → (call : DiskCall) → DiskTold call → T → Type 0) (told : T → Option Disk) (did : (s : T) (call : DiskCall) (a : DiskTold call) (t : T) (n : Disk) → keeps s call a t → told t ≡ Some n → FollowsOnDisk call a (told s) n) (event : Event) (s : S) (o : T) (d : DaemonState) (tried : Option Saved) (m : S) (a : DaemonState) (t : S) (p : T) (e : DaemonState) → RunsDisk keeps o (trying d) tried p → TellsEvent gives calls faults event s (ready event tried d) m a t e → SameRules a.sweep.judge e.sweep → KeepsFile told o d p e
 unfolding trying
@@ -215,7 +253,7 @@ file_kept gives calls faults keeps told did event s o d tried m a t p e runs tel
     sym (text_given e.sweep.judge.rules)
     ∙ ap (λ (es : List RuleEntry). permanent_text es) rules
     ∙ text_given a.sweep.judge.rules
-    ∙ ap (λ (j : Judging). permanent_text j.rules) (answer_judge gives calls faults event s (ready event tried d) tells.order m a tells.answers) in (
+    ∙ answer_text gives calls faults event s (ready event tried d) tells.order m a tells.answers in (
       x.0,
       x.1,
       λ unsure k.

@@ -4,6 +4,9 @@ pub mod Failures
 pub mod Verdicts
 pub mod InForce
 pub mod Walk
+pub mod Steps
+pub mod Places
+pub mod Changed
 pub mod Known
 pub mod Plain
 pub mod Noted

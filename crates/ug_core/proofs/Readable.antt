@@ -1,7 +1,7 @@
 -- Rules that read again from their canonical texts.
-use Rattle.std.proofs.Common.{◌≡◌, ℕ, ◌+◌, ◌<◌, Bool, true, false, cond, List, [], ◌∷◌, ◌++◌, length, take, slice_get, Some, Ok, refl, sym, ap, subst, ◌∙◌, append_assoc}
+use Rattle.std.proofs.Common.{◌≡◌, ℕ, ◌+◌, ◌<◌, Bool, true, false, not, cond, List, [], ◌∷◌, ◌++◌, length, take, slice_get, Some, Ok, refl, sym, ap, subst, ◌∙◌, append_assoc}
 use Rattle.std.specs.Prelude.{All, IfOk, OnOk, Result, Err}
-use Rattle.std.specs.List.{AllByRecursion}
+use Rattle.std.specs.List.{AllByRecursion, flat_map}
 use Rattle.std.proofs.lemmas.List.{flat_map_more, take_more}
 use Rattle.std.proofs.lemmas.List.Elements.{All-from_recursion, recursion_from_All}
 use Rattle.std.proofs.lemmas.Option.{get_or_from_slice_get, slice_get_within}
@@ -9,6 +9,11 @@ use Rattle.rand_core.specs.Stream.{Stream}
 use Rattle.ug_types.specs.declared.rule.Rule.{Rule}
 use Rattle.ug_types.specs.declared.record.DeviceRecord.{DeviceRecord}
 use Rattle.ug_cond.specs.declared.context.Context.{Context}
+use Rattle.ug_types.specs.declared.rule.After.{After}
+use Rattle.ug_types.specs.declared.rule.After.TheVariants as after
+use Rattle.ug_policy.specs.Edits.{followed, has_id, inserted, removed}
+use Rattle.ug_policy.specs.declared.entry.InsertFault.{InsertFault}
+use Rattle.ug_policy.specs.declared.entry.InsertFault.TheVariants as fault
 use Rattle.ug_policy.specs.declared.entry.RuleEntry.{RuleEntry}
 use Rattle.ug_policy.specs.Deciding.{find_decider, rules_judged}
 use Rattle.ug_policy.specs.Rules.{Rules}
@@ -104,3 +109,42 @@ list_reads_back text rules list e b h = subst (All ReadsBack) (sym (ap (λ (es :
 pub kept_reads : (es : List RuleEntry) (r : Result (List ℕ) RulesTextFault) → All ReadsBack (rules_in es) → IfOk r (λ text. text ≡ permanent_text es) → OnOk r (All RuleOfBytes (permanent_rules es)) → IfOk r (λ text. file_read text ≡ Ok (permanent_rules es))
 kept_reads es (Ok text) h e b = ap (λ (t : List ℕ). file_read t) e ∙ permanent_reads es h b
 kept_reads es (Err fault) h e b = tt
+
+-- ---- changes keep them
+
+back_append : (es fs : List RuleEntry) → AllByRecursion ReadsBack (rules_in es) → AllByRecursion ReadsBack (rules_in fs) → AllByRecursion ReadsBack (rules_in (es ++ fs))
+back_append [] fs a b = b
+back_append (e ∷ es) fs a b = (a.0, back_append es fs a.1 b)
+
+back_followed : (id : ℕ) (added : RuleEntry) (es : List RuleEntry) → ReadsBack added.rule → AllByRecursion ReadsBack (rules_in es) → AllByRecursion ReadsBack (rules_in (flat_map (followed id added) es))
+back_followed id added [] new a = tt
+back_followed id added (e ∷ es) new a = back_append (followed id added e) (flat_map (followed id added) es) (by_id (has_id id e)) (back_followed id added es new a.1)
+  where
+    by_id : (b : Bool) → AllByRecursion ReadsBack (rules_in (cond b (e ∷ added ∷ []) (e ∷ [])))
+    by_id true = (a.0, (new, tt))
+    by_id false = (a.0, tt)
+
+back_inserted : (place : After) (added : RuleEntry) (es : List RuleEntry) → ReadsBack added.rule → AllByRecursion ReadsBack (rules_in es) → AllByRecursion ReadsBack (rules_in (inserted place added es))
+back_inserted after.End added es new a = back_append es (added ∷ []) a (new, tt)
+back_inserted after.Front added es new a = (new, a)
+back_inserted (after.Rule id) added es new a = back_followed id added es new a
+
+back_removed : (id : ℕ) (es : List RuleEntry) → AllByRecursion ReadsBack (rules_in es) → AllByRecursion ReadsBack (rules_in (removed id es))
+back_removed id [] a = tt
+back_removed id (e ∷ es) a = by_id (not (has_id id e)) (back_removed id es a.1)
+  where
+    by_id : (b : Bool) → AllByRecursion ReadsBack (rules_in (removed id es)) → AllByRecursion ReadsBack (rules_in (cond b (e ∷ removed id es) (removed id es)))
+    by_id true rest = (a.0, rest)
+    by_id false rest = rest
+
+pub inserted_reads : (place : After) (added : RuleEntry) (es : List RuleEntry) → ReadsBack added.rule → All ReadsBack (rules_in es) → All ReadsBack (rules_in (inserted place added es))
+inserted_reads place added es new a = All-from_recursion ReadsBack (rules_in (inserted place added es)) (back_inserted place added es new (recursion_from_All ReadsBack (rules_in es) a))
+
+pub removed_reads : (id : ℕ) (es : List RuleEntry) → All ReadsBack (rules_in es) → All ReadsBack (rules_in (removed id es))
+removed_reads id es a = All-from_recursion ReadsBack (rules_in (removed id es)) (back_removed id es (recursion_from_All ReadsBack (rules_in es) a))
+
+-- an insertion that is refused for nothing
+pub was_inserted : {P : Type 0} (r : Result ℕ InsertFault) → (r ≡ Err fault.NoRule → ⊥) → (r ≡ Err fault.Full → ⊥) → OnOk r P → P
+was_inserted (Ok id) there few p = p
+was_inserted (Err fault.NoRule) there few p = absurd (there refl)
+was_inserted (Err fault.Full) there few p = absurd (few refl)

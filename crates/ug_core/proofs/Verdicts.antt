@@ -21,7 +21,9 @@ use Rattle.ug_policy.proofs.Stands.{stands_found}
 use Rattle.ug_conf.specs.declared.settings.Present.{Present}
 use Rattle.ug_conf.specs.declared.settings.Present.TheVariants as present
 use Rattle.ug_core.specs.Policy.{Judging, as_given, found_for, kept, choice_for, by_choice, by_class, verdict_of, asks, rules_if, stream_if, judgements_if, judgements_of, later_of, words_if, words_needed}
-use Rattle.ug_core.specs.Rulings.{Ruling, at_moment, after_ruling, after_rulings, words_for, judgements_for}
+use Rattle.ug_core.specs.Changes.{changed_by}
+use Rattle.ug_core.specs.Rulings.{CanTake, Changed, PolicyStep, Ruled, after_ruling, after_steps, at_moment, changed_alone, judgements_for, words_for}
+use Rattle.ug_core.proofs.Changed.{later_changed}
 use Rattle.ug_table.specs.Allowed.{allowed_records}
 use Rattle.ug_core.specs.Verdicts.{IsVerdict, IsLater, Unreadable, Allowed, Blocked, Rejected, KeptOn, KeptOff, ByRule, ByNone}
 
@@ -158,22 +160,23 @@ later_verdict policy p words judgements records (judged.Good dev) controller was
   histories = stands_later p records (judged.Good dev) controller was judgements h.numbered h.histories;
 }
 
--- and after several
-later_by : (policy p : Judging) (words : ℕ) (judgements : List Judgement) (rs : List Ruling) → IsLater policy words judgements p → IsLater policy (words + words_for p rs) (judgements ++ judgements_for p rs) (after_rulings p rs)
-later_by policy p words judgements [] h = more_none policy p words judgements h
-later_by policy p words judgements (r ∷ rs) h =
+-- and after several, with changes among them
+later_by : (policy p : Judging) (words : ℕ) (judgements : List Judgement) (steps : List PolicyStep) → IsLater policy words judgements p → CanTake p steps → IsLater (changed_alone policy steps) (words + words_for p steps) (judgements ++ judgements_for p steps) (after_steps p steps)
+later_by policy p words judgements [] h can = more_none policy p words judgements h
+later_by policy p words judgements (Ruled r ∷ steps) h can =
     let q : Judging = at_moment r.moment p in
     let records : List DeviceRecord = allowed_records r.standings in
     let controller : Bool = is_none (parent_of r.name) in
     let taken : ℕ = words_needed q records r.judged controller r.present in
     let new : List Judgement = judgements_of q records r.judged controller r.present in
     let at : IsLater policy words judgements q = record { classes = h.classes; rules = h.rules; next = h.next; clock = h.clock; stream = h.stream; numbered = h.numbered; histories = h.histories } in
-    let rest = later_by policy (after_ruling p r) (words + taken) (judgements ++ new) rs (later_verdict policy q words judgements records r.judged controller r.present at) in
-    let sum : (words + taken) + words_for (after_ruling p r) rs ≡ words + (taken + words_for (after_ruling p r) rs) = omega arith in
-    subst (λ (n : ℕ). IsLater policy n (judgements ++ (new ++ judgements_for (after_ruling p r) rs)) (after_rulings (after_ruling p r) rs)) sum
-    (subst (λ (js : List Judgement). IsLater policy ((words + taken) + words_for (after_ruling p r) rs) js (after_rulings (after_ruling p r) rs)) (append_assoc judgements new (judgements_for (after_ruling p r) rs)) rest)
+    let rest = later_by policy (after_ruling p r) (words + taken) (judgements ++ new) steps (later_verdict policy q words judgements records r.judged controller r.present at) can in
+    let sum : (words + taken) + words_for (after_ruling p r) steps ≡ words + (taken + words_for (after_ruling p r) steps) = omega arith in
+    subst (λ (n : ℕ). IsLater (changed_alone policy steps) n (judgements ++ (new ++ judgements_for (after_ruling p r) steps)) (after_steps (after_ruling p r) steps)) sum
+    (subst (λ (js : List Judgement). IsLater (changed_alone policy steps) ((words + taken) + words_for (after_ruling p r) steps) js (after_steps (after_ruling p r) steps)) (append_assoc judgements new (judgements_for (after_ruling p r) steps)) rest)
+later_by policy p words judgements (Changed change ∷ steps) h can = later_by (changed_by change policy) (changed_by change p) words judgements steps (later_changed change policy p words judgements can.0 h) can.1
 
-pub rulings_later : (policy : Judging) (rs : List Ruling) → IsLater policy 0 [] policy → IsLater policy (words_for policy rs) (judgements_for policy rs) (after_rulings policy rs)
-rulings_later policy rs h =
-    let sum : 0 + words_for policy rs ≡ words_for policy rs = omega arith in
-    subst (λ (n : ℕ). IsLater policy n (judgements_for policy rs) (after_rulings policy rs)) sum (later_by policy policy 0 [] rs h)
+pub steps_later : (policy : Judging) (steps : List PolicyStep) → IsLater policy 0 [] policy → CanTake policy steps → IsLater (changed_alone policy steps) (words_for policy steps) (judgements_for policy steps) (after_steps policy steps)
+steps_later policy steps h can =
+    let sum : 0 + words_for policy steps ≡ words_for policy steps = omega arith in
+    subst (λ (n : ℕ). IsLater (changed_alone policy steps) n (judgements_for policy steps) (after_steps policy steps)) sum (later_by policy policy 0 [] steps h can)

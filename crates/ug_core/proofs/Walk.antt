@@ -21,8 +21,19 @@ use Rattle.ug_table.specs.Laws.{IsDevice, IsProbed, Stand, AreLeft, AreMarkedIn,
 use Rattle.ug_table.specs.declared.standing.Standing.{Standing}
 use Rattle.ug_core.specs.Policy.{Judging, later_of, policy_answer, policy_later}
 use Rattle.ug_core.specs.InForce.{Decision, decisions_in, decision_of, or_else, standing_decision, in_force, numbers_on, Follow}
-use Rattle.ug_core.specs.Rulings.{Ruling, at_moment, ruling_answer, after_ruling, after_rulings, decision_by, decisions_by}
+use Rattle.ug_core.specs.Rulings.{Ruling, at_moment, ruling_answer, after_ruling, decision_by}
 use Rattle.ug_core.proofs.InForce.{told_numbers, decisions_append, decisions_more, has_decision, neither_none, standing_found, fresh, numbers_append, follow_append}
+
+-- rulings one after another, with nothing changed between them
+
+abbrev pub after_rulings : Judging → List Ruling → Judging
+after_rulings p [] = p
+after_rulings p (r ∷ rs) = after_rulings (after_ruling p r) rs
+
+-- the decisions, each by the policy as those before it left it
+abbrev pub decisions_by : Judging → List Ruling → List Decision
+decisions_by p [] = []
+decisions_by p (r ∷ rs) = decision_by p r ∷ decisions_by (after_ruling p r) rs
 
 -- the rulings of a list and one more
 

@@ -1,5 +1,5 @@
 -- A run of the daemon from its start: a chain of events, each from the state that the one before left.
-use Rattle.std.specs.Prelude.{◌≡◌, ℕ, Bool, true, false, not, is_none, ◌||◌, List, [], ◌∷◌, ◌++◌, Option, Some, Ok, ◌⊎◌, slice_get}
+use Rattle.std.specs.Prelude.{◌≡◌, ℕ, Bool, true, false, not, is_none, ◌||◌, List, [], ◌∷◌, ◌++◌, map, Option, Some, None, Ok, ◌⊎◌, slice_get}
 use Rattle.std.specs.List.{list_any}
 use Rattle.ug_types.specs.Elements.{Has}
 use Rattle.ug_types.specs.Names.{parent_of}
@@ -17,6 +17,9 @@ use Rattle.ug_kernel.specs.Kernel.{Kernel, Live, Moves}
 use Rattle.ug_audit.specs.declared.entry.Entry.{Entry}
 use Rattle.ug_audit.specs.declared.entry.Entry.TheVariants as entry
 use Rattle.ug_policy.specs.declared.entry.RuleEntry.{RuleEntry}
+use Rattle.ug_proto.specs.declared.reply.Reply.{Reply}
+use Rattle.ug_proto.specs.declared.reply.Reply.TheVariants as replies
+use Rattle.ug_proto.specs.declared.request.Request.{Request}
 use Rattle.ug_proto.specs.declared.request.Request.TheVariants as request
 use Rattle.ug_proto.specs.Privileges.{needs}
 use Rattle.ug_proto.specs.Requests.{request_read}
@@ -33,9 +36,11 @@ use Rattle.ug_core.specs.Event.{DaemonState, IsStarted, moment_of, ready}
 use Rattle.ug_core.specs.Privileges.{is_granted}
 use Rattle.ug_core.specs.InForce.{Decision, decision_of, decisions_in, is_ordered, unordered, in_force, Agree, given_numbers, Follow}
 use Rattle.ug_core.specs.Laws.{AnswersEvent, Handled}
-use Rattle.ug_core.specs.Rulings.{Ruling, at_moment, after_rulings, decisions_by}
+use Rattle.ug_core.specs.Changes.{change_asked}
+use Rattle.ug_core.specs.Rulings.{CanTake, Changed, Decided, PolicyStep, Ruled, Ruling, Told, Was_changed, after_steps, at_moment, told_by}
+use Rattle.ug_core.specs.declared.changes.Change.{Change}
 use Rattle.ug_core.specs.declared.daemon.Event.{Event}
-use Rattle.ug_core.specs.declared.daemon.Event.TheVariants.{Order}
+use Rattle.ug_core.specs.declared.daemon.Event.TheVariants.{Sweep, Order}
 
 -- an event that was handled, with what was there before it, behind its order and after it, and what became of a pending save. The disk
 -- is there where it was told.
@@ -75,6 +80,30 @@ abbrev pub journal : List Happened → List Entry
 journal [] = []
 journal (h ∷ hs) = h.after.sweep.entries ++ journal hs
 
+-- what an event tells of the policy: the change that its order asked for, where it was done, and then the decisions of its sweep
+
+abbrev pub changes_asked : Event → Option Change
+changes_asked (Sweep moment) = None
+changes_asked (Order moment who line) = change_asked (request_read line)
+
+abbrev pub was_done : Option Reply → Bool
+was_done (Some (replies.Lines lines)) = true
+was_done reply = false
+
+abbrev pub told_if : Bool → Option Change → List Told
+told_if true (Some change) = Was_changed change ∷ []
+told_if done change = []
+
+abbrev pub decided : List Decision → List Told
+decided ds = map Decided ds
+
+abbrev pub told_in : Happened → List Told
+told_in h = told_if (was_done h.after.reply) (changes_asked h.event) ++ decided (unordered (decisions_in h.after.sweep.entries))
+
+abbrev pub told_of : List Happened → List Told
+told_of [] = []
+told_of (h ∷ hs) = told_in h ++ told_of hs
+
 -- the entry tells that the listing didn't succeed
 abbrev pub tells_unlisted : Entry → Bool
 tells_unlisted (entry.UnsettledAll why) = true
@@ -107,19 +136,32 @@ pub record IsPlaced (hs : List Happened) (k : Kernel) (r : Ruling) : Type 0 wher
   pub left : AreLeft event.answered.sweep.standings front r.standings
   pub marked : AreMarkedIn swept_before r.name event.answered.sweep.standings front r.standings
 
--- The decision is that of a ruling on that device at its place in the run: it was given by the policy as all rulings before it left it,
--- with the words that they didn't take, and with the histories of their judgements.
-pub record WasJudged (policy : Judging) (hs : List Happened) (rulings : List Ruling) (k : Kernel) (i : ℕ) (d : Decision) : Type 0 where
-  pub before : List Ruling
+-- The decision is that of a ruling on that device at its place in the run: it was given by the policy as all rulings and changes before
+-- it left it, with the words that they didn't take, and with the histories of their judgements.
+pub record WasJudged (policy : Judging) (hs : List Happened) (steps : List PolicyStep) (k : Kernel) (i : ℕ) (d : Decision) : Type 0 where
+  pub before : List PolicyStep
   pub ruling : Ruling
-  pub after : List Ruling
-  pub at : rulings ≡ before ++ ruling ∷ after
+  pub after : List PolicyStep
+  pub at : steps ≡ before ++ Ruled ruling ∷ after
   pub number : ruling.number ≡ d.number
   pub name : ruling.name ≡ d.name
   pub held : ruling.held ≡ d.held
   pub device : ruling.device ≡ i
   pub placed : IsPlaced hs k ruling
-  pub given : IsVerdict (at_moment ruling.moment (after_rulings policy before)) (allowed_records ruling.standings) ruling.judged (is_none (parent_of ruling.name)) ruling.present ruling.on d.verdict d.cause
+  pub given : IsVerdict (at_moment ruling.moment (after_steps policy before)) (allowed_records ruling.standings) ruling.judged (is_none (parent_of ruling.name)) ruling.present ruling.on d.verdict d.cause
+
+-- The change was ordered: an event of the run is an order of that user or group, which asks for it, and which it may ask for.
+pub record WasAsked (hs : List Happened) (change : Change) : Type 0 where
+  pub event : Happened
+  pub in_run : Has hs event
+  pub moment : Moment
+  pub who : Named
+  pub line : List ℕ
+  pub is_order : event.event ≡ Order moment who line
+  pub asked : Request
+  pub reads : request_read line ≡ Ok asked
+  pub asks : change_asked (Ok asked) ≡ Some change
+  pub granted : is_granted event.before.access who (needs asked) ≡ true
 
 -- The decision was ordered: an event of the run is an order of that user or group, which asks for that verdict on the device of that
 -- number, and which it may ask for. The number's standing had that name and that held file.
@@ -142,13 +184,13 @@ pub record WasOrdered (hs : List Happened) (d : Decision) : Type 0 where
   pub in_event : Has event.answered.sweep.entries (entry.Judged d.number d.name d.held d.verdict d.cause)
 
 -- the decision was given on that device, by the policy or by an order
-abbrev pub WasDecided : Judging → List Happened → List Ruling → Kernel → ℕ → Decision → Type 0
-WasDecided policy hs rulings k i d =
-    WasJudged policy hs rulings k i d
+abbrev pub WasDecided : Judging → List Happened → List PolicyStep → Kernel → ℕ → Decision → Type 0
+WasDecided policy hs steps k i d =
+    WasJudged policy hs steps k i d
     ⊎ (WasOrdered hs d × (slice_get k.held d.held.0 ≡ Some (record { device = i; control = Authorized })))
 
 -- The effect is that of a write that is told. The verdict in force before its intent calls for it, and was given on that device.
-pub record IsExplained (policy : Judging) (hs : List Happened) (rulings : List Ruling) (k : Kernel) (effect : Effect) : Type 0 where
+pub record IsExplained (policy : Judging) (hs : List Happened) (steps : List PolicyStep) (k : Kernel) (effect : Effect) : Type 0 where
   pub decision : Decision
   pub outcome : Wrote
   pub front : List Entry
@@ -157,18 +199,18 @@ pub record IsExplained (policy : Judging) (hs : List Happened) (rulings : List R
   pub may : MayHave outcome
   pub force : in_force [] front decision.number ≡ Some decision
   pub wanted : CallsFor decision.verdict effect.write
-  pub decided : WasDecided policy hs rulings k effect.device decision
+  pub decided : WasDecided policy hs steps k effect.device decision
 
 -- each effect since the first kernel is explained
-pub record AllExplained (policy : Judging) (hs : List Happened) (rulings : List Ruling) (first k : Kernel) : Type 0 where
+pub record AllExplained (policy : Judging) (hs : List Happened) (steps : List PolicyStep) (first k : Kernel) : Type 0 where
   pub added : List Effect
   pub log : k.log ≡ first.log ++ added
-  pub each : (effect : Effect) → Has added effect → IsExplained policy hs rulings k effect
+  pub each : (effect : Effect) → Has added effect → IsExplained policy hs steps k effect
 
 -- the device was judged under the number of its standing and under no other, and stands as judged
-pub record IsJudgedOnce (policy : Judging) (hs : List Happened) (rulings : List Ruling) (k : Kernel) (standings : List Standing) (i : ℕ) : Type 0 where
+pub record IsJudgedOnce (policy : Judging) (hs : List Happened) (steps : List PolicyStep) (k : Kernel) (standings : List Standing) (i : ℕ) : Type 0 where
   pub stands : IsAsJudged k standings i
-  pub decided : WasDecided policy hs rulings k i (decision_of stands.standing.s)
+  pub decided : WasDecided policy hs steps k i (decision_of stands.standing.s)
   pub once : (number : ℕ) → IsJudged k (journal hs) number i → number ≡ stands.standing.s.number
 
 -- the texts that aren't sure after these events
@@ -194,19 +236,22 @@ EachKept unsure (h ∷ hs) = KeptIn unsure h × EachKept (unsure_after unsure h.
 abbrev pub IsKeptThroughout : List RuleEntry → Option Disk → List Happened → Option Disk → List RuleEntry → Type 0
 IsKeptThroughout rules o hs p later = (n : Disk) → p ≡ Some n → (m : Disk) × (o ≡ Some m) × ((unsure : List (List ℕ)) → IsKept rules unsure m.left → EachKept unsure hs × IsKept later (unsure_of unsure hs) n.left)
 
--- What holds of any run from a start with that policy. Its `judged` entries tell the decisions of rulings, each at its place, and each
--- by the policy as those before it left it, and else those that were ordered by somebody who may. Each effect is explained. Each new device got the next number; each standing has the
+-- What holds of any run from a start with that policy. What its events tell of the policy, in order, is a list of steps: rulings, each at
+-- its place and each by the policy as the steps before it left it, and changes, each as an order of one who may asked for it. All other
+-- decisions were ordered by somebody who may. Each effect is explained. Each new device got the next number; each standing has the
 -- verdict in force; and a device that still lives and stands as judged was judged once. The rule file is kept.
 pub record IsRun (policy : Judging) (first : Kernel) (o : Option Disk) (hs : List Happened) (k : Kernel) (p : Option Disk) (e : DaemonState) : Type 0 where
-  pub rulings : List Ruling
-  pub told : unordered (decisions_in (journal hs)) ≡ decisions_by policy rulings
-  pub placed : (r : Ruling) → Has rulings r → IsPlaced hs k r
+  pub steps : List PolicyStep
+  pub told : told_of hs ≡ told_by policy steps
+  pub can : CanTake policy steps
+  pub placed : (r : Ruling) → Has steps (Ruled r) → IsPlaced hs k r
+  pub changed : (change : Change) → Has steps (Changed change) → WasAsked hs change
   pub ordered : (d : Decision) → Has (decisions_in (journal hs)) d → is_ordered d.cause ≡ true → WasOrdered hs d
-  pub explained : AllExplained policy hs rulings first k
+  pub explained : AllExplained policy hs steps first k
   pub numbers : Follow 1 (given_numbers (journal hs)) e.sweep.next
   pub agree : Agree [] (journal hs) e.sweep.standings
   pub listed : e.sweep.listed ≡ has_listed hs
-  pub once : (i : ℕ) (d : Device) → Live k.devices i d → IsAsJudged k e.sweep.standings i → IsJudgedOnce policy hs rulings k e.sweep.standings i
+  pub once : (i : ℕ) (d : Device) → Live k.devices i d → IsAsJudged k e.sweep.standings i → IsJudgedOnce policy hs steps k e.sweep.standings i
   pub file : IsKeptThroughout policy.rules o hs p e.sweep.judge.rules
 
 abbrev pub AreRuns : Type 0

@@ -22,13 +22,15 @@ use Rattle.ug_core.specs.declared.daemon.Event.{Event}
 use Rattle.ug_core.specs.declared.daemon.Event.TheVariants.{Sweep, Order}
 
 -- the standings and the judge, with the entries of the last event but for the `dropped` ones; who may do what; whether a save is
--- pending; the number of the next event; and the reply to the order of the last one, if it had one
+-- pending; the number of the next event; the reply to the order of the last one, if it had one; and whether that asked for notices and may
+-- have them
 pub record DaemonState : Type 0 where
   pub sweep : State Judging
   pub access : List Addition
   pub pending : Bool
   pub event : ℕ
   pub reply : Option Reply
+  pub watch : Bool
 
 abbrev pub daemon_of : {R : Type 0} {g : Ghosts R} → Daemon R g → DaemonState
 daemon_of {g = g} d = record {
@@ -37,6 +39,7 @@ daemon_of {g = g} d = record {
   pending = d.store;
   event = d.next_event;
   reply = d.report.reply;
+  watch = d.report.watch;
 }
 
 -- First stage, on the disk alone: a pending save is tried, with the text of the rules that aren't temporary.
@@ -77,7 +80,7 @@ first_entry number (Order moment who line) = entry.Order number moment who
 
 -- the judge is told the moment, the first entry is noted, and nothing is replied yet
 abbrev pub begun : Event → DaemonState → DaemonState
-begun event d = record d { sweep = record d.sweep { judge = record d.sweep.judge { ctx = context_at d.sweep.judge.clock (moment_of event) }; entries = first_entry d.event event ∷ [] }; reply = None }
+begun event d = record d { sweep = record d.sweep { judge = record d.sweep.judge { ctx = context_at d.sweep.judge.clock (moment_of event) }; entries = first_entry d.event event ∷ [] }; reply = None; watch = false }
 
 abbrev pub tried_with : Option Saved → DaemonState → DaemonState
 tried_with tried d = record d { sweep = record d.sweep { entries = d.sweep.entries ++ saved_entries tried }; pending = pending_with tried d.pending }
@@ -118,3 +121,4 @@ pub record IsStarted (policy : Judging) (first : ℕ) (d : DaemonState) : Type 0
   pub pending : d.pending ≡ false
   pub event : d.event ≡ first
   pub reply : d.reply ≡ None
+  pub watch : d.watch ≡ false

@@ -1,8 +1,14 @@
 -- What an event does, in the words of devices, files and journal.
-use Rattle.std.specs.Prelude.{◌≡◌, ℕ, ◌+◌, ◌≤◌, Bool, true, false, List, [], ◌∷◌, ◌++◌, Option, Some, None, Result, Ok, Err, ◌⊎◌}
+use Rattle.std.specs.Prelude.{◌≡◌, ℕ, ◌+◌, ◌≤◌, length, Bool, true, false, List, [], ◌∷◌, ◌++◌, Option, Some, None, Result, Ok, Err, ◌⊎◌}
 use Rattle.ug_types.specs.Elements.{Has, AllDistinct}
 use Rattle.ug_types.specs.Principals.{Named}
+use Rattle.ug_types.specs.Parameters.{parameter_of, value_of, value_word}
+use Rattle.ug_types.specs.declared.parameter.ParameterName.{ParameterName}
 use Rattle.ug_types.specs.declared.refusal.Refusal.{Refusal}
+use Rattle.ug_types.specs.declared.refusal.Refusal.TheVariants as refusal
+use Rattle.ug_types.specs.declared.rule.After.{After}
+use Rattle.ug_types.specs.declared.rule.After.TheVariants as after
+use Rattle.ug_types.specs.declared.rule.Rule.{Rule}
 use Rattle.ug_types.specs.declared.saved.Saved.{Saved}
 use Rattle.ug_types.specs.declared.verdict.Target.{Target}
 use Rattle.ug_kernel.specs.declared.calls.Probe.{Probe}
@@ -15,9 +21,14 @@ use Rattle.ug_kernel.specs.Tree.{Runs}
 use Rattle.ug_audit.specs.declared.entry.Entry.{Entry}
 use Rattle.ug_audit.specs.declared.entry.Entry.TheVariants as entry
 use Rattle.ug_proto.specs.declared.reply.Reply.TheVariants as replies
+use Rattle.ug_policy.specs.Edits.{IsThere}
+use Rattle.ug_proto.specs.declared.request.Request.{Request}
 use Rattle.ug_proto.specs.declared.request.Request.TheVariants as request
 use Rattle.ug_proto.specs.Privileges.{needs}
 use Rattle.ug_proto.specs.Requests.{request_read}
+use Rattle.ug_rule.specs.Faults.{kind_number}
+use Rattle.ug_rule.specs.Rules.{rule_read}
+use Rattle.ug_rule.specs.declared.fault.Fault.{Fault}
 use Rattle.ug_store.specs.Disk.{Disk}
 use Rattle.ug_store.specs.DiskCalls.{DiskCall, DiskTold}
 use Rattle.ug_store.specs.Store.{RunsDisk, TellsSaveFault}
@@ -28,13 +39,16 @@ use Rattle.ug_table.specs.Parts.{AllBear, failures_told, told_in_reply, unsettle
 use Rattle.ug_table.specs.Standings.{numbered}
 use Rattle.ug_table.specs.declared.standing.Settled.{Settled}
 use Rattle.ug_table.specs.declared.standing.Standing.{Standing}
-use Rattle.ug_core.specs.Answering.{answering, answered_with, replying}
+use Rattle.ug_core.specs.Answering.{answering, answered_with, replying, with_change}
+use Rattle.ug_core.specs.Changes.{CanChange, change_asked, change_lines, parameter_at}
+use Rattle.ug_core.specs.RulePlaces.{has_permanent, has_rule}
 use Rattle.ug_core.specs.DeviceRows.{device_rows}
 use Rattle.ug_core.specs.RuleRows.{rule_rows}
 use Rattle.ug_core.specs.Policy.{Judging, policy_answer, policy_later}
-use Rattle.ug_core.specs.Privileges.{is_granted}
+use Rattle.ug_core.specs.Privileges.{denied_of, is_granted}
 use Rattle.ug_core.specs.Event.{DaemonState, ready, trying, handling}
 use Rattle.ug_core.specs.Durable.{KeepsFile}
+use Rattle.ug_core.specs.declared.changes.Change.{Change}
 use Rattle.ug_core.specs.declared.daemon.Event.{Event}
 use Rattle.ug_core.specs.declared.daemon.Event.TheVariants.{Sweep, Order}
 
@@ -49,6 +63,7 @@ pub record Handled (k : Kernel) (d : DaemonState) (l : Kernel) (e : DaemonState)
   pub pending : e.pending ≡ d.pending
   pub event : e.event ≡ d.event + 1
   pub reply : e.reply ≡ d.reply
+  pub watch : e.watch ≡ d.watch
 
 -- where a kernel is told after the event, one was told before it; and where that is sound and the standings are of its devices,
 -- this is so
@@ -69,9 +84,52 @@ NamesOnceIn told s d t e = (l : Kernel) → told t ≡ Some l → (k : Kernel) �
 
 -- ---- the order of an event, from the state that the stage before it left
 
--- An order that was refused changes nothing, and tells why. At most its device was probed.
-pub record RefusesOrder (k : Kernel) (d : DaemonState) (l : Kernel) (e : DaemonState) : Type 0 where
+-- The facts for which a request of one who may make it is refused without a call. Of several the first in the order of usbguard(1)
+-- counts: a rule that can't be read, before a place that isn't there, before a list that is full; a name before its value. Those that
+-- change the rule file aren't carried out yet.
+pub data Refuses (d : DaemonState) : Request → Refusal → Type 0 where
+  Permanent_verdict : (number : ℕ) (verdict : Target) → Refuses d (request.Device number verdict true) (refusal.BadRequest 0)
+  Permanent_rule : (place : After) (text : List ℕ) → Refuses d (request.AppendRule place true text) (refusal.BadRequest 0)
+  Permanent_removal : (id : ℕ) → has_rule id d.sweep.judge.rules ≡ true → has_permanent id d.sweep.judge.rules ≡ true → Refuses d (request.RemoveRule id) (refusal.BadRequest 0)
+  Bad_rule : (place : After) (text : List ℕ) (bad : Fault) → rule_read text ≡ Err bad → Refuses d (request.AppendRule place false text) (refusal.BadRule (kind_number bad.kind) bad.place)
+  No_device : (number : ℕ) (verdict : Target) → numbered number d.sweep.standings ≡ None → Refuses d (request.Device number verdict false) (refusal.NoDevice number)
+  No_place : (id : ℕ) (text : List ℕ) (rule : Rule) → rule_read text ≡ Ok rule → has_rule id d.sweep.judge.rules ≡ false → Refuses d (request.AppendRule (after.Rule id) false text) (refusal.NoRule id)
+  No_rule : (id : ℕ) → has_rule id d.sweep.judge.rules ≡ false → Refuses d (request.RemoveRule id) (refusal.NoRule id)
+  No_parameter : (name : List ℕ) → parameter_of name ≡ None → Refuses d (request.GetParameter name) refusal.BadParameter
+  No_setting : (name value : List ℕ) → parameter_of name ≡ None → Refuses d (request.SetParameter name value) refusal.BadParameter
+  No_value : (name value : List ℕ) (set : ParameterName) → parameter_of name ≡ Some set → value_of set value ≡ None → Refuses d (request.SetParameter name value) refusal.BadValue
+  Full : (place : After) (text : List ℕ) (rule : Rule) → rule_read text ≡ Ok rule → IsThere place d.sweep.judge.rules → 65536 ≤ length d.sweep.judge.rules → Refuses d (request.AppendRule place false text) refusal.RulesFull
+
+-- what is refused before a call: a line that is no request, before a privilege that is missing, before the facts. Want of memory may
+-- come at any place
+pub data WhyRefused (who : Named) (line : List ℕ) (d : DaemonState) : Refusal → Type 0 where
+  Unread : (place : ℕ) → request_read line ≡ Err place → WhyRefused who line d (refusal.BadRequest place)
+  Denied : (asked : Request) (refused : Refusal) → request_read line ≡ Ok asked → denied_of d.access who (needs asked) ≡ Some refused → WhyRefused who line d refused
+  By_facts : (asked : Request) (refused : Refusal) → request_read line ≡ Ok asked → is_granted d.access who (needs asked) ≡ true → Refuses d asked refused → WhyRefused who line d refused
+  No_memory : WhyRefused who line d (refusal.Memory false)
+
+-- what a probe that didn't find the device comes to
+abbrev pub ProbeRefuses : ℕ → Probe → Refusal → Type 0
+ProbeRefuses number (probe.Alive on) refused = ⊥
+ProbeRefuses number probe.Gone refused = refused ≡ refusal.NoDevice number
+ProbeRefuses number probe.Failed refused = (count : ℕ) × (refused ≡ refusal.ProbeFault count)
+
+-- a verdict that one who may ordered, on a device of which the probe said that it is gone, or failed
+pub record RefusedByProbe (who : Named) (line : List ℕ) (d : DaemonState) (k l : Kernel) (refused : Refusal) : Type 0 where
+  pub number : ℕ
+  pub verdict : Target
+  pub asked : request_read line ≡ Ok (request.Device number verdict false)
+  pub granted : is_granted d.access who (needs (request.Device number verdict false)) ≡ true
+  pub standing : Standing
+  pub stands : numbered number d.sweep.standings ≡ Some standing
+  pub found : Probe
+  pub probed : ProbedOne standing k l found
+  pub is : ProbeRefuses number found refused
+
+-- An order that was refused changes nothing but that this is noted and told. At most its device was probed.
+pub record RefusesOrder (who : Named) (line : List ℕ) (k : Kernel) (d : DaemonState) (l : Kernel) (e : DaemonState) : Type 0 where
   pub refused : Refusal
+  pub why : (WhyRefused who line d refused × (l ≡ k)) ⊎ RefusedByProbe who line d k l refused
   pub sound : IsKernel l
   pub quiet : Quiet k l
   pub state : e ≡ replying (replies.Refused refused) d
@@ -97,22 +155,48 @@ pub record CarriesOut (who : Named) (line : List ℕ) (k : Kernel) (d : DaemonSt
   pub given : numbers_given rest ≡ []
   pub state : e ≡ answered_with d (how, kept)
 
--- the lines are those of a list that the line asks for, and that the user or group may see
-abbrev pub IsList : Named → List ℕ → DaemonState → List (List ℕ) → Type 0
-IsList who line d rows =
-    ((request_read line ≡ Ok request.ListDevices) × (is_granted d.access who (needs request.ListDevices) ≡ true) × (rows ≡ device_rows d.sweep.standings))
-    ⊎ ((request_read line ≡ Ok request.ListRules) × (is_granted d.access who (needs request.ListRules) ≡ true) × (rows ≡ rule_rows d.sweep.judge.rules))
+-- what an order that needs no call comes to: the lines of its reply, what it changes, and whether its user or group is told of what
+-- happens from now on
+pub record Outcome : Type 0 where
+  pub lines : List (List ℕ)
+  pub change : Option Change
+  pub watches : Bool
 
--- A list is told to one who may see it, without a call, and changes nothing.
-pub record TellsList (who : Named) (line : List ℕ) (d : DaemonState) (e : DaemonState) : Type 0 where
-  pub rows : List (List ℕ)
-  pub list : IsList who line d rows
-  pub state : e ≡ replying (replies.Lines rows) d
+abbrev pub only_lines : List (List ℕ) → Outcome
+only_lines rows = record { lines = rows; change = None; watches = false }
+
+abbrev pub outcome_of_change : DaemonState → Change → Outcome
+outcome_of_change d change = record { lines = change_lines change d.sweep.judge.next; change = Some change; watches = false }
+
+-- what each request comes to that needs no call
+pub data ComesTo (d : DaemonState) : Request → Outcome → Type 0 where
+  Value : (name : List ℕ) (set : ParameterName) → parameter_of name ≡ Some set → ComesTo d (request.GetParameter name) (only_lines (value_word (parameter_at set d.sweep.judge.classes) ∷ []))
+  Devices : ComesTo d request.ListDevices (only_lines (device_rows d.sweep.standings))
+  Rules : ComesTo d request.ListRules (only_lines (rule_rows d.sweep.judge.rules))
+  Changes : (asked : Request) (change : Change) → change_asked (Ok asked) ≡ Some change → CanChange change d.sweep.judge.rules → ComesTo d asked (outcome_of_change d change)
+  Watches : ComesTo d request.Watch (record { lines = []; change = None; watches = true })
+
+abbrev pub with_changes : Option Change → DaemonState → DaemonState
+with_changes None d = d
+with_changes (Some change) d = with_change change d
+
+abbrev pub if_watching : Bool → DaemonState → DaemonState
+if_watching true d = record d { watch = true }
+if_watching false d = d
+
+-- An order of one who may give it is carried out without a call: nothing changes but what it asks for, and the reply tells just that.
+pub record AnswersAtOnce (who : Named) (line : List ℕ) (d : DaemonState) (e : DaemonState) : Type 0 where
+  pub asked : Request
+  pub reads : request_read line ≡ Ok asked
+  pub granted : is_granted d.access who (needs asked) ≡ true
+  pub outcome : Outcome
+  pub comes : ComesTo d asked outcome
+  pub state : e ≡ if_watching outcome.watches (replying (replies.Lines outcome.lines) (with_changes outcome.change d))
 
 -- over kernels from k to l
 abbrev pub AnswersEvent : Event → Kernel → DaemonState → Kernel → DaemonState → Type 0
 AnswersEvent (Sweep moment) k d l e = (l ≡ k) × (e ≡ d)
-AnswersEvent (Order moment who line) k d l e = RefusesOrder k d l e ⊎ (((l ≡ k) × TellsList who line d e) ⊎ CarriesOut who line k d l e)
+AnswersEvent (Order moment who line) k d l e = RefusesOrder who line k d l e ⊎ (((l ≡ k) × AnswersAtOnce who line d e) ⊎ CarriesOut who line k d l e)
 
 -- where a kernel is told behind it, one was told before it; and where that is sound and the standings are of its devices, this is so
 abbrev pub Answers : {S : Type 0} → (S → Option Kernel) → Event → S → DaemonState → S → DaemonState → Type 0
@@ -144,7 +228,7 @@ pub record GoesAsVerdict {S : Type 0} (gives : S → (call : Call) → Answer ca
 
 abbrev pub GoesAsAnswer : {S : Type 0} → (S → (call : Call) → Answer call → S → Type 0) → (S → ℕ) → (S → ℕ) → Event → S → DaemonState → List Made → S → DaemonState → Type 0
 GoesAsAnswer gives calls faults (Sweep moment) s d made t e = (made ≡ []) × (e ≡ d)
-GoesAsAnswer gives calls faults (Order moment who line) s d made t e = GoesAsRefusal d made e ⊎ (((made ≡ []) × TellsList who line d e) ⊎ GoesAsVerdict gives calls faults who s d made t e)
+GoesAsAnswer gives calls faults (Order moment who line) s d made t e = GoesAsRefusal d made e ⊎ (((made ≡ []) × AnswersAtOnce who line d e) ⊎ GoesAsVerdict gives calls faults who s d made t e)
 
 -- ---- a whole event
 

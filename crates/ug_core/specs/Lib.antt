@@ -1,4 +1,6 @@
 pub mod Answering
+pub mod Changes
+pub mod RulePlaces
 pub mod Settings
 pub mod RuleFile
 pub mod Policy

@@ -5,6 +5,8 @@ use Rattle.ug_rule.specs.Rules.{rule_read}
 use Rattle.ug_print.specs.RuleTexts.{rules_text_of}
 use Rattle.ug_print.specs.Words.{rule_text}
 use Rattle.ug_policy.specs.declared.entry.RuleEntry.{RuleEntry}
+use Rattle.ug_core.specs.declared.changes.Change.{Change}
+use Rattle.ug_core.specs.declared.changes.Change.TheVariants.{Insert, Remove, Set}
 
 -- the rules of a list, in order
 abbrev pub rules_in : List RuleEntry → List Rule
@@ -24,3 +26,9 @@ permanent_text entries = rules_text_of (permanent_rules entries)
 -- the rule reads again from its canonical text
 abbrev pub ReadsBack : Rule → Type 0
 ReadsBack rule = rule_read (rule_text rule) ≡ Ok rule
+
+-- a rule that is added reads so too
+abbrev pub KeepsReadable : Change → Type 0
+KeepsReadable (Insert after rule temporary) = ReadsBack rule
+KeepsReadable (Remove id) = Unit {0}
+KeepsReadable (Set set) = Unit {0}

@@ -121,6 +121,7 @@ impl<'z, R: Rng> Daemon<'z, R> {
         ensures spare { 8 * length self.new.table.standings + 63 + live_in panel.new
             ≤ self.new.report.entries.spare }
         ensures reply { self.new.report.reply ≡ None }
+        ensures watch { self.new.report.watch ≡ false }
         ensures number { self.new.report.event ≡ self.old.next_event }
         ensures noted { NotesEntries self.new.report.entries.entries
             (members (λ b. ⟦<dyn Auditor as Auditor>⟧ b.vtable) panel.old)
@@ -131,6 +132,7 @@ impl<'z, R: Rng> Daemon<'z, R> {
         self.report.event = number;
         self.report.entries.clear();
         self.report.reply = None;
+        self.report.watch = false;
         self.note(first_entry(number, event), panel);
     }
 
@@ -143,6 +145,7 @@ impl<'z, R: Rng> Daemon<'z, R> {
             ≡ self.old.report.entries.spare + live_in panel.new }
         ensures number { self.new.report.event ≡ self.old.report.event }
         ensures reply { self.new.report.reply ≡ self.old.report.reply }
+        ensures watch { self.new.report.watch ≡ self.old.report.watch }
         ensures noted { NotesMore self.old.report.entries.entries self.new.report.entries.entries
             (members (λ b. ⟦<dyn Auditor as Auditor>⟧ b.vtable) panel.old)
             (members (λ b. ⟦<dyn Auditor as Auditor>⟧ b.vtable) panel.new) }
@@ -167,6 +170,7 @@ impl<'z, R: Rng> Daemon<'z, R> {
             ≤ self.new.report.entries.spare + 1 + live_in panel.old }
         ensures number { self.new.report.event ≡ self.old.report.event }
         ensures reply { self.new.report.reply ≡ self.old.report.reply }
+        ensures watch { self.new.report.watch ≡ self.old.report.watch }
         ensures noted { NotesMore self.old.report.entries.entries self.new.report.entries.entries
             (members (λ b. ⟦<dyn Auditor as Auditor>⟧ b.vtable) panel.old)
             (members (λ b. ⟦<dyn Auditor as Auditor>⟧ b.vtable) panel.new) }
@@ -208,6 +212,7 @@ impl<'z, R: Rng> Daemon<'z, R> {
         ensures once { NamesOnceIn Y.told sysfs.old (daemon_of self.old) sysfs.new (daemon_of self.new) }
         ensures number { self.new.report.event ≡ self.old.report.event }
         ensures reply { self.new.report.reply ≡ self.old.report.reply }
+        ensures watch { self.new.report.watch ≡ self.old.report.watch }
         ensures noted { NotesMore self.old.report.entries.entries self.new.report.entries.entries
             (members (λ b. ⟦<dyn Auditor as Auditor>⟧ b.vtable) panel.old)
             (members (λ b. ⟦<dyn Auditor as Auditor>⟧ b.vtable) panel.new) }

@@ -4,7 +4,7 @@ ghost use Rattle.ug_core.specs.Policy as policy;
 ghost use Rattle.ug_core.specs.Settings.{classes_of};
 
 use ug_conf::{Present, Settings};
-use ug_types::{Inserted, Cause, Target};
+use ug_types::{Cause, Inserted, Target};
 
 /// The settings that verdicts go by: usbguard-daemon.conf(5).
 #[derive(Clone, Copy, Debug, PartialEq, Eq)]

@@ -1,11 +1,14 @@
 // The rules that a daemon keeps.
-ghost use Rattle.std.specs.Prelude.{◌≡◌, ◌++◌, All, IfOk, Ok, OnOk};
+ghost use Rattle.std.specs.Prelude.{◌≡◌, ◌<◌, ◌+◌, ◌-◌, ◌^◌, ◌++◌, All, IfOk, Ok, OnOk, length};
 ghost use Rattle.ug_policy.specs.Deciding.{decider, find_decider, reached, rules_judged, words_taken};
 ghost use Rattle.ug_policy.specs.Matching.{answer_by};
 ghost use Rattle.ug_cond.specs.Words.{behind};
 ghost use Rattle.ug_print.specs.Bytes.{RuleOfBytes};
 ghost use Rattle.ug_print.specs.RuleTexts.{rules_text_of};
 ghost use Rattle.ug_rule.specs.Files.{file_read};
+ghost use Rattle.ug_policy.specs.Edits.{IsThere, inserted, new_entry, removed};
+ghost use Rattle.ug_core.specs.InForce.{or_else};
+ghost use Rattle.ug_core.specs.RulePlaces.{has_permanent, has_rule, if_few, if_place};
 ghost use Rattle.ug_core.specs.RuleRows.{rule_rows};
 ghost use Rattle.ug_core.specs.RuleFile.{ReadsBack, permanent_rules, permanent_text, rules_in, saved_of};
 
@@ -15,7 +18,7 @@ use std::alloc::Global;
 use ug_cond::{Allowed, Context};
 use ug_policy::{RuleEntry, RuleList};
 use ug_print::{RulesText, RulesTextFault};
-use ug_types::{Cause, DeviceRecord, List, NoMemory, Target, Text};
+use ug_types::{After, Cause, DeviceRecord, List, NoMemory, Refusal, Rule, Target, Text};
 
 /// Rules, each of which reads again from its canonical text.
 #[derive(Drop)]
@@ -70,6 +73,75 @@ impl KeptRules {
         ensures { result ≡ self.now.list.next }
     {
         self.list.next_id()
+    }
+
+    /// Whether a rule has the id.
+    pub fn has_rule(&self, id: u64) -> bool
+        ensures { result ≡ has_rule id self.now.list.entries }
+    {
+        let rules = self.list.as_slice();
+        rules.iter().any(|entry| entry.id == id)
+    }
+
+    /// Whether a rule that isn't temporary has the id.
+    pub fn has_permanent(&self, id: u64) -> bool
+        ensures { result ≡ has_permanent id self.now.list.entries }
+    {
+        let rules = self.list.as_slice();
+        rules.iter().any(|entry| entry.id == id && !entry.temporary)
+    }
+
+    fn has_place(&self, after: After) -> Option<Refusal>
+        ensures { result ≡ if_place after self.now.list.entries }
+    {
+        match after {
+            After::End => None,
+            After::Front => None,
+            After::Rule(id) if self.has_rule(id) => None,
+            After::Rule(id) => Some(Refusal::NoRule { id }),
+        }
+    }
+
+    /// Why no rule is put behind that place.
+    pub fn refuse_rule(&self, after: After) -> Option<Refusal>
+        ensures { result ≡ or_else (if_place after self.now.list.entries) (if_few self.now.list.entries) }
+    {
+        match self.has_place(after) {
+            Some(refusal) => Some(refusal),
+            None if self.list.len() < 65_536 => None,
+            None => Some(Refusal::RulesFull),
+        }
+    }
+
+    /// Makes room for one rule more. A refusal changes nothing.
+    pub fn reserve(&mut self) -> Result<(), NoMemory>
+        ensures entries { self.new.list.entries ≡ self.old.list.entries }
+        ensures next { self.new.list.next ≡ self.old.list.next }
+        ensures ok { OnOk result (0 < self.new.list.spare) }
+    {
+        self.list.reserve()
+    }
+
+    /// Puts a rule, for which there is room, behind that place.
+    pub fn insert(&mut self, after: After, rule: Rule, temporary: bool)
+        requires place { IsThere after self.old.list.entries }
+        requires few { length self.old.list.entries < 65536 }
+        requires readable { ReadsBack rule }
+        requires spare { 0 < self.old.list.spare }
+        requires id { self.old.list.next < 2 ^ 64 - 1 }
+        ensures entries { self.new.list.entries
+            ≡ inserted after (new_entry self.old.list.next rule temporary) self.old.list.entries }
+        ensures next { self.new.list.next ≡ self.old.list.next + 1 }
+    {
+        let _id = self.list.insert(after, rule, temporary);
+    }
+
+    /// Takes out the rule of that id.
+    pub fn remove(&mut self, id: u64)
+        ensures entries { self.new.list.entries ≡ removed id self.old.list.entries }
+        ensures next { self.new.list.next ≡ self.old.list.next }
+    {
+        let _was_there = self.list.remove(id);
     }
 
     /// The text of a rule file with the rules that aren't temporary, which reads as them again.

@@ -9,7 +9,7 @@ ghost use Rattle.ug_policy.specs.Kept.{StandsFor};
 ghost use Rattle.ug_policy.specs.Rules.{IsNumbered};
 ghost use Rattle.ug_core.specs.Policy.{Judging, as_given, judgements_of, later_of, verdict_of, words_needed};
 ghost use Rattle.ug_core.specs.Chain.{AreRuns};
-ghost use Rattle.ug_core.specs.Rulings.{Ruling, after_rulings, judgements_for, words_for};
+ghost use Rattle.ug_core.specs.Rulings.{CanTake, PolicyStep, after_steps, changed_alone, judgements_for, words_for};
 ghost use Rattle.ug_core.specs.Verdicts.{IsLater, IsVerdict};
 
 /// A verdict is the one that its cases say. What judges keeps the rules as they were given; and the histories stand for the
@@ -22,9 +22,10 @@ pub fn verdict_law()
     ensures history { (p : Judging) (records : List DeviceRecord) (dev : Judged) (controller present : Bool) (judgements : List Judgement) → IsNumbered p.rules p.next → StandsFor p.rules p.next judgements → StandsFor (later_of p records dev controller present).rules p.next (judgements ++ judgements_of p records dev controller present) }
 {}
 
-/// What holds of any run of the daemon from its start. And what is left of a policy after rulings has taken just their words, and its
-/// histories stand for just their judgements.
+/// What holds of any run of the daemon from its start. And what is left of a policy after rulings and changes has taken just the rulings'
+/// words, its histories stand for just their judgements, and but for these it is what the changes alone leave.
 pub fn run_law()
     ensures runs { AreRuns }
-    ensures later { (policy : Judging) (rulings : List Ruling) → IsLater policy 0 [] policy → IsLater policy (words_for policy rulings) (judgements_for policy rulings) (after_rulings policy rulings) }
+    ensures later { (policy : Judging) (steps : List PolicyStep) → IsLater policy 0 [] policy → CanTake policy steps
+        → IsLater (changed_alone policy steps) (words_for policy steps) (judgements_for policy steps) (after_steps policy steps) }
 {}

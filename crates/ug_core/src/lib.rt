@@ -2,6 +2,8 @@
 #![tactic(auto)]
 
 mod calls;
+mod changes;
+mod choosing;
 mod classes;
 mod daemon;
 mod device_list;

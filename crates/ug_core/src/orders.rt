@@ -1,40 +1,27 @@
 // Orders of administrators: usbguard(1).
-ghost use Rattle.std.specs.Prelude.{◌≡◌, ℕ, ◌≤◌, ◌<◌, ◌+◌, false, List, IsSome, Ok, OnErr, length};
+ghost use Rattle.std.specs.Prelude.{◌≡◌, ◌≤◌, ◌<◌, ◌+◌, ◌-◌, ◌^◌, [], ◌∷◌, false, IfOk, IsSome, decimal, length};
 ghost use Rattle.ug_kernel.specs.Tree.{Runs};
 ghost use Rattle.ug_audit.specs.Journal.{live_in, members};
 ghost use Rattle.ug_table.specs.Orders.{ordering};
 ghost use Rattle.ug_table.specs.State.{kept_of};
 ghost use Rattle.ug_audit.specs.declared.entry.Entry.TheVariants as entry;
-ghost use Rattle.ug_core.specs.Answering.{acting, answering, answer_of, asking, by_list, by_request, by_standing, IsThere, keeping, reply_to, replying};
-ghost use Rattle.ug_core.specs.DeviceRows.{device_rows};
-ghost use Rattle.ug_core.specs.RuleRows.{rule_rows};
+ghost use Rattle.ug_core.specs.Answering.{acting, answering, answer_of, changing, IsThere, keeping, reply_to, replying};
+ghost use Rattle.ug_core.specs.Changes.{CanChange};
+ghost use Rattle.ug_core.specs.RuleFile.{KeepsReadable};
 ghost use Rattle.ug_core.specs.Event.{daemon_of, NotesMore};
 ghost use Rattle.ug_table.specs.Standings.{numbered};
 
+use crate::changes::Change;
+use crate::choosing::Choice;
 use crate::daemon::{Daemon, Event};
-use crate::device_list::list_devices;
-use crate::privileges::denied;
+use itoa::Buffer;
 use rand_core::Rng;
 use std::alloc::Global;
-use ug_audit::{Auditor, Entry, Journal, Panel};
-use ug_kernel::{Probe, Sysfs};
-use ug_proto::{Reply, Request, RequestFault, parse_request};
+use ug_audit::{Auditor, Entry, Journal, Panel, RuleChange};
+use ug_kernel::Sysfs;
+use ug_proto::Reply;
 use ug_table::Settled;
-use ug_types::{List, NoMemory, Principal, Refusal, Target, Text};
-
-/// What an order comes to before anything is changed.
-#[derive(Drop)]
-pub enum Choice {
-    Refuse(Refusal),
-    /// A list's rows.
-    Tell(List<Text>),
-    /// The device of that number is there, with that value of `authorized`, and gets that verdict.
-    SetVerdict {
-        number: u64,
-        verdict: Target,
-        on: bool,
-    },
-}
+use ug_types::{After, List, NoMemory, Principal, Refusal, Rule, Target, Text};
 
 // The reply behind the writes. Where the device has left since, the order is done.
 fn reply_to(alloc: Global, settled: Settled) -> Reply
@@ -61,126 +48,17 @@ fn answer_of(reply: &Reply) -> Result<(), Refusal>
     }
 }
 
-fn tell(rows: Result<List<Text>, NoMemory>) -> Choice
-    ensures ok { (lines : List (List ℕ)) → rows ≡ Ok lines → result ≡ Choice.Tell lines }
-    ensures err { OnErr rows (result ≡ Choice.Refuse (Refusal.Memory false)) }
+// The id of a rule as the line of a reply.
+fn id_line(alloc: Global, id: u64) -> Result<List<Text>, NoMemory>
+    ensures { IfOk result (λ lines. lines ≡ decimal id ∷ []) }
 {
-    match rows {
-        Ok(rows) => Choice::Tell(rows),
-        Err(_) => Choice::Refuse(Refusal::Memory { stands: false }),
-    }
+    let mut digits = Buffer::new();
+    let mut lines = List::new(alloc);
+    lines.push(Text::of(alloc, digits.format(id).as_bytes())?)?;
+    Ok(lines)
 }
 
 impl<'z, R: Rng> Daemon<'z, R> {
-    // What the order comes to. Its device, if it has one, is probed, and nothing is written or noted.
-    #[tactic(auto, unfolding(crate::specs::Answering::asking))]
-    pub(crate) fn choose<Y: Sysfs>(
-        &self,
-        alloc: Global,
-        sysfs: &mut Y,
-        who: &Principal,
-        line: &[u8],
-    ) -> Choice
-        ensures runs { Runs Y.gives sysfs.old
-            (asking (daemon_of self.now).access (daemon_of self.now).sweep.standings
-            (daemon_of self.now).sweep.judge.rules who.now line.now) result sysfs.new }
-        ensures stands { IsThere (daemon_of self.now).sweep.standings result }
-    {
-        match parse_request(alloc, line) {
-            Ok(request) => self.choose_for(alloc, sysfs, who, &request),
-            Err(RequestFault::Bad(place)) => Choice::Refuse(Refusal::BadRequest { place }),
-            Err(RequestFault::Memory) => Choice::Refuse(Refusal::Memory { stands: false }),
-        }
-    }
-
-    fn choose_for<Y: Sysfs>(
-        &self,
-        alloc: Global,
-        sysfs: &mut Y,
-        who: &Principal,
-        request: &Request,
-    ) -> Choice
-        ensures runs { Runs Y.gives sysfs.old
-            (by_request (daemon_of self.now).access (daemon_of self.now).sweep.standings
-            (daemon_of self.now).sweep.judge.rules who.now (Ok request.now)) result sysfs.new }
-        ensures stands { IsThere (daemon_of self.now).sweep.standings result }
-    {
-        match request {
-            Request::ListDevices => {
-                self.choose_devices(alloc, sysfs, denied(&self.acl, who, request))
-            },
-            Request::ListRules => {
-                self.choose_rules(alloc, sysfs, denied(&self.acl, who, request))
-            },
-            Request::Device {
-                number,
-                target,
-                permanent: false,
-            } => match denied(&self.acl, who, request) {
-                Some(refusal) => Choice::Refuse(refusal),
-                None => self.choose_verdict(sysfs, *number, *target),
-            },
-            _ => Choice::Refuse(Refusal::BadRequest { place: 0 }),
-        }
-    }
-
-    // The list of devices, unless it is denied.
-    fn choose_devices<Y: Sysfs>(&self, alloc: Global, sysfs: &Y, denied: Option<Refusal>) -> Choice
-        ensures runs { Runs Y.gives sysfs.now
-            (by_list (device_rows (daemon_of self.now).sweep.standings) denied) result sysfs.now }
-        ensures stands { IsThere (daemon_of self.now).sweep.standings result }
-    {
-        if let Some(refusal) = denied {
-            return Choice::Refuse(refusal);
-        }
-        tell(list_devices(alloc, &self.table))
-    }
-
-    // The list of rules, unless it is denied.
-    fn choose_rules<Y: Sysfs>(&self, alloc: Global, sysfs: &Y, denied: Option<Refusal>) -> Choice
-        ensures runs { Runs Y.gives sysfs.now
-            (by_list (rule_rows (daemon_of self.now).sweep.judge.rules) denied) result sysfs.now }
-        ensures stands { IsThere (daemon_of self.now).sweep.standings result }
-    {
-        if let Some(refusal) = denied {
-            return Choice::Refuse(refusal);
-        }
-        tell(self.policy.rule_rows(alloc))
-    }
-
-    // The device of that number is probed.
-    fn choose_verdict<Y: Sysfs>(&self, sysfs: &mut Y, number: u64, verdict: Target) -> Choice
-        ensures runs { Runs Y.gives sysfs.old
-            (by_standing number verdict (numbered number (daemon_of self.now).sweep.standings))
-            result sysfs.new }
-        ensures stands { IsThere (daemon_of self.now).sweep.standings result }
-    {
-        match self.table.standing(number) {
-            None => Choice::Refuse(Refusal::NoDevice { number }),
-            Some(_) => self.probe_for(sysfs, number, verdict),
-        }
-    }
-
-    fn probe_for<Y: Sysfs>(&self, sysfs: &mut Y, number: u64, verdict: Target) -> Choice
-        requires { IsSome (numbered number (daemon_of self.now).sweep.standings) }
-        ensures runs { Runs Y.gives sysfs.old
-            (by_standing number verdict (numbered number (daemon_of self.now).sweep.standings))
-            result sysfs.new }
-        ensures stands { IsThere (daemon_of self.now).sweep.standings result }
-    {
-        match self.table.probe(sysfs, number) {
-            Probe::Alive(on) => Choice::SetVerdict {
-                number,
-                verdict,
-                on,
-            },
-            Probe::Gone => Choice::Refuse(Refusal::NoDevice { number }),
-            Probe::Failed => Choice::Refuse(Refusal::ProbeFault {
-                count: sysfs.faults(),
-            }),
-        }
-    }
-
     // The device of that number gets the verdict.
     fn set_verdict<Y: Sysfs>(
         &mut self,
@@ -217,6 +95,102 @@ impl<'z, R: Rng> Daemon<'z, R> {
             .order(alloc, sysfs, number, verdict, *who, on, &mut journal)
     }
 
+    // A temporary rule is put behind that place, and its id is told.
+    fn insert<Y: Sysfs>(
+        &mut self,
+        alloc: Global,
+        sysfs: &Y,
+        after: After,
+        rule: Rule,
+        temporary: bool,
+        panel: &mut Panel,
+    ) -> Reply
+        requires can { CanChange (Change.Insert after rule temporary) (daemon_of self.old).sweep.judge.rules }
+        requires readable { KeepsReadable (Change.Insert after rule temporary) }
+        requires id { (daemon_of self.old).sweep.judge.next < 2 ^ 64 - 1 }
+        requires spare { live_in panel.old < self.old.report.entries.spare }
+        ensures runs { Runs Y.gives sysfs.now
+            (changing (daemon_of self.old) (Change.Insert after rule temporary))
+            (replying result (daemon_of self.new)) sysfs.now }
+        ensures standings { self.new.table.standings ≡ self.old.table.standings }
+        ensures next { self.new.table.next ≡ self.old.table.next }
+        ensures event { self.new.next_event ≡ self.old.next_event }
+        ensures spare { self.old.report.entries.spare + live_in panel.new
+            ≤ self.new.report.entries.spare + 1 + live_in panel.old }
+        ensures number { self.new.report.event ≡ self.old.report.event }
+        ensures noted { NotesMore self.old.report.entries.entries self.new.report.entries.entries
+            (members (λ b. ⟦<dyn Auditor as Auditor>⟧ b.vtable) panel.old)
+            (members (λ b. ⟦<dyn Auditor as Auditor>⟧ b.vtable) panel.new) }
+    {
+        let id = self.policy.next_id();
+        let lines = match id_line(alloc, id) {
+            Ok(lines) => lines,
+            Err(_) => return Reply::Refused(Refusal::Memory { stands: false }),
+        };
+        match self.policy.reserve_rule() {
+            Ok(()) => {}
+            Err(_) => return Reply::Refused(Refusal::Memory { stands: false }),
+        }
+        self.policy.insert(after, rule, temporary);
+        self.note(
+            Entry::Rules {
+                change: RuleChange::Added,
+                id,
+            },
+            panel,
+        );
+        Reply::Lines(lines)
+    }
+
+    // Rules or a setting are changed.
+    fn change<Y: Sysfs>(
+        &mut self,
+        alloc: Global,
+        sysfs: &Y,
+        change: Change,
+        panel: &mut Panel,
+    ) -> Reply
+        requires can { CanChange change (daemon_of self.old).sweep.judge.rules }
+        requires readable { KeepsReadable change }
+        requires id { (daemon_of self.old).sweep.judge.next < 2 ^ 64 - 1 }
+        requires spare { live_in panel.old < self.old.report.entries.spare }
+        ensures runs { Runs Y.gives sysfs.now (changing (daemon_of self.old) change)
+            (replying result (daemon_of self.new)) sysfs.now }
+        ensures standings { self.new.table.standings ≡ self.old.table.standings }
+        ensures next { self.new.table.next ≡ self.old.table.next }
+        ensures event { self.new.next_event ≡ self.old.next_event }
+        ensures spare { self.old.report.entries.spare + live_in panel.new
+            ≤ self.new.report.entries.spare + 1 + live_in panel.old }
+        ensures number { self.new.report.event ≡ self.old.report.event }
+        ensures noted { NotesMore self.old.report.entries.entries self.new.report.entries.entries
+            (members (λ b. ⟦<dyn Auditor as Auditor>⟧ b.vtable) panel.old)
+            (members (λ b. ⟦<dyn Auditor as Auditor>⟧ b.vtable) panel.new) }
+    {
+        match change {
+            Change::Insert {
+                after,
+                rule,
+                temporary,
+            } => self.insert(alloc, sysfs, after, rule, temporary, panel),
+            Change::Remove { id } => {
+                self.policy.remove(id);
+                self.note(
+                    Entry::Rules {
+                        change: RuleChange::Removed,
+                        id,
+                    },
+                    panel,
+                );
+                Reply::Lines(List::new(alloc))
+            }
+            Change::Set(parameter) => {
+                self.policy.set(parameter);
+                self.note(Entry::Parameter(parameter), panel);
+                Reply::Lines(List::new(alloc))
+            }
+        }
+    }
+
     // What is answered to the order, once it is done.
     #[tactic(auto, unfolding(crate::specs::Answering::acting), using(ug_kernel::proofs::Runs::runs_then))]
     fn carry_out<Y: Sysfs>(
@@ -227,7 +201,8 @@ impl<'z, R: Rng> Daemon<'z, R> {
         choice: Choice,
         panel: &mut Panel,
     ) -> Reply
-        requires stands { IsThere (daemon_of self.old).sweep.standings choice }
+        requires stands { IsThere (daemon_of self.old) choice }
+        requires id { (daemon_of self.old).sweep.judge.next < 2 ^ 64 - 1 }
         requires spare { 7 + live_in panel.old ≤ self.old.report.entries.spare }
         ensures runs { Runs Y.gives sysfs.old (acting who.now (daemon_of self.old) choice)
             (replying result (daemon_of self.new)) sysfs.new }
@@ -244,6 +219,11 @@ impl<'z, R: Rng> Daemon<'z, R> {
         match choice {
             Choice::Refuse(refusal) => Reply::Refused(refusal),
             Choice::Tell(rows) => Reply::Lines(rows),
+            Choice::Change(change) => self.change(alloc, sysfs, change, panel),
+            Choice::Watch => {
+                self.report.watch = true;
+                Reply::Lines(List::new(alloc))
+            }
             Choice::SetVerdict {
                 number,
                 verdict,
@@ -279,7 +259,8 @@ impl<'z, R: Rng> Daemon<'z, R> {
         sysfs: &mut Y,
         panel: &mut Panel,
     )
-        requires { 7 + live_in panel.old ≤ self.old.report.entries.spare }
+        requires id { (daemon_of self.old).sweep.judge.next < 2 ^ 64 - 1 }
+        requires spare { 7 + live_in panel.old ≤ self.old.report.entries.spare }
         ensures runs { Runs Y.gives sysfs.old (answering (daemon_of self.old) event.now)
             (daemon_of self.new) sysfs.new }
         ensures len { length self.new.table.standings ≤ length self.old.table.standings }

@@ -1,10 +1,14 @@
 // Verdicts by the rules and the daemon's settings.
-ghost use Rattle.std.specs.Prelude.{◌≡◌, ◌-◌, ◌^◌, All, IfOk, Ok, nat_lt};
+ghost use Rattle.std.specs.Prelude.{◌≡◌, ◌<◌, ◌-◌, ◌^◌, All, IfOk, Ok, OnOk, nat_lt};
 ghost use Rattle.ug_policy.specs.Deciding.{find_decider};
 ghost use Rattle.ug_rule.specs.Files.{file_read};
 ghost use Rattle.ug_table.specs.Allowed.{allowed_records};
 ghost use Rattle.ug_core.specs.Policy.{Judging, asks, by_class, clock_of, context_at, judging_of, policy_answer, policy_later, rules_if, stream_if};
+ghost use Rattle.ug_core.specs.Changes.{CanChange, changed_by, parameter_at};
+ghost use Rattle.ug_core.specs.RulePlaces.{has_permanent, has_rule, if_few, if_place};
+ghost use Rattle.ug_core.specs.InForce.{or_else};
 ghost use Rattle.ug_core.specs.RuleRows.{rule_rows};
+ghost use Rattle.ug_core.specs.declared.changes.Change.TheVariants.{Insert, Remove, Set};
 ghost use Rattle.ug_core.specs.RuleFile.{ReadsBack, permanent_rules, permanent_text, rules_in};
 
 use crate::classes::{Class, Classes, cause_for, keep};
@@ -17,7 +21,10 @@ use ug_conf::Present;
 use ug_policy::RuleList;
 use ug_print::RulesTextFault;
 use ug_table::{Judge, Table};
-use ug_types::{Cause, DeviceRecord, Judged, List, Moment, NoMemory, Query, Target, Text};
+use ug_types::{
+    After, Cause, DeviceRecord, Judged, List, Moment, NoMemory, Parameter, ParameterName, Query,
+    Refusal, Rule, Target, Text,
+};
 
 /// The settings for classes of devices, the rules in order, the local time zone, when devices are judged, and the generator of random words.
 #[derive(Drop)]
@@ -93,6 +100,76 @@ impl<'z, R: Rng> Policy<'z, R> {
         ensures { result ≡ nat_lt (judging_of R.stream self.now).next (2 ^ 64 - 1) }
     {
         self.rules.next_id() < u64::MAX
+    }
+
+    /// The id that the next rule gets.
+    pub fn next_id(&self) -> u64
+        ensures { result ≡ (judging_of R.stream self.now).next }
+    {
+        self.rules.next_id()
+    }
+
+    /// Whether a rule has the id.
+    pub fn has_rule(&self, id: u64) -> bool
+        ensures { result ≡ has_rule id (judging_of R.stream self.now).rules }
+    {
+        self.rules.has_rule(id)
+    }
+
+    /// Whether a rule that isn't temporary has the id.
+    pub fn has_permanent(&self, id: u64) -> bool
+        ensures { result ≡ has_permanent id (judging_of R.stream self.now).rules }
+    {
+        self.rules.has_permanent(id)
+    }
+
+    /// Why no rule is put behind that place.
+    pub fn refuse_rule(&self, after: After) -> Option<Refusal>
+        ensures { result ≡ or_else (if_place after (judging_of R.stream self.now).rules)
+            (if_few (judging_of R.stream self.now).rules) }
+    {
+        self.rules.refuse_rule(after)
+    }
+
+    /// Makes room for one rule more. A refusal changes nothing.
+    pub fn reserve_rule(&mut self) -> Result<(), NoMemory>
+        ensures same { judging_of R.stream self.new ≡ judging_of R.stream self.old }
+        ensures ok { OnOk result (0 < self.new.rules.list.spare) }
+    {
+        self.rules.reserve()
+    }
+
+    /// Puts a rule, for which there is room, behind that place.
+    pub fn insert(&mut self, after: After, rule: Rule, temporary: bool)
+        requires can { CanChange (Insert after rule temporary) (judging_of R.stream self.old).rules }
+        requires readable { ReadsBack rule }
+        requires spare { 0 < self.old.rules.list.spare }
+        requires id { (judging_of R.stream self.old).next < 2 ^ 64 - 1 }
+        ensures { judging_of R.stream self.new
+            ≡ changed_by (Insert after rule temporary) (judging_of R.stream self.old) }
+    {
+        self.rules.insert(after, rule, temporary);
+    }
+
+    /// Takes out the rule of that id.
+    pub fn remove(&mut self, id: u64)
+        ensures { judging_of R.stream self.new ≡ changed_by (Remove id) (judging_of R.stream self.old) }
+    {
+        self.rules.remove(id);
+    }
+
+    /// The setting of that name.
+    pub fn parameter(&self, name: ParameterName) -> Parameter
+        ensures { result ≡ parameter_at name (judging_of R.stream self.now).classes }
+    {
+        self.classes.parameter(name)
+    }
+
+    /// Gives a setting that value.
+    pub fn set(&mut self, parameter: Parameter)
+        ensures { judging_of R.stream self.new ≡ changed_by (Set parameter) (judging_of R.stream self.old) }
+    {
+        self.classes.set(parameter);
     }
 
     /// The text of a rule file with the rules that aren't temporary, which reads as them again.

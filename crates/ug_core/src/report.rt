@@ -9,4 +9,6 @@ pub struct Report {
     pub entries: Entries,
     /// What is answered to the event's order, if it has one.
     pub reply: Option<Reply>,
+    /// Whether the event's order asked for notices, and was answered that it gets them.
+    pub watch: bool,
 }

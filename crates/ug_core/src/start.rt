@@ -63,6 +63,7 @@ impl<'z, R: Rng + Drop> Beside<'z, R> {
                 event: 0,
                 entries,
                 reply: None,
+                watch: false,
             },
         })
     }

@@ -78,6 +78,13 @@ impl RuleList {
         self.entries.get(i)
     }
 
+    /// All rules in order.
+    pub fn as_slice(&self) -> &[RuleEntry]
+        ensures { result.now ≡ self.now.entries }
+    {
+        self.entries.as_slice()
+    }
+
     /// Makes room for one rule more. A refusal changes nothing.
     pub fn reserve(&mut self) -> Result<(), NoMemory>
         ensures entries { self.new.entries ≡ self.old.entries }

@@ -44,6 +44,7 @@ entry_not (entry.Gone number name) more = refl
 entry_not (entry.Unsettled name why) more = by_first (codes "unsettled") (name ∷ fault_words why) more (λ rest. refl)
 entry_not (entry.UnsettledAll why) more = by_first (codes "unsettled") (codes "*" ∷ fault_words why) more (λ rest. refl)
 entry_not (entry.Rules made id) more = refl
+entry_not (entry.Parameter set) more = refl
 entry_not (entry.Reply (Ok done)) more = refl
 entry_not (entry.Reply (Err refusal)) more = refl
 entry_not (entry.Dropped member) more = refl

@@ -41,7 +41,7 @@ use Rattle.ug_play.proofs.Plays.{play_runs}
 use Rattle.ug_core.specs.Chain.{IsEvent, StaysOnDisk}
 use Rattle.ug_core.proofs.Kept.{file_kept, stays_there}
 use Rattle.ug_core.proofs.Plain.{SameRules, event_keeps_rules}
-use Rattle.ug_core.proofs.Verdicts.{rulings_later}
+use Rattle.ug_core.proofs.Verdicts.{steps_later}
 use Rattle.ug_core.proofs.Chained.{journal_append, is_run, chain_more, chain_moves}
 use Rattle.ug_console.specs.Fold.{Fault, BadLine, InputTooLong, Outcome, Writes, Refused, Stage, Going, Halted, is_within, stage_after, plays}
 use Rattle.ug_script.specs.declared.step.Plan.{Plan}
@@ -264,7 +264,7 @@ daemon_run access policy text number first file hs k p e only chain = record {
   file = file;
   holds = only;
   chain = chain;
-  run = is_run policy number first (Some file) (started_at number access policy) hs k p e (record { judge = refl; standings = refl; next = refl; listed = refl; entries = refl; pending = refl; event = refl; reply = refl }) chain;
+  run = is_run policy number first (Some file) (started_at number access policy) hs k p e (record { judge = refl; standings = refl; next = refl; listed = refl; entries = refl; pending = refl; event = refl; reply = refl; watch = refl }) chain;
 }
 
 -- one run more has ended
@@ -401,7 +401,7 @@ recorded first lines n text s w h =
       policy = policy;
       setup = given_setup n (steps_of lines) s.setup h.given;
       settings = λ whole e. ap (λ (ls : List (List ℕ)). settled (lines_read setting_line 1 (draft_of defaults []) ls)) e ∙ ap settled (given_setup n (steps_of lines) s.setup h.given).settings;
-      later = λ rs. rulings_later policy rs (policy_new s.setup h.given.listed);
+      later = λ steps can. steps_later policy steps (policy_new s.setup h.given.listed) can;
       runs = record {
         number = h.number;
         kernel = h.kernel;

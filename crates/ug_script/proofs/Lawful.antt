@@ -102,6 +102,7 @@ swept_from a m h =
       pending = refl;
       event = refl;
       reply = refl;
+      watch = refl;
     })
 
 -- an event from a kernel that is told

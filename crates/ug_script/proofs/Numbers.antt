@@ -151,20 +151,20 @@ fits_more h =
 abbrev pub FitsOf : ℕ → DaemonState → World → Type 0
 FitsOf n d w = Fits n d.event d.sweep.next d.sweep.judge.next w.faults
 
--- an order has five calls at most
-answer_fits : (n : ℕ) (event : Event) (d : DaemonState) (w : World) → FitsOf n d w → ((answered_from event d w).1.faults ≤ w.faults + 5) × ((answered_from event d w).0.event ≡ d.event) × ((answered_from event d w).0.sweep.next ≡ d.sweep.next) × ((answered_from event d w).0.sweep.judge.next ≡ d.sweep.judge.next)
+-- an order has five calls at most, and gives a rule one id
+answer_fits : (n : ℕ) (event : Event) (d : DaemonState) (w : World) → FitsOf n d w → ((answered_from event d w).1.faults ≤ w.faults + 5) × ((answered_from event d w).0.event ≡ d.event) × ((answered_from event d w).0.sweep.next ≡ d.sweep.next) × ((answered_from event d w).0.sweep.judge.next ≤ d.sweep.judge.next + 1)
 answer_fits n event d w f =
     let p = answering (ready event None d) event in
     let went : Went Gives (AnswersSo (ready event None d)) (begun w) (answered_from event d w).0 (answered_from event d w).1 = ways_run Gives (AnswersSo (ready event None d)) p (begun w) (answered_from event d w).0 (answered_from event d w).1 (answering_ways event (ready event None d)) (play_runs p (begun w)) in
     let faults = along_faults went.made (begun w) (answered_from event d w).1 went.along in
     let few = went.so.few in (
       omega (arith, faults, few),
-      ap (λ (x : DaemonState). x.event) went.so.beside,
-      ap (λ (x : DaemonState). x.sweep.next) went.so.beside,
-      ap (λ (x : DaemonState). x.sweep.judge.next) went.so.beside,
+      went.so.event,
+      went.so.next,
+      went.so.ids,
     )
 
-swept_fits : (n : ℕ) (a : DaemonState) (m : World) → n < 1048576 → Holds a.sweep.standings a.sweep.next m → a.event ≤ n + 1 → a.sweep.next ≤ 65536 * n + 1 → a.sweep.judge.next ≤ n + 1 → m.faults ≤ 1099511627776 * n + 5 → FitsOf (n + 1) (play (event.handling a) m).0 (play (event.handling a) m).1
+swept_fits : (n : ℕ) (a : DaemonState) (m : World) → n < 1048576 → Holds a.sweep.standings a.sweep.next m → a.event ≤ n + 1 → a.sweep.next ≤ 65536 * n + 1 → a.sweep.judge.next ≤ n + 2 → m.faults ≤ 1099511627776 * n + 5 → FitsOf (n + 1) (play (event.handling a) m).0 (play (event.handling a) m).1
 swept_fits n a m lt h old_event old_next old_id old_faults =
     let u : State Judging = a.sweep in
     let p = sweeping policy_answer policy_later u in

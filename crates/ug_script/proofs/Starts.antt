@@ -28,20 +28,21 @@ use Rattle.ug_core.specs.declared.start_fault.StartFault.TheVariants as fault
 use Rattle.ug_script.specs.Setup.{SetupState, access_of, after_reading, policy_of, rules_disk, started_at}
 use Rattle.ug_script.specs.Script.{HoldsRules, IsWantOfMemory, fits_file}
 
-abbrev made : List Standing → ℕ → Bool → Judging → List Entry → List Addition → Bool → ℕ → Option Reply → DaemonState
-made ss next listed judge es access pending number reply = record { sweep = record { standings = ss; next = next; listed = listed; judge = judge; entries = es }; access = access; pending = pending; event = number; reply = reply }
+abbrev made : List Standing → ℕ → Bool → Judging → List Entry → List Addition → Bool → ℕ → Option Reply → Bool → DaemonState
+made ss next listed judge es access pending number reply watch = record { sweep = record { standings = ss; next = next; listed = listed; judge = judge; entries = es }; access = access; pending = pending; event = number; reply = reply; watch = watch }
 
 started_is : (p : Judging) (access : List Addition) (number : ℕ) (d : DaemonState) → IsStarted p number d → d.access ≡ access → d ≡ started_at number access p
 started_is p access number d h given =
-    ap (λ (x : List Standing). made x d.sweep.next d.sweep.listed d.sweep.judge d.sweep.entries d.access d.pending d.event d.reply) h.standings
-    ∙ ap (λ (x : ℕ). made [] x d.sweep.listed d.sweep.judge d.sweep.entries d.access d.pending d.event d.reply) h.next
-    ∙ ap (λ (x : Bool). made [] 1 x d.sweep.judge d.sweep.entries d.access d.pending d.event d.reply) h.listed
-    ∙ ap (λ (x : Judging). made [] 1 false x d.sweep.entries d.access d.pending d.event d.reply) h.judge
-    ∙ ap (λ (x : List Entry). made [] 1 false p x d.access d.pending d.event d.reply) h.entries
-    ∙ ap (λ (x : List Addition). made [] 1 false p [] x d.pending d.event d.reply) given
-    ∙ ap (λ (x : Bool). made [] 1 false p [] access x d.event d.reply) h.pending
-    ∙ ap (λ (x : ℕ). made [] 1 false p [] access false x d.reply) h.event
-    ∙ ap (λ (x : Option Reply). made [] 1 false p [] access false number x) h.reply
+    ap (λ (x : List Standing). made x d.sweep.next d.sweep.listed d.sweep.judge d.sweep.entries d.access d.pending d.event d.reply d.watch) h.standings
+    ∙ ap (λ (x : ℕ). made [] x d.sweep.listed d.sweep.judge d.sweep.entries d.access d.pending d.event d.reply d.watch) h.next
+    ∙ ap (λ (x : Bool). made [] 1 x d.sweep.judge d.sweep.entries d.access d.pending d.event d.reply d.watch) h.listed
+    ∙ ap (λ (x : Judging). made [] 1 false x d.sweep.entries d.access d.pending d.event d.reply d.watch) h.judge
+    ∙ ap (λ (x : List Entry). made [] 1 false p x d.access d.pending d.event d.reply d.watch) h.entries
+    ∙ ap (λ (x : List Addition). made [] 1 false p [] x d.pending d.event d.reply d.watch) given
+    ∙ ap (λ (x : Bool). made [] 1 false p [] access x d.event d.reply d.watch) h.pending
+    ∙ ap (λ (x : ℕ). made [] 1 false p [] access false x d.reply d.watch) h.event
+    ∙ ap (λ (x : Option Reply). made [] 1 false p [] access false number x d.watch) h.reply
+    ∙ ap (λ (x : Bool). made [] 1 false p [] access false number None x) h.watch
 
 -- the rules of the rules' text are these
 same_rules : (rules others : List Rule) (read : Result (List Rule) TextFault) → read ≡ Ok rules → read ≡ Ok others → others ≡ rules

@@ -10,7 +10,7 @@ use Rattle.ug_conf.specs.Texts.{conf_read}
 use Rattle.ug_core.specs.Chain.{Happened, Chain, journal, IsRun, IsJudgedOnce}
 use Rattle.ug_core.specs.Event.{DaemonState, has_numbers}
 use Rattle.ug_core.specs.Policy.{Judging}
-use Rattle.ug_core.specs.Rulings.{Ruling, after_rulings, judgements_for, words_for}
+use Rattle.ug_core.specs.Rulings.{CanTake, PolicyStep, after_steps, changed_alone, judgements_for, words_for}
 use Rattle.ug_core.specs.Verdicts.{IsLater}
 use Rattle.ug_core.specs.declared.daemon.Event as events
 use Rattle.ug_lines.specs.Lines.{lines_of}
@@ -134,7 +134,7 @@ pub record AreDaemonRuns (access : List Addition) (policy : Judging) (text : Lis
 -- each device that is live at the end of that event was judged just once since the first kernel, and stands as judged
 pub record JudgesOnce (policy : Judging) (first : Kernel) (file : Disk) (hs : List Happened) (h : Happened) : Type 0 where
   pub run : IsRun policy first (Some file) (hs ++ h ∷ []) h.kernel_after h.disk_after h.after
-  pub each : (i : ℕ) (d : Device) → Live h.kernel_after.devices i d → IsJudgedOnce policy (hs ++ h ∷ []) run.rulings h.kernel_after h.after.sweep.standings i
+  pub each : (i : ℕ) (d : Device) → Live h.kernel_after.devices i d → IsJudgedOnce policy (hs ++ h ∷ []) run.steps h.kernel_after h.after.sweep.standings i
 
 -- the step schedules no move and lets no call fail
 abbrev pub is_quiet : Option Step → Bool
@@ -145,8 +145,8 @@ abbrev pub AreQuiet : List (Option Step) → Type 0
 AreQuiet [] = Unit {0}
 AreQuiet (step ∷ steps) = (is_quiet step ≡ true) × AreQuiet steps
 
--- Wherever lines have led: the setup lines gave access and a policy, of which rulings leave what has taken just their words, and whose histories
--- stand for just their judgements; and its settings are those of each text whose lines are those of the `conf` lines. The events of the
+-- Wherever lines have led: the setup lines gave access and a policy, of which rulings, with changes among them, leave what has taken just
+-- their words, and whose histories stand for just their judgements; and its settings are those of each text whose lines are those of the `conf` lines. The events of the
 -- lines are those of runs of the daemon, of which each began with these over a file with the canonical text of its rules; and what
 -- was written is the text of the entries of all. Where no move was scheduled and no call was to fail, nobody is named as unsettled, and
 -- after an event that comes next each live device was judged just once since the last start and stands as judged.
@@ -155,7 +155,7 @@ pub record Recorded (first : World) (lines : List (List ℕ)) (text : List ℕ) 
   pub policy : Judging
   pub setup : IsSetup (steps_of lines) access policy
   pub settings : (whole : List ℕ) → lines_of whole ≡ flat_map conf_asked (steps_of lines) → conf_read whole ≡ Ok setup.draft.settings
-  pub later : (rulings : List Ruling) → IsLater policy (words_for policy rulings) (judgements_for policy rulings) (after_rulings policy rulings)
+  pub later : (steps : List PolicyStep) → CanTake policy steps → IsLater (changed_alone policy steps) (words_for policy steps) (judgements_for policy steps) (after_steps policy steps)
   pub runs : AreDaemonRuns access policy (rules_text_of (flat_map rule_asked (steps_of lines))) first.kernel (runs_in first lines) w.kernel (disk_told (disk_in s)) (daemon_in s)
   pub written : text ≡ text_of_runs (runs_in first lines)
   pub nobody : AreQuiet (steps_of lines) → first.fails ≡ [] → NameNobody (journal_of (runs_in first lines))

@@ -130,7 +130,7 @@ rules_disk s = after_reading (world_at_first (rules_text_of s.rules))
 -- the daemon that judges by a policy, before its first event, which has that number. Users and groups may do what was added, and no save
 -- is pending.
 abbrev pub started_at : ℕ → List Addition → Judging → DaemonState
-started_at number access policy = record { sweep = record { standings = []; next = 1; listed = false; judge = policy; entries = [] }; access = access; pending = false; event = number; reply = None }
+started_at number access policy = record { sweep = record { standings = []; next = 1; listed = false; judge = policy; entries = [] }; access = access; pending = false; event = number; reply = None; watch = false }
 
 -- the first one of a script, whose events are numbered from 1
 abbrev pub started : SetupState → DaemonState

@@ -4,8 +4,8 @@ use Rattle.ug_kernel.specs.Tree.{Runs}
 use Rattle.ug_table.specs.declared.standing.Standing.{Standing}
 use Rattle.ug_table.proofs.Standings.{stands_at}
 use Rattle.ug_core.specs.Answering.{by_standing}
-use Rattle.ug_core.specs.declared.orders.Choice.{Choice}
-use Rattle.ug_core.specs.declared.orders.Choice.TheVariants as choice
+use Rattle.ug_core.specs.declared.choosing.Choice.{Choice}
+use Rattle.ug_core.specs.declared.choosing.Choice.TheVariants as choice
 use Rattle.ug_core.proofs.daemon.Daemon.probe_for.Goals as goal
 
 pub returns-in-Alive-clause-runs : goal.returns-in-Alive-clause-runs

@@ -26,6 +26,7 @@ returns-clause-law g c = λ l e.
           refl
           refl
           refl
+          refl
           refl,
     )
 
