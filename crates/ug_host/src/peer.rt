@@ -1,4 +1,4 @@
-// The daemon's end of a session.
+// A client that is connected.
 ghost use Rattle.std.specs.Prelude.{◌≡◌, ◌↔◌, ◌<◌, ◌≤◌, length, IfOk, IsErrAnd};
 ghost use Rattle.std.specs.IoError.{error_kind};
 ghost use Rattle.ug_links.specs.Steps.{FitsRead, FitsWrite};
@@ -11,6 +11,7 @@ use std::io::{self, ErrorKind, Write};
 use ug_links::{LinkRead, LinkWrote};
 use ug_types::{LinkId, Ready};
 
+/// A client's session, over the daemon's end of its stream.
 #[derive(Drop)]
 pub struct Peer {
     pub id: LinkId,
@@ -52,7 +53,7 @@ fn write_answer(written: io::Result<usize>, size: usize) -> LinkWrote
 }
 
 impl Peer {
-    /// A session over that stream, for which is waited.
+    /// A session over that stream, which waits tell from now on.
     pub fn new(id: LinkId, mut stream: UnixStream, registry: &Registry) -> io::Result<Peer>
         ensures { IfOk result (λ peer. peer.id ≡ id) }
     {

@@ -4,7 +4,7 @@ ghost use Rattle.ug_types.specs.Ends.{IsCounted, Rose};
 ghost use Rattle.ug_links.specs.Steps.{FitsRead, FitsWrite};
 ghost use Rattle.ug_host.specs.Untold.{untold};
 
-use crate::file::FileFault;
+use crate::file::{FileFault, join};
 use crate::listening::{listen_at, make_folder};
 use crate::peer::Peer;
 use crate::socket_waiter::SocketWaiter;
@@ -81,9 +81,7 @@ impl<R: Files + Net> SocketFolder<R> {
         let Ok(name) = str::from_utf8(text.bytes()) else {
             return Err(FileFault::Failed);
         };
-        let mut path = String::from_str(alloc, self.folder.as_str())?;
-        path.push('/')?;
-        path.push_str(name)?;
+        let mut path = join(alloc, self.folder.as_str(), &[name])?;
         path.push_str(".socket")?;
         Ok(path)
     }
