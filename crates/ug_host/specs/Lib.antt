@@ -3,3 +3,4 @@ pub mod Names
 pub mod Untold
 pub mod Zones
 pub mod RuleFiles
+pub mod Tokens

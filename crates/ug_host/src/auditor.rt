@@ -16,8 +16,8 @@ pub struct WriterAuditor<W> {
     faults: u64,
 }
 
-// Writes all of the bytes, in as many pieces as the writer takes.
-fn put_all<W: Write>(writer: &mut W, bytes: &[u8]) -> Put
+/// Writes all of the bytes, in as many pieces as the writer takes.
+pub fn put_all<W: Write>(writer: &mut W, bytes: &[u8]) -> Put
     ensures { Puts (W.contents writer.old) (W.contents writer.new) bytes.now result }
 {
     let mut at = 0;

@@ -74,8 +74,8 @@ pub fn word_of(name: &NodeName) -> Result<&str, FileFault> {
 /// How often a reading is made again that a signal interrupted.
 const TRIES: u32 = 1000;
 
-// Reads a piece. A file of sysfs whose device is busy answers EINTR where the program is stopped meanwhile and goes on.
-fn read_piece<F: Read>(file: &mut F, piece: &mut [u8]) -> io::Result<usize>
+/// Reads a piece. A file of sysfs whose device is busy answers EINTR where the program is stopped meanwhile and goes on.
+pub fn read_piece<F: Read>(file: &mut F, piece: &mut [u8]) -> io::Result<usize>
     ensures bound { IfOk result (λ count. count ≤ length piece.old) }
     ensures length { length piece.new ≡ length piece.old }
 {

@@ -6,7 +6,7 @@ use std::os::unix::fs::{MetadataExt, PermissionsExt, symlink};
 use std::test::Fail;
 use std::time::Instant;
 use ug_conf::{ConfFiles, FileRead, FolderRead};
-use ug_host::{ConfFolder, RuleFile, SecondWaiter, SystemClock};
+use ug_host::{ConfFolder, RuleFile, SecondWaiter, SocketWaiter, SystemClock};
 use ug_store::{DiskAnswer, Loaded, RuleDisk};
 use ug_types::{Clock, Ready, Waiter, Woken};
 
@@ -107,7 +107,7 @@ fn files_of_settings(rt: HostRuntime) -> Result<(), Fail> {
 }
 
 // How many milliseconds a wait takes, which is to end well.
-fn waits(rt: &HostRuntime, waiter: &mut SecondWaiter<HostRuntime>) -> Result<u128, Fail> {
+fn waits<W: Waiter>(rt: &HostRuntime, waiter: &mut W) -> Result<u128, Fail> {
     let mut ready = [Ready::Listener(0); 256];
     let start = Instant::now(rt)?;
     if waiter.wait(&mut ready) != Woken::Got(0) {
@@ -116,16 +116,24 @@ fn waits(rt: &HostRuntime, waiter: &mut SecondWaiter<HostRuntime>) -> Result<u12
     Ok(start.elapsed(rt)?.as_millis())
 }
 
+// Whether a change of the file ends a wait, which else takes its second.
+fn minds<W: Waiter>(rt: &HostRuntime, waiter: &mut W, path: &str) -> Result<bool, Fail> {
+    fs::write(rt, path, b"1\n")?;
+    let at_once = waits(rt, waiter)?;
+    let whole = waits(rt, waiter)?;
+    fs::write(rt, path, b"2\n")?;
+    Ok(at_once < 500 && whole >= 900 && waits(rt, waiter)? < 500)
+}
+
 #[test]
 fn an_announcement_ends_the_second(rt: HostRuntime) -> Result<(), Fail> {
     let folder = make_folder(&rt, "announced")?;
     let path = path_in(&rt, folder.as_str(), "uevent_seqnum")?;
-    fs::write(&rt, path.as_str(), b"1\n")?;
-    let mut waiter = SecondWaiter::new(rt, path_in(&rt, folder.as_str(), "uevent_seqnum")?);
-    assert!(rt; waits(&rt, &mut waiter)? < 500);
-    assert!(rt; waits(&rt, &mut waiter)? >= 900);
-    fs::write(&rt, path.as_str(), b"2\n")?;
-    assert!(rt; waits(&rt, &mut waiter)? < 500);
+    let mut second = SecondWaiter::new(rt, path_in(&rt, folder.as_str(), "uevent_seqnum")?);
+    assert!(rt; minds(&rt, &mut second, path.as_str())?);
+    let announced = path_in(&rt, folder.as_str(), "uevent_seqnum")?;
+    let mut sockets = SocketWaiter::new(rt, rt.alloc(), announced)?;
+    assert!(rt; minds(&rt, &mut sockets, path.as_str())?);
     fs::remove_dir_all(&rt, folder.as_str())?;
     Ok(())
 }

@@ -22,6 +22,8 @@ mod host_hubs;
 #[cfg(test)]
 mod host_journal;
 #[cfg(test)]
+mod host_sockets;
+#[cfg(test)]
 mod intent;
 #[cfg(test)]
 mod serve;

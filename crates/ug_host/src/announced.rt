@@ -1,0 +1,54 @@
+// Looks for what the kernel announces.
+use std::io::Read;
+use std::rt::Files;
+use std::{fs, str};
+
+/// What a look found: how many events the kernel has announced, where its file tells that.
+#[derive(Clone, Copy, Debug, PartialEq, Eq, Drop)]
+enum Look {
+    Announced(u64),
+    Missing,
+}
+
+/// A file in which the kernel counts the events that it announces, such as `/sys/kernel/uevent_seqnum` (sysfs-kernel-uevent_seqnum),
+/// and what the last look at it found.
+#[derive(Drop)]
+pub struct Announced<R> {
+    rt: R,
+    path: String,
+    last: Option<Look>,
+}
+
+impl<R: Files> Announced<R> {
+    /// Nothing was looked at yet. It takes no memory.
+    pub fn new(rt: R, path: String) -> Announced<R> {
+        Announced {
+            rt,
+            path,
+            last: None,
+        }
+    }
+
+    fn read(&self) -> Option<u64> {
+        let mut file = fs::open(&self.rt, self.path.as_str()).ok()?;
+        let mut piece = [0u8; 24];
+        let count = file.read(&mut piece).ok()?;
+        let word = str::from_utf8(&piece[..count]).ok()?;
+        word.trim().parse::<u64>().ok()
+    }
+
+    fn look(&self) -> Look {
+        match self.read() {
+            Some(count) => Look::Announced(count),
+            None => Look::Missing,
+        }
+    }
+
+    /// Looks again, and tells whether that found anything else than the last look. The first look does.
+    pub fn is_other(&mut self) -> bool {
+        let look = self.look();
+        let other = self.last != Some(look);
+        self.last = Some(look);
+        other
+    }
+}

@@ -1,0 +1,87 @@
+// Listening at a socket's file.
+use mio::net::{UnixListener, UnixStream};
+use std::fs::{self, DirBuilder};
+use std::io::{self, ErrorKind};
+use std::net::Net;
+use std::os::fd::{AsFd, AsRawFd};
+use std::os::unix::fs::{DirBuilderExt, FileTypeExt};
+use std::os::unix::net::{self, SocketAddr};
+use std::rt::Files;
+
+/// A socket's mode as it is made: nobody but its owner may connect.
+const SOCKET_MODE: u32 = 0o600;
+
+/// The mode of a folder that is made.
+const FOLDER_MODE: u32 = 0o700;
+
+/// So many connections may wait to be accepted.
+const WAITING: i32 = 128;
+
+/// What stands at a path.
+enum Place {
+    Free,
+    /// A file at which nobody listens.
+    Left,
+    /// A socket at which a living program listens.
+    Taken,
+}
+
+/// Makes a folder for sockets, if none is there.
+pub fn make_folder<R: Files>(rt: &R, folder: &str) -> io::Result<()> {
+    match DirBuilder::new().mode(FOLDER_MODE).create(rt, folder) {
+        Err(e) if e.kind() == ErrorKind::AlreadyExists => Ok(()),
+        made => made,
+    }
+}
+
+// Tries to connect. A listener whose queue is full lives too.
+fn look_at<R: Net>(rt: &R, path: &str) -> io::Result<Place> {
+    match UnixStream::connect(rt, path) {
+        Ok(_) => Ok(Place::Taken),
+        Err(e) => match e.kind() {
+            ErrorKind::NotFound => Ok(Place::Free),
+            ErrorKind::ConnectionRefused => Ok(Place::Left),
+            ErrorKind::WouldBlock => Ok(Place::Taken),
+            _ => Err(e),
+        },
+    }
+}
+
+// Removes a socket that a dead program left. Any other file stays.
+fn remove_left<R: Files>(rt: &R, path: &str) -> io::Result<()> {
+    if fs::symlink_metadata(rt, path)?.file_type().is_socket() {
+        fs::remove_file(rt, path)
+    } else {
+        Err(io::Error::from(ErrorKind::AlreadyExists))
+    }
+}
+
+// The error of the call that has just answered that status, if it failed.
+fn check(status: i32) -> io::Result<()> {
+    if status < 0 {
+        Err(io::Error::from_raw_os_error(os::errno()))
+    } else {
+        Ok(())
+    }
+}
+
+// The mode is the socket's before it has a name, so its file has that mode from the first.
+fn bind<R: Files + Net>(rt: &R, path: &str) -> io::Result<UnixListener> {
+    let socket = rt.unix_socket()?;
+    check(libc::fchmod(socket.as_raw_fd(), SOCKET_MODE))?;
+    rt.bind_unix(socket.as_fd(), &SocketAddr::from_pathname(path)?)?;
+    check(libc::net::listen(socket.as_raw_fd(), WAITING))?;
+    let listener = net::UnixListener::from(socket);
+    listener.set_nonblocking(true)?;
+    Ok(UnixListener::from_std(listener))
+}
+
+/// Listens at a path, at which nobody else listens.
+pub fn listen_at<R: Files + Net>(rt: &R, path: &str) -> io::Result<UnixListener> {
+    match look_at(rt, path)? {
+        Place::Free => {}
+        Place::Left => remove_left(rt, path)?,
+        Place::Taken => return Err(io::Error::from(ErrorKind::AddrInUse)),
+    }
+    bind(rt, path)
+}

@@ -1,0 +1,101 @@
+// A client's connection to the daemon on this machine.
+ghost use Rattle.std.specs.Prelude.{◌≡◌, ◌<◌, ◌≤◌, length, true, None};
+ghost use Rattle.ug_types.specs.Ends.{Fits, IsCounted, Rose};
+
+use crate::auditor::put_all;
+use crate::file::{FileFault, read_piece};
+use crate::plain::text_of;
+use std::alloc::Global;
+use std::net::Net;
+use std::os::unix::net::UnixStream;
+use ug_types::{Dialled, Link, Put, Taken};
+
+/// A Unix stream, whose calls wait for the daemon. What comes is told by the machine alone.
+#[derive(Drop)]
+pub struct SocketLink<R> {
+    rt: R,
+    stream: Option<UnixStream>,
+    faults: u64,
+}
+
+fn receive_from(stream: &mut UnixStream, into: &mut [u8]) -> Taken
+    requires { 0 < length into.old }
+    ensures { Fits (length into.old) result }
+{
+    match read_piece(stream, into) {
+        Ok(0) => Taken::End,
+        Ok(n) => Taken::Bytes(n),
+        Err(_) => Taken::Failed,
+    }
+}
+
+impl<R: Net> SocketLink<R> {
+    /// It isn't connected yet, and takes no memory.
+    pub fn new(rt: R) -> SocketLink<R>
+        ensures faults { result.faults ≡ 0 }
+    {
+        SocketLink {
+            rt,
+            stream: None,
+            faults: 0,
+        }
+    }
+
+    // A failure more, if it is one.
+    fn count(&mut self, failed: bool)
+        ensures counted { IsCounted self.old.faults self.new.faults }
+        ensures cause { failed ≡ true → Rose self.old.faults self.new.faults }
+    {
+        if failed {
+            self.faults = self.faults.saturating_add(1);
+        }
+    }
+
+    fn connect(&self, path: &[u8]) -> Result<UnixStream, FileFault> {
+        Ok(UnixStream::connect(&self.rt, text_of(path)?)?)
+    }
+}
+
+impl<R: Net> Link for SocketLink<R> {
+    ghost sent = { λ s. None };
+
+    ghost left = { λ s. None };
+
+    ghost faults = { λ s. s.faults };
+
+    fn dial(&mut self, _alloc: Global, path: &[u8]) -> Dialled {
+        self.stream = None;
+        let answer = match self.connect(path) {
+            Ok(stream) => {
+                self.stream = Some(stream);
+                Dialled::Ready
+            }
+            Err(FileFault::Memory) => Dialled::Memory,
+            Err(_) => Dialled::Failed,
+        };
+        self.count(answer == Dialled::Failed);
+        answer
+    }
+
+    fn send(&mut self, bytes: &[u8]) -> Put {
+        let put = match &mut self.stream {
+            Some(stream) => put_all(stream, bytes),
+            None => Put::Failed,
+        };
+        self.count(put == Put::Failed);
+        put
+    }
+
+    fn receive(&mut self, into: &mut [u8]) -> Taken {
+        let taken = match &mut self.stream {
+            Some(stream) => receive_from(stream, into),
+            None => Taken::Failed,
+        };
+        self.count(taken == Taken::Failed);
+        taken
+    }
+
+    fn faults(&self) -> u64 {
+        self.faults
+    }
+}

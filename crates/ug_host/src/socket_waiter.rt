@@ -1,0 +1,101 @@
+// A waiter for sockets, which looks for what the kernel announces too.
+ghost use Rattle.std.specs.Prelude.{◌≡◌, length, None};
+ghost use Rattle.ug_types.specs.Waits.{FitsWait};
+ghost use Rattle.ug_host.specs.Untold.{untold};
+
+use crate::announced::Announced;
+use crate::tokens::put_tokens;
+use crate::waiter::{LOOKS, PAUSE};
+use mio::{Events, Poll, Registry};
+use std::alloc::Global;
+use std::io;
+use std::net::Net;
+use std::rt::Files;
+use std::time::Duration;
+use ug_types::{Ready, Waiter, Woken};
+
+/// The most tokens of a wait.
+const TOKENS: usize = 256;
+
+/// Waits for a second at most. It ends as soon as something comes at a socket of the links that were made with it, or the kernel
+/// announces any event, which it looks for every 20 milliseconds as `SecondWaiter` does. The sockets that are ready are told either way.
+#[derive(Drop)]
+pub struct SocketWaiter<R> {
+    announced: Announced<R>,
+    poll: Poll,
+    events: Events,
+    faults: u64,
+}
+
+impl<R: Files + Net + Copy> SocketWaiter<R> {
+    /// The path is that of the file that counts the kernel's events.
+    pub fn new(rt: R, alloc: Global, path: String) -> io::Result<SocketWaiter<R>> {
+        Ok(SocketWaiter {
+            announced: Announced::new(rt, path),
+            poll: Poll::new(&rt)?,
+            events: Events::with_capacity(alloc, TOKENS)?,
+            faults: 0,
+        })
+    }
+
+    /// What it waits for. Whoever has it may add to that.
+    pub(crate) fn registry(&self) -> io::Result<Registry> {
+        self.poll.registry().try_clone()
+    }
+}
+
+impl<R: Files> SocketWaiter<R> {
+    // Waits for a socket for so many milliseconds.
+    fn wait_for(&mut self, millis: u64, into: &mut [Ready]) -> Woken
+        requires { length into.old ≡ 256 }
+        ensures length { length into.new ≡ 256 }
+        ensures size { FitsWait result }
+        ensures faults { self.new.faults ≡ self.old.faults }
+    {
+        let time = Duration::from_millis(millis);
+        match self.poll.poll(&mut self.events, Some(time)) {
+            Ok(()) => Woken::Got(put_tokens(&self.events, into)),
+            Err(_) => Woken::Failed,
+        }
+    }
+
+    fn wait_second(&mut self, into: &mut [Ready]) -> Woken
+        requires { length into.old ≡ 256 }
+        ensures size { FitsWait result }
+        ensures faults { self.new.faults ≡ self.old.faults }
+    {
+        for _ in 1..LOOKS {
+            if self.announced.is_other() {
+                return self.wait_for(0, into);
+            }
+            match self.wait_for(PAUSE, into) {
+                Woken::Got(0) => {}
+                woken => return woken,
+            }
+        }
+        let _other = self.announced.is_other();
+        self.wait_for(0, into)
+    }
+}
+
+impl<R: Files> Waiter for SocketWaiter<R> {
+    ghost gives = { λ s waited t. Unit {0} };
+
+    ghost told = { λ s. None };
+
+    ghost faults = { λ s. s.faults };
+
+    ghost tells = { λ s waited t after gives told. untold after told };
+
+    fn wait(&mut self, into: &mut [Ready]) -> Woken {
+        let woken = self.wait_second(into);
+        if woken == Woken::Failed {
+            self.faults = self.faults.saturating_add(1);
+        }
+        woken
+    }
+
+    fn faults(&self) -> u64 {
+        self.faults
+    }
+}
