@@ -1,16 +1,22 @@
 -- The places of the live devices.
-use Rattle.std.proofs.Common.{◌≡◌, ℕ, zero, suc, ◌<◌, ◌≤◌, Bool, true, false, nat_lt, List, [], ◌∷◌, ◌++◌, length, Option, Some, None, slice_get, ◌⊎◌, inl, inr, refl, sym, ap, ◌∙◌, subst, arith}
+use Rattle.std.proofs.Common.{◌≡◌, ℕ, zero, suc, ◌<◌, Bool, true, false, nat_lt, List, [], ◌∷◌, length, Option, Some, None, slice_get, ◌⊎◌, inl, inr, refl, sym, subst, arith}
 use Rattle.std.specs.Prelude.{if◌then◌else◌}
 use Rattle.std.proofs.lemmas.Bool.{ltb-true, ltb-false}
 use Rattle.std.proofs.lemmas.Option.{slice_get_within}
-use Rattle.std.specs.List.Sorted.{IsPermutation}
+use Rattle.std.specs.Cmp.{IsTotalOrder}
+use Rattle.std.specs.Ordering.{nat_cmp}
+use Rattle.std.proofs.lemmas.Cmp.{then_total, on_total, nat_cmp_total}
 use Rattle.std.proofs.lemmas.List.Sorted.{IsPermutation-sym}
+use Rattle.std.proofs.lemmas.Map.Lookups.{exact_pairs, exact_unsigned}
 use Rattle.ug_types.specs.Elements.{Has}
 use Rattle.ug_types.proofs.Elements.{has_left, has_right, has_cases}
+use Rattle.ug_types.specs.Names.{sweep_cmp}
+use Rattle.ug_types.specs.Sweep.{sweep_total, sweep_exact}
 use Rattle.ug_kernel.specs.Kernel.{Live}
 use Rattle.ug_kernel.specs.declared.device.Device.{Device}
-use Rattle.ug_generate.specs.Policies.{live_at, live_below, AreInOrder}
+use Rattle.ug_generate.specs.Policies.{live_at, live_below, place_cmp, places_of, AreInOrder}
 use Rattle.ug_generate.proofs.Members.{permuted}
+use Rattle.ug_generate.proofs.Sorting.{IsExact, sorting_moves, sorting_sorts, sorted_once}
 
 at_place : (ds : List Device) (i : ℕ) (d : Device) → Live ds i d → Has (live_at i (slice_get ds i)) (d.name, i)
 at_place ds i d live =
@@ -56,3 +62,17 @@ has_place ds places i d o live =
 pub place_is_live : (ds : List Device) (places : List (List ℕ × ℕ)) (p : List ℕ × ℕ) → AreInOrder ds places → Has places p → (d : Device) × Live ds p.1 d
 place_is_live ds places p o h =
     below_is_live ds (length ds) p (permuted places (live_below ds (length ds)) p (IsPermutation-sym (live_below ds (length ds)) places o.all) h)
+
+-- ---- their order is one
+
+place_total : IsTotalOrder place_cmp
+place_total = then_total (on_total (λ (p : List ℕ × ℕ). p.0) sweep_total) (on_total (λ (p : List ℕ × ℕ). p.1) nat_cmp_total)
+
+place_exact : IsExact place_cmp
+place_exact = record { total = place_total; exact = exact_pairs sweep_cmp nat_cmp sweep_exact exact_unsigned }
+
+pub one_order : (ds : List Device) (places : List (List ℕ × ℕ)) → AreInOrder ds places → places ≡ places_of ds
+one_order ds places o = sorted_once place_cmp place_exact (live_below ds (length ds)) places o.all o.order
+
+pub places_in_order : (ds : List Device) → AreInOrder ds (places_of ds)
+places_in_order ds = record { all = sorting_moves place_cmp (live_below ds (length ds)); order = sorting_sorts place_cmp place_total (live_below ds (length ds)) }

@@ -1,5 +1,5 @@
 -- The elements of lists that were joined, and of a list in another order.
-use Rattle.std.proofs.Common.{◌≡◌, List, [], ◌∷◌, ◌++◌, ◌⊎◌, inl, inr, refl, sym, subst}
+use Rattle.std.proofs.Common.{List, [], ◌∷◌, inl, inr, refl, sym, subst}
 use Rattle.std.specs.List.{flat_map, AllByRecursion}
 use Rattle.std.specs.List.Sorted.{IsPermutation}
 use Rattle.std.proofs.lemmas.List.Elements.{All-from_recursion, recursion_from_All}

@@ -1,5 +1,6 @@
 -- What a first policy does.
 use Rattle.std.proofs.Common.{◌≡◌, ℕ, Bool, true, false, List, [], ◌∷◌, Option, Some, None, slice_get, inl, inr, refl, sym, ap, ◌∙◌, subst}
+use Rattle.std.specs.Prelude.{◌↔◌}
 use Rattle.std.specs.List.{flat_map}
 use Rattle.std.specs.Option.{option_map}
 use Rattle.std.proofs.lemmas.Bool.{cond-true, cond-false}
@@ -17,9 +18,9 @@ use Rattle.ug_record.specs.Records.{judged_of}
 use Rattle.ug_match.specs.Queries.{query_matches}
 use Rattle.ug_print.specs.Generated.{generated_of}
 use Rattle.ug_print.proofs.Alike.{itself}
-use Rattle.ug_generate.specs.Policies.{judged_in, rules_for, rules_at, first_match, parent_files, Admits, IsMadeOf, IsPolicy}
+use Rattle.ug_generate.specs.Policies.{judged_in, rules_for, rules_at, first_match, parent_files, places_of, policy_rules, Admits, IsMadeOf, IsPolicy}
 use Rattle.ug_generate.proofs.Members.{has_flat, flat_has}
-use Rattle.ug_generate.proofs.LivePlaces.{has_place, place_is_live}
+use Rattle.ug_generate.proofs.LivePlaces.{has_place, place_is_live, one_order, places_in_order}
 
 allows : (device : DeviceRecord) (with_port : Bool) → (generated_of device Allow with_port).target ≡ Allow
 unfolding generated_of
@@ -28,6 +29,18 @@ allows device with_port = refl
 own : (device : DeviceRecord) (with_port : Bool) → query_matches (generated_of device Allow with_port).query device ≡ true
 unfolding generated_of
 own device with_port = itself device with_port
+
+-- ---- there is one such list of rules
+
+pub one_policy : (ds : List Device) (with_port : Bool) (rules : List Rule) → IsPolicy ds with_port rules → rules ≡ policy_rules ds with_port
+one_policy ds with_port rules p =
+    p.rules ∙ ap (λ (places : List (List ℕ × ℕ)). flat_map (λ (q : List ℕ × ℕ). rules_at ds with_port (slice_get ds q.1)) places) (one_order ds p.places p.order)
+
+pub is_policy : (ds : List Device) (with_port : Bool) → IsPolicy ds with_port (policy_rules ds with_port)
+is_policy ds with_port = record { places = places_of ds; order = places_in_order ds; rules = refl }
+
+pub only_policy : (ds : List Device) (with_port : Bool) (rules : List Rule) → (rules ≡ policy_rules ds with_port) ↔ IsPolicy ds with_port rules
+only_policy ds with_port rules = (λ e. subst (IsPolicy ds with_port) (sym e) (is_policy ds with_port), one_policy ds with_port rules)
 
 -- ---- where each rule comes from
 

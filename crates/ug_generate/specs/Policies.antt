@@ -3,7 +3,7 @@ use Rattle.std.specs.Prelude.{◌≡◌, ℕ, zero, suc, Bool, if◌then◌else�
 use Rattle.std.specs.List.{flat_map}
 use Rattle.std.specs.List.Sorted.{IsPermutation, IsSorted}
 use Rattle.std.specs.Option.{option_map}
-use Rattle.std.specs.Ordering.{nat_cmp, ordering_then}
+use Rattle.std.specs.Ordering.{is_gt, nat_cmp, ordering_then}
 use Rattle.std.specs.declared.cmp.Ordering.{Ordering}
 use Rattle.ug_types.specs.Names.{sweep_cmp}
 use Rattle.ug_types.specs.declared.record.Attrs.{Attrs}
@@ -35,6 +35,18 @@ live_below ds (suc n) = live_below ds n ++ live_at n (slice_get ds n)
 abbrev pub place_cmp : List ℕ × ℕ → List ℕ × ℕ → Ordering
 place_cmp a b = ordering_then (sweep_cmp a.0 b.0) (nat_cmp a.1 b.1)
 
+-- behind each that comes before it
+abbrev pub insert_by : {X : Type 0} → (X → X → Ordering) → X → List X → List X
+insert_by cmp x [] = x ∷ []
+insert_by cmp x (y ∷ ys) = if is_gt (cmp x y) then y ∷ insert_by cmp x ys else x ∷ y ∷ ys
+
+abbrev pub sorted_by : {X : Type 0} → (X → X → Ordering) → List X → List X
+sorted_by cmp [] = []
+sorted_by cmp (x ∷ xs) = insert_by cmp x (sorted_by cmp xs)
+
+abbrev pub places_of : List Device → List (List ℕ × ℕ)
+places_of ds = sorted_by place_cmp (live_below ds (length ds))
+
 -- these are the live devices, each once, in the order of a sweep
 pub record AreInOrder (ds : List Device) (places : List (List ℕ × ℕ)) : Type 0 where
   pub all : IsPermutation (live_below ds (length ds)) places
@@ -57,6 +69,10 @@ rules_for with_port (Malformed kind place) = []
 abbrev pub rules_at : List Device → Bool → Option Device → List Rule
 rules_at ds with_port None = []
 rules_at ds with_port (Some d) = rules_for with_port (judged_in ds d)
+
+-- the rules of the live devices in the order of a sweep
+abbrev pub policy_rules : List Device → Bool → List Rule
+policy_rules ds with_port = flat_map (λ p. rules_at ds with_port (slice_get ds p.1)) (places_of ds)
 
 -- a rule for each live device of good record, in the order of a sweep
 pub record IsPolicy (ds : List Device) (with_port : Bool) (made : List Rule) : Type 0 where

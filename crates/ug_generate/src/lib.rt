@@ -5,6 +5,8 @@ mod files;
 mod laws;
 mod places;
 mod policy;
+mod text;
 
 pub use laws::policy_law;
 pub use policy::generated_rules;
+pub use text::generated_text;

@@ -4,7 +4,7 @@ ghost use Rattle.ug_rule.specs.Files.{file_read};
 ghost use Rattle.ug_rule.specs.Grammar.{WellFormed};
 ghost use Rattle.ug_print.specs.Bytes.{RuleOfBytes};
 ghost use Rattle.ug_print.specs.RuleTexts.{rules_text_of};
-ghost use Rattle.ug_generate.specs.Policies.{IsPolicy, rules_at, rules_for};
+ghost use Rattle.ug_generate.specs.Policies.{IsPolicy, policy_rules, rules_at, rules_for};
 
 use crate::files::judged_in;
 use crate::places::places_in_order;
@@ -64,6 +64,7 @@ pub fn generated_rules(
     with_port: bool,
 ) -> Result<List<Rule>, NoMemory>
     ensures policy { IfOk result (λ rules. IsPolicy devices.now with_port rules) }
+    ensures rules { IfOk result (λ rules. rules ≡ policy_rules devices.now with_port) }
     ensures reads { IfOk result (λ rules. file_read (rules_text_of rules) ≡ Ok rules) }
 {
     let places = places_in_order(alloc, devices)?;
