@@ -33,3 +33,5 @@ mod store;
 mod sysfs;
 #[cfg(test)]
 mod table;
+#[cfg(test)]
+mod turns;
