@@ -55,6 +55,11 @@ abbrev pub AreSteps : List LinkStep → List LinkStep → Type 0
 AreSteps before [] = Unit {0}
 AreSteps before (step ∷ steps) = IsStep before step × AreSteps (before ++ step ∷ []) steps
 
+-- these calls with these answers, each from what the one before left
+abbrev pub Makes : {S : Type 0} → (S → LinkStep → S → Type 0) → S → List LinkStep → S → Type 0
+Makes gives s [] t = t ≡ s
+Makes {S} gives s (step ∷ steps) t = (u : S) × gives s step u × Makes gives u steps t
+
 -- what was told, and then these steps
 abbrev pub TellsSteps : Option (List LinkStep) → List LinkStep → List LinkStep → Type 0
 TellsSteps told steps after = (before : List LinkStep) × (told ≡ Some before) × (after ≡ before ++ steps) × AreSteps before steps

@@ -1,4 +1,7 @@
 pub mod Noted
+pub mod Notifying
+pub mod Ordering
 pub mod Running
+pub mod Said
 pub mod Served
 pub mod Refused

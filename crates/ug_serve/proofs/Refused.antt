@@ -30,8 +30,10 @@ use Rattle.ug_core.specs.declared.start_fault.StartFault.{StartFault}
 use Rattle.ug_core.specs.declared.start_fault.StartFault.TheVariants as fault
 use Rattle.ug_serve.specs.Opening.{refused_whole, refusal_of_rules, outset_of, SettingsIn, SettingsOf, no_access, OpensToNobody, with_cause, Opens, Unread, To_somebody, Unaimed, From_rules, start_status}
 use Rattle.ug_serve.specs.Refusals.{settings_read, settings_of_text, refusal_of_access, refusal_of_read, refusal_of_rules_text, first_refusal, refusal_behind, refusal_of_texts, IsStatusFor, IsStatusByTexts}
-use Rattle.ug_serve.specs.Serving.{Serves, Bad_words, No_room, Not_started, Served, turns_status}
-use Rattle.ug_serve.specs.Turns.{Turned, Objects, objects, Turns, ServesTurns}
+use Rattle.ug_links.specs.declared.step.LinkStep.{LinkStep}
+use Rattle.ug_serve.specs.Serving.{Objects, objects_of, first_world, Serves, Bad_words, No_room, Not_started, Served, turns_status}
+use Rattle.ug_serve.specs.Turns.{TurnEvent, Turned, turns_events, Core, TurnWorld, Turns, ServesTurns}
+use Rattle.ug_serve.proofs.Running.{AreHandled, turns_handled, cuts_turns}
 use Rattle.ug_serve.specs.declared.not_started.NotStarted.{NotStarted}
 use Rattle.ug_serve.specs.declared.not_started.NotStarted.TheVariants as why
 use Rattle.ug_serve.specs.declared.turn.TurnEnd.{TurnEnd}
@@ -174,8 +176,8 @@ status_for (Some c) why.Memory h = inr (inr (inl refl))
 status_for None why.DiskFailed h = λ e. omega (arith, e)
 status_for (Some c) why.DiskFailed h = inr (inr (inr (inl refl)))
 
-module _ {F Y D W C : Type 0} (reads : F → FileStep → F → Type 0) (begins : Y → Y → Type 0) (gives : Y → (call : Call) → Answer call → Y → Type 0) (told : Y → Option Kernel) (calls faults : Y → ℕ)
-    (keeps : D → (call : DiskCall) → DiskTold call → D → Type 0) (disk_told : D → Option Disk) (disk_faults : D → ℕ) (aimed : D → List ℕ → Type 0) (waits : W → Waited → W → Type 0) (clocks : C → Moment → C → Type 0)
+module _ {F Y D N W C : Type 0} (reads : F → FileStep → F → Type 0) (begins : Y → Y → Type 0) (gives : Y → (call : Call) → Answer call → Y → Type 0) (told : Y → Option Kernel) (calls faults : Y → ℕ)
+    (keeps : D → (call : DiskCall) → DiskTold call → D → Type 0) (disk_told : D → Option Disk) (disk_faults : D → ℕ) (aimed : D → List ℕ → Type 0) (links : N → LinkStep → N → Type 0) (waits : W → Waited → W → Type 0) (clocks : C → Moment → C → Type 0)
     (files_told : F → Option Tree) (files_tell : (s : F) (step : FileStep) (t : F) (tree : Tree) → reads s step t → files_told t ≡ Some tree → (files_told s ≡ Some tree) × Says tree step) where
   open_told : (users : List Named) (at : List ℕ) (g : F) (r : Result (Unit {0}) NotStarted) (h : F) (tree : Tree) → OpensToNobody reads users at g r h → files_told h ≡ Some tree
       → (files_told g ≡ Some tree) × Told (refusal_of_access users (names_at tree at)) r
@@ -217,25 +219,26 @@ module _ {F Y D W C : Type 0} (reads : F → FileStep → F → Type 0) (begins 
             (subst (λ (x : Option NotStarted). Told (first_refusal x (refusal_of_rules_text back.0.text)) (with_cause result)) (sym access.1) rules),
       )
 
-  turns_disk : (d : DaemonState) (s : Objects Y D W C) (turns : List Turned) (e : DaemonState) (t : Objects Y D W C) (n : Disk)
-      → Turns begins gives told calls faults keeps disk_told disk_faults waits clocks d s turns e t → disk_told t.disk ≡ Some n → (m : Disk) × (disk_told s.disk ≡ Some m)
-  turns_disk d s [] e t n h is = (n, ap (λ (x : Objects Y D W C). disk_told x.disk) (sym h.1) ∙ is)
-  turns_disk d s (turn ∷ turns) e t n h is =
-      let later = turns_disk turn.after h.0 turns e t n h.2 is in
+  handled_disk : (c : Core Y D) (xs : List TurnEvent) (d : Core Y D) (n : Disk) → AreHandled begins gives told calls faults keeps disk_told disk_faults c xs d → disk_told d.disk ≡ Some n → (m : Disk) × (disk_told c.disk ≡ Some m)
+  handled_disk c [] d n h is = (n, ap (λ (x : Core Y D). disk_told x.disk) (sym h) ∙ is)
+  handled_disk c (x ∷ xs) d n h is =
+      let later = handled_disk h.0 xs d n h.2 is in
       let now = h.1.handled.file later.0 later.1 in
       (now.0, now.1)
 
-  serves_disk : (k : ℕ) (d : DaemonState) (s : Objects Y D W C) (made : List Turned) (ended : TurnEnd) (e : DaemonState) (t : Objects Y D W C) (n : Disk)
-      → ServesTurns begins gives told calls faults keeps disk_told disk_faults waits clocks k d s made ended e t → disk_told t.disk ≡ Some n → (m : Disk) × (disk_told s.disk ≡ Some m)
-  serves_disk k d s made end.Done e t n h is = turns_disk d s made e t n h.1 is
-  serves_disk k d s made end.Numbers e t n h is = turns_disk d s made h.1 h.2 n h.3 (ap (λ (x : Objects Y D W C). disk_told x.disk) (sym h.4.same) ∙ is)
-  serves_disk k d s made end.WaitFailed e t n h is = turns_disk d s made h.1 h.2 n h.3 (ap disk_told (sym h.4.disk) ∙ is)
+  turns_disk : (s : TurnWorld Y D N W C) (turns : List Turned) (t : TurnWorld Y D N W C) (n : Disk) → Turns begins gives told calls faults keeps disk_told disk_faults links waits clocks s turns t → disk_told t.core.disk ≡ Some n → (m : Disk) × (disk_told s.core.disk ≡ Some m)
+  turns_disk s turns t n h is = handled_disk s.core (turns_events turns) t.core n (turns_handled begins gives told calls faults keeps disk_told disk_faults links waits clocks s turns t h) is
+
+  serves_disk : (k : ℕ) (s : TurnWorld Y D N W C) (made : List Turned) (ended : TurnEnd) (t : TurnWorld Y D N W C) (n : Disk) → ServesTurns begins gives told calls faults keeps disk_told disk_faults links waits clocks k s made ended t → disk_told t.core.disk ≡ Some n → (m : Disk) × (disk_told s.core.disk ≡ Some m)
+  serves_disk k s made end.Done t n h is = turns_disk s made t n h.2 is
+  serves_disk k s made end.Numbers t n h is = turns_disk s made t n (cuts_turns begins gives told calls faults keeps disk_told disk_faults links waits clocks k s made t h) is
+  serves_disk k s made end.WaitFailed t n h is = turns_disk s made h.0 n h.1.2 (ap (λ (x : TurnWorld Y D N W C). disk_told x.core.disk) (sym h.2.same) ∙ is)
 
   same_path : (p path : List ℕ) → Some p ≡ Some path → p ≡ path
   same_path p path e = cc
 
-  pub status_told : (turns : ℕ) (clock : ℕ → ℕ) (words : Stream) (f : F) (s : Objects Y D W C) (path : Option (List ℕ)) (journal : List Entry) (made : List Turned) (status : ℕ) (g : F) (t : Objects Y D W C)
-      → Serves reads begins gives told calls faults keeps disk_told disk_faults aimed waits clocks turns clock words f s path journal made status g t
+  pub status_told : (turns : ℕ) (clock : ℕ → ℕ) (words : Stream) (f : F) (s : Objects Y D N W C) (path : Option (List ℕ)) (journal : List Entry) (made : List Turned) (status : ℕ) (g : F) (t : Objects Y D N W C)
+      → Serves reads begins gives told calls faults keeps disk_told disk_faults aimed links waits clocks turns clock words f s path journal made status g t
       → IsStatusByTexts files_told disk_told path s.disk status g t.disk
   status_told turns clock words f s _ _ _ _ _ _ Bad_words = λ at tree n e is on. let no : ⊥ = cc in absurd no
   status_told turns clock words f s _ _ _ _ _ _ (No_room path) = λ at tree n e is on. (n, on, status_for (refusal_of_texts tree n.text at) why.Memory tt)
@@ -243,9 +246,9 @@ module _ {F Y D W C : Type 0} (reads : F → FileStep → F → Type 0) (begins 
       λ at tree n e is on.
       let told_so = opens_told path clock words f s.disk entries (Err cause) g d tree n opens is on in
       (told_so.0, told_so.1, subst (λ (x : List ℕ). IsStatusFor (refusal_of_texts tree told_so.0.text x) (start_status cause)) (same_path path at e) (status_for (refusal_of_texts tree told_so.0.text path) cause told_so.2))
-  status_told turns clock words f s _ _ _ _ _ _ (Served path entries first c g d ms made ended e t opens all notes serves) =
+  status_told turns clock words f s _ _ _ _ _ _ (Served path entries first c g d ms made ended w opens all notes serves) =
       λ at tree n p is on.
-      let back = serves_disk turns c (objects s.sysfs d s.waiter s.clock ms) made ended e t n serves on in
+      let back = serves_disk turns (first_world c d ms s) made ended w n serves on in
       let told_so = opens_told path clock words f s.disk entries (Ok c) g d tree back.0 opens is back.1 in
       let none = ap (refusal_of_texts tree told_so.0.text) (sym (same_path path at p)) ∙ told_so.2 in
       (told_so.0, told_so.1, subst (λ (x : Option NotStarted). IsStatusFor x (turns_status ended)) (sym none) (turns_not_three ended))

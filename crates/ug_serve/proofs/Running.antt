@@ -1,5 +1,6 @@
 -- What turns tell, and the run that they are.
-use Rattle.std.proofs.Common.{◌≡◌, ℕ, ◌+◌, List, [], ◌∷◌, ◌++◌, Option, Some, length, map, refl, sym, ◌∙◌, ap, subst, append_assoc, append-nil, length-append}
+use Rattle.std.proofs.Common.{◌≡◌, ℕ, ◌+◌, ◌<◌, Bool, true, false, List, [], ◌∷◌, ◌++◌, Option, Some, None, inl, inr, length, map, refl, sym, ◌∙◌, ap, subst, append_assoc, append-nil, length-append}
+use Rattle.std.specs.List.{flat_map}
 use Rattle.ug_types.specs.declared.verdict.Moment.{Moment}
 use Rattle.ug_types.specs.declared.waiter.Ready.{Ready}
 use Rattle.ug_types.specs.Told.{GrowsBy}
@@ -12,7 +13,6 @@ use Rattle.ug_table.specs.State.{State}
 use Rattle.ug_table.specs.Laws.{Stand}
 use Rattle.ug_table.specs.declared.standing.Standing.{Standing}
 use Rattle.ug_core.specs.declared.daemon.Event.{Event}
-use Rattle.ug_core.specs.declared.daemon.Event.TheVariants.{Sweep}
 use Rattle.ug_core.specs.Policy.{Judging}
 use Rattle.ug_core.specs.Event.{DaemonState, IsStarted, ready}
 use Rattle.ug_core.specs.Durable.{KeepsFile}
@@ -24,12 +24,18 @@ use Rattle.ug_store.specs.DiskCalls.{DiskCall, DiskTold}
 use Rattle.ug_types.specs.declared.saved.Saved.{Saved}
 use Rattle.ug_core.proofs.Chained.{is_run}
 use Rattle.ug_audit.specs.Panels.{Member}
-use Rattle.ug_serve.specs.Turns.{Turned, turns_entries, Objects, IsTurn, Turns, EndsTurn, ServesTurns}
-use Rattle.ug_serve.specs.declared.turn.TurnEnd.{TurnEnd}
-use Rattle.ug_serve.specs.declared.turn.TurnEnd.TheVariants as end
-use Rattle.ug_serve.specs.Telling.{turns_tokens, turns_moments, IsRunOfTurns, TurnsTell}
 use Rattle.ug_audit.specs.Noting.{NotesEntries, without_drops}
 use Rattle.ug_audit.proofs.Noting.{notes_on, drops_append}
+use Rattle.ug_links.specs.declared.step.LinkStep.{LinkStep}
+use Rattle.ug_links.specs.Steps.{TellsStep}
+use Rattle.ug_links.specs.Talk.{TellsSteps}
+use Rattle.ug_links.proofs.Told.{made_told}
+use Rattle.ug_links.proofs.Extending.{extends_nil, extends_more}
+use Rattle.ug_sessions.specs.States.{ServerState}
+use Rattle.ug_serve.specs.Turns.{TurnEvent, Turned, turns_events, events_entries, turns_entries, AreWhole, Core, CoreAndServer, with_server, TurnWorld, IsHandled, AreOrders, ServesOrders, Events, Sweeps, Sweeps_not, Serves, Serves_not, Sends, IsTurn, Turns, IsOutOfNumbers, FailsToWait, EndsTurn, FewerTurns, CutsTurns, ServesTurns}
+use Rattle.ug_serve.specs.declared.turn.TurnEnd.{TurnEnd}
+use Rattle.ug_serve.specs.declared.turn.TurnEnd.TheVariants as end
+use Rattle.ug_serve.specs.Telling.{turns_tokens, turns_moments, turns_calls, IsRunOfTurns, TurnsTell}
 
 grows_none : {A : Type 0} (told : Option (List A)) (after : List A) → told ≡ Some after → GrowsBy told [] after
 grows_none told after e = (after, e, sym (append-nil after))
@@ -46,113 +52,184 @@ rests o n is = (n, is, record { text = refl; fresh = refl; synced = refl; left =
 nothing_stands : (k : Kernel) → Stand k [] 1
 nothing_stands k = record { devices = λ s h. absurd h; numbers = λ s h. absurd h; names = tt; order = tt; distinct = tt; removed = λ s h e. absurd h }
 
-module _ {Y D W C : Type 0} (begins : Y → Y → Type 0) (gives : Y → (call : Call) → Answer call → Y → Type 0) (told : Y → Option Kernel) (calls faults : Y → ℕ) (keeps : D → (call : DiskCall) → DiskTold call → D → Type 0) (disk_told : D → Option Disk) (disk_faults : D → ℕ) (waits : W → Waited → W → Type 0) (clocks : C → Moment → C → Type 0) where
-  -- one turn more
+stands_after : (k : Kernel) (d : DaemonState) (m : Kernel) (e : DaemonState) → Handled k d m e → Stand m e.sweep.standings e.sweep.next
+stands_after k d m e h = subst (λ (v : State Judging). Stand m v.standings v.next) (sym h.entries) h.law.fair.stand
 
-  pub turns_more : (d : DaemonState) (s : Objects Y D W C) (turns : List Turned) (e : DaemonState) (t : Objects Y D W C) (turn : Turned) (u : Objects Y D W C)
-      → Turns begins gives told calls faults keeps disk_told disk_faults waits clocks d s turns e t → IsTurn begins gives told calls faults keeps disk_told disk_faults waits clocks e t turn u
-      → Turns begins gives told calls faults keeps disk_told disk_faults waits clocks d s (turns ++ turn ∷ []) turn.after u
-  turns_more d s [] e t turn u h k =
-      (u, subst (λ (x : DaemonState). IsTurn begins gives told calls faults keeps disk_told disk_faults waits clocks x s turn u) h.0 (subst (λ (x : Objects Y D W C). IsTurn begins gives told calls faults keeps disk_told disk_faults waits clocks e x turn u) h.1 k), (refl, refl))
-  turns_more d s (first ∷ turns) e t turn u h k = (h.0, h.1, turns_more first.after h.0 turns e t turn u h.2 k)
+stands_first : (policy : Judging) (first : ℕ) (d : DaemonState) (k : Kernel) → IsStarted policy first d → Stand k d.sweep.standings d.sweep.next
+stands_first policy first d k h = subst (λ (n : ℕ). Stand k d.sweep.standings n) (sym h.next) (subst (λ (ss : List Standing). Stand k ss 1) (sym h.standings) (nothing_stands k))
 
-  pub turns_one : (n : ℕ) (d : DaemonState) (s : Objects Y D W C) (e : DaemonState) (t : Objects Y D W C) (f : DaemonState) (u : Objects Y D W C)
-      → (made : List Turned) × (length made ≡ n) × Turns begins gives told calls faults keeps disk_told disk_faults waits clocks d s made e t
-      → EndsTurn begins gives told calls faults keeps disk_told disk_faults waits clocks e t end.Done f u
-      → (made : List Turned) × (length made ≡ n + 1) × Turns begins gives told calls faults keeps disk_told disk_faults waits clocks d s made f u
-  turns_one n d s e t f u so one = (
-    so.0 ++ one.0 ∷ [],
-    length-append so.0 (one.0 ∷ []) ∙ ap (λ (k : ℕ). k + 1) so.1,
-    subst (λ (x : DaemonState). Turns begins gives told calls faults keeps disk_told disk_faults waits clocks d s (so.0 ++ one.0 ∷ []) x u) (sym one.2) (turns_more d s so.0 e t one.0 u so.2 one.1),
-  )
+record IsChained (events : List TurnEvent) (k : Kernel) (o : Option Disk) (d : DaemonState) (l : Kernel) (p : Option Disk) (e : DaemonState) : Type 0 where
+  hs : List Happened
+  events_are : map (λ h. h.event) hs ≡ map (λ x. x.event) events
+  entries_are : journal hs ≡ without_drops (events_entries events)
+  chain : Chain k o d hs l p e
 
-  -- their entries were noted, one turn's after another's
+chained_more : (x : TurnEvent) (xs : List TurnEvent) (tried : Option Saved) (k : Kernel) (o : Option Disk) (d : DaemonState) (j : Kernel) (a : DaemonState) (m : Kernel) (n : Option Disk) (b : DaemonState) (l : Kernel) (p : Option Disk) (e : DaemonState)
+    → b.sweep.entries ≡ without_drops x.entries → AnswersEvent x.event k (ready x.event tried d) j a → Handled j a m b → KeepsFile (λ (y : Option Disk). y) o d n b → IsChained xs m n b l p e → IsChained (x ∷ xs) k o d l p e
+chained_more x xs tried k o d j a m n b l p e is answers handled file c = record {
+  hs = record { event = x.event; tried = tried; kernel = k; disk = o; before = d; kernel_answered = j; answered = a; kernel_after = m; disk_after = n; after = b } ∷ c.hs;
+  events_are = ap (λ (es : List Event). x.event ∷ es) c.events_are;
+  entries_are = ap (λ (es : List Entry). b.sweep.entries ++ es) c.entries_are ∙ (ap (λ (es : List Entry). es ++ without_drops (events_entries xs)) is ∙ sym (drops_append x.entries (events_entries xs)));
+  chain = (unmoving k, rests o, refl, record { answers = answers; handled = handled; file = file }, c.chain);
+}
 
-  pub turns_noted : (d : DaemonState) (s : Objects Y D W C) (turns : List Turned) (e : DaemonState) (t : Objects Y D W C) → Turns begins gives told calls faults keeps disk_told disk_faults waits clocks d s turns e t → NotesEntries (turns_entries turns) s.members t.members
-  turns_noted d s [] e t h = (refl, ap (λ (x : Objects Y D W C). x.members) h.1)
-  turns_noted d s (turn ∷ turns) e t h =
-      notes_on [] turn.entries (turns_entries turns) s.members h.0.members t.members [] [] h.1.noted (turns_noted turn.after h.0 turns e t h.2)
+pub flat-append : {A B : Type 0} (f : A → List B) (xs ys : List A) → flat_map f (xs ++ ys) ≡ flat_map f xs ++ flat_map f ys
+flat-append f [] ys = refl
+flat-append {A} {B} f (x ∷ xs) ys = ap (λ (l : List B). f x ++ l) (flat-append f xs ys) ∙ sym (append_assoc (f x) (flat_map f xs) (flat_map f ys))
 
-  pub serves_noted : (n : ℕ) (d : DaemonState) (s : Objects Y D W C) (made : List Turned) (ended : TurnEnd) (e : DaemonState) (t : Objects Y D W C) → ServesTurns begins gives told calls faults keeps disk_told disk_faults waits clocks n d s made ended e t → NotesEntries (turns_entries made) s.members t.members
-  serves_noted n d s made end.Done e t h = turns_noted d s made e t h.1
-  serves_noted n d s made end.Numbers e t h = subst (λ (x : Objects Y D W C). NotesEntries (turns_entries made) s.members x.members) (sym h.4.same) (turns_noted d s made h.1 h.2 h.3)
-  serves_noted n d s made end.WaitFailed e t h = subst (λ (x : List Member). NotesEntries (turns_entries made) s.members x) (sym h.4.members) (turns_noted d s made h.1 h.2 h.3)
+whole_one : (turns : List Turned) (turn : Turned) → AreWhole turns → turn.whole ≡ true → AreWhole (turns ++ turn ∷ [])
+whole_one [] turn h e = (e, tt)
+whole_one (first ∷ turns) turn h e = (h.0, whole_one turns turn h.1 e)
+
+module _ {Y D : Type 0} (begins : Y → Y → Type 0) (gives : Y → (call : Call) → Answer call → Y → Type 0) (told : Y → Option Kernel) (calls faults : Y → ℕ) (keeps : D → (call : DiskCall) → DiskTold call → D → Type 0) (disk_told : D → Option Disk) (disk_faults : D → ℕ) where
+  -- events one after another, whatever is put to sessions between them
+
+  abbrev pub AreHandled : Core Y D → List TurnEvent → Core Y D → Type 0
+  AreHandled c [] d = d ≡ c
+  AreHandled c (x ∷ xs) d = (m : Core Y D) × IsHandled begins gives told calls faults keeps disk_told disk_faults c x m × AreHandled m xs d
+
+  handled_both : (c : Core Y D) (xs ys : List TurnEvent) (m d : Core Y D) → AreHandled c xs m → AreHandled m ys d → AreHandled c (xs ++ ys) d
+  handled_both c [] ys m d h k = subst (λ (x : Core Y D). AreHandled x ys d) h k
+  handled_both c (x ∷ xs) ys m d h k = (h.0, h.1, handled_both h.0 xs ys m d h.2 k)
+
+  handled_behind : (c a : Core Y D) (x : TurnEvent) (m : Core Y D) → c ≡ a → IsHandled begins gives told calls faults keeps disk_told disk_faults c x m → IsHandled begins gives told calls faults keeps disk_told disk_faults a x m
+  handled_behind c a x m e h = subst (λ (y : Core Y D). IsHandled begins gives told calls faults keeps disk_told disk_faults y x m) e h
+
+  orders_handled : (moment : Moment) (a : CoreAndServer Y D) (xs : List TurnEvent) (b : CoreAndServer Y D) → AreOrders begins gives told calls faults keeps disk_told disk_faults moment a xs b → AreHandled a.core xs b.core
+  orders_handled moment a [] b h = ap (λ (s : CoreAndServer Y D). s.core) h
+  orders_handled moment a (x ∷ xs) b h = (h.0.core, handled_behind h.1.handed.core a.core x h.0.core h.1.hands.0 h.1.handled, orders_handled moment h.0 xs b h.2)
+
+  rest_handled : (moment : Moment) (a : CoreAndServer Y D) (xs : List TurnEvent) (whole : Bool) (b : CoreAndServer Y D) → ServesOrders begins gives told calls faults keeps disk_told disk_faults moment a xs whole b → AreHandled a.core xs b.core
+  rest_handled moment a xs true b h = subst (λ (c : Core Y D). AreHandled a.core xs c) (sym h.2.0) (orders_handled moment a xs h.0 h.1)
+  rest_handled moment a xs false b h = subst (λ (c : Core Y D). AreHandled a.core xs c) (sym h.3.0) (orders_handled moment a xs h.0 h.2)
+
+  events_handled : (moment : Moment) (a : CoreAndServer Y D) (xs : List TurnEvent) (whole : Bool) (b : CoreAndServer Y D) → Events begins gives told calls faults keeps disk_told disk_faults moment a xs whole b → AreHandled a.core xs b.core
+  events_handled moment a _ _ _ (Sweeps e b h) = (b.core, handled_behind h.passed.core a.core e b.core h.hands.0 h.handled, refl)
+  events_handled moment a _ _ _ (Sweeps_not b h r) = h.0
+  events_handled moment a _ _ _ (Serves e m es whole b h k) = (m.core, handled_behind h.handed.core a.core e m.core h.hands.0 h.handled, rest_handled moment m es whole b k)
+  events_handled moment a _ _ _ (Serves_not asked b h r) = h.0
+
+  events_noted : (c : Core Y D) (xs : List TurnEvent) (d : Core Y D) → AreHandled c xs d → NotesEntries (events_entries xs) c.members d.members
+  events_noted c [] d h = (refl, ap (λ (x : Core Y D). x.members) h)
+  events_noted c (x ∷ xs) d h = notes_on [] x.entries (events_entries xs) c.members h.0.members d.members [] [] h.1.noted (events_noted h.0 xs d h.2)
 
   -- the run of the daemon
 
-  record IsChained (turns : List Turned) (k : Kernel) (o : Option Disk) (d : DaemonState) (l : Kernel) (p : Option Disk) (e : DaemonState) : Type 0 where
-    hs : List Happened
-    events : map (λ h. h.event) hs ≡ map (λ turn. Sweep turn.moment) turns
-    entries : journal hs ≡ without_drops (turns_entries turns)
-    chain : Chain k o d hs l p e
-
-  chained_more : (turn : Turned) (turns : List Turned) (tried : Option Saved) (k : Kernel) (o : Option Disk) (d : DaemonState) (j : Kernel) (a : DaemonState) (m : Kernel) (n : Option Disk) (l : Kernel) (p : Option Disk) (e : DaemonState)
-      → turn.after.sweep.entries ≡ without_drops turn.entries → AnswersEvent (Sweep turn.moment) k (ready (Sweep turn.moment) tried d) j a → Handled j a m turn.after → KeepsFile (λ (x : Option Disk). x) o d n turn.after → IsChained turns m n turn.after l p e → IsChained (turn ∷ turns) k o d l p e
-  chained_more turn turns tried k o d j a m n l p e is b h f c = record {
-    hs = record { event = Sweep turn.moment; tried = tried; kernel = k; disk = o; before = d; kernel_answered = j; answered = a; kernel_after = m; disk_after = n; after = turn.after } ∷ c.hs;
-    events = ap (λ (es : List Event). Sweep turn.moment ∷ es) c.events;
-    entries = ap (λ (es : List Entry). turn.after.sweep.entries ++ es) c.entries ∙ (ap (λ (es : List Entry). es ++ without_drops (turns_entries turns)) is ∙ sym (drops_append turn.entries (turns_entries turns)));
-    chain = (unmoving k, rests o, refl, record { answers = b; handled = h; file = f }, c.chain);
-  }
-
-  stands_after : (k : Kernel) (d : DaemonState) (m : Kernel) (e : DaemonState) → Handled k d m e → Stand m e.sweep.standings e.sweep.next
-  stands_after k d m e h = subst (λ (v : State Judging). Stand m v.standings v.next) (sym h.entries) h.law.fair.stand
-
-  chained : (d : DaemonState) (s : Objects Y D W C) (turns : List Turned) (e : DaemonState) (t : Objects Y D W C) (l : Kernel) → Turns begins gives told calls faults keeps disk_told disk_faults waits clocks d s turns e t → told t.sysfs ≡ Some l
-      → (k : Kernel) × (told s.sysfs ≡ Some k) × (IsKernel k → Stand k d.sweep.standings d.sweep.next → IsChained turns k (disk_told s.disk) d l (disk_told t.disk) e)
-  chained d s [] e t l h is = (
+  chained : (c : Core Y D) (xs : List TurnEvent) (d : Core Y D) (l : Kernel) → AreHandled c xs d → told d.sysfs ≡ Some l
+      → (k : Kernel) × (told c.sysfs ≡ Some k) × (IsKernel k → Stand k c.daemon.sweep.standings c.daemon.sweep.next → IsChained xs k (disk_told c.disk) c.daemon l (disk_told d.disk) d.daemon)
+  chained c [] d l h is = (
     l,
-    ap (λ (x : Objects Y D W C). told x.sysfs) (sym h.1) ∙ is,
+    ap (λ (x : Core Y D). told x.sysfs) (sym h) ∙ is,
     λ sound stand.
-        record { hs = []; events = refl; entries = refl; chain = (unmoving l, subst (λ (x : Objects Y D W C). StaysOnDisk (disk_told s.disk) (disk_told x.disk)) (sym h.1) (rests (disk_told s.disk)), h.0) },
+        record { hs = []; events_are = refl; entries_are = refl; chain = (unmoving l, subst (λ (x : Core Y D). StaysOnDisk (disk_told c.disk) (disk_told x.disk)) (sym h) (rests (disk_told c.disk)), ap (λ (x : Core Y D). x.daemon) h) },
   )
-  chained d s (turn ∷ turns) e t l h is =
-      let later = chained turn.after h.0 turns e t l h.2 is in
+  chained c (x ∷ xs) d l h is =
+      let m : Core Y D = h.0 in
+      let later = chained m xs d l h.2 is in
       let swept = h.1.handled.law later.0 later.1 in
       let now = h.1.handled.answers_law swept.0 swept.1 in (
         now.0,
         now.1,
         λ sound stand.
-            let begins : DaemonState = ready (Sweep turn.moment) h.1.handled.tried d in
+            let begins_so : DaemonState = ready x.event h.1.handled.tried c.daemon in
             let answers = now.2 sound stand in
-            let behind = answered_stands (Sweep turn.moment) now.0 begins swept.0 h.1.handled.answered sound stand answers in
-            let handled : Handled swept.0 h.1.handled.answered later.0 turn.after = swept.2 behind.0 behind.1 in
-            chained_more turn turns h.1.handled.tried now.0 (disk_told s.disk) d swept.0 h.1.handled.answered later.0 (disk_told h.0.disk) l (disk_told t.disk) e h.1.entries answers handled h.1.handled.file
-            (later.2 handled.law.fair.sound (stands_after swept.0 h.1.handled.answered later.0 turn.after handled)),
+            let behind = answered_stands x.event now.0 begins_so swept.0 h.1.handled.answered sound stand answers in
+            let handled : Handled swept.0 h.1.handled.answered later.0 m.daemon = swept.2 behind.0 behind.1 in
+            chained_more x xs h.1.handled.tried now.0 (disk_told c.disk) c.daemon swept.0 h.1.handled.answered later.0 (disk_told m.disk) m.daemon l (disk_told d.disk) d.daemon h.1.entries answers handled h.1.handled.file
+            (later.2 handled.law.fair.sound (stands_after swept.0 h.1.handled.answered later.0 m.daemon handled)),
       )
 
-  stands_first : (policy : Judging) (first : ℕ) (d : DaemonState) (k : Kernel) → IsStarted policy first d → Stand k d.sweep.standings d.sweep.next
-  stands_first policy first d k h = subst (λ (n : ℕ). Stand k d.sweep.standings n) (sym h.next) (subst (λ (ss : List Standing). Stand k ss 1) (sym h.standings) (nothing_stands k))
+  module _ {N W C : Type 0} (links : N → LinkStep → N → Type 0) (waits : W → Waited → W → Type 0) (clocks : C → Moment → C → Type 0) where
+    abbrev Are : TurnWorld Y D N W C → List Turned → TurnWorld Y D N W C → Type 0
+    Are s turns t = Turns begins gives told calls faults keeps disk_told disk_faults links waits clocks s turns t
 
-  module _ (waiter_told : W → Option (List (List Ready))) (clock_told : C → Option (List Moment))
-      (waiter_tells : (s : W) (waited : Waited) (t : W) (after : List (List Ready)) → waits s waited t → waiter_told t ≡ Some after → GrowsBy (waiter_told s) (tokens_of waited) after)
-      (clock_tells : (s : C) (moment : Moment) (t : C) (after : List Moment) → clocks s moment t → clock_told t ≡ Some after → GrowsBy (clock_told s) (moment ∷ []) after) where
-    tokens_told : (d : DaemonState) (s : Objects Y D W C) (turns : List Turned) (e : DaemonState) (t : Objects Y D W C) (after : List (List Ready)) → Turns begins gives told calls faults keeps disk_told disk_faults waits clocks d s turns e t → waiter_told t.waiter ≡ Some after → GrowsBy (waiter_told s.waiter) (turns_tokens turns) after
-    tokens_told d s [] e t after h is = grows_none (waiter_told s.waiter) after (ap (λ (x : Objects Y D W C). waiter_told x.waiter) (sym h.1) ∙ is)
-    tokens_told d s (turn ∷ turns) e t after h is =
-        let later = tokens_told turn.after h.0 turns e t after h.2 is in
-        grows_both (waiter_told s.waiter) (waiter_told h.0.waiter) (turn.tokens ∷ []) (turns_tokens turns) later.0 after later.1 (waiter_tells s.waiter (Tokens turn.tokens) h.0.waiter later.0 h.1.waited later.1) later
+    -- one turn more
 
-    moments_told : (d : DaemonState) (s : Objects Y D W C) (turns : List Turned) (e : DaemonState) (t : Objects Y D W C) (after : List Moment) → Turns begins gives told calls faults keeps disk_told disk_faults waits clocks d s turns e t → clock_told t.clock ≡ Some after → GrowsBy (clock_told s.clock) (turns_moments turns) after
-    moments_told d s [] e t after h is = grows_none (clock_told s.clock) after (ap (λ (x : Objects Y D W C). clock_told x.clock) (sym h.1) ∙ is)
-    moments_told d s (turn ∷ turns) e t after h is =
-        let later = moments_told turn.after h.0 turns e t after h.2 is in
-        grows_both (clock_told s.clock) (clock_told h.0.clock) (turn.moment ∷ []) (turns_moments turns) later.0 after later.1 (clock_tells s.clock turn.moment h.0.clock later.0 h.1.moment later.1) later
+    pub turns_more : (s : TurnWorld Y D N W C) (turns : List Turned) (t : TurnWorld Y D N W C) (turn : Turned) (u : TurnWorld Y D N W C) → Are s turns t → IsTurn begins gives told calls faults keeps disk_told disk_faults links waits clocks t turn u → Are s (turns ++ turn ∷ []) u
+    turns_more s [] t turn u h k = (u, subst (λ (x : TurnWorld Y D N W C). IsTurn begins gives told calls faults keeps disk_told disk_faults links waits clocks x turn u) h k, refl)
+    turns_more s (first ∷ turns) t turn u h k = (h.0, h.1, turns_more h.0 turns t turn u h.2 k)
 
-    run_told : (policy : Judging) (first : ℕ) (d : DaemonState) (s : Objects Y D W C) (turns : List Turned) (e : DaemonState) (t : Objects Y D W C) (l : Kernel) → IsStarted policy first d → Turns begins gives told calls faults keeps disk_told disk_faults waits clocks d s turns e t → told t.sysfs ≡ Some l
-        → (k : Kernel) × (told s.sysfs ≡ Some k) × (IsKernel k → IsRunOfTurns policy turns k (disk_told s.disk) d l (disk_told t.disk) e)
-    run_told policy first d s turns e t l started h is =
-        let c = chained d s turns e t l h is in (
-          c.0,
-          c.1,
-          λ sound.
-              let chain = c.2 sound (stands_first policy first d c.0 started) in
-              record { happened = chain.hs; events = chain.events; entries = chain.entries; chain = chain.chain; run = is_run policy first c.0 (disk_told s.disk) d chain.hs l (disk_told t.disk) e started chain.chain },
-        )
+    pub turns_one : (n : ℕ) (s t u : TurnWorld Y D N W C) → (made : List Turned) × (length made ≡ n) × AreWhole made × Are s made t → EndsTurn begins gives told calls faults keeps disk_told disk_faults links waits clocks t end.Done u → (made : List Turned) × (length made ≡ n + 1) × AreWhole made × Are s made u
+    turns_one n s t u so one = (
+      so.0 ++ one.0 ∷ [],
+      length-append so.0 (one.0 ∷ []) ∙ ap (λ (k : ℕ). k + 1) so.1,
+      whole_one so.0 one.0 so.2 one.2,
+      turns_more s so.0 t one.0 u so.3 one.1,
+    )
 
-    pub turns_tell : TurnsTell begins gives told calls faults keeps disk_told disk_faults waits clocks waiter_told clock_told
-    turns_tell policy first d s turns e t started h = record {
-      run = λ l is. run_told policy first d s turns e t l started h is;
-      tokens = λ after is. tokens_told d s turns e t after h is;
-      moments = λ after is. moments_told d s turns e t after h is;
-    }
+    -- the next one is cut
+    pub turns_cut : (n : ℕ) (s t u : TurnWorld Y D N W C) (made : List Turned) → length made < n → AreWhole made → Are s made t → EndsTurn begins gives told calls faults keeps disk_told disk_faults links waits clocks t end.Numbers u → (all : List Turned) × CutsTurns begins gives told calls faults keeps disk_told disk_faults links waits clocks n s all u
+    turns_cut n s t u made few whole are (inl h) = (made, inl (t, (few, whole, are), h))
+    turns_cut n s t u made few whole are (inr h) = (made ++ h.0 ∷ [], inr (t, made, h.0, refl, (few, whole, are), h.1, h.2))
+
+    -- their events were handled, one turn's after another's
+
+    pub turns_handled : (s : TurnWorld Y D N W C) (turns : List Turned) (t : TurnWorld Y D N W C) → Are s turns t → AreHandled s.core (turns_events turns) t.core
+    turns_handled s [] t h = ap (λ (x : TurnWorld Y D N W C). x.core) h
+    turns_handled s (turn ∷ turns) t h =
+        handled_both s.core turn.events (turns_events turns) h.0.core t.core (events_handled turn.moment (with_server s.core h.1.came) turn.events turn.whole (with_server h.0.core h.1.served) h.1.events) (turns_handled h.0 turns t h.2)
+
+    pub turns_noted : (s : TurnWorld Y D N W C) (turns : List Turned) (t : TurnWorld Y D N W C) → Are s turns t → NotesEntries (turns_entries turns) s.core.members t.core.members
+    turns_noted s turns t h = events_noted s.core (turns_events turns) t.core (turns_handled s turns t h)
+
+    pub cuts_turns : (n : ℕ) (s : TurnWorld Y D N W C) (turns : List Turned) (t : TurnWorld Y D N W C) → CutsTurns begins gives told calls faults keeps disk_told disk_faults links waits clocks n s turns t → Are s turns t
+    cuts_turns n s turns t (inl h) = subst (λ (x : TurnWorld Y D N W C). Are s turns x) (sym h.2.same) h.1.2
+    cuts_turns n s turns t (inr h) = subst (λ (l : List Turned). Are s l t) (sym h.3) (turns_more s h.1 h.0 h.2 t h.4.2 h.5)
+
+    pub serves_noted : (n : ℕ) (s : TurnWorld Y D N W C) (made : List Turned) (ended : TurnEnd) (t : TurnWorld Y D N W C) → ServesTurns begins gives told calls faults keeps disk_told disk_faults links waits clocks n s made ended t → NotesEntries (turns_entries made) s.core.members t.core.members
+    serves_noted n s made end.Done t h = turns_noted s made t h.2
+    serves_noted n s made end.Numbers t h = turns_noted s made t (cuts_turns n s made t h)
+    serves_noted n s made end.WaitFailed t h = subst (λ (x : TurnWorld Y D N W C). NotesEntries (turns_entries made) s.core.members x.core.members) (sym h.2.same) (turns_noted s made h.0 h.1.2)
+
+    module _ (links_told : N → Option (List LinkStep)) (waiter_told : W → Option (List (List Ready))) (clock_told : C → Option (List Moment))
+        (links_tell : (s : N) (step : LinkStep) (t : N) (after : List LinkStep) → links s step t → links_told t ≡ Some after → TellsStep (links_told s) step after)
+        (waiter_tells : (s : W) (waited : Waited) (t : W) (after : List (List Ready)) → waits s waited t → waiter_told t ≡ Some after → GrowsBy (waiter_told s) (tokens_of waited) after)
+        (clock_tells : (s : C) (moment : Moment) (t : C) (after : List Moment) → clocks s moment t → clock_told t ≡ Some after → GrowsBy (clock_told s) (moment ∷ []) after) where
+      tokens_told : (s : TurnWorld Y D N W C) (turns : List Turned) (t : TurnWorld Y D N W C) (after : List (List Ready)) → Are s turns t → waiter_told t.waiter ≡ Some after → GrowsBy (waiter_told s.waiter) (turns_tokens turns) after
+      tokens_told s [] t after h is = grows_none (waiter_told s.waiter) after (ap (λ (x : TurnWorld Y D N W C). waiter_told x.waiter) (sym h) ∙ is)
+      tokens_told s (turn ∷ turns) t after h is =
+          let later = tokens_told h.0 turns t after h.2 is in
+          grows_both (waiter_told s.waiter) (waiter_told h.0.waiter) (turn.tokens ∷ []) (turns_tokens turns) later.0 after later.1 (waiter_tells s.waiter (Tokens turn.tokens) h.0.waiter later.0 h.1.waited later.1) later
+
+      moments_told : (s : TurnWorld Y D N W C) (turns : List Turned) (t : TurnWorld Y D N W C) (after : List Moment) → Are s turns t → clock_told t.clock ≡ Some after → GrowsBy (clock_told s.clock) (turns_moments turns) after
+      moments_told s [] t after h is = grows_none (clock_told s.clock) after (ap (λ (x : TurnWorld Y D N W C). clock_told x.clock) (sym h) ∙ is)
+      moments_told s (turn ∷ turns) t after h is =
+          let later = moments_told h.0 turns t after h.2 is in
+          grows_both (clock_told s.clock) (clock_told h.0.clock) (turn.moment ∷ []) (turns_moments turns) later.0 after later.1 (clock_tells s.clock turn.moment h.0.clock later.0 h.1.moment later.1) later
+
+      -- the writes of a turn, and what it did before
+
+      sends_told : (whole : Bool) (steps : List LinkStep) (v : ServerState) (l : N) (u : ServerState) (m : N) (after : List LinkStep) → Sends begins gives told calls faults keeps disk_told disk_faults links waits clocks whole steps v l u m → links_told m ≡ Some after → TellsSteps (links_told l) steps after
+      sends_told true steps v l u m after h is = made_told links links_told links_tell l steps m after h.2 is
+      sends_told false steps v l u m after h is =
+          subst (λ (x : List LinkStep). TellsSteps (links_told l) x after) (sym h.0) (extends_nil (links_told l) after (ap links_told (sym h.2) ∙ is))
+
+      turn_told : (s : TurnWorld Y D N W C) (turn : Turned) (t : TurnWorld Y D N W C) (after : List LinkStep) → IsTurn begins gives told calls faults keeps disk_told disk_faults links waits clocks s turn t → links_told t.links ≡ Some after → TellsSteps (links_told s.links) (turn.comes ++ turn.sends) after
+      turn_told s turn t after h is =
+          let sent = sends_told turn.whole turn.sends h.served h.came_links t.server t.links after h.sends is in
+          extends_more (links_told s.links) (links_told h.came_links) turn.comes turn.sends sent.0 after sent.1 (made_told links links_told links_tell s.links turn.comes h.came_links sent.0 h.comes_made sent.1) sent
+
+      calls_told : (s : TurnWorld Y D N W C) (turns : List Turned) (t : TurnWorld Y D N W C) (after : List LinkStep) → Are s turns t → links_told t.links ≡ Some after → TellsSteps (links_told s.links) (turns_calls turns) after
+      calls_told s [] t after h is = extends_nil (links_told s.links) after (ap (λ (x : TurnWorld Y D N W C). links_told x.links) (sym h) ∙ is)
+      calls_told s (turn ∷ turns) t after h is =
+          let later = calls_told h.0 turns t after h.2 is in
+          extends_more (links_told s.links) (links_told h.0.links) (turn.comes ++ turn.sends) (turns_calls turns) later.0 after later.1 (turn_told s turn h.0 later.0 h.1 later.1) later
+
+      run_told : (policy : Judging) (first : ℕ) (s : TurnWorld Y D N W C) (turns : List Turned) (t : TurnWorld Y D N W C) (l : Kernel) → IsStarted policy first s.core.daemon → Are s turns t → told t.core.sysfs ≡ Some l
+          → (k : Kernel) × (told s.core.sysfs ≡ Some k) × (IsKernel k → IsRunOfTurns policy turns k (disk_told s.core.disk) s.core.daemon l (disk_told t.core.disk) t.core.daemon)
+      run_told policy first s turns t l started h is =
+          let c = chained s.core (turns_events turns) t.core l (turns_handled s turns t h) is in (
+            c.0,
+            c.1,
+            λ sound.
+                let chain = c.2 sound (stands_first policy first s.core.daemon c.0 started) in
+                record { happened = chain.hs; events = chain.events_are; entries = chain.entries_are; chain = chain.chain; run = is_run policy first c.0 (disk_told s.core.disk) s.core.daemon chain.hs l (disk_told t.core.disk) t.core.daemon started chain.chain },
+          )
+
+      pub turns_tell : TurnsTell begins gives told calls faults keeps disk_told disk_faults links waits clocks links_told waiter_told clock_told
+      turns_tell policy first s turns t started h = record {
+        run = λ l is. run_told policy first s turns t l started h is;
+        calls = λ after is. calls_told s turns t after h is;
+        tokens = λ after is. tokens_told s turns t after h is;
+        moments = λ after is. moments_told s turns t after h is;
+      }

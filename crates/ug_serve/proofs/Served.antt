@@ -17,8 +17,10 @@ use Rattle.ug_audit.specs.Panels.{Member}
 use Rattle.ug_core.specs.Event.{DaemonState}
 use Rattle.ug_serve.specs.Lines.{AreNoted}
 use Rattle.ug_serve.specs.Opening.{start_status, refusal_entries, Opens}
-use Rattle.ug_serve.specs.Serving.{Serves, Bad_words, No_room, Not_started, Served, TellsRefusal, RunsDaemon, turns_status, daemon_statuses}
-use Rattle.ug_serve.specs.Turns.{Turned, turns_entries, Objects, objects, ServesTurns}
+use Rattle.ug_links.specs.declared.step.LinkStep.{LinkStep}
+use Rattle.ug_serve.specs.Serving.{Objects, objects, objects_of, idle_server, first_world, Serves, Bad_words, No_room, Not_started, Served, TellsRefusal, RunsDaemon, turns_status, daemon_statuses}
+use Rattle.ug_sessions.specs.States.{ServerState}
+use Rattle.ug_serve.specs.Turns.{Turned, turns_entries, core_of, TurnWorld, turn_world, ServesTurns}
 use Rattle.ug_serve.specs.declared.not_started.NotStarted.{NotStarted}
 use Rattle.ug_serve.specs.declared.not_started.NotStarted.TheVariants as why
 use Rattle.ug_serve.specs.declared.turn.TurnEnd.{TurnEnd}
@@ -79,34 +81,34 @@ completes n (inr (inr (inr (inr (inr (inr (inl e))))))) one three four nine elev
 completes n (inr (inr (inr (inr (inr (inr (inr (inl e)))))))) one three four nine eleven = absurd (eleven (sym e))
 completes n (inr (inr (inr (inr (inr (inr (inr (inr e)))))))) one three four nine eleven = absurd e
 
-module _ {F Y D W C : Type 0} (reads : F → FileStep → F → Type 0) (begins : Y → Y → Type 0) (gives : Y → (call : Call) → Answer call → Y → Type 0) (told : Y → Option Kernel) (calls faults : Y → ℕ)
-    (keeps : D → (call : DiskCall) → DiskTold call → D → Type 0) (disk_told : D → Option Disk) (disk_faults : D → ℕ) (aimed : D → List ℕ → Type 0) (waits : W → Waited → W → Type 0) (clocks : C → Moment → C → Type 0)
-    (turns : ℕ) (clock : ℕ → ℕ) (words : Stream) (f : F) (s : Objects Y D W C) where
-  abbrev Done : Option (List ℕ) → List Entry → List Turned → ℕ → F → Objects Y D W C → Type 0
-  Done path journal made status g t = Serves reads begins gives told calls faults keeps disk_told disk_faults aimed waits clocks turns clock words f s path journal made status g t
+module _ {F Y D N W C : Type 0} (reads : F → FileStep → F → Type 0) (begins : Y → Y → Type 0) (gives : Y → (call : Call) → Answer call → Y → Type 0) (told : Y → Option Kernel) (calls faults : Y → ℕ)
+    (keeps : D → (call : DiskCall) → DiskTold call → D → Type 0) (disk_told : D → Option Disk) (disk_faults : D → ℕ) (aimed : D → List ℕ → Type 0) (links : N → LinkStep → N → Type 0) (waits : W → Waited → W → Type 0) (clocks : C → Moment → C → Type 0)
+    (turns : ℕ) (clock : ℕ → ℕ) (words : Stream) (f : F) (s : Objects Y D N W C) where
+  abbrev Done : Option (List ℕ) → List Entry → List Turned → ℕ → F → Objects Y D N W C → Type 0
+  Done path journal made status g t = Serves reads begins gives told calls faults keeps disk_told disk_faults aimed links waits clocks turns clock words f s path journal made status g t
 
-  abbrev pub Runs : Option (List ℕ) → ℕ → F → Objects Y D W C → Type 0
-  Runs path status g t = RunsDaemon reads begins gives told calls faults keeps disk_told disk_faults aimed waits clocks turns clock words f s path status g t
+  abbrev pub Runs : Option (List ℕ) → ℕ → F → Objects Y D N W C → Type 0
+  Runs path status g t = RunsDaemon reads begins gives told calls faults keeps disk_told disk_faults aimed links waits clocks turns clock words f s path status g t
 
   -- ---- what follows from the cases
 
-  pub has_status : (path : Option (List ℕ)) (journal : List Entry) (made : List Turned) (status : ℕ) (g : F) (t : Objects Y D W C) → Done path journal made status g t → Has daemon_statuses status
+  pub has_status : (path : Option (List ℕ)) (journal : List Entry) (made : List Turned) (status : ℕ) (g : F) (t : Objects Y D N W C) → Done path journal made status g t → Has daemon_statuses status
   has_status _ _ _ _ _ _ Bad_words = inr (inl refl)
   has_status _ _ _ _ _ _ (No_room path) = is_start_status why.Memory
   has_status _ _ _ _ _ _ (Not_started path entries fault journal g d ms opens all notes) = is_start_status fault
-  has_status _ _ _ _ _ _ (Served path entries first c g d ms made ended e t opens all notes serves) = is_turns_status ended
+  has_status _ _ _ _ _ _ (Served path entries first c g d ms made ended w opens all notes serves) = is_turns_status ended
 
-  pub bad_words : (path : Option (List ℕ)) (journal : List Entry) (made : List Turned) (status : ℕ) (g : F) (t : Objects Y D W C) → Done path journal made status g t → (status ≡ 1) ↔ (path ≡ None)
+  pub bad_words : (path : Option (List ℕ)) (journal : List Entry) (made : List Turned) (status : ℕ) (g : F) (t : Objects Y D N W C) → Done path journal made status g t → (status ≡ 1) ↔ (path ≡ None)
   bad_words _ _ _ _ _ _ Bad_words = (λ e. refl, λ e. refl)
   bad_words _ _ _ _ _ _ (No_room path) = (λ e. absurd (start_not_one why.Memory e), λ e. let no : ⊥ = cc in absurd no)
   bad_words _ _ _ _ _ _ (Not_started path entries fault journal g d ms opens all notes) = (λ e. absurd (start_not_one fault e), λ e. let no : ⊥ = cc in absurd no)
-  bad_words _ _ _ _ _ _ (Served path entries first c g d ms made ended e t opens all notes serves) = (λ h. absurd (turns_not_one ended h), λ h. let no : ⊥ = cc in absurd no)
+  bad_words _ _ _ _ _ _ (Served path entries first c g d ms made ended w opens all notes serves) = (λ h. absurd (turns_not_one ended h), λ h. let no : ⊥ = cc in absurd no)
 
-  all_turns : (c : DaemonState) (u : Objects Y D W C) (made : List Turned) (ended : TurnEnd) (e : DaemonState) (t : Objects Y D W C)
-      → ServesTurns begins gives told calls faults keeps disk_told disk_faults waits clocks turns c u made ended e t → turns_status ended ≡ 0 → length made ≡ turns
-  all_turns c u made end.Done e t h z = h.0
-  all_turns c u made end.Numbers e t h z = absurd (omega (arith, z))
-  all_turns c u made end.WaitFailed e t h z = absurd (omega (arith, z))
+  all_turns : (u : TurnWorld Y D N W C) (made : List Turned) (ended : TurnEnd) (w : TurnWorld Y D N W C)
+      → ServesTurns begins gives told calls faults keeps disk_told disk_faults links waits clocks turns u made ended w → turns_status ended ≡ 0 → length made ≡ turns
+  all_turns u made end.Done w h z = h.0
+  all_turns u made end.Numbers w h z = absurd (omega (arith, z))
+  all_turns u made end.WaitFailed w h z = absurd (omega (arith, z))
 
   -- ---- the runs
 
@@ -133,10 +135,10 @@ module _ {F Y D W C : Type 0} (reads : F → FileStep → F → Type 0) (begins 
   pub runs_refused : (path : List ℕ) (entries : List Entry) (fault : NotStarted) (g : F) (d : D) (ms ns : List Member) (status : ℕ)
       → Opens reads keeps disk_told disk_faults aimed path clock words f s.disk entries (Err fault) g d
       → AreNoted entries s.members ms → AreNoted (refusal_entries fault) ms ns → status ≡ start_status fault
-      → Runs (Some path) status g (objects s.sysfs d s.waiter s.clock ns)
+      → Runs (Some path) status g (objects s.sysfs d s.links s.waiter s.clock ns)
   runs_refused path entries fault g d ms ns status opens noted refused is =
       let all = both_noted entries (refusal_entries fault) s.members ms ns noted refused in
-      subst (λ (n : ℕ). Runs (Some path) n g (objects s.sysfs d s.waiter s.clock ns)) (sym is) (record {
+      subst (λ (n : ℕ). Runs (Some path) n g (objects s.sysfs d s.links s.waiter s.clock ns)) (sym is) (record {
         journal = all.noted;
         made = [];
         serves = Not_started path entries fault all.noted g d ns opens all.all all.notes;
@@ -145,18 +147,21 @@ module _ {F Y D W C : Type 0} (reads : F → FileStep → F → Type 0) (begins 
         told_refused = tells_refusal fault entries all.noted all.all;
       })
 
-  pub runs_served : (path : List ℕ) (entries : List Entry) (c : DaemonState) (g : F) (d : D) (ms : List Member) (made : List Turned) (ended : TurnEnd) (e : DaemonState) (t : Objects Y D W C) (status : ℕ)
+  pub runs_served : (path : List ℕ) (entries : List Entry) (c : DaemonState) (g : F) (d : D) (ms : List Member) (made : List Turned) (ended : TurnEnd) (w : TurnWorld Y D N W C) (status : ℕ)
       → Opens reads keeps disk_told disk_faults aimed path clock words f s.disk entries (Ok c) g d
       → AreNoted entries s.members ms
-      → ServesTurns begins gives told calls faults keeps disk_told disk_faults waits clocks turns c (objects s.sysfs d s.waiter s.clock ms) made ended e t → status ≡ turns_status ended
-      → Runs (Some path) status g t
-  runs_served path entries c g d ms made ended e t status opens noted serves is =
-      let later = serves_noted begins gives told calls faults keeps disk_told disk_faults waits clocks turns c (objects s.sysfs d s.waiter s.clock ms) made ended e t serves in
-      subst (λ (n : ℕ). Runs (Some path) n g t) (sym is) (record {
+      → (v : ServerState) → v.principals ≡ [] → v.listeners ≡ [] → v.sessions ≡ []
+      → ServesTurns begins gives told calls faults keeps disk_told disk_faults links waits clocks turns (turn_world (core_of c s.sysfs d ms) v s.links s.waiter s.clock) made ended w → status ≡ turns_status ended
+      → Runs (Some path) status g (objects_of w)
+  runs_served path entries c g d ms made ended w status opens noted v none unmade empty over is =
+      let same : v ≡ idle_server = λ i. record { principals = none i; listeners = unmade i; sessions = empty i } in
+      let serves = subst (λ (x : ServerState). ServesTurns begins gives told calls faults keeps disk_told disk_faults links waits clocks turns (turn_world (core_of c s.sysfs d ms) x s.links s.waiter s.clock) made ended w) same over in
+      let later = serves_noted begins gives told calls faults keeps disk_told disk_faults links waits clocks turns (first_world c d ms s) made ended w serves in
+      subst (λ (n : ℕ). Runs (Some path) n g (objects_of w)) (sym is) (record {
         journal = noted.noted ++ turns_entries made;
         made = made;
-        serves = Served path entries noted.noted c g d ms made ended e t opens noted.all noted.notes serves;
-        noted = notes_on [] noted.noted (turns_entries made) s.members ms t.members [] [] noted.notes later;
-        all_made = all_turns c (objects s.sysfs d s.waiter s.clock ms) made ended e t serves;
+        serves = Served path entries noted.noted c g d ms made ended w opens noted.all noted.notes serves;
+        noted = notes_on [] noted.noted (turns_entries made) s.members ms w.core.members [] [] noted.notes later;
+        all_made = all_turns (first_world c d ms s) made ended w serves;
         told_refused = λ h. absurd (turns_not_three ended h);
       })

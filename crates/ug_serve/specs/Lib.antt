@@ -1,7 +1,9 @@
 pub mod Words
 pub mod Lines
+pub mod Responses
 pub mod Turns
 pub mod Telling
+pub mod Saying
 pub mod Opening
 pub mod Refusals
 pub mod Serving

@@ -16,11 +16,36 @@ use Rattle.ug_audit.specs.Noting.{NotesEntries, without_drops}
 use Rattle.ug_audit.specs.Panels.{Member}
 use Rattle.ug_core.specs.Event.{DaemonState}
 use Rattle.ug_serve.specs.Opening.{start_status, refusal_entries, Opens}
-use Rattle.ug_serve.specs.Turns.{Turned, turns_entries, Objects, objects, ServesTurns}
+use Rattle.ug_links.specs.declared.step.LinkStep.{LinkStep}
+use Rattle.ug_sessions.specs.States.{ServerState}
+use Rattle.ug_serve.specs.Turns.{Turned, turns_entries, core_of, TurnWorld, turn_world, ServesTurns}
 use Rattle.ug_serve.specs.declared.not_started.NotStarted.{NotStarted}
 use Rattle.ug_serve.specs.declared.not_started.NotStarted.TheVariants.{Memory}
 use Rattle.ug_serve.specs.declared.turn.TurnEnd.{TurnEnd}
 use Rattle.ug_serve.specs.declared.turn.TurnEnd.TheVariants as end
+
+-- the objects that the daemon is handed: the kernel's files, the disk, the links, the waiter, the clock, and the auditors
+pub record Objects (Y D N W C : Type 0) : Type 0 where
+  pub sysfs : Y
+  pub disk : D
+  pub links : N
+  pub waiter : W
+  pub clock : C
+  pub members : List Member
+
+abbrev pub objects : {Y D N W C : Type 0} → Y → D → N → W → C → List Member → Objects Y D N W C
+objects y d n w c ms = record { sysfs = y; disk = d; links = n; waiter = w; clock = c; members = ms }
+
+abbrev pub objects_of : {Y D N W C : Type 0} → TurnWorld Y D N W C → Objects Y D N W C
+objects_of w = objects w.core.sysfs w.core.disk w.links w.waiter w.clock w.core.members
+
+-- a server of listeners for nobody, and no session
+abbrev pub idle_server : ServerState
+idle_server = record { principals = []; listeners = []; sessions = [] }
+
+-- what the first turn is over: a daemon that started, and what its start left
+abbrev pub first_world : {Y D N W C : Type 0} → DaemonState → D → List Member → Objects Y D N W C → TurnWorld Y D N W C
+first_world d disk ms s = turn_world (core_of d s.sysfs disk ms) idle_server s.links s.waiter s.clock
 
 -- the exit status of a daemon that started
 abbrev pub turns_status : TurnEnd → ℕ
@@ -36,22 +61,22 @@ daemon_statuses = 0 ∷ 1 ∷ 3 ∷ 4 ∷ 6 ∷ 9 ∷ 10 ∷ 11 ∷ []
 -- and neither does a daemon that has no room for its first entries. A start that isn't done is noted, where a part isn't taken, and its
 -- cause is the status. Else turns are made, from what the start left. Beside what the start and the turns note, the journal has the
 -- `dropped` entries.
-pub data Serves {F Y D W C : Type 0} (reads : F → FileStep → F → Type 0) (begins : Y → Y → Type 0) (gives : Y → (call : Call) → Answer call → Y → Type 0) (told : Y → Option Kernel) (calls faults : Y → ℕ)
-    (keeps : D → (call : DiskCall) → DiskTold call → D → Type 0) (disk_told : D → Option Disk) (disk_faults : D → ℕ) (aimed : D → List ℕ → Type 0) (waits : W → Waited → W → Type 0) (clocks : C → Moment → C → Type 0)
-    (turns : ℕ) (clock : ℕ → ℕ) (words : Stream) (f : F) (s : Objects Y D W C) : Option (List ℕ) → List Entry → List Turned → ℕ → F → Objects Y D W C → Type 0 where
-  Bad_words : Serves reads begins gives told calls faults keeps disk_told disk_faults aimed waits clocks turns clock words f s None [] [] 1 f s
-  No_room : (path : List ℕ) → Serves reads begins gives told calls faults keeps disk_told disk_faults aimed waits clocks turns clock words f s (Some path) [] [] (start_status Memory) f s
+pub data Serves {F Y D N W C : Type 0} (reads : F → FileStep → F → Type 0) (begins : Y → Y → Type 0) (gives : Y → (call : Call) → Answer call → Y → Type 0) (told : Y → Option Kernel) (calls faults : Y → ℕ)
+    (keeps : D → (call : DiskCall) → DiskTold call → D → Type 0) (disk_told : D → Option Disk) (disk_faults : D → ℕ) (aimed : D → List ℕ → Type 0) (links : N → LinkStep → N → Type 0) (waits : W → Waited → W → Type 0) (clocks : C → Moment → C → Type 0)
+    (turns : ℕ) (clock : ℕ → ℕ) (words : Stream) (f : F) (s : Objects Y D N W C) : Option (List ℕ) → List Entry → List Turned → ℕ → F → Objects Y D N W C → Type 0 where
+  Bad_words : Serves reads begins gives told calls faults keeps disk_told disk_faults aimed links waits clocks turns clock words f s None [] [] 1 f s
+  No_room : (path : List ℕ) → Serves reads begins gives told calls faults keeps disk_told disk_faults aimed links waits clocks turns clock words f s (Some path) [] [] (start_status Memory) f s
   Not_started : (path : List ℕ) (entries : List Entry) (fault : NotStarted) (journal : List Entry) (g : F) (d : D) (ms : List Member)
       → Opens reads keeps disk_told disk_faults aimed path clock words f s.disk entries (Err fault) g d
       → without_drops journal ≡ entries ++ refusal_entries fault
       → NotesEntries journal s.members ms
-      → Serves reads begins gives told calls faults keeps disk_told disk_faults aimed waits clocks turns clock words f s (Some path) journal [] (start_status fault) g (objects s.sysfs d s.waiter s.clock ms)
-  Served : (path : List ℕ) (entries first : List Entry) (c : DaemonState) (g : F) (d : D) (ms : List Member) (made : List Turned) (ended : TurnEnd) (e : DaemonState) (t : Objects Y D W C)
+      → Serves reads begins gives told calls faults keeps disk_told disk_faults aimed links waits clocks turns clock words f s (Some path) journal [] (start_status fault) g (objects s.sysfs d s.links s.waiter s.clock ms)
+  Served : (path : List ℕ) (entries first : List Entry) (c : DaemonState) (g : F) (d : D) (ms : List Member) (made : List Turned) (ended : TurnEnd) (w : TurnWorld Y D N W C)
       → Opens reads keeps disk_told disk_faults aimed path clock words f s.disk entries (Ok c) g d
       → without_drops first ≡ entries
       → NotesEntries first s.members ms
-      → ServesTurns begins gives told calls faults keeps disk_told disk_faults waits clocks turns c (objects s.sysfs d s.waiter s.clock ms) made ended e t
-      → Serves reads begins gives told calls faults keeps disk_told disk_faults aimed waits clocks turns clock words f s (Some path) (first ++ turns_entries made) made (turns_status ended) g t
+      → ServesTurns begins gives told calls faults keeps disk_told disk_faults links waits clocks turns (first_world c d ms s) made ended w
+      → Serves reads begins gives told calls faults keeps disk_told disk_faults aimed links waits clocks turns clock words f s (Some path) (first ++ turns_entries made) made (turns_status ended) g (objects_of w)
 
 -- a part isn't taken, and the journal's last line tells which, with the first line that is bad
 abbrev pub TellsRefusal : List Entry → Type 0
@@ -61,12 +86,12 @@ TellsRefusal journal =
 
 -- A run of the daemon: its journal, which the auditors were given, and its turns. With status 0 all of them were made, and with 3 the
 -- journal tells what isn't taken.
-pub record RunsDaemon {F Y D W C : Type 0} (reads : F → FileStep → F → Type 0) (begins : Y → Y → Type 0) (gives : Y → (call : Call) → Answer call → Y → Type 0) (told : Y → Option Kernel) (calls faults : Y → ℕ)
-    (keeps : D → (call : DiskCall) → DiskTold call → D → Type 0) (disk_told : D → Option Disk) (disk_faults : D → ℕ) (aimed : D → List ℕ → Type 0) (waits : W → Waited → W → Type 0) (clocks : C → Moment → C → Type 0)
-    (turns : ℕ) (clock : ℕ → ℕ) (words : Stream) (f : F) (s : Objects Y D W C) (path : Option (List ℕ)) (status : ℕ) (g : F) (t : Objects Y D W C) : Type 0 where
+pub record RunsDaemon {F Y D N W C : Type 0} (reads : F → FileStep → F → Type 0) (begins : Y → Y → Type 0) (gives : Y → (call : Call) → Answer call → Y → Type 0) (told : Y → Option Kernel) (calls faults : Y → ℕ)
+    (keeps : D → (call : DiskCall) → DiskTold call → D → Type 0) (disk_told : D → Option Disk) (disk_faults : D → ℕ) (aimed : D → List ℕ → Type 0) (links : N → LinkStep → N → Type 0) (waits : W → Waited → W → Type 0) (clocks : C → Moment → C → Type 0)
+    (turns : ℕ) (clock : ℕ → ℕ) (words : Stream) (f : F) (s : Objects Y D N W C) (path : Option (List ℕ)) (status : ℕ) (g : F) (t : Objects Y D N W C) : Type 0 where
   pub journal : List Entry
   pub made : List Turned
-  pub serves : Serves reads begins gives told calls faults keeps disk_told disk_faults aimed waits clocks turns clock words f s path journal made status g t
+  pub serves : Serves reads begins gives told calls faults keeps disk_told disk_faults aimed links waits clocks turns clock words f s path journal made status g t
   pub noted : NotesEntries journal s.members t.members
   pub all_made : status ≡ 0 → length made ≡ turns
   pub told_refused : status ≡ 3 → TellsRefusal journal

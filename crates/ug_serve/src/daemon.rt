@@ -6,9 +6,9 @@ ghost use Rattle.ug_audit.specs.Journal.{members};
 ghost use Rattle.ug_core.specs.Policy.{clock_of};
 ghost use Rattle.ug_serve.specs.Opening.{words_of_seed};
 ghost use Rattle.ug_serve.specs.Refusals.{IsStatusByTexts};
-ghost use Rattle.ug_serve.specs.Serving.{RunsDaemon, daemon_statuses, turns_status};
+ghost use Rattle.ug_serve.specs.Saying.{TurnsServe};
+ghost use Rattle.ug_serve.specs.Serving.{RunsDaemon, daemon_statuses, objects, turns_status};
 ghost use Rattle.ug_serve.specs.Telling.{TurnsTell};
-ghost use Rattle.ug_serve.specs.Turns.{objects};
 ghost use Rattle.ug_serve.specs.Words.{conf_path};
 
 use crate::not_started::NotStarted;
@@ -21,8 +21,10 @@ use std::alloc::Global;
 use ug_audit::{Auditor, Entries, Panel};
 use ug_conf::ConfFiles;
 use ug_kernel::Sysfs;
+use ug_links::Links;
+use ug_sessions::Server;
 use ug_store::RuleDisk;
-use ug_types::{Clock, Waiter};
+use ug_types::{Clock, List, Waiter};
 
 fn status_of(end: TurnEnd) -> u8
     ensures { result ≡ turns_status end }
@@ -34,8 +36,17 @@ fn status_of(end: TurnEnd) -> u8
     }
 }
 
+/// A server without listeners. No session is accepted yet.
+fn idle_server(alloc: Global) -> Server
+    ensures principals { result.principals ≡ [] }
+    ensures listeners { result.listeners ≡ [] }
+    ensures sessions { result.sessions ≡ [] }
+{
+    Server::new(alloc, List::new(alloc))
+}
+
 /// The daemon with the settings at that path, and with room for an entry of its start.
-fn serve_from<Y: Sysfs, D: RuleDisk, F: ConfFiles, W: Waiter, C: Clock>(
+fn serve_from<Y: Sysfs, D: RuleDisk, F: ConfFiles, N: Links, W: Waiter, C: Clock>(
     alloc: Global,
     path: &[u8],
     seed: [u8; 32],
@@ -43,6 +54,7 @@ fn serve_from<Y: Sysfs, D: RuleDisk, F: ConfFiles, W: Waiter, C: Clock>(
     sysfs: &mut Y,
     disk: &mut D,
     files: &mut F,
+    links: &mut N,
     waiter: &mut W,
     clock: &mut C,
     panel: &mut Panel,
@@ -51,27 +63,33 @@ fn serve_from<Y: Sysfs, D: RuleDisk, F: ConfFiles, W: Waiter, C: Clock>(
 ) -> u8
     requires { 65 ≤ entries.old.room }
     ensures runs { RunsDaemon F.gives Y.begins Y.gives Y.told Y.calls Y.faults
-        D.keeps D.told D.faults D.aimed W.gives C.gives turns (clock_of zone.entry) (words_of_seed seed)
-        files.old (objects sysfs.old disk.old waiter.old clock.old
+        D.keeps D.told D.faults D.aimed N.gives W.gives C.gives turns (clock_of zone.entry)
+        (words_of_seed seed)
+        files.old (objects sysfs.old disk.old links.old waiter.old clock.old
         (members (λ b. ⟦<dyn Auditor as Auditor>⟧ b.vtable) panel.old))
         (Some path.now) result
-        files.new (objects sysfs.new disk.new waiter.new clock.new
+        files.new (objects sysfs.new disk.new links.new waiter.new clock.new
         (members (λ b. ⟦<dyn Auditor as Auditor>⟧ b.vtable) panel.new)) }
     ensures files_failed { result ≡ 4 → Rose (F.faults files.old) (F.faults files.new) }
     ensures disk_failed { result ≡ 9 → Rose (D.faults disk.old) (D.faults disk.new) }
     ensures wait_failed { result ≡ 11 → Rose (W.faults waiter.old) (W.faults waiter.new) }
 {
     match start(alloc, path, seed, zone, disk, files, panel, entries) {
-        Ok(mut daemon) => status_of(serve_turns(
-            alloc,
-            turns,
-            &mut daemon,
-            sysfs,
-            disk,
-            waiter,
-            clock,
-            panel,
-        )),
+        Ok(mut daemon) => {
+            let mut server = idle_server(alloc);
+            status_of(serve_turns(
+                alloc,
+                turns,
+                &mut daemon,
+                &mut server,
+                sysfs,
+                disk,
+                links,
+                waiter,
+                clock,
+                panel,
+            ))
+        }
         Err(why) => {
             note_refusal(panel, entries, why);
             why.status()
@@ -80,7 +98,7 @@ fn serve_from<Y: Sysfs, D: RuleDisk, F: ConfFiles, W: Waiter, C: Clock>(
 }
 
 /// The daemon with the settings at that path.
-fn serve<Y: Sysfs, D: RuleDisk, F: ConfFiles, W: Waiter, C: Clock>(
+fn serve<Y: Sysfs, D: RuleDisk, F: ConfFiles, N: Links, W: Waiter, C: Clock>(
     alloc: Global,
     path: &[u8],
     seed: [u8; 32],
@@ -88,17 +106,19 @@ fn serve<Y: Sysfs, D: RuleDisk, F: ConfFiles, W: Waiter, C: Clock>(
     sysfs: &mut Y,
     disk: &mut D,
     files: &mut F,
+    links: &mut N,
     waiter: &mut W,
     clock: &mut C,
     panel: &mut Panel,
     turns: u64,
 ) -> u8
     ensures runs { RunsDaemon F.gives Y.begins Y.gives Y.told Y.calls Y.faults
-        D.keeps D.told D.faults D.aimed W.gives C.gives turns (clock_of zone.entry) (words_of_seed seed)
-        files.old (objects sysfs.old disk.old waiter.old clock.old
+        D.keeps D.told D.faults D.aimed N.gives W.gives C.gives turns (clock_of zone.entry)
+        (words_of_seed seed)
+        files.old (objects sysfs.old disk.old links.old waiter.old clock.old
         (members (λ b. ⟦<dyn Auditor as Auditor>⟧ b.vtable) panel.old))
         (Some path.now) result
-        files.new (objects sysfs.new disk.new waiter.new clock.new
+        files.new (objects sysfs.new disk.new links.new waiter.new clock.new
         (members (λ b. ⟦<dyn Auditor as Auditor>⟧ b.vtable) panel.new)) }
     ensures files_failed { result ≡ 4 → Rose (F.faults files.old) (F.faults files.new) }
     ensures disk_failed { result ≡ 9 → Rose (D.faults disk.old) (D.faults disk.new) }
@@ -113,6 +133,7 @@ fn serve<Y: Sysfs, D: RuleDisk, F: ConfFiles, W: Waiter, C: Clock>(
             sysfs,
             disk,
             files,
+            links,
             waiter,
             clock,
             panel,
@@ -129,7 +150,7 @@ fn serve<Y: Sysfs, D: RuleDisk, F: ConfFiles, W: Waiter, C: Clock>(
 /// where the settings' file is absent, or settings or rules aren't taken; 4 where a file of the configuration couldn't be read; 6 for
 /// want of memory before the first turn; 9 where the rule file couldn't be read; 10 where the numbers leave no room for an event; 11
 /// where a wait failed. The auditors are given the journal.
-pub fn run_daemon<Y: Sysfs, D: RuleDisk, F: ConfFiles, W: Waiter, C: Clock>(
+pub fn run_daemon<Y: Sysfs, D: RuleDisk, F: ConfFiles, N: Links, W: Waiter, C: Clock>(
     alloc: Global,
     words: &[&str],
     seed: [u8; 32],
@@ -137,17 +158,19 @@ pub fn run_daemon<Y: Sysfs, D: RuleDisk, F: ConfFiles, W: Waiter, C: Clock>(
     sysfs: &mut Y,
     disk: &mut D,
     files: &mut F,
+    links: &mut N,
     waiter: &mut W,
     clock: &mut C,
     panel: &mut Panel,
     turns: u64,
 ) -> u8
     ensures runs { RunsDaemon F.gives Y.begins Y.gives Y.told Y.calls Y.faults
-        D.keeps D.told D.faults D.aimed W.gives C.gives turns (clock_of zone.entry) (words_of_seed seed)
-        files.old (objects sysfs.old disk.old waiter.old clock.old
+        D.keeps D.told D.faults D.aimed N.gives W.gives C.gives turns (clock_of zone.entry)
+        (words_of_seed seed)
+        files.old (objects sysfs.old disk.old links.old waiter.old clock.old
         (members (λ b. ⟦<dyn Auditor as Auditor>⟧ b.vtable) panel.old))
         (conf_path (map (λ word. word.now) words.now)) result
-        files.new (objects sysfs.new disk.new waiter.new clock.new
+        files.new (objects sysfs.new disk.new links.new waiter.new clock.new
         (members (λ b. ⟦<dyn Auditor as Auditor>⟧ b.vtable) panel.new)) }
 
     ensures statuses { Has daemon_statuses result }
@@ -164,12 +187,14 @@ pub fn run_daemon<Y: Sysfs, D: RuleDisk, F: ConfFiles, W: Waiter, C: Clock>(
     ensures wait_failed { result ≡ 11 → Rose (W.faults waiter.old) (W.faults waiter.new) }
 
     ensures carries { TurnsTell Y.begins Y.gives Y.told Y.calls Y.faults D.keeps D.told D.faults
-        W.gives C.gives W.told C.told }
+        N.gives W.gives C.gives N.told W.told C.told }
+    ensures sessions { TurnsServe Y.begins Y.gives Y.told Y.calls Y.faults D.keeps D.told D.faults
+        N.gives W.gives C.gives }
 {
     match conf_path(words) {
         None => 1,
         Some(path) => serve(
-            alloc, path, seed, zone, sysfs, disk, files, waiter, clock, panel, turns,
+            alloc, path, seed, zone, sysfs, disk, files, links, waiter, clock, panel, turns,
         ),
     }
 }

@@ -2,8 +2,10 @@
 #![tactic(auto)]
 
 mod daemon;
+mod events;
 mod not_started;
 mod noting;
+mod respond;
 mod settings;
 mod start;
 mod turn;

@@ -1,15 +1,18 @@
 // One turn, and turns one after another.
-ghost use Rattle.std.specs.Prelude.{◌≡◌, ◌↔◌, ◌≤◌, List, true, false};
+ghost use Rattle.std.specs.Prelude.{◌≡◌, ◌≤◌, List, true, false};
 ghost use Rattle.ug_types.specs.Ends.{IsCounted, Rose};
 ghost use Rattle.ug_audit.specs.Journal.{members};
-ghost use Rattle.ug_core.specs.Event.{daemon_of, has_numbers};
-ghost use Rattle.ug_serve.specs.Turns.{EndsTurn, ServesTurns, Turned, objects};
+ghost use Rattle.ug_core.specs.Event.{daemon_of};
+ghost use Rattle.ug_serve.specs.Turns.{EndsTurn, ServesTurns, Turned, core_of, turn_world};
 
+use crate::events::{has_room, serve_events};
 use rand_chacha::ChaCha20Rng;
 use std::alloc::Global;
 use ug_audit::{Auditor, Panel};
-use ug_core::{Daemon, Event};
+use ug_core::Daemon;
 use ug_kernel::Sysfs;
+use ug_links::Links;
+use ug_sessions::Server;
 use ug_store::RuleDisk;
 use ug_types::{Clock, Ready, Waiter, Woken};
 
@@ -22,30 +25,25 @@ pub enum TurnEnd {
     WaitFailed,
 }
 
-// Whether the numbers leave room for an event.
-fn has_room<Y: Sysfs, D: RuleDisk>(daemon: &Daemon<'_, ChaCha20Rng>, sysfs: &Y, disk: &D) -> bool
-    ensures { result ≡ has_numbers (daemon_of daemon.now) (Y.faults sysfs.now) (D.faults disk.now) }
-{
-    daemon.has_numbers(sysfs.faults(), disk.faults())
-}
-
-/// One turn: it waits, takes the moment, and handles one sweep, whose entries the auditors note while it goes on.
-pub fn serve_turn<Y: Sysfs, D: RuleDisk, W: Waiter, C: Clock>(
+/// One turn: it waits, takes the moment, accepts and reads, handles an order for each request or else one sweep, and sends. The auditors
+/// note an event's entries while it goes on. Where the numbers leave no room for an event, the turn ends there.
+pub fn serve_turn<Y: Sysfs, D: RuleDisk, N: Links, W: Waiter, C: Clock>(
     alloc: Global,
     daemon: &mut Daemon<'_, ChaCha20Rng>,
+    server: &mut Server,
     sysfs: &mut Y,
     disk: &mut D,
+    links: &mut N,
     waiter: &mut W,
     clock: &mut C,
     panel: &mut Panel,
 ) -> TurnEnd
-    ensures turn { EndsTurn Y.begins Y.gives Y.told Y.calls Y.faults D.keeps D.told D.faults W.gives C.gives
-        (daemon_of daemon.old) (objects sysfs.old disk.old waiter.old clock.old
-        (members (λ b. ⟦<dyn Auditor as Auditor>⟧ b.vtable) panel.old)) result
-        (daemon_of daemon.new) (objects sysfs.new disk.new waiter.new clock.new
-        (members (λ b. ⟦<dyn Auditor as Auditor>⟧ b.vtable) panel.new)) }
-    ensures numbers { (result ≡ TurnEnd.Numbers)
-        ↔ (has_numbers (daemon_of daemon.old) (Y.faults sysfs.old) (D.faults disk.old) ≡ false) }
+    ensures turn { EndsTurn Y.begins Y.gives Y.told Y.calls Y.faults D.keeps D.told D.faults N.gives W.gives C.gives
+        (turn_world (core_of (daemon_of daemon.old) sysfs.old disk.old
+        (members (λ b. ⟦<dyn Auditor as Auditor>⟧ b.vtable) panel.old)) server.old links.old waiter.old clock.old)
+        result
+        (turn_world (core_of (daemon_of daemon.new) sysfs.new disk.new
+        (members (λ b. ⟦<dyn Auditor as Auditor>⟧ b.vtable) panel.new)) server.new links.new waiter.new clock.new) }
     ensures cause { result ≡ TurnEnd.WaitFailed → Rose (W.faults waiter.old) (W.faults waiter.new) }
     ensures counted { IsCounted (W.faults waiter.old) (W.faults waiter.new) }
 {
@@ -53,38 +51,46 @@ pub fn serve_turn<Y: Sysfs, D: RuleDisk, W: Waiter, C: Clock>(
         return TurnEnd::Numbers;
     }
     let mut ready = [Ready::Listener(0); 256];
-    match waiter.wait(&mut ready) {
-        // No link is served yet.
-        Woken::Got(_) => {}
+    let count = match waiter.wait(&mut ready) {
+        Woken::Got(count) => count,
         Woken::Failed => return TurnEnd::WaitFailed,
-    }
+    };
     let moment = clock.now();
-    daemon.handle(alloc, &Event::Sweep(moment), sysfs, disk, panel);
+    let _came = server.turn(&ready[..count], links);
+    if !serve_events(alloc, moment, daemon, server, sysfs, disk, panel) {
+        return TurnEnd::Numbers;
+    }
+    let _sent = server.flush(links);
     TurnEnd::Done
 }
 
 /// Turns one after another, until that many are made, or one can't be.
-pub fn serve_turns<Y: Sysfs, D: RuleDisk, W: Waiter, C: Clock>(
+pub fn serve_turns<Y: Sysfs, D: RuleDisk, N: Links, W: Waiter, C: Clock>(
     alloc: Global,
     turns: u64,
     daemon: &mut Daemon<'_, ChaCha20Rng>,
+    server: &mut Server,
     sysfs: &mut Y,
     disk: &mut D,
+    links: &mut N,
     waiter: &mut W,
     clock: &mut C,
     panel: &mut Panel,
 ) -> TurnEnd
     ensures turns { (made : List Turned)
-        × ServesTurns Y.begins Y.gives Y.told Y.calls Y.faults D.keeps D.told D.faults W.gives C.gives turns
-        (daemon_of daemon.old) (objects sysfs.old disk.old waiter.old clock.old
-        (members (λ b. ⟦<dyn Auditor as Auditor>⟧ b.vtable) panel.old)) made result
-        (daemon_of daemon.new) (objects sysfs.new disk.new waiter.new clock.new
-        (members (λ b. ⟦<dyn Auditor as Auditor>⟧ b.vtable) panel.new)) }
+        × ServesTurns Y.begins Y.gives Y.told Y.calls Y.faults D.keeps D.told D.faults N.gives W.gives C.gives turns
+        (turn_world (core_of (daemon_of daemon.old) sysfs.old disk.old
+        (members (λ b. ⟦<dyn Auditor as Auditor>⟧ b.vtable) panel.old)) server.old links.old waiter.old clock.old)
+        made result
+        (turn_world (core_of (daemon_of daemon.new) sysfs.new disk.new
+        (members (λ b. ⟦<dyn Auditor as Auditor>⟧ b.vtable) panel.new)) server.new links.new waiter.new clock.new) }
     ensures cause { result ≡ TurnEnd.WaitFailed → Rose (W.faults waiter.old) (W.faults waiter.new) }
     ensures counted { W.faults waiter.old ≤ W.faults waiter.new }
 {
     for i in 0..turns {
-        match serve_turn(alloc, daemon, sysfs, disk, waiter, clock, panel) {
+        match serve_turn(
+            alloc, daemon, server, sysfs, disk, links, waiter, clock, panel,
+        ) {
             TurnEnd::Done => {}
             TurnEnd::Numbers => return TurnEnd::Numbers,
             TurnEnd::WaitFailed => return TurnEnd::WaitFailed,

@@ -16,7 +16,8 @@ use Rattle.ug_sessions.proofs.Each.{each_append}
 use Rattle.ug_sessions.proofs.Sends.{own}
 use Rattle.ug_sessions.proofs.Owning.{Who}
 use Rattle.ug_sessions.proofs.Lists.{turned_round}
-use Rattle.ug_sessions.proofs.Everyone.{answers_keep, watches_keep, notices_keep, who_answers, who_watches, who_notices}
+use Rattle.ug_sessions.proofs.Saying.{untold_if}
+use Rattle.ug_sessions.proofs.Everyone.{each_keeps, answers_keep, watches_keep, notices_keep, who_answers, who_watches, who_notices}
 use Rattle.ug_sessions.proofs.Handings.{hands_keep, passes_keep, gives_up_keep, who_passes, who_gives, Apart, distinct_split}
 use Rattle.ug_sessions.proofs.LinesKept.{answer_lines, watch_lines, notice_lines, give_up_lines, pass_lines, hand_lines}
 use Rattle.ug_sessions.proofs.Sound.{SameIds, none_same, distinct_same, known_same}
@@ -121,6 +122,12 @@ module _ (holds : Section → Named → Bool) (steps : List LinkStep) (said : Li
   gives_up_sound id ss ts e k =
       subst (λ (l : List Said). AreSound holds steps l handed ts) (append-nil said)
       (each_sound (GivesUpOne id) [] (λ s t p. (ap (λ (w : Who). w.id) (who_gives holds steps (nat_eq s.id.0 id.0) (is_open_session s) s t p), λ hs bytes h. give_up_lines (nat_eq s.id.0 id.0) hs bytes s t p h)) ss ts e tt (subst (λ (l : List Said). AllAccounts holds steps l ts) (sym (append-nil said)) (gives_up_keep holds steps said id ss ts e k.accounts)) k)
+
+  -- a session that is given up for its reply
+  pub untold_sound : (id : LinkId) (text : List ℕ) (ss ts : List Session) → id.0 < ids_end steps → Each (GivesUpOne id) ss ts → AreSound holds steps said handed ss → AreSound holds steps (said ++ Answered id text ∷ []) handed ts
+  untold_sound id text ss ts lt e k =
+      each_sound (GivesUpOne id) (Answered id text ∷ []) (λ s t p. (ap (λ (w : Who). w.id) (who_gives holds steps (nat_eq s.id.0 id.0) (is_open_session s) s t p), λ hs bytes h. give_up_lines (nat_eq s.id.0 id.0) hs bytes s t p h)) ss ts e (lt, tt)
+      (each_keeps holds steps said (Answered id text) (GivesUpOne id) (λ s t p. (who_gives holds steps (nat_eq s.id.0 id.0) (is_open_session s) s t p, λ a sent h. untold_if (nat_eq s.id.0 id.0) a text sent s t p h)) ss ts e k.accounts) k
 
   pub passes_sound : (ss ts : List Session) → Each Passes ss ts → AreSound holds steps said handed ss → AreSound holds steps (said ++ overlong_all ss) handed ts
   passes_sound ss ts e k = each_sound Passes (overlong_all ss) (pass_stands holds steps) ss ts e (overlong_known n ss k.known) (passes_keep holds steps said ss ts k.distinct e k.accounts) k

@@ -15,10 +15,10 @@ said-append holds id principal a [] x = refl
 said-append holds id principal a (y ∷ said) x = said-append holds id principal (said_one holds id principal a y) said x
 
 -- a session stays who it is, and its account is kept
-abbrev Keeps : (Section → Named → Bool) → Said → Session → Session → Type 0
+abbrev pub Keeps : (Section → Named → Bool) → Said → Session → Session → Type 0
 Keeps holds x s t = (who t ≡ who s) × ((a : Dues) (sent : List ℕ) → Accounts a sent s → Accounts (said_one holds s.id s.principal a x) sent t)
 
-each_keeps : (holds : Section → Named → Bool) (steps : List LinkStep) (said : List Said) (x : Said) (R : Session → Session → Type 0) (h : (s t : Session) → R s t → Keeps holds x s t) (ss ts : List Session) → Each R ss ts → AllAccounts holds steps said ss → AllAccounts holds steps (said ++ x ∷ []) ts
+pub each_keeps : (holds : Section → Named → Bool) (steps : List LinkStep) (said : List Said) (x : Said) (R : Session → Session → Type 0) (h : (s t : Session) → R s t → Keeps holds x s t) (ss ts : List Session) → Each R ss ts → AllAccounts holds steps said ss → AllAccounts holds steps (said ++ x ∷ []) ts
 each_keeps holds steps said x R h [] [] e k = tt
 each_keeps holds steps said x R h [] (t ∷ ts) e k = absurd e
 each_keeps holds steps said x R h (s ∷ ss) [] e k = absurd e

@@ -134,5 +134,15 @@ pub gives_up_if : (b : Bool) (a : Dues) (sent : List ℕ) (s t : Session) → t 
 gives_up_if true a sent s t p h = gives_up_by s.life a sent s t refl p h
 gives_up_if false a sent s t p h = subst (λ (x : Session). Accounts a sent x) (sym p) h
 
+-- the reply that a session isn't given, since it is given up for it, was due all the same
+untold_by : (l : Life) (a : Dues) (text sent : List ℕ) (s t : Session) → s.life ≡ l → t ≡ cond (is_open_life l) (doomed_for why.Memory s) s → AccountsBy l a sent s → Accounts (more_due a text) sent t
+untold_by life.Open a text sent s t e p h = at_doomed a text sent s t why.Memory (open_front a sent s h) p
+untold_by (life.Doomed w) a text sent s t e p h = closed_puts (life.Doomed w) a text sent s t e (front_more a text sent h) p
+untold_by (life.Closed w) a text sent s t e p h = closed_puts (life.Closed w) a text sent s t e (front_more a text sent h) p
+
+pub untold_if : (b : Bool) (a : Dues) (text sent : List ℕ) (s t : Session) → t ≡ cond b (cond (is_open_life s.life) (doomed_for why.Memory s) s) s → Accounts a sent s → Accounts (cond b (more_due a text) a) sent t
+untold_if true a text sent s t p h = untold_by s.life a text sent s t refl p h
+untold_if false a text sent s t p h = subst (λ (x : Session). Accounts a sent x) (sym p) h
+
 pub notices : (holds : Named → Bool) (a : Dues) (text sent : List ℕ) (s t : Session) → NoticesIf (cond s.watch (holds s.principal) false) text s t → Accounts a sent s → Accounts (cond (cond a.watches (holds s.principal) false) (more_due a text) a) sent t
 notices holds a text sent s t p h = notices_by holds s.life a text sent s t refl p h

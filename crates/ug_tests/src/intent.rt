@@ -4,11 +4,13 @@ ghost use Rattle.std.specs.Prelude.{None};
 use jiff::tz::TimeZone;
 use std::alloc::Global;
 use std::cell::RefCell;
+use std::collections::VecDeque;
 use std::rc::Rc;
 use std::test::Fail;
 use ug_audit::{Auditor, Noted, Panel};
 use ug_conf::{MemFile, MemFiles};
 use ug_kernel::{Listing, Opened, Probe, ReadOut, Sysfs, Wrote};
+use ug_links::{MemLinks, Script};
 use ug_serve::run_daemon;
 use ug_store::MemDisk;
 use ug_sysfs::{NewDevice, SimKernel};
@@ -184,6 +186,7 @@ fn run(alloc: Global, list: &Rc<RefCell<Vec<u8>>>) -> Result<u8, Fail> {
         &mut files,
         &mut disk,
         &mut settings(alloc)?,
+        &mut MemLinks::new(alloc, Script::new(VecDeque::new(alloc)), Vec::new(alloc)),
         &mut ListWaiter::new(Vec::new(alloc)),
         &mut ListClock::new(Vec::from_slice(alloc, &[Moment(100)])?),
         &mut panel(alloc, list)?,

@@ -35,3 +35,5 @@ mod store;
 mod sysfs;
 #[cfg(test)]
 mod table;
+#[cfg(test)]
+mod turns;

@@ -3,8 +3,10 @@ use crate::audit::{auditor, took};
 use crate::devices::hub_and_key;
 use jiff::tz::TimeZone;
 use std::alloc::Global;
+use std::collections::VecDeque;
 use ug_audit::{Auditor, Panel};
 use ug_conf::{MemFile, MemFiles};
+use ug_links::{MemLinks, Script};
 use ug_serve::run_daemon;
 use ug_store::MemDisk;
 use ug_types::{ListClock, ListWaiter, Moment, Text};
@@ -42,6 +44,7 @@ fn run(
     let mut kernel = hub_and_key(alloc, true)?;
     let mut disk = MemDisk::with_text(alloc, rules).ok()?;
     let moments = Vec::from_slice(alloc, &[Moment(100)]).ok()?;
+    let listens = Script::new(VecDeque::new(alloc));
     Some(run_daemon(
         alloc,
         words,
@@ -50,6 +53,7 @@ fn run(
         &mut kernel,
         &mut disk,
         files,
+        &mut MemLinks::new(alloc, listens, Vec::new(alloc)),
         &mut ListWaiter::new(Vec::new(alloc)),
         &mut ListClock::new(moments),
         panel,

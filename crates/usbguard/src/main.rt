@@ -1,6 +1,7 @@
 // The program: the real objects and the top call.
 #![tactic(auto)]
 
+use std::collections::VecDeque;
 use std::process::ExitCode;
 use std::{env, io};
 use ug_audit::{Auditor, Panel};
@@ -8,6 +9,7 @@ use ug_host::{
     ConfFolder, LocalZone, RuleFile, SecondWaiter, SysfsFolder, SystemClock, WriterAuditor,
     read_seed,
 };
+use ug_links::{MemLinks, Script};
 use ug_serve::run_daemon;
 use ug_sysfs::SimKernel;
 use ug_tool::{run_replay, run_tool};
@@ -50,6 +52,7 @@ fn serve(rt: HostRuntime, words: &[&str]) -> u8 {
         &mut SysfsFolder::new(rt, alloc, devices),
         &mut RuleFile::new(rt, alloc),
         &mut ConfFolder::new(rt),
+        &mut MemLinks::new(alloc, Script::new(VecDeque::new(alloc)), Vec::new(alloc)),
         &mut SecondWaiter::new(rt, announced),
         &mut SystemClock::new(rt),
         &mut Panel::new(members),
