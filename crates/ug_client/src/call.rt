@@ -1,5 +1,5 @@
 // Requests and their replies, and notices behind one.
-ghost use Rattle.std.specs.Prelude.{◌≡◌};
+ghost use Rattle.std.specs.Prelude.{◌≡◌, ◌≤◌};
 ghost use Rattle.ug_proto.specs.declared.request.Request.TheVariants as request;
 ghost use Rattle.ug_client.specs.Watching.{Watches};
 ghost use Rattle.ug_types.specs.Ends.{Rose};
@@ -27,6 +27,7 @@ pub fn ask<L: Link, K: Sink>(
         (L.left link.old) (L.left link.new) (K.held out.old) (K.held out.new) result }
     ensures link { result ≡ Asked.LinkFailed → Rose (L.faults link.old) (L.faults link.new) }
     ensures sink { result ≡ Asked.WriteFault → Rose (K.faults out.old) (K.faults out.new) }
+    ensures counted { K.faults out.old ≤ K.faults out.new }
 {
     match send_request(alloc, link, path, request) {
         Sent::Done => {}
@@ -55,6 +56,7 @@ pub fn watch<L: Link, K: Sink>(
         (L.left link.old) (L.left link.new) (K.held out.old) (K.held out.new) result }
     ensures link { result ≡ Asked.LinkFailed → Rose (L.faults link.old) (L.faults link.new) }
     ensures sink { result ≡ Asked.WriteFault → Rose (K.faults out.old) (K.faults out.new) }
+    ensures counted { K.faults out.old ≤ K.faults out.new }
 {
     match send_request(alloc, link, path, &Request::Watch) {
         Sent::Done => {}

@@ -56,6 +56,7 @@ returns-in-Replied g c =
           held0 held c.await_reply.new.kept.items c.in-Replied.reply c.in-Replied.place c.write_answer.result c.in-Replied.ensures.awaits c.write_answer.ensures.written);
       link = λ e. absurd (subst (λ (r : Asked). Writes held0 held c.in-Replied.reply r) e c.write_answer.ensures.written);
       sink = c.write_answer.ensures.cause;
+      counted = c.write_answer.ensures.counted;
     }
 
 pub returns-in-NoReply-clause-watches : goal.returns-in-NoReply-clause-watches

@@ -1,0 +1,141 @@
+-- What the words of a command line mean.
+use Rattle.std.specs.Prelude.{ℕ, ◌≡◌, not, nat_eq, nat_le, Bool, List, [], ◌∷◌, length, Option, Some, None, if◌then◌else◌}
+use Rattle.std.specs.Prelude.{option_and_then, option_map, unwrap_or, codes}
+use Rattle.clap.specs.Words.{Row, first_of}
+use Rattle.ug_types.specs.Principals.{principal_of}
+use Rattle.ug_types.specs.declared.access.Section.{Section}
+use Rattle.ug_types.specs.declared.access.Section.TheVariants.{Devices, Policy, Exceptions, Parameters}
+use Rattle.ug_types.specs.declared.rule.After.{After}
+use Rattle.ug_types.specs.declared.rule.After.TheVariants as after
+use Rattle.ug_types.specs.declared.verdict.Target.{Target}
+use Rattle.ug_decimals.specs.Numbers.{number_in}
+use Rattle.ug_proto.specs.Texts.{request_text}
+use Rattle.ug_proto.specs.declared.request.Request.{Request}
+use Rattle.ug_proto.specs.declared.request.Request.TheVariants as request
+use Rattle.ug_users.specs.Lists.{list_read, nothing_listed}
+use Rattle.ug_users.specs.declared.asked.Asked.{Asked}
+use Rattle.ug_users.specs.declared.lists.Listed.{Listed}
+use Rattle.ug_arguments.specs.CommandWords.{word_in}
+use Rattle.ug_arguments.specs.SimpleCommands.{app_of_word, rows_in}
+use Rattle.ug_arguments.specs.Values.{is_line, is_rule, is_set, is_word, number_at, passing, text_at}
+use Rattle.ug_arguments.specs.declared.command.Command.{Command}
+use Rattle.ug_arguments.specs.declared.command.Command.TheVariants.{Replay, ReadDescriptor, CheckRules, AddUser, Ask, Watch}
+use Rattle.ug_arguments.specs.declared.command.WordsFault.{WordsFault}
+use Rattle.ug_arguments.specs.declared.command.WordsFault.TheVariants.{Bad, Memory}
+use Rattle.ug_arguments.specs.declared.command_word.CommandWord.{CommandWord}
+use Rattle.ug_arguments.specs.declared.command_word.CommandWord.TheVariants as command
+
+-- ---- add-user
+
+-- what an option lists; one that is left out lists nothing
+abbrev pub list_of : Section → Option (List ℕ) → Option Listed
+list_of section None = Some nothing_listed
+list_of section (Some text) = list_read section text
+
+abbrev pub asked_in : List Row → Option Asked
+asked_in rows =
+    option_and_then (λ devices. option_and_then (λ policy. option_and_then (λ exceptions. option_map (λ parameters.
+    record { devices = devices; policy = policy; exceptions = exceptions; parameters = parameters })
+    (list_of Parameters (first_of (codes "parameters") rows)))
+    (list_of Exceptions (first_of (codes "exceptions") rows)))
+    (list_of Policy (first_of (codes "policy") rows)))
+    (list_of Devices (first_of (codes "devices") rows))
+
+abbrev pub add_user_in : List Row → Option Command
+add_user_in rows =
+    option_and_then (λ name. option_map (λ asked. AddUser name asked) (asked_in rows))
+    (option_and_then principal_of (first_of (codes "name") rows))
+
+-- ---- requests
+
+abbrev pub get_parameter_in : List Row → Option Request
+get_parameter_in rows = option_map request.GetParameter (text_at is_word (codes "name") rows)
+
+abbrev pub set_parameter_in : List Row → Option Request
+set_parameter_in rows =
+    option_and_then (λ name. option_map (λ value. request.SetParameter name value)
+    (text_at is_word (codes "value") rows)) (text_at is_word (codes "name") rows)
+
+abbrev pub device_in : Target → List Row → Option Request
+device_in target rows =
+    option_map (λ number. request.Device number target (is_set (codes "permanent") rows))
+    (number_at (codes "number") rows)
+
+-- behind the rule of that id, or in front of all
+abbrev pub after_id : ℕ → After
+after_id id = if nat_eq id 0 then after.Front else after.Rule id
+
+abbrev pub after_of : Option (List ℕ) → Option After
+after_of None = Some after.End
+after_of (Some text) = option_map after_id (number_in text)
+
+abbrev pub append_rule_in : List Row → Option Request
+append_rule_in rows =
+    option_and_then (λ after. option_map (λ rule.
+    request.AppendRule after (not (is_set (codes "temporary") rows)) rule)
+    (text_at is_rule (codes "rule") rows)) (after_of (first_of (codes "after") rows))
+
+abbrev pub remove_rule_in : List Row → Option Request
+remove_rule_in rows = option_map request.RemoveRule (number_at (codes "id") rows)
+
+-- ---- what goes to the daemon
+
+unfoldable pub default_socket : List ℕ
+default_socket = codes "/run/usbguard/root.socket"
+
+abbrev pub socket_in : List Row → Option (List ℕ)
+socket_in rows = passing is_line (unwrap_or (first_of (codes "socket") rows) default_socket)
+
+-- the greatest length of a request as it is sent, without its newline
+abbrev pub request_limit : ℕ
+request_limit = 65535
+
+abbrev pub sendable : Request → Option Request
+sendable request = if nat_le (length (request_text request)) request_limit then Some request else None
+
+abbrev pub ask_in : Option Request → List Row → Option Command
+ask_in asked rows =
+    option_and_then (λ request. option_map (λ socket. Ask socket request) (socket_in rows))
+    (option_and_then sendable asked)
+
+unfoldable pub default_most : ℕ
+default_most = 1000000
+
+abbrev pub most_of : Option (List ℕ) → Option ℕ
+most_of None = Some default_most
+most_of (Some text) = number_in text
+
+abbrev pub watch_in : List Row → Option Command
+watch_in rows =
+    option_and_then (λ socket. option_map (λ most. Watch socket most)
+    (most_of (first_of (codes "most") rows))) (socket_in rows)
+
+-- ---- all commands
+
+-- what the values mean that were found behind a command's word
+unfoldable pub meaning : CommandWord → List Row → Option Command
+meaning command.Replay rows = Some Replay
+meaning command.ReadDescriptor rows = Some ReadDescriptor
+meaning command.CheckRules rows = Some CheckRules
+meaning command.AddUser rows = add_user_in rows
+meaning command.GetParameter rows = ask_in (get_parameter_in rows) rows
+meaning command.SetParameter rows = ask_in (set_parameter_in rows) rows
+meaning command.ListDevices rows = ask_in (Some request.ListDevices) rows
+meaning (command.Device target) rows = ask_in (device_in target rows) rows
+meaning command.ListRules rows = ask_in (Some request.ListRules) rows
+meaning command.AppendRule rows = ask_in (append_rule_in rows) rows
+meaning command.RemoveRule rows = ask_in (remove_rule_in rows) rows
+meaning command.Watch rows = watch_in rows
+
+abbrev pub command_by : CommandWord → List (List ℕ) → Option Command
+command_by word words = option_and_then (meaning word) (rows_in (app_of_word word) words)
+
+-- the command that the words of a command line are, if they are one
+unfoldable pub command_in : List (List ℕ) → Option Command
+command_in [] = None
+command_in (first ∷ rest) = option_and_then (λ word. command_by word (first ∷ rest)) (word_in first)
+
+-- only want of memory may be told of words that are a command
+abbrev pub NotRead : {X : Type 0} → Option X → WordsFault → Type 0
+NotRead read Bad = read ≡ None
+NotRead read Memory = Unit {0}

@@ -1,0 +1,4 @@
+pub mod CommandWords
+pub mod Commands
+pub mod SimpleCommands
+pub mod Values

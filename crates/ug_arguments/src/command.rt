@@ -1,0 +1,40 @@
+// What a command line asks for.
+ghost use Rattle.std.specs.Prelude.{◌≡◌};
+
+use ug_proto::Request;
+use ug_types::{NoMemory, Principal, Text};
+use ug_users::Asked;
+
+/// A command of usbguard(1), with what its words say.
+#[derive(Drop)]
+pub enum Command {
+    Replay,
+    ReadDescriptor,
+    CheckRules,
+    /// Adds privileges to the access text of a user or a group.
+    AddUser { name: Principal, asked: Asked },
+    /// Asks the daemon that listens at that path. The path and the request hold no newline.
+    Ask { socket: Text, request: Request },
+    /// Asks it for notices, and prints so many at most.
+    Watch { socket: Text, most: u64 },
+}
+
+/// Why words were not read.
+#[derive(Clone, Copy, Debug, PartialEq, Eq)]
+pub enum WordsFault {
+    /// They are no command of usbguard(1).
+    Bad,
+    Memory,
+}
+
+impl From<NoMemory> for WordsFault {
+    ghost use Rattle.std.specs.Prelude.{◌≡◌};
+    ghost use Rattle.ug_arguments.specs.declared.command.WordsFault.{WordsFault};
+    ghost use Rattle.ug_arguments.specs.declared.command.WordsFault.TheVariants.{Memory};
+
+    ghost from_gives = { λ _ fault. fault ≡ Memory };
+
+    fn from(_e: NoMemory) -> WordsFault {
+        WordsFault::Memory
+    }
+}

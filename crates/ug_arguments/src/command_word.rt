@@ -1,0 +1,80 @@
+// The words that choose a command.
+ghost use Rattle.std.specs.Prelude.{◌≡◌};
+ghost use Rattle.ug_arguments.specs.CommandWords.{asking_word_in, word_in};
+
+use ug_types::Target;
+
+/// A command, by its first word.
+#[derive(Clone, Copy, Debug)]
+pub enum CommandWord {
+    Replay,
+    ReadDescriptor,
+    CheckRules,
+    AddUser,
+    GetParameter,
+    SetParameter,
+    ListDevices,
+    /// `allow-device`, `block-device` and `reject-device`.
+    Device(Target),
+    ListRules,
+    AppendRule,
+    RemoveRule,
+    Watch,
+}
+
+// The words of the commands that ask the daemon.
+#[tactic(auto, unfolding(crate::specs::CommandWords::asking_word_in))]
+fn asking_word(text: &str) -> Option<CommandWord>
+    ensures { result ≡ asking_word_in text.now }
+{
+    if text == "get-parameter" {
+        return Some(CommandWord::GetParameter);
+    }
+    if text == "set-parameter" {
+        return Some(CommandWord::SetParameter);
+    }
+    if text == "list-devices" {
+        return Some(CommandWord::ListDevices);
+    }
+    if text == "allow-device" {
+        return Some(CommandWord::Device(Target::Allow));
+    }
+    if text == "block-device" {
+        return Some(CommandWord::Device(Target::Block));
+    }
+    if text == "reject-device" {
+        return Some(CommandWord::Device(Target::Reject));
+    }
+    if text == "list-rules" {
+        return Some(CommandWord::ListRules);
+    }
+    if text == "append-rule" {
+        return Some(CommandWord::AppendRule);
+    }
+    if text == "remove-rule" {
+        return Some(CommandWord::RemoveRule);
+    }
+    if text == "watch" {
+        return Some(CommandWord::Watch);
+    }
+    None
+}
+
+#[tactic(auto, unfolding(crate::specs::CommandWords::word_in))]
+pub fn command_word(text: &str) -> Option<CommandWord>
+    ensures { result ≡ word_in text.now }
+{
+    if text == "replay" {
+        return Some(CommandWord::Replay);
+    }
+    if text == "read-descriptor" {
+        return Some(CommandWord::ReadDescriptor);
+    }
+    if text == "check-rules" {
+        return Some(CommandWord::CheckRules);
+    }
+    if text == "add-user" {
+        return Some(CommandWord::AddUser);
+    }
+    asking_word(text)
+}

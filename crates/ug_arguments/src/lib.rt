@@ -1,0 +1,14 @@
+// The words of a command line: usbguard(1).
+#![tactic(auto)]
+
+mod arguments;
+mod command;
+mod command_word;
+mod matches;
+mod meaning;
+mod requests;
+mod simple;
+mod values;
+
+pub use arguments::read_command;
+pub use command::{Command, WordsFault};

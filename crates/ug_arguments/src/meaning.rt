@@ -1,0 +1,84 @@
+// What the values mean that were found behind a command's word.
+ghost use Rattle.std.specs.Prelude.{◌≡◌, IfOk, IfErr, Some};
+ghost use Rattle.clap.specs.Words.{found_of, rows_of};
+ghost use Rattle.ug_arguments.specs.Commands as commands;
+ghost use Rattle.ug_arguments.specs.Commands.{NotRead, add_user_in, ask_in, asked_in, watch_in};
+
+use crate::command::{Command, WordsFault};
+use crate::command_word::CommandWord;
+use crate::requests::{append_rule, device, get_parameter, remove_rule, sendable, set_parameter};
+use crate::values::{listed, most, principal, socket};
+use clap::ArgMatches;
+use std::alloc::Global;
+use ug_proto::Request;
+use ug_types::Section;
+use ug_users::Asked;
+
+fn asked(matches: &ArgMatches) -> Result<Asked, WordsFault>
+    ensures ok { IfOk result (λ a. asked_in (rows_of (found_of matches.now)) ≡ Some a) }
+    ensures err { IfErr result (NotRead (asked_in (rows_of (found_of matches.now)))) }
+{
+    let devices = listed(matches, Section::Devices, "devices")?;
+    let policy = listed(matches, Section::Policy, "policy")?;
+    let exceptions = listed(matches, Section::Exceptions, "exceptions")?;
+    let parameters = listed(matches, Section::Parameters, "parameters")?;
+    Ok(Asked {
+        devices,
+        policy,
+        exceptions,
+        parameters,
+    })
+}
+
+fn add_user(matches: &ArgMatches) -> Result<Command, WordsFault>
+    ensures ok { IfOk result (λ c. add_user_in (rows_of (found_of matches.now)) ≡ Some c) }
+    ensures err { IfErr result (NotRead (add_user_in (rows_of (found_of matches.now)))) }
+{
+    let name = principal(matches, "name")?;
+    let asked = asked(matches)?;
+    Ok(Command::AddUser { name, asked })
+}
+
+fn watch(alloc: Global, matches: &ArgMatches) -> Result<Command, WordsFault>
+    ensures ok { IfOk result (λ c. watch_in (rows_of (found_of matches.now)) ≡ Some c) }
+    ensures err { IfErr result (NotRead (watch_in (rows_of (found_of matches.now)))) }
+{
+    let socket = socket(alloc, matches)?;
+    let most = most(matches)?;
+    Ok(Command::Watch { socket, most })
+}
+
+fn ask(alloc: Global, matches: &ArgMatches, request: Request) -> Result<Command, WordsFault>
+    ensures ok { IfOk result (λ c. ask_in (Some request) (rows_of (found_of matches.now)) ≡ Some c) }
+    ensures err { IfErr result (NotRead (ask_in (Some request) (rows_of (found_of matches.now)))) }
+{
+    let request = sendable(alloc, request)?;
+    let socket = socket(alloc, matches)?;
+    Ok(Command::Ask { socket, request })
+}
+
+/// What the values mean that were found behind the word.
+#[tactic(auto, unfolding(crate::specs::Commands::meaning))]
+pub fn meaning(
+    alloc: Global,
+    word: CommandWord,
+    matches: &ArgMatches,
+) -> Result<Command, WordsFault>
+    ensures ok { IfOk result (λ c. commands.meaning word (rows_of (found_of matches.now)) ≡ Some c) }
+    ensures err { IfErr result (NotRead (commands.meaning word (rows_of (found_of matches.now)))) }
+{
+    match word {
+        CommandWord::Replay => Ok(Command::Replay),
+        CommandWord::ReadDescriptor => Ok(Command::ReadDescriptor),
+        CommandWord::CheckRules => Ok(Command::CheckRules),
+        CommandWord::AddUser => add_user(matches),
+        CommandWord::GetParameter => ask(alloc, matches, get_parameter(alloc, matches)?),
+        CommandWord::SetParameter => ask(alloc, matches, set_parameter(alloc, matches)?),
+        CommandWord::ListDevices => ask(alloc, matches, Request::ListDevices),
+        CommandWord::Device(target) => ask(alloc, matches, device(matches, target)?),
+        CommandWord::ListRules => ask(alloc, matches, Request::ListRules),
+        CommandWord::AppendRule => ask(alloc, matches, append_rule(alloc, matches)?),
+        CommandWord::RemoveRule => ask(alloc, matches, remove_rule(matches)?),
+        CommandWord::Watch => watch(alloc, matches),
+    }
+}
