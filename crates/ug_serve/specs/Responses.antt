@@ -25,6 +25,7 @@ notice_section (entry.Wrote number name write outcome) = Some section.Devices
 notice_section (entry.Gone number name) = Some section.Devices
 notice_section (entry.Unsettled name fault) = Some section.Exceptions
 notice_section (entry.UnsettledAll fault) = Some section.Exceptions
+notice_section (entry.Parameter set) = Some section.Parameters
 notice_section other = None
 
 -- the entry's line behind `! `, with a newline
@@ -50,9 +51,9 @@ abbrev pub SendsReply : LinkId → Option Reply → List Session → List Sessio
 SendsReply id None ss ts = ts ≡ ss
 SendsReply id (Some reply) ss ts = (printed : Bool) × SendsReplyIf printed id reply ss ts
 
--- Whether the order asked for notices, and they were granted. No such order is carried out yet.
+-- whether the order asked for notices, and they were granted
 abbrev pub grants_watch : DaemonState → Bool
-grants_watch d = false
+grants_watch d = d.watch
 
 abbrev pub WatchesIf : Bool → LinkId → List Session → List Session → Type 0
 WatchesIf true id ss ts = Each (WatchesOne id) ss ts

@@ -2,7 +2,7 @@
 ghost use Rattle.std.specs.Prelude.{◌≡◌, option_copied};
 ghost use Rattle.ug_core.specs.Event.{daemon_of};
 ghost use Rattle.ug_serve.specs.Responses.{SendsReply, ChangesSessions, Notifies, NotifiesIf, Responds, WatchesIf};
-ghost use Rattle.ug_serve.specs.Responses.{grants_watch as grants, notice_text, notice_section};
+ghost use Rattle.ug_serve.specs.Responses.{notice_text, notice_section};
 
 use arrayvec::ArrayVec;
 use rand_chacha::ChaCha20Rng;
@@ -21,6 +21,7 @@ fn section_of(entry: &Entry) -> Option<Section>
     match entry {
         Entry::Judged { .. } | Entry::Wrote { .. } | Entry::Gone { .. } => Some(Section::Devices),
         Entry::Unsettled { .. } | Entry::UnsettledAll { .. } => Some(Section::Exceptions),
+        Entry::Parameter(_) => Some(Section::Parameters),
         _ => None,
     }
 }
@@ -76,13 +77,6 @@ fn answer(alloc: Global, server: &mut Server, id: LinkId, reply: Option<&Reply>)
     }
 }
 
-// Whether the last event was an order that asked for notices, and they were granted. No such order is carried out yet.
-fn grants_watch(_daemon: &Daemon<'_, ChaCha20Rng>) -> bool
-    ensures { result ≡ grants (daemon_of _daemon.now) }
-{
-    false
-}
-
 fn watch_if(server: &mut Server, id: LinkId, granted: bool)
     ensures { ChangesSessions (WatchesIf granted id) server.old server.new }
 {
@@ -97,6 +91,6 @@ pub fn respond(alloc: Global, server: &mut Server, id: LinkId, daemon: &Daemon<'
 {
     let report = daemon.report();
     answer(alloc, server, id, report.reply.as_ref());
-    watch_if(server, id, grants_watch(daemon));
+    watch_if(server, id, report.watch);
     notify_of_all(server, daemon.acl(), report.entries.as_slice());
 }
