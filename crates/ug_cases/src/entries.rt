@@ -142,9 +142,9 @@ fn entry_of_order(words: &[&str]) -> Option<Entry> {
             change: change(word)?,
             id: number(id)?,
         }),
-        ["parameter", setting, value] => Some(Entry::Parameter(
-            ParameterName::named(setting.as_bytes())?.with_value(value.as_bytes())?,
-        )),
+        ["parameter", setting, value] => Some(Entry::Parameter(ParameterName::named(
+            setting.as_bytes(),
+        )?.with_value(value.as_bytes())?)),
         ["reply", "ok"] => Some(Entry::Reply(Ok(()))),
         ["reply", "refused", rest @ ..] => Some(Entry::Reply(Err(refusal(rest)?))),
         _ => entry_of_device(words),

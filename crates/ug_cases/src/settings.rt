@@ -2,8 +2,7 @@
 use std::alloc::Global;
 use ug_casefile::{push_escaped, push_number};
 use ug_conf::{
-    AuthDefault, LineFault, Present, Settings, SettingsReader, default_settings,
-    parse_conf,
+    AuthDefault, LineFault, Present, Settings, SettingsReader, default_settings, parse_conf,
 };
 use ug_types::{FileFault, NoMemory, Numbered};
 
@@ -81,11 +80,7 @@ fn tell_settings(alloc: Global, settings: &Settings) -> Result<Vec<u8>, NoMemory
         b"PresentControllerPolicy",
         present_word(settings.present_controller),
     )?;
-    push_word(
-        &mut told,
-        b"InsertedDevicePolicy",
-        settings.inserted.word(),
-    )?;
+    push_word(&mut told, b"InsertedDevicePolicy", settings.inserted.word())?;
     push_word(
         &mut told,
         b"AuthorizedDefault",
