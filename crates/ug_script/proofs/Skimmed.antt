@@ -16,9 +16,9 @@ use Rattle.ug_console.specs.Fold.{Fault, BadLine, Outcome, Writes, Refused, Stag
 use Rattle.ug_script.specs.declared.step.Step.{Step}
 use Rattle.ug_script.specs.declared.step.Step.TheVariants.{Skip, Setup, Move, Schedule, Event, Restart}
 use Rattle.ug_script.specs.Grammar.{step_of_line}
-use Rattle.ug_script.specs.Setup.{SetupState, no_setup, one_line_more, rule_asked, conf_asked, access_asked, seed_asked, zone_asked, steps_of}
+use Rattle.ug_script.specs.Setup.{SetupState, one_line_more, rule_asked, conf_asked, access_asked, seed_asked, zone_asked, steps_of}
 use Rattle.ug_script.specs.Script.{Script, fresh, takes_setup}
-use Rattle.ug_script.specs.Replay.{bad, header, line_added, quiet, with_devices}
+use Rattle.ug_script.specs.Replay.{bad, header, line_added, quiet}
 use Rattle.ug_script.specs.Generating.{skimmed, skimmed_if, generate_step, generate_end, names_ports, move_asked, all_moved, devices_left, IsFirstPolicy, TellsFaultAlone}
 use Rattle.ug_script.proofs.Setups.{IsGiven, InSetup, flat_more, flat_none, given_first, given_still, given_added}
 
