@@ -97,8 +97,8 @@ completes() {
     check "bash: $1 -> $2" "$bash
         [ \"\$(complete_words $1)\" = '$2' ]"
 }
-completes "usbguard ''" 'check-rules daemon read-descriptor replay'
-for command in check-rules daemon read-descriptor replay; do
+completes "usbguard ''" 'check-rules daemon generate-policy read-descriptor replay'
+for command in check-rules daemon generate-policy read-descriptor replay; do
     completes "usbguard ${command%???}" "$command"
 done
 completes "usbguard daemon --" '--conf'

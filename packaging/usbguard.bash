@@ -23,7 +23,7 @@ _usbguard() {
     if _usbguard_redirects "$before"; then
         _usbguard_files "$word"
     elif ((COMP_CWORD == 1)); then
-        _usbguard_words "$word" check-rules daemon read-descriptor replay
+        _usbguard_words "$word" check-rules daemon generate-policy read-descriptor replay
     elif [[ ${COMP_WORDS[1]} == daemon ]]; then
         case $COMP_CWORD in
         2) _usbguard_words "$word" --conf ;;

@@ -5,6 +5,7 @@ _usbguard_commands() {
     local -a commands=(
         'check-rules:count the rules of a text, or report its first bad line'
         'daemon:judge the devices of this machine'
+        'generate-policy:write rules that allow the devices of a script'
         "read-descriptor:list what a device's file descriptors says"
         'replay:run a script and write its journal'
     )

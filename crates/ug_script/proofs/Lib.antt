@@ -6,10 +6,10 @@ pub mod AccessLines
 pub mod WellFormed
 pub mod Phases
 pub mod EventSteps
-pub mod SingleLines
 pub mod Starts
 pub mod Lawful
 pub mod Spent
 pub mod Numbers
 pub mod Setups
+pub mod Skimmed
 pub mod Journals

@@ -4,6 +4,7 @@ pub mod Words
 pub mod Setup
 pub mod Script
 pub mod Replay
+pub mod Generating
 pub mod Laws
 pub mod Journal
 pub mod Example

@@ -193,8 +193,8 @@ abbrev pub runner_state : Runner → RunnerState
 runner_state r = record { script = interpreter_state r.interpreter; lines = r.lines; so_far = r.so_far }
 
 -- what a line comes to behind so many lines; one that is past a limit may not stand there
-abbrev pub step_behind : ℕ → Option Script × World → List ℕ → Outcome (Option Script × World)
-step_behind n p line = cond (is_within n line) (script_step p line) (Refused BadLine p)
+abbrev pub step_behind : (Option Script × World → List ℕ → Outcome (Option Script × World)) → ℕ → Option Script × World → List ℕ → Outcome (Option Script × World)
+step_behind takes n p line = cond (is_within n line) (takes p line) (Refused BadLine p)
 
 -- one line more was taken, unless it was refused or there was a fault
 abbrev pub lines_after : Ran → ℕ → ℕ
@@ -205,8 +205,8 @@ lines_after ran.SinkFailed n = n
 lines_after ran.Memory n = n
 
 -- a line was taken as it stands there, and how that ended is kept
-pub record TakesLine (r : RunnerState) (w : World) (line : List ℕ) (before after : Option (List ℕ)) (answer : Ran) (s : RunnerState) (v : World) : Type 0 where
-  pub steps : Steps (step_behind r.lines (r.script, w) line) (s.script, v) before after answer
+pub record TakesLine (takes : Option Script × World → List ℕ → Outcome (Option Script × World)) (r : RunnerState) (w : World) (line : List ℕ) (before after : Option (List ℕ)) (answer : Ran) (s : RunnerState) (v : World) : Type 0 where
+  pub steps : Steps (step_behind takes r.lines (r.script, w) line) (s.script, v) before after answer
   pub lines : s.lines ≡ lines_after answer r.lines
   pub kept : s.so_far ≡ answer
 

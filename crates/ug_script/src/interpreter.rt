@@ -1,16 +1,19 @@
 // The machine that takes a script's lines.
-ghost use Rattle.std.specs.Prelude.{◌≡◌, ◌≤◌, Option, None};
+ghost use Rattle.std.specs.Prelude.{◌≡◌, ◌≤◌, ℕ, List, Option, None};
 ghost use Rattle.ug_console.specs.Fold.{of_first};
-ghost use Rattle.ug_console.specs.Runs.{Closes};
+ghost use Rattle.ug_console.specs.Runs.{Closes, Steps};
 ghost use Rattle.ug_types.specs.Ends.{Rose};
 ghost use Rattle.ug_script.specs.Script.{Script};
-ghost use Rattle.ug_script.specs.Replay.{Begins, done_line, interpreter_state, script_step, script_end};
+ghost use Rattle.ug_sysfs.specs.World.{World};
+ghost use Rattle.ug_script.specs.Generating.{generate_end, generate_step};
+ghost use Rattle.ug_script.specs.Replay.{Begins, done_line, first_step, interpreter_state, script_step, script_end};
 
 use crate::progress::Running;
 use crate::step::StepFault;
 use crate::text::put;
 use std::alloc::Global;
 use ug_console::{Machine, Ran};
+use ug_generate::generated_text;
 use ug_sysfs::SimKernel;
 use ug_types::{Line, Sink};
 
@@ -29,6 +32,23 @@ impl Interpreter {
         Interpreter { running: None }
     }
 
+    /// Takes the first line, and writes nothing.
+    fn take_header(&mut self, alloc: Global, line: &[u8]) -> Ran
+        requires { interpreter_state self.old ≡ None }
+        ensures silent { ¬ (result ≡ Ran.SinkFailed) }
+        ensures ran { (w : World) (held : Option (List ℕ)) → Steps (first_step line.now w)
+            (interpreter_state self.new, w) held held result }
+    {
+        match begin(alloc, line) {
+            Ok(running) => {
+                self.running = Some(running);
+                Ran::Done
+            }
+            Err(StepFault::Bad) => Ran::Bad,
+            Err(StepFault::Memory) => Ran::Memory,
+        }
+    }
+
     /// Writes the last line, which tells the number of events.
     pub fn close<K: Sink>(&self, out: &mut K) -> Ran
         ensures ran { Closes (script_end (interpreter_state self.now)) (K.held out.old) (K.held out.new) result }
@@ -38,6 +58,35 @@ impl Interpreter {
         match &self.running {
             None => Ran::Bad,
             Some(running) => put(out, done(running.events()).bytes()),
+        }
+    }
+
+    /// Takes a line for the devices that are to have rules. It writes nothing.
+    pub fn skim(&mut self, alloc: Global, line: &[u8], kernel: &mut SimKernel) -> Ran
+        ensures silent { ¬ (result ≡ Ran.SinkFailed) }
+        ensures ran { (held : Option (List ℕ))
+            → Steps (generate_step (interpreter_state self.old, kernel.old) line.now)
+            (interpreter_state self.new, kernel.new) held held result }
+    {
+        if let Some(running) = &mut self.running {
+            return running.skim(alloc, line, kernel);
+        }
+        self.take_header(alloc, line)
+    }
+
+    /// Writes the rules of the devices that are there.
+    pub fn write_policy<K: Sink>(&self, alloc: Global, kernel: &SimKernel, out: &mut K) -> Ran
+        ensures ran { Closes (generate_end (interpreter_state self.now, kernel.now))
+            (K.held out.old) (K.held out.new) result }
+        ensures counted { K.faults out.old ≤ K.faults out.new }
+        ensures cause { result ≡ Ran.SinkFailed → Rose (K.faults out.old) (K.faults out.new) }
+    {
+        let Some(running) = &self.running else {
+            return Ran::Bad;
+        };
+        match generated_text(alloc, kernel.devices(), running.names_ports()) {
+            Ok(text) => put(out, text.bytes()),
+            Err(_) => Ran::Memory,
         }
     }
 }
@@ -86,14 +135,7 @@ impl Machine<SimKernel> for Interpreter {
         if let Some(running) = &mut self.running {
             return running.line(alloc, line, world, out);
         }
-        match begin(alloc, line) {
-            Ok(running) => {
-                self.running = Some(running);
-                Ran::Done
-            }
-            Err(StepFault::Bad) => Ran::Bad,
-            Err(StepFault::Memory) => Ran::Memory,
-        }
+        self.take_header(alloc, line)
     }
 
     fn finish<K: Sink>(&self, _alloc: Global, _world: &SimKernel, out: &mut K) -> Ran {

@@ -4,6 +4,7 @@
 mod access;
 mod event_lines;
 mod events;
+mod generator;
 mod interpreter;
 mod laws;
 mod move_lines;
@@ -22,6 +23,7 @@ mod step;
 mod text;
 mod words;
 
+pub use generator::generate_policy;
 pub use interpreter::Interpreter;
 pub use laws::{access_law, script_law, words_law, worked_law};
 pub use parse::parse_line;

@@ -1,8 +1,10 @@
 // The run of a script by single lines.
-ghost use Rattle.std.specs.Prelude.{◌≡◌, ◌≢◌, ◌≤◌, None};
+ghost use Rattle.std.specs.Prelude.{◌≡◌, ◌≢◌, ◌≤◌, ℕ, List, None, Option};
 ghost use Rattle.ug_types.specs.Ends.{Rose};
 ghost use Rattle.ug_console.specs.Runs.{Closes};
-ghost use Rattle.ug_script.specs.Replay.{TakesLine, runner_state, script_end};
+ghost use Rattle.ug_script.specs.Generating as generating;
+ghost use Rattle.ug_script.specs.Generating.{generate_end};
+ghost use Rattle.ug_script.specs.Replay.{TakesLine, runner_state, script_end, script_step};
 
 use crate::interpreter::Interpreter;
 use std::alloc::Global;
@@ -35,7 +37,7 @@ impl Runner {
 
     fn take<K: Sink>(&mut self, kernel: &mut SimKernel, line: &[u8], out: &mut K) -> Ran
         requires { self.old.so_far ≡ Ran.Done }
-        ensures taken { TakesLine (runner_state self.old) kernel.old line.now
+        ensures taken { TakesLine script_step (runner_state self.old) kernel.old line.now
             (K.held out.old) (K.held out.new) result (runner_state self.new) kernel.new }
         ensures counted { K.faults out.old ≤ K.faults out.new }
         ensures cause { result ≡ Ran.SinkFailed → Rose (K.faults out.old) (K.faults out.new) }
@@ -52,11 +54,29 @@ impl Runner {
         ran
     }
 
+    fn skim(&mut self, kernel: &mut SimKernel, line: &[u8]) -> Ran
+        requires { self.old.so_far ≡ Ran.Done }
+        ensures { (held : Option (List ℕ))
+            → TakesLine generating.generate_step (runner_state self.old) kernel.old line.now
+            held held result (runner_state self.new) kernel.new }
+    {
+        if !is_within(self.lines, line) {
+            self.so_far = Ran::Bad;
+            return Ran::Bad;
+        }
+        let ran = self.interpreter.skim(self.alloc, line, kernel);
+        self.so_far = ran;
+        if matches!(ran, Ran::Done) {
+            self.lines += 1;
+        }
+        ran
+    }
+
     /// Takes the next line, and writes what it adds to the output. The first call is given a new kernel, and each later one
     /// the same kernel.
     pub fn step<K: Sink>(&mut self, kernel: &mut SimKernel, line: &[u8], out: &mut K) -> Ran
         ensures taken { (runner_state self.old).so_far ≡ Ran.Done
-            → TakesLine (runner_state self.old) kernel.old line.now
+            → TakesLine script_step (runner_state self.old) kernel.old line.now
             (K.held out.old) (K.held out.new) result (runner_state self.new) kernel.new }
         ensures counted { K.faults out.old ≤ K.faults out.new }
         ensures cause { (runner_state self.old).so_far ≡ Ran.Done → result ≡ Ran.SinkFailed
@@ -91,6 +111,46 @@ impl Runner {
         match self.so_far {
             Ran::Done => {
                 self.so_far = self.interpreter.close(out);
+                self.so_far
+            }
+            other => other,
+        }
+    }
+
+    /// Takes the next line as `generate_policy` does. The first call is given a new kernel, and each later one the same kernel.
+    pub fn generate_step(&mut self, kernel: &mut SimKernel, line: &[u8]) -> Ran
+        ensures taken { (held : Option (List ℕ)) → (runner_state self.old).so_far ≡ Ran.Done
+            → TakesLine generating.generate_step (runner_state self.old) kernel.old line.now
+            held held result (runner_state self.new) kernel.new }
+
+        ensures ended { (runner_state self.old).so_far ≢ Ran.Done
+            → result ≡ (runner_state self.old).so_far }
+        ensures unchanged { (runner_state self.old).so_far ≢ Ran.Done → self.new ≡ self.old }
+        ensures unmoved { (runner_state self.old).so_far ≢ Ran.Done → kernel.new ≡ kernel.old }
+    {
+        match self.so_far {
+            Ran::Done => self.skim(kernel, line),
+            other => other,
+        }
+    }
+
+    /// Writes the rules of the devices that are there. It is `Bad` where no line was taken.
+    pub fn generate_finish<K: Sink>(&mut self, kernel: &SimKernel, out: &mut K) -> Ran
+        ensures closed { (runner_state self.old).so_far ≡ Ran.Done
+            → Closes (generate_end ((runner_state self.old).script, kernel.now))
+            (K.held out.old) (K.held out.new) result }
+        ensures counted { K.faults out.old ≤ K.faults out.new }
+        ensures cause { (runner_state self.old).so_far ≡ Ran.Done → result ≡ Ran.SinkFailed
+            → Rose (K.faults out.old) (K.faults out.new) }
+        ensures kept { runner_state self.new ≡ record (runner_state self.old) { so_far = result } }
+
+        ensures ended { (runner_state self.old).so_far ≢ Ran.Done
+            → result ≡ (runner_state self.old).so_far }
+        ensures unwritten { (runner_state self.old).so_far ≢ Ran.Done → out.new ≡ out.old }
+    {
+        match self.so_far {
+            Ran::Done => {
+                self.so_far = self.interpreter.write_policy(self.alloc, kernel, out);
                 self.so_far
             }
             other => other,

@@ -2,7 +2,9 @@
 ghost use Rattle.std.specs.Prelude.{◌≡◌, ◌⊎◌, ◌≤◌, ◌-◌, ℕ, false, List, Option, Some, IfOk, OnOk};
 ghost use Rattle.ug_types.specs.Ends.{Rose};
 ghost use Rattle.ug_console.specs.Runs.{Steps};
-ghost use Rattle.ug_sysfs.specs.World.{World};
+ghost use Rattle.ug_sysfs.specs.World.{World, moved};
+ghost use Rattle.ug_script.specs.Generating as generating;
+ghost use Rattle.ug_script.specs.Generating.{skimmed, skimmed_if};
 ghost use Rattle.ug_script.specs.Grammar.{AsksForRule, AsksForRules, step_of_line};
 ghost use Rattle.ug_script.specs.Replay as replay;
 ghost use Rattle.ug_script.specs.Script as script;
@@ -20,7 +22,7 @@ use std::alloc::Global;
 use std::mem;
 use ug_console::Ran;
 use ug_core::Event;
-use ug_sysfs::SimKernel;
+use ug_sysfs::{Move, SimKernel};
 use ug_types::{NoMemory, Sink};
 
 fn takes_setup(phase: &Phase) -> bool
@@ -65,6 +67,13 @@ impl Running {
         }
     }
 
+    /// Whether generated rules name ports.
+    pub fn names_ports(&self) -> bool
+        ensures { result ≡ generating.names_ports self.now.setup }
+    {
+        self.setup.settings.so_far().with_port
+    }
+
     fn close(&mut self)
         ensures { script_of self.new ≡ with_setup_closed (script_of self.old) }
     {
@@ -87,6 +96,20 @@ impl Running {
             Ok(()) => Ran::Done,
             Err(StepFault::Bad) => Ran::Bad,
             Err(StepFault::Memory) => Ran::Memory,
+        }
+    }
+
+    /// Takes what the kernel does by itself, and writes nothing.
+    fn carry_out(&mut self, action: Move, kernel: &mut SimKernel) -> Ran
+        ensures silent { ¬ (result ≡ Ran.SinkFailed) }
+        ensures ran { (held : Option (List ℕ)) → Steps (replay.quiet (with_setup_closed (script_of self.old))
+            (replay.with_devices (moved action kernel.old.kernel.devices) kernel.old))
+            (Some (script_of self.new), kernel.new) held held result }
+    {
+        self.close();
+        match kernel.carry_out(action) {
+            Ok(()) => Ran::Done,
+            Err(_) => Ran::Memory,
         }
     }
 
@@ -216,13 +239,7 @@ impl Running {
         match step {
             Step::Skip => Ran::Done,
             Step::Setup(line) => self.set_up(line),
-            Step::Move(action) => {
-                self.close();
-                match kernel.carry_out(action) {
-                    Ok(()) => Ran::Done,
-                    Err(_) => Ran::Memory,
-                }
-            }
+            Step::Move(action) => self.carry_out(action, kernel),
             Step::Schedule(plan) => {
                 self.close();
                 match schedule(kernel, plan) {
@@ -232,6 +249,38 @@ impl Running {
             }
             Step::Event(event) => self.event(alloc, &event, kernel, out),
             Step::Restart => self.restart(alloc),
+        }
+    }
+
+    /// Takes a line behind the first for `generate-policy`. It writes nothing.
+    pub fn skim(&mut self, alloc: Global, line: &[u8], kernel: &mut SimKernel) -> Ran
+        ensures silent { ¬ (result ≡ Ran.SinkFailed) }
+        ensures ran { (held : Option (List ℕ))
+            → Steps (skimmed_if (step_of_line line.now) (script_of self.old) kernel.old)
+            (Some (script_of self.new), kernel.new) held held result }
+    {
+        match parse_line(alloc, line) {
+            Ok(step) => self.skim_step(step, kernel),
+            Err(StepFault::Bad) => Ran::Bad,
+            Err(StepFault::Memory) => Ran::Memory,
+        }
+    }
+
+    fn skim_step(&mut self, step: Step, kernel: &mut SimKernel) -> Ran
+        requires { AsksForRules step }
+        ensures silent { ¬ (result ≡ Ran.SinkFailed) }
+        ensures ran { (held : Option (List ℕ))
+            → Steps (skimmed step (script_of self.old) kernel.old)
+            (Some (script_of self.new), kernel.new) held held result }
+    {
+        match step {
+            Step::Skip => Ran::Done,
+            Step::Setup(line) => self.set_up(line),
+            Step::Move(action) => self.carry_out(action, kernel),
+            Step::Schedule(_) | Step::Event(_) | Step::Restart => {
+                self.close();
+                Ran::Done
+            }
         }
     }
 }
