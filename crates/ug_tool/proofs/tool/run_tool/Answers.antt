@@ -57,11 +57,11 @@ returns-then-is_check_rules-clause-policy g c = λ e all base a b. absurd (gener
 
 pub returns-then-is_generate_policy-clause-generated : goal.returns-then-is_generate_policy-clause-generated
 returns-then-is_generate_policy-clause-generated g c = λ e all base a b.
-    let r = rw c.new-kernel.ensures at (c.generate_policy.ensures.answers all base a b) in
+    let r = rw c.new-kernel-then-is_generate_policy.ensures at (c.generate_policy.ensures.answers all base a b) in
     (r.0, c.generate_policy.new.kernel, r.1)
 
 pub returns-then-is_generate_policy-clause-policy : goal.returns-then-is_generate_policy-clause-policy
-returns-then-is_generate_policy-clause-policy g c = λ e all base a b. rw c.new-kernel.ensures at (c.generate_policy.ensures.policy all base a b)
+returns-then-is_generate_policy-clause-policy g c = λ e all base a b. rw c.new-kernel-then-is_generate_policy.ensures at (c.generate_policy.ensures.policy all base a b)
 
 pub returns-then-is_generate_policy-clause-laws : goal.returns-then-is_generate_policy-clause-laws
 returns-then-is_generate_policy-clause-laws g c = stays_lawful new_world refl new_sound
@@ -80,3 +80,6 @@ returns-then-is_check_rules-clause-alone g c = λ e all base a b. absurd (genera
 
 pub returns-then-is_generate_policy-clause-alone : goal.returns-then-is_generate_policy-clause-alone
 returns-then-is_generate_policy-clause-alone g c = λ e all base a b. c.generate_policy.ensures.alone all base a b
+
+pub returns-then-is_check_rules-clause-generated_ended : goal.returns-then-is_check_rules-clause-generated_ended
+returns-then-is_check_rules-clause-generated_ended g c = λ e. absurd (generates_and_checks_differ (sym e ∙ c.is_check_rules.ensures.0 c.if-is_check_rules.true))
