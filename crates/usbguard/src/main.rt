@@ -1,6 +1,9 @@
 // The program: the real objects and the top call.
 #![tactic(auto)]
 
+mod usage;
+
+use crate::usage::tell;
 use std::process::ExitCode;
 use std::{env, io};
 use ug_audit::{Auditor, Panel};
@@ -65,7 +68,10 @@ fn main(rt: HostRuntime) -> ExitCode {
         Err(e) if e.kind() == io::ErrorKind::OutOfMemory => {
             return end_with(&mut out, b"no memory\n", 6);
         }
-        Err(_) => return end_with(&mut out, b"bad words\n", 1),
+        Err(_) => {
+            tell(&rt, &[], 1);
+            return end_with(&mut out, b"bad words\n", 1);
+        }
     };
     let mut kept = Vec::new(alloc);
     for text in texts.skip(1) {
@@ -92,5 +98,6 @@ fn main(rt: HostRuntime) -> ExitCode {
             run_tool(alloc, &words, &mut input, &mut out, &mut link)
         }
     };
+    tell(&rt, &words, status);
     ExitCode::from(status)
 }
