@@ -26,6 +26,7 @@ impl Teller for Cases {
             "check-rules" => commands::tell_tool(alloc, "check-rules", case),
             "read-descriptor" => commands::tell_tool(alloc, "read-descriptor", case),
             "read-descriptor-counts" => commands::count_tool(alloc, "read-descriptor", case),
+            "ask" => commands::tell_ask(alloc, case),
             "tool" => commands::tell_tool(alloc, "", case),
             "single-lines" => single_lines::tell(alloc, case),
             "each-call" => each_call::tell(alloc, case),
