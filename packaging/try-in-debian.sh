@@ -97,7 +97,7 @@ completes() {
     check "bash: $1 -> $2" "$bash
         [ \"\$(complete_words $1)\" = '$2' ]"
 }
-completes "usbguard ''" 'check-rules daemon generate-policy read-descriptor replay'
+completes "usbguard ''" 'add-user allow-device append-rule block-device check-rules daemon generate-policy get-parameter list-devices list-rules read-descriptor reject-device remove-rule replay set-parameter watch'
 for command in check-rules daemon generate-policy read-descriptor replay; do
     completes "usbguard ${command%???}" "$command"
 done

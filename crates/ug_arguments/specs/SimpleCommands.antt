@@ -66,6 +66,7 @@ unfoldable pub app_of_word : CommandWord → App
 app_of_word command.Replay = new_app (codes "replay")
 app_of_word command.ReadDescriptor = new_app (codes "read-descriptor")
 app_of_word command.CheckRules = new_app (codes "check-rules")
+app_of_word command.GeneratePolicy = new_app (codes "generate-policy")
 app_of_word command.AddUser = add_user_app
 app_of_word command.GetParameter = get_parameter_app
 app_of_word command.SetParameter = set_parameter_app

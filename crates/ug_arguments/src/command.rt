@@ -11,6 +11,7 @@ pub enum Command {
     Replay,
     ReadDescriptor,
     CheckRules,
+    GeneratePolicy,
     /// Adds privileges to the access text of a user or a group.
     AddUser { name: Principal, asked: Asked },
     /// Asks the daemon that listens at that path. The path and the request hold no newline.

@@ -10,6 +10,7 @@ pub enum CommandWord {
     Replay,
     ReadDescriptor,
     CheckRules,
+    GeneratePolicy,
     AddUser,
     GetParameter,
     SetParameter,
@@ -72,6 +73,9 @@ pub fn command_word(text: &str) -> Option<CommandWord>
     }
     if text == "check-rules" {
         return Some(CommandWord::CheckRules);
+    }
+    if text == "generate-policy" {
+        return Some(CommandWord::GeneratePolicy);
     }
     if text == "add-user" {
         return Some(CommandWord::AddUser);

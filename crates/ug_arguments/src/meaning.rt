@@ -71,6 +71,7 @@ pub fn meaning(
         CommandWord::Replay => Ok(Command::Replay),
         CommandWord::ReadDescriptor => Ok(Command::ReadDescriptor),
         CommandWord::CheckRules => Ok(Command::CheckRules),
+        CommandWord::GeneratePolicy => Ok(Command::GeneratePolicy),
         CommandWord::AddUser => add_user(matches),
         CommandWord::GetParameter => ask(alloc, matches, get_parameter(alloc, matches)?),
         CommandWord::SetParameter => ask(alloc, matches, set_parameter(alloc, matches)?),

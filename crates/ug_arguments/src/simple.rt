@@ -111,6 +111,7 @@ pub fn simple_command<'a>(alloc: Global, word: CommandWord) -> Result<Command<'a
         CommandWord::Replay => Ok(Command::new(alloc, "replay")),
         CommandWord::ReadDescriptor => Ok(Command::new(alloc, "read-descriptor")),
         CommandWord::CheckRules => Ok(Command::new(alloc, "check-rules")),
+        CommandWord::GeneratePolicy => Ok(Command::new(alloc, "generate-policy")),
         CommandWord::AddUser => add_user(alloc),
         CommandWord::GetParameter => get_parameter(alloc),
         CommandWord::SetParameter => set_parameter(alloc),

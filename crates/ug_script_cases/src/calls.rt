@@ -29,6 +29,18 @@ pub fn replay(alloc: Global, call: Call) -> Result<(Ran, SimKernel), NoMemory> {
     Ok((Ran { status, output }, kernel))
 }
 
+/// A command that asks the daemon, over a link that gives the input, or one that can't be dialled; and what it sent.
+pub fn ask(alloc: Global, call: Call, reachable: bool) -> Result<(Ran, Vec<u8>), NoMemory> {
+    let mut input = MemSource::new(Vec::new(alloc), Vec::new(alloc));
+    let mut out = MemSink::new(alloc, call.writes);
+    let coming = MemSource::new(call.input, call.reads);
+    let mut link = MemLink::new(reachable, coming, MemSink::new(alloc, Vec::new(alloc)));
+    let status = run_tool(alloc, &call.words, &mut input, &mut out, &mut link);
+    let output = Vec::from_slice(alloc, out.bytes())?;
+    let sent = Vec::from_slice(alloc, link.sent())?;
+    Ok((Ran { status, output }, sent))
+}
+
 pub fn tool(alloc: Global, call: Call) -> Result<Ran, NoMemory> {
     let mut input = MemSource::new(call.input, call.reads);
     let mut out = MemSink::new(alloc, call.writes);

@@ -1,10 +1,11 @@
 // What commands write, and how they end.
-use crate::calls::{Call, Ran, replay, tool};
+use crate::calls::{Call, Ran, ask, replay, tool};
 use std::alloc::Global;
 use ug_casefile::{Case, number_of};
 use ug_types::NoMemory;
 
-// The words of the setting `words`, or the one word.
+// The words of the setting `words`, or the one word; and behind them those of the settings `word`, each of which may hold
+// spaces.
 fn words<'a>(alloc: Global, case: &'a Case, word: &'a str) -> Result<Vec<&'a str>, NoMemory> {
     let mut words = Vec::new(alloc);
     let Some(line) = case.setting(b"words") else {
@@ -16,7 +17,17 @@ fn words<'a>(alloc: Global, case: &'a Case, word: &'a str) -> Result<Vec<&'a str
             words.push(str::from_utf8(part).unwrap_or(""))?;
         }
     }
+    push_whole_words(&mut words, case)?;
     Ok(words)
+}
+
+fn push_whole_words<'a>(words: &mut Vec<&'a str>, case: &'a Case) -> Result<(), NoMemory> {
+    for setting in case.settings.as_slice() {
+        if setting.key.as_slice() == b"word".as_slice() {
+            words.push(str::from_utf8(&setting.value).unwrap_or(""))?;
+        }
+    }
+    Ok(())
 }
 
 pub fn numbers(alloc: Global, case: &Case, key: &[u8]) -> Result<Vec<u64>, NoMemory> {
@@ -72,6 +83,19 @@ pub fn tell_tool(alloc: Global, word: &str, case: &Case) -> Result<Vec<u8>, NoMe
     let end = format!(in alloc; "status {status}")?;
     output.extend_from_slice(end.as_bytes())?;
     Ok(output)
+}
+
+/// What a command sends and writes whose link gives the input, and its status. The setting `unreachable` stands where no
+/// daemon listens.
+pub fn tell_ask(alloc: Global, case: &Case) -> Result<Vec<u8>, NoMemory> {
+    let reachable = case.setting(b"unreachable").is_none();
+    let (Ran { status, output }, sent) = ask(alloc, call(alloc, case, "")?, reachable)?;
+    let mut told = Vec::from_slice(alloc, b"sent ")?;
+    told.extend_from_slice(&sent)?;
+    told.extend_from_slice(b"printed ")?;
+    told.extend_from_slice(&output)?;
+    told.extend_from_slice(format!(in alloc; "status {status}")?.as_bytes())?;
+    Ok(told)
 }
 
 /// How many lines a command writes, and its status.

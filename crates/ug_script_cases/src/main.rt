@@ -27,6 +27,7 @@ impl Teller for Cases {
             "read-descriptor" => commands::tell_tool(alloc, "read-descriptor", case),
             "read-descriptor-counts" => commands::count_tool(alloc, "read-descriptor", case),
             "generate-policy" => commands::tell_tool(alloc, "generate-policy", case),
+            "ask" => commands::tell_ask(alloc, case),
             "tool" => commands::tell_tool(alloc, "", case),
             "single-lines" => single_lines::tell(alloc, case),
             "each-call" => each_call::tell(alloc, case),

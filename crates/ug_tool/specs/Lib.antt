@@ -1,2 +1,4 @@
+pub mod Client
+pub mod Faults
 pub mod Replay
 pub mod Tool

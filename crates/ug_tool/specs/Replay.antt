@@ -1,15 +1,6 @@
--- The words of the command `replay`, and its world.
-use Rattle.std.specs.Prelude.{◌≡◌, ℕ, false, List, [], ◌∷◌, Option, codes, ◌⊎◌}
-use Rattle.std.specs.Io.KnownBytes.{Appends}
-use Rattle.ug_types.specs.Ends.{Puts}
-use Rattle.ug_types.specs.declared.sink.Put.TheVariants.{Failed}
+-- The world in which a script begins.
+use Rattle.std.specs.Prelude.{false, []}
 use Rattle.ug_sysfs.specs.World.{World}
-
-unfoldable pub replay_words : List (List ℕ)
-replay_words = codes "replay" ∷ []
-
-unfoldable pub bad_words : List ℕ
-bad_words = codes "bad words\n"
 
 -- no device, no open file, an empty log, and nothing scheduled
 abbrev pub new_world : World
@@ -22,7 +13,3 @@ new_world = record {
   made = [];
   ran_out = false;
 }
-
--- the fault line was written, or a front of it where the sink failed
-abbrev pub IsRefused : Option (List ℕ) → Option (List ℕ) → ℕ → Type 0
-IsRefused before after status = ((status ≡ 1) × Appends before after bad_words) ⊎ ((status ≡ 5) × Puts before after bad_words Failed)

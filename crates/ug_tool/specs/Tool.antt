@@ -1,11 +1,24 @@
--- The words of the commands `read-descriptor`, `check-rules` and `generate-policy`.
-use Rattle.std.specs.Prelude.{ℕ, List, [], ◌∷◌, codes}
+-- Which commands do what beside.
+use Rattle.std.specs.Prelude.{Bool, true, false}
+use Rattle.ug_arguments.specs.declared.command.Command.{Command}
+use Rattle.ug_arguments.specs.declared.command.Command.TheVariants.{Replay, ReadDescriptor, CheckRules, GeneratePolicy, AddUser, Ask, Watch}
 
-unfoldable pub read_descriptor_words : List (List ℕ)
-read_descriptor_words = codes "read-descriptor" ∷ []
+-- the command asks the daemon
+abbrev pub asks_daemon : Command → Bool
+asks_daemon Replay = false
+asks_daemon ReadDescriptor = false
+asks_daemon CheckRules = false
+asks_daemon GeneratePolicy = false
+asks_daemon (AddUser name asked) = false
+asks_daemon (Ask socket request) = true
+asks_daemon (Watch socket most) = true
 
-unfoldable pub check_rules_words : List (List ℕ)
-check_rules_words = codes "check-rules" ∷ []
-
-unfoldable pub generate_policy_words : List (List ℕ)
-generate_policy_words = codes "generate-policy" ∷ []
+-- its status is one of a command that reads an input
+abbrev pub gives_ended : Command → Bool
+gives_ended Replay = true
+gives_ended ReadDescriptor = true
+gives_ended CheckRules = false
+gives_ended GeneratePolicy = true
+gives_ended (AddUser name asked) = true
+gives_ended (Ask socket request) = false
+gives_ended (Watch socket most) = false

@@ -1,6 +1,9 @@
 // The commands.
 #![tactic(auto)]
 
+mod client;
+mod command;
+mod faults;
 mod replay;
 mod tool;
 

@@ -1,19 +1,22 @@
 // The program: the real objects and the top call.
 #![tactic(auto)]
 
+mod usage;
+
+use crate::usage::tell;
 use std::collections::VecDeque;
 use std::process::ExitCode;
 use std::{env, io};
 use ug_audit::{Auditor, Panel};
 use ug_host::{
-    ConfFolder, LocalZone, RuleFile, SecondWaiter, SysfsFolder, SystemClock, WriterAuditor,
-    read_seed,
+    ConfFolder, LocalZone, RuleFile, SecondWaiter, SocketLink, SysfsFolder, SystemClock,
+    WriterAuditor, read_seed,
 };
 use ug_links::{MemLinks, Script};
 use ug_serve::run_daemon;
 use ug_sysfs::SimKernel;
 use ug_tool::{run_replay, run_tool};
-use ug_types::{MemLink, MemSink, MemSource, Put, ReaderSource, Sink, WriterSink};
+use ug_types::{Put, ReaderSource, Sink, WriterSink};
 
 /// Writes a fault line, and gives its status, or that of a failed write.
 fn end_with<K: Sink>(out: &mut K, line: &[u8], status: u8) -> ExitCode {
@@ -68,7 +71,10 @@ fn main(rt: HostRuntime) -> ExitCode {
         Err(e) if e.kind() == io::ErrorKind::OutOfMemory => {
             return end_with(&mut out, b"no memory\n", 6);
         }
-        Err(_) => return end_with(&mut out, b"bad words\n", 1),
+        Err(_) => {
+            tell(&rt, &[], 1);
+            return end_with(&mut out, b"bad words\n", 1);
+        }
     };
     let mut kept = Vec::new(alloc);
     for text in texts.skip(1) {
@@ -90,10 +96,10 @@ fn main(rt: HostRuntime) -> ExitCode {
             run_replay(alloc, &words, &mut input, &mut out, &mut kernel)
         }
         _ => {
-            let coming = MemSource::new(Vec::new(alloc), Vec::new(alloc));
-            let mut link = MemLink::new(false, coming, MemSink::new(alloc, Vec::new(alloc)));
+            let mut link = SocketLink::new(rt);
             run_tool(alloc, &words, &mut input, &mut out, &mut link)
         }
     };
+    tell(&rt, &words, status);
     ExitCode::from(status)
 }

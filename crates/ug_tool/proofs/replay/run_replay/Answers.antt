@@ -1,21 +1,25 @@
-use Rattle.std.proofs.Common.{refl}
+use Rattle.std.proofs.Common.{None, refl}
+use Rattle.ug_console.specs.Fold.{of_first}
+use Rattle.ug_script.specs.Replay.{script_step, script_end}
 use Rattle.ug_sysfs.specs.Sound.{new_sound}
-use Rattle.ug_script.specs.Replay.{interpreter_state}
 use Rattle.ug_script.proofs.Journals.{stays_lawful, stays_recorded}
 use Rattle.ug_tool.specs.Replay.{new_world}
+use Rattle.ug_tool.proofs.Memory.{lines_unread, only_memory}
 use Rattle.ug_tool.proofs.replay.run_replay.Goals as goal
 
-pub returns-then-not-is_replay-clause-laws : goal.returns-then-not-is_replay-clause-laws
-returns-then-not-is_replay-clause-laws g c = stays_lawful new_world refl new_sound
+pub returns-in-Ok-clause-laws : goal.returns-in-Ok-clause-laws
+returns-in-Ok-clause-laws g c = stays_lawful new_world refl new_sound
 
-pub returns-clause-replayed : goal.returns-clause-replayed
-returns-clause-replayed g c = λ is all base a b. (interpreter_state c.run.new.machine, rw c.new-interpreter.ensures at (rw c.requires at (c.run.ensures.answers all base a b)))
+pub returns-in-Ok-clause-recorded : goal.returns-in-Ok-clause-recorded
+returns-in-Ok-clause-recorded g c = stays_recorded new_world refl new_sound
 
-pub returns-clause-laws : goal.returns-clause-laws
-returns-clause-laws g c = stays_lawful new_world refl new_sound
+pub returns-in-Err-clause-laws : goal.returns-in-Err-clause-laws
+returns-in-Err-clause-laws g c = stays_lawful new_world refl new_sound
 
-pub returns-then-not-is_replay-clause-recorded : goal.returns-then-not-is_replay-clause-recorded
-returns-then-not-is_replay-clause-recorded g c = stays_recorded new_world refl new_sound
+pub returns-in-Err-clause-recorded : goal.returns-in-Err-clause-recorded
+returns-in-Err-clause-recorded g c = stays_recorded new_world refl new_sound
 
-pub returns-clause-recorded : goal.returns-clause-recorded
-returns-clause-recorded g c = stays_recorded new_world refl new_sound
+pub returns-in-Err-clause-replayed : goal.returns-in-Err-clause-replayed
+returns-in-Err-clause-replayed g c = λ e all base a b.
+    let short = c.refuse.ensures.memory (only_memory c.in-Err.fault c.in-Err.ensures.bad e) in
+    (None, rw (a, c.requires) (lines_unread script_step (of_first script_end) (None, new_world) all base (g.K.Sink.held c.refuse.new.out) c.refuse.result (rw b at short)))

@@ -1,85 +1,109 @@
-use Rattle.std.proofs.Common.{refl, sym, ◌∙◌}
+use Rattle.std.proofs.Common.{ℕ, List, None, Bor, map, refl}
+use Rattle.ug_console.specs.Fold.{of_first}
+use Rattle.ug_console.specs.Statuses.{status_of}
+use Rattle.ug_console.specs.WholeInputs.{input_limit}
+use Rattle.ug_script.specs.Generating.{generate_end, generate_step}
+use Rattle.ug_script.specs.Replay.{script_step, script_end}
+use Rattle.ug_commands.specs.Listing as listing
+use Rattle.ug_commands.specs.Checking as checking
+use Rattle.ug_users.specs.Adding as adding
+use Rattle.ug_client.specs.Asking.{request_line}
+use Rattle.ug_proto.specs.declared.request.Request.TheVariants as request
+use Rattle.ug_arguments.specs.Commands.{command_in}
 use Rattle.ug_sysfs.specs.Sound.{new_sound}
 use Rattle.ug_script.proofs.Journals.{stays_lawful, stays_recorded}
 use Rattle.ug_tool.specs.Replay.{new_world}
-use Rattle.ug_tool.proofs.Words.{commands_differ, check_rules_differs, checks_and_reads_differ, generates_and_replays_differ, generates_and_checks_differ, generates_and_reads_differ}
+use Rattle.ug_tool.proofs.Memory.{fault_is_memory, input_unread, lines_unread, memory_alone, memory_undone, request_unsent, same_command, watch_unsent}
 use Rattle.ug_tool.proofs.tool.run_tool.Goals as goal
 
-pub returns-then-is_replay-clause-replayed : goal.returns-then-is_replay-clause-replayed
-returns-then-is_replay-clause-replayed g c = λ e all base a b.
-    let r = c.run_replay.ensures.replayed e all base a b in
-    (r.0, c.run_replay.new.kernel, r.1)
+pub returns-in-Ok-clause-laws : goal.returns-in-Ok-clause-laws
+returns-in-Ok-clause-laws g c = stays_lawful new_world refl new_sound
 
-pub returns-then-is_replay-clause-listed : goal.returns-then-is_replay-clause-listed
-returns-then-is_replay-clause-listed g c = λ e all base a b. absurd (commands_differ (sym (c.is_replay.ensures.0 c.if-is_replay.true) ∙ e))
+pub returns-in-Ok-clause-recorded : goal.returns-in-Ok-clause-recorded
+returns-in-Ok-clause-recorded g c = stays_recorded new_world refl new_sound
 
-pub returns-then-is_read_descriptor-clause-laws : goal.returns-then-is_read_descriptor-clause-laws
-returns-then-is_read_descriptor-clause-laws g c = stays_lawful new_world refl new_sound
+pub returns-in-Ok-clause-replayed : goal.returns-in-Ok-clause-replayed
+returns-in-Ok-clause-replayed g c = λ e. c.carry_out.ensures.replayed (same_command (command_in (map (λ (w : Bor (List ℕ)). w.now) c.args.words.now)) _ _ c.in-Ok.ensures.ok e)
 
-pub returns-then-is_read_descriptor-clause-recorded : goal.returns-then-is_read_descriptor-clause-recorded
-returns-then-is_read_descriptor-clause-recorded g c = stays_recorded new_world refl new_sound
+pub returns-in-Ok-clause-listed : goal.returns-in-Ok-clause-listed
+returns-in-Ok-clause-listed g c = λ e. c.carry_out.ensures.listed (same_command (command_in (map (λ (w : Bor (List ℕ)). w.now) c.args.words.now)) _ _ c.in-Ok.ensures.ok e)
 
-pub returns-clause-laws : goal.returns-clause-laws
-returns-clause-laws g c = stays_lawful new_world refl new_sound
+pub returns-in-Ok-clause-checked : goal.returns-in-Ok-clause-checked
+returns-in-Ok-clause-checked g c = λ e. c.carry_out.ensures.checked (same_command (command_in (map (λ (w : Bor (List ℕ)). w.now) c.args.words.now)) _ _ c.in-Ok.ensures.ok e)
 
-pub returns-clause-recorded : goal.returns-clause-recorded
-returns-clause-recorded g c = stays_recorded new_world refl new_sound
+pub returns-in-Ok-clause-generated : goal.returns-in-Ok-clause-generated
+returns-in-Ok-clause-generated g c = λ e. c.carry_out.ensures.generated (same_command (command_in (map (λ (w : Bor (List ℕ)). w.now) c.args.words.now)) _ _ c.in-Ok.ensures.ok e)
 
-pub returns-then-is_replay-clause-checked : goal.returns-then-is_replay-clause-checked
-returns-then-is_replay-clause-checked g c = λ e all base a b. absurd (check_rules_differs (sym e ∙ c.is_replay.ensures.0 c.if-is_replay.true))
+pub returns-in-Ok-clause-policy : goal.returns-in-Ok-clause-policy
+returns-in-Ok-clause-policy g c = λ e. c.carry_out.ensures.policy (same_command (command_in (map (λ (w : Bor (List ℕ)). w.now) c.args.words.now)) _ _ c.in-Ok.ensures.ok e)
 
-pub returns-then-is_read_descriptor-clause-checked : goal.returns-then-is_read_descriptor-clause-checked
-returns-then-is_read_descriptor-clause-checked g c = λ e all base a b. absurd (checks_and_reads_differ (sym e ∙ c.is_read_descriptor.ensures.0 c.if-is_read_descriptor.true))
+pub returns-in-Ok-clause-alone : goal.returns-in-Ok-clause-alone
+returns-in-Ok-clause-alone g c = λ e. c.carry_out.ensures.alone (same_command (command_in (map (λ (w : Bor (List ℕ)). w.now) c.args.words.now)) _ _ c.in-Ok.ensures.ok e)
 
-pub returns-then-is_check_rules-clause-laws : goal.returns-then-is_check_rules-clause-laws
-returns-then-is_check_rules-clause-laws g c = stays_lawful new_world refl new_sound
+pub returns-in-Ok-clause-added : goal.returns-in-Ok-clause-added
+returns-in-Ok-clause-added g c = λ name asked e. c.carry_out.ensures.added name asked (same_command (command_in (map (λ (w : Bor (List ℕ)). w.now) c.args.words.now)) _ _ c.in-Ok.ensures.ok e)
 
-pub returns-then-is_check_rules-clause-recorded : goal.returns-then-is_check_rules-clause-recorded
-returns-then-is_check_rules-clause-recorded g c = stays_recorded new_world refl new_sound
+pub returns-in-Ok-clause-asked : goal.returns-in-Ok-clause-asked
+returns-in-Ok-clause-asked g c = λ socket request e. c.carry_out.ensures.asked socket request (same_command (command_in (map (λ (w : Bor (List ℕ)). w.now) c.args.words.now)) _ _ c.in-Ok.ensures.ok e)
 
-pub returns-then-is_replay-clause-generated : goal.returns-then-is_replay-clause-generated
-returns-then-is_replay-clause-generated g c = λ e all base a b. absurd (generates_and_replays_differ (sym e ∙ c.is_replay.ensures.0 c.if-is_replay.true))
+pub returns-in-Ok-clause-watched : goal.returns-in-Ok-clause-watched
+returns-in-Ok-clause-watched g c = λ socket most e. c.carry_out.ensures.watched socket most (same_command (command_in (map (λ (w : Bor (List ℕ)). w.now) c.args.words.now)) _ _ c.in-Ok.ensures.ok e)
 
-pub returns-then-is_replay-clause-policy : goal.returns-then-is_replay-clause-policy
-returns-then-is_replay-clause-policy g c = λ e all base a b. absurd (generates_and_replays_differ (sym e ∙ c.is_replay.ensures.0 c.if-is_replay.true))
+pub returns-in-Err-clause-laws : goal.returns-in-Err-clause-laws
+returns-in-Err-clause-laws g c = stays_lawful new_world refl new_sound
 
-pub returns-then-is_read_descriptor-clause-generated : goal.returns-then-is_read_descriptor-clause-generated
-returns-then-is_read_descriptor-clause-generated g c = λ e all base a b. absurd (generates_and_reads_differ (sym e ∙ c.is_read_descriptor.ensures.0 c.if-is_read_descriptor.true))
+pub returns-in-Err-clause-recorded : goal.returns-in-Err-clause-recorded
+returns-in-Err-clause-recorded g c = stays_recorded new_world refl new_sound
 
-pub returns-then-is_read_descriptor-clause-policy : goal.returns-then-is_read_descriptor-clause-policy
-returns-then-is_read_descriptor-clause-policy g c = λ e all base a b. absurd (generates_and_reads_differ (sym e ∙ c.is_read_descriptor.ensures.0 c.if-is_read_descriptor.true))
+pub returns-in-Err-clause-replayed : goal.returns-in-Err-clause-replayed
+returns-in-Err-clause-replayed g c = λ e all base a b.
+    let words = command_in (map (λ (w : Bor (List ℕ)). w.now) c.args.words.now) in
+    let short = c.refuse.ensures.memory (fault_is_memory words _ c.in-Err.fault c.in-Err.ensures.err e) in
+    (None, new_world, rw a (lines_unread script_step (of_first script_end) (None, new_world) all base (g.K.Sink.held c.refuse.new.out) c.refuse.result (rw b at short)))
 
-pub returns-then-is_check_rules-clause-generated : goal.returns-then-is_check_rules-clause-generated
-returns-then-is_check_rules-clause-generated g c = λ e all base a b. absurd (generates_and_checks_differ (sym e ∙ c.is_check_rules.ensures.0 c.if-is_check_rules.true))
+pub returns-in-Err-clause-listed : goal.returns-in-Err-clause-listed
+returns-in-Err-clause-listed g c = λ e all base a b.
+    let words = command_in (map (λ (w : Bor (List ℕ)). w.now) c.args.words.now) in
+    let short = c.refuse.ensures.memory (fault_is_memory words _ c.in-Err.fault c.in-Err.ensures.err e) in
+    rw a (input_unread status_of input_limit listing.IsListed listing.IsRefused all base (g.K.Sink.held c.refuse.new.out) c.refuse.result refl refl (rw b at short))
 
-pub returns-then-is_check_rules-clause-policy : goal.returns-then-is_check_rules-clause-policy
-returns-then-is_check_rules-clause-policy g c = λ e all base a b. absurd (generates_and_checks_differ (sym e ∙ c.is_check_rules.ensures.0 c.if-is_check_rules.true))
+pub returns-in-Err-clause-checked : goal.returns-in-Err-clause-checked
+returns-in-Err-clause-checked g c = λ e all base a b.
+    let words = command_in (map (λ (w : Bor (List ℕ)). w.now) c.args.words.now) in
+    let short = c.refuse.ensures.memory (fault_is_memory words _ c.in-Err.fault c.in-Err.ensures.err e) in
+    rw a (input_unread checking.status_of input_limit checking.IsCounted checking.IsRefused all base (g.K.Sink.held c.refuse.new.out) c.refuse.result refl refl (rw b at short))
 
-pub returns-then-is_generate_policy-clause-generated : goal.returns-then-is_generate_policy-clause-generated
-returns-then-is_generate_policy-clause-generated g c = λ e all base a b.
-    let r = rw c.new-kernel-then-is_generate_policy.ensures at (c.generate_policy.ensures.answers all base a b) in
-    (r.0, c.generate_policy.new.kernel, r.1)
+pub returns-in-Err-clause-generated : goal.returns-in-Err-clause-generated
+returns-in-Err-clause-generated g c = λ e all base a b.
+    let words = command_in (map (λ (w : Bor (List ℕ)). w.now) c.args.words.now) in
+    let short = c.refuse.ensures.memory (fault_is_memory words _ c.in-Err.fault c.in-Err.ensures.err e) in
+    (None, new_world, rw a (lines_unread generate_step generate_end (None, new_world) all base (g.K.Sink.held c.refuse.new.out) c.refuse.result (rw b at short)))
 
-pub returns-then-is_generate_policy-clause-policy : goal.returns-then-is_generate_policy-clause-policy
-returns-then-is_generate_policy-clause-policy g c = λ e all base a b. rw c.new-kernel-then-is_generate_policy.ensures at (c.generate_policy.ensures.policy all base a b)
+pub returns-in-Err-clause-policy : goal.returns-in-Err-clause-policy
+returns-in-Err-clause-policy g c = λ e all base a b done.
+    let words = command_in (map (λ (w : Bor (List ℕ)). w.now) c.args.words.now) in
+    absurd (memory_undone (g.K.Sink.held c.args.out.now) (g.K.Sink.held c.refuse.new.out) c.refuse.result (c.refuse.ensures.memory (fault_is_memory words _ c.in-Err.fault c.in-Err.ensures.err e)) done)
 
-pub returns-then-is_generate_policy-clause-laws : goal.returns-then-is_generate_policy-clause-laws
-returns-then-is_generate_policy-clause-laws g c = stays_lawful new_world refl new_sound
+pub returns-in-Err-clause-alone : goal.returns-in-Err-clause-alone
+returns-in-Err-clause-alone g c = λ e all base a b.
+    let words = command_in (map (λ (w : Bor (List ℕ)). w.now) c.args.words.now) in
+    let short = c.refuse.ensures.memory (fault_is_memory words _ c.in-Err.fault c.in-Err.ensures.err e) in
+    memory_alone base (g.K.Sink.held c.refuse.new.out) c.refuse.result (rw b at short)
 
-pub returns-then-is_generate_policy-clause-recorded : goal.returns-then-is_generate_policy-clause-recorded
-returns-then-is_generate_policy-clause-recorded g c = stays_recorded new_world refl new_sound
+pub returns-in-Err-clause-added : goal.returns-in-Err-clause-added
+returns-in-Err-clause-added g c = λ name asked e all base a b.
+    let words = command_in (map (λ (w : Bor (List ℕ)). w.now) c.args.words.now) in
+    let short = c.refuse.ensures.memory (fault_is_memory words _ c.in-Err.fault c.in-Err.ensures.err e) in
+    rw a (input_unread status_of input_limit (adding.IsUnited asked) adding.IsRefused all base (g.K.Sink.held c.refuse.new.out) c.refuse.result refl refl (rw b at short))
 
-pub returns-then-is_replay-clause-alone : goal.returns-then-is_replay-clause-alone
-returns-then-is_replay-clause-alone g c = λ e all base a b. absurd (generates_and_replays_differ (sym e ∙ c.is_replay.ensures.0 c.if-is_replay.true))
+pub returns-in-Err-clause-asked : goal.returns-in-Err-clause-asked
+returns-in-Err-clause-asked g c = λ socket asking e.
+    let words = command_in (map (λ (w : Bor (List ℕ)). w.now) c.args.words.now) in
+    request_unsent (request_line asking) (g.L.Link.sent c.args.link.now) (g.L.Link.left c.args.link.now) (g.K.Sink.held c.args.out.now) (g.K.Sink.held c.refuse.new.out) (g.L.Link.faults c.args.link.now) c.refuse.result
+    (c.refuse.ensures.memory (fault_is_memory words _ c.in-Err.fault c.in-Err.ensures.err e))
 
-pub returns-then-is_read_descriptor-clause-alone : goal.returns-then-is_read_descriptor-clause-alone
-returns-then-is_read_descriptor-clause-alone g c = λ e all base a b. absurd (generates_and_reads_differ (sym e ∙ c.is_read_descriptor.ensures.0 c.if-is_read_descriptor.true))
-
-pub returns-then-is_check_rules-clause-alone : goal.returns-then-is_check_rules-clause-alone
-returns-then-is_check_rules-clause-alone g c = λ e all base a b. absurd (generates_and_checks_differ (sym e ∙ c.is_check_rules.ensures.0 c.if-is_check_rules.true))
-
-pub returns-then-is_generate_policy-clause-alone : goal.returns-then-is_generate_policy-clause-alone
-returns-then-is_generate_policy-clause-alone g c = λ e all base a b. c.generate_policy.ensures.alone all base a b
-
-pub returns-then-is_check_rules-clause-generated_ended : goal.returns-then-is_check_rules-clause-generated_ended
-returns-then-is_check_rules-clause-generated_ended g c = λ e. absurd (generates_and_checks_differ (sym e ∙ c.is_check_rules.ensures.0 c.if-is_check_rules.true))
+pub returns-in-Err-clause-watched : goal.returns-in-Err-clause-watched
+returns-in-Err-clause-watched g c = λ socket most e.
+    let words = command_in (map (λ (w : Bor (List ℕ)). w.now) c.args.words.now) in
+    watch_unsent (request_line request.Watch) most (g.L.Link.sent c.args.link.now) (g.L.Link.left c.args.link.now) (g.K.Sink.held c.args.out.now) (g.K.Sink.held c.refuse.new.out) (g.L.Link.faults c.args.link.now) c.refuse.result
+    (c.refuse.ensures.memory (fault_is_memory words _ c.in-Err.fault c.in-Err.ensures.err e))

@@ -1,0 +1,66 @@
+// The commands that ask the daemon.
+ghost use Rattle.std.specs.Prelude.{◌≡◌, ◌≢◌, ◌≤◌};
+ghost use Rattle.ug_types.specs.Ends.{Rose};
+ghost use Rattle.ug_proto.specs.declared.request.Request.TheVariants as request;
+ghost use Rattle.ug_client.specs.Asking.{request_line};
+ghost use Rattle.ug_tool.specs.Client.{AsksAndEnds, Ends, WatchesAndEnds};
+
+use crate::faults::end_with;
+use std::alloc::Global;
+use ug_client::{Asked, ask, watch};
+use ug_proto::Request;
+use ug_types::{Link, Sink};
+
+/// The status, and the fault line that belongs to it.
+#[tactic(auto, unfolding(crate::specs::Client::link_fault, ug_console::specs::Fold::no_memory))]
+fn end<K: Sink>(out: &mut K, asked: Asked) -> u8
+    ensures ends { Ends (K.held out.old) (K.held out.new) asked result }
+    ensures not_read { result ≢ 4 }
+    ensures counted { K.faults out.old ≤ K.faults out.new }
+    ensures written { asked ≢ Asked.WriteFault → result ≡ 5 → Rose (K.faults out.old) (K.faults out.new) }
+{
+    match asked {
+        Asked::Done => 0,
+        Asked::Refused => 7,
+        Asked::NoReply => end_with(out, b"link fault\n", 8),
+        Asked::LinkFailed => end_with(out, b"link fault\n", 8),
+        Asked::WriteFault => 5,
+        Asked::Memory => end_with(out, b"no memory\n", 6),
+    }
+}
+
+/// Sends the request, and prints the reply.
+pub fn ask_daemon<L: Link, K: Sink>(
+    alloc: Global,
+    link: &mut L,
+    path: &[u8],
+    request: &Request,
+    out: &mut K,
+) -> u8
+    ensures asks { AsksAndEnds (request_line request.now) (L.sent link.old) (L.sent link.new)
+        (L.left link.old) (L.left link.new) (K.held out.old) (K.held out.new)
+        (L.faults link.old) (L.faults link.new) result }
+    ensures not_read { result ≢ 4 }
+    ensures written { result ≡ 5 → Rose (K.faults out.old) (K.faults out.new) }
+{
+    let asked = ask(alloc, link, path, request, out);
+    end(out, asked)
+}
+
+/// Asks for notices, and prints so many at most.
+pub fn watch_daemon<L: Link, K: Sink>(
+    alloc: Global,
+    link: &mut L,
+    path: &[u8],
+    most: u64,
+    out: &mut K,
+) -> u8
+    ensures watches { WatchesAndEnds (request_line request.Watch) most (L.sent link.old) (L.sent link.new)
+        (L.left link.old) (L.left link.new) (K.held out.old) (K.held out.new)
+        (L.faults link.old) (L.faults link.new) result }
+    ensures not_read { result ≢ 4 }
+    ensures written { result ≡ 5 → Rose (K.faults out.old) (K.faults out.new) }
+{
+    let asked = watch(alloc, link, path, most, out);
+    end(out, asked)
+}

@@ -1,0 +1,89 @@
+// A command that was read.
+ghost use Rattle.std.specs.Prelude.{◌≡◌, ◌⊎◌, ◌++◌, [], ℕ, List, Option, Some, None, true, false};
+ghost use Rattle.ug_types.specs.Ends.{Rose};
+ghost use Rattle.ug_types.specs.Principals.{Named};
+ghost use Rattle.ug_console.specs.Fold.{of_first};
+ghost use Rattle.ug_console.specs.Statuses.{status_of};
+ghost use Rattle.ug_console.specs.Statuses as lines;
+ghost use Rattle.ug_console.specs.declared.results.Ended.{Ended};
+ghost use Rattle.ug_sysfs.specs.World.{World};
+ghost use Rattle.ug_lines.specs.Lines.{lines_of};
+ghost use Rattle.ug_script.specs.Generating.{IsFirstPolicy, TellsFaultAlone, generate_end, generate_step};
+ghost use Rattle.ug_script.specs.Script.{Script};
+ghost use Rattle.ug_script.specs.Replay.{script_step, script_end};
+ghost use Rattle.ug_commands.specs.Listing as listing;
+ghost use Rattle.ug_commands.specs.Checking as checking;
+ghost use Rattle.ug_users.specs.Adding as adding;
+ghost use Rattle.ug_users.specs.declared.asked.Asked.{Asked};
+ghost use Rattle.ug_proto.specs.declared.request.Request.{Request};
+ghost use Rattle.ug_proto.specs.declared.request.Request.TheVariants as request;
+ghost use Rattle.ug_client.specs.Asking.{request_line};
+ghost use Rattle.ug_arguments.specs.declared.command.Command.TheVariants as commands;
+ghost use Rattle.ug_tool.specs.Client.{AsksAndEnds, WatchesAndEnds};
+ghost use Rattle.ug_tool.specs.Replay.{new_world};
+ghost use Rattle.ug_tool.specs.Tool.{asks_daemon, gives_ended};
+
+use crate::client::{ask_daemon, watch_daemon};
+use crate::replay::replay_over;
+use std::alloc::Global;
+use ug_arguments::Command;
+use ug_commands::{check_rules, list_descriptors};
+use ug_script::generate_policy;
+use ug_sysfs::SimKernel;
+use ug_types::{Link, Sink, Source};
+use ug_users::add_user;
+
+/// Carries the command out.
+pub fn carry_out<S: Source, K: Sink, L: Link>(
+    alloc: Global,
+    command: &Command,
+    input: &mut S,
+    out: &mut K,
+    link: &mut L,
+) -> u8
+    ensures replayed { command.now ≡ commands.Replay → (all base : List ℕ) → S.left input.old ≡ Some all → K.held out.old ≡ Some base
+        → (script : Option Script) × (world : World) × lines.Answers script_step (of_first script_end) (None, new_world) all base (S.left input.new) (K.held out.new) (script, world) result }
+    ensures listed { command.now ≡ commands.ReadDescriptor → (all base : List ℕ) → S.left input.old ≡ Some all → K.held out.old ≡ Some base
+        → listing.Answers all base (S.left input.new) (K.held out.new) result }
+    ensures checked { command.now ≡ commands.CheckRules → (all base : List ℕ) → S.left input.old ≡ Some all → K.held out.old ≡ Some base
+        → checking.Answers all base (S.left input.new) (K.held out.new) result }
+    ensures generated { command.now ≡ commands.GeneratePolicy → (all base : List ℕ)
+        → S.left input.old ≡ Some all → K.held out.old ≡ Some base
+        → (script : Option Script) × (world : World)
+        × lines.Answers generate_step generate_end (None, new_world) all base
+        (S.left input.new) (K.held out.new) (script, world) result }
+    ensures policy { command.now ≡ commands.GeneratePolicy → (all base : List ℕ)
+        → S.left input.old ≡ Some all → K.held out.old ≡ Some base → result ≡ 0
+        → (text : List ℕ) × (K.held out.new ≡ Some (base ++ text))
+        × IsFirstPolicy (lines_of all) [] text }
+    ensures alone { command.now ≡ commands.GeneratePolicy → (all base : List ℕ)
+        → S.left input.old ≡ Some all → K.held out.old ≡ Some base
+        → TellsFaultAlone base (K.held out.new) result }
+    ensures added { (name : Named) (asked : Asked) → command.now ≡ commands.AddUser name asked
+        → (all base : List ℕ) → S.left input.old ≡ Some all → K.held out.old ≡ Some base
+        → adding.Answers asked all base (S.left input.new) (K.held out.new) result }
+    ensures asked { (socket : List ℕ) (request : Request) → command.now ≡ commands.Ask socket request
+        → AsksAndEnds (request_line request) (L.sent link.old) (L.sent link.new) (L.left link.old) (L.left link.new)
+        (K.held out.old) (K.held out.new) (L.faults link.old) (L.faults link.new) result }
+    ensures watched { (socket : List ℕ) (most : ℕ) → command.now ≡ commands.Watch socket most
+        → WatchesAndEnds (request_line request.Watch) most (L.sent link.old) (L.sent link.new) (L.left link.old) (L.left link.new)
+        (K.held out.old) (K.held out.new) (L.faults link.old) (L.faults link.new) result }
+    ensures ended { gives_ended command.now ≡ true → (ended : Ended) × (result ≡ status_of ended) }
+    ensures checked_ended { command.now ≡ commands.CheckRules → (ended : Ended) × (result ≡ checking.status_of ended) }
+    ensures read { result ≡ 4 → Rose (S.faults input.old) (S.faults input.new) }
+    ensures written { result ≡ 5 → Rose (K.faults out.old) (K.faults out.new) }
+    ensures input { asks_daemon command.now ≡ true → S.left input.new ≡ S.left input.old }
+    ensures link { asks_daemon command.now ≡ false → link.new ≡ link.old }
+{
+    match command {
+        Command::Replay => replay_over(alloc, input, out, &mut SimKernel::new(alloc)),
+        Command::ReadDescriptor => list_descriptors(alloc, input, out),
+        Command::CheckRules => check_rules(alloc, input, out),
+        Command::GeneratePolicy => {
+            generate_policy(alloc, input, out, &mut SimKernel::new(alloc))
+        }
+        Command::AddUser { name: _, asked } => add_user(alloc, asked, input, out),
+        Command::Ask { socket, request } => ask_daemon(alloc, link, socket.bytes(), request, out),
+        Command::Watch { socket, most } => watch_daemon(alloc, link, socket.bytes(), *most, out),
+    }
+}
