@@ -13,9 +13,9 @@ ghost use Rattle.ug_serve.specs.Serving.{RunsDaemon, ServesStarted, daemon_statu
 ghost use Rattle.ug_serve.specs.Telling.{TurnsTell};
 ghost use Rattle.ug_serve.specs.Words.{conf_path};
 
+use crate::listening::listen_for_all;
 use crate::not_started::NotStarted;
 use crate::noting::{entries_of_start, note_refusal};
-use crate::listening::listen_for_all;
 use crate::start::{Started, start};
 use crate::turn::{TurnEnd, serve_turns};
 use crate::words::conf_path;

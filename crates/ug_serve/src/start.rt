@@ -11,9 +11,9 @@ ghost use Rattle.ug_core.specs.Starting.{Starts};
 ghost use Rattle.ug_serve.specs.Opening.{Opens, outset_of, started, words_of_seed};
 ghost use Rattle.ug_serve.specs.declared.not_started.NotStarted.TheVariants.{FilesFailed, DiskFailed};
 
+use crate::access::read_access;
 use crate::not_started::NotStarted;
 use crate::noting::note_unused;
-use crate::access::read_access;
 use crate::settings::read_settings;
 use jiff::tz::TimeZone;
 use rand_chacha::ChaCha20Rng;
