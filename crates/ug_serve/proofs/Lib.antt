@@ -5,3 +5,4 @@ pub mod Running
 pub mod Said
 pub mod Served
 pub mod Refused
+pub mod Once

@@ -1,5 +1,5 @@
 -- From a start and its turns to the whole run.
-use Rattle.std.proofs.Common.{◌≡◌, ℕ, List, [], ◌∷◌, ◌++◌, length, Option, Some, None, Ok, Err, inl, inr, refl, sym, subst, arith}
+use Rattle.std.proofs.Common.{◌≡◌, ℕ, List, [], ◌∷◌, ◌++◌, length, Option, Some, None, Result, Ok, Err, inl, inr, refl, sym, ◌∙◌, subst, arith}
 use Rattle.std.specs.Prelude.{◌↔◌}
 use Rattle.rand_core.specs.Stream.{Stream}
 use Rattle.ug_types.specs.Elements.{Has}
@@ -11,16 +11,21 @@ use Rattle.ug_store.specs.Disk.{Disk}
 use Rattle.ug_kernel.specs.Calls.{Call, Answer}
 use Rattle.ug_kernel.specs.Kernel.{Kernel}
 use Rattle.ug_audit.specs.declared.entry.Entry.{Entry}
-use Rattle.ug_audit.specs.Noting.{without_drops}
+use Rattle.ug_audit.specs.Noting.{NotesEntries, without_drops}
 use Rattle.ug_audit.proofs.Noting.{notes_on}
 use Rattle.ug_audit.specs.Panels.{Member}
-use Rattle.ug_core.specs.Event.{DaemonState}
 use Rattle.ug_serve.specs.Lines.{AreNoted}
-use Rattle.ug_serve.specs.Opening.{start_status, refusal_entries, Opens}
+use Rattle.ug_serve.specs.Causes.{start_status, refusal_entries}
+use Rattle.ug_serve.specs.Listening.{listening, listening_status}
+use Rattle.ug_serve.specs.Opening.{Started, Opens}
 use Rattle.ug_links.specs.declared.step.LinkStep.{LinkStep}
-use Rattle.ug_serve.specs.Serving.{Objects, objects, objects_of, idle_server, first_world, Serves, Bad_words, No_room, Not_started, Served, TellsRefusal, RunsDaemon, turns_status, daemon_statuses}
+use Rattle.ug_links.specs.Talk.{Talks, Path}
+use Rattle.ug_links.proofs.Told.{path_made}
+use Rattle.ug_serve.specs.Serving.{Objects, objects, objects_of, server_for, first_world, ServesStarted, Listens_not, Listens, Serves, Bad_words, No_room, Not_started, Served, TellsRefusal, RunsDaemon, turns_status, daemon_statuses}
 use Rattle.ug_sessions.specs.States.{ServerState}
 use Rattle.ug_serve.specs.Turns.{Turned, turns_entries, core_of, TurnWorld, turn_world, ServesTurns}
+use Rattle.ug_serve.specs.declared.listening.NotListening.{NotListening}
+use Rattle.ug_serve.specs.declared.listening.NotListening.TheVariants as unheard
 use Rattle.ug_serve.specs.declared.not_started.NotStarted.{NotStarted}
 use Rattle.ug_serve.specs.declared.not_started.NotStarted.TheVariants as why
 use Rattle.ug_serve.specs.declared.turn.TurnEnd.{TurnEnd}
@@ -36,21 +41,11 @@ is_start_status why.FilesFailed = inr (inr (inr (inl refl)))
 is_start_status why.Memory = inr (inr (inr (inr (inl refl))))
 is_start_status why.DiskFailed = inr (inr (inr (inr (inr (inl refl)))))
 
-is_turns_status : (ended : TurnEnd) → Has daemon_statuses (turns_status ended)
-is_turns_status end.Done = inl refl
-is_turns_status end.Numbers = inr (inr (inr (inr (inr (inr (inl refl))))))
-is_turns_status end.WaitFailed = inr (inr (inr (inr (inr (inr (inr (inl refl)))))))
-
 start_not_one : (fault : NotStarted) → start_status fault ≡ 1 → ⊥
 start_not_one (why.Refused part bad) e = omega (arith, e)
 start_not_one why.FilesFailed e = omega (arith, e)
 start_not_one why.Memory e = omega (arith, e)
 start_not_one why.DiskFailed e = omega (arith, e)
-
-turns_not_one : (ended : TurnEnd) → turns_status ended ≡ 1 → ⊥
-turns_not_one end.Done e = omega (arith, e)
-turns_not_one end.Numbers e = omega (arith, e)
-turns_not_one end.WaitFailed e = omega (arith, e)
 
 start_not_zero : (fault : NotStarted) → start_status fault ≡ 0 → ⊥
 start_not_zero (why.Refused part bad) e = omega (arith, e)
@@ -58,10 +53,48 @@ start_not_zero why.FilesFailed e = omega (arith, e)
 start_not_zero why.Memory e = omega (arith, e)
 start_not_zero why.DiskFailed e = omega (arith, e)
 
-pub turns_not_three : (ended : TurnEnd) → turns_status ended ≡ 3 → ⊥
-turns_not_three end.Done e = omega (arith, e)
-turns_not_three end.Numbers e = omega (arith, e)
-turns_not_three end.WaitFailed e = omega (arith, e)
+-- 0, 6, 10 and 11
+abbrev pub served_statuses : List ℕ
+served_statuses = 0 ∷ 6 ∷ 10 ∷ 11 ∷ []
+
+links_status : (fault : NotListening) (n : ℕ) → n ≡ listening_status fault → Has served_statuses n
+links_status unheard.Failed n e = inr (inr (inr (inl (sym e))))
+links_status unheard.Memory n e = inr (inl (sym e))
+
+listening_not_zero : (fault : NotListening) → listening_status fault ≡ 0 → ⊥
+listening_not_zero unheard.Failed e = omega (arith, e)
+listening_not_zero unheard.Memory e = omega (arith, e)
+
+ended_status : (ended : TurnEnd) (n : ℕ) → n ≡ turns_status ended → Has served_statuses n
+ended_status end.Done n e = inl (sym e)
+ended_status end.Numbers n e = inr (inr (inl (sym e)))
+ended_status end.WaitFailed n e = inr (inr (inr (inl (sym e))))
+
+none_else : (n m : ℕ) → Has served_statuses n → (m ≡ 0 → ⊥) → (m ≡ 6 → ⊥) → (m ≡ 10 → ⊥) → (m ≡ 11 → ⊥) → n ≡ m → ⊥
+none_else n m (inl e) zero six ten eleven is = zero (sym is ∙ sym e)
+none_else n m (inr (inl e)) zero six ten eleven is = six (sym is ∙ sym e)
+none_else n m (inr (inr (inl e))) zero six ten eleven is = ten (sym is ∙ sym e)
+none_else n m (inr (inr (inr (inl e)))) zero six ten eleven is = eleven (sym is ∙ sym e)
+none_else n m (inr (inr (inr (inr e)))) zero six ten eleven is = absurd e
+
+not_one : (n : ℕ) → Has served_statuses n → n ≡ 1 → ⊥
+not_one n h = none_else n 1 h (λ e. omega (arith, e)) (λ e. omega (arith, e)) (λ e. omega (arith, e)) (λ e. omega (arith, e))
+
+pub not_four : (n : ℕ) → Has served_statuses n → n ≡ 4 → ⊥
+not_four n h = none_else n 4 h (λ e. omega (arith, e)) (λ e. omega (arith, e)) (λ e. omega (arith, e)) (λ e. omega (arith, e))
+
+pub not_nine : (n : ℕ) → Has served_statuses n → n ≡ 9 → ⊥
+not_nine n h = none_else n 9 h (λ e. omega (arith, e)) (λ e. omega (arith, e)) (λ e. omega (arith, e)) (λ e. omega (arith, e))
+
+pub not_three : (n : ℕ) → Has served_statuses n → n ≡ 3 → ⊥
+not_three n h = none_else n 3 h (λ e. omega (arith, e)) (λ e. omega (arith, e)) (λ e. omega (arith, e)) (λ e. omega (arith, e))
+
+known_status : (n : ℕ) → Has served_statuses n → Has daemon_statuses n
+known_status n (inl e) = inl e
+known_status n (inr (inl e)) = inr (inr (inr (inr (inl e))))
+known_status n (inr (inr (inl e))) = inr (inr (inr (inr (inr (inr (inl e))))))
+known_status n (inr (inr (inr (inl e)))) = inr (inr (inr (inr (inr (inr (inr (inl e)))))))
+known_status n (inr (inr (inr (inr e)))) = absurd e
 
 tells_refusal : (fault : NotStarted) (noted journal : List Entry) → without_drops journal ≡ noted ++ refusal_entries fault → start_status fault ≡ 3 → TellsRefusal journal
 tells_refusal (why.Refused part bad) noted journal all e = (noted, part, bad, all)
@@ -81,6 +114,48 @@ completes n (inr (inr (inr (inr (inr (inr (inl e))))))) one three four nine elev
 completes n (inr (inr (inr (inr (inr (inr (inr (inl e)))))))) one three four nine eleven = absurd (eleven (sym e))
 completes n (inr (inr (inr (inr (inr (inr (inr (inr e)))))))) one three four nine eleven = absurd e
 
+module _ {Y D N W C : Type 0} (begins : Y → Y → Type 0) (gives : Y → (call : Call) → Answer call → Y → Type 0) (told : Y → Option Kernel) (calls faults : Y → ℕ)
+    (keeps : D → (call : DiskCall) → DiskTold call → D → Type 0) (disk_told : D → Option Disk) (disk_faults : D → ℕ) (links : N → LinkStep → N → Type 0) (waits : W → Waited → W → Type 0) (clocks : C → Moment → C → Type 0)
+    (turns : ℕ) (c : Started) (s : Objects Y D N W C) where
+  abbrev After : List Turned → ℕ → Objects Y D N W C → Type 0
+  After made status t = ServesStarted begins gives told calls faults keeps disk_told disk_faults links waits clocks turns c s made status t
+
+  pub started_status : (made : List Turned) (status : ℕ) (t : Objects Y D N W C) → After made status t → Has served_statuses status
+  started_status _ _ _ (Listens_not steps fault n path makes) = links_status fault (listening_status fault) refl
+  started_status _ _ _ (Listens steps n made ended w path makes serves) = ended_status ended (turns_status ended) refl
+
+  all_turns : (u : TurnWorld Y D N W C) (made : List Turned) (ended : TurnEnd) (w : TurnWorld Y D N W C)
+      → ServesTurns begins gives told calls faults keeps disk_told disk_faults links waits clocks turns u made ended w → turns_status ended ≡ 0 → length made ≡ turns
+  all_turns u made end.Done w h z = h.0
+  all_turns u made end.Numbers w h z = absurd (omega (arith, z))
+  all_turns u made end.WaitFailed w h z = absurd (omega (arith, z))
+
+  pub started_all : (made : List Turned) (status : ℕ) (t : Objects Y D N W C) → After made status t → status ≡ 0 → length made ≡ turns
+  started_all _ _ _ (Listens_not steps fault n path makes) z = absurd (listening_not_zero fault z)
+  started_all _ _ _ (Listens steps n made ended w path makes serves) z = all_turns (first_world c n s) made ended w serves z
+
+  pub started_noted : (made : List Turned) (status : ℕ) (t : Objects Y D N W C) → After made status t → NotesEntries (turns_entries made) s.members t.members
+  started_noted _ _ _ (Listens_not steps fault n path makes) = (refl, refl)
+  started_noted _ _ _ (Listens steps n made ended w path makes serves) = serves_noted begins gives told calls faults keeps disk_told disk_faults links waits clocks turns (first_world c n s) made ended w serves
+
+  -- the calls of the links fail to listen
+  pub serves_not : (result : Result (Unit {0}) NotListening) (fault : NotListening) (status : ℕ) (n : N) → result ≡ Err fault → Talks links s.links (listening c.principals) result n → status ≡ listening_status fault
+      → (made : List Turned) × After made status (record s { links = n })
+  serves_not result fault status n is talks same =
+      let made = path_made links s.links (listening c.principals) result n talks in
+      ([], subst (λ (k : ℕ). After [] k (record s { links = n })) (sym same) (Listens_not made.0 fault n (subst (λ (r : Result (Unit {0}) NotListening). Path (listening c.principals) made.0 r) is made.1) made.2))
+
+  -- they listen, and turns are made
+  pub serves_so : (result : Result (Unit {0}) NotListening) (n : N) (v : ServerState) (made : List Turned) (ended : TurnEnd) (w : TurnWorld Y D N W C) (status : ℕ) → result ≡ Ok tt → Talks links s.links (listening c.principals) result n
+      → v.principals ≡ c.principals → v.listeners ≡ [] → v.sessions ≡ []
+      → ServesTurns begins gives told calls faults keeps disk_told disk_faults links waits clocks turns (turn_world (core_of c.daemon s.sysfs s.disk s.members) v n s.waiter s.clock) made ended w → status ≡ turns_status ended
+      → (made : List Turned) × After made status (objects_of w)
+  serves_so result n v made ended w status is talks these untried none serves same =
+      let asked = path_made links s.links (listening c.principals) result n talks in
+      let first : v ≡ server_for c.principals = λ i. record { principals = these i; listeners = untried i; sessions = none i } in
+      let over = subst (λ (x : ServerState). ServesTurns begins gives told calls faults keeps disk_told disk_faults links waits clocks turns (turn_world (core_of c.daemon s.sysfs s.disk s.members) x n s.waiter s.clock) made ended w) first serves in
+      (made, subst (λ (k : ℕ). After made k (objects_of w)) (sym same) (Listens asked.0 n made ended w (subst (λ (r : Result (Unit {0}) NotListening). Path (listening c.principals) asked.0 r) is asked.1) asked.2 over))
+
 module _ {F Y D N W C : Type 0} (reads : F → FileStep → F → Type 0) (begins : Y → Y → Type 0) (gives : Y → (call : Call) → Answer call → Y → Type 0) (told : Y → Option Kernel) (calls faults : Y → ℕ)
     (keeps : D → (call : DiskCall) → DiskTold call → D → Type 0) (disk_told : D → Option Disk) (disk_faults : D → ℕ) (aimed : D → List ℕ → Type 0) (links : N → LinkStep → N → Type 0) (waits : W → Waited → W → Type 0) (clocks : C → Moment → C → Type 0)
     (turns : ℕ) (clock : ℕ → ℕ) (words : Stream) (f : F) (s : Objects Y D N W C) where
@@ -96,19 +171,13 @@ module _ {F Y D N W C : Type 0} (reads : F → FileStep → F → Type 0) (begin
   has_status _ _ _ _ _ _ Bad_words = inr (inl refl)
   has_status _ _ _ _ _ _ (No_room path) = is_start_status why.Memory
   has_status _ _ _ _ _ _ (Not_started path entries fault journal g d ms opens all notes) = is_start_status fault
-  has_status _ _ _ _ _ _ (Served path entries first c g d ms made ended w opens all notes serves) = is_turns_status ended
+  has_status _ _ _ _ _ _ (Served path entries first c g d ms made status t opens all notes serves) = known_status status (started_status begins gives told calls faults keeps disk_told disk_faults links waits clocks turns c (objects s.sysfs d s.links s.waiter s.clock ms) made status t serves)
 
   pub bad_words : (path : Option (List ℕ)) (journal : List Entry) (made : List Turned) (status : ℕ) (g : F) (t : Objects Y D N W C) → Done path journal made status g t → (status ≡ 1) ↔ (path ≡ None)
   bad_words _ _ _ _ _ _ Bad_words = (λ e. refl, λ e. refl)
   bad_words _ _ _ _ _ _ (No_room path) = (λ e. absurd (start_not_one why.Memory e), λ e. let no : ⊥ = cc in absurd no)
   bad_words _ _ _ _ _ _ (Not_started path entries fault journal g d ms opens all notes) = (λ e. absurd (start_not_one fault e), λ e. let no : ⊥ = cc in absurd no)
-  bad_words _ _ _ _ _ _ (Served path entries first c g d ms made ended w opens all notes serves) = (λ h. absurd (turns_not_one ended h), λ h. let no : ⊥ = cc in absurd no)
-
-  all_turns : (u : TurnWorld Y D N W C) (made : List Turned) (ended : TurnEnd) (w : TurnWorld Y D N W C)
-      → ServesTurns begins gives told calls faults keeps disk_told disk_faults links waits clocks turns u made ended w → turns_status ended ≡ 0 → length made ≡ turns
-  all_turns u made end.Done w h z = h.0
-  all_turns u made end.Numbers w h z = absurd (omega (arith, z))
-  all_turns u made end.WaitFailed w h z = absurd (omega (arith, z))
+  bad_words _ _ _ _ _ _ (Served path entries first c g d ms made status t opens all notes serves) = (λ h. absurd (not_one status (started_status begins gives told calls faults keeps disk_told disk_faults links waits clocks turns c (objects s.sysfs d s.links s.waiter s.clock ms) made status t serves) h), λ h. let no : ⊥ = cc in absurd no)
 
   -- ---- the runs
 
@@ -147,21 +216,16 @@ module _ {F Y D N W C : Type 0} (reads : F → FileStep → F → Type 0) (begin
         told_refused = tells_refusal fault entries all.noted all.all;
       })
 
-  pub runs_served : (path : List ℕ) (entries : List Entry) (c : DaemonState) (g : F) (d : D) (ms : List Member) (made : List Turned) (ended : TurnEnd) (w : TurnWorld Y D N W C) (status : ℕ)
+  pub runs_served : (path : List ℕ) (entries : List Entry) (c : Started) (g : F) (d : D) (ms : List Member) (made : List Turned) (status : ℕ) (t : Objects Y D N W C)
       → Opens reads keeps disk_told disk_faults aimed path clock words f s.disk entries (Ok c) g d
       → AreNoted entries s.members ms
-      → (v : ServerState) → v.principals ≡ [] → v.listeners ≡ [] → v.sessions ≡ []
-      → ServesTurns begins gives told calls faults keeps disk_told disk_faults links waits clocks turns (turn_world (core_of c s.sysfs d ms) v s.links s.waiter s.clock) made ended w → status ≡ turns_status ended
-      → Runs (Some path) status g (objects_of w)
-  runs_served path entries c g d ms made ended w status opens noted v none unmade empty over is =
-      let same : v ≡ idle_server = λ i. record { principals = none i; listeners = unmade i; sessions = empty i } in
-      let serves = subst (λ (x : ServerState). ServesTurns begins gives told calls faults keeps disk_told disk_faults links waits clocks turns (turn_world (core_of c s.sysfs d ms) x s.links s.waiter s.clock) made ended w) same over in
-      let later = serves_noted begins gives told calls faults keeps disk_told disk_faults links waits clocks turns (first_world c d ms s) made ended w serves in
-      subst (λ (n : ℕ). Runs (Some path) n g (objects_of w)) (sym is) (record {
-        journal = noted.noted ++ turns_entries made;
-        made = made;
-        serves = Served path entries noted.noted c g d ms made ended w opens noted.all noted.notes serves;
-        noted = notes_on [] noted.noted (turns_entries made) s.members ms w.core.members [] [] noted.notes later;
-        all_made = all_turns (first_world c d ms s) made ended w serves;
-        told_refused = λ h. absurd (turns_not_three ended h);
-      })
+      → ServesStarted begins gives told calls faults keeps disk_told disk_faults links waits clocks turns c (objects s.sysfs d s.links s.waiter s.clock ms) made status t
+      → Runs (Some path) status g t
+  runs_served path entries c g d ms made status t opens noted serves = record {
+    journal = noted.noted ++ turns_entries made;
+    made = made;
+    serves = Served path entries noted.noted c g d ms made status t opens noted.all noted.notes serves;
+    noted = notes_on [] noted.noted (turns_entries made) s.members ms t.members [] [] noted.notes (started_noted begins gives told calls faults keeps disk_told disk_faults links waits clocks turns c (objects s.sysfs d s.links s.waiter s.clock ms) made status t serves);
+    all_made = started_all begins gives told calls faults keeps disk_told disk_faults links waits clocks turns c (objects s.sysfs d s.links s.waiter s.clock ms) made status t serves;
+    told_refused = λ h. absurd (not_three status (started_status begins gives told calls faults keeps disk_told disk_faults links waits clocks turns c (objects s.sysfs d s.links s.waiter s.clock ms) made status t serves) h);
+  }

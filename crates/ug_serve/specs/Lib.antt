@@ -4,6 +4,9 @@ pub mod Responses
 pub mod Turns
 pub mod Telling
 pub mod Saying
+pub mod Causes
+pub mod Access
+pub mod Listening
 pub mod Opening
 pub mod Refusals
 pub mod Serving

@@ -4,47 +4,30 @@ use Rattle.rand_core.specs.Stream.{Stream}
 use Rattle.rand_core.specs.Steps.{stream_of, steps_u32}
 use Rattle.rand_chacha.specs.ChaCha.{next_word, of_seed}
 use Rattle.ug_types.specs.Principals.{Named}
-use Rattle.ug_conf.specs.Files.{FileStep, Read_at, Listed_at}
+use Rattle.ug_conf.specs.Files.{FileStep, Read_at}
 use Rattle.ug_conf.specs.Texts.{conf_read}
 use Rattle.ug_conf.specs.declared.files.FileRead.{FileRead}
 use Rattle.ug_conf.specs.declared.files.FileRead.TheVariants as file
-use Rattle.ug_conf.specs.declared.files.FolderRead.{FolderRead}
-use Rattle.ug_conf.specs.declared.files.FolderRead.TheVariants as folder
 use Rattle.ug_conf.specs.declared.settings.Settings.{Settings}
 use Rattle.ug_store.specs.DiskCalls.{DiskCall, DiskTold}
 use Rattle.ug_store.specs.Disk.{Disk}
 use Rattle.ug_audit.specs.declared.entry.Entry.{Entry}
 use Rattle.ug_audit.specs.declared.entry.Entry.TheVariants as entry
-use Rattle.ug_audit.specs.declared.entry.ConfigPart.{ConfigPart}
 use Rattle.ug_audit.specs.declared.entry.ConfigPart.TheVariants as part
 use Rattle.ug_core.specs.Event.{DaemonState}
 use Rattle.ug_core.specs.Settings.{classes_of}
 use Rattle.ug_core.specs.Starting.{Outset, Starts}
 use Rattle.ug_core.specs.declared.start_fault.StartFault.{StartFault}
-use Rattle.ug_core.specs.declared.start_fault.StartFault.TheVariants as fault
+use Rattle.ug_acl.specs.Acls.{Addition}
+use Rattle.ug_serve.specs.Access.{OpensTo}
+use Rattle.ug_serve.specs.Causes.{refused_whole, refusal_of_rules}
+use Rattle.ug_serve.specs.declared.access.Access.{Access}
 use Rattle.ug_serve.specs.declared.not_started.NotStarted.{NotStarted}
 use Rattle.ug_serve.specs.declared.not_started.NotStarted.TheVariants as why
-
-abbrev pub refused_whole : ConfigPart → NotStarted
-refused_whole what = why.Refused what (record { line = 0; kind = 0; place = 0 })
-
--- the exit status of a daemon that doesn't start
-abbrev pub start_status : NotStarted → ℕ
-start_status (why.Refused what bad) = 3
-start_status why.FilesFailed = 4
-start_status why.Memory = 6
-start_status why.DiskFailed = 9
 
 -- what is noted of the settings' lines whose keys aren't used
 abbrev pub unused_entries : List ℕ → List Entry
 unused_entries lines = map (λ line. entry.UnusedKey line) lines
-
--- what is noted of a part that isn't taken
-abbrev pub refusal_entries : NotStarted → List Entry
-refusal_entries (why.Refused what bad) = entry.StartRefused what bad.line bad.kind bad.place ∷ []
-refusal_entries why.FilesFailed = []
-refusal_entries why.DiskFailed = []
-refusal_entries why.Memory = []
 
 -- the settings of a text, or its first bad line
 abbrev pub SettingsOf : List ℕ → Result Settings NotStarted → Type 0
@@ -68,39 +51,26 @@ pub record ReadsSettings {F : Type 0} (gives : F → FileStep → F → Type 0) 
   pub read : gives s (Read_at path answer) t
   pub settings : SettingsIn answer result
 
--- a folder of access files has to be empty or absent
-abbrev pub no_access : FolderRead → Result (Unit {0}) NotStarted
-no_access (folder.Names []) = Ok tt
-no_access (folder.Names (name ∷ names)) = Err (refused_whole part.Access)
-no_access folder.Absent = Ok tt
-no_access folder.Failed = Err why.FilesFailed
-no_access folder.Memory = Err why.Memory
-
--- No session is served: settings that name a user or a group aren't taken, and neither is a folder of access files that has one.
-abbrev pub OpensToNobody : {F : Type 0} → (F → FileStep → F → Type 0) → List Named → List ℕ → F → Result (Unit {0}) NotStarted → F → Type 0
-OpensToNobody gives (who ∷ users) path s result t = (result ≡ Err (refused_whole part.Settings)) × (t ≡ s)
-OpensToNobody gives [] path s result t = (answer : FolderRead) × gives s (Listed_at path answer) t × (result ≡ no_access answer)
-
--- what keeps the rules from being loaded
-abbrev pub refusal_of_rules : StartFault → NotStarted
-refusal_of_rules (fault.Disk count) = why.DiskFailed
-refusal_of_rules (fault.BadRules bad) = why.Refused part.Rules bad
-refusal_of_rules fault.TooLong = refused_whole part.Rules
-refusal_of_rules fault.TooMany = refused_whole part.Rules
-refusal_of_rules fault.Memory = why.Memory
-
 -- the words of ChaCha20 from a seed of 32 bytes
 abbrev pub words_of_seed : List ℕ → Stream
 words_of_seed seed = stream_of (steps_u32 (next_word 10)) (of_seed seed)
 
--- what a daemon starts with: its settings, nobody's access, the clock of its zone, and the words of its seed. Its first event is number 1
-abbrev pub outset_of : Settings → (ℕ → ℕ) → Stream → Outset
-outset_of settings clock words = record { classes = classes_of settings; access = []; clock = clock; words = words; first = 1 }
+-- what a daemon starts with: its settings, who may do what, the clock of its zone, and the words of its seed. Its first event is number 1
+abbrev pub outset_of : Settings → List Addition → (ℕ → ℕ) → Stream → Outset
+outset_of settings acl clock words = record { classes = classes_of settings; access = acl; clock = clock; words = words; first = 1 }
+
+-- a daemon that started, and those that it is open to
+pub record Started : Type 0 where
+  pub daemon : DaemonState
+  pub principals : List Named
+
+abbrev pub started : List Named → DaemonState → Started
+started principals d = record { daemon = d; principals = principals }
 
 -- a start from the rule file, with its cause where it isn't done
-abbrev pub with_cause : Result DaemonState StartFault → Result DaemonState NotStarted
-with_cause (Ok d) = Ok d
-with_cause (Err e) = Err (refusal_of_rules e)
+abbrev pub with_cause : List Named → Result DaemonState StartFault → Result Started NotStarted
+with_cause principals (Ok d) = Ok (started principals d)
+with_cause principals (Err e) = Err (refusal_of_rules e)
 
 -- the disk is what it was, but for the file that it is aimed at
 pub record IsSameDisk {D : Type 0} (told : D → Option Disk) (faults : D → ℕ) (s t : D) : Type 0 where
@@ -112,21 +82,21 @@ pub record IsAimed {D : Type 0} (told : D → Option Disk) (faults : D → ℕ) 
   pub disk : IsSameDisk told faults s t
   pub at : aimed t path
 
--- The steps of a start, of which the first that isn't done ends it: the settings are read; no session is to be served; the disk is aimed
+-- The steps of a start, of which the first that isn't done ends it: the settings are read; so is who may do what; the disk is aimed
 -- at the rule file that the settings name; and the daemon starts from it. The entries tell of the settings' lines that aren't used, once
 -- they are read.
 pub data Opens {F D : Type 0} (reads : F → FileStep → F → Type 0) (keeps : D → (call : DiskCall) → DiskTold call → D → Type 0) (told : D → Option Disk) (faults : D → ℕ) (aimed : D → List ℕ → Type 0)
     (path : List ℕ) (clock : ℕ → ℕ) (words : Stream) (f : F) (d : D)
-    : List Entry → Result DaemonState NotStarted → F → D → Type 0 where
+    : List Entry → Result Started NotStarted → F → D → Type 0 where
   Unread : (cause : NotStarted) (g : F) → ReadsSettings reads path f (Err cause) g
       → Opens reads keeps told faults aimed path clock words f d [] (Err cause) g d
-  To_somebody : (settings : Settings) (cause : NotStarted) (g h : F) → ReadsSettings reads path f (Ok settings) g
-      → OpensToNobody reads settings.users settings.access_folder g (Err cause) h
+  Access_unread : (settings : Settings) (cause : NotStarted) (g h : F) → ReadsSettings reads path f (Ok settings) g
+      → OpensTo reads settings.users settings.access_folder g (Err cause) h
       → Opens reads keeps told faults aimed path clock words f d (unused_entries settings.unused) (Err cause) h d
-  Unaimed : (settings : Settings) (g h : F) (a : D) → ReadsSettings reads path f (Ok settings) g
-      → OpensToNobody reads settings.users settings.access_folder g (Ok tt) h → IsSameDisk told faults d a
+  Unaimed : (settings : Settings) (access : Access) (g h : F) (a : D) → ReadsSettings reads path f (Ok settings) g
+      → OpensTo reads settings.users settings.access_folder g (Ok access) h → IsSameDisk told faults d a
       → Opens reads keeps told faults aimed path clock words f d (unused_entries settings.unused) (Err why.Memory) h a
-  From_rules : (settings : Settings) (g h : F) (a b : D) (result : Result DaemonState StartFault) → ReadsSettings reads path f (Ok settings) g
-      → OpensToNobody reads settings.users settings.access_folder g (Ok tt) h → IsAimed told faults aimed settings.rule_file d a
-      → Starts keeps told faults (outset_of settings clock words) a result b
-      → Opens reads keeps told faults aimed path clock words f d (unused_entries settings.unused) (with_cause result) h b
+  From_rules : (settings : Settings) (access : Access) (g h : F) (a b : D) (result : Result DaemonState StartFault) → ReadsSettings reads path f (Ok settings) g
+      → OpensTo reads settings.users settings.access_folder g (Ok access) h → IsAimed told faults aimed settings.rule_file d a
+      → Starts keeps told faults (outset_of settings access.acl clock words) a result b
+      → Opens reads keeps told faults aimed path clock words f d (unused_entries settings.unused) (with_cause access.principals result) h b

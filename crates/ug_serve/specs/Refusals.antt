@@ -1,9 +1,11 @@
 -- What of a configuration isn't taken, by the texts of its files.
 use Rattle.std.specs.Prelude.{◌≡◌, ℕ, nat_le, List, [], ◌∷◌, length, Option, Some, None, Result, Ok, Err, if◌then◌else◌}
 use Rattle.ug_types.specs.Elements.{Has}
-use Rattle.ug_types.specs.Principals.{Named}
+use Rattle.ug_types.specs.Principals.{Named, principal_of}
 use Rattle.ug_types.specs.declared.rule.Rule.{Rule}
 use Rattle.ug_types.specs.declared.text_fault.TextFault.{TextFault}
+use Rattle.ug_acl.specs.Pairs.{Pair}
+use Rattle.ug_acl.specs.Texts.{access_read}
 use Rattle.ug_rule.specs.Files.{file_read}
 use Rattle.ug_print.specs.RuleTexts.{rules_text_of}
 use Rattle.ug_conf.specs.Files.{Tree, text_at, names_at, conf_limit}
@@ -12,7 +14,8 @@ use Rattle.ug_conf.specs.declared.settings.Settings.{Settings}
 use Rattle.ug_store.specs.Disk.{Disk}
 use Rattle.ug_store.specs.DiskCalls.{file_limit}
 use Rattle.ug_audit.specs.declared.entry.ConfigPart.TheVariants as part
-use Rattle.ug_serve.specs.Opening.{refused_whole}
+use Rattle.ug_serve.specs.Access.{path_in, refused_name}
+use Rattle.ug_serve.specs.Causes.{refused_whole}
 use Rattle.ug_serve.specs.declared.not_started.NotStarted.{NotStarted}
 use Rattle.ug_serve.specs.declared.not_started.NotStarted.TheVariants as why
 
@@ -26,12 +29,39 @@ settings_of_text None = Err (refused_whole part.Settings)
 settings_of_text (Some text) =
     if nat_le (length text) conf_limit then settings_read (conf_read text) else Err (refused_whole part.Settings)
 
--- settings that name a user or a group aren't taken, and neither is an access folder that has a file
-abbrev pub refusal_of_access : List Named → Option (List (List ℕ)) → Option NotStarted
-refusal_of_access (who ∷ users) names = Some (refused_whole part.Settings)
-refusal_of_access [] (Some (name ∷ names)) = Some (refused_whole part.Access)
-refusal_of_access [] (Some []) = None
-refusal_of_access [] None = None
+-- the first of two refusals
+abbrev pub first_refusal : Option NotStarted → Option NotStarted → Option NotStarted
+first_refusal (Some cause) later = Some cause
+first_refusal None later = later
+
+-- an access file's first bad line
+abbrev pub refusal_of_grants : Result (List Pair) TextFault → Option NotStarted
+refusal_of_grants (Ok pairs) = None
+refusal_of_grants (Err bad) = Some (why.Refused part.Access bad)
+
+-- an absent access file is empty, and one that is too long isn't taken
+abbrev pub refusal_of_file : Option (List ℕ) → Option NotStarted
+refusal_of_file None = refusal_of_grants (access_read [])
+refusal_of_file (Some text) =
+    if nat_le (length text) conf_limit then refusal_of_grants (access_read text) else Some (refused_whole part.Access)
+
+-- an access file whose name is no user's or group's isn't taken
+abbrev pub refusal_of_named : Option Named → Option (List ℕ) → Option NotStarted
+refusal_of_named None text = Some refused_name
+refusal_of_named (Some who) text = refusal_of_file text
+
+abbrev pub refusal_of_name : Tree → List ℕ → List ℕ → Option NotStarted
+refusal_of_name tree folder name = refusal_of_named (principal_of name) (text_at tree (path_in folder name))
+
+-- whether one of a folder's files isn't taken
+abbrev pub refusal_of_files : Tree → List ℕ → List (List ℕ) → Option NotStarted
+refusal_of_files tree folder [] = None
+refusal_of_files tree folder (name ∷ names) = first_refusal (refusal_of_name tree folder name) (refusal_of_files tree folder names)
+
+-- an absent folder is empty
+abbrev pub refusal_of_folder : Tree → List ℕ → Option (List (List ℕ)) → Option NotStarted
+refusal_of_folder tree folder None = None
+refusal_of_folder tree folder (Some names) = refusal_of_files tree folder names
 
 -- at most 65,536 rules, whose canonical text fits into a rule file
 abbrev pub refusal_of_read : Result (List Rule) TextFault → Option NotStarted
@@ -45,17 +75,12 @@ abbrev pub refusal_of_rules_text : List ℕ → Option NotStarted
 refusal_of_rules_text text =
     if nat_le (length text) file_limit then refusal_of_read (file_read text) else Some (refused_whole part.Rules)
 
--- the first of two refusals
-abbrev pub first_refusal : Option NotStarted → Option NotStarted → Option NotStarted
-first_refusal (Some cause) later = Some cause
-first_refusal None later = later
-
 abbrev pub refusal_behind : Tree → List ℕ → Result Settings NotStarted → Option NotStarted
 refusal_behind tree rules (Err cause) = Some cause
 refusal_behind tree rules (Ok settings) =
-    first_refusal (refusal_of_access settings.users (names_at tree settings.access_folder)) (refusal_of_rules_text rules)
+    first_refusal (refusal_of_folder tree settings.access_folder (names_at tree settings.access_folder)) (refusal_of_rules_text rules)
 
--- The first part that isn't taken of the settings at that path, the access files and the text of the rule file.
+-- Whether a part isn't taken of the settings at that path, the access files and the text of the rule file.
 abbrev pub refusal_of_texts : Tree → List ℕ → List ℕ → Option NotStarted
 refusal_of_texts tree rules path = refusal_behind tree rules (settings_of_text (text_at tree path))
 

@@ -1,6 +1,7 @@
 -- The daemon from its words to its exit status.
 use Rattle.std.specs.Prelude.{◌≡◌, ℕ, List, [], ◌∷◌, ◌++◌, length, Option, Some, None, Ok, Err}
 use Rattle.rand_core.specs.Stream.{Stream}
+use Rattle.ug_types.specs.Principals.{Named}
 use Rattle.ug_types.specs.declared.text_fault.TextFault.{TextFault}
 use Rattle.ug_types.specs.declared.verdict.Moment.{Moment}
 use Rattle.ug_types.specs.Waits.{Waited}
@@ -14,11 +15,14 @@ use Rattle.ug_audit.specs.declared.entry.Entry.{Entry}
 use Rattle.ug_audit.specs.declared.entry.Entry.TheVariants as entry
 use Rattle.ug_audit.specs.Noting.{NotesEntries, without_drops}
 use Rattle.ug_audit.specs.Panels.{Member}
-use Rattle.ug_core.specs.Event.{DaemonState}
-use Rattle.ug_serve.specs.Opening.{start_status, refusal_entries, Opens}
+use Rattle.ug_serve.specs.Causes.{start_status, refusal_entries}
+use Rattle.ug_serve.specs.Listening.{listening, listening_status}
+use Rattle.ug_serve.specs.Opening.{Started, Opens}
 use Rattle.ug_links.specs.declared.step.LinkStep.{LinkStep}
+use Rattle.ug_links.specs.Talk.{Path, Makes}
 use Rattle.ug_sessions.specs.States.{ServerState}
 use Rattle.ug_serve.specs.Turns.{Turned, turns_entries, core_of, TurnWorld, turn_world, ServesTurns}
+use Rattle.ug_serve.specs.declared.listening.NotListening.{NotListening}
 use Rattle.ug_serve.specs.declared.not_started.NotStarted.{NotStarted}
 use Rattle.ug_serve.specs.declared.not_started.NotStarted.TheVariants.{Memory}
 use Rattle.ug_serve.specs.declared.turn.TurnEnd.{TurnEnd}
@@ -39,13 +43,13 @@ objects y d n w c ms = record { sysfs = y; disk = d; links = n; waiter = w; cloc
 abbrev pub objects_of : {Y D N W C : Type 0} → TurnWorld Y D N W C → Objects Y D N W C
 objects_of w = objects w.core.sysfs w.core.disk w.links w.waiter w.clock w.core.members
 
--- a server of listeners for nobody, and no session
-abbrev pub idle_server : ServerState
-idle_server = record { principals = []; listeners = []; sessions = [] }
+-- a server of listeners for these, none of which was tried, and no session
+abbrev pub server_for : List Named → ServerState
+server_for principals = record { principals = principals; listeners = []; sessions = [] }
 
--- what the first turn is over: a daemon that started, and what its start left
-abbrev pub first_world : {Y D N W C : Type 0} → DaemonState → D → List Member → Objects Y D N W C → TurnWorld Y D N W C
-first_world d disk ms s = turn_world (core_of d s.sysfs disk ms) idle_server s.links s.waiter s.clock
+-- what the first turn is over: a daemon that started, with links that listen
+abbrev pub first_world : {Y D N W C : Type 0} → Started → N → Objects Y D N W C → TurnWorld Y D N W C
+first_world c n s = turn_world (core_of c.daemon s.sysfs s.disk s.members) (server_for c.principals) n s.waiter s.clock
 
 -- the exit status of a daemon that started
 abbrev pub turns_status : TurnEnd → ℕ
@@ -57,10 +61,25 @@ turns_status end.WaitFailed = 11
 abbrev pub daemon_statuses : List ℕ
 daemon_statuses = 0 ∷ 1 ∷ 3 ∷ 4 ∷ 6 ∷ 9 ∷ 10 ∷ 11 ∷ []
 
+-- A daemon that started, with the turns that it made and the exit status: the links are asked to listen for those that it is open to.
+-- Where one of these calls isn't done, its cause is the status. Else turns are made.
+pub data ServesStarted {Y D N W C : Type 0} (begins : Y → Y → Type 0) (gives : Y → (call : Call) → Answer call → Y → Type 0) (told : Y → Option Kernel) (calls faults : Y → ℕ)
+    (keeps : D → (call : DiskCall) → DiskTold call → D → Type 0) (disk_told : D → Option Disk) (disk_faults : D → ℕ) (links : N → LinkStep → N → Type 0) (waits : W → Waited → W → Type 0) (clocks : C → Moment → C → Type 0)
+    (turns : ℕ) (c : Started) (s : Objects Y D N W C) : List Turned → ℕ → Objects Y D N W C → Type 0 where
+  Listens_not : (steps : List LinkStep) (fault : NotListening) (n : N)
+      → Path (listening c.principals) steps (Err fault)
+      → Makes links s.links steps n
+      → ServesStarted begins gives told calls faults keeps disk_told disk_faults links waits clocks turns c s [] (listening_status fault) (record s { links = n })
+  Listens : (steps : List LinkStep) (n : N) (made : List Turned) (ended : TurnEnd) (w : TurnWorld Y D N W C)
+      → Path (listening c.principals) steps (Ok tt)
+      → Makes links s.links steps n
+      → ServesTurns begins gives told calls faults keeps disk_told disk_faults links waits clocks turns (first_world c n s) made ended w
+      → ServesStarted begins gives told calls faults keeps disk_told disk_faults links waits clocks turns c s made (turns_status ended) (objects_of w)
+
 -- The daemon from its words, with the journal's entries, the turns that it made and the exit status. Other words than a path's do nothing,
 -- and neither does a daemon that has no room for its first entries. A start that isn't done is noted, where a part isn't taken, and its
--- cause is the status. Else turns are made, from what the start left. Beside what the start and the turns note, the journal has the
--- `dropped` entries.
+-- cause is the status. Else it listens and makes turns, from what the start left. Beside what the start and the turns note, the journal
+-- has the `dropped` entries.
 pub data Serves {F Y D N W C : Type 0} (reads : F → FileStep → F → Type 0) (begins : Y → Y → Type 0) (gives : Y → (call : Call) → Answer call → Y → Type 0) (told : Y → Option Kernel) (calls faults : Y → ℕ)
     (keeps : D → (call : DiskCall) → DiskTold call → D → Type 0) (disk_told : D → Option Disk) (disk_faults : D → ℕ) (aimed : D → List ℕ → Type 0) (links : N → LinkStep → N → Type 0) (waits : W → Waited → W → Type 0) (clocks : C → Moment → C → Type 0)
     (turns : ℕ) (clock : ℕ → ℕ) (words : Stream) (f : F) (s : Objects Y D N W C) : Option (List ℕ) → List Entry → List Turned → ℕ → F → Objects Y D N W C → Type 0 where
@@ -71,12 +90,12 @@ pub data Serves {F Y D N W C : Type 0} (reads : F → FileStep → F → Type 0)
       → without_drops journal ≡ entries ++ refusal_entries fault
       → NotesEntries journal s.members ms
       → Serves reads begins gives told calls faults keeps disk_told disk_faults aimed links waits clocks turns clock words f s (Some path) journal [] (start_status fault) g (objects s.sysfs d s.links s.waiter s.clock ms)
-  Served : (path : List ℕ) (entries first : List Entry) (c : DaemonState) (g : F) (d : D) (ms : List Member) (made : List Turned) (ended : TurnEnd) (w : TurnWorld Y D N W C)
+  Served : (path : List ℕ) (entries first : List Entry) (c : Started) (g : F) (d : D) (ms : List Member) (made : List Turned) (status : ℕ) (t : Objects Y D N W C)
       → Opens reads keeps disk_told disk_faults aimed path clock words f s.disk entries (Ok c) g d
       → without_drops first ≡ entries
       → NotesEntries first s.members ms
-      → ServesTurns begins gives told calls faults keeps disk_told disk_faults links waits clocks turns (first_world c d ms s) made ended w
-      → Serves reads begins gives told calls faults keeps disk_told disk_faults aimed links waits clocks turns clock words f s (Some path) (first ++ turns_entries made) made (turns_status ended) g (objects_of w)
+      → ServesStarted begins gives told calls faults keeps disk_told disk_faults links waits clocks turns c (objects s.sysfs d s.links s.waiter s.clock ms) made status t
+      → Serves reads begins gives told calls faults keeps disk_told disk_faults aimed links waits clocks turns clock words f s (Some path) (first ++ turns_entries made) made status g t
 
 -- a part isn't taken, and the journal's last line tells which, with the first line that is bad
 abbrev pub TellsRefusal : List Entry → Type 0

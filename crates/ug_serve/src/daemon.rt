@@ -1,19 +1,22 @@
 // The top call of the daemon.
-ghost use Rattle.std.specs.Prelude.{◌≡◌, ◌↔◌, ◌≤◌, [], ◌∷◌, map, Some, None};
+ghost use Rattle.std.specs.Prelude.{◌≡◌, ◌⊎◌, ◌↔◌, ◌≤◌, ◌<◌, ◌^◌, List, [], ◌∷◌, length, map, Some, None};
 ghost use Rattle.ug_types.specs.Elements.{Has};
 ghost use Rattle.ug_types.specs.Ends.{Rose};
 ghost use Rattle.ug_audit.specs.Journal.{members};
 ghost use Rattle.ug_core.specs.Policy.{clock_of};
-ghost use Rattle.ug_serve.specs.Opening.{words_of_seed};
+ghost use Rattle.ug_core.specs.Event.{daemon_of};
+ghost use Rattle.ug_serve.specs.Opening.{started, words_of_seed};
+ghost use Rattle.ug_serve.specs.Turns.{Turned};
 ghost use Rattle.ug_serve.specs.Refusals.{IsStatusByTexts};
 ghost use Rattle.ug_serve.specs.Saying.{TurnsServe};
-ghost use Rattle.ug_serve.specs.Serving.{RunsDaemon, daemon_statuses, objects, turns_status};
+ghost use Rattle.ug_serve.specs.Serving.{RunsDaemon, ServesStarted, daemon_statuses, objects, turns_status};
 ghost use Rattle.ug_serve.specs.Telling.{TurnsTell};
 ghost use Rattle.ug_serve.specs.Words.{conf_path};
 
+use crate::listening::listen_for_all;
 use crate::not_started::NotStarted;
 use crate::noting::{entries_of_start, note_refusal};
-use crate::start::start;
+use crate::start::{Started, start};
 use crate::turn::{TurnEnd, serve_turns};
 use crate::words::conf_path;
 use jiff::tz::TimeZone;
@@ -24,7 +27,7 @@ use ug_kernel::Sysfs;
 use ug_links::Links;
 use ug_sessions::Server;
 use ug_store::RuleDisk;
-use ug_types::{Clock, List, Waiter};
+use ug_types::{Clock, Waiter};
 
 fn status_of(end: TurnEnd) -> u8
     ensures { result ≡ turns_status end }
@@ -36,13 +39,50 @@ fn status_of(end: TurnEnd) -> u8
     }
 }
 
-/// A server without listeners. No session is accepted yet.
-fn idle_server(alloc: Global) -> Server
-    ensures principals { result.principals ≡ [] }
-    ensures listeners { result.listeners ≡ [] }
-    ensures sessions { result.sessions ≡ [] }
+/// The turns of a daemon that started, once its links listen for those that it is open to.
+fn serve_started<Y: Sysfs, D: RuleDisk, N: Links, W: Waiter, C: Clock>(
+    alloc: Global,
+    first: Started<'_>,
+    sysfs: &mut Y,
+    disk: &mut D,
+    links: &mut N,
+    waiter: &mut W,
+    clock: &mut C,
+    panel: &mut Panel,
+    turns: u64,
+) -> u8
+    requires { length first.principals < 2 ^ 32 }
+    ensures serves { (made : List Turned)
+        × ServesStarted Y.begins Y.gives Y.told Y.calls Y.faults
+        D.keeps D.told D.faults N.gives W.gives C.gives turns
+        (started first.entry.principals (daemon_of first.entry.daemon))
+        (objects sysfs.old disk.old links.old waiter.old clock.old
+        (members (λ b. ⟦<dyn Auditor as Auditor>⟧ b.vtable) panel.old)) made result
+        (objects sysfs.new disk.new links.new waiter.new clock.new
+        (members (λ b. ⟦<dyn Auditor as Auditor>⟧ b.vtable) panel.new)) }
+    ensures statuses { Has (0 ∷ 6 ∷ 10 ∷ 11 ∷ []) result }
+    ensures wait_failed { result ≡ 11 → Rose (N.faults links.old) (N.faults links.new)
+        ⊎ Rose (W.faults waiter.old) (W.faults waiter.new) }
 {
-    Server::new(alloc, List::new(alloc))
+    match listen_for_all(alloc, first.principals.as_slice(), links) {
+        Ok(()) => {
+            let mut daemon = first.daemon;
+            let mut server = Server::new(alloc, first.principals);
+            status_of(serve_turns(
+                alloc,
+                turns,
+                &mut daemon,
+                &mut server,
+                sysfs,
+                disk,
+                links,
+                waiter,
+                clock,
+                panel,
+            ))
+        }
+        Err(why) => why.status(),
+    }
 }
 
 /// The daemon with the settings at that path, and with room for an entry of its start.
@@ -72,24 +112,13 @@ fn serve_from<Y: Sysfs, D: RuleDisk, F: ConfFiles, N: Links, W: Waiter, C: Clock
         (members (λ b. ⟦<dyn Auditor as Auditor>⟧ b.vtable) panel.new)) }
     ensures files_failed { result ≡ 4 → Rose (F.faults files.old) (F.faults files.new) }
     ensures disk_failed { result ≡ 9 → Rose (D.faults disk.old) (D.faults disk.new) }
-    ensures wait_failed { result ≡ 11 → Rose (W.faults waiter.old) (W.faults waiter.new) }
+    ensures wait_failed { result ≡ 11 → Rose (N.faults links.old) (N.faults links.new)
+        ⊎ Rose (W.faults waiter.old) (W.faults waiter.new) }
 {
     match start(alloc, path, seed, zone, disk, files, panel, entries) {
-        Ok(mut daemon) => {
-            let mut server = idle_server(alloc);
-            status_of(serve_turns(
-                alloc,
-                turns,
-                &mut daemon,
-                &mut server,
-                sysfs,
-                disk,
-                links,
-                waiter,
-                clock,
-                panel,
-            ))
-        }
+        Ok(first) => serve_started(
+            alloc, first, sysfs, disk, links, waiter, clock, panel, turns,
+        ),
         Err(why) => {
             note_refusal(panel, entries, why);
             why.status()
@@ -122,7 +151,8 @@ fn serve<Y: Sysfs, D: RuleDisk, F: ConfFiles, N: Links, W: Waiter, C: Clock>(
         (members (λ b. ⟦<dyn Auditor as Auditor>⟧ b.vtable) panel.new)) }
     ensures files_failed { result ≡ 4 → Rose (F.faults files.old) (F.faults files.new) }
     ensures disk_failed { result ≡ 9 → Rose (D.faults disk.old) (D.faults disk.new) }
-    ensures wait_failed { result ≡ 11 → Rose (W.faults waiter.old) (W.faults waiter.new) }
+    ensures wait_failed { result ≡ 11 → Rose (N.faults links.old) (N.faults links.new)
+        ⊎ Rose (W.faults waiter.old) (W.faults waiter.new) }
 {
     match entries_of_start(alloc) {
         Ok(mut entries) => serve_from(
@@ -145,11 +175,11 @@ fn serve<Y: Sysfs, D: RuleDisk, F: ConfFiles, N: Links, W: Waiter, C: Clock>(
 }
 
 /// The daemon. The words are those of the command line behind `daemon`: `--conf PATH` names the settings, or none, which are then those
-/// of `/etc/usbguard/usbguard-daemon.conf`. It reads the settings, starts from the rule file that they name, and makes that many turns.
-/// Settings that open the daemon to a user or a group aren't taken, since no session is served. The status is 0; 1 for other words; 3
-/// where the settings' file is absent, or settings or rules aren't taken; 4 where a file of the configuration couldn't be read; 6 for
-/// want of memory before the first turn; 9 where the rule file couldn't be read; 10 where the numbers leave no room for an event; 11
-/// where a wait failed. The auditors are given the journal.
+/// of `/etc/usbguard/usbguard-daemon.conf`. It reads the settings and the access files, starts from the rule file that the settings name,
+/// listens for each user and group that may do something, in byte order, and makes that many turns. The status is 0; 1 for other words;
+/// 3 where the settings' file is absent, or settings, access files or rules aren't taken; 4 where a file of the configuration couldn't be
+/// read; 6 for want of memory before the first turn; 9 where the rule file couldn't be read; 10 where the numbers leave no room for an
+/// event; 11 where a listener couldn't be had, or a wait failed. The auditors are given the journal.
 pub fn run_daemon<Y: Sysfs, D: RuleDisk, F: ConfFiles, N: Links, W: Waiter, C: Clock>(
     alloc: Global,
     words: &[&str],
@@ -180,11 +210,13 @@ pub fn run_daemon<Y: Sysfs, D: RuleDisk, F: ConfFiles, N: Links, W: Waiter, C: C
     ensures complete { ¬ (conf_path (map (λ word. word.now) words.now) ≡ None) → ¬ (result ≡ 3)
         → ¬ (Rose (F.faults files.old) (F.faults files.new))
         → ¬ (Rose (D.faults disk.old) (D.faults disk.new))
+        → ¬ (Rose (N.faults links.old) (N.faults links.new))
         → ¬ (Rose (W.faults waiter.old) (W.faults waiter.new)) → Has (0 ∷ 6 ∷ 10 ∷ []) result }
 
     ensures files_failed { result ≡ 4 → Rose (F.faults files.old) (F.faults files.new) }
     ensures disk_failed { result ≡ 9 → Rose (D.faults disk.old) (D.faults disk.new) }
-    ensures wait_failed { result ≡ 11 → Rose (W.faults waiter.old) (W.faults waiter.new) }
+    ensures wait_failed { result ≡ 11 → Rose (N.faults links.old) (N.faults links.new)
+        ⊎ Rose (W.faults waiter.old) (W.faults waiter.new) }
 
     ensures carries { TurnsTell Y.begins Y.gives Y.told Y.calls Y.faults D.keeps D.told D.faults
         N.gives W.gives C.gives N.told W.told C.told }

@@ -1,8 +1,11 @@
 // The daemon: its start, and its turns.
 #![tactic(auto)]
 
+mod access;
 mod daemon;
 mod events;
+mod listed;
+mod listening;
 mod not_started;
 mod noting;
 mod respond;

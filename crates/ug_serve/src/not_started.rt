@@ -1,10 +1,10 @@
 // Why a daemon doesn't start.
 ghost use Rattle.std.specs.Prelude.{◌≡◌};
-ghost use Rattle.ug_serve.specs.Opening.{refused_whole, start_status};
+ghost use Rattle.ug_serve.specs.Causes.{refusal_of_fault, refused_whole, start_status};
 
 use ug_audit::ConfigPart;
 use ug_core::StartFault;
-use ug_types::{NoMemory, TextFault};
+use ug_types::{FileFault, NoMemory, TextFault};
 
 /// What keeps a daemon from its first turn.
 #[derive(Clone, Copy, Debug, PartialEq, Eq)]
@@ -33,6 +33,16 @@ impl NotStarted {
         )
     }
 
+    /// An access file isn't taken for that fault.
+    pub fn of_access(fault: FileFault) -> NotStarted
+        ensures { result ≡ refusal_of_fault fault }
+    {
+        match fault {
+            FileFault::Bad(bad) => NotStarted::Refused(ConfigPart::Access, bad),
+            FileFault::Memory => NotStarted::Memory,
+        }
+    }
+
     /// The daemon's exit status.
     pub fn status(self) -> u8
         ensures { result ≡ start_status self }
@@ -59,7 +69,7 @@ impl From<NoMemory> for NotStarted {
 
 impl From<StartFault> for NotStarted {
     ghost use Rattle.std.specs.Prelude.{◌≡◌};
-    ghost use Rattle.ug_serve.specs.Opening.{refusal_of_rules};
+    ghost use Rattle.ug_serve.specs.Causes.{refusal_of_rules};
 
     ghost from_gives = { λ error why. why ≡ refusal_of_rules error };
 

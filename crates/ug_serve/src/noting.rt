@@ -3,7 +3,8 @@ ghost use Rattle.std.specs.Prelude.{◌≡◌, ◌≤◌, ◌∷◌, [], false, 
 ghost use Rattle.ug_audit.specs.Journal.{members};
 ghost use Rattle.ug_audit.specs.Noting.{tells_drop};
 ghost use Rattle.ug_serve.specs.Lines.{AreNoted};
-ghost use Rattle.ug_serve.specs.Opening.{refusal_entries, unused_entries};
+ghost use Rattle.ug_serve.specs.Causes.{refusal_entries};
+ghost use Rattle.ug_serve.specs.Opening.{unused_entries};
 
 use crate::not_started::NotStarted;
 use std::alloc::Global;

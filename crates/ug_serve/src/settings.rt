@@ -1,13 +1,13 @@
 // The daemon's settings.
 ghost use Rattle.std.specs.Prelude.{◌≡◌, List, Err};
 ghost use Rattle.ug_types.specs.Ends.{IsCounted, Rose};
-ghost use Rattle.ug_serve.specs.Opening.{ReadsSettings, SettingsOf, OpensToNobody};
+ghost use Rattle.ug_serve.specs.Opening.{ReadsSettings, SettingsOf};
 ghost use Rattle.ug_serve.specs.declared.not_started.NotStarted.TheVariants.{FilesFailed};
 
 use crate::not_started::NotStarted;
 use std::alloc::Global;
 use ug_audit::ConfigPart;
-use ug_conf::{ConfFiles, FileRead, FolderRead, Settings, parse_conf};
+use ug_conf::{ConfFiles, FileRead, Settings, parse_conf};
 use ug_types::FileFault;
 
 fn settings_of(alloc: Global, text: &[u8]) -> Result<Settings, NotStarted>
@@ -35,29 +35,5 @@ pub fn read_settings<F: ConfFiles>(
         FileRead::Absent | FileRead::TooLong => Err(NotStarted::whole(ConfigPart::Settings)),
         FileRead::Failed => Err(NotStarted::FilesFailed),
         FileRead::Memory => Err(NotStarted::Memory),
-    }
-}
-
-/// Takes settings that open the daemon to nobody: they name no user or group, and their folder of access files is empty or absent.
-pub fn open_to_nobody<F: ConfFiles>(
-    alloc: Global,
-    settings: &Settings,
-    files: &mut F,
-) -> Result<(), NotStarted>
-    ensures opens { OpensToNobody F.gives settings.now.users settings.now.access_folder files.old result files.new }
-    ensures counted { IsCounted (F.faults files.old) (F.faults files.new) }
-    ensures cause { result ≡ Err FilesFailed → Rose (F.faults files.old) (F.faults files.new) }
-{
-    if let [_, ..] = settings.users.as_slice() {
-        return Err(NotStarted::whole(ConfigPart::Settings));
-    }
-    match files.list_folder(alloc, settings.access_folder.bytes()) {
-        FolderRead::Names(names) => match names.as_slice() {
-            [] => Ok(()),
-            [_, ..] => Err(NotStarted::whole(ConfigPart::Access)),
-        },
-        FolderRead::Absent => Ok(()),
-        FolderRead::Failed => Err(NotStarted::FilesFailed),
-        FolderRead::Memory => Err(NotStarted::Memory),
     }
 }

@@ -1,5 +1,5 @@
 // The daemon's start.
-ghost use Rattle.std.specs.Prelude.{◌≡◌, ◌≤◌, List, Result, Err, OnErr};
+ghost use Rattle.std.specs.Prelude.{◌≡◌, ◌≤◌, ◌<◌, ◌^◌, List, Err, IfOk, length};
 ghost use Rattle.ug_types.specs.Ends.{Rose};
 ghost use Rattle.ug_store.specs.Store.{seen_by};
 ghost use Rattle.ug_audit.specs.Journal.{members};
@@ -8,12 +8,13 @@ ghost use Rattle.ug_core.specs.Event.{daemon_of};
 ghost use Rattle.ug_core.specs.Policy.{clock_of};
 ghost use Rattle.ug_serve.specs.Lines.{AreNoted};
 ghost use Rattle.ug_core.specs.Starting.{Starts};
-ghost use Rattle.ug_serve.specs.Opening.{Opens, outset_of, words_of_seed};
+ghost use Rattle.ug_serve.specs.Opening.{Opens, outset_of, started, words_of_seed};
 ghost use Rattle.ug_serve.specs.declared.not_started.NotStarted.TheVariants.{FilesFailed, DiskFailed};
 
+use crate::access::read_access;
 use crate::not_started::NotStarted;
 use crate::noting::note_unused;
-use crate::settings::{open_to_nobody, read_settings};
+use crate::settings::read_settings;
 use jiff::tz::TimeZone;
 use rand_chacha::ChaCha20Rng;
 use rand_core::SeedableRng;
@@ -23,21 +24,30 @@ use ug_audit::{Auditor, Entries, Panel};
 use ug_conf::{ConfFiles, Settings};
 use ug_core::{Daemon, StartFault};
 use ug_store::RuleDisk;
+use ug_types::{List, Principal};
+
+/// A daemon that started, and those that it is open to.
+#[derive(Drop)]
+pub struct Started<'z> {
+    pub daemon: Daemon<'z, ChaCha20Rng>,
+    pub principals: List<Principal>,
+}
 
 /// Starts a daemon from the disk's rule file.
 fn start_daemon<'z, D: RuleDisk>(
     alloc: Global,
     settings: Settings,
+    acl: Acl,
     seed: [u8; 32],
     zone: TimeZone<'z>,
     disk: &mut D,
 ) -> Result<Daemon<'z, ChaCha20Rng>, StartFault>
     ensures starts { Starts D.keeps D.told D.faults
-        (outset_of settings (clock_of zone.entry) (words_of_seed seed))
+        (outset_of settings acl (clock_of zone.entry) (words_of_seed seed))
         disk.old (seen_by (λ d. daemon_of d) result) disk.new }
 {
     let rng = ChaCha20Rng::from_seed(seed);
-    Daemon::start(alloc, settings, Acl::new(alloc), rng, zone, 1, disk)
+    Daemon::start(alloc, settings, acl, rng, zone, 1, disk)
 }
 
 /// Reads the settings at that path, and starts a daemon from the rule file that they name. The auditors note the start's entries, but
@@ -51,13 +61,14 @@ pub fn start<'z, F: ConfFiles, D: RuleDisk>(
     files: &mut F,
     panel: &mut Panel,
     entries: &mut Entries,
-) -> Result<Daemon<'z, ChaCha20Rng>, NotStarted>
+) -> Result<Started<'z>, NotStarted>
     requires { 65 ≤ entries.old.room }
     ensures room { entries.new.room ≡ entries.old.room }
+    ensures few { IfOk result (λ s. length s.principals < 2 ^ 32) }
     ensures starts { (told : List Entry)
         × Opens F.gives D.keeps D.told D.faults D.aimed path.now
         (clock_of zone.entry) (words_of_seed seed)
-        files.old disk.old told (seen_by (λ d. daemon_of d) result) files.new disk.new
+        files.old disk.old told (seen_by (λ s. started s.principals (daemon_of s.daemon)) result) files.new disk.new
         × AreNoted told (members (λ b. ⟦<dyn Auditor as Auditor>⟧ b.vtable) panel.old)
         (members (λ b. ⟦<dyn Auditor as Auditor>⟧ b.vtable) panel.new) }
     ensures files_cause { result ≡ Err FilesFailed → Rose (F.faults files.old) (F.faults files.new) }
@@ -65,7 +76,11 @@ pub fn start<'z, F: ConfFiles, D: RuleDisk>(
 {
     let settings = read_settings(alloc, path, files)?;
     note_unused(panel, entries, settings.unused.as_slice());
-    open_to_nobody(alloc, &settings, files)?;
+    let access = read_access(alloc, &settings, files)?;
     disk.aim(alloc, settings.rule_file.bytes())?;
-    Ok(start_daemon(alloc, settings, seed, zone, disk)?)
+    let daemon = start_daemon(alloc, settings, access.acl, seed, zone, disk)?;
+    Ok(Started {
+        daemon,
+        principals: access.principals,
+    })
 }

@@ -1,15 +1,16 @@
 // The daemon over objects in memory.
 use crate::audit::{auditor, took};
 use crate::devices::hub_and_key;
+use crate::turns::{one, peer, was_sent};
 use jiff::tz::TimeZone;
 use std::alloc::Global;
 use std::collections::VecDeque;
 use ug_audit::{Auditor, Panel};
-use ug_conf::{MemFile, MemFiles};
-use ug_links::{MemLinks, Script};
+use ug_conf::{MemFile, MemFiles, MemFolder};
+use ug_links::{ListenItem, MemLinks, Script};
 use ug_serve::run_daemon;
 use ug_store::MemDisk;
-use ug_types::{ListClock, ListWaiter, Moment, Text};
+use ug_types::{List, ListClock, ListWaiter, Moment, Text};
 
 const USUAL: &[u8] = b"/etc/usbguard/usbguard-daemon.conf";
 
@@ -131,10 +132,8 @@ fn what_is_refused_is_told(rt: HostRuntime) {
     let none = b"start-refused settings 0 0 0\n";
     let key = b"start-refused settings 1 2 0\n";
     let rule = b"start-refused rules 2 4 0\n";
-    let user = b"IPCAllowedUsers=root".as_slice();
     let alloc = rt.alloc();
     assert!(rt; refuses(alloc, Some(b"Foo=1"), b"", key) == Some(true));
-    assert!(rt; refuses(alloc, Some(user), b"", none) == Some(true));
     assert!(rt; refuses(alloc, Some(b""), b"allow\nfrob", rule) == Some(true));
     assert!(rt; refuses(alloc, None, b"", none) == Some(true));
 }
@@ -145,4 +144,94 @@ fn bad_words_end_the_daemon(rt: HostRuntime) {
     let mut files = files(alloc, USUAL, None).expect(&rt, "memory");
     let mut panel = panel(alloc, &[]).expect(&rt, "memory");
     assert!(rt; run(alloc, &["--conf"], &mut files, b"", 1, &mut panel) == Some(1));
+}
+
+// Settings that name a user, and an access file of that name.
+fn two_principals(alloc: Global, name: &[u8], grants: &[u8]) -> Option<MemFiles> {
+    let mut files = Vec::new(alloc);
+    let path = Text::of(alloc, USUAL).ok()?;
+    let text = b"IPCAllowedUsers=root\nIPCAccessControlFiles=/a\n";
+    let text = Text::of(alloc, text).ok()?;
+    files.push(MemFile { path, text }).ok()?;
+    let mut path = Vec::from_slice(alloc, b"/a/").ok()?;
+    path.extend_from_slice(name).ok()?;
+    let path = Text::from_vec(path);
+    let text = Text::of(alloc, grants).ok()?;
+    files.push(MemFile { path, text }).ok()?;
+    let mut names = List::new(alloc);
+    names.push(Text::of(alloc, name).ok()?).ok()?;
+    let mut folders = Vec::new(alloc);
+    let path = Text::of(alloc, b"/a").ok()?;
+    folders.push(MemFolder::new(path, names)).ok()?;
+    Some(MemFiles::new(files, folders, Vec::new(alloc)))
+}
+
+// Joe and root each ask for the rules.
+fn two_sessions(alloc: Global, listens: &[ListenItem]) -> Option<MemLinks> {
+    let mut arrivals = Vec::new(alloc);
+    for i in 0..2u32 {
+        let asks = peer(alloc, &[b"list-rules\n"])?;
+        arrivals.push(one(alloc, asks)?).ok()?;
+    }
+    let mut script = VecDeque::new(alloc);
+    for item in listens {
+        script.push_back(*item).ok()?;
+    }
+    Some(MemLinks::new(alloc, Script::new(script), arrivals))
+}
+
+fn run_over(alloc: Global, files: &mut MemFiles, links: &mut MemLinks) -> Option<u8> {
+    let mut kernel = hub_and_key(alloc, true)?;
+    let mut disk = MemDisk::with_text(alloc, b"block\n").ok()?;
+    let moments = Vec::from_slice(alloc, &[Moment(100)]).ok()?;
+    Some(run_daemon(
+        alloc,
+        &[],
+        [0; 32],
+        TimeZone::UTC,
+        &mut kernel,
+        &mut disk,
+        files,
+        links,
+        &mut ListWaiter::new(Vec::new(alloc)),
+        &mut ListClock::new(moments),
+        &mut Panel::new(Vec::new(alloc)),
+        1,
+    ))
+}
+
+#[test]
+fn each_user_is_answered_by_what_it_may(rt: HostRuntime) {
+    let alloc = rt.alloc();
+    let mut files = two_principals(alloc, b"joe", b"Devices=list\n").expect(&rt, "memory");
+    let mut links = two_sessions(alloc, &[]).expect(&rt, "memory");
+    assert!(rt; run_over(alloc, &mut files, &mut links) == Some(0));
+    assert!(rt; was_sent(alloc, &links, 0, b"refused 2 denied Policy list\n"));
+    assert!(rt; was_sent(alloc, &links, 1, b"ok 1\n1: block\n"));
+}
+
+// Whether a run with that access file has status 3, and tells that line alone.
+fn refuses_access(alloc: Global, name: &[u8], grants: &[u8], line: &[u8]) -> Option<bool> {
+    let mut files = two_principals(alloc, name, grants)?;
+    let mut panel = panel(alloc, &[])?;
+    let status = run(alloc, &[], &mut files, b"", 1, &mut panel)?;
+    Some(status == 3 && took(&panel, 0, line))
+}
+
+#[test]
+fn a_bad_access_file_is_told(rt: HostRuntime) {
+    let alloc = rt.alloc();
+    let privilege = b"start-refused access 1 3 8\n";
+    let name = b"start-refused access 0 5 0\n";
+    assert!(rt; refuses_access(alloc, b"joe", b"Devices=frob", privilege) == Some(true));
+    assert!(rt; refuses_access(alloc, b"a b", b"Devices=list", name) == Some(true));
+}
+
+#[test]
+fn a_listener_that_fails_ends_the_daemon(rt: HostRuntime) {
+    let alloc = rt.alloc();
+    let listens = [ListenItem::Opens, ListenItem::Fails];
+    let mut files = two_principals(alloc, b"joe", b"Devices=list").expect(&rt, "memory");
+    let mut links = two_sessions(alloc, &listens).expect(&rt, "memory");
+    assert!(rt; run_over(alloc, &mut files, &mut links) == Some(11));
 }

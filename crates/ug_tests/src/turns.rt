@@ -16,7 +16,7 @@ use ug_store::MemDisk;
 use ug_types::{LinkId, List, ListClock, ListWaiter, Moment, Principal, Text};
 
 // A session that sends these pieces, and then waits.
-fn peer(alloc: Global, pieces: &[&[u8]]) -> Option<Peer> {
+pub fn peer(alloc: Global, pieces: &[&[u8]]) -> Option<Peer> {
     let mut reads = VecDeque::new(alloc);
     for piece in pieces {
         let piece = Text::of(alloc, *piece).ok()?;
@@ -28,7 +28,7 @@ fn peer(alloc: Global, pieces: &[&[u8]]) -> Option<Peer> {
 }
 
 // One arrival, of that session.
-fn one(alloc: Global, peer: Peer) -> Option<Script<Arrival>> {
+pub fn one(alloc: Global, peer: Peer) -> Option<Script<Arrival>> {
     let mut arrivals = VecDeque::new(alloc);
     arrivals.push_back(Arrival::Comes(peer)).ok()?;
     Some(Script::new(arrivals))
@@ -121,7 +121,7 @@ fn sent(alloc: Global, links: &MemLinks, id: LinkId) -> Option<Vec<u8>> {
     Some(text)
 }
 
-fn was_sent(alloc: Global, links: &MemLinks, id: u64, wanted: &[u8]) -> bool {
+pub fn was_sent(alloc: Global, links: &MemLinks, id: u64, wanted: &[u8]) -> bool {
     match sent(alloc, links, LinkId(id)) {
         Some(text) => text.as_slice() == wanted,
         None => false,

@@ -4,15 +4,13 @@
 mod usage;
 
 use crate::usage::tell;
-use std::collections::VecDeque;
 use std::process::ExitCode;
 use std::{env, io};
 use ug_audit::{Auditor, Panel};
 use ug_host::{
-    ConfFolder, LocalZone, RuleFile, SecondWaiter, SocketLink, SysfsFolder, SystemClock,
-    WriterAuditor, read_seed,
+    ConfFolder, LocalZone, RuleFile, SocketFolder, SocketLink, SocketWaiter, SysfsFolder,
+    SystemClock, WriterAuditor, read_seed,
 };
-use ug_links::{MemLinks, Script};
 use ug_serve::run_daemon;
 use ug_sysfs::SimKernel;
 use ug_tool::{run_replay, run_tool};
@@ -27,13 +25,16 @@ fn end_with<K: Sink>(out: &mut K, line: &[u8], status: u8) -> ExitCode {
 }
 
 /// The daemon over this machine's own devices, files, clock and zone, with its journal on standard output, and its status. The words
-/// are those behind `daemon`. Where the system has no random bytes, the status is 4.
+/// are those behind `daemon`. Where the system has no random bytes, the status is 4, and 11 where it has nothing to wait with.
 fn serve(rt: HostRuntime, words: &[&str]) -> u8 {
     let alloc = rt.alloc();
     let Ok(devices) = String::from_str(alloc, "/sys/bus/usb/devices") else {
         return 6;
     };
     let Ok(announced) = String::from_str(alloc, "/sys/kernel/uevent_seqnum") else {
+        return 6;
+    };
+    let Ok(sockets) = String::from_str(alloc, "/run/usbguard") else {
         return 6;
     };
     let Ok(output) = Box::new(alloc, WriterAuditor::new(rt.stdout())) else {
@@ -46,6 +47,12 @@ fn serve(rt: HostRuntime, words: &[&str]) -> u8 {
     let Ok(seed) = read_seed(&rt) else {
         return 4;
     };
+    let Ok(mut waiter) = SocketWaiter::new(rt, alloc, announced) else {
+        return 11;
+    };
+    let Ok(mut links) = SocketFolder::new(rt, alloc, sockets, &waiter) else {
+        return 11;
+    };
     let zone = LocalZone::read(&rt, alloc, "/etc/localtime");
     run_daemon(
         alloc,
@@ -55,8 +62,8 @@ fn serve(rt: HostRuntime, words: &[&str]) -> u8 {
         &mut SysfsFolder::new(rt, alloc, devices),
         &mut RuleFile::new(rt, alloc),
         &mut ConfFolder::new(rt),
-        &mut MemLinks::new(alloc, Script::new(VecDeque::new(alloc)), Vec::new(alloc)),
-        &mut SecondWaiter::new(rt, announced),
+        &mut links,
+        &mut waiter,
         &mut SystemClock::new(rt),
         &mut Panel::new(members),
         u64::MAX,

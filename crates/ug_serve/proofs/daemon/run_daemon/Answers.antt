@@ -25,7 +25,7 @@ pub returns-in-None-clause-refused : goal.returns-in-None-clause-refused
 returns-in-None-clause-refused g c = λ path tree n is files disk. let none = c.in-None.ensures in let no : ⊥ = cc in absurd no
 
 pub returns-in-None-clause-complete : goal.returns-in-None-clause-complete
-returns-in-None-clause-complete g c = λ words taken files disk waiter. absurd (words (sym c.in-None.ensures))
+returns-in-None-clause-complete g c = λ words taken files disk links waiter. absurd (words (sym c.in-None.ensures))
 
 pub returns-in-None-clause-carries : goal.returns-in-None-clause-carries
 returns-in-None-clause-carries g c = turns_tell g.Y.Sysfs.begins g.Y.Sysfs.gives g.Y.Sysfs.told g.Y.Sysfs.calls g.Y.Sysfs.faults g.D.RuleDisk.keeps g.D.RuleDisk.told g.D.RuleDisk.faults g.N.Links.gives g.W.Waiter.gives g.C.Clock.gives g.N.Links.told g.W.Waiter.told g.C.Clock.told g.met.N.Links.tells g.met.W.Waiter.tells g.met.C.Clock.tells
@@ -63,7 +63,7 @@ returns-in-Some-clause-refused g c =
     (Some c.in-Some.path.now) r.journal r.made c.serve.result c.serve.new.files (objects c.serve.new.sysfs c.serve.new.disk c.serve.new.links c.serve.new.waiter c.serve.new.clock (members (λ b. goal.Auditor-dyn g (b.vtable, b.value)) c.serve.new.panel)) r.serves)
 
 pub returns-in-Some-clause-complete : goal.returns-in-Some-clause-complete
-returns-in-Some-clause-complete g c = λ words taken files disk waiter.
+returns-in-Some-clause-complete g c = λ words taken files disk links waiter.
     let r = c.serve.ensures.runs in
     let one =
     bad_words g.F.ConfFiles.gives g.Y.Sysfs.begins g.Y.Sysfs.gives g.Y.Sysfs.told g.Y.Sysfs.calls g.Y.Sysfs.faults g.D.RuleDisk.keeps g.D.RuleDisk.told g.D.RuleDisk.faults g.D.RuleDisk.aimed g.N.Links.gives g.W.Waiter.gives g.C.Clock.gives
@@ -74,4 +74,4 @@ returns-in-Some-clause-complete g c = λ words taken files disk waiter.
     c.args.turns (clock_of c.args.zone) (words_of_seed c.args.seed) c.args.files.now (objects c.args.sysfs.now c.args.disk.now c.args.links.now c.args.waiter.now c.args.clock.now (members (λ b. goal.Auditor-dyn g (b.vtable, b.value)) c.args.panel.now))
     (Some c.in-Some.path.now) r.journal r.made c.serve.result c.serve.new.files (objects c.serve.new.sysfs c.serve.new.disk c.serve.new.links c.serve.new.waiter c.serve.new.clock (members (λ b. goal.Auditor-dyn g (b.vtable, b.value)) c.serve.new.panel)) r.serves in
     completes c.serve.result known (λ e. let some = one.0 e in let no : ⊥ = cc in absurd no) taken
-    (λ e. files (c.serve.ensures.files_failed e)) (λ e. disk (c.serve.ensures.disk_failed e)) (λ e. waiter (c.serve.ensures.wait_failed e))
+    (λ e. files (c.serve.ensures.files_failed e)) (λ e. disk (c.serve.ensures.disk_failed e)) (λ e. elim (c.serve.ensures.wait_failed e) [ inl h ↦ links h | inr h ↦ waiter h ])
