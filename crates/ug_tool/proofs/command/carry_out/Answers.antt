@@ -4,3 +4,11 @@ pub returns-in-Replay-clause-replayed : goal.returns-in-Replay-clause-replayed
 returns-in-Replay-clause-replayed g c = λ is all base a b.
     let r = c.replay_over.ensures.replayed all base a b in
     (r.0, c.replay_over.new.kernel, r.1)
+
+pub returns-in-GeneratePolicy-clause-generated : goal.returns-in-GeneratePolicy-clause-generated
+returns-in-GeneratePolicy-clause-generated g c = λ is all base a b.
+    let r = rw c.new-in-GeneratePolicy.ensures at (c.generate_policy.ensures.answers all base a b) in
+    (r.0, c.generate_policy.new.kernel, r.1)
+
+pub returns-in-GeneratePolicy-clause-policy : goal.returns-in-GeneratePolicy-clause-policy
+returns-in-GeneratePolicy-clause-policy g c = λ is all base a b. rw c.new-in-GeneratePolicy.ensures at (c.generate_policy.ensures.policy all base a b)
