@@ -1,32 +1,33 @@
--- What changes leave of the rules: the permanent ones, their numbering, and what histories stand for.
-use Rattle.std.proofs.Common.{◌≡◌, ℕ, zero, suc, ◌+◌, ◌≤◌, ◌<◌, Bool, true, false, cond, not, List, [], ◌∷◌, ◌++◌, length, inl, inr, refl, sym, ◌∙◌, ap, subst, append-nil, append_assoc, arith}
-use Rattle.std.specs.Prelude.{map, ◌&&◌, ◌||◌}
-use Rattle.std.specs.List.{flat_map, insert, list_any}
-use Rattle.std.proofs.lemmas.Bool.{eqb-false, eqb-true}
+-- What changes leave of the rules: their numbering, and what histories stand for.
+use Rattle.std.proofs.Common.{◌≡◌, ℕ, zero, suc, ◌+◌, ◌≤◌, ◌<◌, Bool, true, false, cond, not, List, [], ◌∷◌, ◌++◌, length, inl, inr, refl, sym, ◌∙◌, ap, subst, arith}
+use Rattle.std.specs.List.{flat_map, insert}
+use Rattle.std.proofs.lemmas.Bool.{eqb-false}
 use Rattle.ug_types.specs.Elements.{Has, AllDistinct}
-use Rattle.ug_types.specs.declared.parameter.Parameter.{Parameter}
 use Rattle.ug_types.specs.declared.rule.After.{After}
 use Rattle.ug_types.specs.declared.rule.After.TheVariants as after
 use Rattle.ug_types.specs.declared.rule.Rule.{Rule}
 use Rattle.rand_core.specs.Stream.{Stream}
 use Rattle.ug_cond.specs.Judgements.{Judgement}
 use Rattle.ug_cond.specs.Words.{behind}
-use Rattle.ug_policy.specs.Edits.{IsThere, followed, has_id, inserted, new_entry, removed}
+use Rattle.ug_policy.specs.Edits.{IsThere, aimed, followed, has_id, inserted, new_entry, removed, retargeted}
 use Rattle.ug_policy.specs.Kept.{StandsFor}
 use Rattle.ug_policy.specs.Rules.{IsNumbered, ids}
 use Rattle.ug_policy.specs.declared.entry.RuleEntry.{RuleEntry}
 use Rattle.ug_policy.proofs.Changes.{followed_first}
-use Rattle.ug_policy.proofs.Numbering.{numbered_insert, numbered_removed}
+use Rattle.ug_policy.proofs.Numbering.{numbered_insert, numbered_removed, numbered_retargeted}
 use Rattle.ug_policy.proofs.Places.{FirstAt}
-use Rattle.ug_policy.proofs.Stands.{stands_insert, stands_removed}
-use Rattle.ug_print.specs.RuleTexts.{rules_text_of}
+use Rattle.ug_policy.proofs.Stands.{stands_insert, stands_removed, stands_retargeted}
 use Rattle.ug_core.specs.Changes.{CanChange, changed_by, with_parameter}
-use Rattle.ug_core.specs.RulePlaces.{has_permanent}
-use Rattle.ug_core.specs.Policy.{Judging, as_given}
-use Rattle.ug_core.specs.RuleFile.{permanent_rules, permanent_text, saved_of}
+use Rattle.ug_core.specs.Policy.{Judging}
 use Rattle.ug_core.specs.Verdicts.{IsLater}
 use Rattle.ug_core.specs.declared.changes.Change.{Change}
-use Rattle.ug_core.specs.declared.changes.Change.TheVariants.{Insert, Remove, Set}
+use Rattle.ug_core.specs.declared.changes.Change.TheVariants.{Rules, Set}
+use Rattle.ug_rules.specs.RuleEdits.{CanEdit, edited_by, next_after}
+use Rattle.ug_rules.specs.RuleFile.{as_given}
+use Rattle.ug_rules.specs.declared.edit.Edit.{Edit}
+use Rattle.ug_rules.specs.declared.edit.Edit.TheVariants.{Insert, Remove, Retarget}
+use Rattle.ug_rules.proofs.Given.{given_append}
+use Rattle.ug_types.specs.declared.verdict.Target.{Target}
 use Rattle.ug_core.specs.declared.classes.Classes.{Classes}
 
 -- ---- the place of a rule that is added
@@ -74,10 +75,6 @@ placed (after.Rule id) es distinct there =
 abbrev given : RuleEntry → RuleEntry
 given e = new_entry e.id e.rule e.temporary
 
-given_append : (es fs : List RuleEntry) → as_given (es ++ fs) ≡ as_given es ++ as_given fs
-given_append [] fs = refl
-given_append (e ∷ es) fs = ap (λ (v : List RuleEntry). given e ∷ v) (given_append es fs)
-
 given_followed : (id : ℕ) (added : RuleEntry) (es : List RuleEntry) → as_given (flat_map (followed id added) es) ≡ flat_map (followed id (given added)) (as_given es)
 given_followed id added [] = refl
 given_followed id added (e ∷ es) = given_append (followed id added e) (flat_map (followed id added) es) ∙ ap (λ (v : List RuleEntry). v ++ as_given (flat_map (followed id added) es)) (by_id (has_id id e)) ∙ ap (λ (v : List RuleEntry). followed id (given added) (given e) ++ v) (given_followed id added es)
@@ -99,74 +96,58 @@ given_removed id (e ∷ es) = by_id (not (has_id id e)) ∙ ap (λ (v : List Rul
     by_id true = refl
     by_id false = refl
 
--- ---- the permanent ones
-
-permanent_append : (es fs : List RuleEntry) → permanent_rules (es ++ fs) ≡ permanent_rules es ++ permanent_rules fs
-permanent_append [] fs = refl
-permanent_append (e ∷ es) fs = ap (λ (v : List Rule). saved_of e ++ v) (permanent_append es fs) ∙ sym (append_assoc (saved_of e) (permanent_rules es) (permanent_rules fs))
-
-permanent_followed : (id n : ℕ) (rule : Rule) (es : List RuleEntry) → permanent_rules (flat_map (followed id (new_entry n rule true)) es) ≡ permanent_rules es
-permanent_followed id n rule [] = refl
-permanent_followed id n rule (e ∷ es) = permanent_append (followed id (new_entry n rule true) e) (flat_map (followed id (new_entry n rule true)) es) ∙ ap (λ (v : List Rule). v ++ permanent_rules (flat_map (followed id (new_entry n rule true)) es)) (by_id (has_id id e)) ∙ ap (λ (v : List Rule). saved_of e ++ v) (permanent_followed id n rule es)
+given_retargeted : (id : ℕ) (target : Target) (es : List RuleEntry) → as_given (retargeted id target es) ≡ retargeted id target (as_given es)
+given_retargeted id target [] = refl
+given_retargeted id target (e ∷ es) = ap (λ (v : List RuleEntry). given (cond (has_id id e) (aimed target e) e) ∷ v) (given_retargeted id target es) ∙ ap (λ (x : RuleEntry). x ∷ retargeted id target (as_given es)) (by_id (has_id id e))
   where
-    by_id : (b : Bool) → permanent_rules (cond b (e ∷ new_entry n rule true ∷ []) (e ∷ [])) ≡ saved_of e
-    by_id true = append-nil (saved_of e)
-    by_id false = append-nil (saved_of e)
-
-permanent_inserted : (place : After) (n : ℕ) (rule : Rule) (es : List RuleEntry) → permanent_rules (inserted place (new_entry n rule true) es) ≡ permanent_rules es
-permanent_inserted after.End n rule es = permanent_append es (new_entry n rule true ∷ []) ∙ append-nil (permanent_rules es)
-permanent_inserted after.Front n rule es = refl
-permanent_inserted (after.Rule id) n rule es = permanent_followed id n rule es
-
-permanent_removed : (id : ℕ) (es : List RuleEntry) → has_permanent id es ≡ false → permanent_rules (removed id es) ≡ permanent_rules es
-permanent_removed id [] h = refl
-permanent_removed id (e ∷ es) h = by_id (has_id id e) e.temporary refl h (permanent_removed id es)
-  where
-    by_id : (b t : Bool) → e.temporary ≡ t → ((b && not t) || has_permanent id es) ≡ false → (has_permanent id es ≡ false → permanent_rules (removed id es) ≡ permanent_rules es) → permanent_rules (cond (not b) (e ∷ removed id es) (removed id es)) ≡ saved_of e ++ permanent_rules es
-    by_id true true temporary k rest = rest k ∙ ap (λ (t : Bool). cond t [] (e.rule ∷ []) ++ permanent_rules es) (sym temporary)
-    by_id true false temporary k rest = let none : ⊥ = cc in absurd none
-    by_id false t temporary k rest = ap (λ (v : List Rule). saved_of e ++ v) (rest k)
-
-pub permanent_changed : (change : Change) (p : Judging) → CanChange change p.rules → permanent_text (changed_by change p).rules ≡ permanent_text p.rules
-permanent_changed (Insert place rule temporary) p can = ap (λ (t : Bool). permanent_text (inserted place (new_entry p.next rule t) p.rules)) can.2 ∙ ap (λ (rs : List Rule). rules_text_of rs) (permanent_inserted place p.next rule p.rules)
-permanent_changed (Remove id) p can = ap (λ (rs : List Rule). rules_text_of rs) (permanent_removed id p.rules can.1)
-permanent_changed (Set set) p can = refl
+    by_id : (b : Bool) → given (cond b (aimed target e) e) ≡ cond b (aimed target (given e)) (given e)
+    by_id true = refl
+    by_id false = refl
 
 -- ---- a policy that is later
 
+numbered_edited : (edit : Edit) (next : ℕ) (es : List RuleEntry) → CanEdit edit es → IsNumbered es next → IsNumbered (edited_by edit next es) (next_after edit next)
+numbered_edited (Insert place rule temporary) next es can n =
+    let k = placed place es n.distinct can.0 in
+    subst (λ (v : List RuleEntry). IsNumbered v (next + 1)) (sym (k.puts (new_entry next rule temporary))) (numbered_insert es next k.at (new_entry next rule temporary) n refl k.within can.1)
+numbered_edited (Remove id) next es can n = numbered_removed id next es n
+numbered_edited (Retarget id rule) next es can n = numbered_retargeted id rule.target es next n
+
 numbered_changed : (change : Change) (p : Judging) → CanChange change p.rules → IsNumbered p.rules p.next → IsNumbered (changed_by change p).rules (changed_by change p).next
-numbered_changed (Insert place rule temporary) p can n =
-    let k = placed place p.rules n.distinct can.0 in
-    subst (λ (v : List RuleEntry). IsNumbered v (p.next + 1)) (sym (k.puts (new_entry p.next rule temporary))) (numbered_insert p.rules p.next k.at (new_entry p.next rule temporary) n refl k.within can.1)
-numbered_changed (Remove id) p can n = numbered_removed id p.next p.rules n
+numbered_changed (Rules edit) p can n = numbered_edited edit p.next p.rules can n
 numbered_changed (Set set) p can n = n
 
+stands_edited : (edit : Edit) (next : ℕ) (es : List RuleEntry) (js : List Judgement) → CanEdit edit es → IsNumbered es next → StandsFor es next js → StandsFor (edited_by edit next es) (next_after edit next) js
+stands_edited (Insert place rule temporary) next es js can n s =
+    let k = placed place es n.distinct can.0 in
+    subst (λ (v : List RuleEntry). StandsFor v (next + 1) js) (sym (k.puts (new_entry next rule temporary))) (stands_insert es next k.at rule temporary js s)
+stands_edited (Remove id) next es js can n s = stands_removed id es next js s
+stands_edited (Retarget id rule) next es js can n s = stands_retargeted id rule.target es next js s
+
 stands_changed : (change : Change) (p : Judging) (js : List Judgement) → CanChange change p.rules → IsNumbered p.rules p.next → StandsFor p.rules p.next js → StandsFor (changed_by change p).rules (changed_by change p).next js
-stands_changed (Insert place rule temporary) p js can n s =
-    let k = placed place p.rules n.distinct can.0 in
-    subst (λ (v : List RuleEntry). StandsFor v (p.next + 1) js) (sym (k.puts (new_entry p.next rule temporary))) (stands_insert p.rules p.next k.at rule temporary js s)
-stands_changed (Remove id) p js can n s = stands_removed id p.rules p.next js s
+stands_changed (Rules edit) p js can n s = stands_edited edit p.next p.rules js can n s
 stands_changed (Set set) p js can n s = s
 
+given_edited : (edit : Edit) (next : ℕ) (es : List RuleEntry) → as_given (edited_by edit next es) ≡ edited_by edit next (as_given es)
+given_edited (Insert place rule temporary) next es = given_inserted place (new_entry next rule temporary) es
+given_edited (Remove id) next es = given_removed id es
+given_edited (Retarget id rule) next es = given_retargeted id rule.target es
+
 given_changed : (change : Change) (policy p : Judging) → as_given p.rules ≡ policy.rules → p.next ≡ policy.next → as_given (changed_by change p).rules ≡ (changed_by change policy).rules
-given_changed (Insert place rule temporary) policy p rules next = given_inserted place (new_entry p.next rule temporary) p.rules ∙ ap (λ (es : List RuleEntry). inserted place (new_entry p.next rule temporary) es) rules ∙ ap (λ (n : ℕ). inserted place (new_entry n rule temporary) policy.rules) next
-given_changed (Remove id) policy p rules next = given_removed id p.rules ∙ ap (λ (es : List RuleEntry). removed id es) rules
+given_changed (Rules edit) policy p rules next = given_edited edit p.next p.rules ∙ ap (λ (es : List RuleEntry). edited_by edit p.next es) rules ∙ ap (λ (n : ℕ). edited_by edit n policy.rules) next
 given_changed (Set set) policy p rules next = rules
 
 next_changed : (change : Change) (policy p : Judging) → p.next ≡ policy.next → (changed_by change p).next ≡ (changed_by change policy).next
-next_changed (Insert place rule temporary) policy p next = ap (λ (n : ℕ). n + 1) next
-next_changed (Remove id) policy p next = next
+next_changed (Rules edit) policy p next = ap (λ (n : ℕ). next_after edit n) next
 next_changed (Set set) policy p next = next
 
 classes_changed : (change : Change) (policy p : Judging) → p.classes ≡ policy.classes → (changed_by change p).classes ≡ (changed_by change policy).classes
-classes_changed (Insert place rule temporary) policy p classes = classes
-classes_changed (Remove id) policy p classes = classes
+classes_changed (Rules edit) policy p classes = classes
 classes_changed (Set set) policy p classes = ap (λ (c : Classes). with_parameter set c) classes
 
 -- what a change leaves alone
 stays_changed : (change : Change) (policy : Judging) → ((changed_by change policy).clock ≡ policy.clock) × ((changed_by change policy).stream ≡ policy.stream)
-stays_changed (Insert place rule temporary) policy = (refl, refl)
-stays_changed (Remove id) policy = (refl, refl)
+stays_changed (Rules edit) policy = (refl, refl)
 stays_changed (Set set) policy = (refl, refl)
 
 pub later_changed : (change : Change) (policy p : Judging) (words : ℕ) (js : List Judgement) → CanChange change p.rules → IsLater policy words js p → IsLater (changed_by change policy) words js (changed_by change p)

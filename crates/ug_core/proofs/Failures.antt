@@ -15,6 +15,7 @@ use Rattle.ug_core.specs.Event.{DaemonState}
 use Rattle.ug_core.specs.Policy.{Judging}
 use Rattle.ug_core.specs.Laws.{GoesAsAnswer, TellsSweep, TellsEvent}
 use Rattle.ug_core.specs.declared.daemon.Event.{Event}
+use Rattle.ug_core.specs.declared.storing.Stored.{Stored}
 
 along_then : {S : Type 0} (gives : S → (call : Call) → Answer call → S → Type 0) (ms ns : List Made) (s u t : S) → Along gives s ms u → Along gives u ns t → Along gives s (ms ++ ns) t
 along_then {S} gives [] ns s u t a b = subst (λ (x : S). Along gives x ns t) a b
@@ -24,8 +25,8 @@ failures_append : (ms ns : List Made) → failures (ms ++ ns) ≡ failures ms ++
 failures_append [] ns = refl
 failures_append (m ∷ ms) ns = ap (λ (x : List FailedCall). failure m.call m.answer ++ x) (failures_append ms ns) ∙ sym (append_assoc (failure m.call m.answer) (failures ms) (failures ns))
 
-pub event_tells : {S : Type 0} (gives : S → (call : Call) → Answer call → S → Type 0) (calls faults : S → ℕ) → Counting gives calls faults → (event : Event) (s : S) (d : DaemonState) (m : S) (a : DaemonState) (t : S) (e : DaemonState) (order : List Made) → calls s ≡ 0 → Along gives s order m → GoesAsAnswer gives calls faults event s d order m a → failures_told a.sweep.entries ≡ failures order → TellsSweep gives calls faults m a t e → TellsEvent gives calls faults event s d m a t e
-event_tells gives calls faults counting event s d m a t e order none along answers quiet law =
+pub event_tells : {S : Type 0} (gives : S → (call : Call) → Answer call → S → Type 0) (calls faults : S → ℕ) → Counting gives calls faults → (event : Event) (s : S) (d : DaemonState) (became : Stored) (m : S) (a : DaemonState) (t : S) (e : DaemonState) (order : List Made) → calls s ≡ 0 → Along gives s order m → GoesAsAnswer gives calls faults event s d became order m a → failures_told a.sweep.entries ≡ failures order → TellsSweep gives calls faults m a t e → TellsEvent gives calls faults event s d became m a t e
+event_tells gives calls faults counting event s d became m a t e order none along answers quiet law =
     let v : State Judging = law.swept in
     let h = law.tells in
     let ms : List Made = answered Names h.goes.listed ∷ h.goes.later in

@@ -1,3 +1,5 @@
+pub mod Asked
+pub mod Came
 pub mod Answered
 pub mod Handled
 pub mod Failures
@@ -6,16 +8,17 @@ pub mod InForce
 pub mod Walk
 pub mod Steps
 pub mod Places
+pub mod Probing
 pub mod Changed
 pub mod Known
 pub mod Plain
 pub mod Noted
 pub mod Kept
+pub mod SoFar
+pub mod OneMore
 pub mod Chained
 pub mod Numbering
 pub mod Readable
 pub mod Started
-pub mod RowLines
 pub mod RowOrder
-pub mod RuleRowWalk
 pub mod RowWalk

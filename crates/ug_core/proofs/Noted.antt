@@ -8,6 +8,7 @@ use Rattle.ug_audit.specs.Noting.{NotesEntries}
 use Rattle.ug_audit.specs.Panels.{Member}
 use Rattle.ug_audit.proofs.Noting.{notes_on}
 use Rattle.ug_core.specs.Event.{NotesMore}
+use Rattle.ug_core.specs.declared.report.Report.{Report}
 
 -- what was noted in a journal, by the panel that it leaves
 pub noted_more : {X : Type 0} {F : X → Type 0} (told : Told X F) (a b : Journal X F) (panel last : Panel X F) (es fs : List Entry) → SameEntries told a b → a.panel.now ≡ panel → last ≡ b.panel.now → a.entries.now.entries ≡ es → fs ≡ b.entries.now.entries → NotesMore es fs (members told panel) (members told last)
@@ -29,3 +30,7 @@ more_noted es fs gs ms ns os h k = record {
   all = k.all ∙ ap (λ (xs : List Entry). xs ++ k.added) h.all ∙ append_assoc es h.added k.added;
   noted = notes_on [] h.added k.added ms ns os [] [] h.noted k.noted;
 }
+
+-- behind a call that leaves the report as it was
+pub noted_behind : (r s : Report) (fs gs : List Entry) (ms ns os : List Member) → s ≡ r → NotesMore s.entries.entries fs ms ns → NotesMore fs gs ns os → NotesMore r.entries.entries gs ms os
+noted_behind r s fs gs ms ns os same h = more_noted r.entries.entries fs gs ms ns os (subst (λ (x : Report). NotesMore x.entries.entries fs ms ns) same h)

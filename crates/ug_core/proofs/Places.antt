@@ -1,22 +1,30 @@
 -- Rules that are there, and the place of one more.
-use Rattle.std.proofs.Common.{◌≡◌, ℕ, ◌<◌, ◌≤◌, nat_lt, Bool, true, false, ◌||◌, cond, List, [], ◌∷◌, length, Option, Some, None, Result, Ok, Err, inl, inr, refl, ap, ◌∙◌, subst, arith}
+use Rattle.std.proofs.Common.{◌≡◌, ℕ, ◌<◌, nat_lt, Bool, true, false, ◌||◌, cond, List, [], ◌∷◌, length, Option, Some, None, Result, Ok, inl, inr, refl, ap, ◌∙◌, arith, sym, subst}
 use Rattle.std.proofs.lemmas.Bool.{eqb-true}
 use Rattle.ug_types.specs.Elements.{Has}
 use Rattle.ug_types.specs.declared.refusal.Refusal.{Refusal}
 use Rattle.ug_types.specs.declared.refusal.Refusal.TheVariants as refusal
 use Rattle.ug_types.specs.declared.rule.After.{After}
 use Rattle.ug_types.specs.declared.rule.After.TheVariants as after
-use Rattle.ug_types.specs.declared.rule.Rule.{Rule}
 use Rattle.ug_policy.specs.Edits.{IsThere, has_id}
 use Rattle.ug_policy.specs.Rules.{ids}
 use Rattle.ug_policy.specs.declared.entry.RuleEntry.{RuleEntry}
+use Rattle.ug_rules.specs.RulePlaces.{first_of, has_rule, if_few, if_place, if_taken}
+use Rattle.std.specs.Prelude.{decimal, not}
+use Rattle.ug_types.specs.declared.rule.Rule.{Rule}
 use Rattle.ug_rule.specs.declared.fault.Fault.{Fault}
-use Rattle.ug_core.specs.Answering.{by_rule, unless}
-use Rattle.ug_core.specs.InForce.{or_else}
-use Rattle.ug_core.specs.RulePlaces.{has_rule, if_few, if_place}
-use Rattle.ug_core.specs.declared.changes.Change.TheVariants.{Insert}
-use Rattle.ug_core.specs.declared.choosing.Choice.{Choice}
-use Rattle.ug_core.specs.declared.choosing.Choice.TheVariants as choice
+use Rattle.ug_rules.specs.declared.edit.Edit.TheVariants.{Insert}
+use Rattle.ug_core.specs.Answering.{by_rule, changing, refusing, unless}
+use Rattle.ug_core.specs.Policy.{Judging}
+use Rattle.ug_core.specs.declared.changes.Change.TheVariants.{Rules}
+use Rattle.ug_core.specs.declared.choosing.Deed.TheVariants as deed
+use Rattle.ug_types.specs.declared.record.DeviceRecord.{DeviceRecord}
+use Rattle.ug_types.specs.declared.verdict.Target.{Target}
+use Rattle.ug_rules.specs.RuleEdits.{CanEdit, if_room_for}
+use Rattle.ug_rules.specs.RulePlaces.{made_rule}
+use Rattle.ug_rules.specs.declared.edit.Edit.{Edit}
+use Rattle.ug_rules.proofs.MadeRules.{made_there}
+use Rattle.ug_core.specs.Changes.{edit_for, verdict_edit}
 
 pub rule_there : (id : ℕ) (es : List RuleEntry) → has_rule id es ≡ true → Has (ids es) id
 rule_there id [] h = let none : ⊥ = cc in absurd none
@@ -29,18 +37,9 @@ rule_there id (e ∷ es) h = by_first (has_id id e) refl h (rule_there id es)
 pub few_below : (n : ℕ) → nat_lt n 65536 ≡ true → n < 65536
 few_below n h = grind (arith, h)
 
--- a refusal of the place, or of the list
-refused_first : (first second : Option Refusal) (chosen : Choice) (r : Refusal) → or_else first second ≡ Some r → unless first (unless second chosen) ≡ choice.Refuse r
-refused_first (Some q) second chosen r h = let same : q ≡ r = cc in ap (λ (x : Refusal). choice.Refuse x) same
-refused_first None (Some q) chosen r h = let same : q ≡ r = cc in ap (λ (x : Refusal). choice.Refuse x) same
-refused_first None None chosen r h = let none : ⊥ = cc in absurd none
-
-pub refused_rule : (rules : List RuleEntry) (place : After) (rule : Rule) (read : Result Rule Fault) (r : Refusal) → read ≡ Ok rule → or_else (if_place place rules) (if_few rules) ≡ Some r → by_rule rules place read ≡ choice.Refuse r
-refused_rule rules place rule read r is h = ap (λ (x : Result Rule Fault). by_rule rules place x) is ∙ refused_first (if_place place rules) (if_few rules) (choice.Change (Insert place rule true)) r h
-
 -- and where there is none
 
-none_else : (first second : Option Refusal) → or_else first second ≡ None → (first ≡ None) × (second ≡ None)
+none_else : (first second : Option Refusal) → first_of first second ≡ None → (first ≡ None) × (second ≡ None)
 none_else (Some q) second h = let none : ⊥ = cc in absurd none
 none_else None second h = (refl, h)
 
@@ -57,7 +56,23 @@ place_there after.End rules h = tt
 place_there after.Front rules h = tt
 place_there (after.Rule id) rules h = rule_there id rules (there_by (has_rule id rules) id h)
 
-pub place_free : (place : After) (rules : List RuleEntry) → or_else (if_place place rules) (if_few rules) ≡ None → IsThere place rules × (length rules < 65536)
+pub place_free : (place : After) (rules : List RuleEntry) → if_taken place rules ≡ None → IsThere place rules × (length rules < 65536)
 place_free place rules h =
     let both = none_else (if_place place rules) (if_few rules) h in
     (place_there place rules both.0, few_below (length rules) (few_by (nat_lt (length rules) 65536) both.1))
+
+-- a refusal of the place, or of the list
+pub refused_place : (p : Judging) (place : After) (permanent : Bool) (rule : Rule) (read : Result Rule Fault) (r : Refusal) → read ≡ Ok rule → if_taken place p.rules ≡ Some r → by_rule p place permanent read ≡ refusing r
+refused_place p place permanent rule read r is h = ap (λ (x : Result Rule Fault). by_rule p place permanent x) is ∙ ap (λ (o : Option Refusal). unless o (changing (Rules (Insert place rule (not permanent))) (deed.Tell (decimal p.next ∷ [])))) h
+
+pub allowed_place : (p : Judging) (place : After) (permanent : Bool) (rule : Rule) (read : Result Rule Fault) → read ≡ Ok rule → if_taken place p.rules ≡ None → by_rule p place permanent read ≡ changing (Rules (Insert place rule (not permanent))) (deed.Tell (decimal p.next ∷ []))
+allowed_place p place permanent rule read is h = ap (λ (x : Result Rule Fault). by_rule p place permanent x) is ∙ ap (λ (o : Option Refusal). unless o (changing (Rules (Insert place rule (not permanent))) (deed.Tell (decimal p.next ∷ [])))) h
+
+-- a verdict's edit, for which there is room
+edit_by : (device : DeviceRecord) (verdict : Target) (p : Judging) (o : Option ℕ) → made_rule device p.classes.with_port p.rules ≡ o → if_room_for (edit_for device p.classes.with_port verdict o) p.rules ≡ None → CanEdit (edit_for device p.classes.with_port verdict o) p.rules
+edit_by device verdict p (Some id) made room = made_there device p.classes.with_port p.rules id made
+edit_by device verdict p None made room = (tt, few_below (length p.rules) (few_by (nat_lt (length p.rules) 65536) room))
+
+pub edit_can : (device : DeviceRecord) (verdict : Target) (p : Judging) (edit : Edit) → edit ≡ verdict_edit device verdict p → if_room_for edit p.rules ≡ None → CanEdit edit p.rules
+edit_can device verdict p edit is room =
+    subst (λ (e : Edit). CanEdit e p.rules) (sym is) (edit_by device verdict p (made_rule device p.classes.with_port p.rules) refl (subst (λ (e : Edit). if_room_for e p.rules ≡ None) is room))

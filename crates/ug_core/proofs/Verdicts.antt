@@ -1,26 +1,26 @@
 -- From what the rules come to, to the cases of a verdict and back; and what judging leaves.
-use Rattle.std.proofs.Common.{◌≡◌, ℕ, ◌+◌, Bool, true, false, cond, is_none, Some, List, [], ◌∷◌, ◌++◌, map, inl, inr, refl, sym, ◌∙◌, ap, subst, arith, append_assoc, append-nil}
+use Rattle.std.proofs.Common.{◌≡◌, ℕ, ◌+◌, Bool, true, false, is_none, List, [], ◌∷◌, ◌++◌, inl, inr, refl, sym, ◌∙◌, ap, subst, arith, append_assoc, append-nil}
 use Rattle.ug_types.specs.Names.{parent_of}
 use Rattle.ug_types.specs.declared.record.DeviceRecord.{DeviceRecord}
 use Rattle.ug_types.specs.declared.record.Judged.{Judged}
 use Rattle.ug_types.specs.declared.record.Judged.TheVariants as judged
-use Rattle.ug_types.specs.declared.verdict.Moment.{Moment}
 use Rattle.ug_types.specs.declared.verdict.Target.{Target}
 use Rattle.ug_types.specs.declared.verdict.Cause.{Cause}
 use Rattle.ug_cond.specs.Judgements.{Judgement}
 use Rattle.ug_policy.specs.declared.entry.RuleEntry.{RuleEntry}
 use Rattle.rand_core.specs.Stream.{Stream}
 use Rattle.ug_cond.specs.Words.{behind}
-use Rattle.ug_policy.specs.Deciding.{Found, decider, reached, words_taken, seen, noted_first, rules_judged, judgement_found}
-use Rattle.ug_policy.specs.Edits.{new_entry}
+use Rattle.ug_policy.specs.Deciding.{Found, decider, reached, words_taken, rules_judged, judgement_found}
 use Rattle.ug_policy.specs.Kept.{StandsFor}
-use Rattle.ug_policy.specs.Matching.{matched, answer_by, greatest}
+use Rattle.ug_policy.specs.Matching.{answer_by}
 use Rattle.ug_policy.specs.Rules.{IsNumbered}
 use Rattle.ug_policy.proofs.Finding.{behind_add, some_decider, outcome_at, outcome_none, whole_list, first_matches, numbered_found}
 use Rattle.ug_policy.proofs.Stands.{stands_found}
 use Rattle.ug_conf.specs.declared.settings.Present.{Present}
 use Rattle.ug_conf.specs.declared.settings.Present.TheVariants as present
-use Rattle.ug_core.specs.Policy.{Judging, as_given, found_for, kept, choice_for, by_choice, by_class, verdict_of, asks, rules_if, stream_if, judgements_if, judgements_of, later_of, words_if, words_needed}
+use Rattle.ug_rules.specs.RuleFile.{as_given}
+use Rattle.ug_rules.proofs.Given.{given_judged}
+use Rattle.ug_core.specs.Policy.{Judging, found_for, kept, choice_for, by_choice, by_class, verdict_of, asks, rules_if, stream_if, judgements_if, judgements_of, later_of, words_if, words_needed}
 use Rattle.ug_core.specs.Changes.{changed_by}
 use Rattle.ug_core.specs.Rulings.{CanTake, Changed, PolicyStep, Ruled, after_ruling, after_steps, at_moment, changed_alone, judgements_for, words_for}
 use Rattle.ug_core.proofs.Changed.{later_changed}
@@ -28,28 +28,6 @@ use Rattle.ug_table.specs.Allowed.{allowed_records}
 use Rattle.ug_core.specs.Verdicts.{IsVerdict, IsLater, Unreadable, Allowed, Blocked, Rejected, KeptOn, KeptOff, ByRule, ByNone}
 
 -- the rules stay as they were given
-
-abbrev given : RuleEntry → RuleEntry
-given e = new_entry e.id e.rule e.temporary
-
-given_append : (es fs : List RuleEntry) → as_given (es ++ fs) ≡ as_given es ++ as_given fs
-given_append [] fs = refl
-given_append (e ∷ es) fs = ap (λ (v : List RuleEntry). given e ∷ v) (given_append es fs)
-
-given_seen : (dev : DeviceRecord) (moment : Moment) (es : List RuleEntry) → as_given (map (seen dev moment) es) ≡ as_given es
-given_seen dev moment [] = refl
-given_seen dev moment (e ∷ es) = elim (matched dev e) as (λ (b : Bool). given (cond b (record e { history = record e.history { evaluated = Some (greatest e.history.evaluated moment) } }) e) ∷ as_given (map (seen dev moment) es) ≡ given e ∷ as_given es) [ true ↦ ap (λ (v : List RuleEntry). given e ∷ v) (given_seen dev moment es) | false ↦ ap (λ (v : List RuleEntry). given e ∷ v) (given_seen dev moment es) ]
-
-given_noted : (moment : Moment) (es : List RuleEntry) → as_given (noted_first moment es) ≡ as_given es
-given_noted moment [] = refl
-given_noted moment (e ∷ es) = refl
-
-pub given_judged : (dev : DeviceRecord) (moment : Moment) (f : Found) → as_given (rules_judged dev moment f) ≡ as_given (f.before ++ f.rest)
-given_judged dev moment f =
-    given_append (map (seen dev moment) f.before) (noted_first moment f.rest)
-    ∙ ap (λ (v : List RuleEntry). v ++ as_given (noted_first moment f.rest)) (given_seen dev moment f.before)
-    ∙ ap (λ (v : List RuleEntry). as_given f.before ++ v) (given_noted moment f.rest)
-    ∙ sym (given_append f.before f.rest)
 
 given_found : (p : Judging) (records : List DeviceRecord) (dev : DeviceRecord) → as_given (rules_judged dev p.ctx.moment (found_for p records dev)) ≡ as_given p.rules
 given_found p records dev = given_judged dev p.ctx.moment (found_for p records dev) ∙ ap as_given (whole_list dev p.ctx records p.rules p.stream)

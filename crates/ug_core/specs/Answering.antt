@@ -1,6 +1,6 @@
 -- How an order is answered: by its line, by what its user or group may do, by rules, settings and standings, and by what a probe of its
 -- device finds.
-use Rattle.std.specs.Prelude.{ℕ, Bool, true, false, cond, List, [], ◌∷◌, ◌++◌, Option, Some, None, IsSome, Result, Ok, Err}
+use Rattle.std.specs.Prelude.{◌≡◌, ◌⊎◌, ℕ, Bool, true, false, not, List, [], ◌∷◌, decimal, Option, Some, None, IsSome, Result, Ok, Err}
 use Rattle.ug_types.specs.Principals.{Named}
 use Rattle.ug_types.specs.declared.refusal.Refusal.{Refusal}
 use Rattle.ug_types.specs.declared.refusal.Refusal.TheVariants as refusal
@@ -32,119 +32,181 @@ use Rattle.ug_table.specs.declared.standing.Settled.{Settled}
 use Rattle.ug_table.specs.declared.standing.Settled.TheVariants as settled
 use Rattle.ug_table.specs.declared.standing.Standing.{Standing}
 use Rattle.ug_core.specs.Event.{DaemonState, noting}
-use Rattle.ug_core.specs.Changes.{CanChange, change_entry, change_lines, changed_by, parameter_at}
+use Rattle.ug_core.specs.Changes.{CanChange, ChangeReads, change_lines, parameter_at, verdict_edit}
 use Rattle.ug_core.specs.Privileges.{denied_of}
-use Rattle.ug_core.specs.RuleFile.{KeepsReadable}
-use Rattle.ug_core.specs.RulePlaces.{has_permanent, if_few, if_place, if_there}
+use Rattle.ug_rules.specs.RuleEdits.{if_room_for}
+use Rattle.ug_rules.specs.RulePlaces.{has_permanent, if_taken, if_there}
 use Rattle.ug_core.specs.DeviceRows.{device_rows}
-use Rattle.ug_core.specs.RuleRows.{rule_rows}
+use Rattle.ug_rules.specs.RuleRows.{rule_rows}
 use Rattle.ug_core.specs.declared.changes.Change.{Change}
-use Rattle.ug_core.specs.declared.changes.Change.TheVariants.{Insert, Remove, Set}
+use Rattle.ug_core.specs.declared.changes.Change.TheVariants.{Rules, Set}
+use Rattle.ug_rules.specs.declared.edit.Edit.{Edit}
+use Rattle.ug_rules.specs.declared.edit.Edit.TheVariants.{Insert, Remove}
 use Rattle.ug_core.specs.declared.classes.Classes.{Classes}
-use Rattle.ug_core.specs.declared.daemon.Event.{Event}
-use Rattle.ug_core.specs.declared.daemon.Event.TheVariants.{Sweep, Order}
 use Rattle.ug_core.specs.declared.choosing.Choice.{Choice}
-use Rattle.ug_core.specs.declared.choosing.Choice.TheVariants as choice
+use Rattle.ug_core.specs.declared.choosing.Deed.{Deed}
+use Rattle.ug_core.specs.declared.choosing.Deed.TheVariants as deed
+use Rattle.ug_core.specs.Policy.{Judging}
+use Rattle.ug_core.specs.Storing.{refused_by}
+use Rattle.ug_core.specs.declared.storing.Stored.{Stored}
+use Rattle.ug_types.specs.declared.record.Judged.{Judged}
+use Rattle.ug_types.specs.declared.record.Judged.TheVariants as judged
 
 -- ---- what the order comes to, before anything is changed
 
+-- nothing is changed, but that is done
+abbrev pub only : Deed → Choice
+only doing = record { change = None; deed = doing }
+
+abbrev pub refusing : Refusal → Choice
+refusing refused = only (deed.Refuse refused)
+
+-- the change, and then that is done
+abbrev pub changing : Change → Deed → Choice
+changing change doing = record { change = Some change; deed = doing }
+
+abbrev pub unless : Option Refusal → Choice → Choice
+unless (Some refused) chosen = refusing refused
+unless None chosen = chosen
+
+-- ---- a verdict
+
+abbrev pub by_edit : Judging → ℕ → Target → Bool → Edit → Choice
+by_edit p number verdict on edit = unless (if_room_for edit p.rules) (changing (Rules edit) (deed.SetVerdict number verdict on (change_lines (Rules edit) p.next)))
+
+-- memory is taken for the device's rule
+abbrev pub if_rule_made : Judging → ℕ → Target → Bool → Edit → Bool → Prog Choice
+if_rule_made p number verdict on edit true = Return (by_edit p number verdict on edit)
+if_rule_made p number verdict on edit false = Return (refusing (refusal.Memory false))
+
+abbrev pub by_record : Judging → ℕ → Target → Bool → Judged → Prog Choice
+by_record p number verdict on (judged.Good device) = Room (if_rule_made p number verdict on (verdict_edit device verdict p))
+by_record p number verdict on (judged.Malformed kind place) = Return (refusing (refusal.MalformedDevice number))
+
+-- what a verdict that is to be permanent may come to, behind the probe: memory may be short for it
+abbrev pub IsChosenForGood : Judging → ℕ → Target → Bool → Judged → Choice → Type 0
+IsChosenForGood p number verdict on (judged.Good device) chosen = (chosen ≡ by_edit p number verdict on (verdict_edit device verdict p)) ⊎ (chosen ≡ refusing (refusal.Memory false))
+IsChosenForGood p number verdict on (judged.Malformed kind place) chosen = chosen ≡ refusing (refusal.MalformedDevice number)
+
+-- the device is there, with that value
+abbrev pub by_permanent : Judging → ℕ → Target → Bool → Standing → Bool → Prog Choice
+by_permanent p number verdict true s on = by_record p number verdict on s.judged
+by_permanent p number verdict false s on = Return (only (deed.SetVerdict number verdict on []))
+
 -- by what the probe of the device finds, and the count of faults behind it
-abbrev pub by_probe : ℕ → Target → ℕ → Probe → Choice
-by_probe number verdict count (probe.Alive on) = choice.SetVerdict number verdict on
-by_probe number verdict count probe.Gone = choice.Refuse (refusal.NoDevice number)
-by_probe number verdict count probe.Failed = choice.Refuse (refusal.ProbeFault count)
+abbrev pub by_probe : Judging → ℕ → Target → Bool → Standing → ℕ → Probe → Prog Choice
+by_probe p number verdict permanent s count (probe.Alive on) = by_permanent p number verdict permanent s on
+by_probe p number verdict permanent s count probe.Gone = Return (refusing (refusal.NoDevice number))
+by_probe p number verdict permanent s count probe.Failed = Return (refusing (refusal.ProbeFault count))
 
 -- the device of the number's standing is probed
-abbrev pub by_standing : ℕ → Target → Option Standing → Prog Choice
-by_standing number verdict None = Return (choice.Refuse (refusal.NoDevice number))
-by_standing number verdict (Some s) = Ask (Ask_alive s.held.0) (λ t. Return (by_probe number verdict t.count t.answer))
+abbrev pub by_standing : Judging → ℕ → Target → Bool → Option Standing → Prog Choice
+by_standing p number verdict permanent None = Return (refusing (refusal.NoDevice number))
+by_standing p number verdict permanent (Some s) = Ask (Ask_alive s.held.0) (λ t. by_probe p number verdict permanent s t.count t.answer)
+
+-- ---- the others
 
 -- nobody learns of anything without the privilege
 abbrev pub if_granted : Option Refusal → Prog Choice → Prog Choice
-if_granted (Some refused) asked = Return (choice.Refuse refused)
+if_granted (Some refused) asked = Return (refusing refused)
 if_granted None asked = asked
 
 -- lines take memory
 abbrev pub if_room : List (List ℕ) → Bool → Prog Choice
-if_room rows true = Return (choice.Tell rows)
-if_room rows false = Return (choice.Refuse (refusal.Memory false))
+if_room rows true = Return (only (deed.Tell rows))
+if_room rows false = Return (refusing (refusal.Memory false))
 
 abbrev pub telling : List (List ℕ) → Prog Choice
 telling rows = Room (if_room rows)
 
 -- the value of a setting
 abbrev pub by_name : Classes → Option ParameterName → Prog Choice
-by_name classes None = Return (choice.Refuse refusal.BadParameter)
+by_name classes None = Return (refusing refusal.BadParameter)
 by_name classes (Some name) = telling (value_word (parameter_at name classes) ∷ [])
 
 -- a setting gets a value
 abbrev pub by_value : Option Parameter → Choice
-by_value None = choice.Refuse refusal.BadValue
-by_value (Some set) = choice.Change (Set set)
+by_value None = refusing refusal.BadValue
+by_value (Some set) = changing (Set set) (deed.Tell [])
 
 abbrev pub by_setting : Option ParameterName → List ℕ → Choice
-by_setting None value = choice.Refuse refusal.BadParameter
+by_setting None value = refusing refusal.BadParameter
 by_setting (Some name) value = by_value (value_of name value)
 
-abbrev pub unless : Option Refusal → Choice → Choice
-unless (Some refused) chosen = choice.Refuse refused
-unless None chosen = chosen
-
--- a temporary rule is appended
-abbrev pub by_rule : List RuleEntry → After → Result Rule Fault → Choice
-by_rule rules after (Err bad) = choice.Refuse (refusal.BadRule (kind_number bad.kind) bad.place)
-by_rule rules after (Ok rule) = unless (if_place after rules) (unless (if_few rules) (choice.Change (Insert after rule true)))
+-- a rule is put behind that place, and its id is told
+abbrev pub by_rule : Judging → After → Bool → Result Rule Fault → Choice
+by_rule p after permanent (Err bad) = refusing (refusal.BadRule (kind_number bad.kind) bad.place)
+by_rule p after permanent (Ok rule) = unless (if_taken after p.rules) (changing (Rules (Insert after rule (not permanent))) (deed.Tell (decimal p.next ∷ [])))
 
 -- memory is taken to read it
-abbrev pub if_rule_read : List RuleEntry → After → List ℕ → Bool → Prog Choice
-if_rule_read rules after text true = Return (by_rule rules after (rule_read text))
-if_rule_read rules after text false = Return (choice.Refuse (refusal.Memory false))
+abbrev pub if_rule_read : Judging → After → Bool → List ℕ → Bool → Prog Choice
+if_rule_read p after permanent text true = Return (by_rule p after permanent (rule_read text))
+if_rule_read p after permanent text false = Return (refusing (refusal.Memory false))
 
--- a temporary rule is removed; others aren't yet
+-- a rule is removed
 abbrev pub by_id : List RuleEntry → ℕ → Choice
-by_id rules id = unless (if_there id rules) (cond (has_permanent id rules) (choice.Refuse (refusal.BadRequest 0)) (choice.Change (Remove id)))
+by_id rules id = unless (if_there id rules) (changing (Rules (Remove id)) (deed.Tell []))
 
--- Of the requests these aren't carried out yet, and are refused as no requests: those that change the rule file.
 abbrev pub asking_of : DaemonState → Request → Prog Choice
 asking_of d (request.GetParameter name) = by_name d.sweep.judge.classes (parameter_of name)
 asking_of d (request.SetParameter name value) = Return (by_setting (parameter_of name) value)
 asking_of d request.ListDevices = telling (device_rows d.sweep.standings)
-asking_of d (request.Device number verdict false) = by_standing number verdict (numbered number d.sweep.standings)
-asking_of d (request.Device number verdict true) = Return (choice.Refuse (refusal.BadRequest 0))
+asking_of d (request.Device number verdict permanent) = by_standing d.sweep.judge number verdict permanent (numbered number d.sweep.standings)
 asking_of d request.ListRules = telling (rule_rows d.sweep.judge.rules)
-asking_of d (request.AppendRule after false text) = Room (if_rule_read d.sweep.judge.rules after text)
-asking_of d (request.AppendRule after true text) = Return (choice.Refuse (refusal.BadRequest 0))
+asking_of d (request.AppendRule after permanent text) = Room (if_rule_read d.sweep.judge after permanent text)
 asking_of d (request.RemoveRule id) = Return (by_id d.sweep.judge.rules id)
-asking_of d request.Watch = Return choice.Watch
+asking_of d request.Watch = Return (only deed.Watch)
+
+-- Orders that change the rule file aren't carried out yet, and are refused as no requests.
+
+abbrev pub is_carried_out : List RuleEntry → Request → Bool
+is_carried_out rules (request.Device number verdict permanent) = not permanent
+is_carried_out rules (request.AppendRule after permanent text) = not permanent
+is_carried_out rules (request.RemoveRule id) = not (has_permanent id rules)
+is_carried_out rules asked = true
+
+abbrev pub if_carried_out : Bool → Prog Choice → Prog Choice
+if_carried_out true asked = asked
+if_carried_out false asked = Return (refusing (refusal.BadRequest 0))
 
 abbrev pub by_request : DaemonState → Named → Result Request ℕ → Prog Choice
-by_request d who (Err place) = Return (choice.Refuse (refusal.BadRequest place))
-by_request d who (Ok asked) = if_granted (denied_of d.access who (needs asked)) (asking_of d asked)
+by_request d who (Err place) = Return (refusing (refusal.BadRequest place))
+by_request d who (Ok asked) = if_granted (denied_of d.access who (needs asked)) (if_carried_out (is_carried_out d.sweep.judge.rules asked) (asking_of d asked))
 
 -- memory is taken to read the line
 abbrev pub if_read : DaemonState → Named → List ℕ → Bool → Prog Choice
 if_read d who line true = by_request d who (request_read line)
-if_read d who line false = Return (choice.Refuse (refusal.Memory false))
+if_read d who line false = Return (refusing (refusal.Memory false))
 
 unfoldable pub asking : DaemonState → Named → List ℕ → Prog Choice
 asking d who line = Room (if_read d who line)
 
 -- what is chosen can be done: the device of a verdict has a standing, and a change is one that the rules take
-abbrev pub IsThere : DaemonState → Choice → Type 0
-IsThere d (choice.Refuse refused) = Unit {0}
-IsThere d (choice.Tell rows) = Unit {0}
-IsThere d (choice.SetVerdict number verdict on) = IsSome (numbered number d.sweep.standings)
-IsThere d (choice.Change change) = CanChange change d.sweep.judge.rules × KeepsReadable change
-IsThere d choice.Watch = Unit {0}
+
+abbrev pub CanDo : DaemonState → Deed → Type 0
+CanDo d (deed.SetVerdict number verdict on lines) = IsSome (numbered number d.sweep.standings)
+CanDo d doing = Unit {0}
+
+abbrev pub CanMake : List RuleEntry → Option Change → Type 0
+CanMake rules (Some change) = CanChange change rules × ChangeReads change rules
+CanMake rules None = Unit {0}
 
 -- ---- and what is then done
 
+-- what isn't in force is refused
+abbrev pub if_refused : Option Refusal → Deed → Deed
+if_refused (Some refused) doing = deed.Refuse refused
+if_refused None doing = doing
+
+abbrev pub deed_after : Stored → Deed → Deed
+deed_after became doing = if_refused (refused_by became) doing
+
 -- the reply behind the writes: an order on a device that has left since is done
-abbrev pub reply_to : Settled → Reply
-reply_to settled.Stands = reply.Lines []
-reply_to settled.Nobody = reply.Lines []
-reply_to (settled.Fault failed) = reply.Refused (refusal.DeviceFault failed.call failed.count)
-reply_to settled.Memory = reply.Refused (refusal.Memory true)
+abbrev pub reply_to : List (List ℕ) → Settled → Reply
+reply_to lines settled.Stands = reply.Lines lines
+reply_to lines settled.Nobody = reply.Lines lines
+reply_to lines (settled.Fault failed) = reply.Refused (refusal.DeviceFault failed.call failed.count)
+reply_to lines settled.Memory = reply.Refused (refusal.Memory true)
 
 abbrev pub keeping : Kept → DaemonState → DaemonState
 keeping k d = record d { sweep = with_kept d.sweep k }
@@ -158,38 +220,16 @@ answer_of (reply.Refused refused) = Err refused
 abbrev pub replying : Reply → DaemonState → DaemonState
 replying said d = record (noting (entry.Reply (answer_of said)) d) { reply = Some said }
 
-abbrev pub answered_with : DaemonState → Settled × Kept → DaemonState
-answered_with d p = replying (reply_to p.0) (keeping p.1 d)
-
--- rules or a setting are changed, and it is noted
-abbrev pub with_change : Change → DaemonState → DaemonState
-with_change change d = record d { sweep = record d.sweep { judge = changed_by change d.sweep.judge; entries = d.sweep.entries ++ change_entry change d.sweep.judge.next ∷ [] } }
-
-abbrev pub changed_with : DaemonState → Change → DaemonState
-changed_with d change = replying (reply.Lines (change_lines change d.sweep.judge.next)) (with_change change d)
-
--- a rule that is added takes memory, and so does its id in the reply
-abbrev pub if_added : DaemonState → Change → Bool → Prog DaemonState
-if_added d change true = Return (changed_with d change)
-if_added d change false = Return (replying (reply.Refused (refusal.Memory false)) d)
-
-abbrev pub changing : DaemonState → Change → Prog DaemonState
-changing d (Insert after rule temporary) = Room (if_added d (Insert after rule temporary))
-changing d change = Return (changed_with d change)
+abbrev pub answered_with : DaemonState → List (List ℕ) → Settled × Kept → DaemonState
+answered_with d lines p = replying (reply_to lines p.0) (keeping p.1 d)
 
 -- who asks for notices gets an answer, and is told to be one who asked
 abbrev pub watching : DaemonState → DaemonState
 watching d = record (replying (reply.Lines []) d) { watch = true }
 
-abbrev pub acting : Named → DaemonState → Choice → Prog DaemonState
-acting who d (choice.Refuse refused) = Return (replying (reply.Refused refused) d)
-acting who d (choice.Tell rows) = Return (replying (reply.Lines rows) d)
-acting who d (choice.Change change) = changing d change
-acting who d choice.Watch = Return (watching d)
-acting who d (choice.SetVerdict number verdict on) =
-    then (ordering number verdict who on (kept_of d.sweep.standings d.sweep.entries)) (λ p. Return (answered_with d p))
-
--- the order of an event; a sweep alone has none
-unfoldable pub answering : DaemonState → Event → Prog DaemonState
-answering d (Sweep moment) = Return d
-answering d (Order moment who line) = then (asking d who line) (acting who d)
+abbrev pub acting : Named → DaemonState → Deed → Prog DaemonState
+acting who d (deed.Refuse refused) = Return (replying (reply.Refused refused) d)
+acting who d (deed.Tell rows) = Return (replying (reply.Lines rows) d)
+acting who d deed.Watch = Return (watching d)
+acting who d (deed.SetVerdict number verdict on lines) =
+    then (ordering number verdict who on (kept_of d.sweep.standings d.sweep.entries)) (λ p. Return (answered_with d lines p))

@@ -3,6 +3,7 @@ use Rattle.std.specs.Prelude.{◌≡◌, ℕ, Bool, true, false, not, is_none, �
 use Rattle.std.specs.List.{list_any}
 use Rattle.ug_types.specs.Elements.{Has}
 use Rattle.ug_types.specs.Names.{parent_of}
+use Rattle.ug_types.specs.declared.refusal.Refusal.TheVariants as refusal
 use Rattle.ug_types.specs.declared.saved.Saved.{Saved}
 use Rattle.ug_types.specs.declared.verdict.Target.{Target}
 use Rattle.ug_types.specs.declared.verdict.Cause.{Cause}
@@ -31,7 +32,7 @@ use Rattle.ug_table.specs.Standings.{numbered}
 use Rattle.ug_table.specs.declared.standing.Standing.{Standing}
 use Rattle.ug_core.specs.Policy.{Judging}
 use Rattle.ug_core.specs.Verdicts.{IsVerdict}
-use Rattle.ug_core.specs.Durable.{IsKept, unsure_after, KeepsRules, KeepsFile}
+use Rattle.ug_core.specs.Durable.{IsKept, unsure_after, KeepsRules, KeepsFile, texts_of}
 use Rattle.ug_core.specs.Event.{DaemonState, IsStarted, moment_of, ready}
 use Rattle.ug_core.specs.Privileges.{is_granted}
 use Rattle.ug_core.specs.InForce.{Decision, decision_of, decisions_in, is_ordered, unordered, in_force, Agree, given_numbers, Follow}
@@ -39,17 +40,19 @@ use Rattle.ug_core.specs.Laws.{AnswersEvent, Handled}
 use Rattle.ug_core.specs.Changes.{change_asked}
 use Rattle.ug_core.specs.Rulings.{CanTake, Changed, Decided, PolicyStep, Ruled, Ruling, Told, Was_changed, after_steps, at_moment, told_by}
 use Rattle.ug_core.specs.declared.changes.Change.{Change}
+use Rattle.ug_core.specs.declared.storing.Stored.{Stored}
 use Rattle.ug_core.specs.declared.daemon.Event.{Event}
 use Rattle.ug_core.specs.declared.daemon.Event.TheVariants.{Sweep, Order}
 
--- an event that was handled, with what was there before it, behind its order and after it, and what became of a pending save. The disk
--- is there where it was told.
+-- an event that was handled, with what was there before it, behind its order and after it, and what became of a pending save and of that of
+-- its order. The disk is there where it was told.
 pub record Happened : Type 0 where
   pub event : Event
   pub tried : Option Saved
   pub kernel : Kernel
   pub disk : Option Disk
   pub before : DaemonState
+  pub became : Stored
   pub kernel_answered : Kernel
   pub answered : DaemonState
   pub kernel_after : Kernel
@@ -62,9 +65,9 @@ ready_of h = ready h.event h.tried h.before
 
 -- the laws of one event
 pub record IsEvent (h : Happened) : Type 0 where
-  pub answers : AnswersEvent h.event h.kernel (ready_of h) h.kernel_answered h.answered
+  pub answers : AnswersEvent h.event h.kernel (ready_of h) h.became h.kernel_answered h.answered
   pub handled : Handled h.kernel_answered h.answered h.kernel_after h.after
-  pub file : KeepsFile (λ (o : Option Disk). o) h.disk h.before h.disk_after h.after
+  pub file : KeepsFile (λ (o : Option Disk). o) h.event h.disk h.before h.disk_after h.after
 
 -- where a disk is told, one was told before, and is as it was
 abbrev pub StaysOnDisk : Option Disk → Option Disk → Type 0
@@ -82,12 +85,15 @@ journal (h ∷ hs) = h.after.sweep.entries ++ journal hs
 
 -- what an event tells of the policy: the change that its order asked for, where it was done, and then the decisions of its sweep
 
-abbrev pub changes_asked : Event → Option Change
-changes_asked (Sweep moment) = None
-changes_asked (Order moment who line) = change_asked (request_read line)
+abbrev pub changes_asked : DaemonState → Event → Option Change
+changes_asked d (Sweep moment) = None
+changes_asked d (Order moment who line) = change_asked d.sweep.standings d.sweep.judge (request_read line)
 
+-- a change was done, too, where a call behind it failed or memory was short for it
 abbrev pub was_done : Option Reply → Bool
 was_done (Some (replies.Lines lines)) = true
+was_done (Some (replies.Refused (refusal.DeviceFault call count))) = true
+was_done (Some (replies.Refused (refusal.Memory stands))) = stands
 was_done reply = false
 
 abbrev pub told_if : Bool → Option Change → List Told
@@ -98,7 +104,7 @@ abbrev pub decided : List Decision → List Told
 decided ds = map Decided ds
 
 abbrev pub told_in : Happened → List Told
-told_in h = told_if (was_done h.after.reply) (changes_asked h.event) ++ decided (unordered (decisions_in h.after.sweep.entries))
+told_in h = told_if (was_done h.after.reply) (changes_asked (ready_of h) h.event) ++ decided (unordered (decisions_in h.after.sweep.entries))
 
 abbrev pub told_of : List Happened → List Told
 told_of [] = []
@@ -160,7 +166,7 @@ pub record WasAsked (hs : List Happened) (change : Change) : Type 0 where
   pub is_order : event.event ≡ Order moment who line
   pub asked : Request
   pub reads : request_read line ≡ Ok asked
-  pub asks : change_asked (Ok asked) ≡ Some change
+  pub asks : change_asked event.before.sweep.standings event.before.sweep.judge (Ok asked) ≡ Some change
   pub granted : is_granted event.before.access who (needs asked) ≡ true
 
 -- The decision was ordered: an event of the run is an order of that user or group, which asks for that verdict on the device of that
@@ -175,8 +181,9 @@ pub record WasOrdered (hs : List Happened) (d : Decision) : Type 0 where
   pub line : List ℕ
   pub is_order : event.event ≡ Order moment who line
   pub cause : d.cause ≡ causes.Order who
-  pub asked : request_read line ≡ Ok (request.Device d.number d.verdict false)
-  pub granted : is_granted event.before.access who (needs (request.Device d.number d.verdict false)) ≡ true
+  pub permanent : Bool
+  pub asked : request_read line ≡ Ok (request.Device d.number d.verdict permanent)
+  pub granted : is_granted event.before.access who (needs (request.Device d.number d.verdict permanent)) ≡ true
   pub standing : Standing
   pub stands : numbered d.number event.before.sweep.standings ≡ Some standing
   pub name : standing.name ≡ d.name
@@ -216,7 +223,7 @@ pub record IsJudgedOnce (policy : Judging) (hs : List Happened) (steps : List Po
 -- the texts that aren't sure after these events
 abbrev pub unsure_of : List (List ℕ) → List Happened → List (List ℕ)
 unsure_of unsure [] = unsure
-unsure_of unsure (h ∷ hs) = unsure_of (unsure_after unsure h.after.sweep.entries) hs
+unsure_of unsure (h ∷ hs) = unsure_of (unsure_after (texts_of h.event h.before) unsure h.after.sweep.entries) hs
 
 -- the disk was told before the event and after it, and at each moment of it the rule file was kept
 pub record KeptIn (unsure : List (List ℕ)) (h : Happened) : Type 0 where
@@ -224,12 +231,12 @@ pub record KeptIn (unsure : List (List ℕ)) (h : Happened) : Type 0 where
   pub told : h.disk ≡ Some disk
   pub disk_after : Disk
   pub told_after : h.disk_after ≡ Some disk_after
-  pub kept : KeepsRules h.before unsure disk h.after disk_after
+  pub kept : KeepsRules (texts_of h.event h.before) h.before unsure disk h.after disk_after
 
 -- in each event
 abbrev pub EachKept : List (List ℕ) → List Happened → Type 0
 EachKept unsure [] = Unit {0}
-EachKept unsure (h ∷ hs) = KeptIn unsure h × EachKept (unsure_after unsure h.after.sweep.entries) hs
+EachKept unsure (h ∷ hs) = KeptIn unsure h × EachKept (unsure_after (texts_of h.event h.before) unsure h.after.sweep.entries) hs
 
 -- Where a disk is told at the end, one was told at the start. Where a crash then left no text but that of the rules, or one of those that
 -- aren't sure, it is so at each moment since; and each save that is done makes sure.

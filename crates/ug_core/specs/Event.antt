@@ -16,7 +16,7 @@ use Rattle.ug_store.specs.Store.{DiskProg, Ended, DiskRoom, then_disk, saving, p
 use Rattle.ug_table.specs.State.{State}
 use Rattle.ug_table.specs.Sweep.{sweeping}
 use Rattle.ug_core.specs.Policy.{Judging, judging_of, context_at, policy_answer, policy_later}
-use Rattle.ug_core.specs.RuleFile.{permanent_text}
+use Rattle.ug_rules.specs.RuleFile.{permanent_text}
 use Rattle.ug_core.specs.declared.daemon.Daemon.{Daemon}
 use Rattle.ug_core.specs.declared.daemon.Event.{Event}
 use Rattle.ug_core.specs.declared.daemon.Event.TheVariants.{Sweep, Order}

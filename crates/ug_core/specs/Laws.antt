@@ -1,5 +1,5 @@
 -- What an event does, in the words of devices, files and journal.
-use Rattle.std.specs.Prelude.{◌≡◌, ℕ, ◌+◌, ◌≤◌, length, Bool, true, false, List, [], ◌∷◌, ◌++◌, Option, Some, None, Result, Ok, Err, ◌⊎◌}
+use Rattle.std.specs.Prelude.{◌≡◌, ℕ, ◌+◌, ◌≤◌, length, Bool, true, false, List, [], ◌∷◌, ◌++◌, Option, Some, None, IsSome, Ok, Err, ◌⊎◌}
 use Rattle.ug_types.specs.Elements.{Has, AllDistinct}
 use Rattle.ug_types.specs.Principals.{Named}
 use Rattle.ug_types.specs.Parameters.{parameter_of, value_of, value_word}
@@ -10,6 +10,7 @@ use Rattle.ug_types.specs.declared.rule.After.{After}
 use Rattle.ug_types.specs.declared.rule.After.TheVariants as after
 use Rattle.ug_types.specs.declared.rule.Rule.{Rule}
 use Rattle.ug_types.specs.declared.saved.Saved.{Saved}
+use Rattle.ug_types.specs.declared.record.Judged.TheVariants as judged
 use Rattle.ug_types.specs.declared.verdict.Target.{Target}
 use Rattle.ug_kernel.specs.declared.calls.Probe.{Probe}
 use Rattle.ug_kernel.specs.declared.calls.Probe.TheVariants as probe
@@ -39,16 +40,23 @@ use Rattle.ug_table.specs.Parts.{AllBear, failures_told, told_in_reply, unsettle
 use Rattle.ug_table.specs.Standings.{numbered}
 use Rattle.ug_table.specs.declared.standing.Settled.{Settled}
 use Rattle.ug_table.specs.declared.standing.Standing.{Standing}
-use Rattle.ug_core.specs.Answering.{answering, answered_with, replying, with_change}
-use Rattle.ug_core.specs.Changes.{CanChange, change_asked, change_lines, parameter_at}
-use Rattle.ug_core.specs.RulePlaces.{has_permanent, has_rule}
+use Rattle.ug_core.specs.Answering.{acting, answered_with, asking, deed_after, is_carried_out, replying}
+use Rattle.ug_core.specs.Changes.{CanChange, change_asked, change_lines, changed_by, is_saved, lines_of, parameter_at}
+use Rattle.ug_core.specs.Storing.{TellsStored, noted_store, refused_by, stored_with, storing, with_changes}
+use Rattle.ug_rules.specs.RuleFile.{FitsFile}
+use Rattle.ug_rules.specs.RulePlaces.{has_rule}
+use Rattle.ug_rules.specs.declared.edit.Edit.TheVariants.{Insert}
 use Rattle.ug_core.specs.DeviceRows.{device_rows}
-use Rattle.ug_core.specs.RuleRows.{rule_rows}
+use Rattle.ug_rules.specs.RuleRows.{rule_rows}
 use Rattle.ug_core.specs.Policy.{Judging, policy_answer, policy_later}
 use Rattle.ug_core.specs.Privileges.{denied_of, is_granted}
 use Rattle.ug_core.specs.Event.{DaemonState, ready, trying, handling}
 use Rattle.ug_core.specs.Durable.{KeepsFile}
 use Rattle.ug_core.specs.declared.changes.Change.{Change}
+use Rattle.ug_core.specs.declared.changes.Change.TheVariants.{Rules}
+use Rattle.ug_core.specs.declared.choosing.Choice.{Choice}
+use Rattle.ug_core.specs.declared.storing.Stored.{Stored}
+use Rattle.ug_core.specs.declared.storing.Stored.TheVariants as stored
 use Rattle.ug_core.specs.declared.daemon.Event.{Event}
 use Rattle.ug_core.specs.declared.daemon.Event.TheVariants.{Sweep, Order}
 
@@ -85,27 +93,24 @@ NamesOnceIn told s d t e = (l : Kernel) → told t ≡ Some l → (k : Kernel) �
 -- ---- the order of an event, from the state that the stage before it left
 
 -- The facts for which a request of one who may make it is refused without a call. Of several the first in the order of usbguard(1)
--- counts: a rule that can't be read, before a place that isn't there, before a list that is full; a name before its value. Those that
--- change the rule file aren't carried out yet.
+-- counts: a rule that can't be read, before a place that isn't there, before a list that is full; a name before its value.
 pub data Refuses (d : DaemonState) : Request → Refusal → Type 0 where
-  Permanent_verdict : (number : ℕ) (verdict : Target) → Refuses d (request.Device number verdict true) (refusal.BadRequest 0)
-  Permanent_rule : (place : After) (text : List ℕ) → Refuses d (request.AppendRule place true text) (refusal.BadRequest 0)
-  Permanent_removal : (id : ℕ) → has_rule id d.sweep.judge.rules ≡ true → has_permanent id d.sweep.judge.rules ≡ true → Refuses d (request.RemoveRule id) (refusal.BadRequest 0)
-  Bad_rule : (place : After) (text : List ℕ) (bad : Fault) → rule_read text ≡ Err bad → Refuses d (request.AppendRule place false text) (refusal.BadRule (kind_number bad.kind) bad.place)
-  No_device : (number : ℕ) (verdict : Target) → numbered number d.sweep.standings ≡ None → Refuses d (request.Device number verdict false) (refusal.NoDevice number)
-  No_place : (id : ℕ) (text : List ℕ) (rule : Rule) → rule_read text ≡ Ok rule → has_rule id d.sweep.judge.rules ≡ false → Refuses d (request.AppendRule (after.Rule id) false text) (refusal.NoRule id)
+  Bad_rule : (place : After) (permanent : Bool) (text : List ℕ) (bad : Fault) → rule_read text ≡ Err bad → Refuses d (request.AppendRule place permanent text) (refusal.BadRule (kind_number bad.kind) bad.place)
+  No_device : (number : ℕ) (verdict : Target) (permanent : Bool) → numbered number d.sweep.standings ≡ None → Refuses d (request.Device number verdict permanent) (refusal.NoDevice number)
+  No_place : (id : ℕ) (permanent : Bool) (text : List ℕ) (rule : Rule) → rule_read text ≡ Ok rule → has_rule id d.sweep.judge.rules ≡ false → Refuses d (request.AppendRule (after.Rule id) permanent text) (refusal.NoRule id)
   No_rule : (id : ℕ) → has_rule id d.sweep.judge.rules ≡ false → Refuses d (request.RemoveRule id) (refusal.NoRule id)
   No_parameter : (name : List ℕ) → parameter_of name ≡ None → Refuses d (request.GetParameter name) refusal.BadParameter
   No_setting : (name value : List ℕ) → parameter_of name ≡ None → Refuses d (request.SetParameter name value) refusal.BadParameter
   No_value : (name value : List ℕ) (set : ParameterName) → parameter_of name ≡ Some set → value_of set value ≡ None → Refuses d (request.SetParameter name value) refusal.BadValue
-  Full : (place : After) (text : List ℕ) (rule : Rule) → rule_read text ≡ Ok rule → IsThere place d.sweep.judge.rules → 65536 ≤ length d.sweep.judge.rules → Refuses d (request.AppendRule place false text) refusal.RulesFull
+  Full : (place : After) (permanent : Bool) (text : List ℕ) (rule : Rule) → rule_read text ≡ Ok rule → IsThere place d.sweep.judge.rules → 65536 ≤ length d.sweep.judge.rules → Refuses d (request.AppendRule place permanent text) refusal.RulesFull
 
--- what is refused before a call: a line that is no request, before a privilege that is missing, before the facts. Want of memory may
--- come at any place
+-- what is refused before a call: a line that is no request, before a privilege that is missing, before the facts. A change of the rule file
+-- isn't carried out yet. Want of memory may come at any place
 pub data WhyRefused (who : Named) (line : List ℕ) (d : DaemonState) : Refusal → Type 0 where
   Unread : (place : ℕ) → request_read line ≡ Err place → WhyRefused who line d (refusal.BadRequest place)
   Denied : (asked : Request) (refused : Refusal) → request_read line ≡ Ok asked → denied_of d.access who (needs asked) ≡ Some refused → WhyRefused who line d refused
   By_facts : (asked : Request) (refused : Refusal) → request_read line ≡ Ok asked → is_granted d.access who (needs asked) ≡ true → Refuses d asked refused → WhyRefused who line d refused
+  Not_carried_out : (asked : Request) → request_read line ≡ Ok asked → is_granted d.access who (needs asked) ≡ true → is_carried_out d.sweep.judge.rules asked ≡ false → WhyRefused who line d (refusal.BadRequest 0)
   No_memory : WhyRefused who line d (refusal.Memory false)
 
 -- what a probe that didn't find the device comes to
@@ -118,45 +123,101 @@ ProbeRefuses number probe.Failed refused = (count : ℕ) × (refused ≡ refusal
 pub record RefusedByProbe (who : Named) (line : List ℕ) (d : DaemonState) (k l : Kernel) (refused : Refusal) : Type 0 where
   pub number : ℕ
   pub verdict : Target
-  pub asked : request_read line ≡ Ok (request.Device number verdict false)
-  pub granted : is_granted d.access who (needs (request.Device number verdict false)) ≡ true
+  pub permanent : Bool
+  pub asked : request_read line ≡ Ok (request.Device number verdict permanent)
+  pub granted : is_granted d.access who (needs (request.Device number verdict permanent)) ≡ true
   pub standing : Standing
   pub stands : numbered number d.sweep.standings ≡ Some standing
   pub found : Probe
   pub probed : ProbedOne standing k l found
   pub is : ProbeRefuses number found refused
 
--- An order that was refused changes nothing but that this is noted and told. At most its device was probed.
-pub record RefusesOrder (who : Named) (line : List ℕ) (k : Kernel) (d : DaemonState) (l : Kernel) (e : DaemonState) : Type 0 where
+-- the device of that number's standing is there, with that value
+pub record FoundThere (d : DaemonState) (number : ℕ) (k l : Kernel) : Type 0 where
+  pub standing : Standing
+  pub stands : numbered number d.sweep.standings ≡ Some standing
+  pub on : Bool
+  pub probed : ProbedOne standing k l (probe.Alive on)
+
+-- an order on a device goes on behind a probe that finds it, and any other without a call
+abbrev pub GoesOn : DaemonState → Request → Kernel → Kernel → Type 0
+GoesOn d (request.Device number verdict permanent) k l = FoundThere d number k l
+GoesOn d asked k l = l ≡ k
+
+-- what this request asks to change
+abbrev pub change_of : DaemonState → Request → Option Change
+change_of d asked = change_asked d.sweep.standings d.sweep.judge (Ok asked)
+
+-- why a change isn't in force: its save failed, or a rule file has no room for its text
+abbrev pub StoreRefuses : Judging → Change → Stored → Refusal → Type 0
+StoreRefuses p change stored.NotNeeded refused = ⊥
+StoreRefuses p change stored.Done refused = ⊥
+StoreRefuses p change (stored.Failed count) refused = (is_saved change p.rules ≡ true) × (refused ≡ refusal.StoreFault count)
+StoreRefuses p change stored.TooLong refused = (is_saved change p.rules ≡ true) × (FitsFile (changed_by change p).rules → ⊥) × (refused ≡ refusal.RulesFull)
+StoreRefuses p change stored.Memory refused = refused ≡ refusal.Memory false
+
+-- The facts for which a request that goes on is refused: a device without a record has no rule; a rule that would be made for one finds
+-- the list full; and what is asked can be done, but isn't saved.
+pub data RefusesBehind (d : DaemonState) (became : Stored) : Request → Refusal → Type 0 where
+  No_record : (number : ℕ) (verdict : Target) (standing : Standing) (kind place : ℕ) → numbered number d.sweep.standings ≡ Some standing → standing.judged ≡ judged.Malformed kind place → became ≡ stored.NotNeeded → RefusesBehind d became (request.Device number verdict true) (refusal.MalformedDevice number)
+  No_room : (number : ℕ) (verdict : Target) (rule : Rule) → change_of d (request.Device number verdict true) ≡ Some (Rules (Insert after.End rule false)) → 65536 ≤ length d.sweep.judge.rules → became ≡ stored.NotNeeded → RefusesBehind d became (request.Device number verdict true) refusal.RulesFull
+  Unstored : (asked : Request) (refused : Refusal) (change : Change) → change_of d asked ≡ Some change → CanChange change d.sweep.judge.rules → StoreRefuses d.sweep.judge change became refused → RefusesBehind d became asked refused
+  Without_memory : (asked : Request) → became ≡ stored.NotNeeded → RefusesBehind d became asked (refusal.Memory false)
+
+pub record RefusedBehind (who : Named) (line : List ℕ) (d : DaemonState) (became : Stored) (k l : Kernel) (refused : Refusal) : Type 0 where
+  pub asked : Request
+  pub reads : request_read line ≡ Ok asked
+  pub granted : is_granted d.access who (needs asked) ≡ true
+  pub goes : GoesOn d asked k l
+  pub why : RefusesBehind d became asked refused
+
+-- An order that was refused changes nothing but that this is noted and told, with a save that failed. At most its device was probed.
+pub record RefusesOrder (who : Named) (line : List ℕ) (k : Kernel) (d : DaemonState) (became : Stored) (l : Kernel) (e : DaemonState) : Type 0 where
   pub refused : Refusal
-  pub why : (WhyRefused who line d refused × (l ≡ k)) ⊎ RefusedByProbe who line d k l refused
+  pub why : (WhyRefused who line d refused × (l ≡ k) × (became ≡ stored.NotNeeded)) ⊎ ((RefusedByProbe who line d k l refused × (became ≡ stored.NotNeeded)) ⊎ RefusedBehind who line d became k l refused)
+  pub unchanged : IsSome (refused_by became) ⊎ (became ≡ stored.NotNeeded)
   pub sound : IsKernel l
   pub quiet : Quiet k l
-  pub state : e ≡ replying (replies.Refused refused) d
+  pub state : e ≡ replying (replies.Refused refused) (noted_store became d)
 
--- A verdict that was ordered by one who may. The device of that number's standing was there, with that value. Its verdict is set and
--- told, and the device is brought to it; and the reply tells what came of it.
-pub record CarriesOut (who : Named) (line : List ℕ) (k : Kernel) (d : DaemonState) (l : Kernel) (e : DaemonState) : Type 0 where
+-- a change that is in force can be done, and was saved where it has to be
+abbrev pub IsInForce : Judging → Option Change → Stored → Type 0
+IsInForce p None became = became ≡ stored.NotNeeded
+IsInForce p (Some change) stored.NotNeeded = CanChange change p.rules × (is_saved change p.rules ≡ false)
+IsInForce p (Some change) stored.Done = CanChange change p.rules × (is_saved change p.rules ≡ true)
+IsInForce p (Some change) became = ⊥
+
+-- A verdict that was ordered by one who may. The device of that number's standing was there, with that value. If the verdict is to be
+-- permanent, its rule is saved and in force. The verdict is set and told, and the device is brought to it; and the reply tells what came
+-- of it.
+pub record CarriesOut (who : Named) (line : List ℕ) (k : Kernel) (d : DaemonState) (became : Stored) (l : Kernel) (e : DaemonState) : Type 0 where
   pub number : ℕ
   pub verdict : Target
-  pub asked : request_read line ≡ Ok (request.Device number verdict false)
-  pub granted : is_granted d.access who (needs (request.Device number verdict false)) ≡ true
+  pub permanent : Bool
+  pub asked : request_read line ≡ Ok (request.Device number verdict permanent)
+  pub granted : is_granted d.access who (needs (request.Device number verdict permanent)) ≡ true
   pub standing : Standing
   pub stands : numbered number d.sweep.standings ≡ Some standing
   pub on : Bool
   pub middle : Kernel
   pub probed : ProbedOne standing k middle (probe.Alive on)
+  pub change : Option Change
+  pub asks : change ≡ change_of d (request.Device number verdict permanent)
+  pub has : permanent ≡ true → IsSome change
+  pub in_force : IsInForce d.sweep.judge change became
+  pub changed : DaemonState
+  pub after_change : changed ≡ with_changes change (noted_store became d)
   pub how : Settled
   pub kept : Kept
-  pub law : OrderedOne number verdict who on standing middle d.sweep l (with_kept d.sweep kept) how
+  pub law : OrderedOne number verdict who on standing middle changed.sweep l (with_kept changed.sweep kept) how
   pub rest : List Entry
-  pub entries : kept.entries ≡ d.sweep.entries ++ verdict_entry (with_verdict verdict who standing) ∷ rest
+  pub entries : kept.entries ≡ changed.sweep.entries ++ verdict_entry (with_verdict verdict who standing) ∷ rest
   pub bears : AllBear standing.name rest
   pub given : numbers_given rest ≡ []
-  pub state : e ≡ answered_with d (how, kept)
+  pub state : e ≡ answered_with changed (lines_of change d.sweep.judge.next) (how, kept)
 
--- what an order that needs no call comes to: the lines of its reply, what it changes, and whether its user or group is told of what
--- happens from now on
+-- what an order that needs no call of the kernel comes to: the lines of its reply, what it changes, and whether its user or group is told
+-- of what happens from now on
 pub record Outcome : Type 0 where
   pub lines : List (List ℕ)
   pub change : Option Change
@@ -168,49 +229,52 @@ only_lines rows = record { lines = rows; change = None; watches = false }
 abbrev pub outcome_of_change : DaemonState → Change → Outcome
 outcome_of_change d change = record { lines = change_lines change d.sweep.judge.next; change = Some change; watches = false }
 
+-- whether it is on a device
+abbrev pub is_on_device : Request → Bool
+is_on_device (request.Device number verdict permanent) = true
+is_on_device asked = false
+
 -- what each request comes to that needs no call
 pub data ComesTo (d : DaemonState) : Request → Outcome → Type 0 where
   Value : (name : List ℕ) (set : ParameterName) → parameter_of name ≡ Some set → ComesTo d (request.GetParameter name) (only_lines (value_word (parameter_at set d.sweep.judge.classes) ∷ []))
   Devices : ComesTo d request.ListDevices (only_lines (device_rows d.sweep.standings))
-  Rules : ComesTo d request.ListRules (only_lines (rule_rows d.sweep.judge.rules))
-  Changes : (asked : Request) (change : Change) → change_asked (Ok asked) ≡ Some change → CanChange change d.sweep.judge.rules → ComesTo d asked (outcome_of_change d change)
+  List_rules : ComesTo d request.ListRules (only_lines (rule_rows d.sweep.judge.rules))
+  Changes : (asked : Request) (change : Change) → is_on_device asked ≡ false → change_of d asked ≡ Some change → ComesTo d asked (outcome_of_change d change)
   Watches : ComesTo d request.Watch (record { lines = []; change = None; watches = true })
-
-abbrev pub with_changes : Option Change → DaemonState → DaemonState
-with_changes None d = d
-with_changes (Some change) d = with_change change d
 
 abbrev pub if_watching : Bool → DaemonState → DaemonState
 if_watching true d = record d { watch = true }
 if_watching false d = d
 
--- An order of one who may give it is carried out without a call: nothing changes but what it asks for, and the reply tells just that.
-pub record AnswersAtOnce (who : Named) (line : List ℕ) (d : DaemonState) (e : DaemonState) : Type 0 where
+-- An order of one who may give it is carried out without a call of the kernel: nothing changes but what it asks for, once that is saved
+-- where it has to be, and the reply tells just that.
+pub record AnswersAtOnce (who : Named) (line : List ℕ) (d : DaemonState) (became : Stored) (e : DaemonState) : Type 0 where
   pub asked : Request
   pub reads : request_read line ≡ Ok asked
   pub granted : is_granted d.access who (needs asked) ≡ true
   pub outcome : Outcome
   pub comes : ComesTo d asked outcome
-  pub state : e ≡ if_watching outcome.watches (replying (replies.Lines outcome.lines) (with_changes outcome.change d))
+  pub in_force : IsInForce d.sweep.judge outcome.change became
+  pub state : e ≡ if_watching outcome.watches (replying (replies.Lines outcome.lines) (with_changes outcome.change (noted_store became d)))
 
--- over kernels from k to l
-abbrev pub AnswersEvent : Event → Kernel → DaemonState → Kernel → DaemonState → Type 0
-AnswersEvent (Sweep moment) k d l e = (l ≡ k) × (e ≡ d)
-AnswersEvent (Order moment who line) k d l e = RefusesOrder who line k d l e ⊎ (((l ≡ k) × AnswersAtOnce who line d e) ⊎ CarriesOut who line k d l e)
+-- over kernels from k to l, where that became of the save of what the order changes
+abbrev pub AnswersEvent : Event → Kernel → DaemonState → Stored → Kernel → DaemonState → Type 0
+AnswersEvent (Sweep moment) k d became l e = (l ≡ k) × (became ≡ stored.NotNeeded) × (e ≡ d)
+AnswersEvent (Order moment who line) k d became l e = RefusesOrder who line k d became l e ⊎ (((l ≡ k) × AnswersAtOnce who line d became e) ⊎ CarriesOut who line k d became l e)
 
 -- where a kernel is told behind it, one was told before it; and where that is sound and the standings are of its devices, this is so
-abbrev pub Answers : {S : Type 0} → (S → Option Kernel) → Event → S → DaemonState → S → DaemonState → Type 0
-Answers told event s d t e = (l : Kernel) → told t ≡ Some l → (k : Kernel) × (told s ≡ Some k) × (IsKernel k → Stand k d.sweep.standings d.sweep.next → AnswersEvent event k d l e)
+abbrev pub Answers : {S : Type 0} → (S → Option Kernel) → Event → S → DaemonState → Stored → S → DaemonState → Type 0
+Answers told event s d became t e = (l : Kernel) → told t ≡ Some l → (k : Kernel) × (told s ≡ Some k) × (IsKernel k → Stand k d.sweep.standings d.sweep.next → AnswersEvent event k d became l e)
 
 -- the calls of an order that was refused: none, or the probe of a standing's device, whose failure the reply tells
-pub record GoesAsRefusal (d : DaemonState) (made : List Made) (e : DaemonState) : Type 0 where
+pub record GoesAsRefusal (d : DaemonState) (became : Stored) (made : List Made) (e : DaemonState) : Type 0 where
   pub refused : Refusal
   pub calls : (made ≡ []) ⊎ ((x : Standing) × (t : Told Probe) × Has d.sweep.standings x × (made ≡ answered (Ask_alive x.held.0) t ∷ []))
   pub told : failures made ≡ told_in_reply (Err refused)
-  pub state : e ≡ replying (replies.Refused refused) d
+  pub state : e ≡ replying (replies.Refused refused) (noted_store became d)
 
 -- those of one that was carried out: a probe that finds the device, and then those that bring it to its verdict
-pub record GoesAsVerdict {S : Type 0} (gives : S → (call : Call) → Answer call → S → Type 0) (calls faults : S → ℕ) (who : Named) (s : S) (d : DaemonState) (made : List Made) (t : S) (e : DaemonState) : Type 0 where
+pub record GoesAsVerdict {S : Type 0} (gives : S → (call : Call) → Answer call → S → Type 0) (calls faults : S → ℕ) (who : Named) (s : S) (d : DaemonState) (became : Stored) (made : List Made) (t : S) (e : DaemonState) : Type 0 where
   pub number : ℕ
   pub verdict : Target
   pub standing : Standing
@@ -220,24 +284,42 @@ pub record GoesAsVerdict {S : Type 0} (gives : S → (call : Call) → Answer ca
   pub alive : found.answer ≡ probe.Alive on
   pub behind : S
   pub probed : gives s (Ask_alive standing.held.0) found behind
+  pub change : Option Change
+  pub changed : DaemonState
+  pub after_change : changed ≡ with_changes change (noted_store became d)
   pub how : Settled
   pub kept : Kept
-  pub goes : GoesAsOrder gives calls faults (with_verdict verdict who standing) on behind d.sweep.entries t kept.standings kept.entries how
+  pub goes : GoesAsOrder gives calls faults (with_verdict verdict who standing) on behind changed.sweep.entries t kept.standings kept.entries how
   pub made_is : made ≡ answered (Ask_alive standing.held.0) found ∷ goes.made
-  pub state : e ≡ answered_with d (how, kept)
+  pub lines : List (List ℕ)
+  pub state : e ≡ answered_with changed lines (how, kept)
 
-abbrev pub GoesAsAnswer : {S : Type 0} → (S → (call : Call) → Answer call → S → Type 0) → (S → ℕ) → (S → ℕ) → Event → S → DaemonState → List Made → S → DaemonState → Type 0
-GoesAsAnswer gives calls faults (Sweep moment) s d made t e = (made ≡ []) × (e ≡ d)
-GoesAsAnswer gives calls faults (Order moment who line) s d made t e = GoesAsRefusal d made e ⊎ (((made ≡ []) × AnswersAtOnce who line d e) ⊎ GoesAsVerdict gives calls faults who s d made t e)
+abbrev pub GoesAsAnswer : {S : Type 0} → (S → (call : Call) → Answer call → S → Type 0) → (S → ℕ) → (S → ℕ) → Event → S → DaemonState → Stored → List Made → S → DaemonState → Type 0
+GoesAsAnswer gives calls faults (Sweep moment) s d became made t e = (made ≡ []) × (e ≡ d)
+GoesAsAnswer gives calls faults (Order moment who line) s d became made t e = GoesAsRefusal d became made e ⊎ (((made ≡ []) × AnswersAtOnce who line d became e) ⊎ GoesAsVerdict gives calls faults who s d became made t e)
+
+-- The stages of an order: on the kernel, what it comes to; on the disk, what it changes is saved if it has to be, and is then in force; and
+-- on the kernel, what is then done.
+pub record RunsOrder {S T : Type 0} (gives : S → (call : Call) → Answer call → S → Type 0) (keeps : T → (call : DiskCall) → DiskTold call → T → Type 0) (who : Named) (line : List ℕ) (s : S) (o : T) (d : DaemonState) (became : Stored) (t : S) (p : T) (a : DaemonState) : Type 0 where
+  pub choice : Choice
+  pub behind : S
+  pub asks : Runs gives s (asking d who line) choice behind
+  pub stores : RunsDisk keeps o (storing d choice.change) became p
+  pub acts : Runs gives behind (acting who (stored_with became choice.change d) (deed_after became choice.deed)) a t
+
+-- a sweep alone has none
+abbrev pub RunsAnswer : {S T : Type 0} → (S → (call : Call) → Answer call → S → Type 0) → (T → (call : DiskCall) → DiskTold call → T → Type 0) → Event → S → T → DaemonState → Stored → S → T → DaemonState → Type 0
+RunsAnswer gives keeps (Sweep moment) s o d became t p a = (t ≡ s) × (p ≡ o) × (became ≡ stored.NotNeeded) × (a ≡ d)
+RunsAnswer gives keeps (Order moment who line) s o d became t p a = RunsOrder gives keeps who line s o d became t p a
 
 -- ---- a whole event
 
 -- The calls of an event, from where it begins, are those of its order and of a sweep in parts, and are numbered from 1. Each that
 -- failed is told with its number and the count of faults after it, and no other is; and both numbers rise from one to the next.
-pub record TellsEvent {S : Type 0} (gives : S → (call : Call) → Answer call → S → Type 0) (calls faults : S → ℕ) (event : Event) (s : S) (d : DaemonState) (m : S) (a : DaemonState) (t : S) (e : DaemonState) : Type 0 where
+pub record TellsEvent {S : Type 0} (gives : S → (call : Call) → Answer call → S → Type 0) (calls faults : S → ℕ) (event : Event) (s : S) (d : DaemonState) (became : Stored) (m : S) (a : DaemonState) (t : S) (e : DaemonState) : Type 0 where
   pub order : List Made
   pub along : Along gives s order m
-  pub answers : GoesAsAnswer gives calls faults event s d order m a
+  pub answers : GoesAsAnswer gives calls faults event s d became order m a
   pub swept : State Judging
   pub goes : GoesInParts gives m a.sweep t swept
   pub entries : e.sweep ≡ record swept { entries = swept.entries ++ entry.End a.event ∷ [] }
@@ -250,20 +332,24 @@ abbrev pub TellsTried : Option Saved → ℕ → ℕ → Type 0
 TellsTried None before after = after ≡ before
 TellsTried (Some saved) before after = (before ≤ after) × TellsSaveFault saved before after
 
--- An event: on the disk a pending save, and what became of it; and on the kernel, where the numbering of calls begins anew, the order
--- from the state behind that, and the sweep from the state behind the order. What a crash may leave of the rule file is kept.
+-- An event: on the disk a pending save, and what became of it; on the kernel, where the numbering of calls begins anew, and on the disk the
+-- order from the state behind that; and on the kernel the sweep from the state behind the order. What a crash may leave of the rule file is
+-- kept.
 pub record HandlesEvent {S T : Type 0} (begins : S → S → Type 0) (gives : S → (call : Call) → Answer call → S → Type 0) (told : S → Option Kernel) (calls faults : S → ℕ) (keeps : T → (call : DiskCall) → DiskTold call → T → Type 0) (told_disk : T → Option Disk) (disk_faults : T → ℕ) (event : Event) (s : S) (o : T) (d : DaemonState) (t : S) (p : T) (e : DaemonState) : Type 0 where
   pub tried : Option Saved
-  pub tries : RunsDisk keeps o (trying d) tried p
-  pub counted : TellsTried tried (disk_faults o) (disk_faults p)
-  pub file : KeepsFile told_disk o d p e
+  pub disk_tried : T
+  pub tries : RunsDisk keeps o (trying d) tried disk_tried
+  pub counted : TellsTried tried (disk_faults o) (disk_faults disk_tried)
   pub start : S
   pub begun_there : begins s start
+  pub became : Stored
   pub middle : S
   pub answered : DaemonState
-  pub answers : Runs gives start (answering (ready event tried d) event) answered middle
-  pub answers_law : Answers told event s (ready event tried d) middle answered
+  pub answers : RunsAnswer gives keeps event start disk_tried (ready event tried d) became middle p answered
+  pub answers_law : Answers told event s (ready event tried d) became middle answered
+  pub counted_store : TellsStored became (disk_faults disk_tried) (disk_faults p)
   pub runs : Runs gives middle (handling answered) e t
   pub law : Handles told middle answered t e
-  pub faults_told : TellsEvent gives calls faults event start (ready event tried d) middle answered t e
+  pub faults_told : TellsEvent gives calls faults event start (ready event tried d) became middle answered t e
   pub once : NamesOnceIn told middle answered t e
+  pub file : KeepsFile told_disk event o d p e

@@ -1,8 +1,7 @@
 pub mod Answering
 pub mod Changes
-pub mod RulePlaces
 pub mod Settings
-pub mod RuleFile
+pub mod Storing
 pub mod Policy
 pub mod Privileges
 pub mod Verdicts
@@ -14,5 +13,3 @@ pub mod Rulings
 pub mod Chain
 pub mod Starting
 pub mod DeviceRows
-pub mod Rows
-pub mod RuleRows

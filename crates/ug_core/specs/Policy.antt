@@ -16,7 +16,6 @@ use Rattle.ug_cond.specs.Local.{local_second_at}
 use Rattle.ug_cond.specs.Words.{behind}
 use Rattle.ug_policy.specs.declared.entry.RuleEntry.{RuleEntry}
 use Rattle.ug_policy.specs.Deciding.{Found, find_decider, decider, reached, words_taken, rules_judged, judgement_found}
-use Rattle.ug_policy.specs.Edits.{new_entry}
 use Rattle.ug_policy.specs.Matching.{answer_by}
 use Rattle.ug_table.specs.Allowed.{allowed_records}
 use Rattle.ug_table.specs.State.{Answers, Laters}
@@ -43,15 +42,11 @@ pub record Judging : Type 0 where
 
 -- what a policy judges by, where its generator gives these words
 abbrev pub judging_of : {R : Type 0} → (R → Stream) → Policy R → Judging
-judging_of words p = record { classes = p.classes; rules = p.rules.list.entries; next = p.rules.list.next; clock = clock_of p.zone; ctx = p.ctx; stream = words p.rng }
+judging_of words p = record { classes = p.classes; rules = p.rules.entries; next = p.rules.next; clock = clock_of p.zone; ctx = p.ctx; stream = words p.rng }
 
 -- a moment, with its second of the local day; behind the last second that the calendar has, that one counts
 abbrev pub context_at : (ℕ → ℕ) → Moment → Context
 context_at clock moment = record { moment = moment; second = clock (min moment.0 253402207200) }
-
--- the rules as they were given, without their histories
-abbrev pub as_given : List RuleEntry → List RuleEntry
-as_given rules = map (λ e. new_entry e.id e.rule e.temporary) rules
 
 -- what the rules come to for a device, beside the records of those that are allowed
 abbrev pub found_for : Judging → List DeviceRecord → DeviceRecord → Found

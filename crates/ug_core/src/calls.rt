@@ -111,7 +111,7 @@ impl<'z, R: Rng> Daemon<'z, R> {
         self.begin(event, panel);
         let _tried = self.save_pending(alloc, disk, panel);
         sysfs.begin();
-        self.answer(alloc, event, sysfs, panel);
+        let _stored = self.answer(alloc, event, sysfs, disk, panel);
         self.sweep(alloc, sysfs, panel);
     }
 
@@ -141,6 +141,7 @@ impl<'z, R: Rng> Daemon<'z, R> {
         requires place { live_in panel.old < self.old.report.entries.spare }
         requires kind { tells_drop entry ≡ false }
         ensures daemon { daemon_of self.new ≡ noting entry (daemon_of self.old) }
+        ensures policy { self.new.policy ≡ self.old.policy }
         ensures spare { self.new.report.entries.spare + 1 + live_in panel.old
             ≡ self.old.report.entries.spare + live_in panel.new }
         ensures number { self.new.report.event ≡ self.old.report.event }

@@ -1,71 +1,103 @@
 // What an order comes to, before anything is changed: usbguard(1).
-ghost use Rattle.std.specs.Prelude.{◌≡◌, ◌∷◌, [], ℕ, false, List, IfOk, IsSome, Ok, OnErr};
+ghost use Rattle.std.specs.Prelude.{◌≡◌, ◌⊎◌, ◌∷◌, [], ℕ, false, List, IfOk, IsSome, IsSomeAnd, Ok, OnErr, decimal};
 ghost use Rattle.ug_kernel.specs.Tree.{Room, Runs};
 ghost use Rattle.ug_rule.specs.Rules.{rule_read};
-ghost use Rattle.ug_types.specs.Parameters.{parameter_of, value_of};
-ghost use Rattle.ug_core.specs.Answering.{asking, asking_of, by_id, by_name, by_request, by_setting, by_standing, by_value, if_granted, if_rule_read, IsThere, telling};
+ghost use Rattle.ug_types.specs.Parameters.{parameter_of};
+ghost use Rattle.ug_core.specs.Answering.{asking, asking_of, by_edit, by_id, by_name, by_request, by_rule, by_setting, by_standing, by_value, if_rule_read, CanDo, CanMake, IsChosenForGood, changing, is_carried_out, only, refusing, telling};
+ghost use Rattle.ug_core.specs.Changes.{change_lines, verdict_edit};
 ghost use Rattle.ug_core.specs.DeviceRows.{device_rows};
-ghost use Rattle.ug_core.specs.RuleRows.{rule_rows};
 ghost use Rattle.ug_core.specs.Event.{daemon_of};
+ghost use Rattle.ug_rules.specs.RuleRows.{rule_rows};
 ghost use Rattle.ug_table.specs.Standings.{numbered};
 
 use crate::changes::Change;
 use crate::daemon::Daemon;
 use crate::device_list::list_devices;
 use crate::privileges::denied;
+use itoa::Buffer;
 use rand_core::Rng;
 use std::alloc::Global;
 use ug_kernel::{Probe, Sysfs};
 use ug_print::print_rule;
 use ug_proto::{Request, RequestFault, parse_request};
 use ug_rule::{RuleFault, parse_rule};
+use ug_rules::Edit;
 use ug_types::{
-    After, List, NoMemory, Parameter, ParameterName, Principal, Refusal, Rule, Target, Text,
+    After, DeviceRecord, Judged, List, NoMemory, Parameter, ParameterName, Principal, Refusal,
+    Rule, Target, Text,
 };
 
-/// What an order comes to before anything is changed.
+/// What is done of an order once its change is in force.
 #[derive(Drop)]
-pub enum Choice {
+pub enum Deed {
     Refuse(Refusal),
     /// The lines of its reply.
     Tell(List<Text>),
-    /// The device of that number is there, with that value of `authorized`, and gets that verdict.
+    /// The device of that number is there, with that value of `authorized`, and gets that verdict. The lines are those of the reply.
     SetVerdict {
         number: u64,
         verdict: Target,
         on: bool,
+        lines: List<Text>,
     },
-    Change(Change),
     /// Notices are asked for.
     Watch,
 }
 
-fn tell(rows: Result<List<Text>, NoMemory>) -> Choice
-    ensures ok { (lines : List (List ℕ)) → rows ≡ Ok lines → result ≡ Choice.Tell lines }
-    ensures err { OnErr rows (result ≡ Choice.Refuse (Refusal.Memory false)) }
+/// What an order comes to before anything is changed: the change of rules or settings that it asks for, and what is then done.
+#[derive(Drop)]
+pub struct Choice {
+    pub change: Option<Change>,
+    pub deed: Deed,
+}
+
+fn only(deed: Deed) -> Choice
+    ensures { result ≡ only deed }
 {
-    match rows {
-        Ok(rows) => Choice::Tell(rows),
-        Err(_) => Choice::Refuse(Refusal::Memory { stands: false }),
+    Choice { change: None, deed }
+}
+
+fn refuse(refusal: Refusal) -> Choice
+    ensures { result ≡ refusing refusal }
+{
+    only(Deed::Refuse(refusal))
+}
+
+fn change(change: Change, deed: Deed) -> Choice
+    ensures { result ≡ changing change deed }
+{
+    Choice {
+        change: Some(change),
+        deed,
     }
 }
 
-fn choose_value(set: Option<Parameter>) -> Choice
+fn tell(rows: Result<List<Text>, NoMemory>) -> Choice
+    ensures ok { (lines : List (List ℕ)) → rows ≡ Ok lines → result ≡ only (Deed.Tell lines) }
+    ensures err { OnErr rows (result ≡ refusing (Refusal.Memory false)) }
+{
+    match rows {
+        Ok(rows) => only(Deed::Tell(rows)),
+        Err(_) => refuse(Refusal::Memory { stands: false }),
+    }
+}
+
+fn choose_value(alloc: Global, set: Option<Parameter>) -> Choice
     ensures { result ≡ by_value set }
 {
     match set {
-        Some(set) => Choice::Change(Change::Set(set)),
-        None => Choice::Refuse(Refusal::BadValue),
+        Some(set) => change(Change::Set(set), Deed::Tell(List::new(alloc))),
+        None => refuse(Refusal::BadValue),
     }
 }
 
 // A setting is given a value.
-fn choose_setting(name: &[u8], value: &[u8]) -> Choice
+fn choose_setting(alloc: Global, name: &[u8], value: &[u8]) -> Choice
     ensures { result ≡ by_setting (parameter_of name.now) value.now }
 {
     match ParameterName::named(name) {
-        Some(set) => choose_value(set.with_value(value)),
-        None => Choice::Refuse(Refusal::BadParameter),
+        Some(set) => choose_value(alloc, set.with_value(value)),
+        None => refuse(Refusal::BadParameter),
     }
 }
 
@@ -75,6 +107,25 @@ fn one_line(alloc: Global, line: &[u8]) -> Result<List<Text>, NoMemory>
     let mut lines = List::new(alloc);
     lines.push(Text::of(alloc, line)?)?;
     Ok(lines)
+}
+
+// The id of a rule as the line of a reply.
+fn id_line(alloc: Global, id: u64) -> Result<List<Text>, NoMemory>
+    ensures { IfOk result (λ lines. lines ≡ decimal id ∷ []) }
+{
+    let mut digits = Buffer::new();
+    one_line(alloc, digits.format(id).as_bytes())
+}
+
+// The lines of the reply to an edit that concerns one device, where that is the next rule's id.
+fn edit_lines(alloc: Global, edit: &Edit, next: u64) -> Result<List<Text>, NoMemory>
+    ensures { IfOk result (λ lines. lines ≡ change_lines (Change.Rules edit.now) next) }
+{
+    match edit {
+        Edit::Insert { .. } => id_line(alloc, next),
+        Edit::Retarget { id, .. } => id_line(alloc, *id),
+        Edit::Remove { .. } => Ok(List::new(alloc)),
+    }
 }
 
 impl<'z, R: Rng> Daemon<'z, R> {
@@ -89,12 +140,13 @@ impl<'z, R: Rng> Daemon<'z, R> {
     ) -> Choice
         ensures runs { Runs Y.gives sysfs.old (asking (daemon_of self.now) who.now line.now)
             result sysfs.new }
-        ensures stands { IsThere (daemon_of self.now) result }
+        ensures can_do { CanDo (daemon_of self.now) result.deed }
+        ensures can_make { CanMake (daemon_of self.now).sweep.judge.rules result.change }
     {
         match parse_request(alloc, line) {
             Ok(request) => self.choose_for(alloc, sysfs, who, &request),
-            Err(RequestFault::Bad(place)) => Choice::Refuse(Refusal::BadRequest { place }),
-            Err(RequestFault::Memory) => Choice::Refuse(Refusal::Memory { stands: false }),
+            Err(RequestFault::Bad(place)) => refuse(Refusal::BadRequest { place }),
+            Err(RequestFault::Memory) => refuse(Refusal::Memory { stands: false }),
         }
     }
 
@@ -108,11 +160,25 @@ impl<'z, R: Rng> Daemon<'z, R> {
     ) -> Choice
         ensures runs { Runs Y.gives sysfs.old (by_request (daemon_of self.now) who.now (Ok request.now))
             result sysfs.new }
-        ensures stands { IsThere (daemon_of self.now) result }
+        ensures can_do { CanDo (daemon_of self.now) result.deed }
+        ensures can_make { CanMake (daemon_of self.now).sweep.judge.rules result.change }
     {
         match denied(&self.acl, who, request) {
-            Some(refusal) => Choice::Refuse(refusal),
-            None => self.choose_granted(alloc, sysfs, request),
+            Some(refusal) => refuse(refusal),
+            None if self.carries_out(request) => self.choose_granted(alloc, sysfs, request),
+            None => refuse(Refusal::BadRequest { place: 0 }),
+        }
+    }
+
+    // The rule file isn't changed yet.
+    fn carries_out(&self, request: &Request) -> bool
+        ensures { result ≡ is_carried_out (daemon_of self.now).sweep.judge.rules request.now }
+    {
+        match request {
+            Request::Device { permanent, .. } => !*permanent,
+            Request::AppendRule { permanent, .. } => !*permanent,
+            Request::RemoveRule { id } => !self.policy.has_permanent(*id),
+            _ => true,
         }
     }
 
@@ -120,28 +186,28 @@ impl<'z, R: Rng> Daemon<'z, R> {
     fn choose_granted<Y: Sysfs>(&self, alloc: Global, sysfs: &mut Y, request: &Request) -> Choice
         ensures runs { Runs Y.gives sysfs.old (asking_of (daemon_of self.now) request.now)
             result sysfs.new }
-        ensures stands { IsThere (daemon_of self.now) result }
+        ensures can_do { CanDo (daemon_of self.now) result.deed }
+        ensures can_make { CanMake (daemon_of self.now).sweep.judge.rules result.change }
     {
         match request {
             Request::GetParameter { name } => self.choose_parameter(alloc, sysfs, name.bytes()),
-            Request::SetParameter { name, value } => choose_setting(name.bytes(), value.bytes()),
+            Request::SetParameter { name, value } => {
+                choose_setting(alloc, name.bytes(), value.bytes())
+            }
             Request::ListDevices => self.choose_devices(alloc, sysfs),
             Request::ListRules => self.choose_rules(alloc, sysfs),
             Request::Device {
                 number,
                 target,
-                permanent: false,
-            } => self.choose_verdict(sysfs, *number, *target),
+                permanent,
+            } => self.choose_verdict(alloc, sysfs, *number, *target, *permanent),
             Request::AppendRule {
                 after,
-                permanent: false,
+                permanent,
                 rule,
-            } => self.choose_rule(alloc, sysfs, *after, rule.bytes()),
-            Request::RemoveRule { id } => self.choose_removal(*id),
-            Request::Watch => Choice::Watch,
-            // The rule file isn't changed yet.
-            Request::Device { .. } => Choice::Refuse(Refusal::BadRequest { place: 0 }),
-            Request::AppendRule { .. } => Choice::Refuse(Refusal::BadRequest { place: 0 }),
+            } => self.choose_rule(alloc, sysfs, *after, *permanent, rule.bytes()),
+            Request::RemoveRule { id } => self.choose_removal(alloc, *id),
+            Request::Watch => only(Deed::Watch),
         }
     }
 
@@ -149,18 +215,20 @@ impl<'z, R: Rng> Daemon<'z, R> {
     fn choose_parameter<Y: Sysfs>(&self, alloc: Global, sysfs: &Y, name: &[u8]) -> Choice
         ensures runs { Runs Y.gives sysfs.now
             (by_name (daemon_of self.now).sweep.judge.classes (parameter_of name.now)) result sysfs.now }
-        ensures stands { IsThere (daemon_of self.now) result }
+        ensures can_do { CanDo (daemon_of self.now) result.deed }
+        ensures can_make { CanMake (daemon_of self.now).sweep.judge.rules result.change }
     {
         match ParameterName::named(name) {
             Some(set) => tell(one_line(alloc, self.policy.parameter(set).value())),
-            None => Choice::Refuse(Refusal::BadParameter),
+            None => refuse(Refusal::BadParameter),
         }
     }
 
     fn choose_devices<Y: Sysfs>(&self, alloc: Global, sysfs: &Y) -> Choice
         ensures runs { Runs Y.gives sysfs.now
             (telling (device_rows (daemon_of self.now).sweep.standings)) result sysfs.now }
-        ensures stands { IsThere (daemon_of self.now) result }
+        ensures can_do { CanDo (daemon_of self.now) result.deed }
+        ensures can_make { CanMake (daemon_of self.now).sweep.judge.rules result.change }
     {
         tell(list_devices(alloc, &self.table))
     }
@@ -168,99 +236,190 @@ impl<'z, R: Rng> Daemon<'z, R> {
     fn choose_rules<Y: Sysfs>(&self, alloc: Global, sysfs: &Y) -> Choice
         ensures runs { Runs Y.gives sysfs.now
             (telling (rule_rows (daemon_of self.now).sweep.judge.rules)) result sysfs.now }
-        ensures stands { IsThere (daemon_of self.now) result }
+        ensures can_do { CanDo (daemon_of self.now) result.deed }
+        ensures can_make { CanMake (daemon_of self.now).sweep.judge.rules result.change }
     {
         tell(self.policy.rule_rows(alloc))
     }
 
-    // A temporary rule is read, and put behind that place.
-    fn choose_rule<Y: Sysfs>(&self, alloc: Global, sysfs: &Y, after: After, text: &[u8]) -> Choice
-        ensures runs { Runs Y.gives sysfs.now (Room
-            (if_rule_read (daemon_of self.now).sweep.judge.rules after text.now)) result sysfs.now }
-        ensures stands { IsThere (daemon_of self.now) result }
-    {
-        match parse_rule(alloc, text) {
-            Ok(rule) => self.choose_place(alloc, sysfs, after, text, rule),
-            Err(RuleFault::Bad { kind, place }) => {
-                Choice::Refuse(Refusal::BadRule { kind, place })
-            }
-            Err(RuleFault::Memory) => Choice::Refuse(Refusal::Memory { stands: false }),
-        }
-    }
-
-    // A temporary rule that was read.
-    fn choose_place<Y: Sysfs>(
+    // A rule is read, and put behind that place.
+    fn choose_rule<Y: Sysfs>(
         &self,
         alloc: Global,
         sysfs: &Y,
         after: After,
+        permanent: bool,
+        text: &[u8],
+    ) -> Choice
+        ensures runs { Runs Y.gives sysfs.now (Room
+            (if_rule_read (daemon_of self.now).sweep.judge after permanent text.now)) result sysfs.now }
+        ensures can_do { CanDo (daemon_of self.now) result.deed }
+        ensures can_make { CanMake (daemon_of self.now).sweep.judge.rules result.change }
+    {
+        match parse_rule(alloc, text) {
+            Ok(rule) => self.choose_place(alloc, after, permanent, text, rule),
+            Err(RuleFault::Bad { kind, place }) => refuse(Refusal::BadRule { kind, place }),
+            Err(RuleFault::Memory) => refuse(Refusal::Memory { stands: false }),
+        }
+    }
+
+    // A rule that was read.
+    fn choose_place(
+        &self,
+        alloc: Global,
+        after: After,
+        permanent: bool,
         text: &[u8],
         rule: Rule,
     ) -> Choice
         requires { rule_read text.now ≡ Ok rule }
-        ensures runs { Runs Y.gives sysfs.now (Room
-            (if_rule_read (daemon_of self.now).sweep.judge.rules after text.now)) result sysfs.now }
-        ensures stands { IsThere (daemon_of self.now) result }
+        ensures chosen { (result ≡ by_rule (daemon_of self.now).sweep.judge after permanent (rule_read text.now))
+            ⊎ (result ≡ refusing (Refusal.Memory false)) }
+        ensures can_do { CanDo (daemon_of self.now) result.deed }
+        ensures can_make { CanMake (daemon_of self.now).sweep.judge.rules result.change }
     {
         if let Some(refusal) = self.policy.refuse_rule(after) {
-            return Choice::Refuse(refusal);
+            return refuse(refusal);
         }
         // A rule that is kept reads again from its canonical text.
-        match print_rule(alloc, &rule) {
-            Ok(_) => Choice::Change(Change::Insert {
-                after,
-                rule,
-                temporary: true,
-            }),
-            Err(_) => Choice::Refuse(Refusal::Memory { stands: false }),
-        }
+        let Ok(_) = print_rule(alloc, &rule) else {
+            return refuse(Refusal::Memory { stands: false });
+        };
+        let Ok(lines) = id_line(alloc, self.policy.next_id()) else {
+            return refuse(Refusal::Memory { stands: false });
+        };
+        let edit = Edit::Insert {
+            after,
+            rule,
+            temporary: !permanent,
+        };
+        change(Change::Rules(edit), Deed::Tell(lines))
     }
 
-    // A temporary rule is removed.
-    fn choose_removal(&self, id: u64) -> Choice
+    // A rule is removed.
+    fn choose_removal(&self, alloc: Global, id: u64) -> Choice
         ensures chosen { result ≡ by_id (daemon_of self.now).sweep.judge.rules id }
-        ensures stands { IsThere (daemon_of self.now) result }
+        ensures can_do { CanDo (daemon_of self.now) result.deed }
+        ensures can_make { CanMake (daemon_of self.now).sweep.judge.rules result.change }
     {
         if !self.policy.has_rule(id) {
-            return Choice::Refuse(Refusal::NoRule { id });
+            return refuse(Refusal::NoRule { id });
         }
-        // The rule file isn't changed yet.
-        if self.policy.has_permanent(id) {
-            return Choice::Refuse(Refusal::BadRequest { place: 0 });
-        }
-        Choice::Change(Change::Remove { id })
+        change(
+            Change::Rules(Edit::Remove { id }),
+            Deed::Tell(List::new(alloc)),
+        )
     }
 
     // The device of that number is probed.
-    fn choose_verdict<Y: Sysfs>(&self, sysfs: &mut Y, number: u64, verdict: Target) -> Choice
+    fn choose_verdict<Y: Sysfs>(
+        &self,
+        alloc: Global,
+        sysfs: &mut Y,
+        number: u64,
+        verdict: Target,
+        permanent: bool,
+    ) -> Choice
         ensures runs { Runs Y.gives sysfs.old
-            (by_standing number verdict (numbered number (daemon_of self.now).sweep.standings))
-            result sysfs.new }
-        ensures stands { IsThere (daemon_of self.now) result }
+            (by_standing (daemon_of self.now).sweep.judge number verdict permanent
+            (numbered number (daemon_of self.now).sweep.standings)) result sysfs.new }
+        ensures can_do { CanDo (daemon_of self.now) result.deed }
+        ensures can_make { CanMake (daemon_of self.now).sweep.judge.rules result.change }
     {
         match self.table.standing(number) {
-            None => Choice::Refuse(Refusal::NoDevice { number }),
-            Some(_) => self.probe_for(sysfs, number, verdict),
+            None => refuse(Refusal::NoDevice { number }),
+            Some(standing) => {
+                self.probe_for(alloc, sysfs, number, verdict, permanent, &standing.judged)
+            }
         }
     }
 
-    fn probe_for<Y: Sysfs>(&self, sysfs: &mut Y, number: u64, verdict: Target) -> Choice
-        requires { IsSome (numbered number (daemon_of self.now).sweep.standings) }
+    fn probe_for<Y: Sysfs>(
+        &self,
+        alloc: Global,
+        sysfs: &mut Y,
+        number: u64,
+        verdict: Target,
+        permanent: bool,
+        judged: &Judged,
+    ) -> Choice
+        requires { IsSomeAnd (numbered number (daemon_of self.now).sweep.standings) (λ s. s.judged ≡ judged.now) }
         ensures runs { Runs Y.gives sysfs.old
-            (by_standing number verdict (numbered number (daemon_of self.now).sweep.standings))
-            result sysfs.new }
-        ensures stands { IsThere (daemon_of self.now) result }
+            (by_standing (daemon_of self.now).sweep.judge number verdict permanent
+            (numbered number (daemon_of self.now).sweep.standings)) result sysfs.new }
+        ensures can_do { CanDo (daemon_of self.now) result.deed }
+        ensures can_make { CanMake (daemon_of self.now).sweep.judge.rules result.change }
     {
         match self.table.probe(sysfs, number) {
-            Probe::Alive(on) => Choice::SetVerdict {
+            Probe::Alive(on) if permanent => self.choose_for_good(
+                alloc, number, verdict, on, judged,
+            ),
+            Probe::Alive(on) => only(Deed::SetVerdict {
                 number,
                 verdict,
                 on,
-            },
-            Probe::Gone => Choice::Refuse(Refusal::NoDevice { number }),
-            Probe::Failed => Choice::Refuse(Refusal::ProbeFault {
+                lines: List::new(alloc),
+            }),
+            Probe::Gone => refuse(Refusal::NoDevice { number }),
+            Probe::Failed => refuse(Refusal::ProbeFault {
                 count: sysfs.faults(),
             }),
         }
+    }
+
+    // A verdict that is to be permanent, on a device that is there.
+    fn choose_for_good(
+        &self,
+        alloc: Global,
+        number: u64,
+        verdict: Target,
+        on: bool,
+        judged: &Judged,
+    ) -> Choice
+        requires { IsSome (numbered number (daemon_of self.now).sweep.standings) }
+        ensures chosen { IsChosenForGood (daemon_of self.now).sweep.judge number verdict on judged.now result }
+        ensures can_do { CanDo (daemon_of self.now) result.deed }
+        ensures can_make { CanMake (daemon_of self.now).sweep.judge.rules result.change }
+    {
+        match judged {
+            Judged::Good(device) => self.choose_edit(alloc, number, verdict, on, device),
+            Judged::Malformed { .. } => refuse(Refusal::MalformedDevice { number }),
+        }
+    }
+
+    // By the device's record.
+    fn choose_edit(
+        &self,
+        alloc: Global,
+        number: u64,
+        verdict: Target,
+        on: bool,
+        device: &DeviceRecord,
+    ) -> Choice
+        requires { IsSome (numbered number (daemon_of self.now).sweep.standings) }
+        ensures chosen { (result ≡ by_edit (daemon_of self.now).sweep.judge number verdict on
+            (verdict_edit device.now verdict (daemon_of self.now).sweep.judge))
+            ⊎ (result ≡ refusing (Refusal.Memory false)) }
+        ensures can_do { CanDo (daemon_of self.now) result.deed }
+        ensures can_make { CanMake (daemon_of self.now).sweep.judge.rules result.change }
+    {
+        let Ok(edit) = self.policy.verdict_edit(alloc, device, verdict) else {
+            return refuse(Refusal::Memory { stands: false });
+        };
+        if let Some(refusal) = self.policy.refuse_edit(&edit) {
+            return refuse(refusal);
+        }
+        let Ok(lines) = edit_lines(alloc, &edit, self.policy.next_id()) else {
+            return refuse(Refusal::Memory { stands: false });
+        };
+        change(
+            Change::Rules(edit),
+            Deed::SetVerdict {
+                number,
+                verdict,
+                on,
+                lines,
+            },
+        )
     }
 }

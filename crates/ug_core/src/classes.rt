@@ -6,7 +6,7 @@ ghost use Rattle.ug_core.specs.Settings.{classes_of};
 use ug_conf::{Present, Settings};
 use ug_types::{Cause, Inserted, Target};
 
-/// The settings that verdicts go by: usbguard-daemon.conf(5).
+/// The settings that verdicts and the rules made of devices go by: usbguard-daemon.conf(5).
 #[derive(Clone, Copy, Debug, PartialEq, Eq)]
 pub struct Classes {
     /// ImplicitPolicyTarget.
@@ -17,6 +17,8 @@ pub struct Classes {
     pub present_controller: Present,
     /// InsertedDevicePolicy.
     pub inserted: Inserted,
+    /// DeviceRulesWithPort.
+    pub with_port: bool,
 }
 
 /// What is known of a device beside its record: whether it is a root hub, was there at the start, and is on.
@@ -47,6 +49,7 @@ impl Classes {
             present_device: settings.present_device,
             present_controller: settings.present_controller,
             inserted: settings.inserted,
+            with_port: settings.with_port,
         }
     }
 

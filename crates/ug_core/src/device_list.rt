@@ -3,9 +3,9 @@ ghost use Rattle.std.specs.Prelude.{◌≡◌, IfOk, option_copied};
 ghost use Rattle.ug_lines.specs.Splitting.{IsLine, AreLines};
 ghost use Rattle.ug_core.specs.DeviceRows.{IsFirstFrom, device_row, device_rows, device_text};
 
-use crate::rows::print_row;
 use std::alloc::Global;
 use ug_print::{device_line, malformed_line};
+use ug_rules::print_row;
 use ug_table::{Standing, Table};
 use ug_types::{Judged, List, NoMemory, NodeName, Target, Text};
 

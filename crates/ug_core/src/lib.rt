@@ -7,7 +7,6 @@ mod choosing;
 mod classes;
 mod daemon;
 mod device_list;
-mod kept_rules;
 mod laws;
 mod list_laws;
 mod load;
@@ -15,11 +14,10 @@ mod orders;
 mod policy;
 mod privileges;
 mod report;
-mod rows;
-mod rule_list;
 mod rules;
 mod start;
 mod start_fault;
+mod storing;
 #[cfg(test)]
 mod tests;
 

@@ -1,40 +1,53 @@
 // Orders of administrators: usbguard(1).
-ghost use Rattle.std.specs.Prelude.{◌≡◌, ◌≤◌, ◌<◌, ◌+◌, ◌-◌, ◌^◌, [], ◌∷◌, false, IfOk, IsSome, decimal, length};
+ghost use Rattle.std.specs.Prelude.{◌≡◌, ◌≤◌, ◌<◌, ◌+◌, ◌-◌, ◌^◌, IsSome, None, Some, length};
 ghost use Rattle.ug_kernel.specs.Tree.{Runs};
 ghost use Rattle.ug_audit.specs.Journal.{live_in, members};
+ghost use Rattle.ug_store.specs.Store.{DiskRoom, RunsDisk};
 ghost use Rattle.ug_table.specs.Orders.{ordering};
-ghost use Rattle.ug_table.specs.State.{kept_of};
-ghost use Rattle.ug_audit.specs.declared.entry.Entry.TheVariants as entry;
-ghost use Rattle.ug_core.specs.Answering.{acting, answering, answer_of, changing, IsThere, keeping, reply_to, replying};
-ghost use Rattle.ug_core.specs.Changes.{CanChange};
-ghost use Rattle.ug_core.specs.RuleFile.{KeepsReadable};
-ghost use Rattle.ug_core.specs.Event.{daemon_of, NotesMore};
 ghost use Rattle.ug_table.specs.Standings.{numbered};
+ghost use Rattle.ug_table.specs.State.{kept_of};
+ghost use Rattle.ug_core.specs.Answering.{acting, answer_of, CanDo, CanMake, deed_after, keeping, reply_to, replying};
+ghost use Rattle.ug_core.specs.Changes.{CanChange, ChangeFits, ChangeReads, HasRoom};
+ghost use Rattle.ug_core.specs.Event.{daemon_of, NotesMore};
+ghost use Rattle.ug_core.specs.Laws.{RunsAnswer, RunsOrder};
+ghost use Rattle.ug_core.specs.Storing.{TellsStored, if_kept, noted_save, pending_stored, refused_by, stored_with, storing, with_change};
 
 use crate::changes::Change;
-use crate::choosing::Choice;
+use crate::choosing::Deed;
 use crate::daemon::{Daemon, Event};
-use itoa::Buffer;
+use crate::storing::Stored;
 use rand_core::Rng;
 use std::alloc::Global;
-use ug_audit::{Auditor, Entry, Journal, Panel, RuleChange};
+use ug_audit::{Auditor, Entry, Journal, Panel};
 use ug_kernel::Sysfs;
+use ug_print::RulesTextFault;
 use ug_proto::Reply;
+use ug_store::{RuleDisk, Saved};
 use ug_table::Settled;
-use ug_types::{After, List, NoMemory, Principal, Refusal, Rule, Target, Text};
+use ug_types::{List, Principal, Refusal, Target, Text};
 
 // The reply behind the writes. Where the device has left since, the order is done.
-fn reply_to(alloc: Global, settled: Settled) -> Reply
-    ensures { result ≡ reply_to settled }
+fn reply_to(lines: List<Text>, settled: Settled) -> Reply
+    ensures { result ≡ reply_to lines settled }
 {
     match settled {
-        Settled::Stands => Reply::Lines(List::new(alloc)),
-        Settled::Nobody => Reply::Lines(List::new(alloc)),
+        Settled::Stands => Reply::Lines(lines),
+        Settled::Nobody => Reply::Lines(lines),
         Settled::Fault(failed) => Reply::Refused(Refusal::DeviceFault {
             call: failed.call,
             count: failed.count,
         }),
         Settled::Memory => Reply::Refused(Refusal::Memory { stands: true }),
+    }
+}
+
+// What isn't in force is refused.
+fn deed_after(stored: Stored, deed: Deed) -> Deed
+    ensures { result ≡ deed_after stored deed }
+{
+    match stored.refusal() {
+        Some(refusal) => Deed::Refuse(refusal),
+        None => deed,
     }
 }
 
@@ -46,16 +59,6 @@ fn answer_of(reply: &Reply) -> Result<(), Refusal>
         Reply::Lines(_) => Ok(()),
         Reply::Refused(refusal) => Err(*refusal),
     }
-}
-
-// The id of a rule as the line of a reply.
-fn id_line(alloc: Global, id: u64) -> Result<List<Text>, NoMemory>
-    ensures { IfOk result (λ lines. lines ≡ decimal id ∷ []) }
-{
-    let mut digits = Buffer::new();
-    let mut lines = List::new(alloc);
-    lines.push(Text::of(alloc, digits.format(id).as_bytes())?)?;
-    Ok(lines)
 }
 
 impl<'z, R: Rng> Daemon<'z, R> {
@@ -95,23 +98,36 @@ impl<'z, R: Rng> Daemon<'z, R> {
             .order(alloc, sysfs, number, verdict, *who, on, &mut journal)
     }
 
-    // A temporary rule is put behind that place, and its id is told.
-    fn insert<Y: Sysfs>(
-        &mut self,
-        alloc: Global,
-        sysfs: &Y,
-        after: After,
-        rule: Rule,
-        temporary: bool,
-        panel: &mut Panel,
-    ) -> Reply
-        requires can { CanChange (Change.Insert after rule temporary) (daemon_of self.old).sweep.judge.rules }
-        requires readable { KeepsReadable (Change.Insert after rule temporary) }
-        requires id { (daemon_of self.old).sweep.judge.next < 2 ^ 64 - 1 }
-        requires spare { live_in panel.old < self.old.report.entries.spare }
-        ensures runs { Runs Y.gives sysfs.now
-            (changing (daemon_of self.old) (Change.Insert after rule temporary))
-            (replying result (daemon_of self.new)) sysfs.now }
+    // Saves the permanent rules with the change, where it concerns them, and makes room for it.
+    #[tactic(auto, using(ug_store::proofs::DiskRuns::runs_then_disk))]
+    fn save_change<D: RuleDisk>(&mut self, alloc: Global, disk: &mut D, change: &Change) -> Stored
+        requires reads { ChangeReads change.now (daemon_of self.old).sweep.judge.rules }
+        ensures runs { RunsDisk D.keeps disk.old (DiskRoom (if_kept (daemon_of self.old).sweep.judge change.now))
+            result disk.new }
+        ensures counted { TellsStored result (D.faults disk.old) (D.faults disk.new) }
+        ensures daemon { daemon_of self.new ≡ record (daemon_of self.old)
+            { pending = pending_stored result (daemon_of self.old).pending } }
+        ensures report { self.new.report ≡ self.old.report }
+        ensures room { refused_by result ≡ None → HasRoom change.now self.new.policy.rules.spare }
+        ensures fits { refused_by result ≡ None → ChangeFits change.now (daemon_of self.old).sweep.judge }
+    {
+        match self.policy.reserve_for(change) {
+            Ok(()) => {}
+            Err(_) => return Stored::Memory,
+        }
+        match self.policy.text_after(alloc, change) {
+            Ok(Some(text)) => Stored::of(self.store.save(alloc, disk, text.bytes())),
+            Ok(None) => Stored::NotNeeded,
+            Err(RulesTextFault::TooLong) => Stored::TooLong,
+            Err(RulesTextFault::Memory) => Stored::Memory,
+        }
+    }
+
+    // Notes the save, if there was one.
+    fn note_stored(&mut self, stored: Stored, panel: &mut Panel)
+        requires { live_in panel.old < self.old.report.entries.spare }
+        ensures daemon { daemon_of self.new ≡ noted_save stored (daemon_of self.old) }
+        ensures policy { self.new.policy ≡ self.old.policy }
         ensures standings { self.new.table.standings ≡ self.old.table.standings }
         ensures next { self.new.table.next ≡ self.old.table.next }
         ensures event { self.new.next_event ≡ self.old.next_event }
@@ -122,89 +138,115 @@ impl<'z, R: Rng> Daemon<'z, R> {
             (members (λ b. ⟦<dyn Auditor as Auditor>⟧ b.vtable) panel.old)
             (members (λ b. ⟦<dyn Auditor as Auditor>⟧ b.vtable) panel.new) }
     {
-        let id = self.policy.next_id();
-        let lines = match id_line(alloc, id) {
-            Ok(lines) => lines,
-            Err(_) => return Reply::Refused(Refusal::Memory { stands: false }),
-        };
-        match self.policy.reserve_rule() {
-            Ok(()) => {}
-            Err(_) => return Reply::Refused(Refusal::Memory { stands: false }),
+        match stored {
+            Stored::Done => self.note(Entry::Save(Saved::Done), panel),
+            Stored::Failed { count } => self.note(Entry::Save(Saved::Failed(count)), panel),
+            _ => {}
         }
-        self.policy.insert(after, rule, temporary);
-        self.note(
-            Entry::Rules {
-                change: RuleChange::Added,
-                id,
-            },
-            panel,
-        );
-        Reply::Lines(lines)
     }
 
-    // Rules or a setting are changed.
-    fn change<Y: Sysfs>(
-        &mut self,
-        alloc: Global,
-        sysfs: &Y,
-        change: Change,
-        panel: &mut Panel,
-    ) -> Reply
+    // Does the change, and notes it.
+    fn put_in_force(&mut self, change: Change, panel: &mut Panel)
         requires can { CanChange change (daemon_of self.old).sweep.judge.rules }
-        requires readable { KeepsReadable change }
+        requires reads { ChangeReads change (daemon_of self.old).sweep.judge.rules }
+        requires room { HasRoom change self.old.policy.rules.spare }
+        requires fits { ChangeFits change (daemon_of self.old).sweep.judge }
         requires id { (daemon_of self.old).sweep.judge.next < 2 ^ 64 - 1 }
         requires spare { live_in panel.old < self.old.report.entries.spare }
-        ensures runs { Runs Y.gives sysfs.now (changing (daemon_of self.old) change)
-            (replying result (daemon_of self.new)) sysfs.now }
+        ensures daemon { daemon_of self.new ≡ with_change change (daemon_of self.old) }
         ensures standings { self.new.table.standings ≡ self.old.table.standings }
         ensures next { self.new.table.next ≡ self.old.table.next }
         ensures event { self.new.next_event ≡ self.old.next_event }
         ensures spare { self.old.report.entries.spare + live_in panel.new
             ≤ self.new.report.entries.spare + 1 + live_in panel.old }
+        ensures number { self.new.report.event ≡ self.old.report.event }
+        ensures noted { NotesMore self.old.report.entries.entries self.new.report.entries.entries
+            (members (λ b. ⟦<dyn Auditor as Auditor>⟧ b.vtable) panel.old)
+            (members (λ b. ⟦<dyn Auditor as Auditor>⟧ b.vtable) panel.new) }
+    {
+        let entry = change.entry(self.policy.next_id());
+        self.policy.change(change);
+        self.note(entry, panel);
+    }
+
+    fn store_change<D: RuleDisk>(
+        &mut self,
+        alloc: Global,
+        disk: &mut D,
+        change: Change,
+        panel: &mut Panel,
+    ) -> Stored
+        requires can { CanChange change (daemon_of self.old).sweep.judge.rules }
+        requires reads { ChangeReads change (daemon_of self.old).sweep.judge.rules }
+        requires id { (daemon_of self.old).sweep.judge.next < 2 ^ 64 - 1 }
+        requires spare { 1 + live_in panel.old < self.old.report.entries.spare }
+        ensures runs { RunsDisk D.keeps disk.old (DiskRoom (if_kept (daemon_of self.old).sweep.judge change))
+            result disk.new }
+        ensures counted { TellsStored result (D.faults disk.old) (D.faults disk.new) }
+        ensures daemon { daemon_of self.new ≡ stored_with result (Some change) (daemon_of self.old) }
+        ensures standings { self.new.table.standings ≡ self.old.table.standings }
+        ensures next { self.new.table.next ≡ self.old.table.next }
+        ensures event { self.new.next_event ≡ self.old.next_event }
+        ensures spare { self.old.report.entries.spare + live_in panel.new
+            ≤ self.new.report.entries.spare + 2 + live_in panel.old }
+        ensures number { self.new.report.event ≡ self.old.report.event }
+        ensures noted { NotesMore self.old.report.entries.entries self.new.report.entries.entries
+            (members (λ b. ⟦<dyn Auditor as Auditor>⟧ b.vtable) panel.old)
+            (members (λ b. ⟦<dyn Auditor as Auditor>⟧ b.vtable) panel.new) }
+    {
+        let stored = self.save_change(alloc, disk, &change);
+        self.note_stored(stored, panel);
+        match stored.refusal() {
+            Some(_) => {}
+            None => self.put_in_force(change, panel),
+        }
+        stored
+    }
+
+    // What the order changes is saved, where it concerns permanent rules, and is then in force.
+    #[tactic(auto, unfolding(crate::specs::Storing::storing))]
+    fn store<D: RuleDisk>(
+        &mut self,
+        alloc: Global,
+        disk: &mut D,
+        change: Option<Change>,
+        panel: &mut Panel,
+    ) -> Stored
+        requires can { CanMake (daemon_of self.old).sweep.judge.rules change }
+        requires id { (daemon_of self.old).sweep.judge.next < 2 ^ 64 - 1 }
+        requires spare { 1 + live_in panel.old < self.old.report.entries.spare }
+        ensures runs { RunsDisk D.keeps disk.old (storing (daemon_of self.old) change) result disk.new }
+        ensures counted { TellsStored result (D.faults disk.old) (D.faults disk.new) }
+        ensures daemon { daemon_of self.new ≡ stored_with result change (daemon_of self.old) }
+        ensures standings { self.new.table.standings ≡ self.old.table.standings }
+        ensures next { self.new.table.next ≡ self.old.table.next }
+        ensures event { self.new.next_event ≡ self.old.next_event }
+        ensures spare { self.old.report.entries.spare + live_in panel.new
+            ≤ self.new.report.entries.spare + 2 + live_in panel.old }
         ensures number { self.new.report.event ≡ self.old.report.event }
         ensures noted { NotesMore self.old.report.entries.entries self.new.report.entries.entries
             (members (λ b. ⟦<dyn Auditor as Auditor>⟧ b.vtable) panel.old)
             (members (λ b. ⟦<dyn Auditor as Auditor>⟧ b.vtable) panel.new) }
     {
         match change {
-            Change::Insert {
-                after,
-                rule,
-                temporary,
-            } => self.insert(alloc, sysfs, after, rule, temporary, panel),
-            Change::Remove { id } => {
-                self.policy.remove(id);
-                self.note(
-                    Entry::Rules {
-                        change: RuleChange::Removed,
-                        id,
-                    },
-                    panel,
-                );
-                Reply::Lines(List::new(alloc))
-            }
-            Change::Set(parameter) => {
-                self.policy.set(parameter);
-                self.note(Entry::Parameter(parameter), panel);
-                Reply::Lines(List::new(alloc))
-            }
+            Some(change) => self.store_change(alloc, disk, change, panel),
+            None => Stored::NotNeeded,
         }
     }
 
     // What is answered to the order, once it is done.
-    #[tactic(auto, unfolding(crate::specs::Answering::acting), using(ug_kernel::proofs::Runs::runs_then))]
+    #[tactic(auto, using(ug_kernel::proofs::Runs::runs_then))]
     fn carry_out<Y: Sysfs>(
         &mut self,
         alloc: Global,
         sysfs: &mut Y,
         who: &Principal,
-        choice: Choice,
+        deed: Deed,
         panel: &mut Panel,
     ) -> Reply
-        requires stands { IsThere (daemon_of self.old) choice }
-        requires id { (daemon_of self.old).sweep.judge.next < 2 ^ 64 - 1 }
+        requires can { CanDo (daemon_of self.old) deed }
         requires spare { 7 + live_in panel.old ≤ self.old.report.entries.spare }
-        ensures runs { Runs Y.gives sysfs.old (acting who.now (daemon_of self.old) choice)
+        ensures runs { Runs Y.gives sysfs.old (acting who.now (daemon_of self.old) deed)
             (replying result (daemon_of self.new)) sysfs.new }
         ensures len { length self.new.table.standings ≤ length self.old.table.standings }
         ensures next { self.new.table.next ≡ self.old.table.next }
@@ -216,21 +258,21 @@ impl<'z, R: Rng> Daemon<'z, R> {
             (members (λ b. ⟦<dyn Auditor as Auditor>⟧ b.vtable) panel.old)
             (members (λ b. ⟦<dyn Auditor as Auditor>⟧ b.vtable) panel.new) }
     {
-        match choice {
-            Choice::Refuse(refusal) => Reply::Refused(refusal),
-            Choice::Tell(rows) => Reply::Lines(rows),
-            Choice::Change(change) => self.change(alloc, sysfs, change, panel),
-            Choice::Watch => {
+        match deed {
+            Deed::Refuse(refusal) => Reply::Refused(refusal),
+            Deed::Tell(rows) => Reply::Lines(rows),
+            Deed::Watch => {
                 self.report.watch = true;
                 Reply::Lines(List::new(alloc))
             }
-            Choice::SetVerdict {
+            Deed::SetVerdict {
                 number,
                 verdict,
                 on,
+                lines,
             } => {
                 let settled = self.set_verdict(alloc, sysfs, number, verdict, who, on, panel);
-                reply_to(alloc, settled)
+                reply_to(lines, settled)
             }
         }
     }
@@ -250,33 +292,68 @@ impl<'z, R: Rng> Daemon<'z, R> {
         self.report.reply = Some(reply);
     }
 
-    // The order of an event is answered. A sweep has none.
-    #[tactic(auto, unfolding(crate::specs::Answering::answering), using(ug_kernel::proofs::Runs::runs_then))]
-    pub(crate) fn answer<Y: Sysfs>(
+    // An order is answered, stage by stage.
+    fn answer_order<Y: Sysfs, D: RuleDisk>(
         &mut self,
         alloc: Global,
-        event: &Event,
+        who: &Principal,
+        line: &[u8],
         sysfs: &mut Y,
+        disk: &mut D,
         panel: &mut Panel,
-    )
+    ) -> Stored
         requires id { (daemon_of self.old).sweep.judge.next < 2 ^ 64 - 1 }
-        requires spare { 7 + live_in panel.old ≤ self.old.report.entries.spare }
-        ensures runs { Runs Y.gives sysfs.old (answering (daemon_of self.old) event.now)
-            (daemon_of self.new) sysfs.new }
+        requires spare { 9 + live_in panel.old ≤ self.old.report.entries.spare }
+        ensures runs { RunsOrder Y.gives D.keeps who.now line.now sysfs.old disk.old (daemon_of self.old)
+            result sysfs.new disk.new (daemon_of self.new) }
+        ensures counted { TellsStored result (D.faults disk.old) (D.faults disk.new) }
         ensures len { length self.new.table.standings ≤ length self.old.table.standings }
         ensures next { self.new.table.next ≡ self.old.table.next }
         ensures event { self.new.next_event ≡ self.old.next_event }
         ensures spare { self.old.report.entries.spare + live_in panel.new
-            ≤ self.new.report.entries.spare + 7 + live_in panel.old }
+            ≤ self.new.report.entries.spare + 9 + live_in panel.old }
         ensures number { self.new.report.event ≡ self.old.report.event }
         ensures noted { NotesMore self.old.report.entries.entries self.new.report.entries.entries
             (members (λ b. ⟦<dyn Auditor as Auditor>⟧ b.vtable) panel.old)
             (members (λ b. ⟦<dyn Auditor as Auditor>⟧ b.vtable) panel.new) }
     {
-        if let Event::Order(_, who, line) = event {
-            let choice = self.choose(alloc, sysfs, who, line.bytes());
-            let reply = self.carry_out(alloc, sysfs, who, choice, panel);
-            self.reply(reply, panel);
+        let choice = self.choose(alloc, sysfs, who, line);
+        let stored = self.store(alloc, disk, choice.change, panel);
+        let deed = deed_after(stored, choice.deed);
+        let reply = self.carry_out(alloc, sysfs, who, deed, panel);
+        self.reply(reply, panel);
+        stored
+    }
+
+    // The order of an event is answered. A sweep has none.
+    pub(crate) fn answer<Y: Sysfs, D: RuleDisk>(
+        &mut self,
+        alloc: Global,
+        event: &Event,
+        sysfs: &mut Y,
+        disk: &mut D,
+        panel: &mut Panel,
+    ) -> Stored
+        requires id { (daemon_of self.old).sweep.judge.next < 2 ^ 64 - 1 }
+        requires spare { 9 + live_in panel.old ≤ self.old.report.entries.spare }
+        ensures runs { RunsAnswer Y.gives D.keeps event.now sysfs.old disk.old (daemon_of self.old)
+            result sysfs.new disk.new (daemon_of self.new) }
+        ensures counted { TellsStored result (D.faults disk.old) (D.faults disk.new) }
+        ensures len { length self.new.table.standings ≤ length self.old.table.standings }
+        ensures next { self.new.table.next ≡ self.old.table.next }
+        ensures event { self.new.next_event ≡ self.old.next_event }
+        ensures spare { self.old.report.entries.spare + live_in panel.new
+            ≤ self.new.report.entries.spare + 9 + live_in panel.old }
+        ensures number { self.new.report.event ≡ self.old.report.event }
+        ensures noted { NotesMore self.old.report.entries.entries self.new.report.entries.entries
+            (members (λ b. ⟦<dyn Auditor as Auditor>⟧ b.vtable) panel.old)
+            (members (λ b. ⟦<dyn Auditor as Auditor>⟧ b.vtable) panel.new) }
+    {
+        match event {
+            Event::Sweep(_) => Stored::NotNeeded,
+            Event::Order(_, who, line) => {
+                self.answer_order(alloc, who, line.bytes(), sysfs, disk, panel)
+            }
         }
     }
 }

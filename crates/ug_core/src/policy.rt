@@ -1,29 +1,29 @@
 // Verdicts by the rules and the daemon's settings.
-ghost use Rattle.std.specs.Prelude.{◌≡◌, ◌<◌, ◌-◌, ◌^◌, All, IfOk, Ok, OnOk, nat_lt};
+ghost use Rattle.std.specs.Prelude.{◌≡◌, ◌<◌, ◌-◌, ◌^◌, true, All, Err, IfOk, Ok, OnOk, nat_lt};
 ghost use Rattle.ug_policy.specs.Deciding.{find_decider};
 ghost use Rattle.ug_rule.specs.Files.{file_read};
 ghost use Rattle.ug_table.specs.Allowed.{allowed_records};
 ghost use Rattle.ug_core.specs.Policy.{Judging, asks, by_class, clock_of, context_at, judging_of, policy_answer, policy_later, rules_if, stream_if};
-ghost use Rattle.ug_core.specs.Changes.{CanChange, changed_by, parameter_at};
-ghost use Rattle.ug_core.specs.RulePlaces.{has_permanent, has_rule, if_few, if_place};
-ghost use Rattle.ug_core.specs.InForce.{or_else};
-ghost use Rattle.ug_core.specs.RuleRows.{rule_rows};
-ghost use Rattle.ug_core.specs.declared.changes.Change.TheVariants.{Insert, Remove, Set};
-ghost use Rattle.ug_core.specs.RuleFile.{ReadsBack, permanent_rules, permanent_text, rules_in};
+ghost use Rattle.ug_core.specs.Changes.{CanChange, ChangeFits, ChangeReads, HasRoom, changed_by, is_saved, parameter_at, text_to_save, verdict_edit};
+ghost use Rattle.ug_rules.specs.RuleEdits.{EditReads, if_room_for};
+ghost use Rattle.ug_rules.specs.RuleFile.{FitsFile, ReadsBack, permanent_rules, permanent_text, rules_in};
+ghost use Rattle.ug_rules.specs.RulePlaces.{has_permanent, has_rule, if_taken};
+ghost use Rattle.ug_rules.specs.RuleRows.{rule_rows};
 
+use crate::changes::Change;
 use crate::classes::{Class, Classes, cause_for, keep};
-use crate::kept_rules::KeptRules;
 use jiff::tz::TimeZone;
 use rand_core::Rng;
 use std::alloc::Global;
 use ug_cond::{Allowed, Context, local_second};
 use ug_conf::Present;
 use ug_policy::RuleList;
-use ug_print::RulesTextFault;
+use ug_print::{RulesTextFault, generated_rule};
+use ug_rules::{Edit, KeptRules};
 use ug_table::{Judge, Table};
 use ug_types::{
     After, Cause, DeviceRecord, Judged, List, Moment, NoMemory, Parameter, ParameterName, Query,
-    Refusal, Rule, Target, Text,
+    Refusal, Target, Text,
 };
 
 /// The settings for classes of devices, the rules in order, the local time zone, when devices are judged, and the generator of random words.
@@ -60,10 +60,10 @@ fn judge<R: Rng>(
     class: Class,
     table: &Table,
 ) -> (Target, Cause)
-    ensures answer { result ≡ by_class classes (find_decider device.now ctx.now (allowed_records table.now.standings) rules.old.list.entries (R.stream rng.old)) class.controller class.present class.on }
-    ensures rules { rules.new.list.entries ≡ rules_if (asks classes class.controller class.present) rules.old.list.entries (find_decider device.now ctx.now (allowed_records table.now.standings) rules.old.list.entries (R.stream rng.old)) device.now ctx.now.moment }
-    ensures next { rules.new.list.next ≡ rules.old.list.next }
-    ensures words { R.stream rng.new ≡ stream_if (asks classes class.controller class.present) (R.stream rng.old) (find_decider device.now ctx.now (allowed_records table.now.standings) rules.old.list.entries (R.stream rng.old)) device.now }
+    ensures answer { result ≡ by_class classes (find_decider device.now ctx.now (allowed_records table.now.standings) rules.old.entries (R.stream rng.old)) class.controller class.present class.on }
+    ensures rules { rules.new.entries ≡ rules_if (asks classes class.controller class.present) rules.old.entries (find_decider device.now ctx.now (allowed_records table.now.standings) rules.old.entries (R.stream rng.old)) device.now ctx.now.moment }
+    ensures next { rules.new.next ≡ rules.old.next }
+    ensures words { R.stream rng.new ≡ stream_if (asks classes class.controller class.present) (R.stream rng.old) (find_decider device.now ctx.now (allowed_records table.now.standings) rules.old.entries (R.stream rng.old)) device.now }
 {
     match classes.choice_for(class) {
         Present::Allow => (Target::Allow, cause_for(class.present)),
@@ -80,7 +80,8 @@ fn judge<R: Rng>(
 impl<'z, R: Rng> Policy<'z, R> {
     /// These settings and rules, with the clock of that zone and the words of that generator.
     pub fn new(classes: Classes, list: RuleList, zone: TimeZone<'z>, rng: R) -> Policy<'z, R>
-        requires { All ReadsBack (rules_in list.entries) }
+        requires readable { All ReadsBack (rules_in list.entries) }
+        requires fits { FitsFile list.entries }
         ensures { judging_of R.stream result ≡ record { classes = classes; rules = list.entries; next = list.next; clock = clock_of zone.entry; ctx = record { moment = record { 0 = 0 }; second = 0 }; stream = R.stream rng } }
     {
         Policy {
@@ -125,37 +126,80 @@ impl<'z, R: Rng> Policy<'z, R> {
 
     /// Why no rule is put behind that place.
     pub fn refuse_rule(&self, after: After) -> Option<Refusal>
-        ensures { result ≡ or_else (if_place after (judging_of R.stream self.now).rules)
-            (if_few (judging_of R.stream self.now).rules) }
+        ensures { result ≡ if_taken after (judging_of R.stream self.now).rules }
     {
         self.rules.refuse_rule(after)
     }
 
-    /// Makes room for one rule more. A refusal changes nothing.
-    pub fn reserve_rule(&mut self) -> Result<(), NoMemory>
+    /// Why there is no room for the edit.
+    pub fn refuse_edit(&self, edit: &Edit) -> Option<Refusal>
+        ensures { result ≡ if_room_for edit.now (judging_of R.stream self.now).rules }
+    {
+        self.rules.refuse_edit(edit)
+    }
+
+    /// What gives the device that verdict for good: the first permanent rule that is made of it gets it, or else one is put behind the
+    /// others, for which there may be no room.
+    pub fn verdict_edit(
+        &self,
+        alloc: Global,
+        device: &DeviceRecord,
+        verdict: Target,
+    ) -> Result<Edit, NoMemory>
+        ensures edit { IfOk result (λ edit. edit ≡ verdict_edit device.now verdict (judging_of R.stream self.now)) }
+        ensures reads { IfOk result (λ edit. EditReads edit (judging_of R.stream self.now).rules) }
+    {
+        let with_port = self.classes.with_port;
+        let rule = generated_rule(alloc, device, verdict, with_port)?;
+        match self.rules.made_rule(device, with_port) {
+            Some(id) => Ok(Edit::Retarget { id, rule }),
+            None => Ok(Edit::Insert {
+                after: After::End,
+                rule,
+                temporary: false,
+            }),
+        }
+    }
+
+    /// Makes room for the change. A refusal changes nothing.
+    pub fn reserve_for(&mut self, change: &Change) -> Result<(), NoMemory>
         ensures same { judging_of R.stream self.new ≡ judging_of R.stream self.old }
-        ensures ok { OnOk result (0 < self.new.rules.list.spare) }
+        ensures ok { OnOk result (HasRoom change.now self.new.rules.spare) }
     {
-        self.rules.reserve()
+        match change {
+            Change::Rules(Edit::Insert { .. }) => self.rules.reserve(),
+            _ => Ok(()),
+        }
     }
 
-    /// Puts a rule, for which there is room, behind that place.
-    pub fn insert(&mut self, after: After, rule: Rule, temporary: bool)
-        requires can { CanChange (Insert after rule temporary) (judging_of R.stream self.old).rules }
-        requires readable { ReadsBack rule }
-        requires spare { 0 < self.old.rules.list.spare }
+    /// The text that is saved before the change is in force, if one is.
+    pub fn text_after(&self, alloc: Global, change: &Change) -> Result<Option<Text>, RulesTextFault>
+        requires { ChangeReads change.now (judging_of R.stream self.now).rules }
+        ensures text { IfOk result (λ text. text ≡ text_to_save change.now (judging_of R.stream self.now)) }
+        ensures fits { OnOk result (ChangeFits change.now (judging_of R.stream self.now)) }
+        ensures too_long { result ≡ Err RulesTextFault.TooLong
+            → (is_saved change.now (judging_of R.stream self.now).rules ≡ true)
+            × (FitsFile (changed_by change.now (judging_of R.stream self.now)).rules → ⊥) }
+    {
+        match change {
+            Change::Rules(edit) => self.rules.text_if_saved(alloc, edit),
+            Change::Set(_) => Ok(None),
+        }
+    }
+
+    /// Does the change, for which there is room.
+    pub fn change(&mut self, change: Change)
+        requires can { CanChange change (judging_of R.stream self.old).rules }
+        requires reads { ChangeReads change (judging_of R.stream self.old).rules }
+        requires room { HasRoom change self.old.rules.spare }
+        requires fits { ChangeFits change (judging_of R.stream self.old) }
         requires id { (judging_of R.stream self.old).next < 2 ^ 64 - 1 }
-        ensures { judging_of R.stream self.new
-            ≡ changed_by (Insert after rule temporary) (judging_of R.stream self.old) }
+        ensures { judging_of R.stream self.new ≡ changed_by change (judging_of R.stream self.old) }
     {
-        self.rules.insert(after, rule, temporary);
-    }
-
-    /// Takes out the rule of that id.
-    pub fn remove(&mut self, id: u64)
-        ensures { judging_of R.stream self.new ≡ changed_by (Remove id) (judging_of R.stream self.old) }
-    {
-        self.rules.remove(id);
+        match change {
+            Change::Rules(edit) => self.rules.edit(edit),
+            Change::Set(parameter) => self.classes.set(parameter),
+        }
     }
 
     /// The setting of that name.
@@ -165,15 +209,8 @@ impl<'z, R: Rng> Policy<'z, R> {
         self.classes.parameter(name)
     }
 
-    /// Gives a setting that value.
-    pub fn set(&mut self, parameter: Parameter)
-        ensures { judging_of R.stream self.new ≡ changed_by (Set parameter) (judging_of R.stream self.old) }
-    {
-        self.classes.set(parameter);
-    }
-
     /// The text of a rule file with the rules that aren't temporary, which reads as them again.
-    pub fn rules_text(&self, alloc: Global) -> Result<Text, RulesTextFault>
+    pub fn rules_text(&self, alloc: Global) -> Result<Text, NoMemory>
         ensures text { IfOk result (λ text. text ≡ permanent_text (judging_of R.stream self.now).rules) }
         ensures reads { IfOk result (λ text. file_read text ≡ Ok (permanent_rules (judging_of R.stream self.now).rules)) }
     {

@@ -3,7 +3,7 @@ ghost use Rattle.std.specs.Prelude.{◌≡◌, [], false, All, IfErr, IfOk};
 ghost use Rattle.ug_store.specs.Store.{seen_by};
 ghost use Rattle.ug_core.specs.Event.{daemon_of};
 ghost use Rattle.ug_core.specs.Policy.{clock_of};
-ghost use Rattle.ug_core.specs.RuleFile.{ReadsBack, rules_in};
+ghost use Rattle.ug_rules.specs.RuleFile.{FitsFile, ReadsBack, rules_in};
 ghost use Rattle.ug_core.specs.Settings.{classes_of};
 ghost use Rattle.ug_core.specs.Starting.{Starts, StartsWithRules};
 ghost use Rattle.ug_core.specs.Verdicts.{IsLater};
@@ -40,6 +40,7 @@ struct Beside<'z, R> {
 impl<'z, R: Rng + Drop> Beside<'z, R> {
     fn start(self, alloc: Global, loaded: (Store, RuleList)) -> Result<Daemon<'z, R>, StartFault>
         requires readable { All ReadsBack (rules_in loaded.1.entries) }
+        requires fits { FitsFile loaded.1.entries }
         requires unsaved { loaded.0 ≡ false }
         ensures ok { IfOk result (λ d. StartsWithRules (record {
           classes = self.entry.classes;

@@ -8,6 +8,7 @@ pub mod Fractions
 pub mod GeneratedFits
 pub mod Hexadecimal
 pub mod IdWords
+pub mod Made
 pub mod MalformedLines
 pub mod OneLine
 pub mod Pieces

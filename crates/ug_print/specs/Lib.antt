@@ -3,6 +3,7 @@ pub mod Bytes
 pub mod DeviceLines
 pub mod Generated
 pub mod Items
+pub mod Made
 pub mod Ranges
 pub mod RuleTexts
 pub mod Words

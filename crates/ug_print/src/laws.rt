@@ -10,6 +10,7 @@ ghost use Rattle.ug_lines.specs.Splitting.{IsLine, AreLinesOf};
 ghost use Rattle.ug_print.specs.Alike.{IsAlike};
 ghost use Rattle.ug_print.specs.Bytes.{RuleOfBytes};
 ghost use Rattle.ug_print.specs.Generated.{generated_of};
+ghost use Rattle.ug_print.specs.Made.{is_made_of};
 ghost use Rattle.ug_print.specs.RuleTexts.{rules_text_of};
 ghost use Rattle.ug_print.specs.Words.{rule_text};
 
@@ -46,4 +47,10 @@ pub fn generated_law()
     ensures alike { (device other : DeviceRecord) (target : Target) (with_port : Bool)
         → IsTrue (query_matches (generated_of device target with_port).query other)
         ↔ IsAlike with_port device other }
+{}
+
+/// A rule is made of a device just where it is the device's generated rule, with its own target.
+pub fn made_law()
+    ensures { (device : DeviceRecord) (with_port : Bool) (rule : Rule)
+        → IsTrue (is_made_of device with_port rule) ↔ (rule ≡ generated_of device rule.target with_port) }
 {}

@@ -9,13 +9,27 @@ use Rattle.ug_play.proofs.Plays.{TellsWant, played}
 use Rattle.ug_play.proofs.Wants.{memory_more}
 use Rattle.ug_kernel.proofs.Runs.{runs_then}
 use Rattle.ug_kernel.proofs.Ways.{Ways, ways_more, ways_run}
-use Rattle.ug_script.proofs.Answers.{EventSo, event_ways}
+use Rattle.ug_script.proofs.Answers.{EventSo, event_ways, handling_short}
 use Rattle.ug_core.specs.declared.daemon.Event as daemon
 use Rattle.ug_store.specs.DiskCalls.{DiskCall, DiskTold}
 use Rattle.ug_store.specs.Scripted.{DiskWorld}
 use Rattle.ug_store.specs.Store.{RunsDisk}
 use Rattle.ug_types.specs.declared.saved.Saved.{Saved}
-use Rattle.ug_core.specs.Answering.{answering}
+use Rattle.std.proofs.Common.{◌&&◌, [], ◌++◌, cond}
+use Rattle.ug_types.specs.declared.refusal.Refusal.TheVariants as refusal
+use Rattle.ug_proto.specs.declared.reply.Reply.TheVariants as reply
+use Rattle.ug_store.specs.Store.{Ended}
+use Rattle.ug_core.specs.Answering.{acting, asking, deed_after, replying}
+use Rattle.ug_core.specs.Changes.{is_saved}
+use Rattle.ug_core.specs.Laws.{RunsAnswer}
+use Rattle.ug_core.specs.Policy.{Judging}
+use Rattle.ug_core.specs.Storing.{if_kept, if_saved, stored_with, storing}
+use Rattle.ug_core.specs.declared.changes.Change.{Change}
+use Rattle.ug_core.specs.declared.choosing.Choice.{Choice}
+use Rattle.ug_core.specs.declared.daemon.Event.TheVariants.{Sweep, Order}
+use Rattle.ug_core.specs.declared.storing.Stored.{Stored}
+use Rattle.ug_core.specs.declared.storing.Stored.TheVariants as stored
+use Rattle.ug_core.proofs.Asked.{IsUnsaved, asked_of, asked_unsaved}
 use Rattle.ug_core.specs.Event.{DaemonState, handling, ready, trying, if_pending}
 use Rattle.std.specs.Io.KnownBytes.{Appends, Keeps}
 use Rattle.std.proofs.KnownBytes.{Appends-nil, Keeps-refl}
@@ -28,7 +42,7 @@ use Rattle.ug_console.specs.Fold.{Outcome, Writes, Refused}
 use Rattle.ug_script.specs.Setup.{SetupState, after_reading, rules_disk, started}
 use Rattle.ug_script.proofs.Phases.{open_unstarted}
 use Rattle.ug_script.specs.Script.{Script, Phase, SettingUp, Unstarted, Started, HoldsRules, IsOnDisk, takes_setup, has_started, disk_in, fits_file}
-use Rattle.ug_script.specs.Replay.{outcome_of, outcome_text, tells, quiet, with_restart, restart_taken, came_of, event_tree, event_from, event_by, in_script, event_taken}
+use Rattle.ug_script.specs.Replay.{answering, doing, outcome_of, outcome_text, tells, quiet, with_restart, restart_taken, came_of, event_tree, event_from, event_by, in_script, event_taken}
 
 -- where no save is pending, nothing is asked of the disk
 none_by : {S : Type 0} (keeps : S → (call : DiskCall) → DiskTold call → S → Type 0) (o : S) (d : DaemonState) (pending : Bool) (tried : Option Saved) (p : S) → pending ≡ false → RunsDisk keeps o (if_pending d.sweep.judge.rules pending) tried p → (tried ≡ None) × (p ≡ o)
@@ -39,23 +53,76 @@ pub none_tried : {S : Type 0} (keeps : S → (call : DiskCall) → DiskTold call
 unfolding trying
 none_tried keeps o d tried p e h = none_by keeps o d d.pending tried p e h
 
+-- where nothing is saved for a change, nothing is asked of the disk either
+
+store_by : {S : Type 0} (keeps : S → (call : DiskCall) → DiskTold call → S → Type 0) (o : S) (p : Judging) (change : Change) (b saved : Bool) (became : Stored) (q : S) → saved ≡ false → RunsDisk keeps o (cond b (if_saved p change saved) (Ended stored.Memory)) became q → (q ≡ o) × ((became ≡ stored.NotNeeded) ⊎ (became ≡ stored.Memory))
+store_by keeps o p change true false became q unsaved h = (h.1, inl h.0)
+store_by keeps o p change true true became q unsaved h = let none : ⊥ = cc in absurd none
+store_by keeps o p change false saved became q unsaved h = (h.1, inr h.0)
+
+none_stored : {S : Type 0} (keeps : S → (call : DiskCall) → DiskTold call → S → Type 0) (o : S) (d : DaemonState) (change : Option Change) (became : Stored) (q : S) → IsUnsaved d.sweep.judge.rules change → RunsDisk keeps o (storing d change) became q → (q ≡ o) × ((became ≡ stored.NotNeeded) ⊎ (became ≡ stored.Memory))
+unfolding storing
+none_stored keeps o d None became q unsaved h = (h.1, inl h.0)
+none_stored keeps o d (Some change) became q unsaved h = by_room h.0 h.1
+  where
+    by_room : (b : Bool) → RunsDisk keeps o (if_kept d.sweep.judge change b) became q → (q ≡ o) × ((became ≡ stored.NotNeeded) ⊎ (became ≡ stored.Memory))
+    by_room true k = store_by keeps o d.sweep.judge change true (is_saved change d.sweep.judge.rules) became q unsaved k
+    by_room false k = (k.1, inr k.0)
+
+-- an order is refused for want of memory, or goes as its tree does
+pub order_run : {T : Type 0} (keeps : T → (call : DiskCall) → DiskTold call → T → Type 0) (event : daemon.Event) (d : DaemonState) (s : World) (o : T) (became : Stored) (m : World) (q : T) (a : DaemonState) → RunsAnswer Gives keeps event s o d became m q a → (q ≡ o) × (Runs Gives s (answering d event) a m ⊎ (a ≡ replying (reply.Refused (refusal.Memory false)) d))
+order_run keeps (Sweep moment) d s o became m q a h = (h.1, inl (h.3, h.0))
+order_run keeps (Order moment who line) d s o became m q a h =
+    let c : Choice = h.choice in
+    let stored = none_stored keeps o d c.change became q (asked_unsaved Gives who line d c s h.behind (asked_of Gives who line d c s h.behind h.asks)) h.stores in (
+      stored.0,
+      elim stored.1 [
+        | inl is ↦ inl (runs_then Gives s (asking d who line) (doing who d) c h.behind a m h.asks (subst (λ (b : Stored). Runs Gives h.behind (acting who (stored_with b c.change d) (deed_after b c.deed)) a m) is h.acts))
+        | inr is ↦ inr (subst (λ (b : Stored). Runs Gives h.behind (acting who (stored_with b c.change d) (deed_after b c.deed)) a m) is h.acts).0
+      ],
+    )
+
 -- an event that was handled is as its script fixes it, unless it tells want of memory
 
 -- both runs are one of the whole tree
 event_run : (event : daemon.Event) (d : DaemonState) (s : World) (a : DaemonState) (m : World) (e : DaemonState) (t : World) → Runs Gives s (answering (ready event None d) event) a m → Runs Gives m (handling a) e t → Runs Gives s (event_tree event d) e t
 event_run event d s a m e t h k = runs_then Gives s (answering (ready event None d) event) handling a m e t h k
 
-pub event_pends : (event : daemon.Event) (d : DaemonState) (s : World) (a : DaemonState) (m : World) (e : DaemonState) (t : World) → Runs Gives s (answering (ready event None d) event) a m → Runs Gives m (handling a) e t → e.pending ≡ d.pending
-event_pends event d s a m e t h k = (ways_run Gives (EventSo (ready event None d)) (event_tree event d) s e t (event_ways event (ready event None d)) (event_run event d s a m e t h k)).so.pending
-
-pub event_plays : (event : daemon.Event) (d : DaemonState) (w u : World) (a : DaemonState) (m : World) (e : DaemonState) (t : World) → u ≡ begun w → Runs Gives u (answering (ready event None d) event) a m → Runs Gives m (handling a) e t → IsPlayed tells (event_tree event d) (begun w) e t
-event_plays event d w u a m e t q h k =
-    let wants : Ways (event_tree event d) (TellsWant tells) = ways_more (EventSo (ready event None d)) (TellsWant tells) (event_tree event d) (λ ok ms x so f. ap (λ (es : List Entry). tells_memory es) so.entries ∙ memory_more (ready event None d).sweep.entries so.rest ∙ or_last (tells_memory (ready event None d).sweep.entries) (tells_memory so.rest) (so.wants ∙ f)) (event_ways event (ready event None d)) in
-    played tells (event_tree event d) (begun w) e t wants (subst (λ (x : World). Runs Gives x (event_tree event d) e t) q (event_run event d u a m e t h k))
+-- an order that was refused for want of memory is told so, and the sweep behind it leaves that
+short_so : (d a : DaemonState) (m : World) (e : DaemonState) (t : World) → a ≡ replying (reply.Refused (refusal.Memory false)) d → Runs Gives m (handling a) e t → (tells_memory e.sweep.entries ≡ true) × (e.pending ≡ d.pending)
+short_so d a m e t is k =
+    let x = (ways_run Gives (λ more ns e. EventSo d (false && more) ([] ++ ns) e) (handling a) m e t (handling_short d a is) k).so in
+    (ap (λ (es : List Entry). tells_memory es) x.entries ∙ memory_more d.sweep.entries x.rest ∙ or_last (tells_memory d.sweep.entries) (tells_memory x.rest) x.wants, x.pending)
   where
     or_last : (x y : Bool) → y ≡ true → (x || y) ≡ true
     or_last true y h = refl
     or_last false y h = h
+
+module _ {T : Type 0} (keeps : T → (call : DiskCall) → DiskTold call → T → Type 0) (event : daemon.Event) (d : DaemonState) (s : World) (o : T) (became : Stored) (m : World) (q : T) (a e : DaemonState) (t : World) (h : RunsAnswer Gives keeps event s o (ready event None d) became m q a) (k : Runs Gives m (handling a) e t) where
+  pends : e.pending ≡ d.pending
+  pends = elim (order_run keeps event (ready event None d) s o became m q a h).1 [
+    | inl run ↦ (ways_run Gives (EventSo (ready event None d)) (event_tree event d) s e t (event_ways event (ready event None d)) (event_run event d s a m e t run k)).so.pending
+    | inr is ↦ (short_so (ready event None d) a m e t is k).1
+  ]
+
+  plays : (w : World) → s ≡ begun w → IsPlayed tells (event_tree event d) (begun w) e t
+  plays w same = elim (order_run keeps event (ready event None d) s o became m q a h).1 [
+    | inl run ↦ played tells (event_tree event d) (begun w) e t wants (subst (λ (x : World). Runs Gives x (event_tree event d) e t) same (event_run event d s a m e t run k))
+    | inr is ↦ inr (inl (short_so (ready event None d) a m e t is k).0)
+  ]
+    where
+      or_last : (x y : Bool) → y ≡ true → (x || y) ≡ true
+      or_last true y h = refl
+      or_last false y h = h
+
+      wants : Ways (event_tree event d) (TellsWant tells)
+      wants = ways_more (EventSo (ready event None d)) (TellsWant tells) (event_tree event d) (λ ok ms x so f. ap (λ (es : List Entry). tells_memory es) so.entries ∙ memory_more (ready event None d).sweep.entries so.rest ∙ or_last (tells_memory (ready event None d).sweep.entries) (tells_memory so.rest) (so.wants ∙ f)) (event_ways event (ready event None d))
+
+pub event_pends : {T : Type 0} (keeps : T → (call : DiskCall) → DiskTold call → T → Type 0) (event : daemon.Event) (d : DaemonState) (s : World) (o : T) (became : Stored) (m : World) (q : T) (a e : DaemonState) (t : World) → RunsAnswer Gives keeps event s o (ready event None d) became m q a → Runs Gives m (handling a) e t → e.pending ≡ d.pending
+event_pends keeps event d s o became m q a e t h k = pends keeps event d s o became m q a e t h k
+
+pub event_plays : {T : Type 0} (keeps : T → (call : DiskCall) → DiskTold call → T → Type 0) (event : daemon.Event) (d : DaemonState) (w s : World) (o : T) (became : Stored) (m : World) (q : T) (a e : DaemonState) (t : World) → s ≡ begun w → RunsAnswer Gives keeps event s o (ready event None d) became m q a → Runs Gives m (handling a) e t → IsPlayed tells (event_tree event d) (begun w) e t
+event_plays keeps event d w s o became m q a e t same h k = plays keeps event d s o became m q a e t h k w same
 
 same_places : {d e : DaemonState} {t u : World} → d ≡ e → t ≡ u → ◌≡◌ {A = DaemonState × World} (d, over t) (e, over u)
 same_places {d} {e} {t} {u} p q = ap (λ (x : DaemonState). (x, over t)) p ∙ ap (λ (y : World). (e, over y)) q

@@ -21,7 +21,6 @@ use Rattle.ug_conf.specs.Draft.{draft_of}
 use Rattle.ug_conf.specs.Settings.{defaults}
 use Rattle.ug_conf.specs.Texts.{setting_line, settled}
 use Rattle.ug_lines.specs.LineReading.{lines_read}
-use Rattle.ug_core.specs.Answering.{answering}
 use Rattle.ug_core.specs.declared.daemon.Event as events
 use Rattle.ug_core.specs.declared.daemon.Event.TheVariants.{Sweep, Order}
 use Rattle.ug_kernel.specs.Called.{Lived}
@@ -29,6 +28,7 @@ use Rattle.ug_kernel.specs.Quiet.{Grows}
 use Rattle.ug_core.specs.Policy.{Judging}
 use Rattle.ug_core.specs.Event.{DaemonState, handling, has_numbers, ready, trying}
 use Rattle.ug_core.specs.Chain.{Happened, Chain, journal}
+use Rattle.ug_core.specs.declared.storing.Stored.TheVariants as stored
 use Rattle.ug_store.specs.Disk.{Disk}
 use Rattle.ug_store.specs.MemLaw.{mem_did}
 use Rattle.ug_store.specs.History.{HoldsOnly}
@@ -42,7 +42,8 @@ use Rattle.ug_core.specs.Chain.{IsEvent, StaysOnDisk}
 use Rattle.ug_core.proofs.Kept.{file_kept, stays_there}
 use Rattle.ug_core.proofs.Plain.{SameRules, event_keeps_rules}
 use Rattle.ug_core.proofs.Verdicts.{steps_later}
-use Rattle.ug_core.proofs.Chained.{journal_append, is_run, chain_more, chain_moves}
+use Rattle.ug_core.proofs.SoFar.{journal_append}
+use Rattle.ug_core.proofs.Chained.{is_run, chain_more, chain_moves}
 use Rattle.ug_console.specs.Fold.{Fault, BadLine, InputTooLong, Outcome, Writes, Refused, Stage, Going, Halted, is_within, stage_after, plays}
 use Rattle.ug_script.specs.declared.step.Plan.{Plan}
 use Rattle.ug_script.specs.declared.step.Plan.TheVariants as plan
@@ -51,11 +52,11 @@ use Rattle.ug_script.specs.declared.step.Step.TheVariants.{Skip, Setup, Move, Sc
 use Rattle.ug_script.specs.Grammar.{step_of_line}
 use Rattle.ug_script.specs.Setup.{SetupState, no_setup, one_line_more, access_of, after_reading, policy_of, rules_disk, started, started_at, steps_of}
 use Rattle.ug_script.specs.Script.{Script, Phase, Started, fresh, takes_setup, has_started, closed_phase, with_setup_closed, daemon_by, daemon_in, disk_by, disk_in, can_start}
-use Rattle.ug_script.specs.Replay.{header, outcome_of, outcome_text, quiet, bad, line_added, with_devices, with_restart, planned, answered_from, came_of, event_from, event_of, in_script, taken, taken_if, script_step}
+use Rattle.ug_script.specs.Replay.{header, outcome_of, outcome_text, quiet, bad, line_added, with_devices, with_restart, planned, answered_from, answering, came_of, event_from, event_of, in_script, taken, taken_if, script_step}
 use Rattle.ug_script.specs.Laws.{calls_of, faults_of, StaysLawful}
 use Rattle.ug_script.specs.Journal.{happened_at, left_by, EventsOfRuns, no_events, with_events, runs_by, runs_after, runs_in, journals, journal_of, events_text, runs_text, text_of_runs, IsDaemonRun, EndedRun, AreSuccessive, JudgesOnce, is_quiet, AreQuiet, Recorded, StaysRecorded}
 use Rattle.ug_script.proofs.Phases.{open_unstarted, closed_daemon, closed_disk, closed_started}
-use Rattle.ug_script.proofs.Lawful.{Holds, HoldsOf, answers, plays_event, handled, event_holds, event_so, move_holds, plan_holds, event_pending, no_standing, tells_event, lawful_event}
+use Rattle.ug_script.proofs.Lawful.{Holds, HoldsOf, answers, plays_event, handled, event_holds, event_so, move_holds, order_runs, plan_holds, event_pending, no_standing, tells_event, lawful_event}
 use Rattle.ug_script.proofs.Numbers.{Fits, FitsOf, fits_more, event_fits, started_fits, fits_numbers}
 use Rattle.ug_script.proofs.Setups.{IsGiven, InSetup, given_first, given_still, given_added, given_setup, policy_new}
 
@@ -199,7 +200,7 @@ is_event first n done runs text event s w h =
     record {
       answers = answers event d w h.holds;
       handled = handled event d w h.holds;
-      file = file_kept Gives calls_of faults_of MemKeeps disk_told mem_did event (begun w) o d None a.1 a.0 p.1 o p.0 (none_asked o d h.pending) (tells_event event d w h.holds) swept;
+      file = file_kept Gives calls_of faults_of MemKeeps disk_told mem_did event (begun w) o d None o stored.NotNeeded a.1 o a.0 p.1 p.0 (none_asked o d h.pending) (order_runs MemKeeps o event (ready event None d) (begun w)) (tells_event event d w h.holds) swept;
     }
 
 -- the chain with that event

@@ -1,5 +1,5 @@
 -- Each line keeps the kernel sound and each standing of a device.
-use Rattle.std.proofs.Common.{◌≡◌, ℕ, ◌++◌, Bool, true, false, ◌||◌, List, [], ◌∷◌, Some, None, refl, sym, ◌∙◌, ap, subst}
+use Rattle.std.proofs.Common.{◌≡◌, ℕ, ◌++◌, Bool, true, false, ◌||◌, List, [], ◌∷◌, Option, Some, None, refl, sym, ◌∙◌, ap, subst}
 use Rattle.std.proofs.lemmas.Option.{same_Some}
 use Rattle.ug_kernel.specs.Kernel.{Kernel, IsKernel, Moves}
 use Rattle.ug_kernel.proofs.Grow.{quiet_grows}
@@ -28,8 +28,14 @@ use Rattle.ug_play.proofs.Plays.{Fixed, play_runs, play_told, play_then, play_wa
 use Rattle.ug_core.specs.Event as event
 use Rattle.ug_core.specs.Policy.{Judging, policy_answer, policy_later}
 use Rattle.ug_core.specs.Event.{DaemonState, handling, ready}
-use Rattle.ug_core.specs.Answering.{answering}
-use Rattle.ug_core.specs.Laws.{AnswersEvent, Handled, TellsSweep, TellsEvent}
+use Rattle.ug_core.specs.Answering.{acting, asking}
+use Rattle.ug_store.specs.DiskCalls.{DiskCall, DiskTold}
+use Rattle.ug_store.specs.Store.{RunsDisk}
+use Rattle.ug_core.specs.Laws.{AnswersEvent, Handled, RunsAnswer, TellsSweep, TellsEvent}
+use Rattle.ug_core.specs.Storing.{if_saved, storing}
+use Rattle.ug_core.specs.declared.changes.Change.{Change}
+use Rattle.ug_core.specs.declared.storing.Stored.TheVariants as stored
+use Rattle.ug_core.proofs.Asked.{IsUnsaved, asked_of, asked_unsaved}
 use Rattle.ug_core.specs.declared.daemon.Event.{Event}
 use Rattle.ug_core.specs.declared.daemon.Event.TheVariants.{Sweep, Order}
 use Rattle.ug_core.proofs.Answered.{Answered, answering_made, answering_told, answered_stands, ready_failures, ready_names}
@@ -37,7 +43,7 @@ use Rattle.ug_core.proofs.Failures.{event_tells, event_names}
 use Rattle.ug_script.specs.declared.step.Plan.{Plan}
 use Rattle.ug_script.specs.declared.step.Plan.TheVariants as plan
 use Rattle.ug_script.specs.Script.{Script, daemon_in}
-use Rattle.ug_script.specs.Replay.{answered_from, event_tree, event_from, with_devices, planned}
+use Rattle.ug_script.specs.Replay.{answering, doing, answered_from, event_tree, event_from, with_devices, planned}
 use Rattle.ug_script.specs.Laws.{calls_of, faults_of, IsLawfulEvent}
 use Rattle.ug_script.proofs.Answers.{AnswersSo, EventSo, answering_ways, event_ways}
 
@@ -61,19 +67,43 @@ told_at w e = rw e refl
 pub answered_so : (event : Event) (d : DaemonState) (w : World) → AnswersSo (ready event None d) true (play_way (AnswersSo (ready event None d)) (answering (ready event None d) event) (begun w) (answering_ways event (ready event None d))).made (answered_from event d w).0
 answered_so event d w = (play_way (AnswersSo (ready event None d)) (answering (ready event None d) event) (begun w) (answering_ways event (ready event None d))).so
 
-pub answers : (event : Event) (d : DaemonState) (w : World) → HoldsOf d w → AnswersEvent event w.kernel (ready event None d) (answered_from event d w).1.kernel (answered_from event d w).0
+-- nothing is saved for an order, on whatever disk
+order_stores : {T : Type 0} (keeps : T → (call : DiskCall) → DiskTold call → T → Type 0) (o : T) (d : DaemonState) (change : Option Change) → IsUnsaved d.sweep.judge.rules change → RunsDisk keeps o (storing d change) stored.NotNeeded o
+unfolding storing
+order_stores keeps o d None unsaved = (refl, refl)
+order_stores keeps o d (Some change) unsaved = (true, subst (λ (b : Bool). RunsDisk keeps o (if_saved d.sweep.judge change b) stored.NotNeeded o) (sym unsaved) (refl, refl))
+
+pub order_runs : {T : Type 0} (keeps : T → (call : DiskCall) → DiskTold call → T → Type 0) (o : T) (event : Event) (d : DaemonState) (w : World) → RunsAnswer Gives keeps event w o d stored.NotNeeded (play (answering d event) w).1 o (play (answering d event) w).0
+order_runs keeps o (Sweep moment) d w = (refl, refl, refl, refl)
+order_runs keeps o (Order moment who line) d w =
+    let c = play (asking d who line) w in
+    let asks = play_runs (asking d who line) w in
+    let whole : play (answering d (Order moment who line)) w ≡ play (doing who d c.0) c.1 = play_then (asking d who line) (doing who d) w in
+    subst (λ (x : DaemonState × World). RunsAnswer Gives keeps (Order moment who line) w o d stored.NotNeeded x.1 o x.0) (sym whole) (record {
+      choice = c.0;
+      behind = c.1;
+      asks = asks;
+      stores = order_stores keeps o d c.0.change (asked_unsaved Gives who line d c.0 w c.1 (asked_of Gives who line d c.0 w c.1 asks));
+      acts = play_runs (doing who d c.0) c.1;
+    })
+
+-- a disk that nothing is asked of
+abbrev NoDisk : Unit {0} → (call : DiskCall) → DiskTold call → Unit {0} → Type 0
+NoDisk o call told p = ⊥
+
+pub answers : (event : Event) (d : DaemonState) (w : World) → HoldsOf d w → AnswersEvent event w.kernel (ready event None d) stored.NotNeeded (answered_from event d w).1.kernel (answered_from event d w).0
 answers event d w h =
     let p = answering (ready event None d) event in
     let m : World = (answered_from event d w).1 in
     let run : m.ran_out ≡ false = play_told p (begun w) h.told in
-    let law = answering_told Gives told does_what_it_may event (begun w) (ready event None d) m (answered_from event d w).0 (play_runs p (begun w)) m.kernel (told_at m run) in
+    let law = answering_told Gives told does_what_it_may NoDisk event (begun w) tt (ready event None d) stored.NotNeeded m tt (answered_from event d w).0 (order_runs NoDisk tt event (ready event None d) (begun w)) m.kernel (told_at m run) in
     let same : law.0 ≡ w.kernel = same_Some law.0 w.kernel (sym law.1 ∙ told_at w h.told) in
-    subst (λ (k : Kernel). AnswersEvent event k (ready event None d) m.kernel (answered_from event d w).0) same (law.2 (rw same h.sound) (rw same h.stand))
+    subst (λ (k : Kernel). AnswersEvent event k (ready event None d) stored.NotNeeded m.kernel (answered_from event d w).0) same (law.2 (rw same h.sound) (rw same h.stand))
 
 pub answered_holds : (event : Event) (d : DaemonState) (w : World) → HoldsOf d w → HoldsOf (answered_from event d w).0 (answered_from event d w).1
 answered_holds event d w h =
     let m : World = (answered_from event d w).1 in
-    let stands = answered_stands event w.kernel (ready event None d) m.kernel (answered_from event d w).0 h.sound h.stand (answers event d w h) in
+    let stands = answered_stands event w.kernel (ready event None d) stored.NotNeeded m.kernel (answered_from event d w).0 h.sound h.stand (answers event d w h) in
     record { told = play_told (answering (ready event None d) event) (begun w) h.told; sound = stands.0; stand = stands.1 }
 
 -- ---- the sweep behind it
@@ -154,15 +184,15 @@ swept_tells a m =
     let t : World = (play p m).1 in
     rw (plays_sweep a m) (record { swept = v; tells = sweeping_tells Gives calls_of faults_of counts_each policy_answer policy_later m a.sweep t v (play_runs p m); entries = refl })
 
-pub made_by : (event : Event) (d : DaemonState) (w : World) → HoldsOf d w → Answered Gives calls_of faults_of event (begun w) (ready event None d) (answered_from event d w).1 (answered_from event d w).0
-made_by event d w h = answering_made Gives calls_of faults_of counts_each event (begun w) (ready event None d) (answered_from event d w).1 (answered_from event d w).0 refl (record { order = h.stand.order; distinct = h.stand.distinct; numbers = h.stand.numbers }) (ready_failures event None d) (ready_names event None d) (play_runs (answering (ready event None d) event) (begun w))
+pub made_by : (event : Event) (d : DaemonState) (w : World) → HoldsOf d w → Answered Gives calls_of faults_of event (begun w) (ready event None d) stored.NotNeeded (answered_from event d w).1 (answered_from event d w).0
+made_by event d w h = answering_made Gives calls_of faults_of counts_each NoDisk event (begun w) tt (ready event None d) stored.NotNeeded (answered_from event d w).1 tt (answered_from event d w).0 refl (record { order = h.stand.order; distinct = h.stand.distinct; numbers = h.stand.numbers }) (ready_failures event None d) (ready_names event None d) (order_runs NoDisk tt event (ready event None d) (begun w))
 
-pub tells_event : (event : Event) (d : DaemonState) (w : World) → HoldsOf d w → TellsEvent Gives calls_of faults_of event (begun w) (ready event None d) (answered_from event d w).1 (answered_from event d w).0 (event_from event d w).1 (event_from event d w).0
+pub tells_event : (event : Event) (d : DaemonState) (w : World) → HoldsOf d w → TellsEvent Gives calls_of faults_of event (begun w) (ready event None d) stored.NotNeeded (answered_from event d w).1 (answered_from event d w).0 (event_from event d w).1 (event_from event d w).0
 tells_event event d w h =
     let p = answered_from event d w in
     let made = made_by event d w h in
-    subst (λ (x : DaemonState × World). TellsEvent Gives calls_of faults_of event (begun w) (ready event None d) p.1 p.0 x.1 x.0) (sym (plays_event event d w))
-    (event_tells Gives calls_of faults_of counts_each event (begun w) (ready event None d) p.1 p.0 (play (handling p.0) p.1).1 (play (handling p.0) p.1).0 made.made refl made.along made.goes made.told (swept_tells p.0 p.1))
+    subst (λ (x : DaemonState × World). TellsEvent Gives calls_of faults_of event (begun w) (ready event None d) stored.NotNeeded p.1 p.0 x.1 x.0) (sym (plays_event event d w))
+    (event_tells Gives calls_of faults_of counts_each event (begun w) (ready event None d) stored.NotNeeded p.1 p.0 (play (handling p.0) p.1).1 (play (handling p.0) p.1).0 made.made refl made.along made.goes made.told (swept_tells p.0 p.1))
 
 swept_once : (a : DaemonState) (m : World) → unsettled_names a.sweep.entries ≡ [] → HoldsOf a m → AllDistinct (unsettled_names (play (handling a) m).0.sweep.entries)
 swept_once a m nameless h =

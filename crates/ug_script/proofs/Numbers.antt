@@ -27,9 +27,8 @@ use Rattle.ug_core.specs.Event.{DaemonState, has_numbers, is_low, ready}
 use Rattle.ug_core.specs.Policy.{Judging, policy_answer, policy_later}
 use Rattle.ug_script.proofs.Spent.{Spends, found, sweeping_spends}
 use Rattle.ug_script.specs.Setup.{SetupState}
-use Rattle.ug_core.specs.Answering.{answering}
 use Rattle.ug_core.specs.declared.daemon.Event.{Event}
-use Rattle.ug_script.specs.Replay.{answered_from, event_from}
+use Rattle.ug_script.specs.Replay.{answered_from, answering, event_from}
 use Rattle.ug_script.proofs.Answers.{AnswersSo, answering_ways}
 use Rattle.ug_script.proofs.Lawful.{Holds, answered_holds, plays_event, plays_sweep}
 

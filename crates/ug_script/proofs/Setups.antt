@@ -16,7 +16,8 @@ use Rattle.ug_conf.specs.Settings.{defaults}
 use Rattle.ug_conf.specs.Texts.{setting_line}
 use Rattle.ug_lines.specs.LineReading.{lines_read, on_line, then_on}
 use Rattle.ug_core.specs.Starting.{permanent_entries}
-use Rattle.ug_core.specs.Policy.{Judging, as_given}
+use Rattle.ug_core.specs.Policy.{Judging}
+use Rattle.ug_rules.specs.RuleFile.{as_given}
 use Rattle.ug_core.specs.Verdicts.{IsLater}
 use Rattle.ug_script.specs.declared.step.AccessLine.{AccessLine}
 use Rattle.ug_script.specs.declared.step.SetupLine.{SetupLine}

@@ -18,6 +18,7 @@ use Rattle.ug_print.specs.RuleTexts.{rules_text_of}
 use Rattle.ug_store.specs.Disk.{Disk}
 use Rattle.ug_store.specs.History.{HoldsOnly}
 use Rattle.ug_store.specs.Scripted.{disk_told}
+use Rattle.ug_core.specs.declared.storing.Stored.TheVariants as stored
 use Rattle.ug_console.specs.Fold.{Outcome, Writes, Refused, Going, plays}
 use Rattle.ug_script.specs.declared.step.Step.{Step}
 use Rattle.ug_script.specs.declared.step.Step.TheVariants.{Schedule, Event, Restart}
@@ -34,6 +35,7 @@ happened_at event s w = record {
   kernel = w.kernel;
   disk = disk_told (disk_in s);
   before = daemon_in s;
+  became = stored.NotNeeded;
   kernel_answered = (answered_from event (daemon_in s) w).1.kernel;
   answered = (answered_from event (daemon_in s) w).0;
   kernel_after = (event_of event s w).1.kernel;

@@ -10,6 +10,7 @@ use Rattle.ug_core.specs.Event.{has_numbers, ready}
 use Rattle.ug_core.specs.Laws.{AnswersEvent, Handled, TellsEvent}
 use Rattle.ug_core.specs.declared.daemon.Event.{Event}
 use Rattle.ug_store.specs.Scripted.{forgetting}
+use Rattle.ug_core.specs.declared.storing.Stored.TheVariants as stored
 use Rattle.ug_console.specs.Fold.{Going, plays}
 use Rattle.ug_script.specs.Script.{Script, daemon_in, disk_in}
 use Rattle.ug_script.specs.Replay.{answered_from, event_of, script_step}
@@ -26,9 +27,9 @@ calls_of w = w.calls
 -- name; each that failed is told with its number and its count, and no other is; no name is told twice as unsettled; and none of the
 -- entries tells want of memory, as a script refuses none.
 pub record IsLawfulEvent (event : Event) (s : Script) (w : World) : Type 0 where
-  pub answers : AnswersEvent event w.kernel (ready event None (daemon_in s)) (answered_from event (daemon_in s) w).1.kernel (answered_from event (daemon_in s) w).0
+  pub answers : AnswersEvent event w.kernel (ready event None (daemon_in s)) stored.NotNeeded (answered_from event (daemon_in s) w).1.kernel (answered_from event (daemon_in s) w).0
   pub handled : Handled (answered_from event (daemon_in s) w).1.kernel (answered_from event (daemon_in s) w).0 (event_of event s w).1.kernel (event_of event s w).0
-  pub faults : TellsEvent Gives calls_of faults_of event (begun w) (ready event None (daemon_in s)) (answered_from event (daemon_in s) w).1 (answered_from event (daemon_in s) w).0 (event_of event s w).1 (event_of event s w).0
+  pub faults : TellsEvent Gives calls_of faults_of event (begun w) (ready event None (daemon_in s)) stored.NotNeeded (answered_from event (daemon_in s) w).1 (answered_from event (daemon_in s) w).0 (event_of event s w).1 (event_of event s w).0
   pub once : AllDistinct (unsettled_names (event_of event s w).0.sweep.entries)
   pub room : tells_memory (event_of event s w).0.sweep.entries ≡ false
 

@@ -1,7 +1,8 @@
 -- What each line of a script writes, and what it leaves.
 use Rattle.std.specs.Prelude.{◌≡◌, ℕ, ◌+◌, ◌-◌, true, false, nat_eq, cond, List, [], ◌∷◌, ◌++◌, codes, decimal, Option, Some, None, Result, Ok, Err, flat_map}
 use Rattle.std.specs.Cmp.Lexicographic.{pointwise}
-use Rattle.ug_kernel.specs.Tree.{Prog, then}
+use Rattle.ug_kernel.specs.Tree.{Prog, Return, then}
+use Rattle.ug_types.specs.Principals.{Named}
 use Rattle.ug_kernel.specs.declared.device.Device.{Device}
 use Rattle.ug_sysfs.specs.Queue.{with_move}
 use Rattle.ug_sysfs.specs.World.{World, begun, moved, over}
@@ -11,9 +12,12 @@ use Rattle.ug_lines.specs.Lines.{lines_of}
 use Rattle.ug_proto.specs.declared.reply.Reply.{Reply}
 use Rattle.ug_proto.specs.Replies.{reply_text}
 use Rattle.ug_play.specs.Play.{play, tells_memory}
-use Rattle.ug_core.specs.Answering.{answering}
+use Rattle.ug_core.specs.Answering.{acting, asking}
+use Rattle.ug_core.specs.Storing.{with_changes}
+use Rattle.ug_core.specs.declared.choosing.Choice.{Choice}
 use Rattle.ug_core.specs.Event.{DaemonState, handling, has_numbers, ready}
 use Rattle.ug_core.specs.declared.daemon.Event.{Event}
+use Rattle.ug_core.specs.declared.daemon.Event.TheVariants.{Sweep, Order}
 use Rattle.ug_console.specs.Fold.{Outcome, Writes, Refused, BadLine, InputTooLong, is_within}
 use Rattle.ug_console.specs.Runs.{Steps}
 use Rattle.ug_console.specs.declared.machine.Ran.{Ran}
@@ -108,6 +112,15 @@ planned (plan.Fail f) w = record w { fails = w.fails ++ f ∷ [] }
 -- an event's entries tell want of memory
 abbrev pub tells : DaemonState → Type 0
 tells d = tells_memory d.sweep.entries ≡ true
+
+-- what is done of an order, with what it changes: nothing of that has to be saved
+abbrev pub doing : Named → DaemonState → Choice → Prog DaemonState
+doing who d choice = acting who (with_changes choice.change d) choice.deed
+
+-- the order of an event; a sweep alone has none
+abbrev pub answering : DaemonState → Event → Prog DaemonState
+answering d (Sweep moment) = Return d
+answering d (Order moment who line) = then (asking d who line) (doing who d)
 
 -- An event as the world fixes it: its order is answered, and then comes the sweep. No save is pending, so it asks nothing of the disk.
 abbrev pub event_tree : Event → DaemonState → Prog DaemonState

@@ -84,6 +84,7 @@ fn settings_of(alloc: Global, setup: &Setup) -> Result<Settings, NoMemory>
     settings.present_device = given.present_device;
     settings.present_controller = given.present_controller;
     settings.inserted = given.inserted;
+    settings.with_port = given.with_port;
     Ok(settings)
 }
 

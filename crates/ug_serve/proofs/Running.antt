@@ -17,6 +17,7 @@ use Rattle.ug_core.specs.Policy.{Judging}
 use Rattle.ug_core.specs.Event.{DaemonState, IsStarted, ready}
 use Rattle.ug_core.specs.Durable.{KeepsFile}
 use Rattle.ug_core.specs.Laws.{AnswersEvent, Handled}
+use Rattle.ug_core.specs.declared.storing.Stored.{Stored}
 use Rattle.ug_core.specs.Chain.{Happened, Chain, StaysOnDisk, journal}
 use Rattle.ug_core.proofs.Answered.{answered_stands}
 use Rattle.ug_store.specs.Disk.{Disk}
@@ -64,10 +65,10 @@ record IsChained (events : List TurnEvent) (k : Kernel) (o : Option Disk) (d : D
   entries_are : journal hs ≡ without_drops (events_entries events)
   chain : Chain k o d hs l p e
 
-chained_more : (x : TurnEvent) (xs : List TurnEvent) (tried : Option Saved) (k : Kernel) (o : Option Disk) (d : DaemonState) (j : Kernel) (a : DaemonState) (m : Kernel) (n : Option Disk) (b : DaemonState) (l : Kernel) (p : Option Disk) (e : DaemonState)
-    → b.sweep.entries ≡ without_drops x.entries → AnswersEvent x.event k (ready x.event tried d) j a → Handled j a m b → KeepsFile (λ (y : Option Disk). y) o d n b → IsChained xs m n b l p e → IsChained (x ∷ xs) k o d l p e
-chained_more x xs tried k o d j a m n b l p e is answers handled file c = record {
-  hs = record { event = x.event; tried = tried; kernel = k; disk = o; before = d; kernel_answered = j; answered = a; kernel_after = m; disk_after = n; after = b } ∷ c.hs;
+chained_more : (x : TurnEvent) (xs : List TurnEvent) (tried : Option Saved) (k : Kernel) (o : Option Disk) (d : DaemonState) (became : Stored) (j : Kernel) (a : DaemonState) (m : Kernel) (n : Option Disk) (b : DaemonState) (l : Kernel) (p : Option Disk) (e : DaemonState)
+    → b.sweep.entries ≡ without_drops x.entries → AnswersEvent x.event k (ready x.event tried d) became j a → Handled j a m b → KeepsFile (λ (y : Option Disk). y) x.event o d n b → IsChained xs m n b l p e → IsChained (x ∷ xs) k o d l p e
+chained_more x xs tried k o d became j a m n b l p e is answers handled file c = record {
+  hs = record { event = x.event; tried = tried; kernel = k; disk = o; before = d; became = became; kernel_answered = j; answered = a; kernel_after = m; disk_after = n; after = b } ∷ c.hs;
   events_are = ap (λ (es : List Event). x.event ∷ es) c.events_are;
   entries_are = ap (λ (es : List Entry). b.sweep.entries ++ es) c.entries_are ∙ (ap (λ (es : List Entry). es ++ without_drops (events_entries xs)) is ∙ sym (drops_append x.entries (events_entries xs)));
   chain = (unmoving k, rests o, refl, record { answers = answers; handled = handled; file = file }, c.chain);
@@ -133,9 +134,9 @@ module _ {Y D : Type 0} (begins : Y → Y → Type 0) (gives : Y → (call : Cal
         λ sound stand.
             let begins_so : DaemonState = ready x.event h.1.handled.tried c.daemon in
             let answers = now.2 sound stand in
-            let behind = answered_stands x.event now.0 begins_so swept.0 h.1.handled.answered sound stand answers in
+            let behind = answered_stands x.event now.0 begins_so h.1.handled.became swept.0 h.1.handled.answered sound stand answers in
             let handled : Handled swept.0 h.1.handled.answered later.0 m.daemon = swept.2 behind.0 behind.1 in
-            chained_more x xs h.1.handled.tried now.0 (disk_told c.disk) c.daemon swept.0 h.1.handled.answered later.0 (disk_told m.disk) m.daemon l (disk_told d.disk) d.daemon h.1.entries answers handled h.1.handled.file
+            chained_more x xs h.1.handled.tried now.0 (disk_told c.disk) c.daemon h.1.handled.became swept.0 h.1.handled.answered later.0 (disk_told m.disk) m.daemon l (disk_told d.disk) d.daemon h.1.entries answers handled h.1.handled.file
             (later.2 handled.law.fair.sound (stands_after swept.0 h.1.handled.answered later.0 m.daemon handled)),
       )
 

@@ -2,7 +2,7 @@ use Rattle.std.proofs.Common.{◌≡◌, ℕ, [], refl, sym, ap, subst, ◌∙�
 use Rattle.ug_kernel.specs.Tree.{Runs}
 use Rattle.ug_store.specs.Store.{RunsDisk}
 use Rattle.ug_table.specs.Order.{StandInOrder}
-use Rattle.ug_core.specs.Answering.{answering}
+use Rattle.ug_core.specs.Laws.{RunsAnswer}
 use Rattle.ug_core.specs.Event.{DaemonState, daemon_of, tried_with, ready, trying}
 use Rattle.ug_audit.proofs.Noting.{live_members}
 use Rattle.ug_audit.proofs.Texts.{all_entries}
@@ -20,8 +20,9 @@ sweep-requires-clause-nameless g c =
     let tried = c.save_pending-tried.result in
     let is : daemon_of c.save_pending-tried.new.self ≡ ready event tried d = c.save_pending-tried.ensures.daemon ∙ ap (λ (x : DaemonState). tried_with tried x) c.begin.ensures.daemon in
     let began = g.met.Y.Sysfs.began c.args.sysfs.now c.begin-2.new.self c.begin-2.ensures in
-    let answers : Runs g.Y.Sysfs.gives c.begin-2.new.self (answering (ready event tried d) event) (daemon_of c.answer.new.self) c.answer.new.sysfs = subst (λ (x : DaemonState). Runs g.Y.Sysfs.gives c.begin-2.new.self (answering x event) (daemon_of c.answer.new.self) c.answer.new.sysfs) is c.answer.ensures.runs in
-    (answering_made g.Y.Sysfs.gives g.Y.Sysfs.calls g.Y.Sysfs.faults g.met.Y.Sysfs.counted event c.begin-2.new.self (ready event tried d) c.answer.new.sysfs (daemon_of c.answer.new.self) began.1 (subst (λ (n : ℕ). StandInOrder n c.args.self.now.table.standings) c.next_number-next.ensures.next c.next_number-next.ensures.standings) (ready_failures event tried d) (ready_names event tried d) answers).nameless
+    let a : DaemonState = daemon_of c.answer-stored.new.self in
+    let answers = subst (λ (x : DaemonState). RunsAnswer g.Y.Sysfs.gives g.D.RuleDisk.keeps event c.begin-2.new.self c.save_pending-tried.new.disk x c.answer-stored.result c.answer-stored.new.sysfs c.answer-stored.new.disk a) is c.answer-stored.ensures.runs in
+    (answering_made g.Y.Sysfs.gives g.Y.Sysfs.calls g.Y.Sysfs.faults g.met.Y.Sysfs.counted g.D.RuleDisk.keeps event c.begin-2.new.self c.save_pending-tried.new.disk (ready event tried d) c.answer-stored.result c.answer-stored.new.sysfs c.answer-stored.new.disk a began.1 (subst (λ (n : ℕ). StandInOrder n c.args.self.now.table.standings) c.next_number-next.ensures.next c.next_number-next.ensures.standings) (ready_failures event tried d) (ready_names event tried d) answers).nameless
 
 pub returns-clause-handles : goal.returns-clause-handles
 unfolding trying
@@ -29,43 +30,48 @@ returns-clause-handles g c =
     let event = c.args.event.now in
     let d : DaemonState = daemon_of c.args.self.now in
     let tried = c.save_pending-tried.result in
+    let became = c.answer-stored.result in
     let is : daemon_of c.save_pending-tried.new.self ≡ ready event tried d = c.save_pending-tried.ensures.daemon ∙ ap (λ (x : DaemonState). tried_with tried x) c.begin.ensures.daemon in
-    let a : DaemonState = daemon_of c.answer.new.self in
+    let a : DaemonState = daemon_of c.answer-stored.new.self in
     let e : DaemonState = daemon_of c.sweep.new.self in
     let s = c.args.sysfs.now in
     let start = c.begin-2.new.self in
-    let middle = c.answer.new.sysfs in
+    let middle = c.answer-stored.new.sysfs in
     let t = c.sweep.new.sysfs in
     let o = c.args.disk.now in
-    let p = c.save_pending-tried.new.disk in
+    let q = c.save_pending-tried.new.disk in
+    let p = c.answer-stored.new.disk in
     let began = g.met.Y.Sysfs.began s start c.begin-2.ensures in
-    let tries : RunsDisk g.D.RuleDisk.keeps o (trying d) tried p = subst (λ (x : DaemonState). RunsDisk g.D.RuleDisk.keeps o (trying x) tried p) c.begin.ensures.daemon c.save_pending-tried.ensures.runs in
-    let answers : Runs g.Y.Sysfs.gives start (answering (ready event tried d) event) a middle = subst (λ (x : DaemonState). Runs g.Y.Sysfs.gives start (answering x event) a middle) is c.answer.ensures.runs in
-    let made = answering_made g.Y.Sysfs.gives g.Y.Sysfs.calls g.Y.Sysfs.faults g.met.Y.Sysfs.counted event start (ready event tried d) middle a began.1 (subst (λ (n : ℕ). StandInOrder n c.args.self.now.table.standings) c.next_number-next.ensures.next c.next_number-next.ensures.standings) (ready_failures event tried d) (ready_names event tried d) answers in
-    let law = answering_told g.Y.Sysfs.gives g.Y.Sysfs.told g.met.Y.Sysfs.did event start (ready event tried d) middle a answers in
-    let tells = event_tells g.Y.Sysfs.gives g.Y.Sysfs.calls g.Y.Sysfs.faults g.met.Y.Sysfs.counted event start (ready event tried d) middle a t e made.made began.1 made.along made.goes made.told c.sweep.ensures.tells in
+    let tries : RunsDisk g.D.RuleDisk.keeps o (trying d) tried q = subst (λ (x : DaemonState). RunsDisk g.D.RuleDisk.keeps o (trying x) tried q) c.begin.ensures.daemon c.save_pending-tried.ensures.runs in
+    let answers : RunsAnswer g.Y.Sysfs.gives g.D.RuleDisk.keeps event start q (ready event tried d) became middle p a = subst (λ (x : DaemonState). RunsAnswer g.Y.Sysfs.gives g.D.RuleDisk.keeps event start q x became middle p a) is c.answer-stored.ensures.runs in
+    let made = answering_made g.Y.Sysfs.gives g.Y.Sysfs.calls g.Y.Sysfs.faults g.met.Y.Sysfs.counted g.D.RuleDisk.keeps event start q (ready event tried d) became middle p a began.1 (subst (λ (n : ℕ). StandInOrder n c.args.self.now.table.standings) c.next_number-next.ensures.next c.next_number-next.ensures.standings) (ready_failures event tried d) (ready_names event tried d) answers in
+    let law = answering_told g.Y.Sysfs.gives g.Y.Sysfs.told g.met.Y.Sysfs.did g.D.RuleDisk.keeps event start q (ready event tried d) became middle p a answers in
+    let tells = event_tells g.Y.Sysfs.gives g.Y.Sysfs.calls g.Y.Sysfs.faults g.met.Y.Sysfs.counted event start (ready event tried d) became middle a t e made.made began.1 made.along made.goes made.told c.sweep.ensures.tells in
     record {
       tried = tried;
+      disk_tried = q;
       tries = tries;
       counted = c.save_pending-tried.ensures.counted;
-      file = file_kept g.Y.Sysfs.gives g.Y.Sysfs.calls g.Y.Sysfs.faults g.D.RuleDisk.keeps g.D.RuleDisk.told g.met.D.RuleDisk.did event start o d tried middle a t p e tries tells (event_keeps_rules g.Y.Sysfs.gives middle a e t c.sweep.ensures.runs);
       start = start;
       begun_there = c.begin-2.ensures;
+      became = became;
       middle = middle;
       answered = a;
       answers = answers;
       answers_law = λ l told. let x = law l told in (x.0, sym began.0 ∙ x.1, x.2);
+      counted_store = c.answer-stored.ensures.counted;
       runs = c.sweep.ensures.runs;
       law = c.sweep.ensures.law;
       faults_told = tells;
       once = c.sweep.ensures.once;
+      file = file_kept g.Y.Sysfs.gives g.Y.Sysfs.calls g.Y.Sysfs.faults g.D.RuleDisk.keeps g.D.RuleDisk.told g.met.D.RuleDisk.did event start o d tried q became middle p a t e tries answers tells (event_keeps_rules g.Y.Sysfs.gives middle a e t c.sweep.ensures.runs);
     }
 
 pub returns-clause-noted : goal.returns-clause-noted
 returns-clause-noted g c =
-    all_noted _ _ _ _ _ (all_noted _ _ _ _ _ (all_noted _ _ _ _ _ c.begin.ensures.noted c.save_pending-tried.ensures.noted) c.answer.ensures.noted) c.sweep.ensures.noted
+    all_noted _ _ _ _ _ (all_noted _ _ _ _ _ (all_noted _ _ _ _ _ c.begin.ensures.noted c.save_pending-tried.ensures.noted) c.answer-stored.ensures.noted) c.sweep.ensures.noted
 
 pub returns-clause-alone : goal.returns-clause-alone
 returns-clause-alone g c none =
     all_entries _ _ [] _ (live_members _ _ _ _ ∙ none)
-    (all_noted _ _ _ _ _ (all_noted _ _ _ _ _ (all_noted _ _ _ _ _ c.begin.ensures.noted c.save_pending-tried.ensures.noted) c.answer.ensures.noted) c.sweep.ensures.noted)
+    (all_noted _ _ _ _ _ (all_noted _ _ _ _ _ (all_noted _ _ _ _ _ c.begin.ensures.noted c.save_pending-tried.ensures.noted) c.answer-stored.ensures.noted) c.sweep.ensures.noted)

@@ -1,0 +1,574 @@
+-- What is kept along a run.
+use Rattle.std.proofs.Common.{◌≡◌, ℕ, ◌<◌, Bool, true, false, not, ◌||◌, is_none, nat_eq, List, [], ◌∷◌, ◌++◌, Option, Some, None, ◌⊎◌, inl, inr, refl, sym, ◌∙◌, ap, subst, append_assoc, append-nil, arith}
+use Rattle.std.specs.List.{list_any}
+use Rattle.ug_types.specs.Elements.{Has, AllDistinct}
+use Rattle.ug_types.specs.Principals.{Named}
+use Rattle.ug_types.specs.Names.{parent_of}
+use Rattle.ug_types.specs.declared.record.DeviceRecord.{DeviceRecord}
+use Rattle.ug_types.specs.declared.record.Judged.{Judged}
+use Rattle.ug_types.specs.declared.record.Judged.TheVariants as judged
+use Rattle.ug_types.specs.declared.verdict.Target.{Target}
+use Rattle.ug_types.specs.declared.verdict.Cause.{Cause}
+use Rattle.ug_types.specs.declared.verdict.Moment.{Moment}
+use Rattle.ug_types.proofs.Elements.{distinct_one, has_left, has_map, has_right, has_cases, map_has}
+use Rattle.ug_kernel.specs.declared.device.Device.{Device}
+use Rattle.ug_kernel.specs.declared.device.Effect.{Effect}
+use Rattle.ug_kernel.specs.Kernel.{Kernel, Moved, Begins, Moves}
+use Rattle.ug_kernel.specs.Quiet.{Grows, Quiet}
+use Rattle.ug_kernel.proofs.Grow.{quiet_grows}
+use Rattle.ug_kernel.proofs.Quiet.{stays_trans}
+use Rattle.ug_audit.specs.declared.entry.Entry.{Entry}
+use Rattle.ug_audit.specs.declared.entry.Entry.TheVariants as entry
+use Rattle.ug_conf.specs.declared.settings.Present.{Present}
+use Rattle.ug_conf.specs.declared.settings.Present.TheVariants as present
+use Rattle.ug_policy.specs.Deciding.{Found, decider}
+use Rattle.ug_policy.specs.Matching.{answer_by}
+use Rattle.ug_policy.specs.declared.entry.RuleEntry.{RuleEntry}
+use Rattle.ug_table.specs.Allowed.{allowed_records}
+use Rattle.ug_table.specs.Orders.{with_verdict, ordered_standing, with_order, verdict_entry, just_ordered}
+use Rattle.ug_table.specs.Standings.{numbered}
+use Rattle.ug_table.specs.State.{State}
+use Rattle.ug_table.specs.Laws.{IsDevice, Stand, IsTold, swept_before, wrote_entries, numbers_of, Account, IsFair, IsUnlisted, IsListed}
+use Rattle.ug_table.specs.declared.standing.Standing.{Standing}
+use Rattle.ug_table.proofs.Devices.{device_stays, stand_stays}
+use Rattle.ug_table.proofs.Ordered.{has_ordered, ordered_is, ordered_other, stand_ordered}
+use Rattle.ug_table.proofs.Says.{account_says}
+use Rattle.ug_table.proofs.Standings.{numbered_has}
+use Rattle.ug_core.specs.Changes.{CanChange, change_entry, changed_by}
+use Rattle.ug_core.specs.declared.changes.Change.{Change}
+use Rattle.ug_core.specs.declared.changes.Change.TheVariants.{Rules, Set}
+use Rattle.ug_core.specs.Policy.{Judging, cause_for, choice_for, kept, by_choice, found_for, verdict_of, policy_answer, policy_later}
+use Rattle.ug_core.specs.Event.{moment_of}
+use Rattle.ug_core.specs.InForce.{Decision, decision_of, decisions_in, or_else, on_number, last_decision, last_judged, standing_decision, in_force, Agree, is_ordered, unordered, numbers_on, given_numbers, Follow}
+use Rattle.ug_core.specs.Rulings.{CanTake, Changed, Decided, PolicyStep, Ruled, Ruling, Told, Was_changed, after_ruling, after_steps, at_moment, decision_by, told_by}
+use Rattle.ug_core.specs.Chain.{Happened, ready_of, changes_asked, decided, journal, told_if, told_in, told_of, was_done, tells_unlisted, has_listed, IsPlaced, WasAsked, WasOrdered}
+use Rattle.ug_core.proofs.InForce.{told_numbers, in_force_append, on_itself, on_another, unordered_append, unordered_all, decisions_append, decisions_more, has_decision, standing_found, fresh, numbers_append, follow_append, lift, lift_agree}
+use Rattle.ug_core.proofs.Steps.{after_ruled, can_ruled, can_then, ruled, ruled_has, ruled_unchanged, steps_append, told_ruled, told_then}
+use Rattle.ug_core.proofs.Walk.{after_rulings, decisions_by, IsAt, WasWritten, written_more, walk}
+use Rattle.ug_core.proofs.Known.{IsKnown, AreKnown, known_grow, known_still, known_new}
+use Rattle.ug_rules.specs.declared.edit.Edit.TheVariants.{Insert, Remove, Retarget}
+
+-- what the kernel does by itself, one after another
+
+pub moved_then : (c d e : Device) → Moved c d → Moved d e → Moved c e
+moved_then c d e a b = record { stays = stays_trans c d e a.stays b.stays; on = b.on ∙ a.on }
+
+pub begins_then : (cs ds es : List Device) → Begins cs ds → Begins ds es → Begins cs es
+begins_then [] ds es a b = tt
+begins_then (c ∷ cs) [] es a b = absurd a
+begins_then (c ∷ cs) (d ∷ ds) [] a b = absurd b
+begins_then (c ∷ cs) (d ∷ ds) (e ∷ es) a b = (moved_then c d e a.0 b.0, begins_then cs ds es a.1 b.1)
+
+pub moves_then : (j k l : Kernel) → Moves j k → Moves k l → Moves j l
+moves_then j k l a b = record { devices = begins_then j.devices k.devices l.devices a.devices b.devices; held = b.held ∙ a.held; log = b.log ∙ a.log }
+
+-- entries of events and of runs
+
+pub journal_append : (gs hs : List Happened) → journal (gs ++ hs) ≡ journal gs ++ journal hs
+journal_append [] hs = refl
+journal_append (g ∷ gs) hs = ap (λ (es : List Entry). g.after.sweep.entries ++ es) (journal_append gs hs) ∙ sym (append_assoc g.after.sweep.entries (journal gs) (journal hs))
+
+-- a write of an event, behind what was told before it
+pub written_lifted : (pre : List Entry) (ss : List Standing) (es : List Entry) (k : Kernel) (e : Effect) → Agree [] pre ss → WasWritten ss es k e → WasWritten [] (pre ++ es) k e
+written_lifted pre ss es k e agree w = record {
+  decision = w.decision;
+  judged = w.judged;
+  outcome = w.outcome;
+  front = pre ++ w.front;
+  back = w.back;
+  at = ap (λ (l : List Entry). pre ++ l) w.at ∙ sym (append_assoc pre w.front (wrote_entries w.decision.number w.decision.name e.write w.outcome ++ w.back));
+  may = w.may;
+  force = lift pre ss w.front w.decision.number w.decision agree w.force;
+  wanted = w.wanted;
+  device = w.device;
+}
+
+pub written_stays : (before : List Standing) (es : List Entry) (k l : Kernel) (e : Effect) → Grows k l → WasWritten before es k e → WasWritten before es l e
+written_stays before es k l e g w = record {
+  decision = w.decision;
+  judged = w.judged;
+  outcome = w.outcome;
+  front = w.front;
+  back = w.back;
+  at = w.at;
+  may = w.may;
+  force = w.force;
+  wanted = w.wanted;
+  device = device_stays k l e.device w.decision.name w.decision.held w.judged g w.device;
+}
+
+-- these effects were added to a log
+pub record AllWritten (es : List Entry) (first k : Kernel) : Type 0 where
+  pub added : List Effect
+  pub log : k.log ≡ first.log ++ added
+  pub each : (e : Effect) → Has added e → WasWritten [] es k e
+
+-- the standings that a sweep leaves have the verdicts in force
+pub agree_left : (before : List Standing) (next0 next : ℕ) (rest : List Entry) (after : List Standing) (k : Kernel) → Stand k before next0 → Follow next0 (told_numbers rest) next → ((s : Standing) → Has after s → IsTold before rest s) → Agree before rest after
+agree_left before next0 next rest after k stood follow told s h =
+    let f = fresh (decisions_in rest) next0 next follow in
+    elim (told s h) [
+      | inl b ↦
+          let lt : s.number < next0 = subst (λ (n : ℕ). n < next0) (sym b.2) (stood.numbers b.0 b.1) in
+          let is : decision_of b.0 ≡ decision_of s = cc (b.2, b.3, b.4, b.6, b.7) in
+          let found : standing_decision before s.number ≡ Some (decision_of b.0) = subst (λ (n : ℕ). standing_decision before n ≡ Some (decision_of b.0)) (sym b.2) (standing_found before b.0 stood.distinct b.1) in
+          ap (λ (o : Option Decision). or_else o (standing_decision before s.number)) (f.old s.number lt) ∙ found ∙ ap (λ (d : Decision). Some d) is
+      | inr t ↦ ap (λ (o : Option Decision). or_else o (standing_decision before s.number)) (f.told (decision_of s) (has_told rest s t)).1
+    ]
+  where
+    has_told : (rest : List Entry) (s : Standing) → Has rest (entry.Judged s.number s.name s.held s.verdict s.cause) → Has (decisions_in rest) (decision_of s)
+    has_told rest s t = has_decision rest s.number s.name s.held s.verdict s.cause t
+
+-- whether a listing has succeeded
+
+pub unlisted_has : (es : List Entry) → list_any tells_unlisted es ≡ true → IsUnlisted es
+unlisted_has [] h = let none : ⊥ = cc in absurd none
+unlisted_has (e ∷ es) h = by_entry e es h (unlisted_has es)
+  where
+    by_entry : (e : Entry) (es : List Entry) → (tells_unlisted e || list_any tells_unlisted es) ≡ true → (list_any tells_unlisted es ≡ true → IsUnlisted es) → IsUnlisted (e ∷ es)
+    by_entry (entry.UnsettledAll why) es h rest = (why, inl refl)
+    by_entry e es h rest = let k = rest h in (k.0, inr k.1)
+
+pub has_unlisted : (es : List Entry) → IsUnlisted es → list_any tells_unlisted es ≡ true
+has_unlisted [] h = absurd h.1
+has_unlisted (e ∷ es) h = elim h.1 [
+  | inl same ↦ ap (λ (x : Entry). tells_unlisted x || list_any tells_unlisted es) same
+  | inr later ↦ ap (λ (b : Bool). tells_unlisted e || b) (has_unlisted es (h.0, later)) ∙ any_true (tells_unlisted e)
+]
+  where
+    any_true : (b : Bool) → (b || true) ≡ true
+    any_true true = refl
+    any_true false = refl
+
+pub listed_after : (es : List Entry) (before after : Bool) → IsListed es before after → after ≡ (not (list_any tells_unlisted es) || before)
+listed_after es before after h = by_any (list_any tells_unlisted es) refl h
+  where
+    by_any : (b : Bool) → list_any tells_unlisted es ≡ b → IsListed es before after → after ≡ (not b || before)
+    by_any true is (inl l) = absurd (l.0 (unlisted_has es is))
+    by_any true is (inr u) = u.1
+    by_any false is (inl l) = l.1
+    by_any false is (inr u) = let same : true ≡ false = sym (has_unlisted es u.0) ∙ is in let none : ⊥ = cc in absurd none
+
+pub any_append : (es fs : List Entry) → list_any tells_unlisted fs ≡ false → list_any tells_unlisted (es ++ fs) ≡ list_any tells_unlisted es
+any_append [] fs none = none
+any_append (e ∷ es) fs none = ap (λ (b : Bool). tells_unlisted e || b) (any_append es fs none)
+
+pub listed_append : (hs : List Happened) (h : Happened) → has_listed (hs ++ h ∷ []) ≡ (not (list_any tells_unlisted h.after.sweep.entries) || has_listed hs)
+listed_append [] h = refl
+listed_append (g ∷ hs) h = ap (λ (b : Bool). not (list_any tells_unlisted g.after.sweep.entries) || b) (listed_append hs h) ∙ swapped (not (list_any tells_unlisted g.after.sweep.entries)) (not (list_any tells_unlisted h.after.sweep.entries)) (has_listed hs)
+  where
+    swapped : (a b c : Bool) → (a || (b || c)) ≡ (b || (a || c))
+    swapped true true c = refl
+    swapped true false c = refl
+    swapped false b c = refl
+
+-- rulings by two policies that differ in their context alone
+
+abbrev pub Alike : Judging → Judging → Type 0
+Alike p q = (m : Moment) → at_moment m p ≡ at_moment m q
+
+pub alike_after : (p q : Judging) (rs : List Ruling) → Alike p q → Alike (after_rulings p rs) (after_rulings q rs)
+alike_after p q [] h = h
+alike_after p q (r ∷ rs) h = λ m. ap (λ (x : Judging). at_moment m (after_rulings (policy_later x r.judged (is_none (parent_of r.name)) r.present r.on r.standings) rs)) (h r.moment)
+
+pub alike_decisions : (p q : Judging) (rs : List Ruling) → Alike p q → decisions_by p rs ≡ decisions_by q rs
+alike_decisions p q [] h = refl
+alike_decisions p q (r ∷ rs) h = ap (λ (x : Judging). made x) (h r.moment)
+  where
+    made : Judging → List Decision
+    made x =
+        let a : Target × Cause = policy_answer x r.judged (is_none (parent_of r.name)) r.present r.on r.standings in
+        record { number = r.number; name = r.name; held = r.held; verdict = a.0; cause = a.1 } ∷ decisions_by (policy_later x r.judged (is_none (parent_of r.name)) r.present r.on r.standings) rs
+
+-- the ruling of a decision
+pub record IsRuled (policy : Judging) (steps : List PolicyStep) (d : Decision) : Type 0 where
+  pub before : List PolicyStep
+  pub ruling : Ruling
+  pub after : List PolicyStep
+  pub at : steps ≡ before ++ Ruled ruling ∷ after
+  pub is : decision_by (after_steps policy before) ruling ≡ d
+
+pub ruling_of : (policy : Judging) (steps : List PolicyStep) (d : Decision) → Has (told_by policy steps) (Decided d) → IsRuled policy steps d
+ruling_of policy [] d h = absurd h
+ruling_of policy (Ruled r ∷ steps) d (inl same) = record { before = []; ruling = r; after = steps; at = refl; is = (let one : decision_by policy r ≡ d = cc in one) }
+ruling_of policy (Ruled r ∷ steps) d (inr h) =
+    let k = ruling_of (after_ruling policy r) steps d h in
+    record { before = Ruled r ∷ k.before; ruling = k.ruling; after = k.after; at = ap (λ (l : List PolicyStep). Ruled r ∷ l) k.at; is = k.is }
+ruling_of policy (Changed change ∷ steps) d (inl same) = let none : ⊥ = cc in absurd none
+ruling_of policy (Changed change ∷ steps) d (inr h) =
+    let k = ruling_of (changed_by change policy) steps d h in
+    record { before = Changed change ∷ k.before; ruling = k.ruling; after = k.after; at = ap (λ (l : List PolicyStep). Changed change ∷ l) k.at; is = k.is }
+
+pub step_has : (steps before after : List PolicyStep) (r : Ruling) → steps ≡ before ++ Ruled r ∷ after → Has steps (Ruled r)
+step_has steps before after r at = subst (λ (l : List PolicyStep). Has l (Ruled r)) (sym at) (has_right before (Ruled r ∷ after) (Ruled r) (inl refl))
+
+-- a decision that the events tell
+pub told_has : (hs : List Happened) (d : Decision) → Has (unordered (decisions_in (journal hs))) d → Has (told_of hs) (Decided d)
+told_has [] d h = absurd h
+told_has (g ∷ hs) d h =
+    let here : List Decision = unordered (decisions_in g.after.sweep.entries) in
+    let later : List Decision = unordered (decisions_in (journal hs)) in
+    let first : List Told = told_if (was_done g.after.reply) (changes_asked (ready_of g) g.event) in
+    let both = subst (λ (ds : List Decision). Has ds d) (ap (λ (ds : List Decision). unordered ds) (decisions_append g.after.sweep.entries (journal hs)) ∙ unordered_append (decisions_in g.after.sweep.entries) (decisions_in (journal hs))) h in
+    elim (has_cases here later d both) [
+      | inl b ↦ has_left (first ++ decided here) (told_of hs) (Decided d) (has_right first (decided here) (Decided d) (has_map Decided here d b))
+      | inr b ↦ has_right (first ++ decided here) (told_of hs) (Decided d) (told_has hs d b)
+    ]
+
+pub told_append : (hs : List Happened) (h : Happened) → told_of (hs ++ h ∷ []) ≡ told_of hs ++ told_in h
+told_append [] h = append-nil (told_in h)
+told_append (g ∷ hs) h = ap (λ (l : List Told). told_in g ++ l) (told_append hs h) ∙ sym (append_assoc (told_in g) (told_of hs) (told_in h))
+
+-- what is kept along a run, with all that was told of the policy so far, and all entries
+pub record SoFar (policy : Judging) (first k : Kernel) (hs : List Happened) (tl : List Told) (es : List Entry) (w : State Judging) : Type 0 where
+  pub stand : Stand k w.standings w.next
+  pub steps : List PolicyStep
+  pub told : tl ≡ told_by policy steps
+  pub can : CanTake policy steps
+  pub judge : Alike w.judge (after_steps policy steps)
+  pub placed : (r : Ruling) → Has steps (Ruled r) → IsPlaced hs k r
+  pub changed : (change : Change) → Has steps (Changed change) → WasAsked hs change
+  pub ordered : (d : Decision) → Has (decisions_in es) d → is_ordered d.cause ≡ true → WasOrdered hs d
+  pub written : AllWritten es first k
+  pub numbers : Follow 1 (given_numbers es) w.next
+  pub agree : Agree [] es w.standings
+  pub known : AreKnown (decisions_in es) k w.standings
+
+pub placed_stays : (hs more : List Happened) (k l : Kernel) (r : Ruling) → Grows k l → IsPlaced hs k r → IsPlaced (hs ++ more) l r
+placed_stays hs more k l r g p = record {
+  earlier = p.earlier;
+  event = p.event;
+  later = p.later ++ more;
+  in_run = ap (λ (x : List Happened). x ++ more) p.in_run ∙ append_assoc p.earlier (p.event ∷ p.later) more;
+  front = p.front;
+  back = p.back;
+  verdict = p.verdict;
+  cause = p.cause;
+  in_event = p.in_event;
+  moment = p.moment;
+  present = p.present;
+  device = device_stays k l r.device r.name r.held r.judged g p.device;
+  probed = p.probed;
+  stand = p.stand;
+  left = p.left;
+  marked = p.marked;
+}
+
+pub asked_stays : (hs more : List Happened) (change : Change) → WasAsked hs change → WasAsked (hs ++ more) change
+asked_stays hs more change a = record {
+  event = a.event;
+  in_run = has_left hs more a.event a.in_run;
+  moment = a.moment;
+  who = a.who;
+  line = a.line;
+  is_order = a.is_order;
+  asked = a.asked;
+  reads = a.reads;
+  asks = a.asks;
+  granted = a.granted;
+}
+
+pub ordered_stays : (hs more : List Happened) (d : Decision) → WasOrdered hs d → WasOrdered (hs ++ more) d
+ordered_stays hs more d o = record {
+  earlier = o.earlier;
+  event = o.event;
+  later = o.later ++ more;
+  in_run = ap (λ (x : List Happened). x ++ more) o.in_run ∙ append_assoc o.earlier (o.event ∷ o.later) more;
+  moment = o.moment;
+  who = o.who;
+  line = o.line;
+  is_order = o.is_order;
+  cause = o.cause;
+  permanent = o.permanent;
+  asked = o.asked;
+  granted = o.granted;
+  standing = o.standing;
+  stands = o.stands;
+  name = o.name;
+  held = o.held;
+  in_event = o.in_event;
+}
+
+-- nothing is written, while the run gets longer
+pub still_so : (policy : Judging) (first k l : Kernel) (hs more : List Happened) (tl : List Told) (es : List Entry) (w : State Judging) → Quiet k l → SoFar policy first k hs tl es w → SoFar policy first l (hs ++ more) tl es w
+still_so policy first k l hs more tl es w quiet so =
+    let g = quiet_grows k l quiet in
+    record {
+      stand = stand_stays k l w.standings w.next g so.stand;
+      steps = so.steps;
+      told = so.told;
+      can = so.can;
+      judge = so.judge;
+      placed = λ r a. placed_stays hs more k l r g (so.placed r a);
+      changed = λ c a. asked_stays hs more c (so.changed c a);
+      ordered = λ d a is. ordered_stays hs more d (so.ordered d a is);
+      written = record { added = so.written.added; log = quiet.log ∙ so.written.log; each = λ e a. written_stays [] es k l e g (so.written.each e a) };
+      numbers = so.numbers;
+      agree = so.agree;
+      known = known_grow (decisions_in es) k l w.standings g so.known;
+    }
+
+-- entries that tell no decision, and a judge whose context alone is another
+pub noted_so : (policy : Judging) (first k : Kernel) (hs : List Happened) (tl : List Told) (es fs : List Entry) (w v : State Judging) → decisions_in fs ≡ [] → v.standings ≡ w.standings → v.next ≡ w.next → Alike v.judge w.judge → SoFar policy first k hs tl es w → SoFar policy first k hs tl (es ++ fs) v
+noted_so policy first k hs tl es fs w v none standings next judge so =
+    let same : decisions_in (es ++ fs) ≡ decisions_in es = decisions_more es fs none in
+    record {
+      stand = subst (λ (n : ℕ). Stand k v.standings n) (sym next) (subst (λ (ss : List Standing). Stand k ss w.next) (sym standings) so.stand);
+      steps = so.steps;
+      told = so.told;
+      can = so.can;
+      judge = λ m. judge m ∙ so.judge m;
+      placed = so.placed;
+      changed = so.changed;
+      ordered = λ d a is. so.ordered d (subst (λ (ds : List Decision). Has ds d) same a) is;
+      written = record { added = so.written.added; log = so.written.log; each = λ e a. written_more [] es fs k e (so.written.each e a) };
+      numbers = subst (λ (n : ℕ). Follow 1 (given_numbers (es ++ fs)) n) (sym next) (subst (λ (ds : List Decision). Follow 1 (numbers_on (unordered ds)) w.next) (sym same) so.numbers);
+      agree = λ s a. ap (λ (ds : List Decision). or_else (last_decision ds s.number) None) same ∙ so.agree s (subst (λ (ss : List Standing). Has ss s) standings a);
+      known = subst (λ (ss : List Standing). AreKnown (decisions_in (es ++ fs)) k ss) (sym standings) (subst (λ (ds : List Decision). AreKnown ds k w.standings) (sym same) so.known);
+    }
+
+-- rules or a setting are changed
+
+pub entry_silent : (change : Change) (next : ℕ) → decisions_in (change_entry change next ∷ []) ≡ []
+entry_silent (Rules (Insert after rule temporary)) next = refl
+entry_silent (Rules (Remove id)) next = refl
+entry_silent (Rules (Retarget id rule)) next = refl
+entry_silent (Set set) next = refl
+
+pub at_changed : (change : Change) (p : Judging) (m : Moment) → at_moment m (changed_by change p) ≡ changed_by change (at_moment m p)
+at_changed (Rules edit) p m = refl
+at_changed (Set set) p m = refl
+
+pub changed_so : (policy : Judging) (first k : Kernel) (hs : List Happened) (tl : List Told) (es : List Entry) (w : State Judging) (change : Change) → CanChange change w.judge.rules → WasAsked hs change → SoFar policy first k hs tl es w
+    → SoFar policy first k hs (tl ++ Was_changed change ∷ []) (es ++ change_entry change w.judge.next ∷ []) (record w { judge = changed_by change w.judge; entries = w.entries ++ change_entry change w.judge.next ∷ [] })
+changed_so policy first k hs tl es w change can was so =
+    let e : Entry = change_entry change w.judge.next in
+    let noted = noted_so policy first k hs tl es (e ∷ []) w (record w { entries = w.entries ++ e ∷ [] }) (entry_silent change w.judge.next) refl refl (λ m. refl) so in
+    let q : Judging = after_steps policy so.steps in
+    let one : List PolicyStep = Changed change ∷ [] in
+    let rules : w.judge.rules ≡ q.rules = ap (λ (j : Judging). j.rules) (so.judge (record { 0 = 0 })) in
+    record {
+      stand = noted.stand;
+      steps = so.steps ++ one;
+      told = ap (λ (l : List Told). l ++ Was_changed change ∷ []) so.told ∙ sym (told_then policy so.steps one);
+      can = can_then policy so.steps one so.can (subst (λ (rs : List RuleEntry). CanChange change rs) rules can, tt);
+      judge = λ m. at_changed change w.judge m ∙ ap (λ (j : Judging). changed_by change j) (so.judge m) ∙ sym (at_changed change q m) ∙ ap (λ (j : Judging). at_moment m j) (sym (steps_append policy so.steps one));
+      placed = λ r a. elim (has_cases so.steps one (Ruled r) a) [
+        | inl b ↦ so.placed r b
+        | inr b ↦ elim b [ inl same ↦ (let none : ⊥ = cc in absurd none) | inr none ↦ absurd none ]
+      ];
+      changed = λ c a. elim (has_cases so.steps one (Changed c) a) [
+        | inl b ↦ so.changed c b
+        | inr b ↦ elim b [ inl same ↦ (let is : change ≡ c = cc in subst (λ (x : Change). WasAsked hs x) is was) | inr none ↦ absurd none ]
+      ];
+      ordered = noted.ordered;
+      written = noted.written;
+      numbers = noted.numbers;
+      agree = noted.agree;
+      known = noted.known;
+    }
+
+-- a verdict that was ordered is set and told
+
+pub record OneOrdered (number : ℕ) (verdict : Target) (who : Named) (ss : List Standing) (x s : Standing) : Type 0 where
+  pub before : Standing
+  pub has : Has ss before
+  pub is : ((s.number ≡ number) × (s ≡ with_verdict verdict who x)) ⊎ ((s.number ≡ number → ⊥) × (s ≡ before))
+  pub same_number : s.number ≡ before.number
+  pub same_held : s.held ≡ before.held
+
+pub one_ordered : (number : ℕ) (verdict : Target) (who : Named) (ss : List Standing) (x s : Standing) → AllDistinct (numbers_of ss) → numbered number ss ≡ Some x → Has (with_order number verdict who ss) s → OneOrdered number verdict who ss x s
+one_ordered number verdict who ss x s distinct at a =
+    let m = map_has (ordered_standing number verdict who) ss s a in
+    by_number (nat_eq m.0.number number) m.0 refl m.1 m.2
+  where
+    by_number : (b : Bool) (y : Standing) → nat_eq y.number number ≡ b → Has ss y → ordered_standing number verdict who y ≡ s → OneOrdered number verdict who ss x s
+    by_number true y is has same =
+        let n : y.number ≡ number = grind (arith, is) in
+        let was = numbered_has number ss x at in
+        let one : y ≡ x = distinct_one (λ (v : Standing). v.number) ss y x distinct has was.0 (n ∙ sym was.1) in
+        let now : s ≡ with_verdict verdict who x = sym same ∙ ordered_is number verdict who y n ∙ ap (λ (v : Standing). with_verdict verdict who v) one in
+        record { before = y; has = has; is = inl (ap (λ (v : Standing). v.number) now ∙ was.1, now); same_number = ap (λ (v : Standing). v.number) now ∙ sym (ap (λ (v : Standing). v.number) one); same_held = ap (λ (v : Standing). v.held) now ∙ sym (ap (λ (v : Standing). v.held) one) }
+    by_number false y is has same =
+        let now : s ≡ y = sym same ∙ ordered_other number verdict who y is in
+        record { before = y; has = has; is = inr (λ n. let other : y.number ≡ number = sym (ap (λ (v : Standing). v.number) now) ∙ n in grind (arith, is, other), now); same_number = ap (λ (v : Standing). v.number) now; same_held = ap (λ (v : Standing). v.held) now }
+
+pub ordered_so : (policy : Judging) (first k : Kernel) (hs : List Happened) (tl : List Told) (es : List Entry) (w : State Judging) (number : ℕ) (verdict : Target) (who : Named) (x : Standing) → numbered number w.standings ≡ Some x → WasOrdered hs (decision_of (with_verdict verdict who x)) → SoFar policy first k hs tl es w → SoFar policy first k hs tl (es ++ verdict_entry (with_verdict verdict who x) ∷ []) (just_ordered number verdict who x w)
+ordered_so policy first k hs tl es w number verdict who x at was so =
+    let y : Standing = with_verdict verdict who x in
+    let c : Decision = decision_of y in
+    let ds : List Decision = decisions_in es in
+    let ss : List Standing = with_order number verdict who w.standings in
+    let whole : decisions_in (es ++ verdict_entry y ∷ []) ≡ ds ++ c ∷ [] = decisions_append es (verdict_entry y ∷ []) in
+    let same : unordered (decisions_in (es ++ verdict_entry y ∷ [])) ≡ unordered ds = ap (λ (l : List Decision). unordered l) whole ∙ unordered_append ds (c ∷ []) ∙ append-nil (unordered ds) in
+    let numbered_x = numbered_has number w.standings x at in
+    let device = so.stand.devices x numbered_x.0 in
+    record {
+      stand = stand_ordered k w.standings w.next number verdict who so.stand;
+      steps = so.steps;
+      told = so.told;
+      can = so.can;
+      judge = so.judge;
+      placed = so.placed;
+      changed = so.changed;
+      ordered = λ d a is. elim (has_cases ds (c ∷ []) d (subst (λ (l : List Decision). Has l d) whole a)) [
+        | inl b ↦ so.ordered d b is
+        | inr b ↦ elim b [ inl e ↦ subst (λ (v : Decision). WasOrdered hs v) e was | inr none ↦ absurd none ]
+      ];
+      written = record { added = so.written.added; log = so.written.log; each = λ e a. written_more [] es (verdict_entry y ∷ []) k e (so.written.each e a) };
+      numbers = subst (λ (l : List Decision). Follow 1 (numbers_on l) w.next) (sym same) so.numbers;
+      agree = λ s a. in_force_append [] es (verdict_entry y ∷ []) s.number ∙ agree_one s (one_ordered number verdict who w.standings x s so.stand.distinct at a) numbered_x.1;
+      known = λ d a. elim (has_cases ds (c ∷ []) d (subst (λ (l : List Decision). Has l d) whole a)) [
+        | inl b ↦ known_ordered d (so.known d b)
+        | inr b ↦ elim b [
+          | inl e ↦ subst (λ (v : Decision). IsKnown ss k v) e (record { i = device.0; judged = x.judged; device = device.1; stands = inl (y, has_ordered number verdict who w.standings x at, refl, refl) })
+          | inr none ↦ absurd none
+        ]
+      ];
+    }
+  where
+    agree_one : (s : Standing) → OneOrdered number verdict who w.standings x s → x.number ≡ number → or_else (last_judged (verdict_entry (with_verdict verdict who x) ∷ []) s.number) (in_force [] es s.number) ≡ Some (decision_of s)
+    agree_one s o n =
+        let c : Decision = decision_of (with_verdict verdict who x) in
+        elim o.is [
+          | inl e ↦ ap (λ (v : Option Decision). or_else v (in_force [] es s.number)) (subst (λ (m : ℕ). on_number m c ≡ Some c) (n ∙ sym e.0) (on_itself c)) ∙ ap (λ (v : Standing). Some (decision_of v)) (sym e.1)
+          | inr e ↦ ap (λ (v : Option Decision). or_else v (in_force [] es s.number)) (on_another s.number c (λ m. e.0 (sym m ∙ n))) ∙ (subst (λ (v : Standing). in_force [] es v.number ≡ Some (decision_of v)) (sym e.1) (so.agree o.before o.has))
+        ]
+
+    known_ordered : (d : Decision) → IsKnown w.standings k d → IsKnown (with_order number verdict who w.standings) k d
+    known_ordered d h = record {
+      i = h.i;
+      judged = h.judged;
+      device = h.device;
+      stands = elim h.stands [
+        | inl s ↦ inl (ordered_standing number verdict who s.0, has_map (ordered_standing number verdict who) w.standings s.0 s.1, s.2, s.3)
+        | inr gone ↦ inr gone
+      ];
+    }
+
+-- a policy orders nothing
+
+pub kept_given : (on : Bool) → is_ordered (kept on).1 ≡ false
+kept_given true = refl
+kept_given false = refl
+
+pub cause_given : (was : Bool) → is_ordered (cause_for was) ≡ false
+cause_given true = refl
+cause_given false = refl
+
+pub rule_given : (implicit : Target) (found : Option RuleEntry) → is_ordered (answer_by implicit found).1 ≡ false
+rule_given implicit None = refl
+rule_given implicit (Some e) = refl
+
+pub choice_given : (choice : Present) (was on : Bool) (implicit : Target) (found : Found) → is_ordered (by_choice choice was on implicit found).1 ≡ false
+choice_given present.Allow was on implicit found = cause_given was
+choice_given present.Block was on implicit found = cause_given was
+choice_given present.Reject was on implicit found = cause_given was
+choice_given present.Keep was on implicit found = kept_given on
+choice_given present.Apply was on implicit found = rule_given implicit (decider found)
+
+pub verdict_given : (p : Judging) (records : List DeviceRecord) (judged : Judged) (controller was on : Bool) → is_ordered (verdict_of p records judged controller was on).1 ≡ false
+verdict_given p records (judged.Malformed kind place) controller was on = refl
+verdict_given p records (judged.Good dev) controller was on = choice_given (choice_for p.classes controller was) was on p.classes.implicit (found_for p records dev)
+
+-- the ruling of a decision of a sweep
+pub record IsRulingOf (p : Judging) (rs : List Ruling) (d : Decision) : Type 0 where
+  pub policy : Judging
+  pub ruling : Ruling
+  pub has : Has rs ruling
+  pub is : decision_by policy ruling ≡ d
+
+pub ruling_in : (p : Judging) (rs : List Ruling) (d : Decision) → Has (decisions_by p rs) d → IsRulingOf p rs d
+ruling_in p rs d h =
+    let x = ruling_of p (ruled rs) d (subst (λ (l : List Told). Has l (Decided d)) (sym (told_ruled p rs)) (has_map Decided (decisions_by p rs) d h)) in
+    record { policy = after_steps p x.before; ruling = x.ruling; has = ruled_has rs x.ruling (step_has (ruled rs) x.before x.after x.ruling x.at); is = x.is }
+
+pub decision_given : (p : Judging) (rs : List Ruling) (d : Decision) → Has (decisions_by p rs) d → is_ordered d.cause ≡ false
+decision_given p rs d h =
+    let x = ruling_in p rs d h in
+    let r : Ruling = x.ruling in
+    ap (λ (v : Decision). is_ordered v.cause) (sym x.is) ∙ verdict_given (at_moment r.moment x.policy) (allowed_records r.standings) r.judged (is_none (parent_of r.name)) r.present r.on
+
+-- the device of a decision of a sweep
+pub device_of : (policy : Judging) (rs : List Ruling) (l : Kernel) (d : Decision) → ((r : Ruling) → Has rs r → IsDevice l r.device r.name r.held r.judged) → Has (decisions_by policy rs) d → (i : ℕ) × (judged : Judged) × IsDevice l i d.name d.held judged
+device_of policy rs l d devices h =
+    let x = ruling_in policy rs d h in
+    let r : Ruling = x.ruling in
+    (r.device, r.judged, subst (λ (y : Decision). IsDevice l r.device y.name y.held r.judged) x.is (devices r x.has))
+
+-- a sweep, or the writes of an order
+pub fair_so : (policy : Judging) (first : Kernel) (hs : List Happened) (tl : List Told) (es : List Entry) (moment : Moment) (present : Bool) (k l : Kernel) (w v : State Judging) → at_moment moment w.judge ≡ w.judge → (fair : IsFair policy_answer policy_later present swept_before k w l v) → ((r : Ruling) → IsAt present moment k l w.standings fair.rest r → IsPlaced hs l r) → SoFar policy first k hs tl es w → SoFar policy first l hs (tl ++ decided (unordered (decisions_in fair.rest))) (es ++ fair.rest) v
+fair_so policy first hs tl es moment present k l w v at fair placing so =
+    let rest : List Entry = fair.rest in
+    let ss : List Standing = w.standings in
+    let account = subst (λ (j : Judging). Account policy_answer policy_later present swept_before k l ss k.log j w.next rest l.log v.judge v.next) (sym at) fair.account in
+    let x = walk present moment k l ss k.log w.judge w.next so.stand.numbers so.stand.distinct rest l.log v.judge v.next account in
+    let says = account_says policy_answer policy_later present swept_before k l ss k.log w.judge w.next rest l.log v.judge v.next so.stand.numbers fair.account in
+    let plain : (d : Decision) → Has (decisions_in rest) d → is_ordered d.cause ≡ false = λ d a. decision_given w.judge x.rulings d (subst (λ (ds : List Decision). Has ds d) x.told a) in
+    let inner : unordered (decisions_in rest) ≡ decisions_in rest = unordered_all (decisions_in rest) plain in
+    let all : decisions_in (es ++ rest) ≡ decisions_in es ++ decisions_in rest = decisions_append es rest in
+    let given : unordered (decisions_in (es ++ rest)) ≡ unordered (decisions_in es) ++ decisions_in rest = ap (λ (ds : List Decision). unordered ds) all ∙ unordered_append (decisions_in es) (decisions_in rest) ∙ ap (λ (ds : List Decision). unordered (decisions_in es) ++ ds) inner in
+    let known : AreKnown (decisions_in es ++ decisions_in rest) l v.standings = λ c a. elim (has_cases (decisions_in es) (decisions_in rest) c a) [
+      | inl b ↦ known_still (decisions_in es) k l ss v.standings w.next rest v.next fair.grows so.stand says fair.left so.known c b
+      | inr b ↦ known_new k l ss v.standings w.next rest v.next so.stand says fair.left (λ e i. device_of w.judge x.rulings l e (λ r z. (x.placed r z).device) (subst (λ (ds : List Decision). Has ds e) x.told i)) c b
+    ] in
+    record {
+      stand = fair.stand;
+      steps = so.steps ++ ruled x.rulings;
+      told = ap (λ (l : List Told). l ++ decided (unordered (decisions_in rest))) so.told
+          ∙ ap (λ (ds : List Decision). told_by policy so.steps ++ decided ds) (inner ∙ x.told ∙ alike_decisions w.judge (after_steps policy so.steps) x.rulings so.judge)
+          ∙ ap (λ (l : List Told). told_by policy so.steps ++ l) (sym (told_ruled (after_steps policy so.steps) x.rulings))
+          ∙ sym (told_then policy so.steps (ruled x.rulings));
+      can = can_then policy so.steps (ruled x.rulings) so.can (can_ruled (after_steps policy so.steps) x.rulings);
+      judge = λ m. ap (λ (j : Judging). at_moment m j) x.judge_is ∙ alike_after w.judge (after_steps policy so.steps) x.rulings so.judge m ∙ ap (λ (j : Judging). at_moment m j) (sym (after_ruled (after_steps policy so.steps) x.rulings) ∙ sym (steps_append policy so.steps (ruled x.rulings)));
+      placed = λ r a. elim (has_cases so.steps (ruled x.rulings) (Ruled r) a) [
+        | inl b ↦ placed_same hs k l r fair.grows (so.placed r b)
+        | inr b ↦ placing r (x.placed r (ruled_has x.rulings r b))
+      ];
+      changed = λ c a. elim (has_cases so.steps (ruled x.rulings) (Changed c) a) [
+        | inl b ↦ so.changed c b
+        | inr b ↦ absurd (ruled_unchanged x.rulings c b)
+      ];
+      ordered = λ d a is. elim (has_cases (decisions_in es) (decisions_in rest) d (subst (λ (ds : List Decision). Has ds d) all a)) [
+        | inl b ↦ so.ordered d b is
+        | inr b ↦ (let other = plain d b in let none : ⊥ = cc in absurd none)
+      ];
+      written = record {
+        added = so.written.added ++ x.added;
+        log = x.log_is ∙ ap (λ (ws : List Effect). ws ++ x.added) so.written.log ∙ append_assoc first.log so.written.added x.added;
+        each = λ e a. elim (has_cases so.written.added x.added e a) [
+          | inl b ↦ written_more [] es rest l e (written_stays [] es k l e fair.grows (so.written.each e b))
+          | inr b ↦ written_lifted es ss rest l e so.agree (x.each e b)
+        ];
+      };
+      numbers = subst (λ (ds : List Decision). Follow 1 (numbers_on ds) v.next) (sym given) (subst (λ (ns : List ℕ). Follow 1 ns v.next) (sym (numbers_append (unordered (decisions_in es)) (decisions_in rest))) (follow_append 1 (given_numbers es) (told_numbers rest) w.next v.next so.numbers x.numbers));
+      agree = lift_agree es ss v.standings rest so.agree (agree_left ss w.next v.next rest v.standings k so.stand x.numbers fair.left.told);
+      known = subst (λ (ds : List Decision). AreKnown ds l v.standings) (sym all) known;
+    }
+  where
+    placed_same : (hs : List Happened) (k l : Kernel) (r : Ruling) → Grows k l → IsPlaced hs k r → IsPlaced hs l r
+    placed_same hs k l r g p = subst (λ (x : List Happened). IsPlaced x l r) (append-nil hs) (placed_stays hs [] k l r g p)
+
+pub placed_new : (hs : List Happened) (h : Happened) (rest : List Entry) (r : Ruling) → h.after.sweep.entries ≡ h.answered.sweep.entries ++ (rest ++ entry.End h.answered.event ∷ []) → h.answered.sweep.listed ≡ has_listed hs
+    → IsAt (not h.answered.sweep.listed) (moment_of h.event) h.kernel_answered h.kernel_after h.answered.sweep.standings rest r → IsPlaced (hs ++ h ∷ []) h.kernel_after r
+placed_new hs h rest r entries listed p =
+    let y : Entry = entry.End h.answered.event in
+    let this : Entry = entry.Judged r.number r.name r.held p.verdict p.cause in
+    record {
+      earlier = hs;
+      event = h;
+      later = [];
+      in_run = refl;
+      front = p.front;
+      back = p.back ++ y ∷ [];
+      verdict = p.verdict;
+      cause = p.cause;
+      in_event = entries ∙ ap (λ (es : List Entry). h.answered.sweep.entries ++ (es ++ y ∷ [])) p.at ∙ ap (λ (es : List Entry). h.answered.sweep.entries ++ es) (append_assoc p.front (this ∷ p.back) (y ∷ []));
+      moment = p.moment_is;
+      present = p.present_is ∙ ap (λ (b : Bool). not b) listed;
+      device = p.device;
+      probed = p.probed;
+      stand = p.stand;
+      left = p.left;
+      marked = p.marked;
+    }

@@ -1,0 +1,112 @@
+-- The rules that are saved of a list once it is edited.
+use Rattle.std.proofs.Common.{◌≡◌, ℕ, Bool, true, false, not, ◌&&◌, ◌||◌, cond, List, [], ◌∷◌, ◌++◌, Option, Some, None, inl, inr, refl, sym, ◌∙◌, ap, append_assoc, append-nil, ◌≤◌, length, subst}
+use Rattle.std.specs.Prelude.{flat_map}
+use Rattle.std.proofs.lemmas.Bool.{eqb-true}
+use Rattle.ug_types.specs.declared.rule.After.{After}
+use Rattle.ug_types.specs.declared.rule.After.TheVariants as after
+use Rattle.ug_types.specs.declared.rule.Rule.{Rule}
+use Rattle.ug_policy.specs.Edits.{aimed, followed, has_id, inserted, new_entry, removed, retargeted}
+use Rattle.ug_policy.specs.declared.entry.RuleEntry.{RuleEntry}
+use Rattle.ug_print.specs.RuleTexts.{rules_limit, rules_text_of}
+use Rattle.ug_rules.specs.RuleEdits.{EditReads, IsButForTarget, changes_file, edited_by, in_place, rules_after}
+use Rattle.ug_rules.specs.RuleFile.{FitsFile, permanent_rules, permanent_text, saved_of, saved_rule}
+use Rattle.ug_rules.specs.RulePlaces.{has_permanent}
+use Rattle.ug_rules.specs.declared.edit.Edit.{Edit}
+use Rattle.ug_rules.specs.declared.edit.Edit.TheVariants.{Insert, Remove, Retarget}
+
+pub permanent_append : (es fs : List RuleEntry) → permanent_rules (es ++ fs) ≡ permanent_rules es ++ permanent_rules fs
+permanent_append [] fs = refl
+permanent_append (e ∷ es) fs = ap (λ (v : List Rule). saved_of e ++ v) (permanent_append es fs) ∙ sym (append_assoc (saved_of e) (permanent_rules es) (permanent_rules fs))
+
+-- ---- in place of each rule
+
+-- where none is changed
+places_same : (edit : Option Edit) → ((e : RuleEntry) → in_place edit e ≡ saved_of e) → (es : List RuleEntry) → flat_map (in_place edit) es ≡ permanent_rules es
+places_same edit same [] = refl
+places_same edit same (e ∷ es) = ap (λ (v : List Rule). v ++ flat_map (in_place edit) es) (same e) ∙ ap (λ (v : List Rule). saved_of e ++ v) (places_same edit same es)
+
+places_followed : (id : ℕ) (added : RuleEntry) (es : List RuleEntry) → permanent_rules (flat_map (followed id added) es) ≡ flat_map (in_place (Some (Insert (after.Rule id) added.rule added.temporary))) es
+places_followed id added [] = refl
+places_followed id added (e ∷ es) =
+    permanent_append (followed id added e) (flat_map (followed id added) es)
+    ∙ ap (λ (v : List Rule). v ++ permanent_rules (flat_map (followed id added) es)) (by_id (has_id id e))
+    ∙ ap (λ (v : List Rule). (saved_of e ++ cond (has_id id e) (saved_of added) []) ++ v) (places_followed id added es)
+  where
+    by_id : (b : Bool) → permanent_rules (cond b (e ∷ added ∷ []) (e ∷ [])) ≡ saved_of e ++ cond b (saved_of added) []
+    by_id true = ap (λ (v : List Rule). saved_of e ++ v) (append-nil (saved_of added))
+    by_id false = refl
+
+places_removed : (id : ℕ) (es : List RuleEntry) → permanent_rules (removed id es) ≡ flat_map (in_place (Some (Remove id))) es
+places_removed id [] = refl
+places_removed id (e ∷ es) = by_id (has_id id e) (places_removed id es)
+  where
+    by_id : (b : Bool) → permanent_rules (removed id es) ≡ flat_map (in_place (Some (Remove id))) es → permanent_rules (cond (not b) (e ∷ removed id es) (removed id es)) ≡ cond b [] (saved_of e) ++ flat_map (in_place (Some (Remove id))) es
+    by_id true rest = rest
+    by_id false rest = ap (λ (v : List Rule). saved_of e ++ v) rest
+
+places_retargeted : (id : ℕ) (rule : Rule) (es : List RuleEntry) → IsButForTarget id rule es → permanent_rules (retargeted id rule.target es) ≡ flat_map (in_place (Some (Retarget id rule))) es
+places_retargeted id rule [] h = refl
+places_retargeted id rule (e ∷ es) h =
+    ap (λ (v : List Rule). v ++ permanent_rules (retargeted id rule.target es)) (by_id (has_id id e) refl)
+    ∙ ap (λ (v : List Rule). saved_rule e.temporary (cond (has_id id e) rule e.rule) ++ v) (places_retargeted id rule es (λ f has. h f (inr has)))
+  where
+    by_id : (b : Bool) → has_id id e ≡ b → saved_of (cond b (aimed rule.target e) e) ≡ saved_rule e.temporary (cond b rule e.rule)
+    by_id true is = ap (λ (r : Rule). saved_rule e.temporary r) (h e (inl refl) (eqb-true e.id id is))
+    by_id false is = refl
+
+-- ---- the whole list
+
+inserted_rules : (place : After) (rule : Rule) (temporary : Bool) (next : ℕ) (es : List RuleEntry) → permanent_rules (inserted place (new_entry next rule temporary) es) ≡ rules_after (Some (Insert place rule temporary)) es
+inserted_rules after.End rule temporary next es =
+    permanent_append es (new_entry next rule temporary ∷ [])
+    ∙ ap (λ (v : List Rule). permanent_rules es ++ v) (append-nil (saved_rule temporary rule))
+    ∙ ap (λ (v : List Rule). v ++ saved_rule temporary rule) (sym (places_same (Some (Insert after.End rule temporary)) (λ e. refl) es))
+inserted_rules after.Front rule temporary next es =
+    ap (λ (v : List Rule). saved_rule temporary rule ++ v) (sym (places_same (Some (Insert after.Front rule temporary)) (λ e. refl) es) ∙ sym (append-nil (flat_map (in_place (Some (Insert after.Front rule temporary))) es)))
+inserted_rules (after.Rule id) rule temporary next es = places_followed id (new_entry next rule temporary) es ∙ sym (append-nil (flat_map (in_place (Some (Insert (after.Rule id) rule temporary))) es))
+
+removed_rules : (id : ℕ) (es : List RuleEntry) → permanent_rules (removed id es) ≡ rules_after (Some (Remove id)) es
+removed_rules id es = places_removed id es ∙ sym (append-nil (flat_map (in_place (Some (Remove id))) es))
+
+pub edited_rules : (edit : Edit) (next : ℕ) (es : List RuleEntry) → EditReads edit es → permanent_rules (edited_by edit next es) ≡ rules_after (Some edit) es
+edited_rules (Insert place rule temporary) next es reads = inserted_rules place rule temporary next es
+edited_rules (Remove id) next es reads = removed_rules id es
+edited_rules (Retarget id rule) next es reads = places_retargeted id rule es reads.1 ∙ sym (append-nil (flat_map (in_place (Some (Retarget id rule))) es))
+
+pub unedited_rules : (es : List RuleEntry) → permanent_rules es ≡ rules_after None es
+unedited_rules es = sym (places_same None (λ e. refl) es) ∙ sym (append-nil (flat_map (in_place None) es))
+
+-- ---- where no permanent rule is changed
+
+temporary_followed : (id : ℕ) (rule : Rule) (es : List RuleEntry) → flat_map (in_place (Some (Insert (after.Rule id) rule true))) es ≡ permanent_rules es
+temporary_followed id rule [] = refl
+temporary_followed id rule (e ∷ es) = ap (λ (v : List Rule). (saved_of e ++ v) ++ flat_map (in_place (Some (Insert (after.Rule id) rule true))) es) (by_id (has_id id e)) ∙ ap (λ (v : List Rule). v ++ flat_map (in_place (Some (Insert (after.Rule id) rule true))) es) (append-nil (saved_of e)) ∙ ap (λ (v : List Rule). saved_of e ++ v) (temporary_followed id rule es)
+  where
+    by_id : (b : Bool) → cond b (saved_rule true rule) [] ≡ []
+    by_id true = refl
+    by_id false = refl
+
+temporary_removed : (id : ℕ) (es : List RuleEntry) → has_permanent id es ≡ false → flat_map (in_place (Some (Remove id))) es ≡ permanent_rules es
+temporary_removed id [] h = refl
+temporary_removed id (e ∷ es) h = by_id (has_id id e) e.temporary refl h (temporary_removed id es)
+  where
+    by_id : (b t : Bool) → e.temporary ≡ t → ((b && not t) || has_permanent id es) ≡ false → (has_permanent id es ≡ false → flat_map (in_place (Some (Remove id))) es ≡ permanent_rules es) → cond b [] (saved_of e) ++ flat_map (in_place (Some (Remove id))) es ≡ saved_of e ++ permanent_rules es
+    by_id true true temporary k rest = rest k ∙ ap (λ (t : Bool). saved_rule t e.rule ++ permanent_rules es) (sym temporary)
+    by_id true false temporary k rest = let none : ⊥ = cc in absurd none
+    by_id false t temporary k rest = ap (λ (v : List Rule). saved_of e ++ v) (rest k)
+
+temporary_edit : (edit : Edit) (es : List RuleEntry) → changes_file edit es ≡ false → rules_after (Some edit) es ≡ permanent_rules es
+temporary_edit (Insert after.End rule true) es h = append-nil (flat_map (in_place (Some (Insert after.End rule true))) es) ∙ places_same (Some (Insert after.End rule true)) (λ e. refl) es
+temporary_edit (Insert after.Front rule true) es h = append-nil (flat_map (in_place (Some (Insert after.Front rule true))) es) ∙ places_same (Some (Insert after.Front rule true)) (λ e. refl) es
+temporary_edit (Insert (after.Rule id) rule true) es h = append-nil (flat_map (in_place (Some (Insert (after.Rule id) rule true))) es) ∙ temporary_followed id rule es
+temporary_edit (Insert place rule false) es h = let none : ⊥ = cc in absurd none
+temporary_edit (Remove id) es h = append-nil (flat_map (in_place (Some (Remove id))) es) ∙ temporary_removed id es h
+temporary_edit (Retarget id rule) es h = let none : ⊥ = cc in absurd none
+
+pub text_stays : (edit : Edit) (next : ℕ) (es : List RuleEntry) → changes_file edit es ≡ false → permanent_text (edited_by edit next es) ≡ permanent_text es
+text_stays (Insert place rule temporary) next es h = ap (λ (rs : List Rule). rules_text_of rs) (inserted_rules place rule temporary next es ∙ temporary_edit (Insert place rule temporary) es h)
+text_stays (Remove id) next es h = ap (λ (rs : List Rule). rules_text_of rs) (removed_rules id es ∙ temporary_edit (Remove id) es h)
+text_stays (Retarget id rule) next es h = let none : ⊥ = cc in absurd none
+
+pub fits_stays : (edit : Edit) (next : ℕ) (es : List RuleEntry) → changes_file edit es ≡ false → FitsFile es → FitsFile (edited_by edit next es)
+fits_stays edit next es h fits = subst (λ (text : List ℕ). length text ≤ rules_limit) (sym (text_stays edit next es h)) fits

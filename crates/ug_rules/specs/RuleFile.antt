@@ -1,0 +1,39 @@
+-- The rules that are saved, and the text of the rule file with them.
+use Rattle.std.specs.Prelude.{◌≡◌, ◌≤◌, ℕ, Bool, if◌then◌else◌, List, [], ◌∷◌, length, map, flat_map, Ok}
+use Rattle.ug_types.specs.declared.rule.Rule.{Rule}
+use Rattle.ug_rule.specs.Rules.{rule_read}
+use Rattle.ug_print.specs.RuleTexts.{rules_limit, rules_text_of}
+use Rattle.ug_print.specs.Words.{rule_text}
+use Rattle.ug_policy.specs.Edits.{new_entry}
+use Rattle.ug_policy.specs.declared.entry.RuleEntry.{RuleEntry}
+
+-- the rules of a list, in order
+abbrev pub rules_in : List RuleEntry → List Rule
+rules_in entries = map (λ e. e.rule) entries
+
+-- the rules as they were given, without their histories
+abbrev pub as_given : List RuleEntry → List RuleEntry
+as_given entries = map (λ e. new_entry e.id e.rule e.temporary) entries
+
+-- a rule is saved if it isn't temporary
+abbrev pub saved_rule : Bool → Rule → List Rule
+saved_rule temporary rule = if temporary then [] else rule ∷ []
+
+abbrev pub saved_of : RuleEntry → List Rule
+saved_of e = saved_rule e.temporary e.rule
+
+-- the permanent rules: those that aren't temporary
+abbrev pub permanent_rules : List RuleEntry → List Rule
+permanent_rules entries = flat_map saved_of entries
+
+-- the text of a rule file with them
+abbrev pub permanent_text : List RuleEntry → List ℕ
+permanent_text entries = rules_text_of (permanent_rules entries)
+
+-- which a rule file has room for
+abbrev pub FitsFile : List RuleEntry → Type 0
+FitsFile entries = length (permanent_text entries) ≤ rules_limit
+
+-- the rule reads again from its canonical text
+abbrev pub ReadsBack : Rule → Type 0
+ReadsBack rule = rule_read (rule_text rule) ≡ Ok rule

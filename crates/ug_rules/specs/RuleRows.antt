@@ -1,0 +1,17 @@
+-- The list of rules: usbguard(1), list-rules.
+use Rattle.std.specs.Prelude.{ℕ, Bool, if◌then◌else◌, List, [], ◌++◌, map, codes}
+use Rattle.ug_policy.specs.declared.entry.RuleEntry.{RuleEntry}
+use Rattle.ug_print.specs.Words.{rule_text}
+use Rattle.ug_rules.specs.Rows.{numbered_row}
+
+-- what is behind a temporary rule
+abbrev pub mark_text : Bool → List ℕ
+mark_text temporary = if temporary then codes " # temporary" else []
+
+-- its id and its canonical text
+unfoldable pub rule_row : RuleEntry → List ℕ
+rule_row entry = numbered_row entry.id (rule_text entry.rule) ++ mark_text entry.temporary
+
+-- in the order of the list
+abbrev pub rule_rows : List RuleEntry → List (List ℕ)
+rule_rows entries = map rule_row entries

@@ -1,0 +1,14 @@
+// The daemon's rules in order, what changes of them, and the text of the rule file with them.
+#![tactic(auto)]
+
+mod edit;
+mod file_text;
+mod kept_rules;
+mod laws;
+mod rows;
+mod rule_list;
+
+pub use edit::Edit;
+pub use kept_rules::KeptRules;
+pub use laws::made_rule_law;
+pub use rows::print_row;
