@@ -23,7 +23,6 @@ mod socket_link;
 mod socket_waiter;
 mod sysfs;
 mod tokens;
-mod waiter;
 mod zone;
 
 pub use auditor::WriterAuditor;
@@ -35,5 +34,4 @@ pub use socket_folder::SocketFolder;
 pub use socket_link::SocketLink;
 pub use socket_waiter::SocketWaiter;
 pub use sysfs::SysfsFolder;
-pub use waiter::SecondWaiter;
 pub use zone::LocalZone;

@@ -5,7 +5,6 @@ ghost use Rattle.ug_host.specs.Untold.{untold};
 
 use crate::announced::Announced;
 use crate::tokens::put_tokens;
-use crate::waiter::{LOOKS, PAUSE};
 use mio::{Events, Poll, Registry};
 use std::alloc::Global;
 use std::io;
@@ -17,8 +16,16 @@ use ug_types::{Ready, Waiter, Woken};
 /// The most tokens of a wait.
 const TOKENS: usize = 256;
 
+/// How many looks a wait has, with a pause between each and the next.
+const LOOKS: u32 = 50;
+
+/// Milliseconds between two looks.
+const PAUSE: u64 = 20;
+
 /// Waits for a second at most. It ends as soon as something comes at a socket of the links that were made with it, or the kernel
-/// announces any event, which it looks for every 20 milliseconds as `SecondWaiter` does. The sockets that are ready are told either way.
+/// announces any event, which it looks for every 20 milliseconds in a file such as `/sys/kernel/uevent_seqnum`; where that can't be
+/// read, it waits for sockets alone. What was announced between two waits ends the second at once, and the first wait ends at once
+/// too. The sockets that are ready are told either way.
 #[derive(Drop)]
 pub struct SocketWaiter<R> {
     announced: Announced<R>,

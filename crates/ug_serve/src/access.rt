@@ -33,7 +33,8 @@ struct Added {
 impl Added {
     fn add(&mut self, who: Principal, grants: &Grants) -> Result<(), NoMemory>
         ensures acl { OnOk result (self.new.acl ≡ self.old.acl ++ addition who grants.now ∷ []) }
-        ensures principals { OnOk result (self.new.principals.items ≡ self.old.principals.items ++ who ∷ []) }
+        ensures principals { OnOk result
+            (self.new.principals.items ≡ self.old.principals.items ++ who ∷ []) }
     {
         self.principals.push(who)?;
         self.acl.add(who, grants)?;
@@ -176,7 +177,8 @@ fn add_folder<F: ConfFiles>(
 
 fn add_users(users: &[Principal], added: &mut Added) -> Result<(), NoMemory>
     ensures acl { OnOk result (added.new.acl ≡ added.old.acl ++ user_additions users.now) }
-    ensures principals { OnOk result (added.new.principals.items ≡ added.old.principals.items ++ users.now) }
+    ensures principals { OnOk result
+        (added.new.principals.items ≡ added.old.principals.items ++ users.now) }
 {
     let all = Grants::all();
     for user in users {
@@ -207,7 +209,8 @@ pub fn read_access<F: ConfFiles>(
     settings: &Settings,
     files: &mut F,
 ) -> Result<Access, NotStarted>
-    ensures opens { OpensTo F.gives settings.now.users settings.now.access_folder files.old result files.new }
+    ensures opens { OpensTo F.gives settings.now.users settings.now.access_folder files.old result
+        files.new }
     ensures few { IfOk result (λ access. length access.principals < 2 ^ 32) }
     ensures counted { F.faults files.old ≤ F.faults files.new }
     ensures cause { result ≡ Err FilesFailed → Rose (F.faults files.old) (F.faults files.new) }

@@ -37,7 +37,8 @@ fn serve_order<Y: Sysfs, D: RuleDisk>(
     disk: &mut D,
     panel: &mut Panel,
 )
-    requires { IsTrue (has_numbers (daemon_of daemon.old) (Y.faults sysfs.old) (D.faults disk.old)) }
+    requires { IsTrue
+        (has_numbers (daemon_of daemon.old) (Y.faults sysfs.old) (D.faults disk.old)) }
     ensures { (e : TurnEvent) × (e.asked_by ≡ Some id) × (e.event ≡ order.now)
         × IsHandled Y.begins Y.gives Y.told Y.calls Y.faults D.keeps D.told D.faults
         (core_of (daemon_of daemon.old) sysfs.old disk.old

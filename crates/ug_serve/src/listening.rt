@@ -45,7 +45,8 @@ pub fn listen_for_all<N: Links>(
     links: &mut N,
 ) -> Result<(), NotListening>
     ensures listens { Talks N.gives links.old (listening principals.now) result links.new }
-    ensures cause { result ≡ Err NotListening.Failed → Rose (N.faults links.old) (N.faults links.new) }
+    ensures cause { result ≡ Err NotListening.Failed
+        → Rose (N.faults links.old) (N.faults links.new) }
     ensures counted { N.faults links.old ≤ N.faults links.new }
 {
     for who in principals {

@@ -40,7 +40,8 @@ fn notice_of(entry: &Entry) -> ArrayVec<u8, 515>
 }
 
 fn notify_of(server: &mut Server, acl: &Acl, entry: &Entry)
-    ensures { ChangesSessions (NotifiesIf (notice_section entry.now) acl.now entry.now) server.old server.new }
+    ensures { ChangesSessions (NotifiesIf (notice_section entry.now) acl.now entry.now) server.old
+        server.new }
 {
     if let Some(section) = section_of(entry) {
         server.notify(acl, section, notice_of(entry).as_slice());
@@ -85,9 +86,10 @@ fn watch_if(server: &mut Server, id: LinkId, granted: bool)
     }
 }
 
-/// SendsReply the order of that session, marks the session where it is to get notices, and puts the notices.
+/// Answers the order of that session, marks the session where it is to get notices, and puts the notices.
 pub fn respond(alloc: Global, server: &mut Server, id: LinkId, daemon: &Daemon<'_, ChaCha20Rng>)
-    ensures { ChangesSessions (Responds id (daemon_of daemon.now) daemon.now.report.entries.entries) server.old server.new }
+    ensures { ChangesSessions (Responds id (daemon_of daemon.now) daemon.now.report.entries.entries)
+        server.old server.new }
 {
     let report = daemon.report();
     answer(alloc, server, id, report.reply.as_ref());

@@ -68,10 +68,12 @@ pub fn start<'z, F: ConfFiles, D: RuleDisk>(
     ensures starts { (told : List Entry)
         × Opens F.gives D.keeps D.told D.faults D.aimed path.now
         (clock_of zone.entry) (words_of_seed seed)
-        files.old disk.old told (seen_by (λ s. started s.principals (daemon_of s.daemon)) result) files.new disk.new
+        files.old disk.old told (seen_by (λ s. started s.principals (daemon_of s.daemon)) result)
+        files.new disk.new
         × AreNoted told (members (λ b. ⟦<dyn Auditor as Auditor>⟧ b.vtable) panel.old)
         (members (λ b. ⟦<dyn Auditor as Auditor>⟧ b.vtable) panel.new) }
-    ensures files_cause { result ≡ Err FilesFailed → Rose (F.faults files.old) (F.faults files.new) }
+    ensures files_cause { result ≡ Err FilesFailed
+        → Rose (F.faults files.old) (F.faults files.new) }
     ensures disk_cause { result ≡ Err DiskFailed → Rose (D.faults disk.old) (D.faults disk.new) }
 {
     let settings = read_settings(alloc, path, files)?;

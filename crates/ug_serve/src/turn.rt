@@ -38,12 +38,15 @@ pub fn serve_turn<Y: Sysfs, D: RuleDisk, N: Links, W: Waiter, C: Clock>(
     clock: &mut C,
     panel: &mut Panel,
 ) -> TurnEnd
-    ensures turn { EndsTurn Y.begins Y.gives Y.told Y.calls Y.faults D.keeps D.told D.faults N.gives W.gives C.gives
+    ensures turn { EndsTurn Y.begins Y.gives Y.told Y.calls Y.faults D.keeps D.told D.faults
+        N.gives W.gives C.gives
         (turn_world (core_of (daemon_of daemon.old) sysfs.old disk.old
-        (members (λ b. ⟦<dyn Auditor as Auditor>⟧ b.vtable) panel.old)) server.old links.old waiter.old clock.old)
+        (members (λ b. ⟦<dyn Auditor as Auditor>⟧ b.vtable) panel.old))
+        server.old links.old waiter.old clock.old)
         result
         (turn_world (core_of (daemon_of daemon.new) sysfs.new disk.new
-        (members (λ b. ⟦<dyn Auditor as Auditor>⟧ b.vtable) panel.new)) server.new links.new waiter.new clock.new) }
+        (members (λ b. ⟦<dyn Auditor as Auditor>⟧ b.vtable) panel.new))
+        server.new links.new waiter.new clock.new) }
     ensures cause { result ≡ TurnEnd.WaitFailed → Rose (W.faults waiter.old) (W.faults waiter.new) }
     ensures counted { IsCounted (W.faults waiter.old) (W.faults waiter.new) }
 {
@@ -78,12 +81,15 @@ pub fn serve_turns<Y: Sysfs, D: RuleDisk, N: Links, W: Waiter, C: Clock>(
     panel: &mut Panel,
 ) -> TurnEnd
     ensures turns { (made : List Turned)
-        × ServesTurns Y.begins Y.gives Y.told Y.calls Y.faults D.keeps D.told D.faults N.gives W.gives C.gives turns
+        × ServesTurns Y.begins Y.gives Y.told Y.calls Y.faults D.keeps D.told D.faults
+        N.gives W.gives C.gives turns
         (turn_world (core_of (daemon_of daemon.old) sysfs.old disk.old
-        (members (λ b. ⟦<dyn Auditor as Auditor>⟧ b.vtable) panel.old)) server.old links.old waiter.old clock.old)
+        (members (λ b. ⟦<dyn Auditor as Auditor>⟧ b.vtable) panel.old))
+        server.old links.old waiter.old clock.old)
         made result
         (turn_world (core_of (daemon_of daemon.new) sysfs.new disk.new
-        (members (λ b. ⟦<dyn Auditor as Auditor>⟧ b.vtable) panel.new)) server.new links.new waiter.new clock.new) }
+        (members (λ b. ⟦<dyn Auditor as Auditor>⟧ b.vtable) panel.new))
+        server.new links.new waiter.new clock.new) }
     ensures cause { result ≡ TurnEnd.WaitFailed → Rose (W.faults waiter.old) (W.faults waiter.new) }
     ensures counted { W.faults waiter.old ≤ W.faults waiter.new }
 {

@@ -1,5 +1,6 @@
 pub mod Accepting
 pub mod Answering
+pub mod Arriving
 pub mod Counting
 pub mod Due
 pub mod Handed

@@ -67,7 +67,8 @@ pub fn accept_once<N: Links>(
     links: &mut N,
     turn: &mut Turn,
 ) -> bool
-    ensures { Talks N.gives links.old (accepting_once (listener.old, (sessions.old.items, turn.old)))
+    ensures { Talks N.gives links.old
+        (accepting_once (listener.old, (sessions.old.items, turn.old)))
         (result, (listener.new, (sessions.new.items, turn.new))) links.new }
 {
     match links.accept(alloc, listener.number) {
@@ -118,7 +119,8 @@ pub fn accept_some<N: Links>(
     links: &mut N,
     turn: &mut Turn,
 )
-    ensures { Talks N.gives links.old (upto accepting_once n (listener.old, (sessions.old.items, turn.old)))
+    ensures { Talks N.gives links.old
+        (upto accepting_once n (listener.old, (sessions.old.items, turn.old)))
         (listener.new, (sessions.new.items, turn.new)) links.new }
 {
     for i in 0..n {
@@ -139,7 +141,8 @@ pub fn accept_one<N: Links>(
     links: &mut N,
     turn: &mut Turn,
 )
-    ensures { Talks N.gives links.old (accepting_one ready.now listener.old (sessions.old.items, turn.old))
+    ensures { Talks N.gives links.old
+        (accepting_one ready.now listener.old (sessions.old.items, turn.old))
         (listener.new, (sessions.new.items, turn.new)) links.new }
 {
     if listener.owed {
@@ -158,7 +161,8 @@ pub fn accept_all<N: Links>(
     links: &mut N,
     turn: &mut Turn,
 )
-    ensures { Talks N.gives links.old (accepting_all ready.now listeners.old (sessions.old.items, turn.old))
+    ensures { Talks N.gives links.old
+        (accepting_all ready.now listeners.old (sessions.old.items, turn.old))
         (listeners.new, (sessions.new.items, turn.new)) links.new }
 {
     for i in 0..listeners.len() {
@@ -176,7 +180,8 @@ pub fn accept_kept<N: Links>(
     links: &mut N,
     turn: &mut Turn,
 )
-    ensures { Talks N.gives links.old (accepting_all ready.now listeners.old.items (sessions.old.items, turn.old))
+    ensures { Talks N.gives links.old
+        (accepting_all ready.now listeners.old.items (sessions.old.items, turn.old))
         (listeners.new.items, (sessions.new.items, turn.new)) links.new }
 {
     accept_all(alloc, ready, listeners, sessions, links, turn);

@@ -19,9 +19,10 @@ ghost use Rattle.ug_sessions.specs.Due.{Dues, over_due, Accounts, Answered, Watc
 ghost use Rattle.ug_sessions.specs.Answering.{Each, RefusesIf, is_due, AnswersOne, WatchesOne, NoticesOne, GivesUpOne, HandsOne, HandsFirst, Passes};
 ghost use Rattle.ug_sessions.specs.Waiting.{lines_waiting};
 ghost use Rattle.ug_sessions.specs.Accepting.{accepting_all};
+ghost use Rattle.ug_sessions.specs.Arriving.{AreArrivals, CountsTurn};
 ghost use Rattle.ug_sessions.specs.declared.session.Listener.{Listener};
 ghost use Rattle.ug_sessions.specs.Handed.{HoldsLines, bytes_read};
-ghost use Rattle.ug_sessions.specs.Sessions.{is_open_session, new_session};
+ghost use Rattle.ug_sessions.specs.Sessions.{is_open_session, new_session, none_counted};
 ghost use Rattle.ug_sessions.specs.Sending.{flushing_one, flushing_all, EndsWaiting};
 
 /// What a session was sent, followed by its unsent text while it is open, is its due text; once it is closed, what it was
@@ -46,7 +47,8 @@ pub fn saying_keeps_account()
 /// The refusal of a line that is too long keeps it: it stands in the due text where it is put.
 pub fn refusing_keeps_account()
     ensures { (a : Dues) (sent : List ℕ) (s t : Session)
-        → RefusesIf (is_due s) s t → Accounts a sent s → Accounts (cond (is_due s) (over_due a) a) sent t }
+        → RefusesIf (is_due s) s t → Accounts a sent s
+        → Accounts (cond (is_due s) (over_due a) a) sent t }
 {}
 
 /// What is said to sessions keeps the accounts of all of them.
@@ -85,7 +87,8 @@ pub fn flushing_keeps_accounts()
 pub fn reading_tries_no_other()
     ensures { (ready : List Ready) (sessions : List Session) (turn : Turn) (steps : List LinkStep)
         (r : List Session × Turn)
-        → Path (reading_all ready sessions turn) steps r → AllRead (IsOneRead ready sessions) steps }
+        → Path (reading_all ready sessions turn) steps r
+        → AllRead (IsOneRead ready sessions) steps }
 {}
 
 /// What is read keeps the accounts of all sessions: nothing is sent, and a session that is closed was sent a front of what was due.
@@ -100,12 +103,15 @@ pub fn reading_keeps_accounts()
 /// A session's lines are handed out in order, each once, and none is made up; nothing that is said to it changes that. Lines are
 /// lost only where it is closed for backlog or for want of memory.
 pub fn handing_keeps_lines()
-    ensures begins { (id : LinkId) (principal : Named) → HoldsLines [] [] (new_session id principal) }
+    ensures begins { (id : LinkId) (principal : Named)
+        → HoldsLines [] [] (new_session id principal) }
     ensures hands { (handed : List (List ℕ)) (bytes line : List ℕ) (s t : Session)
-        → HandsOne s (Some line) t → HoldsLines handed bytes s → HoldsLines (handed ++ line ∷ []) bytes t }
+        → HandsOne s (Some line) t → HoldsLines handed bytes s
+        → HoldsLines (handed ++ line ∷ []) bytes t }
     ensures passes { (handed : List (List ℕ)) (bytes : List ℕ) (s t : Session)
         → HandsOne s None t → HoldsLines handed bytes s → HoldsLines handed bytes t }
-    ensures answers { (handed : List (List ℕ)) (bytes : List ℕ) (id : LinkId) (text : List ℕ) (s t : Session)
+    ensures answers { (handed : List (List ℕ)) (bytes : List ℕ) (id : LinkId) (text : List ℕ)
+        (s t : Session)
         → AnswersOne id text s t → HoldsLines handed bytes s → HoldsLines handed bytes t }
     ensures watches { (handed : List (List ℕ)) (bytes : List ℕ) (id : LinkId) (s t : Session)
         → WatchesOne id s t → HoldsLines handed bytes s → HoldsLines handed bytes t }
@@ -118,7 +124,8 @@ pub fn handing_keeps_lines()
 
 /// What is read of a session goes on with its lines, however the bytes are cut.
 pub fn reading_keeps_lines()
-    ensures { (ready : List Ready) (s : Session) (turn : Turn) (steps : List LinkStep) (r : Session × Turn)
+    ensures { (ready : List Ready) (s : Session) (turn : Turn) (steps : List LinkStep)
+        (r : Session × Turn)
         → Path (reading_one ready s turn) steps r → (handed : List (List ℕ)) (bytes : List ℕ)
         → HoldsLines handed bytes s → HoldsLines handed (bytes ++ bytes_read s.id steps) r.0 }
 {}
@@ -150,7 +157,8 @@ pub fn handing_out_ends()
 pub fn accepting_tries_no_other()
     ensures { (ready : List Ready) (listeners : List Listener) (x : List Session × Turn)
         (steps : List LinkStep) (r : List Listener × (List Session × Turn))
-        → Path (accepting_all ready listeners x) steps r → AllAccepted (IsOneTried ready listeners) steps }
+        → Path (accepting_all ready listeners x) steps r
+        → AllAccepted (IsOneTried ready listeners) steps }
 {}
 
 /// Handing out a request keeps the accounts of all sessions, where no two have one id: each that is passed at its limit is told
@@ -159,14 +167,16 @@ pub fn handing_keeps_accounts()
     ensures hands { (holds : Section → Named → Bool) (steps : List LinkStep) (said : List Said)
         (ss ts : List Session) (id : LinkId) (principal : Named) (line : List ℕ)
         → HaveOwnIds ss → (h : HandsFirst ss id principal line ts)
-        → AllAccounts holds steps said ss → AllAccounts holds steps (said ++ overlong_all h.front) ts }
+        → AllAccounts holds steps said ss
+        → AllAccounts holds steps (said ++ overlong_all h.front) ts }
     ensures passes { (holds : Section → Named → Bool) (steps : List LinkStep) (said : List Said)
         (ss ts : List Session)
         → HaveOwnIds ss → Each Passes ss ts
         → AllAccounts holds steps said ss → AllAccounts holds steps (said ++ overlong_all ss) ts }
     ensures gives_up { (holds : Section → Named → Bool) (steps : List LinkStep) (said : List Said)
         (id : LinkId) (ss ts : List Session)
-        → Each (GivesUpOne id) ss ts → AllAccounts holds steps said ss → AllAccounts holds steps said ts }
+        → Each (GivesUpOne id) ss ts → AllAccounts holds steps said ss
+        → AllAccounts holds steps said ts }
 {}
 
 /// Accepting keeps the accounts of all sessions; a new session has an id that no other had, and nothing is due to it.
@@ -176,7 +186,8 @@ pub fn accepting_keeps_accounts()
         (x : List Session × Turn) (steps : List LinkStep)
         (r : List Listener × (List Session × Turn))
         → AreSteps before steps → Path (accepting_all ready listeners x) steps r
-        → AreSound holds before said handed x.0 → AreSound holds (before ++ steps) said handed r.1.0 }
+        → AreSound holds before said handed x.0
+        → AreSound holds (before ++ steps) said handed r.1.0 }
 {}
 
 /// Every call of the server keeps accounts and lines of all sessions, and with them that no two have one id: a whole turn, a whole
@@ -190,7 +201,8 @@ pub fn calls_keep_all()
         → AreSteps before steps → Path (turning ready v) steps r
         → AreSound holds before said handed v.sessions
         → AreSound holds (before ++ steps) said handed r.0.sessions }
-    ensures flushes { (holds : Section → Named → Bool) (said : List Said) (handed : List (LinkId × List ℕ))
+    ensures flushes { (holds : Section → Named → Bool) (said : List Said)
+        (handed : List (LinkId × List ℕ))
         (before : List LinkStep) (v : ServerState) (steps : List LinkStep) (r : ServerState × Turn)
         → Path (flushing v) steps r
         → AreSound holds before said handed v.sessions
@@ -204,7 +216,8 @@ pub fn calls_keep_all()
     ensures passes { (holds : Section → Named → Bool) (steps : List LinkStep) (said : List Said)
         (handed : List (LinkId × List ℕ)) (ss ts : List Session)
         → Each Passes ss ts
-        → AreSound holds steps said handed ss → AreSound holds steps (said ++ overlong_all ss) handed ts }
+        → AreSound holds steps said handed ss
+        → AreSound holds steps (said ++ overlong_all ss) handed ts }
     ensures answers { (holds : Section → Named → Bool) (steps : List LinkStep) (said : List Said)
         (handed : List (LinkId × List ℕ))
         (id : LinkId) (text : List ℕ) (ss ts : List Session)
@@ -215,7 +228,8 @@ pub fn calls_keep_all()
         (handed : List (LinkId × List ℕ))
         (id : LinkId) (ss ts : List Session)
         → id.0 < ids_end steps → Each (WatchesOne id) ss ts
-        → AreSound holds steps said handed ss → AreSound holds steps (said ++ Watched id ∷ []) handed ts }
+        → AreSound holds steps said handed ss
+        → AreSound holds steps (said ++ Watched id ∷ []) handed ts }
     ensures notices { (holds : Section → Named → Bool) (steps : List LinkStep) (said : List Said)
         (handed : List (LinkId × List ℕ))
         (section : Section) (text : List ℕ) (ss ts : List Session)
@@ -238,6 +252,22 @@ pub fn closings_are_counted()
     ensures flushes { (sessions : List Session) (turn : Turn) (steps : List LinkStep)
         (r : List Session × Turn)
         → Path (flushing_all sessions turn) steps r → r.1 ≡ counted_over sessions r.0 turn }
+{}
+
+/// Accepting counts each who came once: as accepted, whose session is new; as busy, where 64 sessions were open, and only there; or
+/// for want of memory. It counts each accept that failed or was refused memory, and nothing else.
+pub fn accepting_is_counted()
+    ensures { (ready : List Ready) (listeners : List Listener) (sessions : List Session)
+        (steps : List LinkStep) (r : List Listener × (List Session × Turn))
+        → Path (accepting_all ready listeners (sessions, none_counted)) steps r
+        → AreArrivals sessions steps r.1.0 r.1.1 }
+{}
+
+/// A whole turn counts so, and then each session whose link it closes.
+pub fn turns_are_counted()
+    ensures { (ready : List Ready) (v : ServerState) (steps : List LinkStep)
+        (r : ServerState × Turn)
+        → Path (turning ready v) steps r → CountsTurn ready v steps r.0 r.1 }
 {}
 
 /// Where a flush leaves a session open, nothing of it is unsent, or the last call was a write of all that is, and the link wasn't

@@ -26,7 +26,8 @@ pub fn read_piece<N: Links>(
     turn: &mut Turn,
 ) -> bool
     requires { length buffer.old ≡ 4096 }
-    ensures { Talks N.gives links.old (reading_piece (session.old, turn.old)) (result, (session.new, turn.new)) links.new }
+    ensures { Talks N.gives links.old (reading_piece (session.old, turn.old))
+        (result, (session.new, turn.new)) links.new }
 {
     match links.read(session.id, buffer) {
         LinkRead::Took(n) => match session.framer.feed(&buffer[..n]) {
@@ -76,7 +77,8 @@ pub fn read_pieces<N: Links>(
     turn: &mut Turn,
 )
     requires { length buffer.old ≡ 4096 }
-    ensures { Talks N.gives links.old (upto reading_piece n (session.old, turn.old)) (session.new, turn.new) links.new }
+    ensures { Talks N.gives links.old (upto reading_piece n (session.old, turn.old))
+        (session.new, turn.new) links.new }
 {
     for i in 0..n {
         let more = read_piece(alloc, session, buffer, links, turn);
@@ -125,7 +127,8 @@ pub fn is_to_be_read(ready: &[Ready], session: &Session) -> bool
 /// Closes the link of a session that was closed since the last call.
 #[tactic(auto, unfolding(crate::specs::Reading::closing_doomed))]
 pub fn close_doomed<N: Links>(session: &mut Session, links: &mut N, turn: &mut Turn)
-    ensures { Talks N.gives links.old (closing_doomed session.old turn.old) (session.new, turn.new) links.new }
+    ensures { Talks N.gives links.old (closing_doomed session.old turn.old) (session.new, turn.new)
+        links.new }
 {
     match session.life {
         Life::Open => {}
@@ -148,7 +151,8 @@ pub fn read_one<N: Links>(
     turn: &mut Turn,
 )
     requires { length buffer.old ≡ 4096 }
-    ensures { Talks N.gives links.old (reading_one ready.now session.old turn.old) (session.new, turn.new) links.new }
+    ensures { Talks N.gives links.old (reading_one ready.now session.old turn.old)
+        (session.new, turn.new) links.new }
 {
     close_doomed(session, links, turn);
     if is_to_be_read(ready, session) {
@@ -166,7 +170,8 @@ pub fn read_all<N: Links>(
     turn: &mut Turn,
 )
     requires { length buffer.old ≡ 4096 }
-    ensures { Talks N.gives links.old (reading_all ready.now sessions.old turn.old) (sessions.new, turn.new) links.new }
+    ensures { Talks N.gives links.old (reading_all ready.now sessions.old turn.old)
+        (sessions.new, turn.new) links.new }
 {
     for i in 0..sessions.len() {
         let session = &mut sessions[i];
@@ -184,7 +189,8 @@ pub fn read_kept<N: Links>(
     turn: &mut Turn,
 )
     requires { length buffer.old ≡ 4096 }
-    ensures { Talks N.gives links.old (reading_all ready.now sessions.old.items turn.old) (sessions.new.items, turn.new) links.new }
+    ensures { Talks N.gives links.old (reading_all ready.now sessions.old.items turn.old)
+        (sessions.new.items, turn.new) links.new }
 {
     read_all(alloc, ready, sessions, buffer, links, turn);
 }

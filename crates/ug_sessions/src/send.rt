@@ -11,7 +11,8 @@ use ug_links::{LinkWrote, Links};
 /// Writes once, and tells whether there may be more.
 #[tactic(auto, unfolding(crate::specs::Sending::writing_some))]
 pub fn write_some<N: Links>(session: &mut Session, links: &mut N, turn: &mut Turn) -> bool
-    ensures { Talks N.gives links.old (writing_some (session.old, turn.old)) (result, (session.new, turn.new)) links.new }
+    ensures { Talks N.gives links.old (writing_some (session.old, turn.old))
+        (result, (session.new, turn.new)) links.new }
 {
     if session.unsent.len() == 0 {
         return false;
@@ -33,7 +34,8 @@ pub fn write_some<N: Links>(session: &mut Session, links: &mut N, turn: &mut Tur
 
 /// Writes up to n times.
 pub fn write_pieces<N: Links>(n: usize, session: &mut Session, links: &mut N, turn: &mut Turn)
-    ensures { Talks N.gives links.old (upto writing_some n (session.old, turn.old)) (session.new, turn.new) links.new }
+    ensures { Talks N.gives links.old (upto writing_some n (session.old, turn.old))
+        (session.new, turn.new) links.new }
 {
     for i in 0..n {
         let more = write_some(session, links, turn);
@@ -53,7 +55,8 @@ pub fn is_served(session: &Session) -> bool
 /// Closes a session all of whose text is sent, where nothing more is due to it.
 #[tactic(auto, unfolding(crate::specs::Sending::finishing))]
 pub fn finish<N: Links>(session: &mut Session, links: &mut N, turn: &mut Turn)
-    ensures { Talks N.gives links.old (finishing session.old turn.old) (session.new, turn.new) links.new }
+    ensures { Talks N.gives links.old (finishing session.old turn.old) (session.new, turn.new)
+        links.new }
 {
     if session.unsent.len() != 0 {
         return;
@@ -75,7 +78,8 @@ pub fn finish<N: Links>(session: &mut Session, links: &mut N, turn: &mut Turn)
 /// Closes the session's link, or writes what is unsent.
 #[tactic(auto, unfolding(crate::specs::Sending::flushing_one), using(ug_links::proofs::Runs::runs_then))]
 pub fn flush_one<N: Links>(session: &mut Session, links: &mut N, turn: &mut Turn)
-    ensures { Talks N.gives links.old (flushing_one session.old turn.old) (session.new, turn.new) links.new }
+    ensures { Talks N.gives links.old (flushing_one session.old turn.old) (session.new, turn.new)
+        links.new }
 {
     close_doomed(session, links, turn);
     if session.is_open() {
@@ -86,7 +90,8 @@ pub fn flush_one<N: Links>(session: &mut Session, links: &mut N, turn: &mut Turn
 
 /// All sessions, in the order in which they were accepted.
 pub fn flush_all<N: Links>(sessions: &mut [Session], links: &mut N, turn: &mut Turn)
-    ensures { Talks N.gives links.old (flushing_all sessions.old turn.old) (sessions.new, turn.new) links.new }
+    ensures { Talks N.gives links.old (flushing_all sessions.old turn.old) (sessions.new, turn.new)
+        links.new }
 {
     for i in 0..sessions.len() {
         let session = &mut sessions[i];
@@ -96,7 +101,8 @@ pub fn flush_all<N: Links>(sessions: &mut [Session], links: &mut N, turn: &mut T
 
 /// The same over the sessions that are kept.
 pub fn flush_kept<N: Links>(sessions: &mut Vec<Session>, links: &mut N, turn: &mut Turn)
-    ensures { Talks N.gives links.old (flushing_all sessions.old.items turn.old) (sessions.new.items, turn.new) links.new }
+    ensures { Talks N.gives links.old (flushing_all sessions.old.items turn.old)
+        (sessions.new.items, turn.new) links.new }
 {
     flush_all(sessions, links, turn);
 }

@@ -1,6 +1,8 @@
 // The sessions of the daemon, all together.
-ghost use Rattle.std.specs.Prelude.{◌≡◌, ◌<◌, ◌^◌, [], length};
-ghost use Rattle.ug_links.specs.Talk.{Talks};
+ghost use Rattle.std.specs.Prelude.{◌≡◌, ◌<◌, ◌^◌, List, [], length};
+ghost use Rattle.ug_links.specs.declared.step.LinkStep.{LinkStep};
+ghost use Rattle.ug_links.specs.Talk.{Makes, Talks};
+ghost use Rattle.ug_sessions.specs.Arriving.{CountsTurn};
 ghost use Rattle.ug_sessions.specs.Serving.{turning, turning_listeners, flushing};
 ghost use Rattle.ug_sessions.specs.Answering.{Each, AnswersOne, WatchesOne, GivesUpOne, NoticesOne, HandsNext, may_listen};
 
@@ -30,7 +32,11 @@ impl Model for Server {
 
     ghost Value = { ServerState };
 
-    ghost view = { λ s. record { principals = s.principals.items; listeners = s.listeners.items; sessions = s.sessions.items } };
+    ghost view = { λ s. record {
+      principals = s.principals.items;
+      listeners = s.listeners.items;
+      sessions = s.sessions.items;
+    } };
 
     ghost invariant = { λ s. length s.principals.items < 2 ^ 32 };
 }
@@ -52,7 +58,8 @@ impl Server {
     }
 
     fn turn_listeners<N: Links>(&mut self, ready: &[Ready], links: &mut N) -> Turn
-        ensures { Talks N.gives links.old (turning_listeners ready.now self.old) (self.new, result) links.new }
+        ensures { Talks N.gives links.old (turning_listeners ready.now self.old) (self.new, result)
+            links.new }
     {
         let mut turn = Turn::new();
         let mut buffer = [0u8; PIECE];
@@ -77,9 +84,19 @@ impl Server {
 
     /// Accepts at the listeners and then reads the sessions that are named or owed a try, and no others. The first turn
     /// makes room for the listeners; where it is refused, nothing is tried and memory is counted.
-    #[tactic(auto, unfolding(crate::specs::Serving::turning))]
     pub fn turn<N: Links>(&mut self, ready: &[Ready], links: &mut N) -> Turn
-        ensures { Talks N.gives links.old (turning ready.now self.old) (self.new, result) links.new }
+        ensures talks { Talks N.gives links.old (turning ready.now self.old) (self.new, result)
+            links.new }
+        ensures counted { (steps : List LinkStep) × Makes N.gives links.old steps links.new
+            × CountsTurn ready.now self.old steps self.new result }
+    {
+        self.try_all(ready, links)
+    }
+
+    #[tactic(auto, unfolding(crate::specs::Serving::turning))]
+    fn try_all<N: Links>(&mut self, ready: &[Ready], links: &mut N) -> Turn
+        ensures { Talks N.gives links.old (turning ready.now self.old) (self.new, result)
+            links.new }
     {
         if self.listeners.len() < self.principals.len() {
             match list_listeners(self.alloc, self.principals.as_slice()) {

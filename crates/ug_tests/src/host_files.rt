@@ -6,7 +6,7 @@ use std::os::unix::fs::{MetadataExt, PermissionsExt, symlink};
 use std::test::Fail;
 use std::time::Instant;
 use ug_conf::{ConfFiles, FileRead, FolderRead};
-use ug_host::{ConfFolder, RuleFile, SecondWaiter, SocketWaiter, SystemClock};
+use ug_host::{ConfFolder, RuleFile, SocketWaiter, SystemClock};
 use ug_store::{DiskAnswer, Loaded, RuleDisk};
 use ug_types::{Clock, Ready, Waiter, Woken};
 
@@ -129,8 +129,6 @@ fn minds<W: Waiter>(rt: &HostRuntime, waiter: &mut W, path: &str) -> Result<bool
 fn an_announcement_ends_the_second(rt: HostRuntime) -> Result<(), Fail> {
     let folder = make_folder(&rt, "announced")?;
     let path = path_in(&rt, folder.as_str(), "uevent_seqnum")?;
-    let mut second = SecondWaiter::new(rt, path_in(&rt, folder.as_str(), "uevent_seqnum")?);
-    assert!(rt; minds(&rt, &mut second, path.as_str())?);
     let announced = path_in(&rt, folder.as_str(), "uevent_seqnum")?;
     let mut sockets = SocketWaiter::new(rt, rt.alloc(), announced)?;
     assert!(rt; minds(&rt, &mut sockets, path.as_str())?);

@@ -26,6 +26,8 @@ mod host_sockets;
 #[cfg(test)]
 mod intent;
 #[cfg(test)]
+mod link_faults;
+#[cfg(test)]
 mod serve;
 #[cfg(test)]
 mod sessions;

@@ -39,7 +39,7 @@ fn named(name: &[u8]) -> Option<Principal> {
 }
 
 // Links that listen for root and for joe, with these arrivals.
-fn links(alloc: Global, root: Script<Arrival>, joe: Script<Arrival>) -> Option<MemLinks> {
+pub fn links(alloc: Global, root: Script<Arrival>, joe: Script<Arrival>) -> Option<MemLinks> {
     let mut arrivals = Vec::new(alloc);
     arrivals.push(root).ok()?;
     arrivals.push(joe).ok()?;
@@ -81,7 +81,7 @@ fn daemon(alloc: Global, disk: &mut MemDisk) -> Option<Daemon<'static, ChaCha20R
 }
 
 // Whether so many turns are made over these links, with a hub and a key.
-fn serves(alloc: Global, links: &mut MemLinks, turns: u64) -> Option<bool> {
+pub fn serves(alloc: Global, links: &mut MemLinks, turns: u64) -> Option<bool> {
     let mut kernel = hub_and_key(alloc, false)?;
     let mut disk = MemDisk::with_text(alloc, b"allow 1050:0011\n").ok()?;
     let mut daemon = daemon(alloc, &mut disk)?;
@@ -109,12 +109,12 @@ fn serves(alloc: Global, links: &mut MemLinks, turns: u64) -> Option<bool> {
 }
 
 // What a session was sent.
-fn sent(alloc: Global, links: &MemLinks, id: LinkId) -> Option<Vec<u8>> {
+pub fn sent(alloc: Global, links: &MemLinks, id: LinkId) -> Option<Vec<u8>> {
     let mut text = Vec::new(alloc);
     for step in links.calls() {
         if let LinkStep::WroteTo(other, bytes, LinkWrote::Sent(n)) = step {
-            if *other == id && *n == bytes.bytes().len() {
-                text.extend_from_slice(bytes.bytes()).ok()?;
+            if *other == id && *n <= bytes.bytes().len() {
+                text.extend_from_slice(&bytes.bytes()[..*n]).ok()?;
             }
         }
     }
@@ -188,7 +188,7 @@ fn silent(alloc: Global, count: u32) -> Option<Script<Arrival>> {
 }
 
 // The sessions that were closed.
-fn closed(alloc: Global, links: &MemLinks) -> Option<Vec<LinkId>> {
+pub fn closed(alloc: Global, links: &MemLinks) -> Option<Vec<LinkId>> {
     let mut ids = Vec::new(alloc);
     for step in links.calls() {
         if let LinkStep::Closed(id) = step {
