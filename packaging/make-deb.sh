@@ -17,6 +17,9 @@ make --no-print-directory install PROGRAM="$PROGRAM" PACKAGE="$name" DESTDIR="$r
 gzip -9 -n "$root"/usr/share/man/man5/*.5 "$root/usr/share/man/man1/usbguard.1"
 ln -sf usbguard.1.gz "$root/usr/share/man/man1/usbguard-script.1.gz"
 rm "$root/usr/share/man/man1/usbguard-script.1"
+# Debian has the licence's text once for all packages, and the copyright file names it.
+rm "$root/usr/share/doc/$name/LICENSE"
+install -m 644 packaging/copyright "$root/usr/share/doc/$name/copyright"
 
 # The packages of the libraries that ldd names, which is libc6 alone. The program needs the version of glibc whose symbols it cites.
 packages=
