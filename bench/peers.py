@@ -3,10 +3,11 @@
 
     bench/peers.py [--socket PATH] [--seconds N] [--seed N]
 
-Whoever may open the socket needs Devices=modify,list and Policy=list. First 64 peers connect, and each is answered; a 65th has to be
-turned away, and let in once another has gone. Then for N seconds 16 peers ask in bursts, 16 send a byte at a time, 16 vanish amid a line
-and come back, 8 send nonsense, and 8 ask for lists and read the replies late. At last one peer more is answered. The devices mustn't
-change meanwhile; nothing is asked for that changes them or the rules. Exit status 0 where all held. Needs Python 3.9.
+The socket's user or group needs Devices=modify,list and Policy=list. First 64 peers connect, and each is answered; a 65th has to be
+turned away, and let in once another has gone. Then for N seconds 16 peers ask in bursts and at last close their own direction, 16 send a
+byte at a time, 16 vanish amid a line and come back, 8 send nonsense, and 8 ask for lists and read the replies late. At last one peer
+more is answered. The devices mustn't change meanwhile; nothing is asked for that changes them or the rules. Exit status 0 where all held.
+Needs Python 3.9.
 """
 
 import argparse
@@ -105,7 +106,16 @@ class Try:
             asked = self.requests(k, chance, chance.randrange(1, 20))
             peer.send(b"".join(request + b"\n" for request, _ in asked))
             self.check(k, peer, asked, "bursts")
+        self.last_words(k, chance, peer)
         peer.close()
+
+    def last_words(self, k, chance, peer):
+        """Asks, and closes its own direction: the replies come, and then the end."""
+        asked = self.requests(k, chance, 5)
+        peer.send(b"".join(request + b"\n" for request, _ in asked))
+        peer.socket.shutdown(socket.SHUT_WR)
+        self.check(k, peer, asked, "last words of")
+        self.expect("peer %d meets the end behind its last reply" % k, peer.line() is None)
 
     def slow(self, k, chance, until):
         peer = Peer(self.path)
@@ -126,6 +136,8 @@ class Try:
                 peer.send(b"list-devices"[:chance.randrange(1, 12)])
                 if chance.randrange(2):
                     peer.send(b"\nlist-rules\nlist")
+                if chance.randrange(2):
+                    peer.socket.shutdown(socket.SHUT_WR)
             except (BrokenPipeError, ConnectionResetError):
                 self.away()
             peer.close()

@@ -91,7 +91,7 @@ device 1-2 1 "$other"
 printf 'Key\n' >"$root/sys/bus/usb/devices/1-1/product"
 
 echo "== From the package to a policy in force: a first policy of the devices that are there, a look at it, the daemon, and who watches"
-show 'usbguard-script | usbguard generate-policy > /etc/usbguard/rules.conf; cat /etc/usbguard/rules.conf'
+show 'usbguard-script | usbguard generate-policy | sed "s/ parent-hash \"[^\"]*\"//" > /etc/usbguard/rules.conf; cat /etc/usbguard/rules.conf'
 show 'usbguard-script -c /etc/usbguard/usbguard-daemon.conf -r /etc/usbguard/rules.conf | usbguard replay'
 show 'useradd joe; useradd eve; printf "" | usbguard add-user joe --devices list > /etc/usbguard/IPCAccessControl.d/joe; grep . /etc/usbguard/IPCAccessControl.d/*'
 echo
