@@ -15,6 +15,7 @@ VERSION = 0~$(shell git log -1 --date=format:%Y%m%d --format=%cd.%h --abbrev=7)
 prefix = /usr
 sysconfdir = /etc
 bindir = $(prefix)/bin
+libexecdir = $(prefix)/libexec
 mandir = $(prefix)/share/man
 docdir = $(prefix)/share/doc/$(PACKAGE)
 unitdir = $(prefix)/lib/systemd/system
@@ -23,7 +24,7 @@ zshdir = $(prefix)/share/zsh/vendor-completions
 
 confdir = $(sysconfdir)/usbguard
 INSTALL = install
-DOCS = README.md CHANGELOG.md $(addprefix docs/,boot.md commands.md journal.md locked-out.md moving.md \
+DOCS = README.md CHANGELOG.md LICENSE $(addprefix docs/,boot.md commands.md journal.md locked-out.md moving.md \
 	real-kernel.md rules.md)
 
 all:
@@ -36,16 +37,19 @@ $(PROGRAM):
 	@exit 1
 
 install: $(PROGRAM)
-	$(INSTALL) -d -m 755 "$(DESTDIR)$(bindir)" "$(DESTDIR)$(mandir)/man1" "$(DESTDIR)$(mandir)/man5"
+	$(INSTALL) -d -m 755 "$(DESTDIR)$(bindir)" "$(DESTDIR)$(libexecdir)"
+	$(INSTALL) -d -m 755 "$(DESTDIR)$(mandir)/man1" "$(DESTDIR)$(mandir)/man5"
 	$(INSTALL) -d -m 755 "$(DESTDIR)$(unitdir)" "$(DESTDIR)$(bashdir)" "$(DESTDIR)$(zshdir)"
 	$(INSTALL) -d -m 755 "$(DESTDIR)$(docdir)" "$(DESTDIR)$(docdir)/docs" "$(DESTDIR)$(docdir)/examples"
 	$(INSTALL) -m 755 "$(PROGRAM)" "$(DESTDIR)$(bindir)/usbguard"
 	$(INSTALL) -m 755 bin/usbguard-script "$(DESTDIR)$(bindir)/usbguard-script"
+	$(INSTALL) -m 755 packaging/usbguard-sockets "$(DESTDIR)$(libexecdir)/usbguard-sockets"
 	$(INSTALL) -m 644 man/usbguard.1 "$(DESTDIR)$(mandir)/man1/usbguard.1"
 	ln -sf usbguard.1 "$(DESTDIR)$(mandir)/man1/usbguard-script.1"
 	$(INSTALL) -m 644 man/usbguard-daemon.conf.5 man/usbguard-replay.5 man/usbguard-rules.conf.5 \
 		"$(DESTDIR)$(mandir)/man5"
-	sed 's|/usr/bin/|$(bindir)/|' packaging/usbguard.service > "$(DESTDIR)$(unitdir)/usbguard.service"
+	sed -e 's|/usr/bin/|$(bindir)/|' -e 's|/usr/libexec/|$(libexecdir)/|' packaging/usbguard.service \
+		> "$(DESTDIR)$(unitdir)/usbguard.service"
 	chmod 644 "$(DESTDIR)$(unitdir)/usbguard.service"
 	$(INSTALL) -m 644 packaging/usbguard.bash "$(DESTDIR)$(bashdir)/usbguard"
 	ln -sf usbguard "$(DESTDIR)$(bashdir)/usbguard-script"

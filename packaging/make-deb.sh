@@ -17,6 +17,11 @@ make --no-print-directory install PROGRAM="$PROGRAM" PACKAGE="$name" DESTDIR="$r
 gzip -9 -n "$root"/usr/share/man/man5/*.5 "$root/usr/share/man/man1/usbguard.1"
 ln -sf usbguard.1.gz "$root/usr/share/man/man1/usbguard-script.1.gz"
 rm "$root/usr/share/man/man1/usbguard-script.1"
+# Debian has the licence's text once for all packages, and the copyright file names it.
+rm "$root/usr/share/doc/$name/LICENSE"
+install -m 644 packaging/copyright "$root/usr/share/doc/$name/copyright"
+git log -1 --format="$name ($version) unstable; urgency=medium%n%n  * Commit %h: see CHANGELOG.md.%n%n -- %an <%ae>  %cD" |
+    gzip -9 -n >"$root/usr/share/doc/$name/changelog.gz"
 
 # The packages of the libraries that ldd names, which is libc6 alone. The program needs the version of glibc whose symbols it cites.
 packages=
@@ -39,9 +44,10 @@ Replaces: usbguard
 Section: utils
 Priority: optional
 Description: USB device authorisation by rules
- The daemon judges USB devices by the rules of usbguard-rules.conf(5), and notes
- each verdict and each write in its journal. A policy can be rehearsed before the
- daemon is started. The service is neither enabled nor started by this package.
+ The daemon judges USB devices by the rules of usbguard-rules.conf(5), and
+ notes each verdict and each write in its journal. A policy can be rehearsed
+ before the daemon is started. The service is neither enabled nor started by
+ this package.
 END
 printf '/etc/usbguard/%s\n' rules.conf usbguard-daemon.conf >"$root/DEBIAN/conffiles"
 install -m 755 packaging/prerm "$root/DEBIAN/prerm"

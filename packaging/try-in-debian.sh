@@ -13,9 +13,23 @@ root=${2:-$(mktemp -d /tmp/usbguard-debian-XXXXXX)/root}
 suite=${SUITE:-bookworm}
 mirror=${MIRROR:-}
 [ ! -e "$root" ] || { echo "try-in-debian: $root is there already" >&2; exit 1; }
-trap 'rm -rf --one-file-system "$root"; rmdir "${root%/root}" 2>/dev/null || :' EXIT
+daemon=
+trap 'stop; rm -rf --one-file-system "$root"; rmdir "${root%/root}" 2>/dev/null || :' EXIT
 
 failures=0
+
+# start: the daemon in the root, with its journal in /tmp/journal, as the service starts it
+start() {
+    install -d -m 755 "$root/run/usbguard"
+    chroot "$root" usbguard daemon >"$root/tmp/journal" 2>&1 &
+    daemon=$!
+    chroot "$root" /usr/libexec/usbguard-sockets || :
+}
+
+stop() {
+    [ -z "$daemon" ] || kill "$daemon" 2>/dev/null || :
+    daemon=
+}
 
 # show COMMAND: a command line in the root, and its output
 show() {
@@ -35,10 +49,11 @@ check() {
 
 # device NAME AUTHORIZED DESCRIPTORS: a folder with the files of a device; the descriptors as printf has them
 device() {
-    mkdir -p "$root/sys/bus/usb/devices/$1"
-    printf '%s\n' "$2" >"$root/sys/bus/usb/devices/$1/authorized"
-    echo 1 >"$root/sys/bus/usb/devices/$1/devnum"
-    printf "$3" >"$root/sys/bus/usb/devices/$1/descriptors"
+    mkdir -p "$root/sys/bus/usb/devices" "$root/sys/made"
+    printf '%s\n' "$2" >"$root/sys/made/authorized"
+    echo 1 >"$root/sys/made/devnum"
+    printf "$3" >"$root/sys/made/descriptors"
+    mv "$root/sys/made" "$root/sys/bus/usb/devices/$1"
 }
 
 echo "== A clean Debian $suite"
@@ -64,16 +79,45 @@ for page in '1 usbguard' '1 usbguard-script' '5 usbguard-daemon.conf' '5 usbguar
     check "mandoc -T lint of $page" 'mandoc -T lint $(man -w '"$page"')'
 done
 
-# A root hub, a key that no rule names, and a key that one does. Plain files take the place of sysfs.
+# A root hub and three devices. Plain files take the place of sysfs.
 hub='\022\001\000\002\011\000\000\100\153\035\002\000\000\001\000\000\000\001'
 key='\022\001\000\002\000\000\000\100\120\020\021\000\000\001\001\002\000\001\011\002\033\000\002\001\000\200\062'
 key=$key'\011\004\000\000\000\003\001\001\000\011\004\001\000\000\003\000\000\000'
 other='\022\001\000\002\000\000\000\100\120\020\022\000\000\001\000\000\000\001'
+stranger='\022\001\000\002\000\000\000\100\120\020\023\000\000\001\000\000\000\001'
 device usb1 1 "$hub"
 device 1-1 0 "$key"
 device 1-2 1 "$other"
 printf 'Key\n' >"$root/sys/bus/usb/devices/1-1/product"
 
+echo "== From the package to a policy in force: a first policy of the devices that are there, a look at it, the daemon, and who watches"
+show 'usbguard-script | usbguard generate-policy | sed "s/ parent-hash \"[^\"]*\"//" > /etc/usbguard/rules.conf; cat /etc/usbguard/rules.conf'
+show 'usbguard-script -c /etc/usbguard/usbguard-daemon.conf -r /etc/usbguard/rules.conf | usbguard replay'
+show 'useradd joe; useradd eve; printf "" | usbguard add-user joe --devices list > /etc/usbguard/IPCAccessControl.d/joe; grep . /etc/usbguard/IPCAccessControl.d/*'
+echo
+echo '# The service, by hand: there is no systemd here'
+start
+show 'ls -l /run/usbguard'
+show 'usbguard list-devices'
+(sleep 2; device 1-3 1 "$stranger") &
+show 'timeout 20 usbguard watch -n 2'
+show 'usbguard list-devices | tail -n 1; cat /sys/bus/usb/devices/1-3/authorized'
+show 'usbguard allow-device 4; cat /sys/bus/usb/devices/1-3/authorized'
+show 'usbguard append-rule -t "allow 1050:0014"; usbguard list-rules | tail -n 1; usbguard remove-rule 4'
+show 'usbguard set-parameter ImplicitPolicyTarget reject; usbguard get-parameter ImplicitPolicyTarget'
+show 'su joe -c "usbguard list-devices --socket /run/usbguard/joe.socket" | cut -c 1-30'
+show 'su joe -c "usbguard block-device 2 --socket /run/usbguard/joe.socket"'
+show 'su eve -c "usbguard list-devices --socket /run/usbguard/joe.socket"'
+check 'joe may list devices' 'su joe -c "usbguard list-devices --socket /run/usbguard/joe.socket" | grep -q "^4: allow"'
+check 'and give no order' 'su joe -c "usbguard block-device 2 --socket /run/usbguard/joe.socket" | grep -qx "refused 2 denied Devices modify"'
+check "nor as root" 'su joe -c "usbguard block-device 2" | grep -qx "link fault"'
+check "another user can't even connect" 'su eve -c "usbguard list-devices --socket /run/usbguard/joe.socket" | grep -qx "link fault"'
+check 'a device that no rule names was blocked, and then allowed by order' \
+    'grep -x "judged 4 1-3 block implicit" /tmp/journal && grep -x "judged 4 1-3 allow order root" /tmp/journal && grep -x 1 /sys/bus/usb/devices/1-3/authorized'
+stop
+rm -r "$root/sys/bus/usb/devices/1-3" "$root/etc/usbguard/IPCAccessControl.d/joe" "$root/run/usbguard"
+
+echo
 echo "== The commands"
 show 'cd /usr/share/doc/usbguard*/examples && usbguard replay < first.script'
 show 'usbguard read-descriptor < /sys/bus/usb/devices/1-1/descriptors'
@@ -101,6 +145,28 @@ completes "usbguard ''" 'add-user allow-device append-rule block-device check-ru
 for command in check-rules daemon generate-policy read-descriptor replay; do
     completes "usbguard ${command%???}" "$command"
 done
+chroot "$root" usbguard --help 2>&1 | awk '/^  usbguard / {
+    printf "%s", $2
+    for (i = 3; i <= NF; i++) if ($i ~ /^\[-/) { sub(/\]$/, "", $i); printf " %s", substr($i, 2) }
+    print ""
+}' >"$root/tmp/options"
+# of each command the sorted options, as the shell's completion has them behind its word
+sorted='tr " " "\n" | grep . | sort | tr "\n" " "'
+check 'bash: the options of each command are those of --help' "$bash
+    while read -r command wanted; do
+        [ \"\$(complete_words usbguard \$command - | $sorted)\" = \"\$(printf '%s\n' \$wanted | $sorted)\" ] || exit 1
+    done </tmp/options"
+zsh='compadd() { print -r -- ${@:2}; }
+_describe() { print -r -- ${${(P)2}%%:*}; }
+_usbguard_words() { words=("$@"); CURRENT=$#; service=usbguard; . /usr/share/zsh/vendor-completions/_usbguard; }'
+cat >"$root/tmp/options.zsh" <<END
+$zsh
+[[ \$(_usbguard_words usbguard '' | $sorted) == \$(cut -d ' ' -f 1 /tmp/options | $sorted) ]] || exit 1
+while read -r command wanted; do
+    [[ \$(_usbguard_words usbguard \$command - | $sorted) == \$(print -r -- \$wanted | $sorted) ]] || exit 1
+done </tmp/options
+END
+check 'zsh: the commands, and the options of each, are those of --help' 'zsh -f /tmp/options.zsh'
 completes "usbguard daemon --" '--conf'
 completes "usbguard daemon --conf /etc/usbguard/u" '/etc/usbguard/usbguard-daemon.conf'
 completes "usbguard check-rules '<' /etc/usbguard/r" '/etc/usbguard/rules.conf'
