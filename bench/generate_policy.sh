@@ -1,5 +1,5 @@
 #!/bin/sh
-# Times generate-policy on scripts of 1,000 and 4,000 devices, and prints the time of each, their ratio, and peak memory.
+# Times generate-policy on scripts of 16,000 and 64,000 devices, and prints the time of each, their ratio, and peak memory.
 # It wants the built program (bin/usbguard builds it), awk, and GNU time as /usr/bin/time.
 set -eu
 . "$(dirname "$0")/program.sh"
@@ -28,7 +28,7 @@ run() {
     printf '%d devices: %d rules, %s s, %s KB peak\n' "$1" "$(wc -l <"$folder/out")" "$best" "$peak"
 }
 
-run 1000
+run 16000
 one=$best
-run 4000
+run 64000
 awk -v one="$one" -v four="$best" 'BEGIN { if (one > 0) printf "four times the devices take %.1f times the time\n", four / one }'

@@ -3,7 +3,7 @@ use Rattle.std.proofs.Common.{◌≡◌, true, refl}
 use Rattle.clap.specs.Words.{is_simple_and_free}
 use Rattle.clap.proofs.OnLiterals.{clap_on_literals}
 use Rattle.ug_types.specs.declared.verdict.Target.TheVariants.{Allow, Block, Reject}
-use Rattle.ug_arguments.specs.SimpleCommands.{app_of_word}
+use Rattle.ug_arguments.specs.SimpleCommands.{app_of_word, daemon_app}
 use Rattle.ug_arguments.specs.declared.command_word.CommandWord.{CommandWord}
 use Rattle.ug_arguments.specs.declared.command_word.CommandWord.TheVariants as command
 
@@ -24,3 +24,7 @@ simple_and_free command.ListRules = refl
 simple_and_free command.AppendRule = refl
 simple_and_free command.RemoveRule = refl
 simple_and_free command.Watch = refl
+
+pub daemon_simple : is_simple_and_free daemon_app ≡ true
+unfolding clap_on_literals
+daemon_simple = refl

@@ -16,8 +16,8 @@ use Rattle.ug_users.specs.Lists.{list_read, nothing_listed}
 use Rattle.ug_users.specs.declared.asked.Asked.{Asked}
 use Rattle.ug_users.specs.declared.lists.Listed.{Listed}
 use Rattle.ug_arguments.specs.CommandWords.{word_in}
-use Rattle.ug_arguments.specs.SimpleCommands.{app_of_word, rows_in}
-use Rattle.ug_arguments.specs.Values.{is_line, is_rule, is_set, is_word, number_at, passing, text_at}
+use Rattle.ug_arguments.specs.SimpleCommands.{app_of_word, daemon_app, rows_in}
+use Rattle.ug_arguments.specs.Values.{is_line, is_most, is_rule, is_set, is_word, number_at, passing, text_at}
 use Rattle.ug_arguments.specs.declared.command.Command.{Command}
 use Rattle.ug_arguments.specs.declared.command.Command.TheVariants.{Replay, ReadDescriptor, CheckRules, GeneratePolicy, AddUser, Ask, Watch}
 use Rattle.ug_arguments.specs.declared.command.WordsFault.{WordsFault}
@@ -80,11 +80,15 @@ remove_rule_in rows = option_map request.RemoveRule (number_at (codes "id") rows
 
 -- ---- what goes to the daemon
 
+-- the path that an option gives, or else the usual one
+abbrev pub path_in : List ℕ → List ℕ → List Row → Option (List ℕ)
+path_in id usual rows = passing is_line (unwrap_or (first_of id rows) usual)
+
 unfoldable pub default_socket : List ℕ
 default_socket = codes "/run/usbguard/root.socket"
 
 abbrev pub socket_in : List Row → Option (List ℕ)
-socket_in rows = passing is_line (unwrap_or (first_of (codes "socket") rows) default_socket)
+socket_in rows = path_in (codes "socket") default_socket rows
 
 -- the greatest length of a request as it is sent, without its newline
 abbrev pub request_limit : ℕ
@@ -101,9 +105,15 @@ ask_in asked rows =
 unfoldable pub default_most : ℕ
 default_most = 1000000
 
+abbrev pub most_among : ℕ → Option ℕ
+most_among n = if is_most n then Some n else None
+
+abbrev pub given_most : List ℕ → Option ℕ
+given_most text = option_and_then most_among (number_in text)
+
 abbrev pub most_of : Option (List ℕ) → Option ℕ
 most_of None = Some default_most
-most_of (Some text) = number_in text
+most_of (Some text) = given_most text
 
 abbrev pub watch_in : List Row → Option Command
 watch_in rows =
@@ -135,6 +145,18 @@ command_by word words = option_and_then (meaning word) (rows_in (app_of_word wor
 unfoldable pub command_in : List (List ℕ) → Option Command
 command_in [] = None
 command_in (first ∷ rest) = option_and_then (λ word. command_by word (first ∷ rest)) (word_in first)
+
+-- ---- the daemon
+
+unfoldable pub default_settings : List ℕ
+default_settings = codes "/etc/usbguard/usbguard-daemon.conf"
+
+abbrev pub settings_in : List Row → Option (List ℕ)
+settings_in rows = path_in (codes "conf") default_settings rows
+
+-- the path of the settings by the words behind `daemon`, if they are a daemon's
+unfoldable pub settings_path : List (List ℕ) → Option (List ℕ)
+settings_path words = option_and_then settings_in (rows_in daemon_app (codes "daemon" ∷ words))
 
 -- only want of memory may be told of words that are a command
 abbrev pub NotRead : {X : Type 0} → Option X → WordsFault → Type 0

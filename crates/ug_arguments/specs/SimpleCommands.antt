@@ -62,6 +62,10 @@ remove_rule_app = with_rule (asking_app (codes "remove-rule")) (required (codes 
 abbrev pub watch_app : App
 watch_app = with_rule (asking_app (codes "watch")) (short_option (codes "most") 110)
 
+-- daemon [--conf PATH]
+abbrev pub daemon_app : App
+daemon_app = with_rule (new_app (codes "daemon")) (long_option (codes "conf"))
+
 unfoldable pub app_of_word : CommandWord → App
 app_of_word command.Replay = new_app (codes "replay")
 app_of_word command.ReadDescriptor = new_app (codes "read-descriptor")

@@ -40,6 +40,10 @@ abbrev pub is_true : Option (List ℕ) → Bool
 is_true None = false
 is_true (Some text) = bytes_eq text (codes "true")
 
+-- how many notices may be asked for
+abbrev pub is_most : ℕ → Bool
+is_most n = nat_le 1 n && nat_le n 1000000
+
 -- whether the flag of that name stands among the words
 abbrev pub is_set : List ℕ → List Row → Bool
 is_set id rows = is_true (first_of id rows)

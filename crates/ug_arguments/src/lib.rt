@@ -4,6 +4,7 @@
 mod arguments;
 mod command;
 mod command_word;
+mod daemon;
 mod matches;
 mod meaning;
 mod requests;
@@ -12,3 +13,4 @@ mod values;
 
 pub use arguments::read_command;
 pub use command::{Command, WordsFault};
+pub use daemon::read_daemon_words;

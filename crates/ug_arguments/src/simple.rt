@@ -2,7 +2,7 @@
 ghost use Rattle.std.specs.Prelude.{◌≡◌, IfOk, false};
 ghost use Rattle.clap.specs.Words.{app_of, new_app, rule_of, with_rule};
 ghost use Rattle.ug_arguments.specs.SimpleCommands as simple;
-ghost use Rattle.ug_arguments.specs.SimpleCommands.{add_user_app, append_rule_app, app_of_word, asking_app, device_app};
+ghost use Rattle.ug_arguments.specs.SimpleCommands.{add_user_app, append_rule_app, app_of_word, asking_app, daemon_app, device_app};
 
 use crate::command_word::CommandWord;
 use clap::{Arg, ArgAction, Command};
@@ -100,6 +100,13 @@ fn watch<'a>(alloc: Global) -> Result<Command<'a>, NoMemory>
     ensures { IfOk result (λ c. app_of c ≡ simple.watch_app) }
 {
     with(asking(alloc, "watch")?, short_option(alloc, "most", 'n'))
+}
+
+/// The command `daemon`, for the words behind it.
+pub fn daemon_command<'a>(alloc: Global) -> Result<Command<'a>, NoMemory>
+    ensures { IfOk result (λ c. app_of c ≡ daemon_app) }
+{
+    with(Command::new(alloc, "daemon"), long_option(alloc, "conf"))
 }
 
 /// The command of a word, for the words behind it.

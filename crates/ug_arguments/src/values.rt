@@ -1,7 +1,7 @@
 // The values of arguments.
 ghost use Rattle.std.specs.Prelude.{◌≡◌, IfOk, IfErr, Some, codes, option_and_then};
 ghost use Rattle.clap.specs.Words.{first_of, found_of, rows_of};
-ghost use Rattle.ug_arguments.specs.Commands.{NotRead, after_id, after_of, list_of, most_of, socket_in};
+ghost use Rattle.ug_arguments.specs.Commands.{NotRead, after_id, after_of, given_most, list_of, most_of, path_in, settings_in, socket_in};
 ghost use Rattle.ug_arguments.specs.Values as values;
 ghost use Rattle.ug_arguments.specs.Values.{number_at, passing, text_at};
 ghost use Rattle.ug_types.specs.Principals.{principal_of};
@@ -95,6 +95,23 @@ pub fn number(matches: &ArgMatches, id: &str) -> Result<u64, WordsFault>
     }
 }
 
+fn is_most(number: u64) -> bool
+    ensures { result ≡ values.is_most number }
+{
+    1 <= number && number <= 1_000_000
+}
+
+fn read_most(text: &str) -> Result<u64, WordsFault>
+    ensures ok { IfOk result (λ n. given_most text.now ≡ Some n) }
+    ensures err { IfErr result (NotRead (given_most text.now)) }
+{
+    let number = decimal(text)?;
+    if is_most(number) {
+        return Ok(number);
+    }
+    Err(WordsFault::Bad)
+}
+
 /// How many notices at most.
 #[tactic(auto, unfolding(crate::specs::Commands::default_most))]
 pub fn most(matches: &ArgMatches) -> Result<u64, WordsFault>
@@ -102,7 +119,7 @@ pub fn most(matches: &ArgMatches) -> Result<u64, WordsFault>
     ensures err { IfErr result (NotRead (most_of (first_of (codes "most") (rows_of (found_of matches.now))))) }
 {
     match value(matches, "most") {
-        Some(text) => decimal(text),
+        Some(text) => read_most(text),
         None => Ok(1_000_000),
     }
 }
@@ -122,20 +139,37 @@ pub fn after(matches: &ArgMatches) -> Result<After, WordsFault>
     }
 }
 
+/// The path that an option gives, or else the usual one.
+fn path(alloc: Global, matches: &ArgMatches, id: &str, usual: &str) -> Result<Text, WordsFault>
+    ensures ok { IfOk result (λ path. path_in id.now usual.now (rows_of (found_of matches.now)) ≡ Some path) }
+    ensures err { IfErr result (NotRead (path_in id.now usual.now (rows_of (found_of matches.now)))) }
+{
+    let text = match value(matches, id) {
+        Some(text) => text,
+        None => usual,
+    };
+    if is_line(text) {
+        return Ok(Text::of(alloc, text.as_bytes())?);
+    }
+    Err(WordsFault::Bad)
+}
+
 /// Where the daemon listens.
 #[tactic(auto, unfolding(crate::specs::Commands::default_socket))]
 pub fn socket(alloc: Global, matches: &ArgMatches) -> Result<Text, WordsFault>
     ensures ok { IfOk result (λ path. socket_in (rows_of (found_of matches.now)) ≡ Some path) }
     ensures err { IfErr result (NotRead (socket_in (rows_of (found_of matches.now)))) }
 {
-    let path = match value(matches, "socket") {
-        Some(text) => text,
-        None => "/run/usbguard/root.socket",
-    };
-    if is_line(path) {
-        return Ok(Text::of(alloc, path.as_bytes())?);
-    }
-    Err(WordsFault::Bad)
+    path(alloc, matches, "socket", "/run/usbguard/root.socket")
+}
+
+/// Where the daemon's settings are.
+#[tactic(auto, unfolding(crate::specs::Commands::default_settings))]
+pub fn settings(alloc: Global, matches: &ArgMatches) -> Result<Text, WordsFault>
+    ensures ok { IfOk result (λ path. settings_in (rows_of (found_of matches.now)) ≡ Some path) }
+    ensures err { IfErr result (NotRead (settings_in (rows_of (found_of matches.now)))) }
+{
+    path(alloc, matches, "conf", "/etc/usbguard/usbguard-daemon.conf")
 }
 
 pub fn principal(matches: &ArgMatches, id: &str) -> Result<Principal, WordsFault>

@@ -4,19 +4,26 @@ use std::alloc::Global;
 use ug_casefile::{Case, number_of};
 use ug_types::NoMemory;
 
-// The words of the setting `words`, or the one word; and behind them those of the settings `word`, each of which may hold
-// spaces.
-fn words<'a>(alloc: Global, case: &'a Case, word: &'a str) -> Result<Vec<&'a str>, NoMemory> {
+/// The words of a line, between which stand spaces.
+pub fn words_of(alloc: Global, line: &[u8]) -> Result<Vec<&str>, NoMemory> {
     let mut words = Vec::new(alloc);
-    let Some(line) = case.setting(b"words") else {
-        words.push(word)?;
-        return Ok(words);
-    };
     for part in line.split(|byte| *byte == b' ') {
         if !part.is_empty() {
             words.push(str::from_utf8(part).unwrap_or(""))?;
         }
     }
+    Ok(words)
+}
+
+// The words of the setting `words`, or the one word; and behind them those of the settings `word`, each of which may hold
+// spaces.
+fn words<'a>(alloc: Global, case: &'a Case, word: &'a str) -> Result<Vec<&'a str>, NoMemory> {
+    let Some(line) = case.setting(b"words") else {
+        let mut words = Vec::new(alloc);
+        words.push(word)?;
+        return Ok(words);
+    };
+    let mut words = words_of(alloc, line)?;
     push_whole_words(&mut words, case)?;
     Ok(words)
 }
@@ -105,6 +112,19 @@ pub fn count_tool(alloc: Global, word: &str, case: &Case) -> Result<Vec<u8>, NoM
     Ok(format!(in alloc; "{lines} lines, status {status}")?.into_bytes())
 }
 
+/// Adds what was written, in one line, and the status.
+pub fn push_in_one_line(alloc: Global, told: &mut Vec<u8>, ran: &Ran) -> Result<(), NoMemory> {
+    for byte in ran.output.as_slice() {
+        match *byte {
+            b'\n' => told.extend_from_slice(b"; ")?,
+            other => told.push(other)?,
+        }
+    }
+    let status = ran.status;
+    told.extend_from_slice(format!(in alloc; "status {status}")?.as_bytes())?;
+    Ok(())
+}
+
 /// What the script of the first line, some others and these writes, in one line, and its status.
 pub fn tell_line(alloc: Global, others: &[u8], lines: &[u8]) -> Result<Vec<u8>, NoMemory> {
     let mut words = Vec::new(alloc);
@@ -120,13 +140,6 @@ pub fn tell_line(alloc: Global, others: &[u8], lines: &[u8]) -> Result<Vec<u8>, 
     };
     let (ran, _kernel) = replay(alloc, call)?;
     let mut told = Vec::new(alloc);
-    for byte in ran.output.as_slice() {
-        match *byte {
-            b'\n' => told.extend_from_slice(b"; ")?,
-            other => told.push(other)?,
-        }
-    }
-    let status = ran.status;
-    told.extend_from_slice(format!(in alloc; "status {status}")?.as_bytes())?;
+    push_in_one_line(alloc, &mut told, &ran)?;
     Ok(told)
 }

@@ -3,6 +3,7 @@
 
 mod calls;
 mod commands;
+mod each_byte;
 mod each_call;
 mod single_lines;
 
@@ -28,8 +29,10 @@ impl Teller for Cases {
             "read-descriptor-counts" => commands::count_tool(alloc, "read-descriptor", case),
             "generate-policy" => commands::tell_tool(alloc, "generate-policy", case),
             "ask" => commands::tell_ask(alloc, case),
+            "ask-each-byte" => each_byte::tell(alloc, case),
             "tool" => commands::tell_tool(alloc, "", case),
             "single-lines" => single_lines::tell(alloc, case),
+            "single-policy-lines" => single_lines::tell_policy(alloc, case),
             "each-call" => each_call::tell(alloc, case),
             "each-two-calls" => each_call::tell_pairs(alloc, case),
             _ => Ok(Vec::from_slice(alloc, b"no such kind")?),

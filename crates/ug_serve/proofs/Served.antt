@@ -1,6 +1,5 @@
 -- From a start and its turns to the whole run.
 use Rattle.std.proofs.Common.{◌≡◌, ℕ, List, [], ◌∷◌, ◌++◌, length, Option, Some, None, Result, Ok, Err, inl, inr, refl, sym, ◌∙◌, subst, arith}
-use Rattle.std.specs.Prelude.{◌↔◌}
 use Rattle.rand_core.specs.Stream.{Stream}
 use Rattle.ug_types.specs.Elements.{Has}
 use Rattle.ug_types.specs.declared.verdict.Moment.{Moment}
@@ -114,6 +113,9 @@ completes n (inr (inr (inr (inr (inr (inr (inl e))))))) one three four nine elev
 completes n (inr (inr (inr (inr (inr (inr (inr (inl e)))))))) one three four nine eleven = absurd (eleven (sym e))
 completes n (inr (inr (inr (inr (inr (inr (inr (inr e)))))))) one three four nine eleven = absurd e
 
+pub none_is_some : (given : Option (List ℕ)) (path : List ℕ) → given ≡ None → given ≡ Some path → ⊥
+none_is_some given path none some = cc
+
 module _ {Y D N W C : Type 0} (begins : Y → Y → Type 0) (gives : Y → (call : Call) → Answer call → Y → Type 0) (told : Y → Option Kernel) (calls faults : Y → ℕ)
     (keeps : D → (call : DiskCall) → DiskTold call → D → Type 0) (disk_told : D → Option Disk) (disk_faults : D → ℕ) (links : N → LinkStep → N → Type 0) (waits : W → Waited → W → Type 0) (clocks : C → Moment → C → Type 0)
     (turns : ℕ) (c : Started) (s : Objects Y D N W C) where
@@ -173,11 +175,17 @@ module _ {F Y D N W C : Type 0} (reads : F → FileStep → F → Type 0) (begin
   has_status _ _ _ _ _ _ (Not_started path entries fault journal g d ms opens all notes) = is_start_status fault
   has_status _ _ _ _ _ _ (Served path entries first c g d ms made status t opens all notes serves) = known_status status (started_status begins gives told calls faults keeps disk_told disk_faults links waits clocks turns c (objects s.sysfs d s.links s.waiter s.clock ms) made status t serves)
 
-  pub bad_words : (path : Option (List ℕ)) (journal : List Entry) (made : List Turned) (status : ℕ) (g : F) (t : Objects Y D N W C) → Done path journal made status g t → (status ≡ 1) ↔ (path ≡ None)
-  bad_words _ _ _ _ _ _ Bad_words = (λ e. refl, λ e. refl)
-  bad_words _ _ _ _ _ _ (No_room path) = (λ e. absurd (start_not_one why.Memory e), λ e. let no : ⊥ = cc in absurd no)
-  bad_words _ _ _ _ _ _ (Not_started path entries fault journal g d ms opens all notes) = (λ e. absurd (start_not_one fault e), λ e. let no : ⊥ = cc in absurd no)
-  bad_words _ _ _ _ _ _ (Served path entries first c g d ms made status t opens all notes serves) = (λ h. absurd (not_one status (started_status begins gives told calls faults keeps disk_told disk_faults links waits clocks turns c (objects s.sysfs d s.links s.waiter s.clock ms) made status t serves) h), λ h. let no : ⊥ = cc in absurd no)
+  pub bad_words : (path : Option (List ℕ)) (journal : List Entry) (made : List Turned) (status : ℕ) (g : F) (t : Objects Y D N W C) → Done path journal made status g t → status ≡ 1 → path ≡ None
+  bad_words _ _ _ _ _ _ Bad_words = λ e. refl
+  bad_words _ _ _ _ _ _ (No_room path) = λ e. absurd (start_not_one why.Memory e)
+  bad_words _ _ _ _ _ _ (Not_started path entries fault journal g d ms opens all notes) = λ e. absurd (start_not_one fault e)
+  bad_words _ _ _ _ _ _ (Served path entries first c g d ms made status t opens all notes serves) = λ e. absurd (not_one status (started_status begins gives told calls faults keeps disk_told disk_faults links waits clocks turns c (objects s.sysfs d s.links s.waiter s.clock ms) made status t serves) e)
+
+  pub other_words : (path : Option (List ℕ)) (journal : List Entry) (made : List Turned) (status : ℕ) (g : F) (t : Objects Y D N W C) → Done path journal made status g t → path ≡ None → Has (1 ∷ 6 ∷ []) status
+  other_words _ _ _ _ _ _ Bad_words = λ e. inl refl
+  other_words _ _ _ _ _ _ (No_room path) = λ e. inr (inl refl)
+  other_words _ _ _ _ _ _ (Not_started path entries fault journal g d ms opens all notes) = λ e. let no : ⊥ = cc in absurd no
+  other_words _ _ _ _ _ _ (Served path entries first c g d ms made status t opens all notes serves) = λ e. let no : ⊥ = cc in absurd no
 
   -- ---- the runs
 
@@ -191,8 +199,8 @@ module _ {F Y D N W C : Type 0} (reads : F → FileStep → F → Type 0) (begin
     told_refused = λ e. absurd (omega (arith, e));
   }
 
-  pub runs_without_room : (path : List ℕ) (status : ℕ) → status ≡ start_status why.Memory → Runs (Some path) status f s
-  runs_without_room path status is = subst (λ (n : ℕ). Runs (Some path) n f s) (sym is) (record {
+  pub runs_without_room : (path : Option (List ℕ)) (status : ℕ) → status ≡ start_status why.Memory → Runs path status f s
+  runs_without_room path status is = subst (λ (n : ℕ). Runs path n f s) (sym is) (record {
     journal = [];
     made = [];
     serves = No_room path;

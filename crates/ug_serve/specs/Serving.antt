@@ -77,14 +77,14 @@ pub data ServesStarted {Y D N W C : Type 0} (begins : Y → Y → Type 0) (gives
       → ServesStarted begins gives told calls faults keeps disk_told disk_faults links waits clocks turns c s made (turns_status ended) (objects_of w)
 
 -- The daemon from its words, with the journal's entries, the turns that it made and the exit status. Other words than a path's do nothing,
--- and neither does a daemon that has no room for its first entries. A start that isn't done is noted, where a part isn't taken, and its
+-- and neither does a daemon that has no room for its words or its first entries. A start that isn't done is noted, where a part isn't taken, and its
 -- cause is the status. Else it listens and makes turns, from what the start left. Beside what the start and the turns note, the journal
 -- has the `dropped` entries.
 pub data Serves {F Y D N W C : Type 0} (reads : F → FileStep → F → Type 0) (begins : Y → Y → Type 0) (gives : Y → (call : Call) → Answer call → Y → Type 0) (told : Y → Option Kernel) (calls faults : Y → ℕ)
     (keeps : D → (call : DiskCall) → DiskTold call → D → Type 0) (disk_told : D → Option Disk) (disk_faults : D → ℕ) (aimed : D → List ℕ → Type 0) (links : N → LinkStep → N → Type 0) (waits : W → Waited → W → Type 0) (clocks : C → Moment → C → Type 0)
     (turns : ℕ) (clock : ℕ → ℕ) (words : Stream) (f : F) (s : Objects Y D N W C) : Option (List ℕ) → List Entry → List Turned → ℕ → F → Objects Y D N W C → Type 0 where
   Bad_words : Serves reads begins gives told calls faults keeps disk_told disk_faults aimed links waits clocks turns clock words f s None [] [] 1 f s
-  No_room : (path : List ℕ) → Serves reads begins gives told calls faults keeps disk_told disk_faults aimed links waits clocks turns clock words f s (Some path) [] [] (start_status Memory) f s
+  No_room : (path : Option (List ℕ)) → Serves reads begins gives told calls faults keeps disk_told disk_faults aimed links waits clocks turns clock words f s path [] [] (start_status Memory) f s
   Not_started : (path : List ℕ) (entries : List Entry) (fault : NotStarted) (journal : List Entry) (g : F) (d : D) (ms : List Member)
       → Opens reads keeps disk_told disk_faults aimed path clock words f s.disk entries (Err fault) g d
       → without_drops journal ≡ entries ++ refusal_entries fault

@@ -1,5 +1,5 @@
 // The top call of the daemon.
-ghost use Rattle.std.specs.Prelude.{◌≡◌, ◌⊎◌, ◌↔◌, ◌≤◌, ◌<◌, ◌^◌, List, [], ◌∷◌, length, map, Some, None};
+ghost use Rattle.std.specs.Prelude.{◌≡◌, ◌⊎◌, ◌≤◌, ◌<◌, ◌^◌, List, [], ◌∷◌, length, map, Some, None};
 ghost use Rattle.ug_types.specs.Elements.{Has};
 ghost use Rattle.ug_types.specs.Ends.{Rose};
 ghost use Rattle.ug_audit.specs.Journal.{members};
@@ -11,16 +11,16 @@ ghost use Rattle.ug_serve.specs.Refusals.{IsStatusByTexts};
 ghost use Rattle.ug_serve.specs.Saying.{TurnsServe};
 ghost use Rattle.ug_serve.specs.Serving.{RunsDaemon, ServesStarted, daemon_statuses, objects, turns_status};
 ghost use Rattle.ug_serve.specs.Telling.{TurnsTell};
-ghost use Rattle.ug_serve.specs.Words.{conf_path};
+ghost use Rattle.ug_arguments.specs.Commands.{settings_path};
 
 use crate::listening::listen_for_all;
 use crate::not_started::NotStarted;
 use crate::noting::{entries_of_start, note_refusal};
 use crate::start::{Started, start};
 use crate::turn::{TurnEnd, serve_turns};
-use crate::words::conf_path;
 use jiff::tz::TimeZone;
 use std::alloc::Global;
+use ug_arguments::{WordsFault, read_daemon_words};
 use ug_audit::{Auditor, Entries, Panel};
 use ug_conf::ConfFiles;
 use ug_kernel::Sysfs;
@@ -199,15 +199,18 @@ pub fn run_daemon<Y: Sysfs, D: RuleDisk, F: ConfFiles, N: Links, W: Waiter, C: C
         (words_of_seed seed)
         files.old (objects sysfs.old disk.old links.old waiter.old clock.old
         (members (λ b. ⟦<dyn Auditor as Auditor>⟧ b.vtable) panel.old))
-        (conf_path (map (λ word. word.now) words.now)) result
+        (settings_path (map (λ word. word.now) words.now)) result
         files.new (objects sysfs.new disk.new links.new waiter.new clock.new
         (members (λ b. ⟦<dyn Auditor as Auditor>⟧ b.vtable) panel.new)) }
 
     ensures statuses { Has daemon_statuses result }
-    ensures bad_words { (result ≡ 1) ↔ (conf_path (map (λ word. word.now) words.now) ≡ None) }
-    ensures refused { IsStatusByTexts F.told D.told (conf_path (map (λ word. word.now) words.now))
+    ensures bad_words { result ≡ 1 → settings_path (map (λ word. word.now) words.now) ≡ None }
+    ensures other_words { settings_path (map (λ word. word.now) words.now) ≡ None
+        → Has (1 ∷ 6 ∷ []) result }
+    ensures refused { IsStatusByTexts F.told D.told
+        (settings_path (map (λ word. word.now) words.now))
         disk.old result files.new disk.new }
-    ensures complete { ¬ (conf_path (map (λ word. word.now) words.now) ≡ None) → ¬ (result ≡ 3)
+    ensures complete { ¬ (settings_path (map (λ word. word.now) words.now) ≡ None) → ¬ (result ≡ 3)
         → ¬ (Rose (F.faults files.old) (F.faults files.new))
         → ¬ (Rose (D.faults disk.old) (D.faults disk.new))
         → ¬ (Rose (N.faults links.old) (N.faults links.new))
@@ -223,10 +226,22 @@ pub fn run_daemon<Y: Sysfs, D: RuleDisk, F: ConfFiles, N: Links, W: Waiter, C: C
     ensures sessions { TurnsServe Y.begins Y.gives Y.told Y.calls Y.faults D.keeps D.told D.faults
         N.gives W.gives C.gives }
 {
-    match conf_path(words) {
-        None => 1,
-        Some(path) => serve(
-            alloc, path, seed, zone, sysfs, disk, files, links, waiter, clock, panel, turns,
+    match read_daemon_words(alloc, words) {
+        Err(WordsFault::Bad) => 1,
+        Err(WordsFault::Memory) => NotStarted::Memory.status(),
+        Ok(path) => serve(
+            alloc,
+            path.bytes(),
+            seed,
+            zone,
+            sysfs,
+            disk,
+            files,
+            links,
+            waiter,
+            clock,
+            panel,
+            turns,
         ),
     }
 }

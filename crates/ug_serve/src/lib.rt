@@ -12,7 +12,6 @@ mod respond;
 mod settings;
 mod start;
 mod turn;
-mod words;
 
 pub use daemon::run_daemon;
 pub use turn::{TurnEnd, serve_turn};

@@ -138,12 +138,32 @@ fn what_is_refused_is_told(rt: HostRuntime) {
     assert!(rt; refuses(alloc, None, b"", none) == Some(true));
 }
 
+// The status for these words, where the only settings are at /tmp/c.
+fn status_for(alloc: Global, words: &[&str]) -> Option<u8> {
+    let mut files = files(alloc, b"/tmp/c", Some(b""))?;
+    let mut panel = panel(alloc, &[])?;
+    run(alloc, words, &mut files, b"", 1, &mut panel)
+}
+
+#[test]
+fn words_name_the_settings(rt: HostRuntime) {
+    let alloc = rt.alloc();
+    assert!(rt; status_for(alloc, &[]) == Some(3));
+    assert!(rt; status_for(alloc, &["--conf", "/tmp/c"]) == Some(0));
+    assert!(rt; status_for(alloc, &["--conf=/tmp/c"]) == Some(0));
+    assert!(rt; status_for(alloc, &["--conf", ""]) == Some(3));
+}
+
 #[test]
 fn bad_words_end_the_daemon(rt: HostRuntime) {
     let alloc = rt.alloc();
-    let mut files = files(alloc, USUAL, None).expect(&rt, "memory");
-    let mut panel = panel(alloc, &[]).expect(&rt, "memory");
-    assert!(rt; run(alloc, &["--conf"], &mut files, b"", 1, &mut panel) == Some(1));
+    assert!(rt; status_for(alloc, &["--conf"]) == Some(1));
+    assert!(rt; status_for(alloc, &["/tmp/c"]) == Some(1));
+    assert!(rt; status_for(alloc, &["--conf", "/tmp/c", "now"]) == Some(1));
+    assert!(rt; status_for(alloc, &["--conf=/tmp/c", "--conf=/tmp/c"]) == Some(1));
+    assert!(rt; status_for(alloc, &["--conf", "/tmp/c\n"]) == Some(1));
+    assert!(rt; status_for(alloc, &["--config", "/tmp/c"]) == Some(1));
+    assert!(rt; status_for(alloc, &["--help"]) == Some(1));
 }
 
 // Settings that name a user, and an access file of that name.

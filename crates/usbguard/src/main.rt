@@ -3,7 +3,7 @@
 
 mod usage;
 
-use crate::usage::tell;
+use crate::usage::{tell, tell_unreadable};
 use std::process::ExitCode;
 use std::{env, io};
 use ug_audit::{Auditor, Panel};
@@ -79,7 +79,7 @@ fn main(rt: HostRuntime) -> ExitCode {
             return end_with(&mut out, b"no memory\n", 6);
         }
         Err(_) => {
-            tell(&rt, &[], 1);
+            tell_unreadable(&rt);
             return end_with(&mut out, b"bad words\n", 1);
         }
     };

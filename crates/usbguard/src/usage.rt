@@ -1,87 +1,126 @@
 // What the program tells a person, beside its output.
 
-/// A command's first word, and how it is used.
+/// A command's first word, how it is used, and what else to know of its words.
 struct Usage {
     word: &'static str,
     line: &'static str,
+    hint: &'static str,
 }
+
+const A_DEVICE: &str =
+    "NUMBER is a device's, as list-devices prints it: digits alone, with no leading zero. With -p a rule says the same from now on.";
+
+const AN_INPUT: &str =
+    "It reads standard input, and takes no other word: write < before the name of a file.";
+
+const A_SCRIPT: &str =
+    "It reads standard input, and takes no other word: write < before the name of a file, or usbguard-script | before usbguard.";
+
+const A_SOCKET: &str =
+    "PATH is the socket at which the daemon listens. Without it that is /run/usbguard/root.socket.";
 
 const USAGES: [Usage; 16] = [
     Usage {
         word: "add-user",
         line: "usbguard add-user NAME [--devices LIST] [--policy LIST] [--exceptions LIST] [--parameters LIST] < FILE",
+        hint: "NAME is a user's, or : and a group's. LIST is privileges with commas between, as modify,list, or ALL.",
     },
     Usage {
         word: "allow-device",
         line: "usbguard allow-device NUMBER [-p] [--socket PATH]",
+        hint: A_DEVICE,
     },
     Usage {
         word: "append-rule",
         line: "usbguard append-rule RULE [-a ID] [-t] [--socket PATH]",
+        hint: "RULE is one word: put it in quotes, as 'allow 1050:0011'. ID is a rule's, as list-rules prints it, or 0 for the front. With -t the rule file stays as it is.",
     },
     Usage {
         word: "block-device",
         line: "usbguard block-device NUMBER [-p] [--socket PATH]",
+        hint: A_DEVICE,
     },
     Usage {
         word: "check-rules",
         line: "usbguard check-rules < RULES",
+        hint: AN_INPUT,
     },
     Usage {
         word: "daemon",
         line: "usbguard daemon [--conf PATH]",
+        hint: "PATH is the file of settings. Without it that is /etc/usbguard/usbguard-daemon.conf.",
     },
     Usage {
         word: "generate-policy",
         line: "usbguard generate-policy < SCRIPT",
+        hint: A_SCRIPT,
     },
     Usage {
         word: "get-parameter",
         line: "usbguard get-parameter NAME [--socket PATH]",
+        hint: "NAME is a setting's: ImplicitPolicyTarget or InsertedDevicePolicy.",
     },
     Usage {
         word: "list-devices",
         line: "usbguard list-devices [--socket PATH]",
+        hint: A_SOCKET,
     },
     Usage {
         word: "list-rules",
         line: "usbguard list-rules [--socket PATH]",
+        hint: A_SOCKET,
     },
     Usage {
         word: "read-descriptor",
         line: "usbguard read-descriptor < DESCRIPTORS",
+        hint: AN_INPUT,
     },
     Usage {
         word: "reject-device",
         line: "usbguard reject-device NUMBER [-p] [--socket PATH]",
+        hint: A_DEVICE,
     },
     Usage {
         word: "remove-rule",
         line: "usbguard remove-rule ID [--socket PATH]",
+        hint: "ID is a rule's, as list-rules prints it: digits alone, with no leading zero.",
     },
     Usage {
         word: "replay",
         line: "usbguard replay < SCRIPT",
+        hint: A_SCRIPT,
     },
     Usage {
         word: "set-parameter",
         line: "usbguard set-parameter NAME VALUE [--socket PATH]",
+        hint: "NAME is a setting's: ImplicitPolicyTarget or InsertedDevicePolicy. VALUE is one word, as block.",
     },
     Usage {
         word: "watch",
         line: "usbguard watch [-n MOST] [--socket PATH]",
+        hint: "MOST is from 1 to 1000000: so many notices are printed at most.",
     },
 ];
 
-// Tells how the command of that word is used, or all of them where there is none.
-fn tell_usage(rt: &HostRuntime, word: &str) -> std::io::Result<()> {
-    let known = USAGES.iter().any(|usage| usage.word == word);
+fn usage_of(word: &str) -> Option<&'static Usage> {
+    USAGES.iter().find(|usage| usage.word == word)
+}
+
+// How the command is used.
+fn tell_usage(rt: &HostRuntime, usage: &Usage) -> std::io::Result<()> {
+    let line = usage.line;
+    let hint = usage.hint;
+    eprintln!(rt; "usage: {line}")?;
+    eprintln!(rt; "{hint}")?;
+    eprintln!(rt; "The manual page usbguard(1) says what it does.")
+}
+
+// How each command is used.
+fn tell_usages(rt: &HostRuntime) -> std::io::Result<()> {
     eprintln!(rt; "usage:")?;
     for usage in USAGES.iter() {
-        if !known || usage.word == word {
-            let line = usage.line;
-            eprintln!(rt; "  {line}")?;
-        }
+        let line = usage.line;
+        eprintln!(rt; "  {line}")?;
     }
     eprintln!(rt; "The manual page usbguard(1) says what each does.")
 }
@@ -90,32 +129,45 @@ fn has(words: &[&str], long: &str, short: &str) -> bool {
     words.iter().any(|word| *word == long || *word == short)
 }
 
+// What is wrong with words that are no command.
+fn complaint(words: &[&str], usage: Option<&Usage>) -> &'static str {
+    match (words, usage) {
+        ([], _) => "a command is missing.",
+        (_, Some(_)) => "the command doesn't take these words.",
+        (_, None) => "there is no such command.",
+    }
+}
+
 // What to do about words that are no command.
 fn tell_words(rt: &HostRuntime, words: &[&str]) -> std::io::Result<()> {
     if has(words, "--version", "-V") {
         return eprintln!(rt; "usbguard, not released yet");
     }
+    let usage = words.first().and_then(|word| usage_of(word));
     if !has(words, "--help", "-h") {
-        eprintln!(rt; "usbguard: these words are no command.")?;
+        let complaint = complaint(words, usage);
+        eprintln!(rt; "usbguard: {complaint}")?;
     }
-    match words {
-        [first, ..] => tell_usage(rt, first),
-        [] => tell_usage(rt, ""),
+    match usage {
+        Some(usage) => tell_usage(rt, usage),
+        None => tell_usages(rt),
     }
 }
 
 // What to do where a command ended with that status.
 fn advice(status: u8) -> Option<&'static str> {
     match status {
-        2 => Some("The input was refused: mend the place that the last line names, and try again."),
+        2 => Some("The input was refused, as the last line says: mend it, and try again."),
         3 => Some("A rule is bad: mend the line that the last line names, and try again."),
         4 => Some("The input could not be read: see that it can be opened and read to its end."),
         5 => Some(
             "The output could not be written: see that there is room, and that it is read to its end.",
         ),
         6 => Some("Memory ran out: try again with a smaller input, or with more memory."),
-        7 => Some("The daemon refused: usbguard(1) lists the reasons."),
-        8 => Some("No whole reply came: see that usbguard-daemon runs and listens at that socket."),
+        7 => Some("The daemon refused, as the last line says: usbguard(1) lists the reasons."),
+        8 => Some(
+            "No whole reply came: see that usbguard daemon runs and listens at that socket, and that you may open it.",
+        ),
         _ => None,
     }
 }
@@ -134,4 +186,9 @@ pub fn tell(rt: &HostRuntime, words: &[&str], status: u8) {
     if let Some(sentence) = sentence {
         let _told = eprintln!(rt; "usbguard: {sentence}");
     }
+}
+
+/// The same where the words can't be had, since one isn't UTF-8.
+pub fn tell_unreadable(rt: &HostRuntime) {
+    let _told = eprintln!(rt; "usbguard: a word isn't UTF-8.");
 }
