@@ -5,4 +5,5 @@ pub mod Running
 pub mod Said
 pub mod Served
 pub mod Refused
+pub mod Replied
 pub mod Once

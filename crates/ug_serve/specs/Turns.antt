@@ -1,5 +1,5 @@
 -- A turn of the daemon: one wait, one moment, what is accepted and read, the events, and what is sent; and turns one after another.
-use Rattle.std.specs.Prelude.{◌≡◌, ◌⊎◌, ℕ, ◌<◌, ◌≤◌, Bool, true, false, List, [], ◌∷◌, ◌++◌, length, Option, Some, None}
+use Rattle.std.specs.Prelude.{◌≡◌, ◌⊎◌, ℕ, ◌<◌, ◌≤◌, Bool, true, false, List, [], ◌∷◌, ◌++◌, length, Option, Some, None, IsSome}
 use Rattle.std.specs.List.{flat_map}
 use Rattle.ug_types.specs.declared.verdict.Moment.{Moment}
 use Rattle.ug_types.specs.declared.waiter.LinkId.{LinkId}
@@ -110,7 +110,8 @@ module _ {Y D : Type 0} (begins : Y → Y → Type 0) (gives : Y → (call : Cal
     pub entries : d.daemon.sweep.entries ≡ without_drops e.entries
     pub noted : NotesEntries e.entries c.members d.members
 
-  -- the request that is handed out next is an order's, of its session's user or group; what it comes to is put to the sessions at once
+  -- the request that is handed out next is an order's, of its session's user or group; it leaves a reply, and what it comes to is put to the
+  -- sessions at once
   pub record IsOrder (moment : Moment) (a : CoreAndServer Y D) (e : TurnEvent) (b : CoreAndServer Y D) : Type 0 where
     pub asked : AskedLine
     pub handed : CoreAndServer Y D
@@ -118,6 +119,7 @@ module _ {Y D : Type 0} (begins : Y → Y → Type 0) (gives : Y → (call : Cal
     pub session : e.asked_by ≡ Some asked.0
     pub order : e.event ≡ Order moment asked.1 asked.2
     pub handled : IsHandled handed.core e b.core
+    pub replied : IsSome e.after.reply
     pub responds : ChangesSessions (Responds asked.0 e.after e.entries) handed.server b.server
 
   -- there is no request, and all devices are looked at

@@ -1,8 +1,9 @@
-use Rattle.std.proofs.Common.{rules, [], ◌∷◌, None, refl, sym, ◌∙◌}
+use Rattle.std.proofs.Common.{◌≡◌, rules, [], ◌∷◌, None, refl, sym, ◌∙◌}
 use Rattle.ug_audit.specs.Journal.{members}
-use Rattle.ug_core.specs.declared.daemon.Event.TheVariants.{Sweep}
+use Rattle.ug_core.specs.declared.daemon.Event.TheVariants.{Order, Sweep}
 use Rattle.ug_core.specs.Event.{daemon_of}
 use Rattle.ug_serve.specs.Turns.{TurnEvent, Sweeps, Sweeps_not, Serves, Serves_not, core_of, with_server}
+use Rattle.ug_serve.proofs.Replied.{order_leaves}
 use Rattle.ug_serve.proofs.events.serve_events.Goals as goal
 
 pub returns-then-not-has_room : goal.returns-then-not-has_room
@@ -37,9 +38,10 @@ returns-else-not-has_room-2 g c =
     let middle = core_of (daemon_of c.serve_order.new.daemon) c.serve_order.new.sysfs c.serve_order.new.disk (members (λ b. goal.Auditor-dyn g (b.vtable, b.value)) c.serve_order.new.panel) in
     let end_ = core_of (daemon_of c.serve_orders.new.daemon) c.serve_orders.new.sysfs c.serve_orders.new.disk (members (λ b. goal.Auditor-dyn g (b.vtable, b.value)) c.serve_orders.new.panel) in
     let e = c.serve_order.ensures in
+    let is : e.0.event ≡ Order c.args.moment c.in-Some.who c.in-Some.line = grind (rules, e.2) in
     let rest = c.serve_orders.ensures in (
       e.0 ∷ rest.0,
       Serves e.0 (with_server middle c.serve_order.new.server) rest.0 c.serve_orders.result (with_server end_ c.serve_orders.new.server)
-          (record { asked = (c.in-Some.id, c.in-Some.who, c.in-Some.line); handed = with_server here c.next_request.new.self; hands = (refl, (c.in-Some.ensures.principals, c.in-Some.ensures.listeners, c.in-Some.ensures.hands)); session = e.1; order = grind (rules, e.2); handled = e.3; responds = e.4 })
+          (record { asked = (c.in-Some.id, c.in-Some.who, c.in-Some.line); handed = with_server here c.next_request.new.self; hands = (refl, (c.in-Some.ensures.principals, c.in-Some.ensures.listeners, c.in-Some.ensures.hands)); session = e.1; order = is; handled = e.3; replied = order_leaves g.Y.Sysfs.begins g.Y.Sysfs.gives g.Y.Sysfs.told g.Y.Sysfs.calls g.Y.Sysfs.faults g.D.RuleDisk.keeps g.D.RuleDisk.told g.D.RuleDisk.faults c.args.moment c.in-Some.who c.in-Some.line here e.0 middle is e.3; responds = e.4 })
           rest.1,
     )

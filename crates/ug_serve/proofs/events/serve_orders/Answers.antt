@@ -1,10 +1,12 @@
-use Rattle.std.proofs.Common.{rules, arith, ◌<◌, ◌≤◌, [], ◌∷◌, true, false, Some, refl, sym, ◌∙◌}
+use Rattle.std.proofs.Common.{◌≡◌, rules, arith, ◌<◌, ◌≤◌, [], ◌∷◌, true, false, Some, refl, sym, ◌∙◌}
 use Rattle.ug_audit.specs.Journal.{members}
 use Rattle.ug_core.specs.Event.{daemon_of}
+use Rattle.ug_core.specs.declared.daemon.Event.TheVariants.{Order}
 use Rattle.ug_sessions.specs.Waiting.{lines_waiting}
 use Rattle.ug_sessions.proofs.Waiting.{hands_fewer}
 use Rattle.ug_serve.specs.Turns.{core_of, with_server}
 use Rattle.ug_serve.proofs.Notifying.{responds_fewer}
+use Rattle.ug_serve.proofs.Replied.{order_leaves}
 use Rattle.ug_serve.proofs.Ordering.{orders_more, orders_none, orders_cut}
 use Rattle.ug_serve.proofs.events.serve_orders.Goals as goal
 
@@ -25,9 +27,10 @@ loop-id-preserved-else-not-has_room g c =
     let here = core_of (daemon_of c.loop-id.daemon) c.loop-id.sysfs c.loop-id.disk (members (λ b. goal.Auditor-dyn g (b.vtable, b.value)) c.loop-id.panel) in
     let then_ = core_of (daemon_of c.serve_order.new.daemon) c.serve_order.new.sysfs c.serve_order.new.disk (members (λ b. goal.Auditor-dyn g (b.vtable, b.value)) c.serve_order.new.panel) in
     let e = c.serve_order.ensures in
+    let is : e.0.event ≡ Order c.args.moment c.in-Some.who c.in-Some.line = search (rules, e.2) in
     λ es whole b k. c.loop-id.invariant (e.0 ∷ es) whole b
     (orders_more g.Y.Sysfs.begins g.Y.Sysfs.gives g.Y.Sysfs.told g.Y.Sysfs.calls g.Y.Sysfs.faults g.D.RuleDisk.keeps g.D.RuleDisk.told g.D.RuleDisk.faults c.args.moment (with_server here c.loop-id.server) e.0 (with_server then_ c.serve_order.new.server) es whole b
-    (record { asked = (c.in-Some.id, c.in-Some.who, c.in-Some.line); handed = with_server here c.next_request.new.self; hands = (refl, (c.in-Some.ensures.principals, c.in-Some.ensures.listeners, c.in-Some.ensures.hands)); session = e.1; order = search (rules, e.2); handled = e.3; responds = e.4 }) k)
+    (record { asked = (c.in-Some.id, c.in-Some.who, c.in-Some.line); handed = with_server here c.next_request.new.self; hands = (refl, (c.in-Some.ensures.principals, c.in-Some.ensures.listeners, c.in-Some.ensures.hands)); session = e.1; order = is; handled = e.3; replied = order_leaves g.Y.Sysfs.begins g.Y.Sysfs.gives g.Y.Sysfs.told g.Y.Sysfs.calls g.Y.Sysfs.faults g.D.RuleDisk.keeps g.D.RuleDisk.told g.D.RuleDisk.faults c.args.moment c.in-Some.who c.in-Some.line here e.0 then_ is e.3; responds = e.4 }) k)
 
 pub loop-id-smaller-else-not-has_room : goal.loop-id-smaller-else-not-has_room
 loop-id-smaller-else-not-has_room g c =
