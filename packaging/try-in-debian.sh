@@ -104,6 +104,8 @@ show 'timeout 20 usbguard watch -n 2'
 show 'usbguard list-devices | tail -n 1; cat /sys/bus/usb/devices/1-3/authorized'
 show 'usbguard allow-device 4; cat /sys/bus/usb/devices/1-3/authorized'
 show 'usbguard append-rule -t "allow 1050:0014"; usbguard list-rules | tail -n 1; usbguard remove-rule 4'
+show 'usbguard append-rule "allow 1050:0015"; tail -n 1 /etc/usbguard/rules.conf; ls -l /etc/usbguard/rules.conf'
+show 'usbguard block-device 4 -p; usbguard list-rules | tail -n 1; usbguard allow-device 4 -p; usbguard list-rules | tail -n 1'
 show 'usbguard set-parameter ImplicitPolicyTarget reject; usbguard get-parameter ImplicitPolicyTarget'
 show 'su joe -c "usbguard list-devices --socket /run/usbguard/joe.socket" | cut -c 1-30'
 show 'su joe -c "usbguard block-device 2 --socket /run/usbguard/joe.socket"'
@@ -112,6 +114,8 @@ check 'joe may list devices' 'su joe -c "usbguard list-devices --socket /run/usb
 check 'and give no order' 'su joe -c "usbguard block-device 2 --socket /run/usbguard/joe.socket" | grep -qx "refused 2 denied Devices modify"'
 check "nor as root" 'su joe -c "usbguard block-device 2" | grep -qx "link fault"'
 check "another user can't even connect" 'su eve -c "usbguard list-devices --socket /run/usbguard/joe.socket" | grep -qx "link fault"'
+check 'a rule that was appended, and that of a permanent verdict, stand in the rule file, and nothing else is beside it' \
+    'grep -qx "allow id 1050:0015" /etc/usbguard/rules.conf && grep "^allow id 1050:0013 " /etc/usbguard/rules.conf && ls /etc/usbguard | (! grep -v "^usbguard-daemon.conf$\|^rules.conf$\|^IPCAccessControl.d$")'
 check 'a device that no rule names was blocked, and then allowed by order' \
     'grep -x "judged 4 1-3 block implicit" /tmp/journal && grep -x "judged 4 1-3 allow order root" /tmp/journal && grep -x 1 /sys/bus/usb/devices/1-3/authorized'
 stop

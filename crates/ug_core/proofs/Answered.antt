@@ -399,9 +399,6 @@ stands_still k d a same stand = subst (λ (ss : List Standing). Stand k ss a.swe
 pub refused_standings : (d a : DaemonState) (became : Stored) (r : Refusal) → a ≡ replying (reply.Refused r) (noted_store became d) → (a.sweep.standings ≡ d.sweep.standings) × (a.sweep.next ≡ d.sweep.next)
 refused_standings d a became r is = let x = store_standings became d in (ap (λ (v : DaemonState). v.sweep.standings) is ∙ x.0, ap (λ (v : DaemonState). v.sweep.next) is ∙ x.1)
 
-pub left_standings : (d a : DaemonState) (became : Stored) (outcome : Outcome) → a ≡ if_watching outcome.watches (replying (reply.Lines outcome.lines) (with_changes outcome.change (noted_store became d))) → (a.sweep.standings ≡ d.sweep.standings) × (a.sweep.next ≡ d.sweep.next)
-left_standings d a became outcome is = once_standings d a became outcome is
-
 pub answered_stands : (event : Event) (k : Kernel) (d : DaemonState) (became : Stored) (l : Kernel) (a : DaemonState) → IsKernel k → Stand k d.sweep.standings d.sweep.next → AnswersEvent event k d became l a → IsKernel l × Stand l a.sweep.standings a.sweep.next
 answered_stands (Sweep moment) k d became l a sound stand h = (subst (λ (v : Kernel). IsKernel v) (sym h.0) sound, subst (λ (v : Kernel). Stand v a.sweep.standings a.sweep.next) (sym h.0) (subst (λ (x : DaemonState). Stand k x.sweep.standings x.sweep.next) (sym h.2) stand))
 answered_stands (Order moment who line) k d became l a sound stand (inl h) = (h.sound, stands_still l d a (refused_standings d a became h.refused h.state) (stand_stays k l d.sweep.standings d.sweep.next (quiet_grows k l h.quiet) stand))

@@ -28,7 +28,7 @@ use Rattle.ug_policy.specs.declared.entry.RuleEntry.{RuleEntry}
 use Rattle.ug_rule.specs.Faults.{kind_number}
 use Rattle.ug_rule.specs.Rules.{rule_read}
 use Rattle.ug_rule.specs.declared.fault.Fault.{Fault}
-use Rattle.ug_rules.specs.RulePlaces.{has_permanent, first_of, has_rule, if_few, made_rule}
+use Rattle.ug_rules.specs.RulePlaces.{first_of, has_rule, if_few, made_rule}
 use Rattle.ug_rules.specs.RuleRows.{rule_rows}
 use Rattle.ug_rules.specs.declared.edit.Edit.TheVariants.{Insert, Remove}
 use Rattle.ug_rules.proofs.MadeRules.{made_there}
@@ -39,11 +39,11 @@ use Rattle.ug_proto.specs.Requests.{request_read}
 use Rattle.ug_table.specs.Parts.{told_in_reply}
 use Rattle.ug_table.specs.Standings.{numbered}
 use Rattle.ug_table.specs.declared.standing.Standing.{Standing}
-use Rattle.ug_core.specs.Answering.{if_carried_out, is_carried_out, asking, asking_of, by_edit, by_name, by_permanent, by_probe, by_record, by_request, by_rule, by_setting, by_standing, by_value, changing, if_granted, if_read, if_room, if_rule_made, if_rule_read, only, refusing, unless}
-use Rattle.ug_core.specs.Changes.{is_saved, CanChange, change_lines, edit_for, lines_of, parameter_at, record_change, rule_asked, setting_asked, standing_change}
+use Rattle.ug_core.specs.Answering.{asking, asking_of, by_edit, by_name, by_permanent, by_probe, by_record, by_request, by_rule, by_setting, by_standing, by_value, changing, if_granted, if_read, if_room, if_rule_made, if_rule_read, only, refusing, unless}
+use Rattle.ug_core.specs.Changes.{CanChange, change_lines, edit_for, lines_of, parameter_at, record_change, rule_asked, setting_asked, standing_change}
 use Rattle.ug_core.specs.DeviceRows.{device_rows}
 use Rattle.ug_core.specs.Event.{DaemonState}
-use Rattle.ug_core.specs.Laws.{Bad_rule, By_facts, Changes, ComesTo, Denied, Devices, Full, List_rules, No_device, No_memory, No_parameter, No_place, No_record, No_room, No_rule, No_setting, No_value, Not_carried_out, Outcome, Refuses, RefusesBehind, Unread, Value, Watches, WhyRefused, Without_memory, change_of, is_on_device, only_lines, outcome_of_change}
+use Rattle.ug_core.specs.Laws.{Bad_rule, By_facts, Changes, ComesTo, Denied, Devices, Full, List_rules, No_device, No_memory, No_parameter, No_place, No_record, No_room, No_rule, No_setting, No_value, Outcome, Refuses, RefusesBehind, Unread, Value, Watches, WhyRefused, Without_memory, change_of, is_on_device, only_lines, outcome_of_change}
 use Rattle.ug_core.specs.Privileges.{denied_of, first_denied, is_granted}
 use Rattle.ug_core.specs.declared.changes.Change.{Change}
 use Rattle.ug_core.specs.declared.changes.Change.TheVariants.{Rules, Set}
@@ -56,7 +56,6 @@ use Rattle.ug_core.proofs.Places.{few_below, rule_there}
 pub record Probed {S : Type 0} (gives : S → (call : Call) → Answer call → S → Type 0) (who : Named) (line : List ℕ) (d : DaemonState) (number : ℕ) (verdict : Target) (permanent : Bool) (s u : S) : Type 0 where
   pub reads : request_read line ≡ Ok (request.Device number verdict permanent)
   pub granted : is_granted d.access who (needs (request.Device number verdict permanent)) ≡ true
-  pub carried : is_carried_out d.sweep.judge.rules (request.Device number verdict permanent) ≡ true
   pub standing : Standing
   pub stands : numbered number d.sweep.standings ≡ Some standing
   pub found : Told Probe
@@ -85,7 +84,6 @@ pub record IsChosen (who : Named) (line : List ℕ) (d : DaemonState) (c : Choic
   pub asked : Request
   pub reads : request_read line ≡ Ok asked
   pub granted : is_granted d.access who (needs asked) ≡ true
-  pub carried : is_carried_out d.sweep.judge.rules asked ≡ true
   pub no_device : is_on_device asked ≡ false
   pub outcome : Outcome
   pub comes : ComesTo d asked outcome
@@ -169,12 +167,12 @@ module _ {S : Type 0} (gives : S → (call : Call) → Answer call → S → Typ
   refuses : (r : Refusal) → WhyRefused who line d r → told_in_reply (Err r) ≡ [] → (c ≡ refusing r) × (t ≡ s) → It
   refuses r why silent h = Refused_first r why silent h.0 h.1
 
-  module _ (asked : Request) (reads : request_read line ≡ Ok asked) (granted : is_granted d.access who (needs asked) ≡ true) (carried : is_carried_out d.sweep.judge.rules asked ≡ true) where
+  module _ (asked : Request) (reads : request_read line ≡ Ok asked) (granted : is_granted d.access who (needs asked) ≡ true) where
     facts : (r : Refusal) → Refuses d asked r → told_in_reply (Err r) ≡ [] → (c ≡ refusing r) × (t ≡ s) → It
     facts r why silent h = refuses r (By_facts asked r reads granted why) silent h
 
     chooses : (outcome : Outcome) (chosen : Choice) → is_on_device asked ≡ false → ComesTo d asked outcome → outcome.change ≡ change_of d asked → Chosen d outcome chosen → (c ≡ chosen) × (t ≡ s) → It
-    chooses outcome chosen none comes asks how h = Chosen_first (record { asked = asked; reads = reads; granted = granted; carried = carried; no_device = none; outcome = outcome; comes = comes; asks = asks; chosen = chosen; how = how; is = h.0 }) h.1
+    chooses outcome chosen none comes asks how h = Chosen_first (record { asked = asked; reads = reads; granted = granted; no_device = none; outcome = outcome; comes = comes; asks = asks; chosen = chosen; how = how; is = h.0 }) h.1
 
     tells_rows : (rows : List (List ℕ)) → is_on_device asked ≡ false → ComesTo d asked (only_lines rows) → None ≡ change_of d asked → (b : Bool) → Runs gives s (if_room rows b) c t → It
     tells_rows rows none comes asks true h = chooses (only_lines rows) (only (deed.Tell rows)) none comes asks (Told_lines rows) h
@@ -190,88 +188,83 @@ module _ {S : Type 0} (gives : S → (call : Call) → Answer call → S → Typ
   ends_there number verdict permanent x count probe.Gone u stands h = h.1
   ends_there number verdict permanent x count probe.Failed u stands h = h.1
 
-  by_standing_asked : (number : ℕ) (verdict : Target) (permanent : Bool) (o : Option Standing) → numbered number d.sweep.standings ≡ o → request_read line ≡ Ok (request.Device number verdict permanent) → is_granted d.access who (needs (request.Device number verdict permanent)) ≡ true → is_carried_out d.sweep.judge.rules (request.Device number verdict permanent) ≡ true → Runs gives s (by_standing d.sweep.judge number verdict permanent o) c t → It
-  by_standing_asked number verdict permanent None at reads granted carried h = facts (request.Device number verdict permanent) reads granted carried (refusal.NoDevice number) (No_device number verdict permanent at) refl h
-  by_standing_asked number verdict permanent (Some x) at reads granted carried h =
+  by_standing_asked : (number : ℕ) (verdict : Target) (permanent : Bool) (o : Option Standing) → numbered number d.sweep.standings ≡ o → request_read line ≡ Ok (request.Device number verdict permanent) → is_granted d.access who (needs (request.Device number verdict permanent)) ≡ true → Runs gives s (by_standing d.sweep.judge number verdict permanent o) c t → It
+  by_standing_asked number verdict permanent None at reads granted h = facts (request.Device number verdict permanent) reads granted (refusal.NoDevice number) (No_device number verdict permanent at) refl h
+  by_standing_asked number verdict permanent (Some x) at reads granted h =
       let same : t ≡ h.1 = ends_there number verdict permanent x h.0.count h.0.answer h.1 at h.3 in
       by_found number verdict permanent (record {
         reads = reads;
         granted = granted;
-        carried = carried;
         standing = x;
         stands = at;
         found = h.0;
         probed = subst (λ (u : S). gives s (Ask_alive x.held.0) h.0 u) (sym same) h.2;
       }) h.0.answer refl h.1 same h.3
 
-  by_name_asked : (name : List ℕ) (o : Option ParameterName) → parameter_of name ≡ o → request_read line ≡ Ok (request.GetParameter name) → is_granted d.access who (needs (request.GetParameter name)) ≡ true → is_carried_out d.sweep.judge.rules (request.GetParameter name) ≡ true → Runs gives s (by_name d.sweep.judge.classes o) c t → It
-  by_name_asked name None at reads granted carried h = facts (request.GetParameter name) reads granted carried refusal.BadParameter (No_parameter name at) refl h
-  by_name_asked name (Some set) at reads granted carried h = tells_rows (request.GetParameter name) reads granted carried (value_word (parameter_at set d.sweep.judge.classes) ∷ []) refl (Value name set at) refl h.0 h.1
+  by_name_asked : (name : List ℕ) (o : Option ParameterName) → parameter_of name ≡ o → request_read line ≡ Ok (request.GetParameter name) → is_granted d.access who (needs (request.GetParameter name)) ≡ true → Runs gives s (by_name d.sweep.judge.classes o) c t → It
+  by_name_asked name None at reads granted h = facts (request.GetParameter name) reads granted refusal.BadParameter (No_parameter name at) refl h
+  by_name_asked name (Some set) at reads granted h = tells_rows (request.GetParameter name) reads granted (value_word (parameter_at set d.sweep.judge.classes) ∷ []) refl (Value name set at) refl h.0 h.1
 
-  by_value_asked : (name value : List ℕ) (set : ParameterName) (o : Option Parameter) → parameter_of name ≡ Some set → value_of set value ≡ o → request_read line ≡ Ok (request.SetParameter name value) → is_granted d.access who (needs (request.SetParameter name value)) ≡ true → is_carried_out d.sweep.judge.rules (request.SetParameter name value) ≡ true → (c ≡ by_value o) × (t ≡ s) → It
-  by_value_asked name value set None at with reads granted carried h = facts (request.SetParameter name value) reads granted carried refusal.BadValue (No_value name value set at with) refl h
-  by_value_asked name value set (Some to) at with reads granted carried h =
-      chooses (request.SetParameter name value) reads granted carried (outcome_of_change d (Set to)) (changing (Set to) (deed.Tell [])) refl
+  by_value_asked : (name value : List ℕ) (set : ParameterName) (o : Option Parameter) → parameter_of name ≡ Some set → value_of set value ≡ o → request_read line ≡ Ok (request.SetParameter name value) → is_granted d.access who (needs (request.SetParameter name value)) ≡ true → (c ≡ by_value o) × (t ≡ s) → It
+  by_value_asked name value set None at with reads granted h = facts (request.SetParameter name value) reads granted refusal.BadValue (No_value name value set at with) refl h
+  by_value_asked name value set (Some to) at with reads granted h =
+      chooses (request.SetParameter name value) reads granted (outcome_of_change d (Set to)) (changing (Set to) (deed.Tell [])) refl
       (Changes (request.SetParameter name value) (Set to) refl (ap (λ (o : Option ParameterName). setting_asked o value) at ∙ ap (λ (o : Option Parameter). option_map Set o) with))
       (sym (ap (λ (o : Option ParameterName). setting_asked o value) at ∙ ap (λ (o : Option Parameter). option_map Set o) with)) (Told_change (Set to) tt) h
 
-  by_setting_asked : (name value : List ℕ) (o : Option ParameterName) → parameter_of name ≡ o → request_read line ≡ Ok (request.SetParameter name value) → is_granted d.access who (needs (request.SetParameter name value)) ≡ true → is_carried_out d.sweep.judge.rules (request.SetParameter name value) ≡ true → (c ≡ by_setting o value) × (t ≡ s) → It
-  by_setting_asked name value None at reads granted carried h = facts (request.SetParameter name value) reads granted carried refusal.BadParameter (No_setting name value at) refl h
-  by_setting_asked name value (Some set) at reads granted carried h = by_value_asked name value set (value_of set value) at refl reads granted carried h
+  by_setting_asked : (name value : List ℕ) (o : Option ParameterName) → parameter_of name ≡ o → request_read line ≡ Ok (request.SetParameter name value) → is_granted d.access who (needs (request.SetParameter name value)) ≡ true → (c ≡ by_setting o value) × (t ≡ s) → It
+  by_setting_asked name value None at reads granted h = facts (request.SetParameter name value) reads granted refusal.BadParameter (No_setting name value at) refl h
+  by_setting_asked name value (Some set) at reads granted h = by_value_asked name value set (value_of set value) at refl reads granted h
 
-  by_id_asked : (id : ℕ) (there : Bool) → has_rule id d.sweep.judge.rules ≡ there → request_read line ≡ Ok (request.RemoveRule id) → is_granted d.access who (needs (request.RemoveRule id)) ≡ true → is_carried_out d.sweep.judge.rules (request.RemoveRule id) ≡ true → (c ≡ unless (cond there None (Some (refusal.NoRule id))) (changing (Rules (Remove id)) (deed.Tell []))) × (t ≡ s) → It
-  by_id_asked id false at reads granted carried h = facts (request.RemoveRule id) reads granted carried (refusal.NoRule id) (No_rule id at) refl h
-  by_id_asked id true at reads granted carried h = chooses (request.RemoveRule id) reads granted carried (outcome_of_change d (Rules (Remove id))) (changing (Rules (Remove id)) (deed.Tell [])) refl (Changes (request.RemoveRule id) (Rules (Remove id)) refl refl) refl (Told_change (Rules (Remove id)) (rule_there id d.sweep.judge.rules at)) h
+  by_id_asked : (id : ℕ) (there : Bool) → has_rule id d.sweep.judge.rules ≡ there → request_read line ≡ Ok (request.RemoveRule id) → is_granted d.access who (needs (request.RemoveRule id)) ≡ true → (c ≡ unless (cond there None (Some (refusal.NoRule id))) (changing (Rules (Remove id)) (deed.Tell []))) × (t ≡ s) → It
+  by_id_asked id false at reads granted h = facts (request.RemoveRule id) reads granted (refusal.NoRule id) (No_rule id at) refl h
+  by_id_asked id true at reads granted h = chooses (request.RemoveRule id) reads granted (outcome_of_change d (Rules (Remove id))) (changing (Rules (Remove id)) (deed.Tell [])) refl (Changes (request.RemoveRule id) (Rules (Remove id)) refl refl) refl (Told_change (Rules (Remove id)) (rule_there id d.sweep.judge.rules at)) h
 
-  module _ (place : After) (permanent : Bool) (text : List ℕ) (reads : request_read line ≡ Ok (request.AppendRule place permanent text)) (granted : is_granted d.access who (needs (request.AppendRule place permanent text)) ≡ true) (carried : is_carried_out d.sweep.judge.rules (request.AppendRule place permanent text) ≡ true) where
+  module _ (place : After) (permanent : Bool) (text : List ℕ) (reads : request_read line ≡ Ok (request.AppendRule place permanent text)) (granted : is_granted d.access who (needs (request.AppendRule place permanent text)) ≡ true) where
     abbrev Added : Rule → Change
     Added rule = Rules (Insert place rule (not permanent))
 
     by_few_asked : (rule : Rule) (b : Bool) → nat_lt (length d.sweep.judge.rules) 65536 ≡ b → rule_read text ≡ Ok rule → IsThere place d.sweep.judge.rules → (c ≡ unless (cond b None (Some refusal.RulesFull)) (changing (Added rule) (deed.Tell (change_lines (Added rule) d.sweep.judge.next)))) × (t ≡ s) → It
-    by_few_asked rule false few read there h = facts (request.AppendRule place permanent text) reads granted carried refusal.RulesFull (Full place permanent text rule read there (full_from (length d.sweep.judge.rules) few)) refl h
+    by_few_asked rule false few read there h = facts (request.AppendRule place permanent text) reads granted refusal.RulesFull (Full place permanent text rule read there (full_from (length d.sweep.judge.rules) few)) refl h
     by_few_asked rule true few read there h =
-        chooses (request.AppendRule place permanent text) reads granted carried (outcome_of_change d (Added rule)) (changing (Added rule) (deed.Tell (change_lines (Added rule) d.sweep.judge.next))) refl
+        chooses (request.AppendRule place permanent text) reads granted (outcome_of_change d (Added rule)) (changing (Added rule) (deed.Tell (change_lines (Added rule) d.sweep.judge.next))) refl
         (Changes (request.AppendRule place permanent text) (Added rule) refl (ap (λ (r : Result Rule Fault). rule_asked place permanent r) read))
         (sym (ap (λ (r : Result Rule Fault). rule_asked place permanent r) read)) (Told_change (Added rule) (there, few_below (length d.sweep.judge.rules) few)) h
 
-  by_place_asked : (place : After) (permanent : Bool) (text : List ℕ) (rule : Rule) → rule_read text ≡ Ok rule → request_read line ≡ Ok (request.AppendRule place permanent text) → is_granted d.access who (needs (request.AppendRule place permanent text)) ≡ true → is_carried_out d.sweep.judge.rules (request.AppendRule place permanent text) ≡ true → (c ≡ by_rule d.sweep.judge place permanent (Ok rule)) × (t ≡ s) → It
-  by_place_asked after.End permanent text rule read reads granted carried h = by_few_asked after.End permanent text reads granted carried rule (nat_lt (length d.sweep.judge.rules) 65536) refl read tt h
-  by_place_asked after.Front permanent text rule read reads granted carried h = by_few_asked after.Front permanent text reads granted carried rule (nat_lt (length d.sweep.judge.rules) 65536) refl read tt h
-  by_place_asked (after.Rule id) permanent text rule read reads granted carried h = by_there (has_rule id d.sweep.judge.rules) refl h
+  by_place_asked : (place : After) (permanent : Bool) (text : List ℕ) (rule : Rule) → rule_read text ≡ Ok rule → request_read line ≡ Ok (request.AppendRule place permanent text) → is_granted d.access who (needs (request.AppendRule place permanent text)) ≡ true → (c ≡ by_rule d.sweep.judge place permanent (Ok rule)) × (t ≡ s) → It
+  by_place_asked after.End permanent text rule read reads granted h = by_few_asked after.End permanent text reads granted rule (nat_lt (length d.sweep.judge.rules) 65536) refl read tt h
+  by_place_asked after.Front permanent text rule read reads granted h = by_few_asked after.Front permanent text reads granted rule (nat_lt (length d.sweep.judge.rules) 65536) refl read tt h
+  by_place_asked (after.Rule id) permanent text rule read reads granted h = by_there (has_rule id d.sweep.judge.rules) refl h
     where
       by_there : (b : Bool) → has_rule id d.sweep.judge.rules ≡ b → (c ≡ unless (first_of (cond b None (Some (refusal.NoRule id))) (if_few d.sweep.judge.rules)) (changing (Rules (Insert (after.Rule id) rule (not permanent))) (deed.Tell (change_lines (Rules (Insert (after.Rule id) rule (not permanent))) d.sweep.judge.next)))) × (t ≡ s) → It
-      by_there false at k = facts (request.AppendRule (after.Rule id) permanent text) reads granted carried (refusal.NoRule id) (No_place id permanent text rule read at) refl k
-      by_there true at k = by_few_asked (after.Rule id) permanent text reads granted carried rule (nat_lt (length d.sweep.judge.rules) 65536) refl read (rule_there id d.sweep.judge.rules at) k
+      by_there false at k = facts (request.AppendRule (after.Rule id) permanent text) reads granted (refusal.NoRule id) (No_place id permanent text rule read at) refl k
+      by_there true at k = by_few_asked (after.Rule id) permanent text reads granted rule (nat_lt (length d.sweep.judge.rules) 65536) refl read (rule_there id d.sweep.judge.rules at) k
 
-  by_rule_asked : (place : After) (permanent : Bool) (text : List ℕ) (b : Bool) → request_read line ≡ Ok (request.AppendRule place permanent text) → is_granted d.access who (needs (request.AppendRule place permanent text)) ≡ true → is_carried_out d.sweep.judge.rules (request.AppendRule place permanent text) ≡ true → Runs gives s (if_rule_read d.sweep.judge place permanent text b) c t → It
-  by_rule_asked place permanent text false reads granted carried h = refuses (refusal.Memory false) No_memory refl h
-  by_rule_asked place permanent text true reads granted carried h = by_read (rule_read text) refl h
+  by_rule_asked : (place : After) (permanent : Bool) (text : List ℕ) (b : Bool) → request_read line ≡ Ok (request.AppendRule place permanent text) → is_granted d.access who (needs (request.AppendRule place permanent text)) ≡ true → Runs gives s (if_rule_read d.sweep.judge place permanent text b) c t → It
+  by_rule_asked place permanent text false reads granted h = refuses (refusal.Memory false) No_memory refl h
+  by_rule_asked place permanent text true reads granted h = by_read (rule_read text) refl h
     where
       by_read : (r : Result Rule Fault) → rule_read text ≡ r → (c ≡ by_rule d.sweep.judge place permanent r) × (t ≡ s) → It
-      by_read (Err bad) read k = facts (request.AppendRule place permanent text) reads granted carried (refusal.BadRule (kind_number bad.kind) bad.place) (Bad_rule place permanent text bad read) refl k
-      by_read (Ok rule) read k = by_place_asked place permanent text rule read reads granted carried k
+      by_read (Err bad) read k = facts (request.AppendRule place permanent text) reads granted (refusal.BadRule (kind_number bad.kind) bad.place) (Bad_rule place permanent text bad read) refl k
+      by_read (Ok rule) read k = by_place_asked place permanent text rule read reads granted k
 
-  granted_asked : (asked : Request) → request_read line ≡ Ok asked → is_granted d.access who (needs asked) ≡ true → is_carried_out d.sweep.judge.rules asked ≡ true → Runs gives s (asking_of d asked) c t → It
-  granted_asked (request.GetParameter name) reads granted carried h = by_name_asked name (parameter_of name) refl reads granted carried h
-  granted_asked (request.SetParameter name value) reads granted carried h = by_setting_asked name value (parameter_of name) refl reads granted carried h
-  granted_asked request.ListDevices reads granted carried h = tells_rows request.ListDevices reads granted carried (device_rows d.sweep.standings) refl Devices refl h.0 h.1
-  granted_asked (request.Device number verdict permanent) reads granted carried h = by_standing_asked number verdict permanent (numbered number d.sweep.standings) refl reads granted carried h
-  granted_asked request.ListRules reads granted carried h = tells_rows request.ListRules reads granted carried (rule_rows d.sweep.judge.rules) refl List_rules refl h.0 h.1
-  granted_asked (request.AppendRule place permanent text) reads granted carried h = by_rule_asked place permanent text h.0 reads granted carried h.1
-  granted_asked (request.RemoveRule id) reads granted carried h = by_id_asked id (has_rule id d.sweep.judge.rules) refl reads granted carried h
-  granted_asked request.Watch reads granted carried h = chooses request.Watch reads granted carried (record { lines = []; change = None; watches = true }) (only deed.Watch) refl Watches refl Told_watch h
+  granted_asked : (asked : Request) → request_read line ≡ Ok asked → is_granted d.access who (needs asked) ≡ true → Runs gives s (asking_of d asked) c t → It
+  granted_asked (request.GetParameter name) reads granted h = by_name_asked name (parameter_of name) refl reads granted h
+  granted_asked (request.SetParameter name value) reads granted h = by_setting_asked name value (parameter_of name) refl reads granted h
+  granted_asked request.ListDevices reads granted h = tells_rows request.ListDevices reads granted (device_rows d.sweep.standings) refl Devices refl h.0 h.1
+  granted_asked (request.Device number verdict permanent) reads granted h = by_standing_asked number verdict permanent (numbered number d.sweep.standings) refl reads granted h
+  granted_asked request.ListRules reads granted h = tells_rows request.ListRules reads granted (rule_rows d.sweep.judge.rules) refl List_rules refl h.0 h.1
+  granted_asked (request.AppendRule place permanent text) reads granted h = by_rule_asked place permanent text h.0 reads granted h.1
+  granted_asked (request.RemoveRule id) reads granted h = by_id_asked id (has_rule id d.sweep.judge.rules) refl reads granted h
+  granted_asked request.Watch reads granted h = chooses request.Watch reads granted (record { lines = []; change = None; watches = true }) (only deed.Watch) refl Watches refl Told_watch h
 
   by_request_asked : (read : Result Request ℕ) → request_read line ≡ read → Runs gives s (by_request d who read) c t → It
   by_request_asked (Err place) reads h = refuses (refusal.BadRequest place) (Unread place reads) refl h
   by_request_asked (Ok asked) reads h = by_denied (denied_of d.access who (needs asked)) refl h
     where
-      by_carried : is_granted d.access who (needs asked) ≡ true → (b : Bool) → is_carried_out d.sweep.judge.rules asked ≡ b → Runs gives s (if_carried_out b (asking_of d asked)) c t → It
-      by_carried granted true is k = granted_asked asked reads granted is k
-      by_carried granted false is k = refuses (refusal.BadRequest 0) (Not_carried_out asked reads granted is) refl k
-
-      by_denied : (o : Option Refusal) → denied_of d.access who (needs asked) ≡ o → Runs gives s (if_granted o (if_carried_out (is_carried_out d.sweep.judge.rules asked) (asking_of d asked))) c t → It
+      by_denied : (o : Option Refusal) → denied_of d.access who (needs asked) ≡ o → Runs gives s (if_granted o (asking_of d asked)) c t → It
       by_denied (Some refused) is k = refuses refused (Denied asked refused reads is) (denied_silent d.access who asked refused is) k
-      by_denied None is k = by_carried (undenied_by d.access who asked is) (is_carried_out d.sweep.judge.rules asked) refl k
+      by_denied None is k = granted_asked asked reads (undenied_by d.access who asked is) k
 
   asked_so : Runs gives s (asking d who line) c t → It
   unfolding asking
@@ -283,56 +276,3 @@ module _ {S : Type 0} (gives : S → (call : Call) → Answer call → S → Typ
 
 pub asked_of : {S : Type 0} (gives : S → (call : Call) → Answer call → S → Type 0) (who : Named) (line : List ℕ) (d : DaemonState) (c : Choice) (s t : S) → Runs gives s (asking d who line) c t → Asked gives who line d c s t
 asked_of gives who line d c s t h = asked_so gives who line d c s t h
-
--- while orders that change the rule file aren't carried out, nothing is saved for one
-
-unsaved_asked : (d : DaemonState) (asked : Request) (change : Change) → is_carried_out d.sweep.judge.rules asked ≡ true → Some change ≡ change_of d asked → is_saved change d.sweep.judge.rules ≡ false
-unsaved_asked d (request.Device number verdict true) change carried is = let none : ⊥ = cc in absurd none
-unsaved_asked d (request.Device number verdict false) change carried is = let none : ⊥ = cc in absurd none
-unsaved_asked d (request.GetParameter name) change carried is = let none : ⊥ = cc in absurd none
-unsaved_asked d (request.SetParameter name value) change carried is = by_name (parameter_of name) is
-  where
-    by_value : (o : Option Parameter) → Some change ≡ option_map Set o → is_saved change d.sweep.judge.rules ≡ false
-    by_value None k = let none : ⊥ = cc in absurd none
-    by_value (Some set) k = subst (λ (x : Change). is_saved x d.sweep.judge.rules ≡ false) (sym (same_Some change (Set set) k)) refl
-
-    by_name : (o : Option ParameterName) → Some change ≡ setting_asked o value → is_saved change d.sweep.judge.rules ≡ false
-    by_name None k = let none : ⊥ = cc in absurd none
-    by_name (Some set) k = by_value (value_of set value) k
-unsaved_asked d request.ListDevices change carried is = let none : ⊥ = cc in absurd none
-unsaved_asked d request.ListRules change carried is = let none : ⊥ = cc in absurd none
-unsaved_asked d (request.AppendRule place true text) change carried is = let none : ⊥ = cc in absurd none
-unsaved_asked d (request.AppendRule place false text) change carried is = by_read (rule_read text) is
-  where
-    by_read : (r : Result Rule Fault) → Some change ≡ rule_asked place false r → is_saved change d.sweep.judge.rules ≡ false
-    by_read (Err bad) k = let none : ⊥ = cc in absurd none
-    by_read (Ok rule) k = subst (λ (x : Change). is_saved x d.sweep.judge.rules ≡ false) (sym (same_Some change (Rules (Insert place rule true)) k)) refl
-unsaved_asked d (request.RemoveRule id) change carried is =
-    subst (λ (x : Change). is_saved x d.sweep.judge.rules ≡ false) (sym (same_Some change (Rules (Remove id)) is)) (by_flag (has_permanent id d.sweep.judge.rules) carried)
-  where
-    by_flag : (b : Bool) → not b ≡ true → b ≡ false
-    by_flag true k = let none : ⊥ = cc in absurd none
-    by_flag false k = refl
-unsaved_asked d request.Watch change carried is = let none : ⊥ = cc in absurd none
-
--- whether nothing is saved for it
-abbrev pub IsUnsaved : List RuleEntry → Option Change → Type 0
-IsUnsaved rules (Some change) = is_saved change rules ≡ false
-IsUnsaved rules None = Unit {0}
-
-unsaved_of : (d : DaemonState) (asked : Request) (o : Option Change) → is_carried_out d.sweep.judge.rules asked ≡ true → o ≡ change_of d asked → IsUnsaved d.sweep.judge.rules o
-unsaved_of d asked None carried is = tt
-unsaved_of d asked (Some change) carried is = unsaved_asked d asked change carried is
-
-chosen_change : (d : DaemonState) (outcome : Outcome) (v : Choice) → Chosen d outcome v → v.change ≡ outcome.change
-chosen_change d _ _ (Told_lines rows) = refl
-chosen_change d _ _ (Told_change change can) = refl
-chosen_change d _ _ Told_watch = refl
-
-pub asked_unsaved : {S : Type 0} (gives : S → (call : Call) → Answer call → S → Type 0) (who : Named) (line : List ℕ) (d : DaemonState) (c : Choice) (s t : S) → Asked gives who line d c s t → IsUnsaved d.sweep.judge.rules c.change
-asked_unsaved gives who line d c s t (Refused_first r why quiet is same) = subst (λ (v : Choice). IsUnsaved d.sweep.judge.rules v.change) (sym is) tt
-asked_unsaved gives who line d c s t (Chosen_first x same) = subst (λ (v : Choice). IsUnsaved d.sweep.judge.rules v.change) (sym x.is) (unsaved_of d x.asked x.chosen.change x.carried (chosen_change d x.outcome x.chosen x.how ∙ x.asks))
-asked_unsaved gives who line d c s t (Not_found number verdict permanent x (inl m)) = subst (λ (v : Choice). IsUnsaved d.sweep.judge.rules v.change) (sym m.1) tt
-asked_unsaved gives who line d c s t (Not_found number verdict permanent x (inr m)) = subst (λ (v : Choice). IsUnsaved d.sweep.judge.rules v.change) (sym m.1) tt
-asked_unsaved gives who line d c s t (Found number verdict permanent on x alive (Refused_so r why quiet is)) = subst (λ (v : Choice). IsUnsaved d.sweep.judge.rules v.change) (sym is) tt
-asked_unsaved gives who line d c s t (Found number verdict permanent on x alive (Set_so change asks has can is)) = subst (λ (v : Choice). IsUnsaved d.sweep.judge.rules v.change) (sym is) (unsaved_of d (request.Device number verdict permanent) change x.carried asks)

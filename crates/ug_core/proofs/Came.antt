@@ -16,7 +16,7 @@ use Rattle.ug_proto.specs.declared.request.Request.TheVariants as request
 use Rattle.ug_proto.specs.Privileges.{needs}
 use Rattle.ug_proto.specs.Requests.{request_read}
 use Rattle.ug_print.specs.RuleTexts.{rules_limit}
-use Rattle.ug_rules.specs.RuleFile.{permanent_text}
+use Rattle.ug_rules.specs.RuleFile.{FitsFile, permanent_text}
 use Rattle.ug_store.specs.DiskCalls.{DiskCall, DiskTold}
 use Rattle.ug_store.specs.Store.{Ended, RunsDisk, saving}
 use Rattle.ug_store.proofs.DiskRuns.{runs_split_disk}
@@ -28,8 +28,9 @@ use Rattle.ug_core.specs.Answering.{acting, answered_with, asking, changing, dee
 use Rattle.ug_core.specs.Changes.{CanChange, change_lines, changed_by, is_saved, lines_of}
 use Rattle.ug_core.specs.Event.{DaemonState}
 use Rattle.ug_core.specs.Laws.{AnswersAtOnce, ComesTo, IsInForce, Outcome, RefusesBehind, StoreRefuses, Unstored, WhyRefused, change_of, if_watching, is_on_device, only_lines, outcome_of_change}
+use Rattle.ug_core.specs.Policy.{Judging}
 use Rattle.ug_core.specs.Privileges.{is_granted}
-use Rattle.ug_core.specs.Storing.{StoresAs, after_saving, if_fits, if_in_force, if_kept, if_saved, noted_store, refused_by, stored_with, storing, with_changes}
+use Rattle.ug_core.specs.Storing.{after_saving, if_fits, if_in_force, if_kept, if_saved, noted_store, refused_by, stored_with, storing, with_changes}
 use Rattle.ug_core.specs.declared.changes.Change.{Change}
 use Rattle.ug_core.specs.declared.choosing.Choice.{Choice}
 use Rattle.ug_core.specs.declared.choosing.Deed.TheVariants as deed
@@ -43,6 +44,15 @@ runs_split gives s (Ask call next) f r t h = let k = runs_split gives h.1 (next 
 runs_split gives s (Room next) f r t h = let k = runs_split gives s (next h.0) f r t h.1 in (k.0, k.1, (h.0, k.2), k.3)
 
 -- ---- the stage on the disk
+
+-- A change of permanent rules was saved, or that failed, or there is no room for its text; no other is saved. Memory may be short.
+abbrev pub StoresAs : Judging → Option Change → Stored → Type 0
+StoresAs p None became = became ≡ stored.NotNeeded
+StoresAs p (Some change) stored.NotNeeded = is_saved change p.rules ≡ false
+StoresAs p (Some change) stored.Done = is_saved change p.rules ≡ true
+StoresAs p (Some change) (stored.Failed count) = is_saved change p.rules ≡ true
+StoresAs p (Some change) stored.TooLong = (is_saved change p.rules ≡ true) × (FitsFile (changed_by change p).rules → ⊥)
+StoresAs p (Some change) stored.Memory = Unit {0}
 
 pub stores_as : {T : Type 0} (keeps : T → (call : DiskCall) → DiskTold call → T → Type 0) (o : T) (d : DaemonState) (change : Option Change) (became : Stored) (p : T) → RunsDisk keeps o (storing d change) became p → StoresAs d.sweep.judge change became
 unfolding storing
@@ -199,11 +209,11 @@ module _ {S : Type 0} (gives : S → (call : Call) → Answer call → S → Typ
   by_missing number verdict permanent x c (inl m) stores h =
       let none : became ≡ stored.NotNeeded = subst (λ (v : Choice). StoresAs d.sweep.judge v.change became) m.1 stores in
       let e = plain (refusal.NoDevice number) none (subst Acts m.1 h) in
-      At_probe number verdict permanent (record { reads = x.reads; granted = x.granted; carried = x.carried; standing = x.standing; stands = x.stands; found = x.found; probed = subst (λ (v : S). gives s (Ask_alive x.standing.held.0) x.found v) (sym e.1) x.probed }) (refusal.NoDevice number) (inl (m.0, refl)) (ap (λ (v : Choice). v.change) m.1) none e.0
+      At_probe number verdict permanent (record { reads = x.reads; granted = x.granted; standing = x.standing; stands = x.stands; found = x.found; probed = subst (λ (v : S). gives s (Ask_alive x.standing.held.0) x.found v) (sym e.1) x.probed }) (refusal.NoDevice number) (inl (m.0, refl)) (ap (λ (v : Choice). v.change) m.1) none e.0
   by_missing number verdict permanent x c (inr m) stores h =
       let none : became ≡ stored.NotNeeded = subst (λ (v : Choice). StoresAs d.sweep.judge v.change became) m.1 stores in
       let e = plain (refusal.ProbeFault x.found.count) none (subst Acts m.1 h) in
-      At_probe number verdict permanent (record { reads = x.reads; granted = x.granted; carried = x.carried; standing = x.standing; stands = x.stands; found = x.found; probed = subst (λ (v : S). gives s (Ask_alive x.standing.held.0) x.found v) (sym e.1) x.probed }) (refusal.ProbeFault x.found.count) (inr (m.0, refl)) (ap (λ (v : Choice). v.change) m.1) none e.0
+      At_probe number verdict permanent (record { reads = x.reads; granted = x.granted; standing = x.standing; stands = x.stands; found = x.found; probed = subst (λ (v : S). gives s (Ask_alive x.standing.held.0) x.found v) (sym e.1) x.probed }) (refusal.ProbeFault x.found.count) (inr (m.0, refl)) (ap (λ (v : Choice). v.change) m.1) none e.0
 
   came : (c : Choice) → Runs gives s (asking d who line) c u → StoresAs d.sweep.judge c.change became → Acts c → Comes c.change
   came c asks stores h = by_asked (asked_of gives who line d c s u asks)

@@ -20,7 +20,7 @@ use Rattle.ug_core.specs.Policy.{Judging}
 use Rattle.ug_core.specs.Event.{DaemonState, IsStarted}
 use Rattle.ug_core.specs.InForce.{Decision, decision_of, decisions_in, last_decision, in_force, is_ordered}
 use Rattle.ug_core.specs.Rulings.{Decided, Ruling, Told, after_steps, at_moment, ruling_answer}
-use Rattle.ug_core.specs.Chain.{Happened, IsEvent, StaysOnDisk, Chain, IsKeptThroughout, decided, journal, told_of, has_listed, WasDecided, IsExplained, IsJudgedOnce, IsRun}
+use Rattle.ug_core.specs.Chain.{Happened, IsEvent, StaysOnDisk, Chain, IsKeptThroughout, journal, told_of, has_listed, WasDecided, IsExplained, IsJudgedOnce, IsRun}
 use Rattle.ug_core.proofs.Verdicts.{is_verdict}
 use Rattle.ug_core.proofs.InForce.{unordered_has, decisions_append, or_else_none, last_has}
 use Rattle.ug_core.proofs.Walk.{WasWritten}

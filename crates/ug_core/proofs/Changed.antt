@@ -5,7 +5,6 @@ use Rattle.std.proofs.lemmas.Bool.{eqb-false}
 use Rattle.ug_types.specs.Elements.{Has, AllDistinct}
 use Rattle.ug_types.specs.declared.rule.After.{After}
 use Rattle.ug_types.specs.declared.rule.After.TheVariants as after
-use Rattle.ug_types.specs.declared.rule.Rule.{Rule}
 use Rattle.rand_core.specs.Stream.{Stream}
 use Rattle.ug_cond.specs.Judgements.{Judgement}
 use Rattle.ug_cond.specs.Words.{behind}

@@ -1,5 +1,5 @@
 -- From the failures that an order and a sweep tell to those of an event.
-use Rattle.std.proofs.Common.{◌≡◌, ℕ, ◌<◌, List, [], ◌∷◌, ◌++◌, refl, sym, ◌∙◌, ap, subst, append-nil, append_assoc, arith}
+use Rattle.std.proofs.Common.{◌≡◌, ℕ, List, [], ◌∷◌, ◌++◌, refl, sym, ◌∙◌, ap, subst, append-nil, append_assoc, arith}
 use Rattle.ug_types.specs.Elements.{AllDistinct}
 use Rattle.ug_kernel.specs.Calls.{Call, Names, Answer}
 use Rattle.ug_kernel.specs.declared.calls.FailedCall.{FailedCall}

@@ -1,15 +1,12 @@
 -- From the law of a sweep to that of an event.
-use Rattle.std.proofs.Common.{◌≡◌, ℕ, ◌+◌, List, [], ◌∷◌, ◌++◌, Option, Some, None, refl, subst}
-use Rattle.ug_types.specs.declared.saved.Saved.{Saved}
-use Rattle.ug_types.specs.declared.verdict.Moment.{Moment}
+use Rattle.std.proofs.Common.{◌≡◌, ◌+◌, List, [], ◌∷◌, ◌++◌, subst}
 use Rattle.ug_kernel.specs.Kernel.{Kernel}
 use Rattle.ug_audit.specs.declared.entry.Entry.{Entry}
 use Rattle.ug_audit.specs.declared.entry.Entry.TheVariants as entry
-use Rattle.ug_table.specs.Parts.{failures_told, unsettled_names}
 use Rattle.ug_table.specs.State.{State}
 use Rattle.ug_table.specs.Laws.{Swept}
 use Rattle.ug_core.specs.Policy.{Judging, policy_answer, policy_later}
-use Rattle.ug_core.specs.Event.{DaemonState, saved_entries}
+use Rattle.ug_core.specs.Event.{DaemonState}
 use Rattle.ug_core.specs.Laws.{Handled}
 
 pub handled : (d : DaemonState) (k l : Kernel) (v : State Judging) (es : List Entry) (e : DaemonState) → es ≡ d.sweep.entries → Swept policy_answer policy_later k (record d.sweep { entries = es }) l v → e.sweep ≡ record v { entries = v.entries ++ entry.End d.event ∷ [] } → e.access ≡ d.access → e.pending ≡ d.pending → e.event ≡ d.event + 1 → e.reply ≡ d.reply → e.watch ≡ d.watch → Handled k d l e

@@ -1,5 +1,5 @@
 -- What a crash may leave of the rule file in an event, and along a run.
-use Rattle.std.proofs.Common.{◌≡◌, ℕ, Bool, true, false, cond, List, [], ◌∷◌, ◌++◌, Option, Some, None, Ok, Err, inl, inr, refl, sym, ◌∙◌, ap, subst, append-nil, ◌⊎◌, append_assoc, arith, length}
+use Rattle.std.proofs.Common.{◌≡◌, ℕ, Bool, true, false, cond, List, [], ◌∷◌, ◌++◌, Option, Some, None, Ok, Err, inl, inr, refl, sym, ◌∙◌, ap, subst, append-nil, ◌⊎◌, append_assoc, length}
 use Rattle.ug_types.specs.Elements.{Has}
 use Rattle.ug_types.specs.declared.saved.Saved.{Saved}
 use Rattle.ug_types.specs.declared.saved.Saved.TheVariants as saved
@@ -247,13 +247,6 @@ reply_short (Err (refusal.StoreFault count)) texts unsure = inr refl
 reply_short (Err (refusal.DeviceFault call count)) texts unsure = inl refl
 reply_short (Err (refusal.Memory stands)) texts unsure = inl refl
 reply_short (Err (refusal.ProbeFault count)) texts unsure = inl refl
-
-store_text : (became : Stored) (d : DaemonState) → (noted_store became d).sweep.judge ≡ d.sweep.judge
-store_text stored.NotNeeded d = refl
-store_text stored.Done d = refl
-store_text (stored.Failed count) d = refl
-store_text stored.TooLong d = refl
-store_text stored.Memory d = refl
 
 stays_text : (change : Change) (p : Judging) → is_saved change p.rules ≡ false → permanent_text (changed_by change p).rules ≡ permanent_text p.rules
 stays_text (Rules edit) p h = text_stays edit p.next p.rules h

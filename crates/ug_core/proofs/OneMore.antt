@@ -4,12 +4,10 @@ use Rattle.ug_core.proofs.Kept.{asked_anytime}
 use Rattle.std.specs.List.{list_any}
 use Rattle.ug_types.specs.Elements.{Has}
 use Rattle.ug_types.specs.Principals.{Named}
-use Rattle.ug_types.specs.declared.record.Judged.{Judged}
 use Rattle.ug_types.specs.declared.refusal.Refusal.{Refusal}
 use Rattle.ug_types.specs.declared.saved.Saved.{Saved}
 use Rattle.ug_types.specs.declared.verdict.Moment.{Moment}
 use Rattle.ug_types.proofs.Elements.{cancel, has_right}
-use Rattle.ug_kernel.specs.declared.device.Device.{Device}
 use Rattle.ug_kernel.specs.Kernel.{Kernel}
 use Rattle.ug_kernel.specs.Quiet.{Quiet}
 use Rattle.ug_kernel.proofs.Quiet.{quiet_refl}
@@ -34,12 +32,12 @@ use Rattle.ug_core.specs.Changes.{CanChange, change_asked, change_entry, changed
 use Rattle.ug_core.specs.Privileges.{is_granted}
 use Rattle.ug_core.specs.declared.changes.Change.{Change}
 use Rattle.ug_core.specs.declared.changes.Change.TheVariants.{Rules, Set}
-use Rattle.ug_core.specs.Policy.{Judging, kept, policy_answer, policy_later}
+use Rattle.ug_core.specs.Policy.{Judging, policy_answer, policy_later}
 use Rattle.ug_core.specs.Event.{DaemonState, first_entry, moment_of, saved_entries}
 use Rattle.ug_core.specs.declared.daemon.Event.{Event}
 use Rattle.ug_core.specs.declared.daemon.Event.TheVariants.{Sweep, Order}
-use Rattle.ug_core.specs.InForce.{Decision, decision_of, decisions_in, in_force, unordered}
-use Rattle.ug_core.specs.Laws.{AnswersAtOnce, AnswersEvent, Bad_rule, By_facts, CarriesOut, Changes, ComesTo, Denied, Devices, Full, Handled, IsInForce, List_rules, No_device, No_memory, No_parameter, No_place, No_record, No_room, No_rule, No_setting, No_value, Not_carried_out, Outcome, ProbeRefuses, RefusedBehind, RefusedByProbe, Refuses, RefusesBehind, RefusesOrder, StoreRefuses, Unread, Unstored, Value, Watches, WhyRefused, Without_memory, change_of, if_watching}
+use Rattle.ug_core.specs.InForce.{Decision, decision_of, decisions_in, unordered}
+use Rattle.ug_core.specs.Laws.{AnswersAtOnce, AnswersEvent, Bad_rule, By_facts, CarriesOut, Changes, ComesTo, Denied, Devices, Full, Handled, IsInForce, List_rules, No_device, No_memory, No_parameter, No_place, No_record, No_room, No_rule, No_setting, No_value, Outcome, ProbeRefuses, RefusedBehind, RefusedByProbe, Refuses, RefusesBehind, RefusesOrder, StoreRefuses, Unread, Unstored, Value, Watches, WhyRefused, Without_memory, change_of, if_watching}
 use Rattle.ug_core.specs.Rulings.{Ruling, Told, Was_changed, at_moment}
 use Rattle.ug_core.specs.Chain.{Happened, ready_of, changes_asked, decided, journal, told_if, told_of, was_done, tells_unlisted, has_listed, IsPlaced, WasAsked, WasOrdered}
 use Rattle.ug_core.proofs.InForce.{unordered_append, decisions_append, decisions_more, has_decision}
@@ -250,7 +248,6 @@ module _ (policy : Judging) (first : Kernel) (hs : List Happened) (h : Happened)
     why_undone _ (Unread place reads) = refl
     why_undone _ (Denied asked refused reads denied) = denied_undone asked refused denied
     why_undone _ (By_facts asked refused reads granted facts) = facts_undone asked refused facts
-    why_undone _ (Not_carried_out asked reads granted carried) = refl
     why_undone _ No_memory = refl
 
     probe_undone : (number : ℕ) (q : Probe) (r : Refusal) → ProbeRefuses number q r → was_done (Some (reply.Refused r)) ≡ false

@@ -1,5 +1,5 @@
 -- Rules that are there, and the place of one more.
-use Rattle.std.proofs.Common.{◌≡◌, ℕ, ◌<◌, nat_lt, Bool, true, false, ◌||◌, cond, List, [], ◌∷◌, length, Option, Some, None, Result, Ok, inl, inr, refl, ap, ◌∙◌, arith, sym, subst}
+use Rattle.std.proofs.Common.{◌≡◌, ℕ, ◌<◌, nat_lt, Bool, true, false, ◌||◌, cond, List, [], ◌∷◌, length, Option, Some, None, inl, inr, refl, arith, sym, subst}
 use Rattle.std.proofs.lemmas.Bool.{eqb-true}
 use Rattle.ug_types.specs.Elements.{Has}
 use Rattle.ug_types.specs.declared.refusal.Refusal.{Refusal}
@@ -10,14 +10,7 @@ use Rattle.ug_policy.specs.Edits.{IsThere, has_id}
 use Rattle.ug_policy.specs.Rules.{ids}
 use Rattle.ug_policy.specs.declared.entry.RuleEntry.{RuleEntry}
 use Rattle.ug_rules.specs.RulePlaces.{first_of, has_rule, if_few, if_place, if_taken}
-use Rattle.std.specs.Prelude.{decimal, not}
-use Rattle.ug_types.specs.declared.rule.Rule.{Rule}
-use Rattle.ug_rule.specs.declared.fault.Fault.{Fault}
-use Rattle.ug_rules.specs.declared.edit.Edit.TheVariants.{Insert}
-use Rattle.ug_core.specs.Answering.{by_rule, changing, refusing, unless}
 use Rattle.ug_core.specs.Policy.{Judging}
-use Rattle.ug_core.specs.declared.changes.Change.TheVariants.{Rules}
-use Rattle.ug_core.specs.declared.choosing.Deed.TheVariants as deed
 use Rattle.ug_types.specs.declared.record.DeviceRecord.{DeviceRecord}
 use Rattle.ug_types.specs.declared.verdict.Target.{Target}
 use Rattle.ug_rules.specs.RuleEdits.{CanEdit, if_room_for}
@@ -60,13 +53,6 @@ pub place_free : (place : After) (rules : List RuleEntry) → if_taken place rul
 place_free place rules h =
     let both = none_else (if_place place rules) (if_few rules) h in
     (place_there place rules both.0, few_below (length rules) (few_by (nat_lt (length rules) 65536) both.1))
-
--- a refusal of the place, or of the list
-pub refused_place : (p : Judging) (place : After) (permanent : Bool) (rule : Rule) (read : Result Rule Fault) (r : Refusal) → read ≡ Ok rule → if_taken place p.rules ≡ Some r → by_rule p place permanent read ≡ refusing r
-refused_place p place permanent rule read r is h = ap (λ (x : Result Rule Fault). by_rule p place permanent x) is ∙ ap (λ (o : Option Refusal). unless o (changing (Rules (Insert place rule (not permanent))) (deed.Tell (decimal p.next ∷ [])))) h
-
-pub allowed_place : (p : Judging) (place : After) (permanent : Bool) (rule : Rule) (read : Result Rule Fault) → read ≡ Ok rule → if_taken place p.rules ≡ None → by_rule p place permanent read ≡ changing (Rules (Insert place rule (not permanent))) (deed.Tell (decimal p.next ∷ []))
-allowed_place p place permanent rule read is h = ap (λ (x : Result Rule Fault). by_rule p place permanent x) is ∙ ap (λ (o : Option Refusal). unless o (changing (Rules (Insert place rule (not permanent))) (deed.Tell (decimal p.next ∷ [])))) h
 
 -- a verdict's edit, for which there is room
 edit_by : (device : DeviceRecord) (verdict : Target) (p : Judging) (o : Option ℕ) → made_rule device p.classes.with_port p.rules ≡ o → if_room_for (edit_for device p.classes.with_port verdict o) p.rules ≡ None → CanEdit (edit_for device p.classes.with_port verdict o) p.rules

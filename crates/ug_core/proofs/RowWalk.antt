@@ -1,9 +1,8 @@
 -- The walk over standings by number.
-use Rattle.std.proofs.Common.{◌≡◌, ℕ, ◌+◌, ◌<◌, ◌≤◌, inl, inr, Bool, true, false, cond, nat_lt, map, List, [], ◌∷◌, ◌++◌, Option, Some, None, refl, sym, ap, ◌∙◌, arith}
+use Rattle.std.proofs.Common.{◌≡◌, ℕ, ◌+◌, ◌<◌, ◌≤◌, inl, inr, Bool, true, false, cond, nat_lt, map, List, [], ◌∷◌, ◌++◌, Some, None, refl, sym, ap, ◌∙◌, arith}
 use Rattle.std.proofs.lemmas.List.{map-append}
 use Rattle.ug_types.specs.Elements.{Has, AllDistinct}
 use Rattle.ug_table.specs.Laws.{numbers_of}
-use Rattle.ug_table.specs.Order.{IsNextNumbered}
 use Rattle.ug_table.specs.Standings.{numbered}
 use Rattle.ug_table.specs.declared.standing.Standing.{Standing}
 use Rattle.ug_table.proofs.Standings.{numbered_has}
@@ -17,12 +16,6 @@ first_at number ss s e =
     let h = numbered_has number ss s e in
     let same : s.number ≡ number = h.1 in
     (h.0, omega arith, λ t a l. omega (arith, l))
-
-pub first_behind : (number : ℕ) (ss : List Standing) (next : Option Standing) → ((t : Standing) → Has ss t → t.number ≡ number → ⊥) → IsNextNumbered ss number next → IsFirstFrom ss number next
-first_behind number ss None none h = λ t a. let low : t.number ≤ number = h t a in let apart : t.number ≡ number → ⊥ = none t a in omega arith
-first_behind number ss (Some s) none h =
-    let up : number < s.number = h.1 in
-    (h.0, omega arith, λ t a l. let apart : t.number ≡ number → ⊥ = none t a in let above : number < t.number = omega arith in h.2 t a above)
 
 -- ---- those that were passed
 

@@ -1,9 +1,8 @@
 -- Lists of rulings and changes, and those of rulings alone.
-use Rattle.std.proofs.Common.{◌≡◌, List, [], ◌∷◌, ◌++◌, inl, inr, refl, sym, ◌∙◌, ap, subst}
+use Rattle.std.proofs.Common.{◌≡◌, List, [], ◌∷◌, ◌++◌, inl, inr, refl, ap}
 use Rattle.std.specs.Prelude.{map}
 use Rattle.ug_types.specs.Elements.{Has}
 use Rattle.ug_core.specs.Changes.{changed_by}
-use Rattle.ug_core.specs.InForce.{Decision}
 use Rattle.ug_core.specs.Policy.{Judging}
 use Rattle.ug_core.specs.Rulings.{CanTake, Changed, Decided, PolicyStep, Ruled, Ruling, Told, Was_changed, after_ruling, after_steps, decision_by, told_by}
 use Rattle.ug_core.specs.declared.changes.Change.{Change}

@@ -35,7 +35,7 @@ use Rattle.ug_core.specs.Event.{DaemonState, noting}
 use Rattle.ug_core.specs.Changes.{CanChange, ChangeReads, change_lines, parameter_at, verdict_edit}
 use Rattle.ug_core.specs.Privileges.{denied_of}
 use Rattle.ug_rules.specs.RuleEdits.{if_room_for}
-use Rattle.ug_rules.specs.RulePlaces.{has_permanent, if_taken, if_there}
+use Rattle.ug_rules.specs.RulePlaces.{if_taken, if_there}
 use Rattle.ug_core.specs.DeviceRows.{device_rows}
 use Rattle.ug_rules.specs.RuleRows.{rule_rows}
 use Rattle.ug_core.specs.declared.changes.Change.{Change}
@@ -157,21 +157,9 @@ asking_of d (request.AppendRule after permanent text) = Room (if_rule_read d.swe
 asking_of d (request.RemoveRule id) = Return (by_id d.sweep.judge.rules id)
 asking_of d request.Watch = Return (only deed.Watch)
 
--- Orders that change the rule file aren't carried out yet, and are refused as no requests.
-
-abbrev pub is_carried_out : List RuleEntry → Request → Bool
-is_carried_out rules (request.Device number verdict permanent) = not permanent
-is_carried_out rules (request.AppendRule after permanent text) = not permanent
-is_carried_out rules (request.RemoveRule id) = not (has_permanent id rules)
-is_carried_out rules asked = true
-
-abbrev pub if_carried_out : Bool → Prog Choice → Prog Choice
-if_carried_out true asked = asked
-if_carried_out false asked = Return (refusing (refusal.BadRequest 0))
-
 abbrev pub by_request : DaemonState → Named → Result Request ℕ → Prog Choice
 by_request d who (Err place) = Return (refusing (refusal.BadRequest place))
-by_request d who (Ok asked) = if_granted (denied_of d.access who (needs asked)) (if_carried_out (is_carried_out d.sweep.judge.rules asked) (asking_of d asked))
+by_request d who (Ok asked) = if_granted (denied_of d.access who (needs asked)) (asking_of d asked)
 
 -- memory is taken to read the line
 abbrev pub if_read : DaemonState → Named → List ℕ → Bool → Prog Choice

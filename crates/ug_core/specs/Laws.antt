@@ -40,7 +40,7 @@ use Rattle.ug_table.specs.Parts.{AllBear, failures_told, told_in_reply, unsettle
 use Rattle.ug_table.specs.Standings.{numbered}
 use Rattle.ug_table.specs.declared.standing.Settled.{Settled}
 use Rattle.ug_table.specs.declared.standing.Standing.{Standing}
-use Rattle.ug_core.specs.Answering.{acting, answered_with, asking, deed_after, is_carried_out, replying}
+use Rattle.ug_core.specs.Answering.{acting, answered_with, asking, deed_after, replying}
 use Rattle.ug_core.specs.Changes.{CanChange, change_asked, change_lines, changed_by, is_saved, lines_of, parameter_at}
 use Rattle.ug_core.specs.Storing.{TellsStored, noted_store, refused_by, stored_with, storing, with_changes}
 use Rattle.ug_rules.specs.RuleFile.{FitsFile}
@@ -104,13 +104,12 @@ pub data Refuses (d : DaemonState) : Request → Refusal → Type 0 where
   No_value : (name value : List ℕ) (set : ParameterName) → parameter_of name ≡ Some set → value_of set value ≡ None → Refuses d (request.SetParameter name value) refusal.BadValue
   Full : (place : After) (permanent : Bool) (text : List ℕ) (rule : Rule) → rule_read text ≡ Ok rule → IsThere place d.sweep.judge.rules → 65536 ≤ length d.sweep.judge.rules → Refuses d (request.AppendRule place permanent text) refusal.RulesFull
 
--- what is refused before a call: a line that is no request, before a privilege that is missing, before the facts. A change of the rule file
--- isn't carried out yet. Want of memory may come at any place
+-- what is refused before a call: a line that is no request, before a privilege that is missing, before the facts. Want of memory may come
+-- at any place
 pub data WhyRefused (who : Named) (line : List ℕ) (d : DaemonState) : Refusal → Type 0 where
   Unread : (place : ℕ) → request_read line ≡ Err place → WhyRefused who line d (refusal.BadRequest place)
   Denied : (asked : Request) (refused : Refusal) → request_read line ≡ Ok asked → denied_of d.access who (needs asked) ≡ Some refused → WhyRefused who line d refused
   By_facts : (asked : Request) (refused : Refusal) → request_read line ≡ Ok asked → is_granted d.access who (needs asked) ≡ true → Refuses d asked refused → WhyRefused who line d refused
-  Not_carried_out : (asked : Request) → request_read line ≡ Ok asked → is_granted d.access who (needs asked) ≡ true → is_carried_out d.sweep.judge.rules asked ≡ false → WhyRefused who line d (refusal.BadRequest 0)
   No_memory : WhyRefused who line d (refusal.Memory false)
 
 -- what a probe that didn't find the device comes to

@@ -7,7 +7,7 @@ use Rattle.ug_types.specs.declared.saved.Saved.{Saved}
 use Rattle.ug_types.specs.declared.saved.Saved.TheVariants as saved
 use Rattle.ug_audit.specs.declared.entry.Entry.TheVariants as entry
 use Rattle.ug_print.specs.RuleTexts.{rules_limit}
-use Rattle.ug_rules.specs.RuleFile.{FitsFile, permanent_text}
+use Rattle.ug_rules.specs.RuleFile.{permanent_text}
 use Rattle.ug_store.specs.Store.{DiskProg, Ended, DiskRoom, then_disk, saving}
 use Rattle.ug_core.specs.Changes.{change_entry, changed_by, is_saved}
 use Rattle.ug_core.specs.Event.{DaemonState, noting}
@@ -84,17 +84,6 @@ if_in_force None change d = with_changes change d
 
 abbrev pub stored_with : Stored → Option Change → DaemonState → DaemonState
 stored_with became change d = if_in_force (refused_by became) change (noted_store became d)
-
--- ---- in the words of rules
-
--- A change of permanent rules was saved, or that failed, or there is no room for its text; no other is saved. Memory may be short.
-abbrev pub StoresAs : Judging → Option Change → Stored → Type 0
-StoresAs p None became = became ≡ stored.NotNeeded
-StoresAs p (Some change) stored.NotNeeded = is_saved change p.rules ≡ false
-StoresAs p (Some change) stored.Done = is_saved change p.rules ≡ true
-StoresAs p (Some change) (stored.Failed count) = is_saved change p.rules ≡ true
-StoresAs p (Some change) stored.TooLong = (is_saved change p.rules ≡ true) × (FitsFile (changed_by change p).rules → ⊥)
-StoresAs p (Some change) stored.Memory = Unit {0}
 
 -- the count that a failed save tells is the disk's, and it rose
 abbrev pub TellsStored : Stored → ℕ → ℕ → Type 0

@@ -3,7 +3,7 @@ ghost use Rattle.std.specs.Prelude.{◌≡◌, ◌⊎◌, ◌∷◌, [], ℕ, fa
 ghost use Rattle.ug_kernel.specs.Tree.{Room, Runs};
 ghost use Rattle.ug_rule.specs.Rules.{rule_read};
 ghost use Rattle.ug_types.specs.Parameters.{parameter_of};
-ghost use Rattle.ug_core.specs.Answering.{asking, asking_of, by_edit, by_id, by_name, by_request, by_rule, by_setting, by_standing, by_value, if_rule_read, CanDo, CanMake, IsChosenForGood, changing, is_carried_out, only, refusing, telling};
+ghost use Rattle.ug_core.specs.Answering.{asking, asking_of, by_edit, by_id, by_name, by_request, by_rule, by_setting, by_standing, by_value, if_rule_read, CanDo, CanMake, IsChosenForGood, changing, only, refusing, telling};
 ghost use Rattle.ug_core.specs.Changes.{change_lines, verdict_edit};
 ghost use Rattle.ug_core.specs.DeviceRows.{device_rows};
 ghost use Rattle.ug_core.specs.Event.{daemon_of};
@@ -165,20 +165,7 @@ impl<'z, R: Rng> Daemon<'z, R> {
     {
         match denied(&self.acl, who, request) {
             Some(refusal) => refuse(refusal),
-            None if self.carries_out(request) => self.choose_granted(alloc, sysfs, request),
-            None => refuse(Refusal::BadRequest { place: 0 }),
-        }
-    }
-
-    // The rule file isn't changed yet.
-    fn carries_out(&self, request: &Request) -> bool
-        ensures { result ≡ is_carried_out (daemon_of self.now).sweep.judge.rules request.now }
-    {
-        match request {
-            Request::Device { permanent, .. } => !*permanent,
-            Request::AppendRule { permanent, .. } => !*permanent,
-            Request::RemoveRule { id } => !self.policy.has_permanent(*id),
-            _ => true,
+            None => self.choose_granted(alloc, sysfs, request),
         }
     }
 

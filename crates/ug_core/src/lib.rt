@@ -18,8 +18,6 @@ mod rules;
 mod start;
 mod start_fault;
 mod storing;
-#[cfg(test)]
-mod tests;
 
 pub use classes::Classes;
 pub use daemon::{Daemon, Event};

@@ -7,7 +7,7 @@ ghost use Rattle.ug_core.specs.Policy.{Judging, asks, by_class, clock_of, contex
 ghost use Rattle.ug_core.specs.Changes.{CanChange, ChangeFits, ChangeReads, HasRoom, changed_by, is_saved, parameter_at, text_to_save, verdict_edit};
 ghost use Rattle.ug_rules.specs.RuleEdits.{EditReads, if_room_for};
 ghost use Rattle.ug_rules.specs.RuleFile.{FitsFile, ReadsBack, permanent_rules, permanent_text, rules_in};
-ghost use Rattle.ug_rules.specs.RulePlaces.{has_permanent, has_rule, if_taken};
+ghost use Rattle.ug_rules.specs.RulePlaces.{has_rule, if_taken};
 ghost use Rattle.ug_rules.specs.RuleRows.{rule_rows};
 
 use crate::changes::Change;
@@ -115,13 +115,6 @@ impl<'z, R: Rng> Policy<'z, R> {
         ensures { result ≡ has_rule id (judging_of R.stream self.now).rules }
     {
         self.rules.has_rule(id)
-    }
-
-    /// Whether a rule that isn't temporary has the id.
-    pub fn has_permanent(&self, id: u64) -> bool
-        ensures { result ≡ has_permanent id (judging_of R.stream self.now).rules }
-    {
-        self.rules.has_permanent(id)
     }
 
     /// Why no rule is put behind that place.

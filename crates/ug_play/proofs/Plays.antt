@@ -119,7 +119,7 @@ answers_calmly (Close held) s e = refl
 never_fails : (s : World) (call : Call) → s.ran_out ≡ false → s.fails ≡ [] → failure call (answer_of s call).0 ≡ []
 never_fails s call o e = unless_cases (λ call (p : Answer call × World). failure call p.0 ≡ []) s.ran_out s (λ held. refl) (λ call t. let none : ⊥ = cc in absurd none) (λ call f. answers_calmly call (entered s) (unscheduled s e)) call
 
-fails_stay : (s : World) (call : Call) → s.fails ≡ [] → (answer_of s call).1.fails ≡ []
+pub fails_stay : (s : World) (call : Call) → s.fails ≡ [] → (answer_of s call).1.fails ≡ []
 fails_stay s call e = unless_cases (λ call (p : Answer call × World). p.1.fails ≡ []) s.ran_out s (λ held. e) (λ call t. e) (λ call f. e) call
 
 -- the way that the script fixes: room is always there, no answer is want, and where no call is to fail, none does
@@ -144,7 +144,7 @@ play_way P (Room next) s w = let k = play_way P (next true) s (w true) in record
 
 -- a whole run
 
-runs_out : {R : Type 0} (p : Prog R) (s : World) (r : R) (t : World) → Runs Gives s p r t → s.ran_out ≡ true → t.ran_out ≡ true
+pub runs_out : {R : Type 0} (p : Prog R) (s : World) (r : R) (t : World) → Runs Gives s p r t → s.ran_out ≡ true → t.ran_out ≡ true
 runs_out (Return value) s r t h out = ap (λ (w : World). w.ran_out) h.1 ∙ out
 runs_out (Ask call next) s r t h out = runs_out (next h.0) h.1 r t h.3 (stays_out s call h.0 h.1 h.2 out)
 runs_out (Room next) s r t h out = runs_out (next h.0) s r t h.1 out

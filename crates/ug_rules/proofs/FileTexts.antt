@@ -69,15 +69,6 @@ longer rs ts all is h =
 pub long_at : (edit : Option Edit) (es : List RuleEntry) (i : ℕ) → rules_limit < length (rules_text_of (rules_up_to edit es i)) → rules_limit < length (rules_text_of (rules_after edit es))
 long_at edit es i h = longer (rules_up_to edit es i) (flat_map (in_place edit) (drop i es) ++ at_end edit) (rules_after edit es) (rest_of edit es i) h
 
-pub long_in_front : (edit : Option Edit) (es : List RuleEntry) → rules_limit < length (rules_text_of (in_front edit)) → rules_limit < length (rules_text_of (rules_after edit es))
-long_in_front edit es h = longer (in_front edit) (flat_map (in_place edit) es ++ at_end edit) (rules_after edit es) refl h
-
 -- the whole text
-pub text_whole : (edit : Option Edit) (es : List RuleEntry) (text : List ℕ) → text ≡ rules_text_of (in_front edit ++ flat_map (in_place edit) es) → text ++ rules_text_of (at_end edit) ≡ rules_text_of (rules_after edit es)
-text_whole edit es text is =
-    ap (λ (t : List ℕ). t ++ rules_text_of (at_end edit)) is
-    ∙ sym (text_append (in_front edit ++ flat_map (in_place edit) es) (at_end edit))
-    ∙ ap (λ (rs : List Rule). rules_text_of rs) (append_assoc (in_front edit) (flat_map (in_place edit) es) (at_end edit))
-
 pub bytes_whole : (edit : Option Edit) (es : List RuleEntry) → All RuleOfBytes (in_front edit ++ flat_map (in_place edit) es) → All RuleOfBytes (at_end edit) → All RuleOfBytes (rules_after edit es)
 bytes_whole edit es a b = subst (All RuleOfBytes) (append_assoc (in_front edit) (flat_map (in_place edit) es) (at_end edit)) (bytes_append (in_front edit ++ flat_map (in_place edit) es) (at_end edit) a b)

@@ -1,14 +1,13 @@
 -- What orders change of a list of rules.
-use Rattle.std.specs.Prelude.{◌≡◌, ◌<◌, ℕ, ◌+◌, Bool, true, false, not, cond, List, [], ◌++◌, length, flat_map, Option, Some, None}
+use Rattle.std.specs.Prelude.{◌≡◌, ◌<◌, ℕ, ◌+◌, Bool, true, not, cond, List, [], ◌++◌, length, flat_map, Option, Some, None}
 use Rattle.ug_types.specs.Elements.{Has}
 use Rattle.ug_types.specs.declared.refusal.Refusal.{Refusal}
-use Rattle.ug_types.specs.declared.rule.After.{After}
 use Rattle.ug_types.specs.declared.rule.After.TheVariants as after
 use Rattle.ug_types.specs.declared.rule.Rule.{Rule}
 use Rattle.ug_policy.specs.Edits.{IsThere, has_id, inserted, new_entry, removed, retargeted}
 use Rattle.ug_policy.specs.Rules.{ids}
 use Rattle.ug_policy.specs.declared.entry.RuleEntry.{RuleEntry}
-use Rattle.ug_rules.specs.RuleFile.{FitsFile, ReadsBack, saved_of, saved_rule}
+use Rattle.ug_rules.specs.RuleFile.{ReadsBack, saved_of, saved_rule}
 use Rattle.ug_rules.specs.RulePlaces.{has_permanent, if_few}
 use Rattle.ug_rules.specs.declared.edit.Edit.{Edit}
 use Rattle.ug_rules.specs.declared.edit.Edit.TheVariants.{Insert, Remove, Retarget}

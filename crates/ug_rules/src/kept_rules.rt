@@ -83,8 +83,8 @@ impl KeptRules {
         rules.iter().any(|entry| entry.id == id)
     }
 
-    /// Whether a rule that isn't temporary has the id.
-    pub fn has_permanent(&self, id: u64) -> bool
+    // Whether a rule that isn't temporary has the id.
+    fn has_permanent(&self, id: u64) -> bool
         ensures { result ≡ has_permanent id self.now.entries }
     {
         let rules = self.list.as_slice();

@@ -1,6 +1,6 @@
--- The ways of an order, and of an event with its sweep.
+-- The ways of an order, and of a sweep.
 use Rattle.std.proofs.Common.{◌≡◌, ℕ, ◌+◌, ◌≤◌, nat_lt, length, Bool, true, false, not, ◌&&◌, ◌||◌, cond, List, [], ◌∷◌, ◌++◌, Option, Some, None, Result, Ok, Err, refl, sym, ◌∙◌, ap, subst, append_assoc, append-nil, arith}
-use Rattle.std.proofs.lemmas.Bool.{or_parts}
+use Rattle.std.specs.List.{list_any}
 use Rattle.ug_types.specs.Principals.{Named}
 use Rattle.ug_types.specs.declared.refusal.Refusal.{Refusal}
 use Rattle.ug_types.specs.Parameters.{parameter_of, value_of, value_word}
@@ -10,13 +10,12 @@ use Rattle.ug_types.specs.declared.rule.After.{After}
 use Rattle.ug_types.specs.declared.rule.After.TheVariants as after
 use Rattle.ug_types.specs.declared.rule.Rule.{Rule}
 use Rattle.ug_types.specs.declared.verdict.Target.{Target}
-use Rattle.ug_kernel.specs.declared.calls.FailedCall.{FailedCall}
 use Rattle.ug_kernel.specs.declared.calls.Probe.{Probe}
 use Rattle.ug_kernel.specs.declared.calls.Probe.TheVariants as probe
-use Rattle.ug_kernel.specs.Along.{Made, answered, failure, failures, count_calls}
+use Rattle.ug_kernel.specs.Along.{Made, answered, failures, count_calls}
 use Rattle.ug_kernel.specs.Calls.{Ask_alive, Told}
-use Rattle.ug_kernel.specs.Tree.{Return, then}
-use Rattle.ug_kernel.proofs.Ways.{Ways, ways_next, ways_last}
+use Rattle.ug_kernel.specs.Tree.{Return}
+use Rattle.ug_kernel.proofs.Ways.{Ways, ways_last}
 use Rattle.ug_audit.specs.declared.entry.Entry.{Entry}
 use Rattle.ug_audit.specs.declared.entry.Entry.TheVariants as entry
 use Rattle.ug_types.specs.declared.access.Section.{Section}
@@ -24,7 +23,6 @@ use Rattle.ug_types.specs.declared.access.Privilege.{Privilege}
 use Rattle.ug_policy.specs.declared.entry.RuleEntry.{RuleEntry}
 use Rattle.ug_rule.specs.Rules.{rule_read}
 use Rattle.ug_rule.specs.declared.fault.Fault.{Fault}
-use Rattle.ug_proto.specs.declared.reply.Reply.TheVariants as reply
 use Rattle.ug_core.specs.DeviceRows.{device_rows}
 use Rattle.ug_rules.specs.RuleRows.{rule_rows}
 use Rattle.ug_proto.specs.declared.request.Request.{Request}
@@ -40,16 +38,17 @@ use Rattle.ug_table.specs.Sweep.{sweeping}
 use Rattle.ug_table.specs.declared.standing.Settled.{Settled}
 use Rattle.ug_table.specs.declared.standing.Settled.TheVariants as settled
 use Rattle.ug_table.specs.declared.standing.Standing.{Standing}
-use Rattle.ug_node.proofs.BindShapes.{count_more}
 use Rattle.ug_table.proofs.Ordered.{EndsOrder, ordering_ways}
-use Rattle.ug_table.proofs.PartCalls.{has_want, are_short, want_more}
-use Rattle.ug_play.specs.Play.{is_short_reply, tells_memory, NameNobody}
+use Rattle.ug_table.proofs.PartCalls.{has_want, are_short}
+use Rattle.ug_play.specs.Play.{entry_tells_memory, is_short_reply, names_somebody, tells_memory, NameNobody}
 use Rattle.ug_play.proofs.Plays.{refused}
-use Rattle.ug_play.proofs.Sweeps.{Sums, refused_more, sweeping_sums, nobody_told, nobody_more, nothing_behind}
+use Rattle.ug_play.proofs.Sweeps.{Sums, sweeping_sums, nobody_told, nobody_more}
 use Rattle.ug_play.proofs.Wants.{memory_more}
-use Rattle.ug_core.specs.Answering.{acting, answer_of, answered_with, asking, asking_of, by_edit, by_name, by_permanent, by_probe, by_record, by_request, by_rule, by_setting, by_standing, by_value, changing as choosing, if_carried_out, if_granted, if_read, if_room, if_rule_made, if_rule_read, is_carried_out, reply_to, replying, telling, unless, watching}
-use Rattle.ug_core.specs.Storing.{with_changes}
-use Rattle.ug_script.specs.Replay.{answering, doing}
+use Rattle.ug_core.specs.Answering.{acting, answer_of, answered_with, asking, asking_of, by_edit, by_name, by_permanent, by_probe, by_record, by_request, by_rule, by_setting, by_standing, by_value, changing as choosing, deed_after, if_granted, if_read, if_room, if_rule_made, if_rule_read, reply_to, telling, unless}
+use Rattle.ug_core.specs.Storing.{stored_with, with_changes}
+use Rattle.ug_core.specs.declared.storing.Stored.{Stored}
+use Rattle.ug_core.specs.declared.storing.Stored.TheVariants as stored
+use Rattle.ug_types.specs.declared.saved.Saved.TheVariants as saved
 use Rattle.ug_core.specs.Changes.{change_entry, change_lines, edit_for, parameter_at, verdict_edit}
 use Rattle.ug_rules.specs.RulePlaces.{first_of, has_rule, if_few, if_taken, if_there, made_rule}
 use Rattle.ug_rules.specs.declared.edit.Edit.TheVariants.{Insert, Remove, Retarget}
@@ -62,26 +61,29 @@ use Rattle.ug_core.specs.declared.changes.Change.{Change}
 use Rattle.ug_core.specs.declared.changes.Change.TheVariants.{Rules, Set}
 use Rattle.ug_core.specs.declared.classes.Classes.{Classes}
 use Rattle.ug_core.specs.Event as event
-use Rattle.ug_core.specs.Event.{DaemonState, handling}
+use Rattle.ug_core.specs.Event.{DaemonState, handling, noting}
 use Rattle.ug_core.specs.Policy.{Judging, policy_answer, policy_later}
 use Rattle.ug_core.specs.Privileges.{first_denied, is_granted}
-use Rattle.ug_core.specs.declared.daemon.Event.{Event}
-use Rattle.ug_core.specs.declared.daemon.Event.TheVariants.{Sweep, Order}
 use Rattle.ug_core.specs.declared.choosing.Choice.{Choice}
 use Rattle.ug_core.specs.declared.choosing.Deed.{Deed}
 use Rattle.ug_core.specs.declared.choosing.Deed.TheVariants as deed
 
+-- a refusal for want of memory
+abbrev pub is_short_deed : Deed → Bool
+is_short_deed (deed.Refuse r) = is_short_reply (Err r)
+is_short_deed done = false
+
 -- ---- what an order comes to
 
 -- The probe is the one call. A refusal tells want of memory just where the line found no room; a verdict is set where there was room.
-abbrev Does : List Standing → Bool → List Made → Option Change → Deed → Type 0
+abbrev pub Does : List Standing → Bool → List Made → Option Change → Deed → Type 0
 Does ss ok ms None (deed.Refuse r) = (is_short_reply (Err r) ≡ refused ok ms) × (count_calls ms ≤ 1)
 Does ss ok ms (Some change) (deed.Refuse r) = ⊥
 Does ss ok ms change (deed.Tell rows) = (ok ≡ true) × (ms ≡ [])
 Does ss ok ms change deed.Watch = (ok ≡ true) × (ms ≡ [])
 Does ss ok ms change (deed.SetVerdict number verdict on lines) = (ok ≡ true) × (has_want ms ≡ false) × (count_calls ms ≤ 1) × ((x : Standing) × (numbered number ss ≡ Some x))
 
-abbrev Asks : List Standing → Bool → List Made → Choice → Type 0
+abbrev pub Asks : List Standing → Bool → List Made → Choice → Type 0
 Asks ss ok ms c = Does ss ok ms c.change c.deed
 
 module _ (ss : List Standing) (p : Judging) (number : ℕ) (verdict : Target) (x : Standing) (t : Told Probe) (at : numbered number ss ≡ Some x) where
@@ -178,16 +180,14 @@ granted_asks d request.Watch = (refl, refl)
 
 request_asks : (d : DaemonState) (who : Named) (read : Result Request ℕ) → Ways (by_request d who read) (Asks d.sweep.standings)
 request_asks d who (Err place) = (refl, omega arith)
-request_asks d who (Ok asked) = by_denied (is_granted d.access who (needs asked)) (needs asked) (is_carried_out d.sweep.judge.rules asked)
+request_asks d who (Ok asked) = by_denied (is_granted d.access who (needs asked)) (needs asked)
   where
-    by_denied : (b : Bool) (needed : List (Section × Privilege)) (carried : Bool) → Ways (if_granted (cond b None (first_denied needed)) (if_carried_out carried (asking_of d asked))) (Asks d.sweep.standings)
-    by_denied true needed true = granted_asks d asked
-    by_denied true needed false = (refl, omega arith)
-    by_denied false [] true = granted_asks d asked
-    by_denied false [] false = (refl, omega arith)
-    by_denied false (p ∷ needed) carried = (refl, omega arith)
+    by_denied : (b : Bool) (needed : List (Section × Privilege)) → Ways (if_granted (cond b None (first_denied needed)) (asking_of d asked)) (Asks d.sweep.standings)
+    by_denied true needed = granted_asks d asked
+    by_denied false [] = granted_asks d asked
+    by_denied false (p ∷ needed) = (refl, omega arith)
 
-asking_ways : (d : DaemonState) (who : Named) (line : List ℕ) → Ways (asking d who line) (Asks d.sweep.standings)
+pub asking_ways : (d : DaemonState) (who : Named) (line : List ℕ) → Ways (asking d who line) (Asks d.sweep.standings)
 unfolding asking
 asking_ways d who line = by_room
   where
@@ -195,20 +195,124 @@ asking_ways d who line = by_room
     by_room true = request_asks d who (request_read line)
     by_room false = (refl, omega arith)
 
--- ---- what is done
+-- what is done tells want of memory just where it was refused on the way
+pub asks_short : (ss : List Standing) (ok : Bool) (ms : List Made) (c : Choice) → Asks ss ok ms c → is_short_deed c.deed ≡ refused ok ms
+asks_short ss ok ms c h = by_deed c.change c.deed h
+  where
+    by_deed : (change : Option Change) (done : Deed) → Does ss ok ms change done → is_short_deed done ≡ refused ok ms
+    by_deed None (deed.Refuse r) k = k.0
+    by_deed (Some change) (deed.Refuse r) k = absurd k
+    by_deed change (deed.Tell rows) k = sym (ap (λ (b : Bool). not b || has_want ms) k.0 ∙ ap has_want k.1)
+    by_deed change deed.Watch k = sym (ap (λ (b : Bool). not b || has_want ms) k.0 ∙ ap has_want k.1)
+    by_deed change (deed.SetVerdict number verdict on lines) k = sym (ap (λ (b : Bool). not b || has_want ms) k.0 ∙ k.1)
 
--- Entries are added that tell want of memory just where memory was refused, and that name nobody. Whether a save is pending and the
--- numbers are as they were, but for the id of one rule at most.
-pub record AnswersSo (d : DaemonState) (ok : Bool) (ms : List Made) (a : DaemonState) : Type 0 where
+-- and then nothing is changed
+pub short_asks : (ss : List Standing) (ok : Bool) (ms : List Made) (c : Choice) → Asks ss ok ms c → is_short_deed c.deed ≡ true → c.change ≡ None
+short_asks ss ok ms c h short = by_deed c.change c.deed h short
+  where
+    by_deed : (change : Option Change) (done : Deed) → Does ss ok ms change done → is_short_deed done ≡ true → change ≡ None
+    by_deed None done k e = refl
+    by_deed (Some change) (deed.Refuse r) k e = absurd k
+    by_deed (Some change) (deed.Tell rows) k e = let none : ⊥ = cc in absurd none
+    by_deed (Some change) deed.Watch k e = let none : ⊥ = cc in absurd none
+    by_deed (Some change) (deed.SetVerdict number verdict on lines) k e = let none : ⊥ = cc in absurd none
+
+pub asks_few : (ss : List Standing) (ok : Bool) (ms : List Made) (c : Choice) → Asks ss ok ms c → count_calls ms ≤ 1
+asks_few ss ok ms c h = by_deed c.change c.deed h
+  where
+    none_counted : ms ≡ [] → count_calls ms ≤ 1
+    none_counted e = let none = ap count_calls e in omega (arith, none)
+
+    by_deed : (change : Option Change) (done : Deed) → Does ss ok ms change done → count_calls ms ≤ 1
+    by_deed None (deed.Refuse r) k = k.1
+    by_deed (Some change) (deed.Refuse r) k = absurd k
+    by_deed change (deed.Tell rows) k = none_counted k.1
+    by_deed change deed.Watch k = none_counted k.1
+    by_deed change (deed.SetVerdict number verdict on lines) k = k.2
+
+-- the device of a verdict has a standing
+abbrev pub CanAct : List Standing → Deed → Type 0
+CanAct ss (deed.SetVerdict number verdict on lines) = (x : Standing) × (numbered number ss ≡ Some x)
+CanAct ss done = Unit {0}
+
+pub asks_can : (ss : List Standing) (ok : Bool) (ms : List Made) (c : Choice) → Asks ss ok ms c → CanAct ss c.deed
+asks_can ss ok ms c h = by_deed c.change c.deed h
+  where
+    by_deed : (change : Option Change) (done : Deed) → Does ss ok ms change done → CanAct ss done
+    by_deed change (deed.Refuse r) k = tt
+    by_deed change (deed.Tell rows) k = tt
+    by_deed change deed.Watch k = tt
+    by_deed change (deed.SetVerdict number verdict on lines) k = k.3
+
+-- ---- what is noted of a save and of a change
+
+changed : Option Change → DaemonState → List Entry
+changed None d = []
+changed (Some change) d = change_entry change d.sweep.judge.next ∷ []
+
+-- Entries are added that name nobody and tell no want of memory. The numbers are as they were, but for the id of one rule at most.
+pub record StoredSo (d a : DaemonState) : Type 0 where
   pub rest : List Entry
   pub entries : a.sweep.entries ≡ d.sweep.entries ++ rest
-  pub wants : tells_memory rest ≡ refused ok ms
+  pub wants : tells_memory rest ≡ false
   pub nobody : NameNobody rest
-  pub few : count_calls ms ≤ 5
-  pub pending : a.pending ≡ d.pending
   pub event : a.event ≡ d.event
   pub next : a.sweep.next ≡ d.sweep.next
+  pub standings : a.sweep.standings ≡ d.sweep.standings
   pub ids : a.sweep.judge.next ≤ d.sweep.judge.next + 1
+
+now_so : (d : DaemonState) (change : Option Change) → StoredSo d (with_changes change d)
+unfolding changed
+now_so d None = record { rest = []; entries = sym (append-nil d.sweep.entries); wants = refl; nobody = refl; event = refl; next = refl; standings = refl; ids = omega arith }
+now_so d (Some (Rules (Insert place rule temporary))) = record { rest = changed (Some (Rules (Insert place rule temporary))) d; entries = refl; wants = refl; nobody = refl; event = refl; next = refl; standings = refl; ids = omega arith }
+now_so d (Some (Rules (Remove id))) = record { rest = changed (Some (Rules (Remove id))) d; entries = refl; wants = refl; nobody = refl; event = refl; next = refl; standings = refl; ids = omega arith }
+now_so d (Some (Rules (Retarget id rule))) = record { rest = changed (Some (Rules (Retarget id rule))) d; entries = refl; wants = refl; nobody = refl; event = refl; next = refl; standings = refl; ids = omega arith }
+now_so d (Some (Set to)) = record { rest = changed (Some (Set to)) d; entries = refl; wants = refl; nobody = refl; event = refl; next = refl; standings = refl; ids = omega arith }
+
+-- behind an entry that tells of the save
+saved_so : (d b a : DaemonState) (e : Entry) → b.sweep ≡ (noting e d).sweep → b.event ≡ d.event → entry_tells_memory e ≡ false → names_somebody e ≡ false → StoredSo b a → StoredSo d a
+saved_so d b a e sweep event quiet nameless h =
+    let ids = h.ids in
+    let same : b.sweep.judge.next ≡ d.sweep.judge.next = ap (λ (v : State Judging). v.judge.next) sweep in
+    record {
+      rest = e ∷ h.rest;
+      entries = h.entries ∙ ap (λ (v : State Judging). v.entries ++ h.rest) sweep ∙ append_assoc d.sweep.entries (e ∷ []) h.rest;
+      wants = ap (λ (x : Bool). x || tells_memory h.rest) quiet ∙ h.wants;
+      nobody = ap (λ (x : Bool). x || list_any names_somebody h.rest) nameless ∙ h.nobody;
+      event = h.event ∙ event;
+      next = h.next ∙ ap (λ (v : State Judging). v.next) sweep;
+      standings = h.standings ∙ ap (λ (v : State Judging). v.standings) sweep;
+      ids = omega (arith, ids, same);
+    }
+
+pub stored_so : (d : DaemonState) (change : Option Change) (became : Stored) → StoredSo d (stored_with became change d)
+stored_so d change stored.NotNeeded = now_so d change
+stored_so d change stored.Done =
+    let b : DaemonState = noting (entry.Save saved.Done) (record d { pending = false }) in
+    saved_so d b (with_changes change b) (entry.Save saved.Done) refl refl refl refl (now_so b change)
+stored_so d change (stored.Failed count) =
+    let b : DaemonState = noting (entry.Save (saved.Failed count)) (record d { pending = true }) in
+    saved_so d b b (entry.Save (saved.Failed count)) refl refl refl refl (now_so b None)
+stored_so d change stored.TooLong = now_so d None
+stored_so d change stored.Memory = now_so d None
+
+-- a deed that is refused for its save needs no device
+pub stored_can : (ss : List Standing) (became : Stored) (done : Deed) → CanAct ss done → CanAct ss (deed_after became done)
+stored_can ss stored.NotNeeded done can = can
+stored_can ss stored.Done done can = can
+stored_can ss (stored.Failed count) done can = tt
+stored_can ss stored.TooLong done can = tt
+stored_can ss stored.Memory done can = tt
+
+-- and tells want of memory just where that was the cause
+pub stored_short : (became : Stored) (done : Deed) → (became ≡ stored.Memory → ⊥) → is_short_deed done ≡ false → is_short_deed (deed_after became done) ≡ false
+stored_short stored.NotNeeded done not short = short
+stored_short stored.Done done not short = short
+stored_short (stored.Failed count) done not short = refl
+stored_short stored.TooLong done not short = refl
+stored_short stored.Memory done not short = absurd (not refl)
+
+-- ---- what is then done
 
 -- an order's own entries
 
@@ -231,144 +335,78 @@ or_none : (b : Bool) → (b || false) ≡ b
 or_none true = refl
 or_none false = refl
 
--- what is noted of a change
+-- Entries are added that tell want of memory just where what is done tells it, or where memory was refused, and that name nobody. Whether a
+-- save is pending and the numbers are as they were.
+pub record ActsSo (a : DaemonState) (short ok : Bool) (ms : List Made) (e : DaemonState) : Type 0 where
+  pub rest : List Entry
+  pub entries : e.sweep.entries ≡ a.sweep.entries ++ rest
+  pub wants : tells_memory rest ≡ (short || refused ok ms)
+  pub nobody : NameNobody rest
+  pub few : count_calls ms ≤ 4
+  pub pending : e.pending ≡ a.pending
+  pub event : e.event ≡ a.event
+  pub next : e.sweep.next ≡ a.sweep.next
+  pub ids : e.sweep.judge.next ≡ a.sweep.judge.next
 
-changed : Option Change → DaemonState → List Entry
-changed None d = []
-changed (Some change) d = change_entry change d.sweep.judge.next ∷ []
-
-record NowSo (d : DaemonState) (change : Option Change) : Type 0 where
-  entries : (with_changes change d).sweep.entries ≡ d.sweep.entries ++ changed change d
-  wants : tells_memory (changed change d) ≡ false
-  nobody : NameNobody (changed change d)
-  pending : (with_changes change d).pending ≡ d.pending
-  event : (with_changes change d).event ≡ d.event
-  next : (with_changes change d).sweep.next ≡ d.sweep.next
-  standings : (with_changes change d).sweep.standings ≡ d.sweep.standings
-  ids : (with_changes change d).sweep.judge.next ≤ d.sweep.judge.next + 1
-
-now_so : (d : DaemonState) (change : Option Change) → NowSo d change
-unfolding changed
-now_so d None = record { entries = sym (append-nil d.sweep.entries); wants = refl; nobody = refl; pending = refl; event = refl; next = refl; standings = refl; ids = omega arith }
-now_so d (Some (Rules (Insert place rule temporary))) = record { entries = refl; wants = refl; nobody = refl; pending = refl; event = refl; next = refl; standings = refl; ids = omega arith }
-now_so d (Some (Rules (Remove id))) = record { entries = refl; wants = refl; nobody = refl; pending = refl; event = refl; next = refl; standings = refl; ids = omega arith }
-now_so d (Some (Rules (Retarget id rule))) = record { entries = refl; wants = refl; nobody = refl; pending = refl; event = refl; next = refl; standings = refl; ids = omega arith }
-now_so d (Some (Set to)) = record { entries = refl; wants = refl; nobody = refl; pending = refl; event = refl; next = refl; standings = refl; ids = omega arith }
-
--- these entries more
-behind_so : (d a : DaemonState) (change : Option Change) (ok : Bool) (ms : List Made) (more : List Entry) → a.sweep.entries ≡ (with_changes change d).sweep.entries ++ more → tells_memory more ≡ refused ok ms → NameNobody more → count_calls ms ≤ 5 → a.pending ≡ (with_changes change d).pending → a.event ≡ (with_changes change d).event → a.sweep.next ≡ (with_changes change d).sweep.next → a.sweep.judge.next ≡ (with_changes change d).sweep.judge.next → AnswersSo d ok ms a
-behind_so d a change ok ms more entries wants nobody few pending event next ids =
-    let now = now_so d change in
+set_so : (a : DaemonState) (x t : Standing) (lines : List (List ℕ)) (ms : List Made) (p : Settled × Kept) → EndsOrder x t (kept_of a.sweep.standings a.sweep.entries) true ms p → ActsSo a false true ms (answered_with a lines p)
+set_so a x t lines ms p o =
+    let told : Entry = entry.Reply (answer_of (reply_to lines p.0)) in
+    let rest : List Entry = verdict_entry t ∷ o.rest in
+    let sure = bears_sure x.name o.rest o.bears o.quiet in
     record {
-      rest = changed change d ++ more;
-      entries = entries ∙ ap (λ (es : List Entry). es ++ more) now.entries ∙ append_assoc d.sweep.entries (changed change d) more;
-      wants = memory_more (changed change d) more ∙ ap (λ (b : Bool). b || tells_memory more) now.wants ∙ wants;
-      nobody = nobody_more (changed change d) more now.nobody nobody;
-      few = few;
-      pending = pending ∙ now.pending;
-      event = event ∙ now.event;
-      next = next ∙ now.next;
-      ids = (let below = now.ids in omega (arith, ids, below));
+      rest = rest ++ told ∷ [];
+      entries = ap (λ (es : List Entry). es ++ told ∷ []) o.entries ∙ append_assoc a.sweep.entries rest (told ∷ []);
+      wants =
+          memory_more rest (told ∷ [])
+          ∙ ap (λ (b : Bool). b || tells_memory (told ∷ [])) sure.0
+          ∙ or_none (is_short_reply (answer_of (reply_to lines p.0)))
+          ∙ short_answer lines p.0
+          ∙ sym o.want;
+      nobody = nobody_more rest (told ∷ []) sure.1 refl;
+      few = o.few;
+      pending = refl;
+      event = refl;
+      next = refl;
+      ids = refl;
     }
 
-refused_done : (d : DaemonState) (ms : List Made) (ok : Bool) (r : Refusal) → is_short_reply (Err r) ≡ refused ok ms → count_calls ms ≤ 1 → AnswersSo d ok ms (replying (reply.Refused r) d)
-refused_done d ms ok r wants few = behind_so d (replying (reply.Refused r) d) None ok ms (entry.Reply (Err r) ∷ []) refl (or_none (is_short_reply (Err r)) ∙ wants) refl (omega (arith, few)) refl refl refl refl
+pub acting_ways : (who : Named) (a : DaemonState) (done : Deed) → CanAct a.sweep.standings done → Ways (acting who a done) (ActsSo a (is_short_deed done))
+acting_ways who a (deed.Refuse r) can = record { rest = entry.Reply (Err r) ∷ []; entries = refl; wants = refl; nobody = refl; few = omega arith; pending = refl; event = refl; next = refl; ids = refl }
+acting_ways who a (deed.Tell rows) can = record { rest = entry.Reply (Ok tt) ∷ []; entries = refl; wants = refl; nobody = refl; few = omega arith; pending = refl; event = refl; next = refl; ids = refl }
+acting_ways who a deed.Watch can = record { rest = entry.Reply (Ok tt) ∷ []; entries = refl; wants = refl; nobody = refl; few = omega arith; pending = refl; event = refl; next = refl; ids = refl }
+acting_ways who a (deed.SetVerdict number verdict on lines) can =
+    let k : Kept = kept_of a.sweep.standings a.sweep.entries in
+    ways_last (EndsOrder can.0 (with_verdict verdict who can.0) k) (ActsSo a false) (ordering number verdict who on k) (λ (p : Settled × Kept). Return (answered_with a lines p)) (λ (p : Settled × Kept). answered_with a lines p) (λ p. refl) (ordering_ways number verdict who on k can.0 can.1)
+    (λ ok ms p o. subst (λ (b : Bool). ActsSo a false b ms (answered_with a lines p)) (sym o.sure) (set_so a can.0 (with_verdict verdict who can.0) lines ms p (subst (λ (b : Bool). EndsOrder can.0 (with_verdict verdict who can.0) k b ms p) o.sure o)))
 
-told_done : (d a : DaemonState) (change : Option Change) (rows : List (List ℕ)) → a.sweep ≡ (replying (reply.Lines rows) (with_changes change d)).sweep → a.pending ≡ (with_changes change d).pending → a.event ≡ (with_changes change d).event → AnswersSo d true [] a
-told_done d a change rows is pending event = behind_so d a change true [] (entry.Reply (Ok tt) ∷ []) (ap (λ (v : State Judging). v.entries) is) refl refl (omega arith) pending event (ap (λ (v : State Judging). v.next) is) (ap (λ (v : State Judging). v.judge.next) is)
-
--- a deed behind a change
-doing_ways : (who : Named) (d : DaemonState) (ms : List Made) (ok : Bool) (change : Option Change) (done : Deed) → Does d.sweep.standings ok ms change done → Ways (acting who (with_changes change d) done) (λ more ns a. AnswersSo d (ok && more) (ms ++ ns) a)
-doing_ways who d ms ok None (deed.Refuse r) h = subst (λ (xs : List Made). AnswersSo d (ok && true) xs (replying (reply.Refused r) d)) (sym (append-nil ms)) (subst (λ (b : Bool). AnswersSo d b ms (replying (reply.Refused r) d)) (sym (and_true ok)) (refused_done d ms ok r h.0 h.1))
-  where
-    and_true : (b : Bool) → (b && true) ≡ b
-    and_true true = refl
-    and_true false = refl
-doing_ways who d ms ok (Some change) (deed.Refuse r) h = absurd h
-doing_ways who d ms ok change (deed.Tell rows) h = subst (λ (xs : List Made). AnswersSo d (ok && true) (xs ++ []) (replying (reply.Lines rows) (with_changes change d))) (sym h.1) (subst (λ (b : Bool). AnswersSo d (b && true) [] (replying (reply.Lines rows) (with_changes change d))) (sym h.0) (told_done d (replying (reply.Lines rows) (with_changes change d)) change rows refl refl refl))
-doing_ways who d ms ok change deed.Watch h = subst (λ (xs : List Made). AnswersSo d (ok && true) (xs ++ []) (watching (with_changes change d))) (sym h.1) (subst (λ (b : Bool). AnswersSo d (b && true) [] (watching (with_changes change d))) (sym h.0) (told_done d (watching (with_changes change d)) change [] refl refl refl))
-doing_ways who d ms ok change (deed.SetVerdict number verdict on lines) h =
-    let now : DaemonState = with_changes change d in
-    let k : Kept = kept_of now.sweep.standings now.sweep.entries in
-    let x : Standing = h.3.0 in
-    let at : numbered number now.sweep.standings ≡ Some x = subst (λ (ss : List Standing). numbered number ss ≡ Some x) (sym (now_so d change).standings) h.3.1 in
-    ways_next (EndsOrder x (with_verdict verdict who x) k) (λ more ns a. AnswersSo d (ok && more) (ms ++ ns) a) (ordering number verdict who on k) (λ (p : Settled × Kept). Return (answered_with now lines p)) (ordering_ways number verdict who on k x at) (λ more ns p o. set_so more ns p o)
-  where
-    set_so : (more : Bool) (ns : List Made) (p : Settled × Kept) → EndsOrder h.3.0 (with_verdict verdict who h.3.0) (kept_of (with_changes change d).sweep.standings (with_changes change d).sweep.entries) more ns p → AnswersSo d (ok && (more && true)) (ms ++ (ns ++ [])) (answered_with (with_changes change d) lines p)
-    set_so more ns p o =
-        let now : DaemonState = with_changes change d in
-        let told : Entry = entry.Reply (answer_of (reply_to lines p.0)) in
-        let rest : List Entry = verdict_entry (with_verdict verdict who h.3.0) ∷ o.rest in
-        let sure = bears_sure h.3.0.name o.rest o.bears o.quiet in
-        let made : ms ++ (ns ++ []) ≡ ms ++ ns = ap (λ (xs : List Made). ms ++ xs) (append-nil ns) in
-        let granted : (ok && (more && true)) ≡ true = ap (λ (b : Bool). b && (more && true)) h.0 ∙ ap (λ (b : Bool). b && true) o.sure in
-        let wants : tells_memory (rest ++ told ∷ []) ≡ refused true (ms ++ ns) =
-        memory_more rest (told ∷ [])
-        ∙ ap (λ (b : Bool). b || tells_memory (told ∷ [])) sure.0
-        ∙ or_none (is_short_reply (answer_of (reply_to lines p.0)))
-        ∙ short_answer lines p.0
-        ∙ sym o.want
-        ∙ sym (want_more ms ns ∙ ap (λ (b : Bool). b || has_want ns) h.1) in
-        subst (λ (xs : List Made). AnswersSo d (ok && (more && true)) xs (answered_with now lines p)) (sym made) (subst (λ (b : Bool). AnswersSo d b (ms ++ ns) (answered_with now lines p)) (sym granted)
-        (behind_so d (answered_with now lines p) change true (ms ++ ns) (rest ++ told ∷ [])
-        (ap (λ (es : List Entry). es ++ told ∷ []) o.entries ∙ append_assoc now.sweep.entries rest (told ∷ []))
-        wants (nobody_more rest (told ∷ []) sure.1 refl)
-        (let first = h.2 in let later = o.few in let all = count_more ms ns in omega (arith, first, later, all))
-        refl refl refl refl))
-
-pub answering_ways : (event : Event) (d : DaemonState) → Ways (answering d event) (AnswersSo d)
-answering_ways (Sweep moment) d = record { rest = []; entries = sym (append-nil d.sweep.entries); wants = refl; nobody = refl; few = omega arith; pending = refl; event = refl; next = refl; ids = omega arith }
-answering_ways (Order moment who line) d = ways_next (Asks d.sweep.standings) (AnswersSo d) (asking d who line) (doing who d) (asking_ways d who line) (λ ok ms c h. doing_ways who d ms ok c.change c.deed h)
-
--- ---- and the sweep behind it
+-- ---- the sweep behind it
 
 -- The entries that are added tell want of memory just where memory was refused; and where neither that is so nor a call of the sweep
 -- failed, they name nobody.
-pub record EventSo (d : DaemonState) (ok : Bool) (ms : List Made) (e : DaemonState) : Type 0 where
+pub record SweepsSo (a : DaemonState) (ok : Bool) (ms : List Made) (e : DaemonState) : Type 0 where
   pub rest : List Entry
-  pub entries : e.sweep.entries ≡ d.sweep.entries ++ rest
+  pub entries : e.sweep.entries ≡ a.sweep.entries ++ rest
   pub wants : tells_memory rest ≡ refused ok ms
   pub nobody : refused ok ms ≡ false → failures ms ≡ [] → NameNobody rest
-  pub pending : e.pending ≡ d.pending
-  pub event : e.event ≡ d.event + 1
+  pub pending : e.pending ≡ a.pending
 
-failures_append : (ms ns : List Made) → failures (ms ++ ns) ≡ failures ms ++ failures ns
-failures_append [] ns = refl
-failures_append (m ∷ ms) ns = ap (λ (x : List FailedCall). failure m.call m.answer ++ x) (failures_append ms ns) ∙ sym (append_assoc (failure m.call m.answer) (failures ms) (failures ns))
-
-swept_so : (d a : DaemonState) (ok more : Bool) (ms ns : List Made) (v : State Judging) → AnswersSo d ok ms a → Sums a.sweep.entries more ns v.entries → EventSo d (ok && more) (ms ++ ns) (record a { sweep = record v { entries = v.entries ++ entry.End a.event ∷ [] }; event = a.event + 1 })
-swept_so d a ok more ms ns v so sums =
+swept_so : (a : DaemonState) (ok : Bool) (ms : List Made) (v : State Judging) → Sums a.sweep.entries ok ms v.entries → SweepsSo a ok ms (record a { sweep = record v { entries = v.entries ++ entry.End a.event ∷ [] }; event = a.event + 1 })
+swept_so a ok ms v sums =
     let last : List Entry = entry.End a.event ∷ [] in
-    let rest : List Entry = so.rest ++ (sums.rest ++ last) in
-    let both : tells_memory rest ≡ (refused ok ms || refused more ns) =
-    memory_more so.rest (sums.rest ++ last)
-    ∙ ap (λ (b : Bool). b || tells_memory (sums.rest ++ last)) so.wants
-    ∙ ap (λ (b : Bool). refused ok ms || b) (memory_more sums.rest last ∙ or_none (tells_memory sums.rest) ∙ sums.wants) in
-    let whole : (refused ok ms || refused more ns) ≡ refused (ok && more) (ms ++ ns) = refused_more ok more (has_want ms) (has_want ns) ∙ sym (ap (λ (b : Bool). not (ok && more) || b) (want_more ms ns)) in
+    let wants : tells_memory (sums.rest ++ last) ≡ refused ok ms = memory_more sums.rest last ∙ or_none (tells_memory sums.rest) ∙ sums.wants in
     record {
-      rest = rest;
-      entries = ap (λ (es : List Entry). es ++ last) (sums.entries ∙ ap (λ (es : List Entry). es ++ sums.rest) so.entries) ∙ append_assoc (d.sweep.entries ++ so.rest) sums.rest last ∙ append_assoc d.sweep.entries so.rest (sums.rest ++ last);
-      wants = both ∙ whole;
-      nobody = λ n f.
-          let later : refused more ns ≡ false = (or_parts (refused ok ms) (refused more ns) (whole ∙ n)).1 in
-          let fine : failures ns ≡ [] = nothing_behind (failures ms) (failures ns) (sym (failures_append ms ns) ∙ f) in
-          nobody_more so.rest (sums.rest ++ last) so.nobody (nobody_more sums.rest last (nobody_told sums.rest (sums.wants ∙ later) (sums.faults ∙ fine)) refl);
-      pending = so.pending;
-      event = ap (λ (n : ℕ). n + 1) so.event;
+      rest = sums.rest ++ last;
+      entries = ap (λ (es : List Entry). es ++ last) sums.entries ∙ append_assoc a.sweep.entries sums.rest last;
+      wants = wants;
+      nobody = λ n f. nobody_more sums.rest last (nobody_told sums.rest (sums.wants ∙ n) (sums.faults ∙ f)) refl;
+      pending = refl;
     }
 
-handling_so : (d a : DaemonState) (ok : Bool) (ms : List Made) → AnswersSo d ok ms a → Ways (handling a) (λ more ns e. EventSo d (ok && more) (ms ++ ns) e)
+pub handling_ways : (a : DaemonState) → Ways (handling a) (SweepsSo a)
 unfolding handling
-handling_so d a ok ms so =
-    ways_last (λ more ns v. Sums a.sweep.entries more ns v.entries) (λ more ns e. EventSo d (ok && more) (ms ++ ns) e) (sweeping policy_answer policy_later a.sweep) (event.ended a)
+handling_ways a =
+    ways_last (λ ok ms v. Sums a.sweep.entries ok ms v.entries) (SweepsSo a) (sweeping policy_answer policy_later a.sweep) (event.ended a)
     (λ (v : State Judging). record a { sweep = record v { entries = v.entries ++ entry.End a.event ∷ [] }; event = a.event + 1 })
     (λ v. refl)
     (sweeping_sums policy_answer policy_later a.sweep)
-    (λ more ns v sums. swept_so d a ok more ms ns v so sums)
-
-pub event_ways : (event : Event) (d : DaemonState) → Ways (then (answering d event) handling) (EventSo d)
-event_ways event d = ways_next (AnswersSo d) (EventSo d) (answering d event) handling (answering_ways event d) (λ ok ms a so. handling_so d a ok ms so)
-
--- an order that was refused for want of memory, and the sweep behind it
-pub handling_short : (d a : DaemonState) → a ≡ replying (reply.Refused (Refusal.Memory false)) d → Ways (handling a) (λ more ns e. EventSo d (false && more) ([] ++ ns) e)
-handling_short d a is = handling_so d a false [] (subst (λ (x : DaemonState). AnswersSo d false [] x) (sym is) (refused_done d [] false (Refusal.Memory false) refl (omega arith)))
+    (λ ok ms v sums. swept_so a ok ms v sums)

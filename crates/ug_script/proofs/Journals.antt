@@ -5,7 +5,7 @@ use Rattle.std.proofs.Common.{◌≡◌, ℕ, ◌+◌, ◌*◌, ◌<◌, ◌≤�
 use Rattle.std.specs.Cmp.Lexicographic.{pointwise}
 use Rattle.std.specs.List.{list_any}
 use Rattle.ug_types.specs.Elements.{Has}
-use Rattle.ug_kernel.specs.Kernel.{Kernel, IsKernel, Live, Moves}
+use Rattle.ug_kernel.specs.Kernel.{Kernel, IsKernel, Moves}
 use Rattle.ug_kernel.proofs.Stayed.{unmoving}
 use Rattle.ug_sysfs.specs.World.{World, begun, moved, over}
 use Rattle.ug_sysfs.specs.Begins.{moved_moves, happened_moves}
@@ -23,18 +23,24 @@ use Rattle.ug_conf.specs.Texts.{setting_line, settled}
 use Rattle.ug_lines.specs.LineReading.{lines_read}
 use Rattle.ug_core.specs.declared.daemon.Event as events
 use Rattle.ug_core.specs.declared.daemon.Event.TheVariants.{Sweep, Order}
-use Rattle.ug_kernel.specs.Called.{Lived}
-use Rattle.ug_kernel.specs.Quiet.{Grows}
 use Rattle.ug_core.specs.Policy.{Judging}
+use Rattle.ug_core.specs.Answering.{acting, asking, deed_after}
+use Rattle.ug_core.specs.Durable.{IsKept}
 use Rattle.ug_core.specs.Event.{DaemonState, handling, has_numbers, ready, trying}
+use Rattle.ug_core.specs.Storing.{stored_with, storing}
 use Rattle.ug_core.specs.Chain.{Happened, Chain, journal}
-use Rattle.ug_core.specs.declared.storing.Stored.TheVariants as stored
-use Rattle.ug_store.specs.Disk.{Disk}
+use Rattle.std.proofs.Common.{Result, Ok, Err}
+use Rattle.std.proofs.lemmas.Option.{same_Some}
+use Rattle.ug_types.specs.declared.text_fault.TextFault.{TextFault}
+use Rattle.ug_store.specs.Disk.{Disk, IsAsItWas, IsImage}
+use Rattle.ug_store.specs.DiskCalls.{file_limit}
+use Rattle.ug_store.specs.PlayDisk.{play_disk}
+use Rattle.ug_store.specs.declared.mishap.Planned.{Planned}
+use Rattle.ug_store.proofs.PlayedDisk.{play_runs_disk, play_stays_possible, play_stays_told}
+use Rattle.ug_rule.specs.Files.{file_read}
 use Rattle.ug_store.specs.MemLaw.{mem_did}
-use Rattle.ug_store.specs.History.{HoldsOnly}
 use Rattle.ug_store.specs.Scripted.{DiskWorld, MemKeeps, disk_told, forgetting}
-use Rattle.ug_store.specs.Store.{RunsDisk}
-use Rattle.ug_print.specs.RuleTexts.{rules_text_of}
+use Rattle.ug_print.specs.RuleTexts.{rules_limit, rules_text_of}
 use Rattle.ug_types.specs.declared.rule.Rule.{Rule}
 use Rattle.ug_sysfs.specs.World.{Gives}
 use Rattle.ug_play.proofs.Plays.{play_runs}
@@ -50,13 +56,13 @@ use Rattle.ug_script.specs.declared.step.Plan.TheVariants as plan
 use Rattle.ug_script.specs.declared.step.Step.{Step}
 use Rattle.ug_script.specs.declared.step.Step.TheVariants.{Skip, Setup, Move, Schedule, Event, Restart}
 use Rattle.ug_script.specs.Grammar.{step_of_line}
-use Rattle.ug_script.specs.Setup.{SetupState, no_setup, one_line_more, access_of, after_reading, policy_of, rules_disk, started, started_at, steps_of}
-use Rattle.ug_script.specs.Script.{Script, Phase, Started, fresh, takes_setup, has_started, closed_phase, with_setup_closed, daemon_by, daemon_in, disk_by, disk_in, can_start}
-use Rattle.ug_script.specs.Replay.{header, outcome_of, outcome_text, quiet, bad, line_added, with_devices, with_restart, planned, answered_from, answering, came_of, event_from, event_of, in_script, taken, taken_if, script_step}
+use Rattle.ug_script.specs.Setup.{SetupState, no_setup, one_line_more, access_of, after_reading, policy_of, rules_disk, rules_from, rules_if_read, started, started_at, steps_of, with_rules}
+use Rattle.ug_script.specs.Script.{Script, Phase, fresh, takes_setup, has_started, closed_phase, with_setup_closed, daemon_by, daemon_in, disk_by, disk_in, can_start}
+use Rattle.ug_script.specs.Replay.{header, outcome_of, outcome_text, quiet, bad, line_added, with_devices, with_plan, with_played, with_restart, planned, answered_by, answered_from, answered_of, came_of, disk_of, event_from, event_of, in_script, left_played, restarted, taken, taken_if, tried_by, script_step}
 use Rattle.ug_script.specs.Laws.{calls_of, faults_of, StaysLawful}
-use Rattle.ug_script.specs.Journal.{happened_at, left_by, EventsOfRuns, no_events, with_events, runs_by, runs_after, runs_in, journals, journal_of, events_text, runs_text, text_of_runs, IsDaemonRun, EndedRun, AreSuccessive, JudgesOnce, is_quiet, AreQuiet, Recorded, StaysRecorded}
+use Rattle.ug_script.specs.Journal.{happened_at, left_by, left_behind, EventsOfRuns, no_events, with_events, runs_by, runs_after, runs_in, journals, journal_of, events_text, runs_text, text_of_runs, RunStart, first_start, HoldsAtStart, IsDaemonRun, EndedRun, AreSuccessive, JudgesOnce, is_quiet, AreQuiet, Recorded, StaysRecorded}
 use Rattle.ug_script.proofs.Phases.{open_unstarted, closed_daemon, closed_disk, closed_started}
-use Rattle.ug_script.proofs.Lawful.{Holds, HoldsOf, answers, plays_event, handled, event_holds, event_so, move_holds, order_runs, plan_holds, event_pending, no_standing, tells_event, lawful_event}
+use Rattle.ug_script.proofs.Lawful.{Holds, HoldsOf, answers, handled, event_disk, event_holds, event_nobody, event_saved, move_holds, order_runs, plan_holds, no_standing, tells_event, lawful_event}
 use Rattle.ug_script.proofs.Numbers.{Fits, FitsOf, fits_more, event_fits, started_fits, fits_numbers}
 use Rattle.ug_script.proofs.Setups.{IsGiven, InSetup, given_first, given_still, given_added, given_setup, policy_new}
 
@@ -68,21 +74,23 @@ quiet_front (x ∷ steps) step q = let k = quiet_front steps step q.1 in ((q.0, 
 record Kept (first : World) (n : ℕ) (done : List (Option Step)) (runs : EventsOfRuns) (text : List ℕ) (s : Script) (w : World) : Type 0 where
   few : n ≤ 1048576
   holds : HoldsOf (daemon_in s) w
-  fits : first.faults ≡ 0 → FitsOf n (daemon_in s) w
+  fits : first.faults ≡ 0 → FitsOf n (daemon_in s) w (disk_in s)
   given : IsGiven n done s.setup
-  pending : (daemon_in s).pending ≡ false
-  disk : forgetting (disk_in s) ≡ forgetting (rules_disk s.setup)
-  number : ℕ
-  kernel : Kernel
+  kept : (disk_in s).ran_out ≡ false
+  possible : IsImage (disk_in s).disk.left (disk_in s).disk.text
+  start : RunStart
+  few_rules : length start.rules ≤ 65536
   file : Disk
-  only : HoldsOnly (rules_text_of s.setup.rules) file
-  ended : AreSuccessive (access_of s.setup) (policy_of s.setup) (rules_text_of s.setup.rules) 1 first.kernel runs.ended number kernel
-  chain : Chain kernel (Some file) (started_at number (access_of s.setup) (policy_of s.setup)) runs.last w.kernel (disk_told (disk_in s)) (daemon_in s)
+  at_start : HoldsAtStart start file
+  ended : AreSuccessive (access_of s.setup) (policy_of s.setup) (first_start s.setup.rules first.kernel) runs.ended start
+  chain : Chain start.kernel (Some file) (started_at start.number (access_of s.setup) (with_rules start.rules (policy_of s.setup))) runs.last w.kernel (disk_told (disk_in s)) (daemon_in s)
   none : has_started s.phase ≡ false → runs ≡ no_events
   written : text ≡ text_of_runs runs
   nobody : AreQuiet done → first.fails ≡ [] → NameNobody (journal_of runs)
   unfailing : AreQuiet done → first.fails ≡ [] → w.fails ≡ []
   unmoved : AreQuiet done → first.moves ≡ [] → w.moves ≡ []
+  unplanned : AreQuiet done → s.planned ≡ []
+  saved : AreQuiet done → (daemon_in s).pending ≡ false
 
 abbrev KeptAfter : World → ℕ → List (Option Step) → EventsOfRuns → List ℕ → Outcome (Option Script × World) → Type 0
 KeptAfter first n done runs text (Writes more (Some s, w)) = Kept first n done runs (text ++ more) s w
@@ -93,6 +101,14 @@ KeptAfter first n done runs text (Refused fault p) = Unit {0}
 kept_still : (first : World) (n : ℕ) (done : List (Option Step)) (runs : EventsOfRuns) (text : List ℕ) (s : Script) (w : World) → Kept first n done runs text s w → Kept first n done (with_events [] runs) (text ++ []) s w
 kept_still first n done runs text s w h = subst (λ (x : List Happened). Kept first n done (record runs { last = x }) (text ++ []) s w) (sym (append-nil runs.last)) (subst (λ (x : List ℕ). Kept first n done runs x s w) (sym (append-nil text)) h)
 
+-- at the beginning the disk holds the text of the rules, and a crash leaves no other
+first_holds : (setup : SetupState) (k : Kernel) → HoldsAtStart (first_start setup.rules k) (rules_disk setup).disk
+first_holds setup k = record { text = refl; left = λ text h. inl (only_image h) }
+  where
+    only_image : {x y : List ℕ} → Has (x ∷ []) y → y ≡ x
+    only_image (inl e) = sym e
+    only_image (inr h) = absurd h
+
 -- ---- a line of setup: another policy, before any event
 
 setup_kept : (first : World) (n : ℕ) (done : List (Option Step)) (runs : EventsOfRuns) (text : List ℕ) (s : Script) (w : World) (step : Option Step) (setup : SetupState) → n < 1048576 → takes_setup s.phase ≡ true → Kept first n done runs text s w → IsGiven (n + 1) (done ++ step ∷ []) setup → Kept first (n + 1) (done ++ step ∷ []) runs text (record s { setup = setup }) w
@@ -102,9 +118,10 @@ setup_kept first n done runs text s w step setup lt opened h given =
     let new : daemon_by setup s.phase ≡ started setup = o.1 setup in
     let on : disk_by setup s.phase ≡ rules_disk setup = o.2 setup in
     let file : Option Disk = Some (rules_disk setup).disk in
-    let begun : (h.number ≡ 1) × (h.kernel ≡ first.kernel) = subst (λ (x : EventsOfRuns). AreSuccessive (access_of s.setup) (policy_of s.setup) (rules_text_of s.setup.rules) 1 first.kernel x.ended h.number h.kernel) none h.ended in
-    let before : Chain h.kernel (Some h.file) (started_at h.number (access_of s.setup) (policy_of s.setup)) [] w.kernel (disk_told (disk_in s)) (daemon_in s) = subst (λ (x : EventsOfRuns). Chain h.kernel (Some h.file) (started_at h.number (access_of s.setup) (policy_of s.setup)) x.last w.kernel (disk_told (disk_in s)) (daemon_in s)) none h.chain in
-    let moves : Moves first.kernel w.kernel = subst (λ (k : Kernel). Moves k w.kernel) begun.1 before.0 in
+    let b : RunStart = first_start setup.rules first.kernel in
+    let begun : h.start ≡ first_start s.setup.rules first.kernel = subst (λ (x : EventsOfRuns). AreSuccessive (access_of s.setup) (policy_of s.setup) (first_start s.setup.rules first.kernel) x.ended h.start) none h.ended in
+    let before : Chain h.start.kernel (Some h.file) (started_at h.start.number (access_of s.setup) (with_rules h.start.rules (policy_of s.setup))) [] w.kernel (disk_told (disk_in s)) (daemon_in s) = subst (λ (x : EventsOfRuns). Chain h.start.kernel (Some h.file) (started_at h.start.number (access_of s.setup) (with_rules h.start.rules (policy_of s.setup))) x.last w.kernel (disk_told (disk_in s)) (daemon_in s)) none h.chain in
+    let moves : Moves first.kernel w.kernel = subst (λ (x : RunStart). Moves x.kernel w.kernel) begun before.0 in
     let stays : StaysOnDisk file (disk_told (disk_by setup s.phase)) = subst (λ (x : DiskWorld). StaysOnDisk file (disk_told x)) (sym on) (stays_there file) in
     record {
       few = omega (arith, lt);
@@ -112,21 +129,23 @@ setup_kept first n done runs text s w step setup lt opened h given =
       fits = λ e.
           let low : w.faults ≤ 1099511627776 * n = (h.fits e).few_faults in
           let more : w.faults ≤ 1099511627776 * (n + 1) = omega (arith, low) in
-          subst (λ (d : DaemonState). FitsOf (n + 1) d w) (sym new) (started_fits (n + 1) 1 setup w.faults (omega arith) given.few_rules more);
+          subst (λ (d : DaemonState). FitsOf (n + 1) d w (disk_by setup s.phase)) (sym new) (subst (λ (x : DiskWorld). FitsOf (n + 1) (started setup) w x) (sym on) (started_fits (n + 1) 1 setup.rules w.faults 0 (omega arith) given.listed more (omega arith)));
       given = given;
-      pending = ap (λ (d : DaemonState). d.pending) new;
-      disk = ap (λ (x : DiskWorld). forgetting x) on;
-      number = 1;
-      kernel = first.kernel;
+      kept = ap (λ (x : DiskWorld). x.ran_out) on;
+      possible = subst (λ (x : DiskWorld). IsImage x.disk.left x.disk.text) (sym on) (inl refl);
+      start = b;
+      few_rules = given.listed;
       file = (rules_disk setup).disk;
-      only = (refl, refl);
-      ended = subst (λ (x : EventsOfRuns). AreSuccessive (access_of setup) (policy_of setup) (rules_text_of setup.rules) 1 first.kernel x.ended 1 first.kernel) (sym none) (refl, refl);
+      at_start = first_holds setup first.kernel;
+      ended = subst (λ (x : EventsOfRuns). AreSuccessive (access_of setup) (policy_of setup) b x.ended b) (sym none) refl;
       chain = subst (λ (x : EventsOfRuns). Chain first.kernel file (started setup) x.last w.kernel (disk_told (disk_by setup s.phase)) (daemon_by setup s.phase)) (sym none) (moves, stays, new);
       none = h.none;
       written = h.written;
       nobody = λ q. h.nobody (quiet_front done step q).0;
       unfailing = λ q. h.unfailing (quiet_front done step q).0;
       unmoved = λ q. h.unmoved (quiet_front done step q).0;
+      unplanned = λ q. h.unplanned (quiet_front done step q).0;
+      saved = λ q. ap (λ (d : DaemonState). d.pending) new;
     }
 
 added_kept : (first : World) (n : ℕ) (done : List (Option Step)) (runs : EventsOfRuns) (text : List ℕ) (s : Script) (w : World) (step : Option Step) (o : Option SetupState) → n < 1048576 → takes_setup s.phase ≡ true → Kept first n done runs text s w → InSetup (IsGiven (n + 1) (done ++ step ∷ [])) o → KeptAfter first (n + 1) (done ++ step ∷ []) (with_events [] runs) text (line_added o s w)
@@ -139,73 +158,79 @@ kept_when first n done runs text false o s w x = tt
 
 -- ---- a line that changes neither the policy nor the daemon
 
-on_kept : (first : World) (n : ℕ) (done : List (Option Step)) (runs : EventsOfRuns) (text : List ℕ) (s : Script) (w v : World) (step : Option Step) (phase : Phase) → n < 1048576 → Kept first n done runs text s w → daemon_by s.setup phase ≡ daemon_in s → disk_by s.setup phase ≡ disk_in s → has_started phase ≡ has_started s.phase → IsGiven (n + 1) (done ++ step ∷ []) s.setup → HoldsOf (daemon_in s) v → Moves w.kernel v.kernel → v.faults ≡ w.faults
-    → (AreQuiet (done ++ step ∷ []) → first.fails ≡ [] → v.fails ≡ []) → (AreQuiet (done ++ step ∷ []) → first.moves ≡ [] → v.moves ≡ []) → Kept first (n + 1) (done ++ step ∷ []) runs text (record s { phase = phase }) v
-on_kept first n done runs text s w v step phase lt h same on begun given holds moves faults unfailing unmoved =
-    let new : DaemonState = started_at h.number (access_of s.setup) (policy_of s.setup) in
+on_kept : (first : World) (n : ℕ) (done : List (Option Step)) (runs : EventsOfRuns) (text : List ℕ) (s : Script) (w v : World) (step : Option Step) (phase : Phase) (plan : List Planned) → n < 1048576 → Kept first n done runs text s w → daemon_by s.setup phase ≡ daemon_in s → disk_by s.setup phase ≡ disk_in s → has_started phase ≡ has_started s.phase → IsGiven (n + 1) (done ++ step ∷ []) s.setup → HoldsOf (daemon_in s) v → Moves w.kernel v.kernel → v.faults ≡ w.faults
+    → (AreQuiet (done ++ step ∷ []) → first.fails ≡ [] → v.fails ≡ []) → (AreQuiet (done ++ step ∷ []) → first.moves ≡ [] → v.moves ≡ []) → (AreQuiet (done ++ step ∷ []) → plan ≡ []) → Kept first (n + 1) (done ++ step ∷ []) runs text (record s { phase = phase; planned = plan }) v
+on_kept first n done runs text s w v step phase plan lt h same on begun given holds moves faults unfailing unmoved unplanned =
+    let new : DaemonState = started_at h.start.number (access_of s.setup) (with_rules h.start.rules (policy_of s.setup)) in
     record {
       few = omega (arith, lt);
       holds = subst (λ (d : DaemonState). HoldsOf d v) (sym same) holds;
       fits = λ e.
           let d : DaemonState = daemon_in s in
-          let more : Fits (n + 1) d.event d.sweep.next d.sweep.judge.next w.faults = fits_more (h.fits e) in
-          let now : FitsOf (n + 1) d v = subst (λ (f : ℕ). Fits (n + 1) d.event d.sweep.next d.sweep.judge.next f) (sym faults) more in
-          subst (λ (x : DaemonState). FitsOf (n + 1) x v) (sym same) now;
+          let o : DiskWorld = disk_in s in
+          let more : Fits (n + 1) d.event d.sweep.next d.sweep.judge.next w.faults o.faults = fits_more (h.fits e) in
+          let now : FitsOf (n + 1) d v o = subst (λ (f : ℕ). Fits (n + 1) d.event d.sweep.next d.sweep.judge.next f o.faults) (sym faults) more in
+          subst (λ (x : DaemonState). FitsOf (n + 1) x v (disk_by s.setup phase)) (sym same) (subst (λ (x : DiskWorld). FitsOf (n + 1) d v x) (sym on) now);
       given = given;
-      pending = ap (λ (d : DaemonState). d.pending) same ∙ h.pending;
-      disk = ap (λ (x : DiskWorld). forgetting x) on ∙ h.disk;
-      number = h.number;
-      kernel = h.kernel;
+      kept = ap (λ (x : DiskWorld). x.ran_out) on ∙ h.kept;
+      possible = subst (λ (x : DiskWorld). IsImage x.disk.left x.disk.text) (sym on) h.possible;
+      start = h.start;
+      few_rules = h.few_rules;
       file = h.file;
-      only = h.only;
+      at_start = h.at_start;
       ended = h.ended;
-      chain = subst (λ (o : DiskWorld). Chain h.kernel (Some h.file) new runs.last v.kernel (disk_told o) (daemon_by s.setup phase)) (sym on) (subst (λ (d : DaemonState). Chain h.kernel (Some h.file) new runs.last v.kernel (disk_told (disk_in s)) d) (sym same) (chain_moves h.kernel (Some h.file) new runs.last w.kernel v.kernel (disk_told (disk_in s)) (disk_told (disk_in s)) (daemon_in s) h.chain moves (stays_there (disk_told (disk_in s)))));
+      chain = subst (λ (o : DiskWorld). Chain h.start.kernel (Some h.file) new runs.last v.kernel (disk_told o) (daemon_by s.setup phase)) (sym on) (subst (λ (d : DaemonState). Chain h.start.kernel (Some h.file) new runs.last v.kernel (disk_told (disk_in s)) d) (sym same) (chain_moves h.start.kernel (Some h.file) new runs.last w.kernel v.kernel (disk_told (disk_in s)) (disk_told (disk_in s)) (daemon_in s) h.chain moves (stays_there (disk_told (disk_in s)))));
       none = λ e. h.none (sym begun ∙ e);
       written = h.written;
       nobody = λ q. h.nobody (quiet_front done step q).0;
       unfailing = unfailing;
       unmoved = unmoved;
+      unplanned = unplanned;
+      saved = λ q. ap (λ (d : DaemonState). d.pending) same ∙ h.saved (quiet_front done step q).0;
     }
 
 closed_now : {X : Type 0} → false ≡ true → X
 closed_now e = let none : ⊥ = cc in absurd none
 
 skip_kept : (first : World) (n : ℕ) (done : List (Option Step)) (runs : EventsOfRuns) (text : List ℕ) (s : Script) (w : World) → n < 1048576 → Kept first n done runs text s w → Kept first (n + 1) (done ++ Some Skip ∷ []) runs text s w
-skip_kept first n done runs text s w lt h = on_kept first n done runs text s w w (Some Skip) s.phase lt h refl refl refl (given_still n done (Some Skip) s.setup refl refl refl refl refl h.given) h.holds (unmoving w.kernel) refl (λ q. h.unfailing (quiet_front done (Some Skip) q).0) (λ q. h.unmoved (quiet_front done (Some Skip) q).0)
+skip_kept first n done runs text s w lt h = on_kept first n done runs text s w w (Some Skip) s.phase s.planned lt h refl refl refl (given_still n done (Some Skip) s.setup refl refl refl refl refl h.given) h.holds (unmoving w.kernel) refl (λ q. h.unfailing (quiet_front done (Some Skip) q).0) (λ q. h.unmoved (quiet_front done (Some Skip) q).0) (λ q. h.unplanned (quiet_front done (Some Skip) q).0)
 
 -- ---- an event
-
-nobody_in_event : (event : events.Event) (d : DaemonState) (w : World) → w.ran_out ≡ false → w.fails ≡ [] → NameNobody (event_from event d w).0.sweep.entries
-nobody_in_event event d w run none =
-    let x = event_so event d w in
-    subst NameNobody (sym x.so.entries) (nobody_more (ready event None d).sweep.entries x.so.rest (first_nobody event d) (x.so.nobody x.sure (x.calm run none)))
-  where
-    first_nobody : (event : events.Event) (d : DaemonState) → NameNobody (ready event None d).sweep.entries
-    first_nobody (Sweep moment) d = refl
-    first_nobody (Order moment who line) d = refl
-
--- nothing is asked of the disk
-none_asked : (o : DiskWorld) (d : DaemonState) → d.pending ≡ false → RunsDisk MemKeeps o (trying d) None o
-unfolding trying
-none_asked o d e = rw e (refl, refl)
 
 -- the event keeps its laws
 is_event : (first : World) (n : ℕ) (done : List (Option Step)) (runs : EventsOfRuns) (text : List ℕ) (event : events.Event) (s : Script) (w : World) (h : Kept first n done runs text s w) → IsEvent (happened_at event s w)
 is_event first n done runs text event s w h =
     let d : DaemonState = daemon_in s in
-    let o : DiskWorld = disk_in s in
-    let a = answered_from event d w in
-    let p = event_of event s w in
-    let swept : SameRules a.0.sweep.judge p.0.sweep = subst (λ (x : DaemonState × World). SameRules a.0.sweep.judge x.0.sweep) (sym (plays_event event d w)) (event_keeps_rules Gives a.1 a.0 (play (handling a.0) a.1).0 (play (handling a.0) a.1).1 (play_runs (handling a.0) a.1)) in
+    let o : DiskWorld = disk_of s in
+    let tried = (tried_by d o).0 in
+    let q : DiskWorld = (tried_by d o).1 in
+    let a = answered_from event d w o in
+    let p = event_from event d w o in
+    let swept : SameRules a.daemon.sweep.judge p.daemon.sweep = event_keeps_rules Gives a.world a.daemon (play (handling a.daemon) a.world).0 (play (handling a.daemon) a.world).1 (play_runs (handling a.daemon) a.world) in
     record {
-      answers = answers event d w h.holds;
-      handled = handled event d w h.holds;
-      file = file_kept Gives calls_of faults_of MemKeeps disk_told mem_did event (begun w) o d None o stored.NotNeeded a.1 o a.0 p.1 p.0 (none_asked o d h.pending) (order_runs MemKeeps o event (ready event None d) (begun w)) (tells_event event d w h.holds) swept;
+      answers = answers event d w o h.holds;
+      handled = handled event d w o h.holds;
+      file = file_kept Gives calls_of faults_of MemKeeps disk_told mem_did event (begun w) o d tried q a.became a.world a.disk a.daemon p.world p.daemon (play_runs_disk (trying d) o) (order_runs event (ready event tried d) (begun w) q) (tells_event event d w o h.holds) swept;
     }
 
 -- the chain with that event
-event_chain : (first : World) (n : ℕ) (done : List (Option Step)) (runs : EventsOfRuns) (text : List ℕ) (event : events.Event) (s : Script) (w : World) (h : Kept first n done runs text s w) → Chain h.kernel (Some h.file) (started_at h.number (access_of s.setup) (policy_of s.setup)) (runs.last ++ happened_at event s w ∷ []) (event_of event s w).1.kernel (disk_told (disk_in s)) (event_of event s w).0
-event_chain first n done runs text event s w h = chain_more h.kernel (Some h.file) (started_at h.number (access_of s.setup) (policy_of s.setup)) runs.last w.kernel (disk_told (disk_in s)) (daemon_in s) (happened_at event s w) h.chain (unmoving w.kernel) (stays_there (disk_told (disk_in s))) refl (is_event first n done runs text event s w h)
+event_chain : (first : World) (n : ℕ) (done : List (Option Step)) (runs : EventsOfRuns) (text : List ℕ) (event : events.Event) (s : Script) (w : World) (h : Kept first n done runs text s w) → Chain h.start.kernel (Some h.file) (started_at h.start.number (access_of s.setup) (with_rules h.start.rules (policy_of s.setup))) (runs.last ++ happened_at event s w ∷ []) (event_of event s w).world.kernel (disk_told (event_of event s w).disk) (event_of event s w).daemon
+event_chain first n done runs text event s w h = chain_more h.start.kernel (Some h.file) (started_at h.start.number (access_of s.setup) (with_rules h.start.rules (policy_of s.setup))) runs.last w.kernel (disk_told (disk_in s)) (daemon_in s) (happened_at event s w) h.chain (unmoving w.kernel) (stays_there (disk_told (disk_in s))) refl (is_event first n done runs text event s w h)
+
+-- what a crash might have left within the event is forgotten, and what it may leave now is not
+forgets : (o : DiskWorld) → StaysOnDisk (disk_told o) (disk_told (forgetting o))
+forgets o = by_told o.ran_out
+  where
+    by_told : (b : Bool) → StaysOnDisk (cond b None (Some o.disk)) (cond b None (Some (forgetting o).disk))
+    by_told true = λ n e. (let none : ⊥ = cc in absurd none)
+    by_told false = λ n e. (o.disk, refl, subst (λ (m : Disk). IsAsItWas o.disk m) (same_Some (forgetting o).disk n e) (record { text = refl; fresh = refl; synced = refl; left = refl }))
+
+event_possible : (event : events.Event) (d : DaemonState) (w : World) (o : DiskWorld) → o.ran_out ≡ false → IsImage o.disk.left o.disk.text → IsImage (event_from event d w o).disk.disk.left (event_from event d w o).disk.disk.text
+event_possible event d w o told is = by_event event (ready event (tried_by d o).0 d) (begun w) (tried_by d o).1 (play_stays_told (trying d) o told) (play_stays_possible (trying d) o told is)
+  where
+    by_event : (event : events.Event) (r : DaemonState) (m : World) (q : DiskWorld) → q.ran_out ≡ false → IsImage q.disk.left q.disk.text → IsImage (answered_by event r m q).disk.disk.left (answered_by event r m q).disk.disk.text
+    by_event (Sweep moment) r m q told is = is
+    by_event (Order moment who line) r m q told is = play_stays_possible (storing r (play (asking r who line) m).0.change) q told is
 
 events_append : (gs hs : List Happened) → events_text (gs ++ hs) ≡ events_text gs ++ events_text hs
 events_append [] hs = refl
@@ -222,37 +247,44 @@ journal_more runs h =
     ∙ sym (append_assoc (journals runs.ended) (journal runs.last) h.after.sweep.entries)
 
 event_kept : (first : World) (n : ℕ) (done : List (Option Step)) (runs : EventsOfRuns) (text : List ℕ) (event : events.Event) (s : Script) (w : World) → n < 1048576 → Kept first n done runs text s w
-    → Kept first (n + 1) (done ++ Some (Event event) ∷ []) (with_events (happened_at event s w ∷ []) runs) (text ++ outcome_text (outcome_of (event_of event s w).0)) (record s { phase = Started (event_of event s w).0 (disk_in s) }) (over (event_of event s w).1)
+    → Kept first (n + 1) (done ++ Some (Event event) ∷ []) (with_events (happened_at event s w ∷ []) runs) (text ++ outcome_text (outcome_of (event_of event s w).daemon)) (with_played s (left_played (event_of event s w))) (over (event_of event s w).world)
 event_kept first n done runs text event s w lt h =
+    let d : DaemonState = daemon_in s in
+    let o : DiskWorld = disk_of s in
     let p = event_of event s w in
     let step : Option Step = Some (Event event) in
     let this : Happened = happened_at event s w in
-    let all : journal_of (with_events (this ∷ []) runs) ≡ journal_of runs ++ p.0.sweep.entries = journal_more runs this in
+    let all : journal_of (with_events (this ∷ []) runs) ≡ journal_of runs ++ p.daemon.sweep.entries = journal_more runs this in
+    let new : DaemonState = started_at h.start.number (access_of s.setup) (with_rules h.start.rules (policy_of s.setup)) in
     record {
       few = omega (arith, lt);
-      holds = event_holds event (daemon_in s) w h.holds;
-      fits = λ e. event_fits n event (daemon_in s) w lt h.holds (h.fits e);
+      holds = event_holds event d w o h.holds;
+      fits = λ e. event_fits n event d w o lt h.holds h.kept (h.fits e);
       given = given_still n done step s.setup refl refl refl refl refl h.given;
-      pending = event_pending event (daemon_in s) w h.pending;
-      disk = h.disk;
-      number = h.number;
-      kernel = h.kernel;
+      kept = event_disk event d w o h.kept;
+      possible = event_possible event d w o h.kept h.possible;
+      start = h.start;
+      few_rules = h.few_rules;
       file = h.file;
-      only = h.only;
+      at_start = h.at_start;
       ended = h.ended;
-      chain = chain_moves h.kernel (Some h.file) (started_at h.number (access_of s.setup) (policy_of s.setup)) (runs.last ++ this ∷ []) p.1.kernel (over p.1).kernel (disk_told (disk_in s)) (disk_told (disk_in s)) p.0 (event_chain first n done runs text event s w h) (happened_moves p.1.moves p.1.kernel) (stays_there (disk_told (disk_in s)));
+      chain = chain_moves h.start.kernel (Some h.file) new (runs.last ++ this ∷ []) p.world.kernel (over p.world).kernel (disk_told p.disk) (disk_told (forgetting p.disk)) p.daemon (event_chain first n done runs text event s w h) (happened_moves p.world.moves p.world.kernel) (forgets p.disk);
       none = λ e. closed_now (sym e);
-      written = ap (λ (z : List ℕ). z ++ outcome_text (outcome_of p.0)) h.written ∙ sym (text_more runs this);
+      written = ap (λ (z : List ℕ). z ++ outcome_text (outcome_of p.daemon)) h.written ∙ sym (text_more runs this);
       nobody = λ q e.
           let quiet = (quiet_front done step q).0 in
-          subst NameNobody (sym all) (nobody_more (journal_of runs) p.0.sweep.entries (h.nobody quiet e) (nobody_in_event event (daemon_in s) w h.holds.told (h.unfailing quiet e)));
+          subst NameNobody (sym all) (nobody_more (journal_of runs) p.daemon.sweep.entries (h.nobody quiet e) (event_nobody event d w o h.holds.told (h.unfailing quiet e) h.kept));
       unfailing = λ q e. refl;
       unmoved = λ q e. refl;
+      unplanned = λ q. refl;
+      saved = λ q.
+          let quiet = (quiet_front done step q).0 in
+          event_saved event d w o h.kept (h.unplanned quiet) (h.saved quiet);
     }
 
 event_if : (first : World) (n : ℕ) (done : List (Option Step)) (runs : EventsOfRuns) (text : List ℕ) (event : events.Event) (s : Script) (w : World) (can has : Bool)
     → KeptAfter first n done (with_events (happened_at event s w ∷ []) runs) text (in_script s (came_of (event_of event s w)))
-    → KeptAfter first n done (with_events (cond (can && has) (happened_at event s w ∷ []) []) runs) text (cond can (in_script s (cond has (came_of (event_of event s w)) (Refused BadLine (daemon_in s, w)))) (Refused InputTooLong (Some s, w)))
+    → KeptAfter first n done (with_events (cond (can && has) (happened_at event s w ∷ []) []) runs) text (cond can (in_script s (cond has (came_of (event_of event s w)) (Refused BadLine (record { daemon = daemon_in s; world = w; disk = disk_in s })))) (Refused InputTooLong (Some s, w)))
 event_if first n done runs text event s w true true k = k
 event_if first n done runs text event s w true false k = tt
 event_if first n done runs text event s w false has k = tt
@@ -260,25 +292,61 @@ event_if first n done runs text event s w false has k = tt
 -- ---- a restart
 
 -- a run, from its start to where it came
-daemon_run : (access : List Addition) (policy : Judging) (text : List ℕ) (number : ℕ) (first : Kernel) (file : Disk) (hs : List Happened) (k : Kernel) (p : Option Disk) (e : DaemonState) → HoldsOnly text file → Chain first (Some file) (started_at number access policy) hs k p e → IsDaemonRun access policy text number first hs k p e
-daemon_run access policy text number first file hs k p e only chain = record {
+daemon_run : (access : List Addition) (policy : Judging) (b : RunStart) (file : Disk) (hs : List Happened) (k : Kernel) (p : Option Disk) (e : DaemonState) → length b.rules ≤ 65536 → HoldsAtStart b file → Chain b.kernel (Some file) (started_at b.number access (with_rules b.rules policy)) hs k p e → IsDaemonRun access policy b hs k p e
+daemon_run access policy b file hs k p e few holds chain = record {
+  few = few;
   file = file;
-  holds = only;
+  holds = holds;
   chain = chain;
-  run = is_run policy number first (Some file) (started_at number access policy) hs k p e (record { judge = refl; standings = refl; next = refl; listed = refl; entries = refl; pending = refl; event = refl; reply = refl; watch = refl }) chain;
+  run = is_run (with_rules b.rules policy) b.number b.kernel (Some file) (started_at b.number access (with_rules b.rules policy)) hs k p e (record { judge = refl; standings = refl; next = refl; listed = refl; entries = refl; pending = refl; event = refl; reply = refl; watch = refl }) chain;
 }
 
--- one run more has ended
-run_ended : (access : List Addition) (policy : Judging) (text : List ℕ) (number : ℕ) (first : Kernel) (runs : List (List Happened)) (next : ℕ) (k : Kernel) (hs : List Happened) (r : EndedRun access policy text next k hs) → AreSuccessive access policy text number first runs next k → AreSuccessive access policy text number first (runs ++ hs ∷ []) r.daemon.event r.kernel
-run_ended access policy text number first [] next k hs r h = run_first first number k next hs r h.1 h.0
-  where
-    run_first : (first : Kernel) (number : ℕ) (k : Kernel) (next : ℕ) (hs : List Happened) (r : EndedRun access policy text next k hs) → k ≡ first → next ≡ number → AreSuccessive access policy text number first (hs ∷ []) r.daemon.event r.kernel
-    run_first first number k next hs r same number_is = (record { kernel = r.kernel; disk = r.disk; daemon = r.daemon; is = subst (λ (m : ℕ). IsDaemonRun access policy text m first hs r.kernel r.disk r.daemon) number_is (subst (λ (l : Kernel). IsDaemonRun access policy text next l hs r.kernel r.disk r.daemon) same r.is) }, (refl, refl))
-run_ended access policy text number first (gs ∷ runs) next k hs r h = (h.0, run_ended access policy text h.0.daemon.event h.0.kernel runs next k hs r h.1)
+-- each text that a crash may leave behind a run is one of those that it might have left
+left_images : (access : List Addition) (policy : Judging) (b : RunStart) (hs : List Happened) (k : Kernel) (file : Disk) (e : DaemonState) → IsDaemonRun access policy b hs k (Some file) e → (text : List ℕ) → IsImage file.left text → Has (left_behind b hs e) text
+left_images access policy b hs k file e run text possible =
+    let law = run.run.file file refl in
+    let same : law.0 ≡ run.file = same_Some law.0 run.file (sym law.1) in
+    let began : IsKept (with_rules b.rules policy).rules (b.text ∷ b.unsure) law.0.left = subst (λ (m : Disk). IsKept (with_rules b.rules policy).rules (b.text ∷ b.unsure) m.left) (sym same) (λ text is. elim (run.holds.left text is) [
+      | inl x ↦ inr (inl (sym x))
+      | inr x ↦ inr (inr x)
+    ]) in
+    elim ((law.2 (b.text ∷ b.unsure) began).1 text possible) [
+      | inl x ↦ inl (sym x)
+      | inr x ↦ inr x
+    ]
 
--- the disk that was read has the same text, and a crash leaves the same
-read_only : (rules : List ℕ) (o u : DiskWorld) → forgetting o ≡ forgetting u → HoldsOnly rules (after_reading u).disk → HoldsOnly rules (after_reading o).disk
-read_only rules o u same h = (ap (λ (x : DiskWorld). x.disk.text) same ∙ h.0, ap (λ (x : DiskWorld). x.disk.left) same ∙ h.1)
+-- one run more has ended
+run_ended : (access : List Addition) (policy : Judging) (first : RunStart) (runs : List (List Happened)) (b : RunStart) (hs : List Happened) (r : EndedRun access policy b hs) → AreSuccessive access policy first runs b → AreSuccessive access policy first (runs ++ hs ∷ []) r.next
+run_ended access policy first [] b hs r h = begins first h
+  where
+    begins : (c : RunStart) → b ≡ c → AreSuccessive access policy c (hs ∷ []) r.next
+    begins c e = subst (λ (x : RunStart). AreSuccessive access policy x (hs ∷ []) r.next) e (r, refl)
+run_ended access policy first (gs ∷ runs) b hs r h = (h.0, run_ended access policy h.0.next runs b hs r h.1)
+
+told_now : (o : DiskWorld) → o.ran_out ≡ false → disk_told o ≡ Some o.disk
+told_now o none = rw none refl
+
+-- the rules that a daemon starts with are those of the text, and no more than it takes
+from_text : (text : List ℕ) (rules : List Rule) → rules_from text ≡ Ok rules → (file_read text ≡ Ok rules) × (length rules ≤ 65536)
+from_text text rules h = by_length (nat_le (length text) file_limit) h
+  where
+    taken_from : (others : List Rule) (few fits : Bool) → nat_le (length others) 65536 ≡ few → cond (few && fits) (Ok others) (Err InputTooLong) ≡ Ok rules → (others ≡ rules) × (length rules ≤ 65536)
+    taken_from others true true e k =
+        let same : others ≡ rules = cc in
+        let few : length others ≤ 65536 = grind (arith, nat_tests, e) in
+        (same, subst (λ (rs : List Rule). length rs ≤ 65536) same few)
+    taken_from others true false e k = let none : ⊥ = cc in absurd none
+    taken_from others false fits e k = let none : ⊥ = cc in absurd none
+
+    by_read : (r : Result (List Rule) TextFault) → file_read text ≡ r → rules_if_read r ≡ Ok rules → (file_read text ≡ Ok rules) × (length rules ≤ 65536)
+    by_read (Ok others) is k =
+        let x = taken_from others (nat_le (length others) 65536) (nat_le (length (rules_text_of others)) rules_limit) refl k in
+        (is ∙ ap (λ (rs : List Rule). Ok rs) x.0, x.1)
+    by_read (Err bad) is k = let none : ⊥ = cc in absurd none
+
+    by_length : (b : Bool) → cond b (rules_if_read (file_read text)) (Err InputTooLong) ≡ Ok rules → (file_read text ≡ Ok rules) × (length rules ≤ 65536)
+    by_length true k = by_read (file_read text) refl k
+    by_length false k = let none : ⊥ = cc in absurd none
 
 told_reading : (o : DiskWorld) → o.ran_out ≡ false → disk_told (after_reading o) ≡ Some (after_reading o).disk
 told_reading o none = rw none refl
@@ -297,18 +365,27 @@ text_ended runs = append-nil (runs_text (runs.ended ++ runs.last ∷ [])) ∙ ru
 journal_ended : (runs : EventsOfRuns) → journal_of (record { ended = runs.ended ++ runs.last ∷ []; last = [] }) ≡ journal_of runs
 journal_ended runs = append-nil (journals (runs.ended ++ runs.last ∷ [])) ∙ journals_append runs.ended runs.last
 
-restart_kept : (first : World) (n : ℕ) (done : List (Option Step)) (runs : EventsOfRuns) (text : List ℕ) (s : Script) (w : World) → n < 1048576 → Kept first n done runs text s w
-    → Kept first (n + 1) (done ++ Some Restart ∷ []) (record { ended = runs.ended ++ runs.last ∷ []; last = [] }) (text ++ []) (with_restart s) w
-restart_kept first n done runs text s w lt h =
+restart_kept : (first : World) (n : ℕ) (done : List (Option Step)) (runs : EventsOfRuns) (text : List ℕ) (s : Script) (w : World) (rules : List Rule) → n < 1048576 → rules_from (disk_in s).disk.text ≡ Ok rules → Kept first n done runs text s w
+    → Kept first (n + 1) (done ++ Some Restart ∷ []) (record { ended = runs.ended ++ runs.last ∷ []; last = [] }) (text ++ []) (with_restart rules s) w
+restart_kept first n done runs text s w rules lt loaded h =
     let step : Option Step = Some Restart in
     let d : DaemonState = daemon_in s in
     let o : DiskWorld = disk_in s in
     let access : List Addition = access_of s.setup in
     let policy : Judging = policy_of s.setup in
-    let rules : List ℕ = rules_text_of s.setup.rules in
-    let this : EndedRun access policy rules h.number h.kernel runs.last = record { kernel = w.kernel; disk = disk_told o; daemon = d; is = daemon_run access policy rules h.number h.kernel h.file runs.last w.kernel (disk_told o) d h.only h.chain } in
+    let read = from_text o.disk.text rules loaded in
+    let chain : Chain h.start.kernel (Some h.file) (started_at h.start.number access (with_rules h.start.rules policy)) runs.last w.kernel (Some o.disk) d = subst (λ (x : Option Disk). Chain h.start.kernel (Some h.file) (started_at h.start.number access (with_rules h.start.rules policy)) runs.last w.kernel x d) (told_now o h.kept) h.chain in
+    let run : IsDaemonRun access policy h.start runs.last w.kernel (Some o.disk) d = daemon_run access policy h.start h.file runs.last w.kernel (Some o.disk) d h.few_rules h.at_start chain in
+    let b : RunStart = record { rules = rules; text = o.disk.text; unsure = left_behind h.start runs.last d; number = d.event; kernel = w.kernel } in
+    let this : EndedRun access policy h.start runs.last = record {
+      kernel = w.kernel;
+      disk = Some o.disk;
+      daemon = d;
+      is = run;
+      next = b;
+      behind = record { file = o.disk; told = refl; text = refl; reads = read.0; kept = left_images access policy h.start runs.last w.kernel o.disk d run o.disk.text h.possible; unsure = refl; number = refl; kernel = refl };
+    } in
     let file : Disk = (after_reading o).disk in
-    let ran : o.ran_out ≡ false = ap (λ (x : DiskWorld). x.ran_out) h.disk in
     let given : IsGiven (n + 1) (done ++ step ∷ []) s.setup = given_still n done step s.setup refl refl refl refl refl h.given in
     let same : journal_of (record { ended = runs.ended ++ runs.last ∷ []; last = [] }) ≡ journal_of runs = journal_ended runs in
     record {
@@ -316,27 +393,31 @@ restart_kept first n done runs text s w lt h =
       holds = record { told = h.holds.told; sound = h.holds.sound; stand = no_standing w.kernel };
       fits = λ e.
           let low : w.faults ≤ 1099511627776 * n = (h.fits e).few_faults in
+          let low_disk : o.faults ≤ 2 * n = (h.fits e).few_disk_faults in
           let events : d.event ≤ n + 1 = (h.fits e).few_events in
-          started_fits (n + 1) d.event s.setup w.faults (omega (arith, events)) given.few_rules (omega (arith, low));
+          started_fits (n + 1) d.event rules w.faults o.faults (omega (arith, events)) read.1 (omega (arith, low)) (omega (arith, low_disk));
       given = given;
-      pending = refl;
-      disk = h.disk;
-      number = d.event;
-      kernel = w.kernel;
+      kept = h.kept;
+      possible = h.possible;
+      start = b;
+      few_rules = read.1;
       file = file;
-      only = read_only rules o (rules_disk s.setup) h.disk (refl, refl);
-      ended = run_ended access policy rules 1 first.kernel runs.ended h.number h.kernel runs.last this h.ended;
-      chain = (unmoving w.kernel, subst (λ (x : Option Disk). StaysOnDisk (Some file) x) (sym (told_reading o ran)) (stays_there (Some file)), refl);
+      at_start = record { text = refl; left = λ text is. inr (left_images access policy h.start runs.last w.kernel o.disk d run text is) };
+      ended = run_ended access policy (first_start s.setup.rules first.kernel) runs.ended h.start runs.last this h.ended;
+      chain = (unmoving w.kernel, subst (λ (x : Option Disk). StaysOnDisk (Some file) x) (sym (told_reading o h.kept)) (stays_there (Some file)), refl);
       none = λ e. closed_now (sym e);
       written = append-nil text ∙ h.written ∙ sym (text_ended runs);
       nobody = λ q e. subst NameNobody (sym same) (h.nobody (quiet_front done step q).0 e);
       unfailing = λ q. h.unfailing (quiet_front done step q).0;
       unmoved = λ q. h.unmoved (quiet_front done step q).0;
+      unplanned = λ q. h.unplanned (quiet_front done step q).0;
+      saved = λ q. refl;
     }
 
-restart_if : (first : World) (n : ℕ) (done : List (Option Step)) (runs : EventsOfRuns) (text : List ℕ) (s : Script) (w : World) (can : Bool) → KeptAfter first n done runs text (quiet (with_restart s) w) → KeptAfter first n done runs text (cond can (quiet (with_restart s) w) (Refused InputTooLong (Some s, w)))
-restart_if first n done runs text s w true k = k
-restart_if first n done runs text s w false k = tt
+restart_if : (first : World) (n : ℕ) (done : List (Option Step)) (runs : EventsOfRuns) (text : List ℕ) (s : Script) (w : World) (can : Bool) (loaded : Result (List Rule) Fault) → ((rules : List Rule) → loaded ≡ Ok rules → KeptAfter first n done runs text (quiet (with_restart rules s) w)) → KeptAfter first n done runs text (cond can (restarted loaded s w) (Refused InputTooLong (Some s, w)))
+restart_if first n done runs text s w true (Ok rules) k = k rules refl
+restart_if first n done runs text s w true (Err fault) k = tt
+restart_if first n done runs text s w false loaded k = tt
 
 neither : (a b : Bool) → (a || b) ≡ false → (a ≡ false) × (b ≡ false)
 neither false b e = (refl, e)
@@ -359,29 +440,38 @@ nobody_right : (es fs : List Entry) → NameNobody (es ++ fs) → NameNobody fs
 nobody_right [] fs n = n
 nobody_right (e ∷ es) fs n = nobody_right es fs (neither (names_somebody e) (list_any names_somebody (es ++ fs)) n).1
 
+-- no move is left for the sweep
+answered_still : (event : events.Event) (d : DaemonState) (w : World) (o : DiskWorld) → w.moves ≡ [] → (answered_from event d w o).world.moves ≡ []
+answered_still event d w o none = by_event event (ready event (tried_by d o).0 d) (begun w) (tried_by d o).1 none
+  where
+    by_event : (event : events.Event) (r : DaemonState) (m : World) (q : DiskWorld) → m.moves ≡ [] → (answered_by event r m q).world.moves ≡ []
+    by_event (Sweep moment) r m q none = none
+    by_event (Order moment who line) r m q none =
+        let c = play (asking r who line) m in
+        let b = play_disk (storing r c.0.change) q in
+        (play_still (acting who (stored_with b.0 c.0.change r) (deed_after b.0 c.0.deed)) c.1 (play_still (asking r who line) m none).moves).moves
+
 -- where nobody is named, each live device was judged once and stands as judged
-event_once : (first : World) (n : ℕ) (done : List (Option Step)) (runs : EventsOfRuns) (text : List ℕ) (s : Script) (w : World) (h : Kept first n done runs text s w) → AreQuiet done → first.fails ≡ [] → first.moves ≡ [] → (event : events.Event) → JudgesOnce (policy_of s.setup) h.kernel h.file runs.last (happened_at event s w)
+event_once : (first : World) (n : ℕ) (done : List (Option Step)) (runs : EventsOfRuns) (text : List ℕ) (s : Script) (w : World) (h : Kept first n done runs text s w) → AreQuiet done → first.fails ≡ [] → first.moves ≡ [] → (event : events.Event) → JudgesOnce (with_rules h.start.rules (policy_of s.setup)) h.start.kernel h.file runs.last (happened_at event s w)
 unfolding daemon_run
 event_once first n done runs text s w h quiet_lines fails moves event =
     let policy : Judging = policy_of s.setup in
     let d : DaemonState = daemon_in s in
-    let a = answered_from event d w in
+    let o : DiskWorld = disk_of s in
+    let a = answered_of event s w in
     let p = event_of event s w in
-    let l : Kernel = p.1.kernel in
-    let law = handled event d w h.holds in
-    let none : w.moves ≡ [] = h.unmoved quiet_lines moves in
-    let y : Entry = entry.End a.0.event in
+    let l : Kernel = p.world.kernel in
+    let law = handled event d w o h.holds in
+    let y : Entry = entry.End a.daemon.event in
     let rest : List Entry = law.law.fair.rest in
-    let all : p.0.sweep.entries ≡ a.0.sweep.entries ++ (rest ++ y ∷ []) = ap (λ (z : State Judging). z.entries) law.entries ∙ ap (λ (z : List Entry). z ++ y ∷ []) law.law.fair.entries ∙ append_assoc a.0.sweep.entries rest (y ∷ []) in
-    let quiet : NameNobody rest = nobody_left rest (y ∷ []) (nobody_right a.0.sweep.entries (rest ++ y ∷ []) (subst NameNobody all (nobody_in_event event d w h.holds.told (h.unfailing quiet_lines fails)))) in
-    let run = (daemon_run (access_of s.setup) policy (rules_text_of s.setup.rules) h.number h.kernel h.file (runs.last ++ happened_at event s w ∷ []) l (disk_told (disk_in s)) p.0 h.only (event_chain first n done runs text event s w h)).run in
+    let all : p.daemon.sweep.entries ≡ a.daemon.sweep.entries ++ (rest ++ y ∷ []) = ap (λ (z : State Judging). z.entries) law.entries ∙ ap (λ (z : List Entry). z ++ y ∷ []) law.law.fair.entries ∙ append_assoc a.daemon.sweep.entries rest (y ∷ []) in
+    let quiet : NameNobody rest = nobody_left rest (y ∷ []) (nobody_right a.daemon.sweep.entries (rest ++ y ∷ []) (subst NameNobody all (event_nobody event d w o h.holds.told (h.unfailing quiet_lines fails) h.kept))) in
+    let run = (daemon_run (access_of s.setup) policy h.start h.file (runs.last ++ happened_at event s w ∷ []) l (disk_told p.disk) p.daemon h.few_rules h.at_start (event_chain first n done runs text event s w h)).run in
     record {
       run = run;
       each = λ i e live.
-          let same : p ≡ play (handling a.0) a.1 = plays_event event d w in
-          let lived = lived_in_play (handling a.0) a.1 (play_still (answering (ready event None d) event) (begun w) none).moves (subst (λ (x : DaemonState × World). Grows a.1.kernel x.1.kernel) same law.law.fair.grows) i e (subst (λ (x : DaemonState × World). Live x.1.kernel.devices i e) same live) in
-          let there : Lived a.1.kernel.devices l.devices i lived.0 = subst (λ (x : DaemonState × World). Lived a.1.kernel.devices x.1.kernel.devices i lived.0) (sym same) lived.1 in
-          let as_judged : IsAsJudged l law.swept.standings i = elim (law.law.settled i lived.0 there) [
+          let lived = lived_in_play (handling a.daemon) a.world (answered_still event d w o (h.unmoved quiet_lines moves)) law.law.fair.grows i e live in
+          let as_judged : IsAsJudged l law.swept.standings i = elim (law.law.settled i lived.0 lived.1) [
             | inl z ↦ z
             | inr named ↦ elim named [
               | inl z ↦ absurd (named_nowhere rest (entry.Unsettled lived.0.name z.0) quiet refl z.1)
@@ -402,20 +492,15 @@ recorded first lines n text s w h =
       policy = policy;
       setup = given_setup n (steps_of lines) s.setup h.given;
       settings = λ whole e. ap (λ (ls : List (List ℕ)). settled (lines_read setting_line 1 (draft_of defaults []) ls)) e ∙ ap settled (given_setup n (steps_of lines) s.setup h.given).settings;
-      later = λ steps can. steps_later policy steps (policy_new s.setup h.given.listed) can;
+      later = λ rules steps few can. steps_later (with_rules rules policy) steps (policy_new policy rules few) can;
       runs = record {
-        number = h.number;
-        kernel = h.kernel;
-        ended = subst (λ (rs : List Rule). AreSuccessive access policy (rules_text_of rs) 1 first.kernel runs.ended h.number h.kernel) h.given.rules h.ended;
-        last = record {
-          file = h.file;
-          holds = subst (λ (rs : List Rule). HoldsOnly (rules_text_of rs) h.file) h.given.rules h.only;
-          chain = h.chain;
-          run = (daemon_run access policy (rules_text_of s.setup.rules) h.number h.kernel h.file runs.last w.kernel (disk_told (disk_in s)) (daemon_in s) h.only h.chain).run;
-        };
+        start = h.start;
+        ended = subst (λ (rs : List Rule). AreSuccessive access policy (first_start rs first.kernel) runs.ended h.start) h.given.rules h.ended;
+        last = daemon_run access policy h.start h.file runs.last w.kernel (disk_told (disk_in s)) (daemon_in s) h.few_rules h.at_start h.chain;
       };
       written = h.written;
       nobody = h.nobody;
+      saved = h.saved;
       once = event_once first n (steps_of lines) runs text s w h;
     }
 
@@ -430,7 +515,7 @@ step_kept first n done runs text (Move action) s w lt h =
     let step : Option Step = Some (Move action) in
     let v : World = with_devices (moved action w.kernel.devices) w in
     kept_still first (n + 1) (done ++ step ∷ []) runs text (with_setup_closed s) v
-    (on_kept first n done runs text s w v step (closed_phase s.phase) lt h (closed_daemon s.setup s.phase) (closed_disk s.setup s.phase) (closed_started s.phase) (given_still n done step s.setup refl refl refl refl refl h.given) (move_holds action (daemon_in s) w h.holds) (moved_moves action w.kernel) refl (λ q. h.unfailing (quiet_front done step q).0) (λ q. h.unmoved (quiet_front done step q).0))
+    (on_kept first n done runs text s w v step (closed_phase s.phase) s.planned lt h (closed_daemon s.setup s.phase) (closed_disk s.setup s.phase) (closed_started s.phase) (given_still n done step s.setup refl refl refl refl refl h.given) (move_holds action (daemon_in s) w h.holds) (moved_moves action w.kernel) refl (λ q. h.unfailing (quiet_front done step q).0) (λ q. h.unmoved (quiet_front done step q).0) (λ q. h.unplanned (quiet_front done step q).0))
 step_kept first n done runs text (Schedule p) s w lt h = plan_kept p
   where
     step : Option Step
@@ -439,14 +524,15 @@ step_kept first n done runs text (Schedule p) s w lt h = plan_kept p
     loud : {X : Type 0} → AreQuiet (done ++ Some (Schedule p) ∷ []) → X
     loud q = closed_now (quiet_front done (Some (Schedule p)) q).1
 
-    by : (v : World) → HoldsOf (daemon_in s) v → Moves w.kernel v.kernel → v.faults ≡ w.faults → Kept first (n + 1) (done ++ Some (Schedule p) ∷ []) runs text (with_setup_closed s) v
-    by v holds moves faults = on_kept first n done runs text s w v (Some (Schedule p)) (closed_phase s.phase) lt h (closed_daemon s.setup s.phase) (closed_disk s.setup s.phase) (closed_started s.phase) (given_still n done (Some (Schedule p)) s.setup refl refl refl refl refl h.given) holds moves faults (λ q. loud q) (λ q. loud q)
+    by : (plan : List Planned) (v : World) → HoldsOf (daemon_in s) v → Moves w.kernel v.kernel → v.faults ≡ w.faults → Kept first (n + 1) (done ++ Some (Schedule p) ∷ []) runs text (record (with_setup_closed s) { planned = plan }) v
+    by plan v holds moves faults = on_kept first n done runs text s w v (Some (Schedule p)) (closed_phase s.phase) plan lt h (closed_daemon s.setup s.phase) (closed_disk s.setup s.phase) (closed_started s.phase) (given_still n done (Some (Schedule p)) s.setup refl refl refl refl refl h.given) holds moves faults (λ q. loud q) (λ q. loud q) (λ q. loud q)
 
-    plan_kept : (x : Plan) → Kept first (n + 1) (done ++ Some (Schedule p) ∷ []) (with_events [] runs) (text ++ []) (with_setup_closed s) (planned x w)
-    plan_kept (plan.Move m) = kept_still first (n + 1) (done ++ Some (Schedule p) ∷ []) runs text (with_setup_closed s) (planned (plan.Move m) w) (by (planned (plan.Move m) w) (plan_holds (plan.Move m) (daemon_in s) w h.holds) (unmoving w.kernel) refl)
-    plan_kept (plan.Fail f) = kept_still first (n + 1) (done ++ Some (Schedule p) ∷ []) runs text (with_setup_closed s) (planned (plan.Fail f) w) (by (planned (plan.Fail f) w) (plan_holds (plan.Fail f) (daemon_in s) w h.holds) (unmoving w.kernel) refl)
-step_kept first n done runs text (Event event) s w lt h = event_if first (n + 1) (done ++ Some (Event event) ∷ []) runs text event s w (can_start s.setup s.phase) (has_numbers (daemon_in s) w.faults 0) (event_kept first n done runs text event s w lt h)
-step_kept first n done runs text Restart s w lt h = restart_if first (n + 1) (done ++ Some Restart ∷ []) (record { ended = runs.ended ++ runs.last ∷ []; last = [] }) text s w (can_start s.setup s.phase) (restart_kept first n done runs text s w lt h)
+    plan_kept : (x : Plan) → Kept first (n + 1) (done ++ Some (Schedule p) ∷ []) (with_events [] runs) (text ++ []) (with_plan x (with_setup_closed s)) (planned x w)
+    plan_kept (plan.Move m) = kept_still first (n + 1) (done ++ Some (Schedule p) ∷ []) runs text (with_setup_closed s) (planned (plan.Move m) w) (by s.planned (planned (plan.Move m) w) (plan_holds (plan.Move m) (daemon_in s) w h.holds) (unmoving w.kernel) refl)
+    plan_kept (plan.Fail f) = kept_still first (n + 1) (done ++ Some (Schedule p) ∷ []) runs text (with_setup_closed s) (planned (plan.Fail f) w) (by s.planned (planned (plan.Fail f) w) (plan_holds (plan.Fail f) (daemon_in s) w h.holds) (unmoving w.kernel) refl)
+    plan_kept (plan.FailDisk f) = kept_still first (n + 1) (done ++ Some (Schedule p) ∷ []) runs text (with_plan (plan.FailDisk f) (with_setup_closed s)) w (by (s.planned ++ f ∷ []) w h.holds (unmoving w.kernel) refl)
+step_kept first n done runs text (Event event) s w lt h = event_if first (n + 1) (done ++ Some (Event event) ∷ []) runs text event s w (can_start s.setup s.phase) (has_numbers (daemon_in s) w.faults (disk_in s).faults) (event_kept first n done runs text event s w lt h)
+step_kept first n done runs text Restart s w lt h = restart_if first (n + 1) (done ++ Some Restart ∷ []) (record { ended = runs.ended ++ runs.last ∷ []; last = [] }) text s w (can_start s.setup s.phase) (rules_from (disk_in s).disk.text) (λ rules loaded. restart_kept first n done runs text s w rules lt loaded h)
 
 line_kept : (first : World) (n : ℕ) (done : List (Option Step)) (runs : EventsOfRuns) (text : List ℕ) (step : Option Step) (s : Script) (w : World) → n < 1048576 → Kept first n done runs text s w → KeptAfter first (n + 1) (done ++ step ∷ []) (runs_by step s w runs) text (taken_if step s w)
 line_kept first n done runs text None s w lt h = tt
@@ -456,21 +542,23 @@ kept_fresh : (first : World) → Holds [] 1 first → Kept first 1 [] no_events 
 kept_fresh first h = record {
   few = omega arith;
   holds = h;
-  fits = λ e. started_fits 1 1 no_setup first.faults (omega arith) (omega arith) (omega (arith, e));
+  fits = λ e. started_fits 1 1 [] first.faults 0 (omega arith) (omega arith) (omega (arith, e)) (omega arith);
   given = given_first;
-  pending = refl;
-  disk = refl;
-  number = 1;
-  kernel = first.kernel;
+  kept = refl;
+  possible = inl refl;
+  start = first_start [] first.kernel;
+  few_rules = omega arith;
   file = (rules_disk no_setup).disk;
-  only = (refl, refl);
-  ended = (refl, refl);
+  at_start = first_holds no_setup first.kernel;
+  ended = refl;
   chain = (unmoving first.kernel, stays_there (Some (rules_disk no_setup).disk), refl);
   none = λ e. refl;
   written = refl;
   nobody = λ x e. refl;
   unfailing = λ x e. e;
   unmoved = λ x e. e;
+  unplanned = λ x. refl;
+  saved = λ x. refl;
 }
 
 -- lines one after another
@@ -538,8 +626,8 @@ stays_lawful first run sound lines n text s w e =
     record {
       sound = h.holds.sound;
       stand = h.holds.stand;
-      events = λ moment. lawful_event moment s w h.holds;
-      pending = h.pending;
-      disk = h.disk;
-      numbers = λ f. fits_numbers n (daemon_in s) w h.few (h.fits f);
+      events = λ event. lawful_event event s w h.holds h.kept;
+      told = h.kept;
+      possible = h.possible;
+      numbers = λ f. fits_numbers n (daemon_in s) w (disk_in s) h.few (h.fits f);
     }

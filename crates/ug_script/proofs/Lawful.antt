@@ -4,7 +4,7 @@ use Rattle.std.proofs.lemmas.Option.{same_Some}
 use Rattle.ug_kernel.specs.Kernel.{Kernel, IsKernel, Moves}
 use Rattle.ug_kernel.proofs.Grow.{quiet_grows}
 use Rattle.ug_kernel.proofs.Quiet.{moves_quiet}
-use Rattle.ug_sysfs.specs.World.{World, Gives, begun, over, moved, told}
+use Rattle.ug_sysfs.specs.World.{World, Gives, answer_of, begun, over, moved, told}
 use Rattle.ug_sysfs.specs.declared.script.Move.{Move}
 use Rattle.ug_sysfs.specs.Count.{counts_each}
 use Rattle.ug_sysfs.specs.Law.{does_what_it_may}
@@ -24,28 +24,33 @@ use Rattle.ug_table.proofs.Faults.{sweeping_tells}
 use Rattle.ug_table.proofs.Once.{told_once}
 use Rattle.ug_play.specs.Play.{play, tells_memory}
 use Rattle.ug_play.proofs.Wants.{memory_more}
-use Rattle.ug_play.proofs.Plays.{Fixed, play_runs, play_told, play_then, play_way}
+use Rattle.ug_play.proofs.Plays.{Fixed, fails_stay, play_runs, play_told, play_then, play_way}
 use Rattle.ug_core.specs.Event as event
 use Rattle.ug_core.specs.Policy.{Judging, policy_answer, policy_later}
 use Rattle.ug_core.specs.Event.{DaemonState, handling, ready}
-use Rattle.ug_core.specs.Answering.{acting, asking}
-use Rattle.ug_store.specs.DiskCalls.{DiskCall, DiskTold}
-use Rattle.ug_store.specs.Store.{RunsDisk}
+use Rattle.ug_core.specs.Answering.{acting, asking, deed_after}
+use Rattle.ug_kernel.specs.Tree.{Prog, Return, Ask, Room}
+use Rattle.ug_types.specs.declared.saved.Saved.{Saved}
+use Rattle.ug_types.specs.declared.saved.Saved.TheVariants as saved
+use Rattle.ug_store.specs.PlayDisk.{play_disk}
+use Rattle.ug_store.specs.Scripted.{DiskWorld, MemKeeps}
+use Rattle.ug_store.proofs.PlayedDisk.{play_keeps_plan, play_runs_disk, play_stays_told}
+use Rattle.ug_play.specs.Play.{NameNobody}
+use Rattle.ug_play.proofs.Sweeps.{nobody_more}
 use Rattle.ug_core.specs.Laws.{AnswersEvent, Handled, RunsAnswer, TellsSweep, TellsEvent}
-use Rattle.ug_core.specs.Storing.{if_saved, storing}
-use Rattle.ug_core.specs.declared.changes.Change.{Change}
-use Rattle.ug_core.specs.declared.storing.Stored.TheVariants as stored
-use Rattle.ug_core.proofs.Asked.{IsUnsaved, asked_of, asked_unsaved}
+use Rattle.ug_core.specs.Storing.{stored_with, storing}
+use Rattle.ug_core.specs.Event.{trying}
 use Rattle.ug_core.specs.declared.daemon.Event.{Event}
 use Rattle.ug_core.specs.declared.daemon.Event.TheVariants.{Sweep, Order}
 use Rattle.ug_core.proofs.Answered.{Answered, answering_made, answering_told, answered_stands, ready_failures, ready_names}
 use Rattle.ug_core.proofs.Failures.{event_tells, event_names}
 use Rattle.ug_script.specs.declared.step.Plan.{Plan}
 use Rattle.ug_script.specs.declared.step.Plan.TheVariants as plan
-use Rattle.ug_script.specs.Script.{Script, daemon_in}
-use Rattle.ug_script.specs.Replay.{answering, doing, answered_from, event_tree, event_from, with_devices, planned}
+use Rattle.ug_script.specs.Script.{Script, daemon_in, disk_in}
+use Rattle.ug_script.specs.Replay.{answered_by, answered_from, disk_of, event_from, tried_by, with_devices, planned}
 use Rattle.ug_script.specs.Laws.{calls_of, faults_of, IsLawfulEvent}
-use Rattle.ug_script.proofs.Answers.{AnswersSo, EventSo, answering_ways, event_ways}
+use Rattle.ug_script.proofs.Answers.{SweepsSo, handling_ways}
+use Rattle.ug_script.proofs.OrdersPlayed.{answered_saved, answered_so, answered_told, trying_so}
 
 pub record Holds (standings : List Standing) (next : ℕ) (w : World) : Type 0 where
   pub told : w.ran_out ≡ false
@@ -63,58 +68,62 @@ told_at w e = rw e refl
 
 -- ---- the order of an event
 
--- what it leaves
-pub answered_so : (event : Event) (d : DaemonState) (w : World) → AnswersSo (ready event None d) true (play_way (AnswersSo (ready event None d)) (answering (ready event None d) event) (begun w) (answering_ways event (ready event None d))).made (answered_from event d w).0
-answered_so event d w = (play_way (AnswersSo (ready event None d)) (answering (ready event None d) event) (begun w) (answering_ways event (ready event None d))).so
-
--- nothing is saved for an order, on whatever disk
-order_stores : {T : Type 0} (keeps : T → (call : DiskCall) → DiskTold call → T → Type 0) (o : T) (d : DaemonState) (change : Option Change) → IsUnsaved d.sweep.judge.rules change → RunsDisk keeps o (storing d change) stored.NotNeeded o
-unfolding storing
-order_stores keeps o d None unsaved = (refl, refl)
-order_stores keeps o d (Some change) unsaved = (true, subst (λ (b : Bool). RunsDisk keeps o (if_saved d.sweep.judge change b) stored.NotNeeded o) (sym unsaved) (refl, refl))
-
-pub order_runs : {T : Type 0} (keeps : T → (call : DiskCall) → DiskTold call → T → Type 0) (o : T) (event : Event) (d : DaemonState) (w : World) → RunsAnswer Gives keeps event w o d stored.NotNeeded (play (answering d event) w).1 o (play (answering d event) w).0
-order_runs keeps o (Sweep moment) d w = (refl, refl, refl, refl)
-order_runs keeps o (Order moment who line) d w =
+pub order_runs : (event : Event) (d : DaemonState) (w : World) (o : DiskWorld) → RunsAnswer Gives MemKeeps event w o d (answered_by event d w o).became (answered_by event d w o).world (answered_by event d w o).disk (answered_by event d w o).daemon
+order_runs (Sweep moment) d w o = (refl, refl, refl, refl)
+order_runs (Order moment who line) d w o =
     let c = play (asking d who line) w in
-    let asks = play_runs (asking d who line) w in
-    let whole : play (answering d (Order moment who line)) w ≡ play (doing who d c.0) c.1 = play_then (asking d who line) (doing who d) w in
-    subst (λ (x : DaemonState × World). RunsAnswer Gives keeps (Order moment who line) w o d stored.NotNeeded x.1 o x.0) (sym whole) (record {
+    let b = play_disk (storing d c.0.change) o in
+    record {
       choice = c.0;
       behind = c.1;
-      asks = asks;
-      stores = order_stores keeps o d c.0.change (asked_unsaved Gives who line d c.0 w c.1 (asked_of Gives who line d c.0 w c.1 asks));
-      acts = play_runs (doing who d c.0) c.1;
-    })
+      asks = play_runs (asking d who line) w;
+      stores = play_runs_disk (storing d c.0.change) o;
+      acts = play_runs (acting who (stored_with b.0 c.0.change d) (deed_after b.0 c.0.deed)) c.1;
+    }
 
--- a disk that nothing is asked of
-abbrev NoDisk : Unit {0} → (call : DiskCall) → DiskTold call → Unit {0} → Type 0
-NoDisk o call told p = ⊥
+-- a kernel that is told stays so
+world_told : (event : Event) (d : DaemonState) (w : World) (o : DiskWorld) → w.ran_out ≡ false → (answered_by event d w o).world.ran_out ≡ false
+world_told (Sweep moment) d w o told = told
+world_told (Order moment who line) d w o told =
+    let c = play (asking d who line) w in
+    let b = play_disk (storing d c.0.change) o in
+    play_told (acting who (stored_with b.0 c.0.change d) (deed_after b.0 c.0.deed)) c.1 (play_told (asking d who line) w told)
 
-pub answers : (event : Event) (d : DaemonState) (w : World) → HoldsOf d w → AnswersEvent event w.kernel (ready event None d) stored.NotNeeded (answered_from event d w).1.kernel (answered_from event d w).0
-answers event d w h =
-    let p = answering (ready event None d) event in
-    let m : World = (answered_from event d w).1 in
-    let run : m.ran_out ≡ false = play_told p (begun w) h.told in
-    let law = answering_told Gives told does_what_it_may NoDisk event (begun w) tt (ready event None d) stored.NotNeeded m tt (answered_from event d w).0 (order_runs NoDisk tt event (ready event None d) (begun w)) m.kernel (told_at m run) in
+-- and where no call is to fail, none is behind an order
+pub play_calm : {R : Type 0} (p : Prog R) (w : World) → w.fails ≡ [] → (play p w).1.fails ≡ []
+play_calm (Return value) w e = e
+play_calm (Ask call next) w e = play_calm (next (answer_of w call).0) (answer_of w call).1 (fails_stay w call e)
+play_calm (Room next) w e = play_calm (next true) w e
+
+world_calm : (event : Event) (d : DaemonState) (w : World) (o : DiskWorld) → w.fails ≡ [] → (answered_by event d w o).world.fails ≡ []
+world_calm (Sweep moment) d w o none = none
+world_calm (Order moment who line) d w o none =
+    let c = play (asking d who line) w in
+    let b = play_disk (storing d c.0.change) o in
+    play_calm (acting who (stored_with b.0 c.0.change d) (deed_after b.0 c.0.deed)) c.1 (play_calm (asking d who line) w none)
+
+pub answers : (event : Event) (d : DaemonState) (w : World) (o : DiskWorld) → HoldsOf d w → AnswersEvent event w.kernel (ready event (tried_by d o).0 d) (answered_from event d w o).became (answered_from event d w o).world.kernel (answered_from event d w o).daemon
+answers event d w o h =
+    let r : DaemonState = ready event (tried_by d o).0 d in
+    let q : DiskWorld = (tried_by d o).1 in
+    let a = answered_from event d w o in
+    let run : a.world.ran_out ≡ false = world_told event r (begun w) q h.told in
+    let law = answering_told Gives told does_what_it_may MemKeeps event (begun w) q r a.became a.world a.disk a.daemon (order_runs event r (begun w) q) a.world.kernel (told_at a.world run) in
     let same : law.0 ≡ w.kernel = same_Some law.0 w.kernel (sym law.1 ∙ told_at w h.told) in
-    subst (λ (k : Kernel). AnswersEvent event k (ready event None d) stored.NotNeeded m.kernel (answered_from event d w).0) same (law.2 (rw same h.sound) (rw same h.stand))
+    subst (λ (k : Kernel). AnswersEvent event k r a.became a.world.kernel a.daemon) same (law.2 (rw same h.sound) (rw same h.stand))
 
-pub answered_holds : (event : Event) (d : DaemonState) (w : World) → HoldsOf d w → HoldsOf (answered_from event d w).0 (answered_from event d w).1
-answered_holds event d w h =
-    let m : World = (answered_from event d w).1 in
-    let stands = answered_stands event w.kernel (ready event None d) stored.NotNeeded m.kernel (answered_from event d w).0 h.sound h.stand (answers event d w h) in
-    record { told = play_told (answering (ready event None d) event) (begun w) h.told; sound = stands.0; stand = stands.1 }
+pub answered_holds : (event : Event) (d : DaemonState) (w : World) (o : DiskWorld) → HoldsOf d w → HoldsOf (answered_from event d w o).daemon (answered_from event d w o).world
+answered_holds event d w o h =
+    let r : DaemonState = ready event (tried_by d o).0 d in
+    let a = answered_from event d w o in
+    let stands = answered_stands event w.kernel r a.became a.world.kernel a.daemon h.sound h.stand (answers event d w o h) in
+    record { told = world_told event r (begun w) (tried_by d o).1 h.told; sound = stands.0; stand = stands.1 }
 
 -- ---- the sweep behind it
 
 pub plays_sweep : (a : DaemonState) (m : World) → play (handling a) m ≡ play (event.ended a (play (sweeping policy_answer policy_later a.sweep) m).0) (play (sweeping policy_answer policy_later a.sweep) m).1
 unfolding handling
 plays_sweep a m = play_then (sweeping policy_answer policy_later a.sweep) (event.ended a) m
-
--- an event is its order, and then its sweep
-pub plays_event : (event : Event) (d : DaemonState) (w : World) → event_from event d w ≡ play (handling (answered_from event d w).0) (answered_from event d w).1
-plays_event event d w = play_then (answering (ready event None d) event) handling (begun w)
 
 swept_from : (a : DaemonState) (m : World) → HoldsOf a m → Handled m.kernel a (play (handling a) m).1.kernel (play (handling a) m).0
 swept_from a m h =
@@ -136,21 +145,24 @@ swept_from a m h =
     })
 
 -- an event from a kernel that is told
-pub handled : (event : Event) (d : DaemonState) (w : World) → HoldsOf d w → Handled (answered_from event d w).1.kernel (answered_from event d w).0 (event_from event d w).1.kernel (event_from event d w).0
-handled event d w h =
-    let p = answered_from event d w in
-    subst (λ (x : DaemonState × World). Handled p.1.kernel p.0 x.1.kernel x.0) (sym (plays_event event d w)) (swept_from p.0 p.1 (answered_holds event d w h))
+pub handled : (event : Event) (d : DaemonState) (w : World) (o : DiskWorld) → HoldsOf d w → Handled (answered_from event d w o).world.kernel (answered_from event d w o).daemon (event_from event d w o).world.kernel (event_from event d w o).daemon
+handled event d w o h = swept_from (answered_from event d w o).daemon (answered_from event d w o).world (answered_holds event d w o h)
 
 -- an event, and what is still to come behind it
-pub event_holds : (event : Event) (d : DaemonState) (w : World) → HoldsOf d w → HoldsOf (event_from event d w).0 (over (event_from event d w).1)
-event_holds event d w h =
-    let p = event_from event d w in
-    let law = handled event d w h in
+pub event_holds : (event : Event) (d : DaemonState) (w : World) (o : DiskWorld) → HoldsOf d w → HoldsOf (event_from event d w o).daemon (over (event_from event d w o).world)
+event_holds event d w o h =
+    let a = answered_from event d w o in
+    let p = event_from event d w o in
+    let law = handled event d w o h in
     record {
-      told = play_told (event_tree event d) (begun w) h.told;
-      sound = happened_sound p.1.moves p.1.kernel law.law.fair.sound;
-      stand = moves_on p.0.sweep.standings p.0.sweep.next p.1.kernel (over p.1).kernel (happened_moves p.1.moves p.1.kernel) (subst (λ (v : State Judging). Stand p.1.kernel v.standings v.next) (sym law.entries) law.law.fair.stand);
+      told = play_told (handling a.daemon) a.world (answered_holds event d w o h).told;
+      sound = happened_sound p.world.moves p.world.kernel law.law.fair.sound;
+      stand = moves_on p.daemon.sweep.standings p.daemon.sweep.next p.world.kernel (over p.world).kernel (happened_moves p.world.moves p.world.kernel) (subst (λ (v : State Judging). Stand p.world.kernel v.standings v.next) (sym law.entries) law.law.fair.stand);
     }
+
+-- a disk that is told stays so
+pub event_disk : (event : Event) (d : DaemonState) (w : World) (o : DiskWorld) → o.ran_out ≡ false → (event_from event d w o).disk.ran_out ≡ false
+event_disk event d w o out = answered_told event (ready event (tried_by d o).0 d) (begun w) (tried_by d o).1 (play_stays_told (trying d) o out)
 
 pub move_holds : (action : Move) (d : DaemonState) (w : World) → HoldsOf d w → HoldsOf d (with_devices (moved action w.kernel.devices) w)
 move_holds action d w h = record {
@@ -163,14 +175,7 @@ move_holds action d w h = record {
 pub plan_holds : (p : Plan) (d : DaemonState) (w : World) → HoldsOf d w → HoldsOf d (planned p w)
 plan_holds (plan.Move m) d w h = record { told = h.told; sound = h.sound; stand = h.stand }
 plan_holds (plan.Fail f) d w h = record { told = h.told; sound = h.sound; stand = h.stand }
-
--- what an event comes to, whatever its kernel
-pub event_so : (event : Event) (d : DaemonState) (w : World) → Fixed (EventSo (ready event None d)) (begun w) (event_from event d w).0
-event_so event d w = play_way (EventSo (ready event None d)) (event_tree event d) (begun w) (event_ways event (ready event None d))
-
--- an event leaves no save that is pending
-pub event_pending : (event : Event) (d : DaemonState) (w : World) → d.pending ≡ false → (event_from event d w).0.pending ≡ false
-event_pending event d w none = (event_so event d w).so.pending ∙ none
+plan_holds (plan.FailDisk p) d w h = h
 
 pub no_standing : (k : Kernel) → Stand k [] 1
 no_standing k = record { devices = λ s a. absurd a; numbers = λ s a. absurd a; names = tt; order = tt; distinct = tt; removed = λ s a. absurd a }
@@ -184,15 +189,18 @@ swept_tells a m =
     let t : World = (play p m).1 in
     rw (plays_sweep a m) (record { swept = v; tells = sweeping_tells Gives calls_of faults_of counts_each policy_answer policy_later m a.sweep t v (play_runs p m); entries = refl })
 
-pub made_by : (event : Event) (d : DaemonState) (w : World) → HoldsOf d w → Answered Gives calls_of faults_of event (begun w) (ready event None d) stored.NotNeeded (answered_from event d w).1 (answered_from event d w).0
-made_by event d w h = answering_made Gives calls_of faults_of counts_each NoDisk event (begun w) tt (ready event None d) stored.NotNeeded (answered_from event d w).1 tt (answered_from event d w).0 refl (record { order = h.stand.order; distinct = h.stand.distinct; numbers = h.stand.numbers }) (ready_failures event None d) (ready_names event None d) (order_runs NoDisk tt event (ready event None d) (begun w))
+pub made_by : (event : Event) (d : DaemonState) (w : World) (o : DiskWorld) → HoldsOf d w → Answered Gives calls_of faults_of event (begun w) (ready event (tried_by d o).0 d) (answered_from event d w o).became (answered_from event d w o).world (answered_from event d w o).daemon
+made_by event d w o h =
+    let tried = (tried_by d o).0 in
+    let q : DiskWorld = (tried_by d o).1 in
+    let a = answered_from event d w o in
+    answering_made Gives calls_of faults_of counts_each MemKeeps event (begun w) q (ready event tried d) a.became a.world a.disk a.daemon refl (record { order = h.stand.order; distinct = h.stand.distinct; numbers = h.stand.numbers }) (ready_failures event tried d) (ready_names event tried d) (order_runs event (ready event tried d) (begun w) q)
 
-pub tells_event : (event : Event) (d : DaemonState) (w : World) → HoldsOf d w → TellsEvent Gives calls_of faults_of event (begun w) (ready event None d) stored.NotNeeded (answered_from event d w).1 (answered_from event d w).0 (event_from event d w).1 (event_from event d w).0
-tells_event event d w h =
-    let p = answered_from event d w in
-    let made = made_by event d w h in
-    subst (λ (x : DaemonState × World). TellsEvent Gives calls_of faults_of event (begun w) (ready event None d) stored.NotNeeded p.1 p.0 x.1 x.0) (sym (plays_event event d w))
-    (event_tells Gives calls_of faults_of counts_each event (begun w) (ready event None d) stored.NotNeeded p.1 p.0 (play (handling p.0) p.1).1 (play (handling p.0) p.1).0 made.made refl made.along made.goes made.told (swept_tells p.0 p.1))
+pub tells_event : (event : Event) (d : DaemonState) (w : World) (o : DiskWorld) → HoldsOf d w → TellsEvent Gives calls_of faults_of event (begun w) (ready event (tried_by d o).0 d) (answered_from event d w o).became (answered_from event d w o).world (answered_from event d w o).daemon (event_from event d w o).world (event_from event d w o).daemon
+tells_event event d w o h =
+    let a = answered_from event d w o in
+    let made = made_by event d w o h in
+    event_tells Gives calls_of faults_of counts_each event (begun w) (ready event (tried_by d o).0 d) a.became a.world a.daemon (play (handling a.daemon) a.world).1 (play (handling a.daemon) a.world).0 made.made refl made.along made.goes made.told (swept_tells a.daemon a.world)
 
 swept_once : (a : DaemonState) (m : World) → unsettled_names a.sweep.entries ≡ [] → HoldsOf a m → AllDistinct (unsettled_names (play (handling a) m).0.sweep.entries)
 swept_once a m nameless h =
@@ -205,30 +213,67 @@ swept_once a m nameless h =
     let r = once.2 (rw same h.sound) (rw same h.stand) in
     rw (plays_sweep a m) (event_names a.event a.sweep.entries r.0 (v.entries ++ entry.End a.event ∷ []) nameless (ap (λ (es : List entries.Entry). es ++ entry.End a.event ∷ []) r.1) r.2)
 
-names_once : (event : Event) (d : DaemonState) (w : World) → HoldsOf d w → AllDistinct (unsettled_names (event_from event d w).0.sweep.entries)
-names_once event d w h =
-    let p = answered_from event d w in
-    subst (λ (x : DaemonState × World). AllDistinct (unsettled_names x.0.sweep.entries)) (sym (plays_event event d w)) (swept_once p.0 p.1 (made_by event d w h).nameless (answered_holds event d w h))
+names_once : (event : Event) (d : DaemonState) (w : World) (o : DiskWorld) → HoldsOf d w → AllDistinct (unsettled_names (event_from event d w o).daemon.sweep.entries)
+names_once event d w o h =
+    let a = answered_from event d w o in
+    swept_once a.daemon a.world (made_by event d w o h).nameless (answered_holds event d w o h)
+
+-- ---- what an event's entries don't tell
+
+-- what the sweep leaves, whatever its kernel
+pub sweep_so : (a : DaemonState) (m : World) → Fixed (SweepsSo a) m (play (handling a) m).0
+sweep_so a m = play_way (SweepsSo a) (handling a) m (handling_ways a)
+
+ready_sure : (event : Event) (d : DaemonState) (tried : Option Saved) → (tried ≡ Some saved.Memory → ⊥) → tells_memory (ready event tried d).sweep.entries ≡ false
+ready_sure (Sweep moment) d None sure = refl
+ready_sure (Sweep moment) d (Some saved.Done) sure = refl
+ready_sure (Sweep moment) d (Some (saved.Failed count)) sure = refl
+ready_sure event d (Some saved.Memory) sure = absurd (sure refl)
+ready_sure (Order moment who line) d None sure = refl
+ready_sure (Order moment who line) d (Some saved.Done) sure = refl
+ready_sure (Order moment who line) d (Some (saved.Failed count)) sure = refl
+
+ready_nobody : (event : Event) (d : DaemonState) (tried : Option Saved) → NameNobody (ready event tried d).sweep.entries
+ready_nobody (Sweep moment) d None = refl
+ready_nobody (Sweep moment) d (Some became) = refl
+ready_nobody (Order moment who line) d None = refl
+ready_nobody (Order moment who line) d (Some became) = refl
 
 -- a script refuses no memory
-event_sure : (event : Event) (d : DaemonState) (w : World) → tells_memory (event_from event d w).0.sweep.entries ≡ false
-event_sure event d w =
-    let x = event_so event d w in
-    ap (λ (es : List entries.Entry). tells_memory es) x.so.entries
-    ∙ memory_more (ready event None d).sweep.entries x.so.rest
-    ∙ ap (λ (b : Bool). b || tells_memory x.so.rest) (first_sure event d)
-    ∙ x.so.wants
-    ∙ x.sure
-  where
-    first_sure : (event : Event) (d : DaemonState) → tells_memory (ready event None d).sweep.entries ≡ false
-    first_sure (Sweep moment) d = refl
-    first_sure (Order moment who line) d = refl
+event_sure : (event : Event) (d : DaemonState) (w : World) (o : DiskWorld) → o.ran_out ≡ false → tells_memory (event_from event d w o).daemon.sweep.entries ≡ false
+event_sure event d w o out =
+    let r : DaemonState = ready event (tried_by d o).0 d in
+    let a = answered_from event d w o in
+    let x = answered_so event r (begun w) (tried_by d o).1 (play_stays_told (trying d) o out) in
+    let y = sweep_so a.daemon a.world in
+    let before : tells_memory a.daemon.sweep.entries ≡ false = ap (λ (es : List entries.Entry). tells_memory es) x.entries ∙ memory_more r.sweep.entries x.rest ∙ ap (λ (b : Bool). b || tells_memory x.rest) (ready_sure event d (tried_by d o).0 (trying_so d o out).sure) ∙ x.wants in
+    ap (λ (es : List entries.Entry). tells_memory es) y.so.entries ∙ memory_more a.daemon.sweep.entries y.so.rest ∙ ap (λ (b : Bool). b || tells_memory y.so.rest) before ∙ y.so.wants ∙ y.sure
 
-pub lawful_event : (event : Event) (s : Script) (w : World) → HoldsOf (daemon_in s) w → IsLawfulEvent event s w
-lawful_event event s w h = record {
-  answers = answers event (daemon_in s) w h;
-  handled = handled event (daemon_in s) w h;
-  faults = tells_event event (daemon_in s) w h;
-  once = names_once event (daemon_in s) w h;
-  room = event_sure event (daemon_in s) w;
+-- where no call of the kernel is to fail, an event names nobody
+pub event_nobody : (event : Event) (d : DaemonState) (w : World) (o : DiskWorld) → w.ran_out ≡ false → w.fails ≡ [] → o.ran_out ≡ false → NameNobody (event_from event d w o).daemon.sweep.entries
+event_nobody event d w o run none out =
+    let r : DaemonState = ready event (tried_by d o).0 d in
+    let a = answered_from event d w o in
+    let x = answered_so event r (begun w) (tried_by d o).1 (play_stays_told (trying d) o out) in
+    let y = sweep_so a.daemon a.world in
+    let before : NameNobody a.daemon.sweep.entries = subst NameNobody (sym x.entries) (nobody_more r.sweep.entries x.rest (ready_nobody event d (tried_by d o).0) x.nobody) in
+    subst NameNobody (sym y.so.entries) (nobody_more a.daemon.sweep.entries y.so.rest before (y.so.nobody y.sure (y.calm (world_told event r (begun w) (tried_by d o).1 run) (world_calm event r (begun w) (tried_by d o).1 none))))
+
+-- where nothing is planned for the disk, an event leaves no save that is pending
+pub event_saved : (event : Event) (d : DaemonState) (w : World) (o : DiskWorld) → o.ran_out ≡ false → o.planned ≡ [] → d.pending ≡ false → (event_from event d w o).daemon.pending ≡ false
+event_saved event d w o out none saved =
+    let tried = (tried_by d o).0 in
+    let r : DaemonState = ready event tried d in
+    let a = answered_from event d w o in
+    let calm : tried ≡ None = (trying_so d o out).calm saved in
+    let begins : r.pending ≡ false = ap (λ (t : Option Saved). (ready event t d).pending) calm ∙ saved in
+    (sweep_so a.daemon a.world).so.pending ∙ answered_saved event r (begun w) (tried_by d o).1 (play_stays_told (trying d) o out) (play_keeps_plan (trying d) o ∙ none) begins
+
+pub lawful_event : (event : Event) (s : Script) (w : World) → HoldsOf (daemon_in s) w → (disk_in s).ran_out ≡ false → IsLawfulEvent event s w
+lawful_event event s w h out = record {
+  answers = answers event (daemon_in s) w (disk_of s) h;
+  handled = handled event (daemon_in s) w (disk_of s) h;
+  faults = tells_event event (daemon_in s) w (disk_of s) h;
+  once = names_once event (daemon_in s) w (disk_of s) h;
+  room = event_sure event (daemon_in s) w (disk_of s) out;
 }

@@ -7,6 +7,8 @@ pub mod WellFormed
 pub mod Phases
 pub mod EventSteps
 pub mod Starts
+pub mod Restarts
+pub mod OrdersPlayed
 pub mod Lawful
 pub mod Spent
 pub mod Numbers

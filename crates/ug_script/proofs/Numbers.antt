@@ -26,11 +26,22 @@ use Rattle.ug_core.specs.Event as event
 use Rattle.ug_core.specs.Event.{DaemonState, has_numbers, is_low, ready}
 use Rattle.ug_core.specs.Policy.{Judging, policy_answer, policy_later}
 use Rattle.ug_script.proofs.Spent.{Spends, found, sweeping_spends}
-use Rattle.ug_script.specs.Setup.{SetupState}
+use Rattle.ug_types.specs.declared.rule.Rule.{Rule}
+use Rattle.ug_kernel.specs.Tree.{Prog}
+use Rattle.ug_store.specs.PlayDisk.{play_disk}
+use Rattle.ug_store.specs.Scripted.{DiskWorld}
+use Rattle.ug_store.proofs.PlayedDisk.{play_stays_told}
+use Rattle.ug_kernel.proofs.Ways.{Ways}
+use Rattle.ug_core.specs.Answering.{acting, asking, deed_after}
+use Rattle.ug_core.specs.Event.{trying}
+use Rattle.ug_core.specs.Storing.{stored_with, storing}
+use Rattle.ug_core.specs.declared.choosing.Deed.{Deed}
 use Rattle.ug_core.specs.declared.daemon.Event.{Event}
-use Rattle.ug_script.specs.Replay.{answered_from, answering, event_from}
-use Rattle.ug_script.proofs.Answers.{AnswersSo, answering_ways}
-use Rattle.ug_script.proofs.Lawful.{Holds, answered_holds, plays_event, plays_sweep}
+use Rattle.ug_core.specs.declared.daemon.Event.TheVariants.{Sweep, Order}
+use Rattle.ug_script.specs.Replay.{answered_by, answered_from, event_from, tried_by}
+use Rattle.ug_script.proofs.Answers.{ActsSo, Asks, acting_ways, asking_ways, asks_few, is_short_deed}
+use Rattle.ug_script.proofs.OrdersPlayed.{answered_faults, answered_so, order_can, trying_so}
+use Rattle.ug_script.proofs.Lawful.{Holds, answered_holds, plays_sweep}
 
 -- how many standings there are
 
@@ -131,40 +142,49 @@ along_faults (m ∷ ms) s t a =
     let rest = along_faults ms a.0 t a.2 in
     omega (arith, one, rest)
 
--- how far the numbers have come after so many lines: an event gives out 65,536 device numbers at most, and has no more than
--- 1 + 14 (65,536 + 65,536 * 1,048,576) calls
-pub record Fits (lines event next id faults : ℕ) : Type 0 where
+-- how far the numbers have come after so many lines: an event gives out 65,536 device numbers at most, has no more than
+-- 1 + 14 (65,536 + 65,536 * 1,048,576) calls of the kernel, and saves twice at most
+pub record Fits (lines event next id faults disk_faults : ℕ) : Type 0 where
   pub few_events : event ≤ lines + 1
   pub few_numbers : next ≤ 65536 * lines + 1
-  pub few_ids : id ≤ lines + 1
+  pub few_ids : id ≤ lines + 65537
   pub few_faults : faults ≤ 1099511627776 * lines
+  pub few_disk_faults : disk_faults ≤ 2 * lines
 
-pub fits_more : {n event next id faults : ℕ} → Fits n event next id faults → Fits (n + 1) event next id faults
+pub fits_more : {n event next id faults disk_faults : ℕ} → Fits n event next id faults disk_faults → Fits (n + 1) event next id faults disk_faults
 fits_more h =
     let a = h.few_events in
     let b = h.few_numbers in
     let c = h.few_ids in
     let d = h.few_faults in
-    record { few_events = omega (arith, a); few_numbers = omega (arith, b); few_ids = omega (arith, c); few_faults = omega (arith, d) }
+    let e = h.few_disk_faults in
+    record { few_events = omega (arith, a); few_numbers = omega (arith, b); few_ids = omega (arith, c); few_faults = omega (arith, d); few_disk_faults = omega (arith, e) }
 
-abbrev pub FitsOf : ℕ → DaemonState → World → Type 0
-FitsOf n d w = Fits n d.event d.sweep.next d.sweep.judge.next w.faults
+abbrev pub FitsOf : ℕ → DaemonState → World → DiskWorld → Type 0
+FitsOf n d w o = Fits n d.event d.sweep.next d.sweep.judge.next w.faults o.faults
 
--- an order has five calls at most, and gives a rule one id
-answer_fits : (n : ℕ) (event : Event) (d : DaemonState) (w : World) → FitsOf n d w → ((answered_from event d w).1.faults ≤ w.faults + 5) × ((answered_from event d w).0.event ≡ d.event) × ((answered_from event d w).0.sweep.next ≡ d.sweep.next) × ((answered_from event d w).0.sweep.judge.next ≤ d.sweep.judge.next + 1)
-answer_fits n event d w f =
-    let p = answering (ready event None d) event in
-    let went : Went Gives (AnswersSo (ready event None d)) (begun w) (answered_from event d w).0 (answered_from event d w).1 = ways_run Gives (AnswersSo (ready event None d)) p (begun w) (answered_from event d w).0 (answered_from event d w).1 (answering_ways event (ready event None d)) (play_runs p (begun w)) in
-    let faults = along_faults went.made (begun w) (answered_from event d w).1 went.along in
-    let few = went.so.few in (
-      omega (arith, faults, few),
-      went.so.event,
-      went.so.next,
-      went.so.ids,
-    )
+-- so many calls raise the count of faults by so much at most
+few_calls : {R : Type 0} (P : Bool → List Made → R → Type 0) (p : Prog R) (w : World) (most : ℕ) → Ways p P → ((ok : Bool) (ms : List Made) (r : R) → P ok ms r → count_calls ms ≤ most) → (play p w).1.faults ≤ w.faults + most
+few_calls P p w most ways few =
+    let went = ways_run Gives P p w (play p w).0 (play p w).1 ways (play_runs p w) in
+    let faults = along_faults went.made w (play p w).1 went.along in
+    let low = few went.granted went.made (play p w).0 went.so in
+    omega (arith, faults, low)
 
-swept_fits : (n : ℕ) (a : DaemonState) (m : World) → n < 1048576 → Holds a.sweep.standings a.sweep.next m → a.event ≤ n + 1 → a.sweep.next ≤ 65536 * n + 1 → a.sweep.judge.next ≤ n + 2 → m.faults ≤ 1099511627776 * n + 5 → FitsOf (n + 1) (play (event.handling a) m).0 (play (event.handling a) m).1
-swept_fits n a m lt h old_event old_next old_id old_faults =
+-- an order has five calls of the kernel at most
+answer_calls : (event : Event) (d : DaemonState) (w : World) (o : DiskWorld) → o.ran_out ≡ false → (answered_by event d w o).world.faults ≤ w.faults + 5
+answer_calls (Sweep moment) d w o out = omega arith
+answer_calls (Order moment who line) d w o out =
+    let c = play (asking d who line) w in
+    let b = play_disk (storing d c.0.change) o in
+    let kept : DaemonState = stored_with b.0 c.0.change d in
+    let done : Deed = deed_after b.0 c.0.deed in
+    let asks = few_calls (Asks d.sweep.standings) (asking d who line) w 1 (asking_ways d who line) (λ ok ms x so. asks_few d.sweep.standings ok ms x so) in
+    let acts = few_calls (ActsSo kept (is_short_deed done)) (acting who kept done) c.1 4 (acting_ways who kept done (order_can who line d w o out)) (λ ok ms x so. so.few) in
+    omega (arith, asks, acts)
+
+swept_fits : (n : ℕ) (a : DaemonState) (m : World) (faults : ℕ) → n < 1048576 → Holds a.sweep.standings a.sweep.next m → a.event ≤ n + 1 → a.sweep.next ≤ 65536 * n + 1 → a.sweep.judge.next ≤ n + 65538 → m.faults ≤ 1099511627776 * n + 5 → faults ≤ 2 * n + 2 → Fits (n + 1) (play (event.handling a) m).0.event (play (event.handling a) m).0.sweep.next (play (event.handling a) m).0.sweep.judge.next (play (event.handling a) m).1.faults faults
+swept_fits n a m faults lt h old_event old_next old_id old_faults few_disk =
     let u : State Judging = a.sweep in
     let p = sweeping policy_answer policy_later u in
     let v : State Judging = (play p m).0 in
@@ -181,23 +201,33 @@ swept_fits n a m lt h old_event old_next old_id old_faults =
       few_numbers = omega (arith, next, listed, old_next);
       few_ids = omega (arith, id, old_id);
       few_faults = omega (arith, lt, faults, made, listed, stands, old_next, old_faults);
+      few_disk_faults = omega (arith, few_disk);
     })
 
 -- an event
-pub event_fits : (n : ℕ) (event : Event) (d : DaemonState) (w : World) → n < 1048576 → Holds d.sweep.standings d.sweep.next w → FitsOf n d w → FitsOf (n + 1) (event_from event d w).0 (event_from event d w).1
-event_fits n event d w lt h f =
-    let p = answered_from event d w in
-    let a = answer_fits n event d w f in
+pub event_fits : (n : ℕ) (event : Event) (d : DaemonState) (w : World) (o : DiskWorld) → n < 1048576 → Holds d.sweep.standings d.sweep.next w → o.ran_out ≡ false → FitsOf n d w o → FitsOf (n + 1) (event_from event d w o).daemon (event_from event d w o).world (event_from event d w o).disk
+event_fits n event d w o lt h out f =
+    let r : DaemonState = ready event (tried_by d o).0 d in
+    let q : DiskWorld = (tried_by d o).1 in
+    let still : q.ran_out ≡ false = play_stays_told (trying d) o out in
+    let a = answered_from event d w o in
+    let so = answered_so event r (begun w) q still in
+    let calls = answer_calls event r (begun w) q still in
+    let tried = (trying_so d o out).faults in
+    let saved = answered_faults event r (begun w) q still in
+    let same_event = so.event in
+    let same_next = so.next in
+    let more_ids = so.ids in
     let old_event = f.few_events in
     let old_next = f.few_numbers in
     let old_id = f.few_ids in
     let old_faults = f.few_faults in
-    subst (λ (x : DaemonState × World). FitsOf (n + 1) x.0 x.1) (sym (plays_event event d w))
-    (swept_fits n p.0 p.1 lt (answered_holds event d w h) (omega (arith, a.1, old_event)) (omega (arith, a.2, old_next)) (omega (arith, a.3, old_id)) (omega (arith, a.0, old_faults)))
+    let old_disk = f.few_disk_faults in
+    swept_fits n a.daemon a.world a.disk.faults lt (answered_holds event d w o h) (omega (arith, same_event, old_event)) (omega (arith, same_next, old_next)) (omega (arith, more_ids, old_id)) (omega (arith, calls, old_faults)) (omega (arith, tried, saved, old_disk))
 
 -- a daemon that has had no event, or isn't there yet
-pub started_fits : (n event : ℕ) (setup : SetupState) (faults : ℕ) → event ≤ n + 1 → length setup.rules ≤ n → faults ≤ 1099511627776 * n → Fits n event 1 (length setup.rules + 1) faults
-started_fits n event setup faults first few low = record { few_events = omega (arith, first); few_numbers = omega arith; few_ids = omega (arith, few); few_faults = omega (arith, low) }
+pub started_fits : (n event : ℕ) (rules : List Rule) (faults disk_faults : ℕ) → event ≤ n + 1 → length rules ≤ 65536 → faults ≤ 1099511627776 * n → disk_faults ≤ 2 * n → Fits n event 1 (length rules + 1) faults disk_faults
+started_fits n event rules faults disk_faults first few low few_disk = record { few_events = omega (arith, first); few_numbers = omega arith; few_ids = omega (arith, few); few_faults = omega (arith, low); few_disk_faults = omega (arith, few_disk) }
 
 -- the numbers leave room
 
@@ -212,11 +242,12 @@ all_true true true false d e p q r s t = r
 all_true true false c d e p q r s t = q
 all_true false b c d e p q r s t = p
 
-pub fits_numbers : (n : ℕ) (d : DaemonState) (w : World) → n ≤ 1048576 → FitsOf n d w → has_numbers d w.faults 0 ≡ true
-fits_numbers n d w le f =
+pub fits_numbers : (n : ℕ) (d : DaemonState) (w : World) (o : DiskWorld) → n ≤ 1048576 → FitsOf n d w o → has_numbers d w.faults o.faults ≡ true
+fits_numbers n d w o le f =
     let a = f.few_events in
     let b = f.few_numbers in
     let c = f.few_ids in
     let e = f.few_faults in
+    let g = f.few_disk_faults in
     let id : d.sweep.judge.next < 2 ^ 64 - 1 = omega (arith, le, c) in
-    all_true (is_low d.sweep.next) (is_low d.event) (is_low w.faults) (is_low 0) (nat_lt d.sweep.judge.next (2 ^ 64 - 1)) (low d.sweep.next (omega (arith, le, b))) (low d.event (omega (arith, le, a))) (low w.faults (omega (arith, le, e))) refl (grind (arith, nat_tests, id))
+    all_true (is_low d.sweep.next) (is_low d.event) (is_low w.faults) (is_low o.faults) (nat_lt d.sweep.judge.next (2 ^ 64 - 1)) (low d.sweep.next (omega (arith, le, b))) (low d.event (omega (arith, le, a))) (low w.faults (omega (arith, le, e))) (low o.faults (omega (arith, le, g))) (grind (arith, nat_tests, id))

@@ -24,7 +24,7 @@ use Rattle.ug_script.specs.declared.step.SetupLine.{SetupLine}
 use Rattle.ug_script.specs.declared.step.SetupLine.TheVariants.{Rule, Conf, Access, Seed, Zone}
 use Rattle.ug_script.specs.declared.step.Step.{Step}
 use Rattle.ug_script.specs.declared.step.Step.TheVariants.{Setup}
-use Rattle.ug_script.specs.Setup.{SetupState, no_setup, is_offset, with_draft, one_line_more, everything, granted, access_of, clock_ahead, seeded, no_seed, given_or, policy_of, rule_asked, conf_asked, access_asked, seed_asked, zone_asked, first_or, IsSetup}
+use Rattle.ug_script.specs.Setup.{SetupState, no_setup, is_offset, with_draft, one_line_more, everything, granted, access_of, clock_ahead, seeded, no_seed, given_or, policy_of, rule_asked, conf_asked, access_asked, seed_asked, zone_asked, first_or, with_rules, IsSetup}
 use Rattle.ug_script.specs.Words.{is_entry}
 
 pub flat_more : {X : Type 0} (f : Option Step → List X) (steps : List (Option Step)) (step : Option Step) → flat_map f (steps ++ step ∷ []) ≡ flat_map f steps ++ f step
@@ -260,22 +260,22 @@ histories_new id [] e h = absurd h
 histories_new id (r ∷ rules) e (inl same) = subst (λ (v : RuleEntry). IsHistory [] v.id v.history) same (λ t w. absurd w.1, λ t w. absurd w.1)
 histories_new id (r ∷ rules) e (inr h) = histories_new (id + 1) rules e h
 
-pub policy_new : (s : SetupState) → length s.rules ≤ 65536 → IsNew (policy_of s)
-policy_new s few = record {
+pub policy_new : (policy : Judging) (rules : List types.Rule) → length rules ≤ 65536 → IsNew (with_rules rules policy)
+policy_new policy rules few = record {
   classes = refl;
-  rules = rules_given 1 s.rules;
+  rules = rules_given 1 rules;
   next = refl;
   clock = refl;
-  stream = stream_first (policy_of s).stream;
+  stream = stream_first policy.stream;
   numbered = record {
-    distinct = ids_differ 1 s.rules;
-    below = λ id a. let k : id < 1 + length s.rules = (ids_from 1 id s.rules a).1 in omega (arith, k);
-    few = let same : length (permanent_entries 1 s.rules) ≡ length s.rules = permanent_length 1 s.rules in omega (arith, same, few);
+    distinct = ids_differ 1 rules;
+    below = λ id a. let k : id < 1 + length rules = (ids_from 1 id rules a).1 in omega (arith, k);
+    few = let same : length (permanent_entries 1 rules) ≡ length rules = permanent_length 1 rules in omega (arith, same, few);
   };
   histories = record {
     evaluated = λ j id a. absurd a;
     applied = λ j id a. absurd a;
-    histories = λ e a. histories_new 1 s.rules e a;
+    histories = λ e a. histories_new 1 rules e a;
   };
 }
   where

@@ -1,6 +1,7 @@
 -- The start of a script's daemon.
-use Rattle.std.proofs.Common.{◌≡◌, ℕ, ◌<◌, ◌≤◌, Bool, true, false, if◌then◌else◌, nat_le, List, [], ◌∷◌, length, Option, None, Result, Ok, Err, inl, inr, refl, sym, ◌∙◌, ap, subst, arith}
-use Rattle.std.proofs.lemmas.Bool.Decides.{nat_tests}
+use Rattle.std.proofs.Common.{◌≡◌, ℕ, ◌<◌, ◌≤◌, Bool, true, false, ◌&&◌, if◌then◌else◌, nat_le, List, [], ◌∷◌, length, Option, None, Result, Ok, Err, inl, inr, refl, sym, ◌∙◌, ap, subst}
+use Rattle.std.proofs.lemmas.Bool.{leb-false, leb-true, le-leb, lt-leb}
+use Rattle.rand_core.specs.Stream.{Stream}
 use Rattle.ug_types.specs.declared.rule.Rule.{Rule}
 use Rattle.ug_types.specs.declared.text_fault.TextFault.{TextFault}
 use Rattle.ug_acl.specs.Acls.{Addition}
@@ -9,6 +10,7 @@ use Rattle.ug_table.specs.declared.standing.Standing.{Standing}
 use Rattle.ug_policy.specs.Rules.{Rules}
 use Rattle.ug_policy.specs.declared.entry.RuleEntry.{RuleEntry}
 use Rattle.ug_proto.specs.declared.reply.Reply.{Reply}
+use Rattle.ug_console.specs.Fold.{Fault, BadLine, InputTooLong}
 use Rattle.ug_rule.specs.Files.{file_read}
 use Rattle.ug_print.specs.RuleTexts.{rules_limit, rules_text_of}
 use Rattle.ug_store.specs.DiskCalls.{Load, DiskTold, file_limit}
@@ -19,14 +21,15 @@ use Rattle.ug_store.specs.declared.disk.Loaded.TheVariants as loaded
 use Rattle.ug_store.specs.declared.store.RecoverFault.{RecoverFault}
 use Rattle.ug_store.specs.declared.store.RecoverFault.TheVariants as recover
 use Rattle.ug_core.specs.Event.{DaemonState, IsStarted}
-use Rattle.rand_core.specs.Stream.{Stream}
 use Rattle.ug_core.specs.Policy.{Judging}
 use Rattle.ug_core.specs.declared.classes.Classes.{Classes}
 use Rattle.ug_core.specs.Starting.{Starts, Loads, StartsWith, StartsAfter, StartsFrom, fault_of_recovery, StartsWithRules, HoldsJust, HasRulesOf, Outset, policy_at}
 use Rattle.ug_core.specs.declared.start_fault.StartFault.{StartFault}
 use Rattle.ug_core.specs.declared.start_fault.StartFault.TheVariants as fault
-use Rattle.ug_script.specs.Setup.{SetupState, access_of, after_reading, policy_of, rules_disk, started_at}
-use Rattle.ug_script.specs.Script.{HoldsRules, IsWantOfMemory, fits_file}
+use Rattle.ug_script.specs.declared.start.NoStart.{NoStart}
+use Rattle.ug_script.specs.declared.start.NoStart.TheVariants as no_start
+use Rattle.ug_script.specs.Setup.{SetupState, StartsOn, access_of, after_reading, policy_of, rules_from, rules_if_read, rules_taken, started, started_at, with_rules}
+use Rattle.ug_script.specs.Script.{fits_file, no_start_of}
 
 abbrev made : List Standing → ℕ → Bool → Judging → List Entry → List Addition → Bool → ℕ → Option Reply → Bool → DaemonState
 made ss next listed judge es access pending number reply watch = record { sweep = record { standings = ss; next = next; listed = listed; judge = judge; entries = es }; access = access; pending = pending; event = number; reply = reply; watch = watch }
@@ -44,39 +47,50 @@ started_is p access number d h given =
     ∙ ap (λ (x : Option Reply). made [] 1 false p [] access false number x d.watch) h.reply
     ∙ ap (λ (x : Bool). made [] 1 false p [] access false number None x) h.watch
 
--- the rules of the rules' text are these
-same_rules : (rules others : List Rule) (read : Result (List Rule) TextFault) → read ≡ Ok rules → read ≡ Ok others → others ≡ rules
-same_rules rules others read h g =
-    let e : Ok rules ≡ Ok others = sym h ∙ g in
-    cc
+-- ---- the rules of a text
 
-holds_rules : (rules : List Rule) (text : List ℕ) (list : Rules) → file_read text ≡ Ok rules → HasRulesOf text list → HoldsJust rules list
-holds_rules rules text list reads h = subst (λ (l : List Rule). HoldsJust l list) (same_rules rules h.rules (file_read text) reads h.reads) h.holds
+abbrev taken_if : List Rule → Bool → Bool → Result (List Rule) Fault
+taken_if rules few fits = if few && fits then Ok rules else Err InputTooLong
 
-pub fits_by : (setup : SetupState) → length (rules_text_of setup.rules) ≤ rules_limit → fits_file setup ≡ true
-fits_by setup le = grind (arith, nat_tests, le)
+abbrev from_if : Bool → Result (List Rule) TextFault → Result (List Rule) Fault
+from_if fits read = if fits then rules_if_read read else Err InputTooLong
 
-pub long_by : (setup : SetupState) → rules_limit < length (rules_text_of setup.rules) → fits_file setup ≡ false
-long_by setup lt = grind (arith, nat_tests, lt)
+-- a text for which a file has room gives what its rules give
+from_text : (text : List ℕ) (read : Result (List Rule) TextFault) → length text ≤ file_limit → file_read text ≡ read → rules_from text ≡ rules_if_read read
+from_text text read fits is = ap (λ (b : Bool). from_if b (file_read text)) (le-leb (length text) file_limit fits) ∙ ap (λ (r : Result (List Rule) TextFault). rules_if_read r) is
+
+from_long : (text : List ℕ) → file_limit < length text → rules_from text ≡ Err InputTooLong
+from_long text long = ap (λ (b : Bool). from_if b (file_read text)) (lt-leb (length text) file_limit long)
+
+are_taken : (rules : List Rule) → length rules ≤ 65536 → length (rules_text_of rules) ≤ rules_limit → rules_taken rules ≡ Ok rules
+are_taken rules few fits =
+    ap (λ (b : Bool). taken_if rules b (nat_le (length (rules_text_of rules)) rules_limit)) (le-leb (length rules) 65536 few)
+    ∙ ap (λ (b : Bool). taken_if rules true b) (le-leb (length (rules_text_of rules)) rules_limit fits)
+
+are_many : (rules : List Rule) → 65536 < length rules → rules_taken rules ≡ Err InputTooLong
+are_many rules many = ap (λ (b : Bool). taken_if rules b (nat_le (length (rules_text_of rules)) rules_limit)) (lt-leb (length rules) 65536 many)
+
+are_long : (rules : List Rule) → length rules ≤ 65536 → rules_limit < length (rules_text_of rules) → rules_taken rules ≡ Err InputTooLong
+are_long rules few long =
+    ap (λ (b : Bool). taken_if rules b (nat_le (length (rules_text_of rules)) rules_limit)) (le-leb (length rules) 65536 few)
+    ∙ ap (λ (b : Bool). taken_if rules true b) (lt-leb (length (rules_text_of rules)) rules_limit long)
 
 -- ---- the reading of a disk in memory
 
--- the text was read, and the disk is as the reading left it; or the text is longer than a file
+-- the disk is as the reading left it, and the text was read, or is longer than a file; or there was want of memory, or a failure
 abbrev GivesText : List ℕ → DiskWorld → Result (List ℕ) RecoverFault → DiskWorld → Type 0
-GivesText text u (Ok got) t = (got ≡ text) × (t ≡ u)
-GivesText text u (Err recover.TooLong) t = file_limit < length text
+GivesText text u (Ok got) t = (got ≡ text) × (length text ≤ file_limit) × (t ≡ u)
+GivesText text u (Err recover.TooLong) t = (file_limit < length text) × (t ≡ u)
 GivesText text u (Err (recover.Failed count)) t = Unit {0}
 GivesText text u (Err recover.Memory) t = Unit {0}
 
-read_text : (text : List ℕ) (r : Result (List ℕ) RecoverFault) (count : ℕ) (u t : DiskWorld) → RunsDisk MemKeeps u (after_load (text_or_absent text) count) r t → GivesText text u r t
-read_text [] r count u t h = subst (λ (x : Result (List ℕ) RecoverFault). GivesText [] u x t) (sym h.0) (refl, h.1)
-read_text (b ∷ bs) r count u t h = subst (λ (x : Result (List ℕ) RecoverFault). GivesText (b ∷ bs) u x t) (sym h.0) (refl, h.1)
+read_text : (text : List ℕ) (r : Result (List ℕ) RecoverFault) (count : ℕ) (u t : DiskWorld) → length text ≤ file_limit → RunsDisk MemKeeps u (after_load (text_or_absent text) count) r t → GivesText text u r t
+read_text [] r count u t fits h = subst (λ (x : Result (List ℕ) RecoverFault). GivesText [] u x t) (sym h.0) (refl, fits, h.1)
+read_text (b ∷ bs) r count u t fits h = subst (λ (x : Result (List ℕ) RecoverFault). GivesText (b ∷ bs) u x t) (sym h.0) (refl, fits, h.1)
 
 read_within : (text : List ℕ) (r : Result (List ℕ) RecoverFault) (fits : Bool) (count : ℕ) (u t : DiskWorld) → nat_le (length text) file_limit ≡ fits → RunsDisk MemKeeps u (after_load (if fits then text_or_absent text else loaded.TooLong) count) r t → GivesText text u r t
-read_within text r true count u t is h = read_text text r count u t h
-read_within text r false count u t is h =
-    let long : file_limit < length text = grind (arith, nat_tests, is) in
-    subst (λ (x : Result (List ℕ) RecoverFault). GivesText text u x t) (sym h.0) long
+read_within text r true count u t is h = read_text text r count u t (leb-true (length text) file_limit is) h
+read_within text r false count u t is h = subst (λ (x : Result (List ℕ) RecoverFault). GivesText text u x t) (sym h.0) (leb-false (length text) file_limit is, h.1)
 
 read_short : (text : List ℕ) (r : Result (List ℕ) RecoverFault) (answer : Loaded) (count : ℕ) (u v t : DiskWorld) → answer ≡ loaded.Memory → RunsDisk MemKeeps u (after_load answer count) r t → GivesText text v r t
 read_short text r answer count u v t e h =
@@ -116,87 +130,99 @@ read_whole : (o : DiskWorld) (r : Result (List ℕ) RecoverFault) (t : DiskWorld
 unfolding recovering
 read_whole o r t h = read_told o r h.0 h.1 t h.2 h.3
 
--- ---- the start
-
-pub holds_rules_of : (setup : SetupState) (o : DiskWorld) → o ≡ world_at_first (rules_text_of setup.rules) → file_read (rules_text_of setup.rules) ≡ Ok setup.rules → fits_file setup ≡ true → HoldsRules setup o
-holds_rules_of setup o is reads fits = record { text = ap (λ (x : DiskWorld). x.disk.text) is; reads = reads; fits = fits }
-
-pub holds_rules_disk : (setup : SetupState) → file_read (rules_text_of setup.rules) ≡ Ok setup.rules → fits_file setup ≡ true → HoldsRules setup (rules_disk setup)
-holds_rules_disk setup reads fits = record { text = refl; reads = reads; fits = fits }
-
-pub holds_on : (setup : SetupState) (o u : DiskWorld) → HoldsRules setup o → u ≡ o → HoldsRules setup u
-holds_on setup o u h same = subst (λ (x : DiskWorld). HoldsRules setup x) (sym same) h
+-- ---- a start
 
 -- what a script's daemon is started with
 abbrev IsOutset : SetupState → Outset → Type 0
-IsOutset setup outset = (list : Rules) → HoldsJust setup.rules list → policy_at outset list ≡ policy_of setup
-
-abbrev pub IsSession : SetupState → ℕ → DiskWorld → DaemonState → DiskWorld → Type 0
-IsSession setup number o d t = (d ≡ started_at number (access_of setup) (policy_of setup)) × (t ≡ after_reading o)
-
-loaded_session : (setup : SetupState) (outset : Outset) (o : DiskWorld) (read : Result (List ℕ) RecoverFault) (now : Bool × Rules) (d : DaemonState) (t : DiskWorld) → IsOutset setup outset → outset.access ≡ access_of setup → HoldsRules setup o → RunsDisk MemKeeps o recovering read t → StartsAfter read (Ok now) → StartsWithRules outset now d → IsSession setup outset.first o d t
-loaded_session setup outset o (Ok got) now d t is given on runs after with =
-    let r = read_whole o (Ok got) t runs in
-    let has : HasRulesOf (rules_text_of setup.rules) now.1 = subst (λ (x : List ℕ). HasRulesOf x now.1) (r.0 ∙ on.text) after.1 in
-    let policy : policy_at outset now.1 ≡ policy_of setup = is now.1 (holds_rules setup.rules (rules_text_of setup.rules) now.1 on.reads has) in
-    let new : IsStarted (policy_of setup) outset.first d = subst (λ (p : Judging). IsStarted p outset.first d) policy with.started in
-    (started_is (policy_of setup) (access_of setup) outset.first d new (with.access ∙ given), r.1)
-loaded_session setup outset o (Err e) now d t is given on runs after with = let none : ⊥ = cc in absurd none
-
-from_loads : (setup : SetupState) (outset : Outset) (faults : DiskWorld → ℕ) (o : DiskWorld) (loaded : Result (Bool × Rules) StartFault) (d : DaemonState) (t : DiskWorld) → IsOutset setup outset → outset.access ≡ access_of setup → HoldsRules setup o → Loads MemKeeps disk_told faults o loaded t → StartsFrom outset loaded (Ok d) → IsSession setup outset.first o d t
-from_loads setup outset faults o (Ok now) d t is given on loads starts = loaded_session setup outset o loads.read now d t is given on loads.runs loads.starts starts
-from_loads setup outset faults o (Err e) d t is given on loads starts = let none : ⊥ = cc in absurd none
+IsOutset setup outset = (rules : List Rule) (list : Rules) → HoldsJust rules list → policy_at outset list ≡ with_rules rules (policy_of setup)
 
 -- what a start sees of the settings, the clock and the words is what the setup lines gave
 outset_is : (setup : SetupState) (outset : Outset) → outset.classes ≡ (policy_of setup).classes → outset.clock ≡ (policy_of setup).clock → outset.words ≡ (policy_of setup).stream → IsOutset setup outset
-outset_is setup outset classes clock words list h =
+outset_is setup outset classes clock words rules list h =
     ap (λ (c : Classes). record (policy_at outset list) { classes = c }) classes
     ∙ ap (λ (c : ℕ → ℕ). record (policy_at outset list) { classes = (policy_of setup).classes; clock = c }) clock
     ∙ ap (λ (c : Stream). record (policy_at outset list) { classes = (policy_of setup).classes; clock = (policy_of setup).clock; stream = c }) words
     ∙ ap (λ (es : List RuleEntry). record (policy_of setup) { rules = es; next = list.next }) h.entries
-    ∙ ap (λ (n : ℕ). record (policy_of setup) { next = n }) h.next
+    ∙ ap (λ (n : ℕ). record (with_rules rules (policy_of setup)) { next = n }) h.next
 
-pub starts_session : (setup : SetupState) (outset : Outset) (faults : DiskWorld → ℕ) (o : DiskWorld) (d : DaemonState) (t : DiskWorld) → outset.classes ≡ (policy_of setup).classes → outset.clock ≡ (policy_of setup).clock → outset.words ≡ (policy_of setup).stream → outset.access ≡ access_of setup → HoldsRules setup o → Starts MemKeeps disk_told faults outset o (Ok d) t → IsSession setup outset.first o d t
-starts_session setup outset faults o d t classes clock words given on h = from_loads setup outset faults o h.loaded d t (outset_is setup outset classes clock words) given on h.loads h.starts
+abbrev IsSession : SetupState → ℕ → DiskWorld → DaemonState → DiskWorld → Type 0
+IsSession setup number o d t = StartsOn setup number o d × (t ≡ after_reading o)
+
+loaded_session : (setup : SetupState) (outset : Outset) (o : DiskWorld) (read : Result (List ℕ) RecoverFault) (now : Bool × Rules) (d : DaemonState) (t : DiskWorld) → IsOutset setup outset → outset.access ≡ access_of setup → GivesText o.disk.text (after_reading o) read t → StartsAfter read (Ok now) → StartsWithRules outset now d → IsSession setup outset.first o d t
+loaded_session setup outset o (Ok got) now d t is given gives after with =
+    let has : HasRulesOf o.disk.text now.1 = subst (λ (x : List ℕ). HasRulesOf x now.1) gives.0 after.1 in
+    let new : IsStarted (with_rules has.rules (policy_of setup)) outset.first d = subst (λ (p : Judging). IsStarted p outset.first d) (is has.rules now.1 has.holds) with.started in (
+      record {
+        rules = has.rules;
+        loaded = from_text o.disk.text (Ok has.rules) gives.1 has.reads ∙ are_taken has.rules has.few has.fits;
+        is = started_is (with_rules has.rules (policy_of setup)) (access_of setup) outset.first d new (with.access ∙ given);
+      },
+      gives.2,
+    )
+loaded_session setup outset o (Err e) now d t is given gives after with = let none : ⊥ = cc in absurd none
+
+from_loads : (setup : SetupState) (outset : Outset) (faults : DiskWorld → ℕ) (o : DiskWorld) (loaded : Result (Bool × Rules) StartFault) (d : DaemonState) (t : DiskWorld) → IsOutset setup outset → outset.access ≡ access_of setup → Loads MemKeeps disk_told faults o loaded t → StartsFrom outset loaded (Ok d) → IsSession setup outset.first o d t
+from_loads setup outset faults o (Ok now) d t is given loads starts = loaded_session setup outset o loads.read now d t is given (read_whole o loads.read t loads.runs) loads.starts starts
+from_loads setup outset faults o (Err e) d t is given loads starts = let none : ⊥ = cc in absurd none
+
+pub starts_on : (setup : SetupState) (outset : Outset) (faults : DiskWorld → ℕ) (o : DiskWorld) (d : DaemonState) (t : DiskWorld) → outset.classes ≡ (policy_of setup).classes → outset.clock ≡ (policy_of setup).clock → outset.words ≡ (policy_of setup).stream → outset.access ≡ access_of setup → Starts MemKeeps disk_told faults outset o (Ok d) t → IsSession setup outset.first o d t
+starts_on setup outset faults o d t classes clock words given h = from_loads setup outset faults o h.loaded d t (outset_is setup outset classes clock words) given h.loads h.starts
 
 -- ---- a start that is refused
 
-long_not : (setup : SetupState) → fits_file setup ≡ true → file_limit < length (rules_text_of setup.rules) → ⊥
-long_not setup fits long =
-    let le : length (rules_text_of setup.rules) ≤ rules_limit = grind (arith, nat_tests, fits) in
-    omega (arith, le, long)
+pub record Refuses (o : DiskWorld) (why : NoStart) (t : DiskWorld) : Type 0 where
+  pub bad : why ≡ no_start.BadRules → rules_from o.disk.text ≡ Err BadLine
+  pub too_long : why ≡ no_start.TooLong → rules_from o.disk.text ≡ Err InputTooLong
+  pub read : (why ≡ no_start.Memory → ⊥) → t ≡ after_reading o
 
-refused_text : (setup : SetupState) (o : DiskWorld) (e : StartFault) → HoldsRules setup o → length setup.rules ≤ 65536 → StartsWith (rules_text_of setup.rules) (Err e) → IsWantOfMemory e
-refused_text setup o (fault.Disk count) on few h = tt
-refused_text setup o (fault.BadRules bad) on few h =
-    let same : Ok setup.rules ≡ Err bad = sym on.reads ∙ h in
-    let none : ⊥ = cc in none
-refused_text setup o fault.TooLong on few h =
-    let same : h.rules ≡ setup.rules = same_rules setup.rules h.rules (file_read (rules_text_of setup.rules)) on.reads h.reads in
-    long_not setup on.fits (subst (λ (rs : List Rule). file_limit < length (rules_text_of rs)) same h.long)
-refused_text setup o fault.TooMany on few h =
-    let same : h.0 ≡ setup.rules = same_rules setup.rules h.0 (file_read (rules_text_of setup.rules)) on.reads h.1 in
-    let many : 65536 < length setup.rules = subst (λ (rs : List Rule). 65536 < length rs) same h.2 in
-    omega (arith, few, many)
-refused_text setup o fault.Memory on few h = tt
+refuses_bad : (o t : DiskWorld) → rules_from o.disk.text ≡ Err BadLine → t ≡ after_reading o → Refuses o no_start.BadRules t
+refuses_bad o t is read = record { bad = λ e. is; too_long = λ e. let none : ⊥ = cc in absurd none; read = λ other. read }
 
-refused_reading : (setup : SetupState) (o t : DiskWorld) (g : RecoverFault) → HoldsRules setup o → GivesText o.disk.text (after_reading o) (Err g) t → IsWantOfMemory (fault_of_recovery g)
-refused_reading setup o t (recover.Failed count) on h = tt
-refused_reading setup o t recover.TooLong on h = long_not setup on.fits (subst (λ (x : List ℕ). file_limit < length x) on.text h)
-refused_reading setup o t recover.Memory on h = tt
+refuses_long : (o t : DiskWorld) → rules_from o.disk.text ≡ Err InputTooLong → t ≡ after_reading o → Refuses o no_start.TooLong t
+refuses_long o t is read = record { bad = λ e. let none : ⊥ = cc in absurd none; too_long = λ e. is; read = λ other. read }
 
-refused_after : (setup : SetupState) (o t : DiskWorld) (read : Result (List ℕ) RecoverFault) (e : StartFault) → HoldsRules setup o → length setup.rules ≤ 65536 → GivesText o.disk.text (after_reading o) read t → StartsAfter read (Err e) → IsWantOfMemory e
-refused_after setup o t (Ok got) e on few gives h = refused_text setup o e on few (subst (λ (x : List ℕ). StartsWith x (Err e)) (gives.0 ∙ on.text) h)
-refused_after setup o t (Err g) e on few gives h =
+refuses_memory : (o t : DiskWorld) → Refuses o no_start.Memory t
+refuses_memory o t = record { bad = λ e. let none : ⊥ = cc in absurd none; too_long = λ e. let none : ⊥ = cc in absurd none; read = λ other. absurd (other refl) }
+
+refused_text : (o t : DiskWorld) (e : StartFault) → length o.disk.text ≤ file_limit → t ≡ after_reading o → StartsWith o.disk.text (Err e) → Refuses o (no_start_of e) t
+refused_text o t (fault.Disk count) fits read h = absurd h
+refused_text o t (fault.BadRules bad) fits read h = refuses_bad o t (from_text o.disk.text (Err bad) fits h) read
+refused_text o t fault.TooLong fits read h = refuses_long o t (from_text o.disk.text (Ok h.rules) fits h.reads ∙ are_long h.rules h.few h.long) read
+refused_text o t fault.TooMany fits read h = refuses_long o t (from_text o.disk.text (Ok h.0) fits h.1 ∙ are_many h.0 h.2) read
+refused_text o t fault.Memory fits read h = refuses_memory o t
+
+refused_reading : (o t : DiskWorld) (g : RecoverFault) → GivesText o.disk.text (after_reading o) (Err g) t → Refuses o (no_start_of (fault_of_recovery g)) t
+refused_reading o t (recover.Failed count) h = refuses_memory o t
+refused_reading o t recover.TooLong h = refuses_long o t (from_long o.disk.text h.0) h.1
+refused_reading o t recover.Memory h = refuses_memory o t
+
+refused_after : (o t : DiskWorld) (read : Result (List ℕ) RecoverFault) (e : StartFault) → GivesText o.disk.text (after_reading o) read t → StartsAfter read (Err e) → Refuses o (no_start_of e) t
+refused_after o t (Ok got) e gives h = refused_text o t e gives.1 gives.2 (subst (λ (x : List ℕ). StartsWith x (Err e)) gives.0 h)
+refused_after o t (Err g) e gives h =
     let same : e ≡ fault_of_recovery g = cc in
-    subst IsWantOfMemory (sym same) (refused_reading setup o t g on gives)
+    subst (λ (x : StartFault). Refuses o (no_start_of x) t) (sym same) (refused_reading o t g gives)
 
-refused_loading : (setup : SetupState) (outset : Outset) (faults : DiskWorld → ℕ) (o : DiskWorld) (loaded : Result (Bool × Rules) StartFault) (e : StartFault) (t : DiskWorld) → HoldsRules setup o → length setup.rules ≤ 65536 → Loads MemKeeps disk_told faults o loaded t → StartsFrom outset loaded (Err e) → IsWantOfMemory e
-refused_loading setup outset faults o (Ok now) e t on few loads h = subst IsWantOfMemory (sym h) tt
-refused_loading setup outset faults o (Err f) e t on few loads h =
+refused_loading : (outset : Outset) (faults : DiskWorld → ℕ) (o : DiskWorld) (loaded : Result (Bool × Rules) StartFault) (e : StartFault) (t : DiskWorld) → Loads MemKeeps disk_told faults o loaded t → StartsFrom outset loaded (Err e) → Refuses o (no_start_of e) t
+refused_loading outset faults o (Ok now) e t loads h = subst (λ (x : StartFault). Refuses o (no_start_of x) t) (sym h) (refuses_memory o t)
+refused_loading outset faults o (Err f) e t loads h =
     let same : e ≡ f = cc in
-    subst IsWantOfMemory (sym same) (refused_after setup o t loads.read f on few (read_whole o loads.read t loads.runs) loads.starts)
+    subst (λ (x : StartFault). Refuses o (no_start_of x) t) (sym same) (refused_after o t loads.read f (read_whole o loads.read t loads.runs) loads.starts)
 
--- a start from a disk with the rules of a setup is refused for nothing else
-pub start_refused : (setup : SetupState) (outset : Outset) (faults : DiskWorld → ℕ) (o : DiskWorld) (e : StartFault) (t : DiskWorld) → HoldsRules setup o → length setup.rules ≤ 65536 → Starts MemKeeps disk_told faults outset o (Err e) t → IsWantOfMemory e
-start_refused setup outset faults o e t on few h = refused_loading setup outset faults o h.loaded e t on few h.loads h.starts
+pub start_refused : (outset : Outset) (faults : DiskWorld → ℕ) (o : DiskWorld) (e : StartFault) (t : DiskWorld) → Starts MemKeeps disk_told faults outset o (Err e) t → Refuses o (no_start_of e) t
+start_refused outset faults o e t h = refused_loading outset faults o h.loaded e t h.loads h.starts
+
+-- ---- the first daemon
+
+same_rules : (rules others : List Rule) (read : Result (List Rule) Fault) → read ≡ Ok rules → read ≡ Ok others → others ≡ rules
+same_rules rules others read h g =
+    let e : Ok rules ≡ Ok others = sym h ∙ g in
+    cc
+
+-- the disk of a setup has its rules
+pub first_rules : (setup : SetupState) (o : DiskWorld) → o ≡ world_at_first (rules_text_of setup.rules) → file_read (rules_text_of setup.rules) ≡ Ok setup.rules → fits_file setup ≡ true → length setup.rules ≤ 65536 → rules_from o.disk.text ≡ Ok setup.rules
+first_rules setup o is reads fits few =
+    let room : length (rules_text_of setup.rules) ≤ rules_limit = leb-true (length (rules_text_of setup.rules)) rules_limit fits in
+    ap (λ (x : DiskWorld). rules_from x.disk.text) is ∙ from_text (rules_text_of setup.rules) (Ok setup.rules) room reads ∙ are_taken setup.rules few room
+
+pub first_daemon : (setup : SetupState) (o : DiskWorld) (d : DaemonState) → rules_from o.disk.text ≡ Ok setup.rules → StartsOn setup 1 o d → d ≡ started setup
+first_daemon setup o d has h = h.is ∙ ap (λ (rs : List Rule). started_at 1 (access_of setup) (with_rules rs (policy_of setup))) (same_rules setup.rules h.rules (rules_from o.disk.text) has h.loaded)

@@ -10,10 +10,9 @@ use Rattle.ug_sysfs.specs.declared.script.Move.TheVariants.{Plug, Unplug}
 use Rattle.ug_sysfs.specs.declared.script.Scheduled.{Scheduled}
 use Rattle.ug_sysfs.specs.Devices.{plugged}
 use Rattle.ug_sysfs.specs.World.{World, over}
-use Rattle.ug_core.specs.Event.{DaemonState}
 use Rattle.ug_core.specs.declared.daemon.Event.TheVariants.{Sweep}
-use Rattle.ug_script.specs.Replay.{event_from, with_devices}
-use Rattle.ug_script.specs.Setup.{no_setup, started}
+use Rattle.ug_script.specs.Replay.{Played, event_from, with_devices}
+use Rattle.ug_script.specs.Setup.{SetupState, no_setup, rules_disk, started}
 
 -- a device with nothing but its descriptors
 abbrev pub device_of : List ℕ → List ℕ → NewDevice
@@ -60,23 +59,27 @@ key_rule = record {
   conds = None;
 }
 
--- a daemon with this rule alone
-abbrev pub ruled : DaemonState
-ruled = started (record no_setup { rules = key_rule ∷ [] })
+-- this rule alone
+abbrev pub ruled : SetupState
+ruled = record no_setup { rules = key_rule ∷ [] }
+
+-- a daemon with it, over the root hub
+abbrev pub first_played : Played
+first_played = record { daemon = started ruled; world = hub_world; disk = rules_disk ruled }
 
 -- an event at that moment
-abbrev pub event_at : ℕ → DaemonState × World → DaemonState × World
-event_at moment p = event_from (Sweep (record { 0 = moment })) p.0 (over p.1)
+abbrev pub event_at : ℕ → Played → Played
+event_at moment p = event_from (Sweep (record { 0 = moment })) p.daemon (over p.world) p.disk
 
 -- the same with what is scheduled for it
-abbrev pub event_with : ℕ → List Scheduled → List Failing → DaemonState × World → DaemonState × World
-event_with moment moves fails p = event_from (Sweep (record { 0 = moment })) p.0 (record (over p.1) { moves = moves; fails = fails })
+abbrev pub event_with : ℕ → List Scheduled → List Failing → Played → Played
+event_with moment moves fails p = event_from (Sweep (record { 0 = moment })) p.daemon (record (over p.world) { moves = moves; fails = fails }) p.disk
 
 -- an event over the root hub alone, and then the key is plugged in
-abbrev pub plugged_in : DaemonState × World
+abbrev pub plugged_in : Played
 plugged_in =
-    let p : DaemonState × World = event_at 100 (ruled, hub_world) in
-    (p.0, with_devices (plugged key (over p.1).kernel.devices) (over p.1))
+    let p : Played = event_at 100 first_played in
+    record p { world = with_devices (plugged key (over p.world).kernel.devices) (over p.world) }
 
 -- the key goes and the other device takes its name, just before the twelfth call
 abbrev pub replaced : List Scheduled

@@ -15,6 +15,9 @@ use Rattle.ug_acl.specs.Texts.{access_read, pairs_given}
 use Rattle.ug_rule.specs.declared.fault.Fault.{Fault}
 use Rattle.ug_rule.specs.Grammar.{WellFormed}
 use Rattle.ug_rule.specs.Rules.{rule_read}
+use Rattle.ug_store.specs.declared.mishap.Mishap.{Mishap}
+use Rattle.ug_store.specs.declared.mishap.Mishap.TheVariants as mishap
+use Rattle.ug_sysfs.specs.declared.script.Failing.{Failing}
 use Rattle.ug_sysfs.specs.declared.script.Move.{Move}
 use Rattle.ug_sysfs.specs.declared.script.Move.TheVariants as move
 use Rattle.ug_sysfs.specs.declared.script.NewDevice.{NewDevice}
@@ -120,22 +123,41 @@ split_call after (Some space) text = with_call after (call_of (take space text))
 abbrev pub move_plan : Bool → List ℕ → Option Plan
 move_plan after text = split_call after (position (nat_eq 32) text) text
 
-abbrev pub fail_plan : Bool → Option ℕ → Option Plan
-fail_plan effect None = None
-fail_plan effect (Some call) = Some (plan.Fail (record { call = call; effect = effect }))
+abbrev pub failing_at : Bool → Option ℕ → Option Failing
+failing_at effect None = None
+failing_at effect (Some call) = Some (record { call = call; effect = effect })
 
 -- `CALL`, or `CALL effect`
-unfoldable pub fail_of : List ℕ → Option Plan
-fail_of text =
-    if ends_with nat_eq text (codes " effect") then fail_plan true (call_of (take (length text - 7) text))
-    else fail_plan false (call_of text)
+unfoldable pub failing_of : List ℕ → Option Failing
+failing_of text =
+    if ends_with nat_eq text (codes " effect") then failing_at true (call_of (take (length text - 7) text))
+    else failing_at false (call_of text)
+
+abbrev pub fail_plan : Option Failing → Option Plan
+fail_plan None = None
+fail_plan (Some failing) = Some (plan.Fail failing)
+
+abbrev pub mishap_of : Bool → Mishap
+mishap_of true = mishap.Effect
+mishap_of false = mishap.NoEffect
+
+-- the same of a call of the disk
+abbrev pub disk_plan : Option Failing → Option Plan
+disk_plan None = None
+disk_plan (Some failing) = Some (plan.FailDisk (record { call = failing.call; mishap = mishap_of failing.effect }))
+
+-- the lines of calls that fail
+unfoldable pub fails_of : List ℕ → Option Plan
+fails_of line =
+    if starts_with nat_eq line (codes "fail ") then fail_plan (failing_of (drop 5 line))
+    else if starts_with nat_eq line (codes "disk fail ") then disk_plan (failing_of (drop 10 line))
+    else None
 
 unfoldable pub plan_of : List ℕ → Option Plan
 plan_of line =
     if starts_with nat_eq line (codes "before ") then move_plan false (drop 7 line)
     else if starts_with nat_eq line (codes "after ") then move_plan true (drop 6 line)
-    else if starts_with nat_eq line (codes "fail ") then fail_of (drop 5 line)
-    else None
+    else fails_of line
 
 -- ---- events
 

@@ -1,5 +1,7 @@
 -- What happens in a script from its first line on, and what that says of each write and of each device.
-use Rattle.std.specs.Prelude.{◌≡◌, ℕ, Bool, true, false, ◌&&◌, if◌then◌else◌, List, [], ◌∷◌, ◌++◌, flat_map, Option, Some, None, Ok}
+use Rattle.std.specs.Prelude.{◌≡◌, ◌⊎◌, ℕ, ◌≤◌, Bool, true, false, ◌&&◌, if◌then◌else◌, List, [], ◌∷◌, ◌++◌, length, flat_map, Option, Some, None, Ok}
+use Rattle.ug_types.specs.Elements.{Has}
+use Rattle.ug_types.specs.declared.rule.Rule as types
 use Rattle.ug_kernel.specs.declared.device.Device.{Device}
 use Rattle.ug_kernel.specs.Kernel.{Kernel, Live}
 use Rattle.ug_sysfs.specs.World.{World}
@@ -7,7 +9,7 @@ use Rattle.ug_audit.specs.declared.entry.Entry.{Entry}
 use Rattle.ug_play.specs.Play.{NameNobody}
 use Rattle.ug_acl.specs.Acls.{Addition}
 use Rattle.ug_conf.specs.Texts.{conf_read}
-use Rattle.ug_core.specs.Chain.{Happened, Chain, journal, IsRun, IsJudgedOnce}
+use Rattle.ug_core.specs.Chain.{Happened, Chain, journal, IsRun, IsJudgedOnce, unsure_of}
 use Rattle.ug_core.specs.Event.{DaemonState, has_numbers}
 use Rattle.ug_core.specs.Policy.{Judging}
 use Rattle.ug_core.specs.Rulings.{CanTake, PolicyStep, after_steps, changed_alone, judgements_for, words_for}
@@ -15,37 +17,38 @@ use Rattle.ug_core.specs.Verdicts.{IsLater}
 use Rattle.ug_core.specs.declared.daemon.Event as events
 use Rattle.ug_lines.specs.Lines.{lines_of}
 use Rattle.ug_print.specs.RuleTexts.{rules_text_of}
-use Rattle.ug_store.specs.Disk.{Disk}
-use Rattle.ug_store.specs.History.{HoldsOnly}
+use Rattle.ug_rule.specs.Files.{file_read}
+use Rattle.ug_rules.specs.RuleFile.{permanent_text}
+use Rattle.ug_store.specs.Disk.{Disk, IsImage}
 use Rattle.ug_store.specs.Scripted.{disk_told}
-use Rattle.ug_core.specs.declared.storing.Stored.TheVariants as stored
 use Rattle.ug_console.specs.Fold.{Outcome, Writes, Refused, Going, plays}
 use Rattle.ug_script.specs.declared.step.Step.{Step}
 use Rattle.ug_script.specs.declared.step.Step.TheVariants.{Schedule, Event, Restart}
 use Rattle.ug_script.specs.Grammar.{step_of_line}
 use Rattle.ug_script.specs.Script.{Script, can_start, daemon_in, disk_in}
-use Rattle.ug_script.specs.Replay.{answered_from, event_of, outcome_of, outcome_text, script_step}
-use Rattle.ug_script.specs.Setup.{steps_of, conf_asked, rule_asked, IsSetup, started_at}
+use Rattle.ug_script.specs.Laws.{tried_of}
+use Rattle.ug_script.specs.Replay.{answered_of, event_of, outcome_of, outcome_text, script_step}
+use Rattle.ug_script.specs.Setup.{steps_of, conf_asked, rule_asked, IsSetup, started_at, with_rules}
 
 -- an event, with what is scheduled for it
 abbrev pub happened_at : events.Event → Script → World → Happened
 happened_at event s w = record {
   event = event;
-  tried = None;
+  tried = tried_of s;
   kernel = w.kernel;
   disk = disk_told (disk_in s);
   before = daemon_in s;
-  became = stored.NotNeeded;
-  kernel_answered = (answered_from event (daemon_in s) w).1.kernel;
-  answered = (answered_from event (daemon_in s) w).0;
-  kernel_after = (event_of event s w).1.kernel;
-  disk_after = disk_told (disk_in s);
-  after = (event_of event s w).0;
+  became = (answered_of event s w).became;
+  kernel_answered = (answered_of event s w).world.kernel;
+  answered = (answered_of event s w).daemon;
+  kernel_after = (event_of event s w).world.kernel;
+  disk_after = disk_told (event_of event s w).disk;
+  after = (event_of event s w).daemon;
 }
 
 abbrev pub happens_at : events.Event → Script → World → List Happened
 happens_at event s w =
-    if can_start s.setup s.phase && has_numbers (daemon_in s) w.faults 0 then happened_at event s w ∷ [] else []
+    if can_start s.setup s.phase && has_numbers (daemon_in s) w.faults (disk_in s).faults then happened_at event s w ∷ [] else []
 
 -- the event of a step
 abbrev pub happens_by : Option Step → Script → World → List Happened
@@ -105,33 +108,68 @@ runs_text (hs ∷ runs) = events_text hs ++ runs_text runs
 abbrev pub text_of_runs : EventsOfRuns → List ℕ
 text_of_runs runs = runs_text runs.ended ++ events_text runs.last
 
--- A run of the daemon from its start: it began with that policy, that access and no device, and its first event has that number. Its rule file held
--- that text, and a crash left no other. Its events are a chain from there, over the kernel as it was at the start, with all that this
--- says of each write and of the file.
-pub record IsDaemonRun (access : List Addition) (policy : Judging) (text : List ℕ) (number : ℕ) (first : Kernel) (hs : List Happened) (k : Kernel) (p : Option Disk) (e : DaemonState) : Type 0 where
-  pub file : Disk
-  pub holds : HoldsOnly text file
-  pub chain : Chain first (Some file) (started_at number access policy) hs k p e
-  pub run : IsRun policy first (Some file) hs k p e
+-- With what a run of the daemon begins: its rules; the text of the rule file, and the texts that a crash might leave in its place; the
+-- number of its first event; and the kernel.
+pub record RunStart : Type 0 where
+  pub rules : List types.Rule
+  pub text : List ℕ
+  pub unsure : List (List ℕ)
+  pub number : ℕ
+  pub kernel : Kernel
 
--- a run that was ended, where it came to
-pub record EndedRun (access : List Addition) (policy : Judging) (text : List ℕ) (number : ℕ) (first : Kernel) (hs : List Happened) : Type 0 where
+-- at the beginning the rule file holds the canonical text of the rules, and a crash leaves no other
+abbrev pub first_start : List types.Rule → Kernel → RunStart
+first_start rules k = record { rules = rules; text = rules_text_of rules; unsure = []; number = 1; kernel = k }
+
+-- the rule file has that text, and a crash leaves no other but these
+pub record HoldsAtStart (b : RunStart) (file : Disk) : Type 0 where
+  pub text : file.text ≡ b.text
+  pub left : (text : List ℕ) → IsImage file.left text → (text ≡ b.text) ⊎ Has b.unsure text
+
+-- A run of the daemon from its start: it began with that access, with no device, and with that policy but for its rules. Its events are a
+-- chain from there, over the kernel and the rule file as they were at the start, with all that this says of each write and of the file.
+pub record IsDaemonRun (access : List Addition) (policy : Judging) (b : RunStart) (hs : List Happened) (k : Kernel) (p : Option Disk) (e : DaemonState) : Type 0 where
+  pub few : length b.rules ≤ 65536
+  pub file : Disk
+  pub holds : HoldsAtStart b file
+  pub chain : Chain b.kernel (Some file) (started_at b.number access (with_rules b.rules policy)) hs k p e
+  pub run : IsRun (with_rules b.rules policy) b.kernel (Some file) hs k p e
+
+-- the texts that a crash might leave behind a run: that of the permanent rules in force, or one that isn't sure
+abbrev pub left_behind : RunStart → List Happened → DaemonState → List (List ℕ)
+left_behind b hs e = permanent_text e.sweep.judge.rules ∷ unsure_of (b.text ∷ b.unsure) hs
+
+-- The next run begins where that one came to, with the number of the event that was next then. Its rules are those of the rule file, whose
+-- text is one of those that a crash might have left.
+pub record StartsBehind (b : RunStart) (hs : List Happened) (k : Kernel) (p : Option Disk) (e : DaemonState) (c : RunStart) : Type 0 where
+  pub file : Disk
+  pub told : p ≡ Some file
+  pub text : c.text ≡ file.text
+  pub reads : file_read c.text ≡ Ok c.rules
+  pub kept : Has (left_behind b hs e) c.text
+  pub unsure : c.unsure ≡ left_behind b hs e
+  pub number : c.number ≡ e.event
+  pub kernel : c.kernel ≡ k
+
+-- a run that was ended, where it came to, and with what the next began
+pub record EndedRun (access : List Addition) (policy : Judging) (b : RunStart) (hs : List Happened) : Type 0 where
   pub kernel : Kernel
   pub disk : Option Disk
   pub daemon : DaemonState
-  pub is : IsDaemonRun access policy text number first hs kernel disk daemon
+  pub is : IsDaemonRun access policy b hs kernel disk daemon
+  pub next : RunStart
+  pub behind : StartsBehind b hs kernel disk daemon next
 
--- runs one after another, each over the kernel that the one before came to, and with the number of the event that was next then
-abbrev pub AreSuccessive : List Addition → Judging → List ℕ → ℕ → Kernel → List (List Happened) → ℕ → Kernel → Type 0
-AreSuccessive access policy text number first [] next l = (next ≡ number) × (l ≡ first)
-AreSuccessive access policy text number first (hs ∷ runs) next l = (r : EndedRun access policy text number first hs) × AreSuccessive access policy text r.daemon.event r.kernel runs next l
+-- runs one after another
+abbrev pub AreSuccessive : List Addition → Judging → RunStart → List (List Happened) → RunStart → Type 0
+AreSuccessive access policy b [] c = c ≡ b
+AreSuccessive access policy b (hs ∷ runs) c = (r : EndedRun access policy b hs) × AreSuccessive access policy r.next runs c
 
--- all runs of a script: those that were ended, one after another from the first kernel and number 1, and the last one
-pub record AreDaemonRuns (access : List Addition) (policy : Judging) (text : List ℕ) (first : Kernel) (runs : EventsOfRuns) (k : Kernel) (p : Option Disk) (e : DaemonState) : Type 0 where
-  pub number : ℕ
-  pub kernel : Kernel
-  pub ended : AreSuccessive access policy text 1 first runs.ended number kernel
-  pub last : IsDaemonRun access policy text number kernel runs.last k p e
+-- all runs of a script: those that were ended, one after another from the first start, and the last one
+pub record AreDaemonRuns (access : List Addition) (policy : Judging) (first : RunStart) (runs : EventsOfRuns) (k : Kernel) (p : Option Disk) (e : DaemonState) : Type 0 where
+  pub start : RunStart
+  pub ended : AreSuccessive access policy first runs.ended start
+  pub last : IsDaemonRun access policy start runs.last k p e
 
 -- each device that is live at the end of that event was judged just once since the first kernel, and stands as judged
 pub record JudgesOnce (policy : Judging) (first : Kernel) (file : Disk) (hs : List Happened) (h : Happened) : Type 0 where
@@ -147,21 +185,23 @@ abbrev pub AreQuiet : List (Option Step) → Type 0
 AreQuiet [] = Unit {0}
 AreQuiet (step ∷ steps) = (is_quiet step ≡ true) × AreQuiet steps
 
--- Wherever lines have led: the setup lines gave access and a policy, of which rulings, with changes among them, leave what has taken just
--- their words, and whose histories stand for just their judgements; and its settings are those of each text whose lines are those of the `conf` lines. The events of the
--- lines are those of runs of the daemon, of which each began with these over a file with the canonical text of its rules; and what
--- was written is the text of the entries of all. Where no move was scheduled and no call was to fail, nobody is named as unsettled, and
--- after an event that comes next each live device was judged just once since the last start and stands as judged.
+-- Wherever lines have led: the setup lines gave access and a policy; with whatever rules, rulings, with changes among them, leave a policy
+-- that has taken just their words, and whose histories stand for just their judgements; and its settings are those of each text whose lines
+-- are those of the `conf` lines. The events of the lines are those of runs of the daemon: the first began with the rules of the `rule`
+-- lines, and each other one with those of the rule file that the one before left. What was written is the text of the entries of all. Where
+-- no move was scheduled and no call was to fail, nobody is named as unsettled, no save is pending, and after an event that comes next each
+-- live device was judged just once since the last start and stands as judged.
 pub record Recorded (first : World) (lines : List (List ℕ)) (text : List ℕ) (s : Script) (w : World) : Type 0 where
   pub access : List Addition
   pub policy : Judging
   pub setup : IsSetup (steps_of lines) access policy
   pub settings : (whole : List ℕ) → lines_of whole ≡ flat_map conf_asked (steps_of lines) → conf_read whole ≡ Ok setup.draft.settings
-  pub later : (steps : List PolicyStep) → CanTake policy steps → IsLater (changed_alone policy steps) (words_for policy steps) (judgements_for policy steps) (after_steps policy steps)
-  pub runs : AreDaemonRuns access policy (rules_text_of (flat_map rule_asked (steps_of lines))) first.kernel (runs_in first lines) w.kernel (disk_told (disk_in s)) (daemon_in s)
+  pub later : (rules : List types.Rule) (steps : List PolicyStep) → length rules ≤ 65536 → CanTake (with_rules rules policy) steps → IsLater (changed_alone (with_rules rules policy) steps) (words_for (with_rules rules policy) steps) (judgements_for (with_rules rules policy) steps) (after_steps (with_rules rules policy) steps)
+  pub runs : AreDaemonRuns access policy (first_start (flat_map rule_asked (steps_of lines)) first.kernel) (runs_in first lines) w.kernel (disk_told (disk_in s)) (daemon_in s)
   pub written : text ≡ text_of_runs (runs_in first lines)
   pub nobody : AreQuiet (steps_of lines) → first.fails ≡ [] → NameNobody (journal_of (runs_in first lines))
-  pub once : AreQuiet (steps_of lines) → first.fails ≡ [] → first.moves ≡ [] → (event : events.Event) → JudgesOnce policy runs.kernel runs.last.file (runs_in first lines).last (happened_at event s w)
+  pub saved : AreQuiet (steps_of lines) → (daemon_in s).pending ≡ false
+  pub once : AreQuiet (steps_of lines) → first.fails ≡ [] → first.moves ≡ [] → (event : events.Event) → JudgesOnce (with_rules runs.start.rules policy) runs.start.kernel runs.last.file (runs_in first lines).last (happened_at event s w)
 
 -- the same of all lines
 abbrev pub StaysRecorded : World → Type 0

@@ -1,8 +1,9 @@
 -- What each line of a script writes, and what it leaves.
-use Rattle.std.specs.Prelude.{◌≡◌, ℕ, ◌+◌, ◌-◌, true, false, nat_eq, cond, List, [], ◌∷◌, ◌++◌, codes, decimal, Option, Some, None, Result, Ok, Err, flat_map}
+use Rattle.std.specs.Prelude.{◌≡◌, ◌⊎◌, ℕ, ◌+◌, ◌-◌, true, false, nat_eq, cond, List, [], ◌∷◌, ◌++◌, codes, decimal, Option, Some, None, Result, Ok, Err, flat_map}
 use Rattle.std.specs.Cmp.Lexicographic.{pointwise}
-use Rattle.ug_kernel.specs.Tree.{Prog, Return, then}
 use Rattle.ug_types.specs.Principals.{Named}
+use Rattle.ug_types.specs.declared.rule.Rule as types
+use Rattle.ug_types.specs.declared.saved.Saved.{Saved}
 use Rattle.ug_kernel.specs.declared.device.Device.{Device}
 use Rattle.ug_sysfs.specs.Queue.{with_move}
 use Rattle.ug_sysfs.specs.World.{World, begun, moved, over}
@@ -12,19 +13,25 @@ use Rattle.ug_lines.specs.Lines.{lines_of}
 use Rattle.ug_proto.specs.declared.reply.Reply.{Reply}
 use Rattle.ug_proto.specs.Replies.{reply_text}
 use Rattle.ug_play.specs.Play.{play, tells_memory}
-use Rattle.ug_core.specs.Answering.{acting, asking}
-use Rattle.ug_core.specs.Storing.{with_changes}
+use Rattle.ug_store.specs.PlayDisk.{play_disk}
+use Rattle.ug_store.specs.Scripted.{DiskWorld, begun_on, forgetting}
+use Rattle.ug_store.specs.declared.mishap.Planned.{Planned}
+use Rattle.ug_core.specs.Answering.{acting, asking, deed_after}
+use Rattle.ug_core.specs.Storing.{stored_with, storing}
+use Rattle.ug_core.specs.declared.storing.Stored.{Stored}
+use Rattle.ug_core.specs.declared.storing.Stored.TheVariants as stored
 use Rattle.ug_core.specs.declared.choosing.Choice.{Choice}
-use Rattle.ug_core.specs.Event.{DaemonState, handling, has_numbers, ready}
+use Rattle.ug_core.specs.Event.{DaemonState, daemon_of, handling, has_numbers, ready, trying}
 use Rattle.ug_core.specs.declared.daemon.Event.{Event}
 use Rattle.ug_core.specs.declared.daemon.Event.TheVariants.{Sweep, Order}
-use Rattle.ug_console.specs.Fold.{Outcome, Writes, Refused, BadLine, InputTooLong, is_within}
+use Rattle.ug_console.specs.Fold.{Fault, Outcome, Writes, Refused, BadLine, InputTooLong, is_within}
 use Rattle.ug_console.specs.Runs.{Steps}
 use Rattle.ug_console.specs.declared.machine.Ran.{Ran}
 use Rattle.ug_console.specs.declared.machine.Ran.TheVariants as ran
 use Rattle.ug_script.specs.declared.interpreter.Interpreter.{Interpreter}
 use Rattle.ug_script.specs.declared.runner.Runner.{Runner}
 use Rattle.ug_script.specs.declared.progress.Running.{Running}
+use Rattle.ug_script.specs.declared.session.Session.{Session}
 use Rattle.ug_script.specs.declared.step.Plan.{Plan}
 use Rattle.ug_script.specs.declared.step.Plan.TheVariants as plan
 use Rattle.ug_script.specs.declared.step.SetupLine.{SetupLine}
@@ -34,10 +41,14 @@ use Rattle.ug_script.specs.declared.step.StepFault.{StepFault}
 use Rattle.ug_script.specs.declared.step.StepFault.TheVariants.{Bad, Memory}
 use Rattle.ug_script.specs.Grammar.{step_of_line}
 use Rattle.ug_script.specs.Script.{Script, Started, takes_setup, with_setup_closed, daemon_in, disk_in, can_start, fresh, phase_of}
-use Rattle.ug_script.specs.Setup.{SetupState, one_line_more, access_of, after_reading, policy_of, started_at}
+use Rattle.ug_script.specs.Setup.{SetupState, one_line_more, access_of, after_reading, policy_of, rules_from, started_at, with_rules}
 
 abbrev pub script_of : Running → Script
-script_of r = record { setup = r.setup; phase = phase_of r.phase }
+script_of r = record { setup = r.setup; phase = phase_of r.phase; planned = r.plan.items }
+
+-- that of a session
+abbrev pub started_script : SetupState → Session → List Planned → Script
+started_script setup session plan = record { setup = setup; phase = Started (daemon_of session.daemon) session.disk; planned = plan }
 
 abbrev pub script_in : Option Running → Option Script
 script_in None = None
@@ -106,63 +117,128 @@ with_devices ds w = record w { kernel = record w.kernel { devices = ds } }
 abbrev pub planned : Plan → World → World
 planned (plan.Move m) w = record w { moves = with_move m w.moves }
 planned (plan.Fail f) w = record w { fails = w.fails ++ f ∷ [] }
+planned (plan.FailDisk p) w = w
+
+-- the disk of the next event may not be there yet: the script keeps what is to fail on it
+abbrev pub with_plan : Plan → Script → Script
+with_plan (plan.FailDisk p) s = record s { planned = s.planned ++ p ∷ [] }
+with_plan plan s = s
 
 -- ---- events
+
+-- a daemon over the kernel and the disk of its script
+pub record Played : Type 0 where
+  pub daemon : DaemonState
+  pub world : World
+  pub disk : DiskWorld
+
+-- what the order of an event leaves, and what became of the save of its change
+pub record OrderPlayed : Type 0 where
+  pub daemon : DaemonState
+  pub became : Stored
+  pub world : World
+  pub disk : DiskWorld
+
+-- The stages of an order: on the kernel, what it comes to; on the disk, what it changes is saved, if it has to be, and is then in force;
+-- on the kernel, what is then done.
+
+abbrev pub with_deed : Stored × DiskWorld → DaemonState × World → OrderPlayed
+with_deed saved done = record { daemon = done.0; became = saved.0; world = done.1; disk = saved.1 }
+
+abbrev pub with_store : Named → DaemonState → Choice × World → Stored × DiskWorld → OrderPlayed
+with_store who d chosen saved = with_deed saved (play (acting who (stored_with saved.0 chosen.0.change d) (deed_after saved.0 chosen.0.deed)) chosen.1)
+
+abbrev pub with_choice : Named → DaemonState → DiskWorld → Choice × World → OrderPlayed
+with_choice who d o chosen = with_store who d chosen (play_disk (storing d chosen.0.change) o)
+
+-- a sweep alone has none
+abbrev pub answered_by : Event → DaemonState → World → DiskWorld → OrderPlayed
+answered_by (Sweep moment) d w o = record { daemon = d; became = stored.NotNeeded; world = w; disk = o }
+answered_by (Order moment who line) d w o = with_choice who d o (play (asking d who line) w)
+
+-- An event as the world and the disk fix it, whose calls are numbered anew: a pending save is tried, the order is answered, and then comes
+-- the sweep.
+
+abbrev pub tried_by : DaemonState → DiskWorld → Option Saved × DiskWorld
+tried_by d o = play_disk (trying d) o
+
+abbrev pub answered_from : Event → DaemonState → World → DiskWorld → OrderPlayed
+answered_from event d w o = answered_by event (ready event (tried_by d o).0 d) (begun w) (tried_by d o).1
+
+abbrev pub swept_over : DiskWorld → DaemonState × World → Played
+swept_over o p = record { daemon = p.0; world = p.1; disk = o }
+
+abbrev pub swept_behind : OrderPlayed → Played
+swept_behind a = swept_over a.disk (play (handling a.daemon) a.world)
+
+abbrev pub event_from : Event → DaemonState → World → DiskWorld → Played
+event_from event d w o = swept_behind (answered_from event d w o)
 
 -- an event's entries tell want of memory
 abbrev pub tells : DaemonState → Type 0
 tells d = tells_memory d.sweep.entries ≡ true
 
--- what is done of an order, with what it changes: nothing of that has to be saved
-abbrev pub doing : Named → DaemonState → Choice → Prog DaemonState
-doing who d choice = acting who (with_changes choice.change d) choice.deed
+-- the event came to what is fixed, or its entries tell want of memory, or the kernel or the disk has run out
+abbrev pub IsEventPlayed : Event → DaemonState → World → DiskWorld → DaemonState → World → DiskWorld → Type 0
+IsEventPlayed event d w o e t p =
+    (record { daemon = e; world = t; disk = p } ≡ event_from event d w o) ⊎ (tells e ⊎ ((t.ran_out ≡ true) ⊎ (p.ran_out ≡ true)))
 
--- the order of an event; a sweep alone has none
-abbrev pub answering : DaemonState → Event → Prog DaemonState
-answering d (Sweep moment) = Return d
-answering d (Order moment who line) = then (asking d who line) (doing who d)
+-- the calls that are to fail are those that lines planned, and they are numbered anew
+abbrev pub begun_disk : List Planned → DiskWorld → DiskWorld
+begun_disk plan o = record (begun_on o) { planned = plan }
 
--- An event as the world fixes it: its order is answered, and then comes the sweep. No save is pending, so it asks nothing of the disk.
-abbrev pub event_tree : Event → DaemonState → Prog DaemonState
-event_tree event d = then (answering (ready event None d) event) handling
+abbrev pub disk_of : Script → DiskWorld
+disk_of s = begun_disk s.planned (disk_in s)
 
-abbrev pub answered_from : Event → DaemonState → World → DaemonState × World
-answered_from event d w = play (answering (ready event None d) event) (begun w)
+abbrev pub answered_of : Event → Script → World → OrderPlayed
+answered_of event s w = answered_from event (daemon_in s) w (disk_of s)
 
-abbrev pub event_from : Event → DaemonState → World → DaemonState × World
-event_from event d w = play (event_tree event d) (begun w)
+abbrev pub event_of : Event → Script → World → Played
+event_of event s w = event_from event (daemon_in s) w (disk_of s)
 
-abbrev pub event_of : Event → Script → World → DaemonState × World
-event_of event s w = event_from event (daemon_in s) w
+-- The daemon that it leaves, and the world and the disk behind it. What a crash might have left of the rule file within the event is
+-- forgotten.
+abbrev pub left_played : Played → Played
+left_played p = record p { world = over p.world; disk = forgetting p.disk }
 
--- what it writes, the daemon that it leaves, and the world behind it
-abbrev pub came_of : DaemonState × World → Outcome (DaemonState × World)
-came_of p = Writes (outcome_text (outcome_of p.0)) (p.0, over p.1)
+abbrev pub came_of : Played → Outcome Played
+came_of p = Writes (outcome_text (outcome_of p.daemon)) (left_played p)
 
 -- unless the numbers have run out
-abbrev pub event_by : Event → DaemonState → World → Outcome (DaemonState × World)
-event_by event d w = cond (has_numbers d w.faults 0) (came_of (event_from event d w)) (Refused BadLine (d, w))
+abbrev pub event_by : Event → List Planned → DaemonState → World → DiskWorld → Outcome Played
+event_by event plan d w o = cond (has_numbers d w.faults o.faults) (came_of (event_from event d w (begun_disk plan o))) (Refused BadLine (record { daemon = d; world = w; disk = o }))
 
--- the disk stays as it was
-abbrev pub in_script : Script → Outcome (DaemonState × World) → Outcome (Option Script × World)
-in_script s (Writes text p) = Writes text (Some (record s { phase = Started p.0 (disk_in s) }), p.1)
-in_script s (Refused fault p) = Refused fault (Some (record s { phase = Started p.0 (disk_in s) }), p.1)
+-- nothing is planned any more
+abbrev pub with_played : Script → Played → Script
+with_played s p = record s { phase = Started p.daemon p.disk; planned = [] }
+
+abbrev pub in_script : Script → Outcome Played → Outcome (Option Script × World)
+in_script s (Writes text p) = Writes text (Some (with_played s p), p.world)
+in_script s (Refused fault p) = Refused fault (Some (with_played s p), p.world)
 
 -- the first event starts the daemon
 abbrev pub event_taken : Event → Script → World → Outcome (Option Script × World)
-event_taken event s w = cond (can_start s.setup s.phase) (in_script s (event_by event (daemon_in s) w)) (Refused InputTooLong (Some s, w))
+event_taken event s w = cond (can_start s.setup s.phase) (in_script s (event_by event s.planned (daemon_in s) w (disk_in s))) (Refused InputTooLong (Some s, w))
 
 -- ---- a new daemon
 
--- The rule file still holds the rules: nothing was saved. The new daemon reads it again, and judges by the policy of the setup lines, with
--- no histories and with the words of the seed from the first one on. It has the access that these lines give, knows no device, and counts
--- its devices from 1. The numbers of events go on. The kernel, its open files and what is scheduled for the next event stay as they are.
-abbrev pub with_restart : Script → Script
-with_restart s = record s { phase = Started (started_at (daemon_in s).event (access_of s.setup) (policy_of s.setup)) (after_reading (disk_in s)) }
+-- The new daemon reads the rule file again, and judges by its rules, and else by the policy of the setup lines, with no histories and with
+-- the words of the seed from the first one on. It has the access that these lines give, knows no device, and counts its devices from 1. The
+-- numbers of events go on. The kernel, its open files, the files of the disk and what is scheduled for the next event stay as they are.
+abbrev pub with_restart : List types.Rule → Script → Script
+with_restart rules s = record s { phase = Started (started_at (daemon_in s).event (access_of s.setup) (with_rules rules (policy_of s.setup))) (after_reading (disk_in s)) }
+
+-- where none starts with that text, the one before stays, and the disk was read
+abbrev pub without_restart : Script → Script
+without_restart s = record s { phase = Started (daemon_in s) (after_reading (disk_in s)) }
+
+abbrev pub restarted : Result (List types.Rule) Fault → Script → World → Outcome (Option Script × World)
+restarted (Ok rules) s w = quiet (with_restart rules s) w
+restarted (Err fault) s w = Refused fault (Some (without_restart s), w)
 
 -- the first daemon is started before, if none was
 abbrev pub restart_taken : Script → World → Outcome (Option Script × World)
-restart_taken s w = cond (can_start s.setup s.phase) (quiet (with_restart s) w) (Refused InputTooLong (Some s, w))
+restart_taken s w = cond (can_start s.setup s.phase) (restarted (rules_from (disk_in s).disk.text) s w) (Refused InputTooLong (Some s, w))
 
 -- ---- all lines
 
@@ -170,7 +246,7 @@ abbrev pub taken : Step → Script → World → Outcome (Option Script × World
 taken step.Skip s w = quiet s w
 taken (step.Setup line) s w = line_taken line s w
 taken (step.Move action) s w = quiet (with_setup_closed s) (with_devices (moved action w.kernel.devices) w)
-taken (step.Schedule plan) s w = quiet (with_setup_closed s) (planned plan w)
+taken (step.Schedule plan) s w = quiet (with_plan plan (with_setup_closed s)) (planned plan w)
 taken (step.Event event) s w = event_taken event s w
 taken step.Restart s w = restart_taken s w
 

@@ -1,13 +1,15 @@
 -- How far a script has come, and the daemon that it has.
-use Rattle.std.specs.Prelude.{◌≡◌, Bool, true, false, nat_le, length, Ok}
-use Rattle.ug_rule.specs.Files.{file_read}
+use Rattle.std.specs.Prelude.{Bool, true, false, nat_le, List, [], length}
 use Rattle.ug_print.specs.RuleTexts.{rules_limit, rules_text_of}
 use Rattle.ug_store.specs.Scripted.{DiskWorld}
 use Rattle.ug_core.specs.Event.{DaemonState, daemon_of}
+use Rattle.ug_store.specs.declared.mishap.Planned.{Planned}
 use Rattle.ug_core.specs.declared.start_fault.StartFault.{StartFault}
 use Rattle.ug_core.specs.declared.start_fault.StartFault.TheVariants as fault
 use Rattle.ug_script.specs.declared.progress.Phase as progress
 use Rattle.ug_script.specs.declared.progress.Phase.TheVariants as at
+use Rattle.ug_script.specs.declared.start.NoStart.{NoStart}
+use Rattle.ug_script.specs.declared.start.NoStart.TheVariants as no_start
 use Rattle.ug_script.specs.Setup.{SetupState, no_setup, rules_disk, started}
 
 -- how far a script has come: lines of setup may still come; none may, and no daemon was started; or one was, from its disk
@@ -16,10 +18,12 @@ pub data Phase : Type 0 where
   Unstarted : Phase
   Started : DaemonState → DiskWorld → Phase
 
--- A script whose first line was read: what the setup lines gave, and how far it has come.
+-- A script whose first line was read: what the setup lines gave, how far it has come, and which calls of the disk are to fail in the next
+-- event.
 pub record Script : Type 0 where
   pub setup : SetupState
   pub phase : Phase
+  pub planned : List Planned
 
 abbrev pub phase_of : progress.Phase → Phase
 phase_of at.SettingUp = SettingUp
@@ -27,7 +31,7 @@ phase_of at.Unstarted = Unstarted
 phase_of (at.Started session) = Started (daemon_of session.daemon) session.disk
 
 abbrev pub fresh : Script
-fresh = record { setup = no_setup; phase = SettingUp }
+fresh = record { setup = no_setup; phase = SettingUp; planned = [] }
 
 abbrev pub takes_setup : Phase → Bool
 takes_setup SettingUp = true
@@ -70,25 +74,13 @@ disk_in s = disk_by s.setup s.phase
 abbrev pub fits_file : SetupState → Bool
 fits_file setup = nat_le (length (rules_text_of setup.rules)) rules_limit
 
--- the disk's rule file holds the canonical text of the rules, which reads as them, and has room for it
-pub record HoldsRules (setup : SetupState) (disk : DiskWorld) : Type 0 where
-  pub text : disk.disk.text ≡ rules_text_of setup.rules
-  pub reads : file_read (rules_text_of setup.rules) ≡ Ok setup.rules
-  pub fits : fits_file setup ≡ true
-
--- and so does the disk of a daemon that was started
-pub record IsOnDisk (setup : SetupState) (phase : Phase) : Type 0 where
-  pub text : has_started phase ≡ true → (disk_by setup phase).disk.text ≡ rules_text_of setup.rules
-  pub reads : has_started phase ≡ true → file_read (rules_text_of setup.rules) ≡ Ok setup.rules
-  pub fits : has_started phase ≡ true → fits_file setup ≡ true
-
--- a start was refused since there was no memory: a disk in memory fails only where an entry of its calls finds none
-abbrev pub IsWantOfMemory : StartFault → Type 0
-IsWantOfMemory (fault.Disk count) = Unit {0}
-IsWantOfMemory (fault.BadRules bad) = ⊥
-IsWantOfMemory fault.TooLong = ⊥
-IsWantOfMemory fault.TooMany = ⊥
-IsWantOfMemory fault.Memory = Unit {0}
+-- why no daemon starts over a disk in memory, which fails only where an entry of its calls finds no memory
+abbrev pub no_start_of : StartFault → NoStart
+no_start_of (fault.BadRules bad) = no_start.BadRules
+no_start_of fault.TooLong = no_start.TooLong
+no_start_of fault.TooMany = no_start.TooLong
+no_start_of (fault.Disk count) = no_start.Memory
+no_start_of fault.Memory = no_start.Memory
 
 -- a daemon was started, or can be
 abbrev pub can_start : SetupState → Phase → Bool

@@ -1,5 +1,5 @@
 -- What a script's setup lines give, and the policy that a daemon starts with then.
-use Rattle.std.specs.Prelude.{◌≡◌, ℕ, ◌+◌, ◌≤◌, ℤ, pos, neg_ℤ, ◌+ℤ◌, int_le, unsigned_abs, replicate, Bool, false, is_none, ◌&&◌, nat_lt, if◌then◌else◌, List, [], ◌∷◌, ◌++◌, length, drop, map, flat_map, Option, Some, None, IfSome, IsTrue, All, Result, Ok, Err}
+use Rattle.std.specs.Prelude.{◌≡◌, ℕ, ◌+◌, ◌≤◌, nat_le, ℤ, pos, neg_ℤ, ◌+ℤ◌, int_le, unsigned_abs, replicate, Bool, false, is_none, ◌&&◌, nat_lt, if◌then◌else◌, List, [], ◌∷◌, ◌++◌, length, drop, map, flat_map, Option, Some, None, IfSome, IsTrue, All, Result, Ok, Err}
 use Rattle.std.specs.Int.{int_rem_euclid}
 use Rattle.rand_chacha.specs.ChaCha.{next_word, of_seed}
 use Rattle.rand_core.specs.Steps.{stream_of, steps_u32}
@@ -19,8 +19,11 @@ use Rattle.ug_core.specs.Starting.{permanent_entries}
 use Rattle.ug_core.specs.Settings.{classes_of}
 use Rattle.ug_core.specs.Policy.{Judging}
 use Rattle.ug_core.specs.Event.{DaemonState}
-use Rattle.ug_print.specs.RuleTexts.{rules_text_of}
-use Rattle.ug_store.specs.DiskCalls.{Load}
+use Rattle.ug_print.specs.RuleTexts.{rules_limit, rules_text_of}
+use Rattle.ug_rule.specs.Files.{file_read}
+use Rattle.ug_types.specs.declared.text_fault.TextFault.{TextFault}
+use Rattle.ug_console.specs.Fold.{Fault, BadLine, InputTooLong}
+use Rattle.ug_store.specs.DiskCalls.{Load, file_limit}
 use Rattle.ug_store.specs.Scripted.{DiskWorld, past_within, world_at_first}
 use Rattle.ug_script.specs.declared.step.SetupLine.{SetupLine}
 use Rattle.ug_script.specs.declared.step.AccessLine.{AccessLine}
@@ -108,6 +111,10 @@ policy_of s = record {
   stream = seeded (given_or no_seed s.seed);
 }
 
+-- the same with other rules
+abbrev pub with_rules : List types.Rule → Judging → Judging
+with_rules rules p = record p { rules = permanent_entries 1 rules; next = length rules + 1 }
+
 -- the user or the group may do everything
 abbrev pub everything : Named → Addition
 everything who = addition who all_pairs
@@ -135,6 +142,26 @@ started_at number access policy = record { sweep = record { standings = []; next
 -- the first one of a script, whose events are numbered from 1
 abbrev pub started : SetupState → DaemonState
 started s = started_at 1 (access_of s) (policy_of s)
+
+-- ---- the rules that a daemon starts with
+
+-- no more than 65,536, with a canonical text for which a rule file has room
+abbrev pub rules_taken : List types.Rule → Result (List types.Rule) Fault
+rules_taken rules = if nat_le (length rules) 65536 && nat_le (length (rules_text_of rules)) rules_limit then Ok rules else Err InputTooLong
+
+abbrev pub rules_if_read : Result (List types.Rule) TextFault → Result (List types.Rule) Fault
+rules_if_read (Ok rules) = rules_taken rules
+rules_if_read (Err bad) = Err BadLine
+
+-- those of the text of a rule file, or why no daemon starts with it
+abbrev pub rules_from : List ℕ → Result (List types.Rule) Fault
+rules_from text = if nat_le (length text) file_limit then rules_if_read (file_read text) else Err InputTooLong
+
+-- a daemon that starts over that disk, whose first event has that number
+pub record StartsOn (s : SetupState) (number : ℕ) (o : DiskWorld) (d : DaemonState) : Type 0 where
+  pub rules : List types.Rule
+  pub loaded : rules_from o.disk.text ≡ Ok rules
+  pub is : d ≡ started_at number (access_of s) (with_rules rules (policy_of s))
 
 -- ---- what lines ask for
 

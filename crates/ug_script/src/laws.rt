@@ -9,7 +9,7 @@ ghost use Rattle.ug_kernel.specs.Kernel.{IsKernel};
 ghost use Rattle.ug_sysfs.specs.World.{World};
 ghost use Rattle.ug_audit.specs.declared.entry.Entry.TheVariants as entry;
 ghost use Rattle.ug_audit.specs.declared.entry.Fault.TheVariants as fault;
-ghost use Rattle.ug_script.specs.Example.{ruled, hub_world, event_at, event_with, plugged_in, replaced, failing};
+ghost use Rattle.ug_script.specs.Example.{first_played, event_at, event_with, plugged_in, replaced, failing};
 ghost use Rattle.ug_script.specs.declared.step.AccessLine.{AccessLine};
 ghost use Rattle.ug_script.specs.declared.step.SetupLine.TheVariants.{Access};
 ghost use Rattle.ug_script.specs.Grammar.{grant_of, IsAccess};
@@ -40,36 +40,36 @@ pub fn script_law()
 /// reaches nobody, and the newcomer is blocked by the next event. Where the write fails, the key is named with the number of that
 /// call, and the next event finds it as judged, for the write had its effect.
 pub fn worked_law()
-    ensures start { (event_at 100 (ruled, hub_world)).0.sweep.entries
+    ensures start { (event_at 100 first_played).daemon.sweep.entries
         ≡ entry.Event 1 (record { 0 = 100 })
         ∷ entry.Judged 1 (codes "usb1") (record { 0 = 0 }) target.Allow cause.Keep
         ∷ entry.End 1 ∷ [] }
-    ensures allowed { (event_at 101 plugged_in).0.sweep.entries
+    ensures allowed { (event_at 101 plugged_in).daemon.sweep.entries
         ≡ entry.Event 2 (record { 0 = 101 })
         ∷ entry.Judged 2 (codes "1-1") (record { 0 = 1 }) target.Allow (cause.Rule 1)
         ∷ entry.Intent 2 (codes "1-1") write.On
         ∷ entry.Wrote 2 (codes "1-1") write.On wrote.Done
         ∷ entry.End 2 ∷ [] }
-    ensures written { (event_at 101 plugged_in).1.kernel.log ≡ record { device = 1; write = write.On } ∷ [] }
-    ensures replaced { (event_with 101 replaced [] plugged_in).0.sweep.entries
+    ensures written { (event_at 101 plugged_in).world.kernel.log ≡ record { device = 1; write = write.On } ∷ [] }
+    ensures replaced { (event_with 101 replaced [] plugged_in).daemon.sweep.entries
         ≡ entry.Event 2 (record { 0 = 101 })
         ∷ entry.Judged 2 (codes "1-1") (record { 0 = 1 }) target.Allow (cause.Rule 1)
         ∷ entry.Intent 2 (codes "1-1") write.On
         ∷ entry.Wrote 2 (codes "1-1") write.On wrote.Gone
         ∷ entry.Gone 2 (codes "1-1")
         ∷ entry.End 2 ∷ [] }
-    ensures unwritten { (event_with 101 replaced [] plugged_in).1.kernel.log ≡ [] }
-    ensures newcomer { (event_at 102 (event_with 101 replaced [] plugged_in)).0.sweep.entries
+    ensures unwritten { (event_with 101 replaced [] plugged_in).world.kernel.log ≡ [] }
+    ensures newcomer { (event_at 102 (event_with 101 replaced [] plugged_in)).daemon.sweep.entries
         ≡ entry.Event 3 (record { 0 = 102 })
         ∷ entry.Judged 3 (codes "1-1") (record { 0 = 2 }) target.Block cause.Implicit
         ∷ entry.End 3 ∷ [] }
-    ensures failed { (event_with 101 [] failing plugged_in).0.sweep.entries
+    ensures failed { (event_with 101 [] failing plugged_in).daemon.sweep.entries
         ≡ entry.Event 2 (record { 0 = 101 })
         ∷ entry.Judged 2 (codes "1-1") (record { 0 = 1 }) target.Allow (cause.Rule 1)
         ∷ entry.Intent 2 (codes "1-1") write.On
         ∷ entry.Wrote 2 (codes "1-1") write.On wrote.Failed
         ∷ entry.Unsettled (codes "1-1") (fault.Call (record { call = 12; count = 1 }))
         ∷ entry.End 2 ∷ [] }
-    ensures again { (event_at 102 (event_with 101 [] failing plugged_in)).0.sweep.entries
+    ensures again { (event_at 102 (event_with 101 [] failing plugged_in)).daemon.sweep.entries
         ≡ entry.Event 3 (record { 0 = 102 }) ∷ entry.End 3 ∷ [] }
 {}

@@ -43,7 +43,7 @@ fn plan_or_other(alloc: Global, line: &[u8]) -> Result<Step, StepFault>
 }
 
 /// Reads a line that is not the first. An empty line and a comment are skipped. `plug` and `unplug` tell what the kernel does by
-/// itself; `before`, `after` and `fail` speak of a call of the next event; `sweep` and `order` are events; `restart` begins another run of
+/// itself; `before`, `after`, `fail` and `disk fail` speak of a call of the next event; `sweep` and `order` are events; `restart` begins another run of
 /// the daemon; `rule`, `conf`, `access`, `seed` and `zone` stand before all others.
 #[tactic(auto, unfolding(crate::specs::Grammar::step_of_line))]
 pub fn parse_line(alloc: Global, line: &[u8]) -> Result<Step, StepFault>

@@ -2,7 +2,7 @@
 ghost use Rattle.std.specs.Prelude.{◌≡◌, nat_eq};
 ghost use Rattle.std.specs.List.{position};
 ghost use Rattle.ug_script.specs.Grammar as grammar;
-ghost use Rattle.ug_script.specs.Grammar.{fail_of, fail_plan, move_of, move_plan, plan_of};
+ghost use Rattle.ug_script.specs.Grammar.{disk_plan, fail_plan, failing_at, failing_of, fails_of, move_of, move_plan, plan_of};
 ghost use Rattle.ug_script.specs.Words as words;
 ghost use Rattle.ug_script.specs.Words.{Parses};
 
@@ -10,6 +10,7 @@ use crate::move_lines::move_line;
 use crate::step::{Plan, StepFault};
 use crate::words::{moment, space};
 use std::alloc::Global;
+use ug_store::{Mishap, Planned};
 use ug_sysfs::{Failing, Scheduled};
 
 /// The number of a call, from 1 to 1,048,576.
@@ -55,28 +56,73 @@ fn planned_move(alloc: Global, after: bool, text: &[u8]) -> Result<Plan, StepFau
     }
 }
 
-fn fail_at(effect: bool, text: &[u8]) -> Option<Plan>
-    ensures { result ≡ fail_plan effect (words.call_of text.now) }
+fn failing_at(effect: bool, text: &[u8]) -> Option<Failing>
+    ensures { result ≡ failing_at effect (words.call_of text.now) }
 {
     match call(text) {
         None => None,
-        Some(call) => Some(Plan::Fail(Failing { call, effect })),
+        Some(call) => Some(Failing { call, effect }),
     }
 }
 
 /// `CALL` or `CALL effect`.
-#[tactic(auto, unfolding(crate::specs::Grammar::fail_of))]
-fn fail(text: &[u8]) -> Option<Plan>
-    ensures { result ≡ fail_of text.now }
+#[tactic(auto, unfolding(crate::specs::Grammar::failing_of))]
+fn failing(text: &[u8]) -> Option<Failing>
+    ensures { result ≡ failing_of text.now }
 {
     if text.ends_with(b" effect") {
-        return fail_at(true, &text[..text.len() - 7]);
+        return failing_at(true, &text[..text.len() - 7]);
     }
-    fail_at(false, text)
+    failing_at(false, text)
+}
+
+fn planned_fail(text: &[u8]) -> Option<Plan>
+    ensures { result ≡ fail_plan (failing_of text.now) }
+{
+    match failing(text) {
+        Some(failing) => Some(Plan::Fail(failing)),
+        None => None,
+    }
+}
+
+fn mishap(effect: bool) -> Mishap
+    ensures { result ≡ grammar.mishap_of effect }
+{
+    if effect {
+        Mishap::Effect
+    } else {
+        Mishap::NoEffect
+    }
+}
+
+fn planned_disk_fail(text: &[u8]) -> Option<Plan>
+    ensures { result ≡ disk_plan (failing_of text.now) }
+{
+    match failing(text) {
+        Some(failing) => Some(Plan::FailDisk(Planned {
+            call: failing.call,
+            mishap: mishap(failing.effect),
+        })),
+        None => None,
+    }
+}
+
+#[tactic(auto, unfolding(crate::specs::Grammar::fails_of))]
+fn fail_line(line: &[u8]) -> Option<Plan>
+    ensures { result ≡ fails_of line.now }
+{
+    if line.starts_with(b"fail ") {
+        return planned_fail(&line[5..]);
+    }
+    if line.starts_with(b"disk fail ") {
+        return planned_disk_fail(&line[10..]);
+    }
+    None
 }
 
 /// Reads a line for a call of the next event. `before` and `after` take a call's number, from 1 to 1,048,576, and a `plug` or
-/// an `unplug` line. `fail` takes a call's number, and `effect` behind it where a write is to have its effect all the same.
+/// an `unplug` line. `fail` takes a call's number, and `effect` behind it where a write is to have its effect all the same. `disk fail`
+/// takes the same of a call of the disk.
 #[tactic(auto, unfolding(crate::specs::Grammar::plan_of))]
 pub fn plan_line(alloc: Global, line: &[u8]) -> Result<Plan, StepFault>
     ensures { Parses (plan_of line.now) result }
@@ -87,8 +133,5 @@ pub fn plan_line(alloc: Global, line: &[u8]) -> Result<Plan, StepFault>
     if line.starts_with(b"after ") {
         return planned_move(alloc, true, &line[6..]);
     }
-    if line.starts_with(b"fail ") {
-        return fail(&line[5..]).ok_or(StepFault::Bad);
-    }
-    Err(StepFault::Bad)
+    fail_line(line).ok_or(StepFault::Bad)
 }

@@ -1,8 +1,7 @@
 // How far a script has come.
-ghost use Rattle.ug_script.specs.Script.{IsOnDisk, phase_of};
-
 use crate::session::Session;
 use crate::setup::Setup;
+use ug_store::Planned;
 
 /// How far a script has come.
 #[derive(Drop)]
@@ -15,10 +14,10 @@ pub enum Phase {
     Started(Session),
 }
 
-/// What the setup lines gave, and how far the script has come. The disk of a daemon holds the rules of the setup.
+/// What the setup lines gave, how far the script has come, and which calls of the disk are to fail in the next event.
 #[derive(Drop)]
 pub struct Running {
     pub setup: Setup,
     pub phase: Phase,
-    ghost on_disk: { IsOnDisk setup (phase_of phase) },
+    pub plan: Vec<Planned>,
 }

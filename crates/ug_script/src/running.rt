@@ -1,5 +1,5 @@
 // A script whose first line was read.
-ghost use Rattle.std.specs.Prelude.{◌≡◌, ◌⊎◌, ◌≤◌, ◌-◌, ℕ, false, List, Option, Some, IfOk, OnOk};
+ghost use Rattle.std.specs.Prelude.{◌≡◌, ◌≤◌, ◌-◌, ◌++◌, ◌∷◌, [], ℕ, false, List, Option, Some, IfOk, OnOk};
 ghost use Rattle.ug_types.specs.Ends.{Rose};
 ghost use Rattle.ug_console.specs.Runs.{Steps};
 ghost use Rattle.ug_sysfs.specs.World.{World, moved};
@@ -8,8 +8,11 @@ ghost use Rattle.ug_script.specs.Generating.{skimmed, skimmed_if};
 ghost use Rattle.ug_script.specs.Grammar.{AsksForRule, AsksForRules, step_of_line};
 ghost use Rattle.ug_script.specs.Replay as replay;
 ghost use Rattle.ug_script.specs.Script as script;
-ghost use Rattle.ug_script.specs.Script.{HoldsRules, daemon_in, fresh, phase_of, with_setup_closed};
-ghost use Rattle.ug_script.specs.Replay.{event_taken, line_taken, restart_taken, script_of, taken, taken_if, with_restart};
+ghost use Rattle.ug_script.specs.Script.{daemon_in, fresh, phase_of, with_setup_closed};
+ghost use Rattle.ug_script.specs.Setup.{rules_from};
+ghost use Rattle.ug_store.specs.declared.mishap.Planned.{Planned};
+ghost use Rattle.ug_core.specs.Event.{daemon_of};
+ghost use Rattle.ug_script.specs.Replay.{event_by, event_taken, line_taken, restart_taken, restarted, script_of, started_script, taken, taken_if, with_plan};
 
 use crate::events::next_event;
 use crate::parse::parse_line;
@@ -19,9 +22,10 @@ use crate::setup::Setup;
 use crate::start::{NoStart, restart_daemon, start_daemon};
 use crate::step::{Plan, SetupLine, Step, StepFault};
 use std::alloc::Global;
-use std::mem;
 use ug_console::Ran;
 use ug_core::Event;
+use ug_print::RulesTextFault;
+use ug_store::Planned;
 use ug_sysfs::{Move, SimKernel};
 use ug_types::{NoMemory, Sink};
 
@@ -38,12 +42,47 @@ fn refuse(_line: SetupLine) -> Ran
     Ran::Bad
 }
 
-fn schedule(kernel: &mut SimKernel, plan: Plan) -> Result<(), NoMemory>
-    ensures { OnOk result (kernel.new ≡ replay.planned plan kernel.old) }
+fn add_planned(plan: &mut Vec<Planned>, planned: Planned) -> Result<(), NoMemory>
+    ensures { OnOk result (plan.new.items ≡ plan.old.items ++ planned ∷ []) }
 {
-    match plan {
-        Plan::Move(next) => kernel.schedule(next.call, next.after, next.action),
-        Plan::Fail(failing) => kernel.fail(failing.call, failing.effect),
+    plan.push(planned)?;
+    Ok(())
+}
+
+/// The next event, which takes what was planned for the disk.
+fn planned_event<K: Sink>(
+    alloc: Global,
+    session: &mut Session,
+    plan: &mut Vec<Planned>,
+    event: &Event,
+    kernel: &mut SimKernel,
+    out: &mut K,
+) -> Ran
+    ensures ran { Steps (event_by event.now plan.old.items (daemon_of session.old.daemon) kernel.old session.old.disk)
+        (record { daemon = daemon_of session.new.daemon; world = kernel.new; disk = session.new.disk })
+        (K.held out.old) (K.held out.new) result }
+    ensures planned { plan.new.items ≡ [] }
+    ensures counted { K.faults out.old ≤ K.faults out.new }
+    ensures cause { result ≡ Ran.SinkFailed → Rose (K.faults out.old) (K.faults out.new) }
+{
+    let ran = next_event(alloc, session, plan.as_slice(), event, kernel, out);
+    plan.clear();
+    ran
+}
+
+/// Another daemon in place of that one, where the rule file gives one.
+fn restart_session(alloc: Global, setup: &Setup, session: &mut Session) -> Ran
+    ensures silent { ¬ (result ≡ Ran.SinkFailed) }
+    ensures ran { (plan : List Planned) (w : World) (held : Option (List ℕ))
+        → Steps (restarted (rules_from session.old.disk.disk.text)
+        (started_script setup.now session.old plan) w)
+        (Some (started_script setup.now session.new plan), w) held held result }
+{
+    match restart_daemon(alloc, setup, session) {
+        Ok(()) => Ran::Done,
+        Err(NoStart::BadRules) => Ran::Bad,
+        Err(NoStart::TooLong) => Ran::TooLong,
+        Err(NoStart::Memory) => Ran::Memory,
     }
 }
 
@@ -54,6 +93,7 @@ impl Running {
         Ok(Running {
             setup: Setup::new(alloc)?,
             phase: Phase::SettingUp,
+            plan: Vec::new(alloc),
         })
     }
 
@@ -130,28 +170,13 @@ impl Running {
         match start_daemon(alloc, &self.setup) {
             Ok(session) => {
                 let mut session = session;
-                let ran = next_event(alloc, &mut session, event, kernel, out);
+                let plan = &mut self.plan;
+                let ran = planned_event(alloc, &mut session, plan, event, kernel, out);
                 self.phase = Phase::Started(session);
                 ran
             }
-            Err(NoStart::TooLong) => Ran::TooLong,
-            Err(NoStart::Memory) => Ran::Memory,
-        }
-    }
-
-    /// Another daemon in place of that one.
-    fn restart_from(&mut self, alloc: Global, session: Session) -> Ran
-        requires unstarted { script.has_started (phase_of self.old.phase) ≡ false }
-        requires rules { HoldsRules self.old.setup session.disk }
-        ensures done { result ≡ Ran.Done → script_of self.new ≡ with_restart (record (script_of self.old) { phase = phase_of (Phase.Started session) }) }
-        ensures answers { (result ≡ Ran.Done) ⊎ (result ≡ Ran.Memory) }
-    {
-        match restart_daemon(alloc, &self.setup, session) {
-            Ok(session) => {
-                self.phase = Phase::Started(session);
-                Ran::Done
-            }
-            Err(_) => Ran::Memory,
+            Err(RulesTextFault::TooLong) => Ran::TooLong,
+            Err(RulesTextFault::Memory) => Ran::Memory,
         }
     }
 
@@ -163,9 +188,14 @@ impl Running {
             (Some (script_of self.new), w) held held result }
     {
         match start_daemon(alloc, &self.setup) {
-            Ok(session) => self.restart_from(alloc, session),
-            Err(NoStart::TooLong) => Ran::TooLong,
-            Err(NoStart::Memory) => Ran::Memory,
+            Ok(session) => {
+                let mut session = session;
+                let ran = restart_session(alloc, &self.setup, &mut session);
+                self.phase = Phase::Started(session);
+                ran
+            }
+            Err(RulesTextFault::TooLong) => Ran::TooLong,
+            Err(RulesTextFault::Memory) => Ran::Memory,
         }
     }
 
@@ -175,13 +205,10 @@ impl Running {
         ensures ran { (w : World) (held : Option (List ℕ)) → Steps (restart_taken (script_of self.old) w)
             (Some (script_of self.new), w) held held result }
     {
-        match mem::replace(&mut self.phase, Phase::Unstarted) {
-            Phase::Started(session) => self.restart_from(alloc, session),
-            other => {
-                self.phase = other;
-                self.first_restart(alloc)
-            }
+        if let Phase::Started(session) = &mut self.phase {
+            return restart_session(alloc, &self.setup, session);
         }
+        self.first_restart(alloc)
     }
 
     fn event<K: Sink>(
@@ -197,9 +224,29 @@ impl Running {
         ensures cause { result ≡ Ran.SinkFailed → Rose (K.faults out.old) (K.faults out.new) }
     {
         if let Phase::Started(session) = &mut self.phase {
-            return next_event(alloc, session, event, kernel, out);
+            return planned_event(alloc, session, &mut self.plan, event, kernel, out);
         }
         self.first_event(alloc, event, kernel, out)
+    }
+
+    /// Takes what is to come at a call of the next event, and writes nothing.
+    fn schedule(&mut self, plan: Plan, kernel: &mut SimKernel) -> Ran
+        ensures silent { ¬ (result ≡ Ran.SinkFailed) }
+        ensures ran { (held : Option (List ℕ))
+            → Steps (replay.quiet (with_plan plan (with_setup_closed (script_of self.old)))
+            (replay.planned plan kernel.old))
+            (Some (script_of self.new), kernel.new) held held result }
+    {
+        self.close();
+        let scheduled = match plan {
+            Plan::Move(next) => kernel.schedule(next.call, next.after, next.action),
+            Plan::Fail(failing) => kernel.fail(failing.call, failing.effect),
+            Plan::FailDisk(planned) => add_planned(&mut self.plan, planned),
+        };
+        match scheduled {
+            Ok(()) => Ran::Done,
+            Err(_) => Ran::Memory,
+        }
     }
 
     /// Takes a line behind the first, and writes its text.
@@ -240,13 +287,7 @@ impl Running {
             Step::Skip => Ran::Done,
             Step::Setup(line) => self.set_up(line),
             Step::Move(action) => self.carry_out(action, kernel),
-            Step::Schedule(plan) => {
-                self.close();
-                match schedule(kernel, plan) {
-                    Ok(()) => Ran::Done,
-                    Err(_) => Ran::Memory,
-                }
-            }
+            Step::Schedule(plan) => self.schedule(plan, kernel),
             Step::Event(event) => self.event(alloc, &event, kernel, out),
             Step::Restart => self.restart(alloc),
         }

@@ -1,14 +1,14 @@
 // The daemons that a script starts.
-ghost use Rattle.std.specs.Prelude.{◌≡◌, ◌≤◌, length, pos, true, false, Err, Ok, IfOk, IfSome, IsTrue, OnOk};
+ghost use Rattle.std.specs.Prelude.{◌≡◌, ◌≤◌, length, pos, true, false, Err, Ok, IfOk, IfSome, IsTrue, OnErr, OnOk};
+ghost use Rattle.ug_console.specs.Fold.{BadLine, InputTooLong};
 ghost use Rattle.ug_core.specs.Event.{daemon_of};
 ghost use Rattle.ug_core.specs.Policy.{clock_of};
 ghost use Rattle.ug_core.specs.Settings.{classes_of};
 ghost use Rattle.ug_rule.specs.Files.{file_read};
 ghost use Rattle.ug_store.specs.Scripted.{world_at_first};
 ghost use Rattle.ug_print.specs.RuleTexts.{rules_text_of};
-ghost use Rattle.ug_script.specs.Script.{HoldsRules, IsWantOfMemory, fits_file};
-ghost use Rattle.ug_script.specs.Setup as setups;
-ghost use Rattle.ug_script.specs.Setup.{after_reading, clock_ahead, given_or, is_offset, no_seed, policy_of, rules_disk, started, started_at};
+ghost use Rattle.ug_script.specs.Script.{fits_file, no_start_of};
+ghost use Rattle.ug_script.specs.Setup.{StartsOn, after_reading, clock_ahead, given_or, is_offset, no_seed, policy_of, rules_disk, rules_from, started};
 
 use crate::access::access_of;
 use crate::session::Session;
@@ -23,12 +23,25 @@ use ug_print::{RulesTextFault, rules_text};
 use ug_store::MemDisk;
 use ug_types::NoMemory;
 
-/// Why no daemon is started.
+/// Why no daemon starts over a disk.
 #[derive(Clone, Copy, Debug, PartialEq, Eq)]
 pub enum NoStart {
-    /// The text of the rules would have more than 67,108,864 bytes.
+    /// The rule file isn't in the grammar.
+    BadRules,
+    /// It has more than 67,108,864 bytes, or its rules have, or there are more than 65,536 of them.
     TooLong,
     Memory,
+}
+
+impl From<NoMemory> for NoStart {
+    ghost use Rattle.std.specs.Prelude.{◌≡◌};
+    ghost use Rattle.ug_script.specs.declared.start.NoStart.TheVariants.{Memory};
+
+    ghost from_gives = { λ _ fault. fault ≡ Memory };
+
+    fn from(_fault: NoMemory) -> NoStart {
+        NoStart::Memory
+    }
 }
 
 /// The zone whose clocks are always so many seconds ahead of UTC, less than a day.
@@ -89,31 +102,27 @@ fn settings_of(alloc: Global, setup: &Setup) -> Result<Settings, NoMemory>
 }
 
 /// The disk whose rule file holds the rules.
-#[tactic(auto, using(crate::proofs::Starts::fits_by, crate::proofs::Starts::long_by))]
-fn disk_of(alloc: Global, setup: &Setup) -> Result<MemDisk, NoStart>
+fn disk_of(alloc: Global, setup: &Setup) -> Result<MemDisk, RulesTextFault>
     ensures disk { IfOk result (λ disk. disk ≡ world_at_first (rules_text_of setup.now.rules)) }
     ensures reads { OnOk result (file_read (rules_text_of setup.now.rules) ≡ Ok setup.now.rules) }
     ensures fits { OnOk result (fits_file setup.now ≡ true) }
-    ensures too_long { result ≡ Err NoStart.TooLong → fits_file setup.now ≡ false }
+    ensures too_long { result ≡ Err RulesTextFault.TooLong → fits_file setup.now ≡ false }
 {
-    let text = match rules_text(alloc, setup.rules.as_slice()) {
-        Ok(text) => text,
-        Err(RulesTextFault::TooLong) => return Err(NoStart::TooLong),
-        Err(RulesTextFault::Memory) => return Err(NoStart::Memory),
-    };
+    let text = rules_text(alloc, setup.rules.as_slice())?;
     match MemDisk::with_text(alloc, text.bytes()) {
         Ok(disk) => Ok(disk),
-        Err(_) => Err(NoStart::Memory),
+        Err(_) => Err(RulesTextFault::Memory),
     }
 }
 
-/// A disk in memory fails only where an entry of its calls finds no memory.
-fn want_of_memory(fault: StartFault) -> NoMemory
-    requires { IsWantOfMemory fault }
+/// Why a start was refused. A disk in memory fails only where an entry of its calls finds no memory.
+fn no_start(fault: StartFault) -> NoStart
+    ensures { result ≡ no_start_of fault }
 {
     match fault {
-        StartFault::Disk(_) | StartFault::Memory => NoMemory,
-        StartFault::BadRules(_) | StartFault::TooLong | StartFault::TooMany => unreachable!(),
+        StartFault::BadRules(_) => NoStart::BadRules,
+        StartFault::TooLong | StartFault::TooMany => NoStart::TooLong,
+        StartFault::Disk(_) | StartFault::Memory => NoStart::Memory,
     }
 }
 
@@ -126,48 +135,55 @@ fn are_few(setup: &Setup) -> bool
 }
 
 /// A daemon that reads its rules from that disk, whose first event has that number.
-fn start_on(alloc: Global, setup: &Setup, first: u64, disk: MemDisk) -> Result<Session, NoMemory>
-    requires rules { HoldsRules setup.now disk }
-    requires faultless { disk.faults ≡ 0 }
-    ensures daemon { IfOk result (λ s. daemon_of s.daemon
-        ≡ started_at first (setups.access_of setup.now) (policy_of setup.now)) }
-    ensures disk { IfOk result (λ s. s.disk ≡ after_reading disk) }
+fn start_on(
+    alloc: Global,
+    setup: &Setup,
+    first: u64,
+    disk: &mut MemDisk,
+) -> Result<Daemon<'static, ChaCha20Rng>, NoStart>
+    ensures started { IfOk result (λ daemon. StartsOn setup.now first disk.old (daemon_of daemon)) }
+    ensures bad { result ≡ Err NoStart.BadRules → rules_from disk.old.disk.text ≡ Err BadLine }
+    ensures too_long { result ≡ Err NoStart.TooLong → rules_from disk.old.disk.text ≡ Err InputTooLong }
+    ensures read { (result ≡ Err NoStart.Memory → ⊥) → disk.new ≡ after_reading disk.old }
 {
-    let few = are_few(setup);
-    prove!(few);
     let settings = settings_of(alloc, setup)?;
     let access = access_of(alloc, setup)?;
     let rng = rng_for(setup);
     let zone = zone_for(setup);
-    let mut disk = disk;
-    match Daemon::start(alloc, settings, access, rng, zone, first, &mut disk) {
-        Ok(daemon) => Ok(Session { daemon, disk }),
-        Err(fault) => Err(want_of_memory(fault)),
+    match Daemon::start(alloc, settings, access, rng, zone, first, disk) {
+        Ok(daemon) => Ok(daemon),
+        Err(fault) => Err(no_start(fault)),
     }
 }
 
 /// The daemon that judges by the setup lines, before its first event, which is number 1.
-pub fn start_daemon(alloc: Global, setup: &Setup) -> Result<Session, NoStart>
+pub fn start_daemon(alloc: Global, setup: &Setup) -> Result<Session, RulesTextFault>
     ensures daemon { IfOk result (λ s. daemon_of s.daemon ≡ started setup.now) }
     ensures disk { IfOk result (λ s. s.disk ≡ rules_disk setup.now) }
-    ensures rules { OnOk result (HoldsRules setup.now (rules_disk setup.now)) }
-    ensures too_long { result ≡ Err NoStart.TooLong → fits_file setup.now ≡ false }
+    ensures fits { OnOk result (fits_file setup.now ≡ true) }
+    ensures too_long { result ≡ Err RulesTextFault.TooLong → fits_file setup.now ≡ false }
 {
-    let disk = disk_of(alloc, setup)?;
-    match start_on(alloc, setup, 1, disk) {
-        Ok(session) => Ok(session),
-        Err(_) => Err(NoStart::Memory),
+    let few = are_few(setup);
+    prove!(few);
+    let mut disk = disk_of(alloc, setup)?;
+    match start_on(alloc, setup, 1, &mut disk) {
+        Ok(daemon) => Ok(Session { daemon, disk }),
+        Err(NoStart::Memory) => Err(RulesTextFault::Memory),
+        Err(NoStart::BadRules | NoStart::TooLong) => unreachable!(),
     }
 }
 
-/// A new daemon over the same disk, whose first event has the number that the daemon before would have given it.
-pub fn restart_daemon(alloc: Global, setup: &Setup, session: Session) -> Result<Session, NoMemory>
-    requires { HoldsRules setup.now session.disk }
-    ensures daemon { IfOk result (λ s. daemon_of s.daemon
-        ≡ started_at (daemon_of session.daemon).event
-        (setups.access_of setup.now) (policy_of setup.now)) }
-    ensures disk { IfOk result (λ s. s.disk ≡ after_reading session.disk) }
+/// A new daemon over the same disk, whose first event has the number that the daemon before would have given it. Where none starts, the one
+/// before stays.
+pub fn restart_daemon(alloc: Global, setup: &Setup, session: &mut Session) -> Result<(), NoStart>
+    ensures started { OnOk result (StartsOn setup.now (daemon_of session.old.daemon).event
+        session.old.disk (daemon_of session.new.daemon)) }
+    ensures kept { OnErr result (session.new.daemon ≡ session.old.daemon) }
+    ensures bad { result ≡ Err NoStart.BadRules → rules_from session.old.disk.disk.text ≡ Err BadLine }
+    ensures too_long { result ≡ Err NoStart.TooLong → rules_from session.old.disk.disk.text ≡ Err InputTooLong }
+    ensures read { (result ≡ Err NoStart.Memory → ⊥) → session.new.disk ≡ after_reading session.old.disk }
 {
     let first = session.daemon.next_event();
-    start_on(alloc, setup, first, session.disk)
+    session.daemon = start_on(alloc, setup, first, &mut session.disk)?;
+    Ok(())
 }

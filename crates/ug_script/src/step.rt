@@ -1,6 +1,7 @@
 // What a line of a script asks for.
 use ug_acl::Grants;
 use ug_core::Event;
+use ug_store::Planned;
 use ug_sysfs::{Failing, Move, Scheduled};
 use ug_types::{Principal, Rule, Text};
 
@@ -31,8 +32,10 @@ pub enum SetupLine {
 pub enum Plan {
     /// A move comes.
     Move(Scheduled),
-    /// The call fails.
+    /// The call of the kernel fails.
     Fail(Failing),
+    /// The call of the disk fails.
+    FailDisk(Planned),
 }
 
 /// One line's step.

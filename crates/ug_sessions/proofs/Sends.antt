@@ -183,10 +183,6 @@ sent_by a sent s steps r rest o e (inr p) h =
     let front : IsFront (sent ++ sent_to s.id steps) a.text = (rest, sym (append_assoc sent (sent_to s.id steps) rest ∙ ap (λ (l : List ℕ). sent ++ l) e ∙ h.text)) in
     subst (λ (x : Session). Accounts a (sent ++ sent_to s.id steps) x) (sym p) front
 
-same_id : (s : Session) (rest : List ℕ) (r : Session) → (r ≡ left s rest) ⊎ (r ≡ cut s) → r.id ≡ s.id
-same_id s rest r (inl p) = ap (λ (x : Session). x.id) p
-same_id s rest r (inr p) = ap (λ (x : Session). x.id) p
-
 sending_open : (a : Dues) (sent : List ℕ) (s : Session) (t : Turn) (steps : List LinkStep) (r : Session × Turn) → s.life ≡ life.Open → Path (sending_if true s t) steps r → Accounts a sent s → Accounts a (sent ++ sent_to s.id steps) r.0
 sending_open a sent s t steps r o h k =
     let p = path_split (upto writing_some (length s.unsent) (s, t)) (λ (q : Session × Turn). finishing q.0 q.1) steps r h in

@@ -5,3 +5,4 @@ pub mod Saving
 pub mod Standing
 mod Mishaps
 pub mod Playing
+pub mod PlayedDisk

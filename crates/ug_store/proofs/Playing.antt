@@ -20,7 +20,8 @@ EndsByMemory wants (Ended value) = Unit {0}
 EndsByMemory {R} wants (AskDisk call next) = (a : DiskTold call) → (WantsMemory call a.answer → (q : R) × (next a ≡ Ended q) × wants q) × EndsByMemory wants (next a)
 EndsByMemory {R} wants (DiskRoom next) = ((q : R) × (next false ≡ Ended q) × wants q) × EndsByMemory wants (next true)
 
-run_stays_out : {R : Type 0} (p : DiskProg R) (s : DiskWorld) (r : R) (t : DiskWorld) → RunsDisk MemKeeps s p r t → s.ran_out ≡ true → t.ran_out ≡ true
+-- a disk that has run out stays so along a run
+pub run_stays_out : {R : Type 0} (p : DiskProg R) (s : DiskWorld) (r : R) (t : DiskWorld) → RunsDisk MemKeeps s p r t → s.ran_out ≡ true → t.ran_out ≡ true
 run_stays_out (Ended value) s r t h out = ap (λ (w : DiskWorld). w.ran_out) h.1 ∙ out
 run_stays_out (AskDisk call next) s r t h out = run_stays_out (next h.0) h.1 r t h.3 (mem_stays_out s call h.0 h.1 h.2 out)
 run_stays_out (DiskRoom next) s r t h out = run_stays_out (next h.0) s r t h.1 out

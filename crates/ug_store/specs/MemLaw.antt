@@ -59,7 +59,7 @@ told_if : (b : Bool) (m n : Disk) → cond b None (Some m) ≡ Some n → m ≡ 
 told_if true m n e = let no : ⊥ = cc in absurd no
 told_if false m n e = cc
 
-told_in : (s : DiskWorld) → s.ran_out ≡ false → disk_told s ≡ Some s.disk
+pub told_in : (s : DiskWorld) → s.ran_out ≡ false → disk_told s ≡ Some s.disk
 told_in s e = ap (λ (b : Bool). cond b None (Some s.disk)) e
 
 told_not : (t : DiskWorld) (n : Disk) → t.ran_out ≡ true → disk_told t ≡ Some n → ⊥
@@ -100,7 +100,8 @@ mem_did s call a t n (inr (inl h)) e =
     }
 mem_did s call a t n (inr (inr h)) e = absurd (told_not t n (ap (λ (w : DiskWorld). w.ran_out) h.after) e)
 
-up_within : (n : ℕ) → (n ≤ one_up n) × (one_up n ≤ n + 1)
+-- one up is at least as much, and at most one more
+pub up_within : (n : ℕ) → (n ≤ one_up n) × (one_up n ≤ n + 1)
 up_within n =
     elim (nat_lt n (2 ^ 64 - 1)) as (λ b. (n ≤ cond b (n + 1) n) × (cond b (n + 1) n ≤ n + 1)) [
       | true ↦ (omega arith, omega arith)

@@ -10,6 +10,6 @@ mod store;
 pub use disk::{DiskAnswer, Loaded, RuleDisk};
 pub use laws::{history_law, mishap_law, moment_law, play_disk_law, run_out_law};
 pub use mem_disk::MemDisk;
-pub use mishap::Mishap;
+pub use mishap::{Mishap, Planned};
 pub use store::{RecoverFault, Store};
 pub use ug_types::Saved;

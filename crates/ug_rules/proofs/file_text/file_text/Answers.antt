@@ -3,11 +3,11 @@ use Rattle.std.specs.Prelude.{All, flat_map, option_copied}
 use Rattle.std.proofs.lemmas.List.{take_all}
 use Rattle.ug_policy.specs.declared.entry.RuleEntry.{RuleEntry}
 use Rattle.ug_print.specs.Bytes.{RuleOfBytes}
-use Rattle.ug_print.specs.RuleTexts.{rules_limit, rules_text_of}
+use Rattle.ug_print.specs.RuleTexts.{rules_limit}
 use Rattle.ug_print.specs.declared.rule_texts.RulesTextFault.{RulesTextFault}
 use Rattle.ug_print.specs.declared.rule_texts.RulesTextFault.TheVariants as fault
-use Rattle.ug_rules.specs.RuleEdits.{in_front, in_place, rules_after}
-use Rattle.ug_rules.proofs.FileTexts.{bytes_more, bytes_whole, long_at, rules_up_to, text_more}
+use Rattle.ug_rules.specs.RuleEdits.{in_front, in_place}
+use Rattle.ug_rules.proofs.FileTexts.{bytes_more, bytes_whole, long_at, text_more}
 use Rattle.ug_rules.proofs.file_text.file_text.Goals as goal
 
 pub returns-in-Err-clause-too_long : goal.returns-in-Err-clause-too_long

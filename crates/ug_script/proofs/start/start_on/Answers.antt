@@ -1,24 +1,28 @@
-use Rattle.std.proofs.Common.{ap, ◌∙◌}
-use Rattle.ug_store.specs.Scripted.{DiskWorld}
-use Rattle.ug_core.specs.Event.{DaemonState, daemon_of}
-use Rattle.ug_script.proofs.Starts.{starts_session, start_refused}
+use Rattle.std.proofs.Common.{◌≡◌}
+use Rattle.ug_core.specs.Event.{daemon_of}
+use Rattle.ug_script.specs.Script.{no_start_of}
+use Rattle.ug_script.specs.declared.start.NoStart.TheVariants as no_start
+use Rattle.ug_script.proofs.Starts.{starts_on, start_refused}
 use Rattle.ug_script.proofs.start.start_on.Goals as goal
 
-pub invariant_of-result-clause-saved : goal.invariant_of-result-clause-saved
-invariant_of-result-clause-saved c = ap (λ (d : DaemonState). d.pending) (starts_session c.args.setup.now _ _ c.args.disk (daemon_of c.in-Ok.daemon) c.start.new.disk
-    c.in_ok-settings.ensures c.zone_for-zone.ensures c.rng_for-rng.ensures c.in_ok-access.ensures c.requires.rules c.in-Ok.ensures.starts).0
+pub returns-in-Ok-clause-started : goal.returns-in-Ok-clause-started
+returns-in-Ok-clause-started c = (starts_on c.args.setup.now _ _ c.args.disk.now (daemon_of c.in-Ok.daemon) c.start.new.disk
+    c.in_ok-settings.ensures c.zone_for-zone.ensures c.rng_for-rng.ensures c.in_ok-access.ensures c.in-Ok.ensures.starts).0
 
-pub invariant_of-result-clause-faultless : goal.invariant_of-result-clause-faultless
-invariant_of-result-clause-faultless c = ap (λ (o : DiskWorld). o.faults) (starts_session c.args.setup.now _ _ c.args.disk (daemon_of c.in-Ok.daemon) c.start.new.disk
-    c.in_ok-settings.ensures c.zone_for-zone.ensures c.rng_for-rng.ensures c.in_ok-access.ensures c.requires.rules c.in-Ok.ensures.starts).1 ∙ c.requires.faultless
+pub returns-in-Ok-clause-read : goal.returns-in-Ok-clause-read
+returns-in-Ok-clause-read c other = (starts_on c.args.setup.now _ _ c.args.disk.now (daemon_of c.in-Ok.daemon) c.start.new.disk
+    c.in_ok-settings.ensures c.zone_for-zone.ensures c.rng_for-rng.ensures c.in_ok-access.ensures c.in-Ok.ensures.starts).1
 
-pub returns-in-Ok-clause-daemon : goal.returns-in-Ok-clause-daemon
-returns-in-Ok-clause-daemon c = (starts_session c.args.setup.now _ _ c.args.disk (daemon_of c.in-Ok.daemon) c.start.new.disk
-    c.in_ok-settings.ensures c.zone_for-zone.ensures c.rng_for-rng.ensures c.in_ok-access.ensures c.requires.rules c.in-Ok.ensures.starts).0
+pub returns-in-Err-clause-bad : goal.returns-in-Err-clause-bad
+returns-in-Err-clause-bad c e =
+    let same : no_start_of c.in-Err.fault ≡ no_start.BadRules = cc in
+    (start_refused _ _ c.args.disk.now c.in-Err.fault c.start.new.disk c.in-Err.ensures.starts).bad same
 
-pub returns-in-Ok-clause-disk : goal.returns-in-Ok-clause-disk
-returns-in-Ok-clause-disk c = (starts_session c.args.setup.now _ _ c.args.disk (daemon_of c.in-Ok.daemon) c.start.new.disk
-    c.in_ok-settings.ensures c.zone_for-zone.ensures c.rng_for-rng.ensures c.in_ok-access.ensures c.requires.rules c.in-Ok.ensures.starts).1
+pub returns-in-Err-clause-too_long : goal.returns-in-Err-clause-too_long
+returns-in-Err-clause-too_long c e =
+    let same : no_start_of c.in-Err.fault ≡ no_start.TooLong = cc in
+    (start_refused _ _ c.args.disk.now c.in-Err.fault c.start.new.disk c.in-Err.ensures.starts).too_long same
 
-pub want_of_memory-requires : goal.want_of_memory-requires
-want_of_memory-requires c = start_refused c.args.setup.now _ _ c.args.disk c.in-Err.fault c.start.new.disk c.requires.rules c.are_few-few.ensures.few c.in-Err.ensures.starts
+pub returns-in-Err-clause-read : goal.returns-in-Err-clause-read
+returns-in-Err-clause-read c other =
+    (start_refused _ _ c.args.disk.now c.in-Err.fault c.start.new.disk c.in-Err.ensures.starts).read (λ e. other cc)

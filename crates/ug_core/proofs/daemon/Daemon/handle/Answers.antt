@@ -1,12 +1,11 @@
-use Rattle.std.proofs.Common.{◌≡◌, ℕ, [], refl, sym, ap, subst, ◌∙◌}
-use Rattle.ug_kernel.specs.Tree.{Runs}
+use Rattle.std.proofs.Common.{◌≡◌, ℕ, [], sym, ap, subst, ◌∙◌}
 use Rattle.ug_store.specs.Store.{RunsDisk}
 use Rattle.ug_table.specs.Order.{StandInOrder}
 use Rattle.ug_core.specs.Laws.{RunsAnswer}
 use Rattle.ug_core.specs.Event.{DaemonState, daemon_of, tried_with, ready, trying}
 use Rattle.ug_audit.proofs.Noting.{live_members}
 use Rattle.ug_audit.proofs.Texts.{all_entries}
-use Rattle.ug_core.proofs.Answered.{Answered, answering_made, answering_told, ready_failures, ready_names}
+use Rattle.ug_core.proofs.Answered.{answering_made, answering_told, ready_failures, ready_names}
 use Rattle.ug_core.proofs.Failures.{event_tells}
 use Rattle.ug_core.proofs.Kept.{file_kept}
 use Rattle.ug_core.proofs.Noted.{all_noted}

@@ -1,5 +1,4 @@
-use Rattle.std.proofs.Common.{◌≡◌, ℕ, List, Bool, true, false, Option, Some, refl, sym, ap, subst, ◌∙◌, inl, inr, ◌⊎◌}
-use Rattle.ug_types.specs.declared.record.Judged.{Judged}
+use Rattle.std.proofs.Common.{ℕ, List, Bool, Option, refl, sym, ap, subst, ◌∙◌}
 use Rattle.ug_kernel.specs.Tree.{Runs}
 use Rattle.ug_table.specs.declared.standing.Standing.{Standing}
 use Rattle.ug_core.specs.Answering.{by_permanent, by_standing, only}

@@ -1,4 +1,4 @@
-use Rattle.std.proofs.Common.{sym, subst, ap, ◌∙◌}
+use Rattle.std.proofs.Common.{sym, subst}
 use Rattle.ug_rule.proofs.RuleCuts.{says_line}
 use Rattle.ug_print.specs.Words.{rule_text}
 use Rattle.ug_print.proofs.Printed.{printed}

@@ -1,4 +1,4 @@
-use Rattle.std.proofs.Common.{sym, subst, ◌∙◌, ap}
+use Rattle.std.proofs.Common.{sym, subst}
 use Rattle.std.specs.Prelude.{None, Ok}
 use Rattle.ug_policy.specs.Rules.{Rules}
 use Rattle.ug_print.specs.declared.rule_texts.RulesTextFault.TheVariants as fault

@@ -1,0 +1,8 @@
+use Rattle.ug_core.specs.Event.{daemon_of}
+use Rattle.ug_script.proofs.Starts.{first_daemon, first_rules}
+use Rattle.ug_script.proofs.start.start_daemon.Goals as goal
+
+pub returns-in-Ok-clause-daemon : goal.returns-in-Ok-clause-daemon
+returns-in-Ok-clause-daemon c = first_daemon c.args.setup.now c.in_ok-disk.disk (daemon_of c.in-Ok.daemon)
+    (first_rules c.args.setup.now c.in_ok-disk.disk c.in_ok-disk.ensures.disk c.in_ok-disk.ensures.reads c.in_ok-disk.ensures.fits c.are_few-few.ensures.few)
+    c.in-Ok.ensures.started
