@@ -75,7 +75,7 @@ abbrev target_read : List ℕ → Target
 target_read word = if same_word word (codes "allow") then target.Allow else if same_word word (codes "block") then target.Block else target.Reject
 
 abbrev write_read : List ℕ → Write
-write_read word = if same_word word (codes "on") then write.On else if same_word word (codes "off") then write.Off else write.Remove
+write_read word = if same_word word (codes "on") then write.On else if same_word word (codes "off") then write.Off else if same_word word (codes "remove") then write.Remove else if same_word word (codes "default-off") then write.DefaultOff else write.DefaultOn
 
 abbrev wrote_read : List ℕ → Wrote
 wrote_read word = if same_word word (codes "done") then wrote.Done else if same_word word (codes "gone") then wrote.Gone else wrote.Failed
@@ -150,6 +150,8 @@ unfolding write_word
 write_back write.On = (refl, refl)
 write_back write.Off = (refl, refl)
 write_back write.Remove = (refl, refl)
+write_back write.DefaultOff = (refl, refl)
+write_back write.DefaultOn = (refl, refl)
 
 wrote_back : (o : Wrote) → (is_graphic (wrote_word o) ≡ true) × (wrote_read (wrote_word o) ≡ o)
 unfolding wrote_word

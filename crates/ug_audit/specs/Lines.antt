@@ -30,6 +30,8 @@ unfoldable pub write_word : Write → List ℕ
 write_word write.On = codes "on"
 write_word write.Off = codes "off"
 write_word write.Remove = codes "remove"
+write_word write.DefaultOff = codes "default-off"
+write_word write.DefaultOn = codes "default-on"
 
 unfoldable pub wrote_word : Wrote → List ℕ
 wrote_word wrote.Done = codes "done"

@@ -33,12 +33,14 @@ fn push_principal(line: &mut Line, who: &Principal)
 #[tactic(auto, unfolding(crate::specs::Lines::write_word))]
 fn word_of_write(write: Write) -> &'static [u8]
     ensures text { result.now ≡ lines.write_word write }
-    ensures length { length result.now ≤ 6 }
+    ensures length { length result.now ≤ 11 }
 {
     match write {
         Write::On => b"on",
         Write::Off => b"off",
         Write::Remove => b"remove",
+        Write::DefaultOff => b"default-off",
+        Write::DefaultOn => b"default-on",
     }
 }
 

@@ -54,6 +54,8 @@ fn write(word: &str) -> Option<Write> {
         "on" => Some(Write::On),
         "off" => Some(Write::Off),
         "remove" => Some(Write::Remove),
+        "default-off" => Some(Write::DefaultOff),
+        "default-on" => Some(Write::DefaultOn),
         _ => None,
     }
 }

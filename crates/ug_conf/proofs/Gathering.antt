@@ -9,7 +9,7 @@ use Rattle.ug_conf.specs.declared.keys.Key.TheVariants as key
 use Rattle.ug_conf.specs.declared.settings.Settings.{Settings}
 use Rattle.ug_conf.specs.declared.values.Setting.{Setting}
 use Rattle.ug_conf.specs.declared.values.Setting.TheVariants as setting
-use Rattle.ug_conf.specs.Draft.{with_setting}
+use Rattle.ug_conf.specs.Draft.{is_unused, with_setting}
 use Rattle.ug_conf.specs.Grammar.{IsValue}
 use Rattle.ug_conf.specs.Meaning.{Entry, keys_of, is_noted, Sets, IsGiven, AreSettingsOf}
 use Rattle.ug_types.specs.Principals.{Named}
@@ -171,32 +171,29 @@ all_users (e ∷ entries) s d f = users_more e entries e.set s (applied entries 
 abbrev one_noted : Bool → ℕ → List ℕ
 one_noted noted number = if noted then number ∷ [] else []
 
-abbrev Notes : Key → Setting → Type 0
-Notes k set = (number : ℕ) (s : Settings) → (with_setting number set s).unused ≡ s.unused ++ one_noted (is_noted k) number
+abbrev Notes : Setting → Type 0
+Notes set = (number : ℕ) (s : Settings) → (with_setting number set s).unused ≡ s.unused ++ one_noted (is_noted set) number
 
-notes : (k : Key) (set what : Setting) → set ≡ what → Notes k what → Notes k set
-notes k set what e n = subst (λ (x : Setting). Notes k x) (sym e) n
-
-fit_notes : (k : Key) (value : List ℕ) (set : Setting) → IsValue k value set → Notes k set
-fit_notes key.RuleFile value set h = notes key.RuleFile set (setting.RuleFile value) h.1 (λ number s. sym (append-nil s.unused))
-fit_notes key.RuleFolder value set h = notes key.RuleFolder set (setting.RuleFolder value) h (λ number s. refl)
-fit_notes key.ImplicitPolicyTarget value set h = notes key.ImplicitPolicyTarget set (setting.Implicit h.0) h.2 (λ number s. sym (append-nil s.unused))
-fit_notes key.PresentDevicePolicy value set h = notes key.PresentDevicePolicy set (setting.PresentDevice h.0) h.2 (λ number s. sym (append-nil s.unused))
-fit_notes key.PresentControllerPolicy value set h = notes key.PresentControllerPolicy set (setting.PresentController h.0) h.2 (λ number s. sym (append-nil s.unused))
-fit_notes key.InsertedDevicePolicy value set h = notes key.InsertedDevicePolicy set (setting.Inserted h.0) h.2 (λ number s. sym (append-nil s.unused))
-fit_notes key.AuthorizedDefault value set h = notes key.AuthorizedDefault set (setting.Default h.0) h.2 (λ number s. refl)
-fit_notes key.IpcAllowedUsers value set h = notes key.IpcAllowedUsers set (setting.Users h.0) h.2 (λ number s. sym (append-nil s.unused))
-fit_notes key.IpcAllowedGroups value set h = notes key.IpcAllowedGroups set (setting.Groups h.0) h.2 (λ number s. sym (append-nil s.unused))
-fit_notes key.IpcAccessControlFiles value set h = notes key.IpcAccessControlFiles set (setting.AccessFolder value) h.1 (λ number s. sym (append-nil s.unused))
-fit_notes key.DeviceRulesWithPort value set h = notes key.DeviceRulesWithPort set (setting.WithPort h.0) h.2 (λ number s. sym (append-nil s.unused))
-fit_notes key.RestoreControllerDeviceState value set h = notes key.RestoreControllerDeviceState set setting.Unused h (λ number s. refl)
-fit_notes key.DeviceManagerBackend value set h = notes key.DeviceManagerBackend set setting.Unused h (λ number s. refl)
-fit_notes key.AuditBackend value set h = notes key.AuditBackend set setting.Unused h (λ number s. refl)
-fit_notes key.AuditFilePath value set h = notes key.AuditFilePath set setting.Unused h (λ number s. refl)
-fit_notes key.HidePii value set h = notes key.HidePii set setting.Unused h (λ number s. refl)
+notes : (set : Setting) → Notes set
+notes (setting.RuleFile path) number s = sym (append-nil s.unused)
+notes (setting.RuleFolder path) number s = refl
+notes (setting.Implicit target) number s = sym (append-nil s.unused)
+notes (setting.PresentDevice policy) number s = sym (append-nil s.unused)
+notes (setting.PresentController policy) number s = sym (append-nil s.unused)
+notes (setting.Inserted policy) number s = sym (append-nil s.unused)
+notes (setting.Default default) number s = by_use (is_unused default)
+  where
+    by_use : (b : Bool) → (if b then s.unused ++ number ∷ [] else s.unused) ≡ s.unused ++ one_noted b number
+    by_use true = refl
+    by_use false = sym (append-nil s.unused)
+notes (setting.Users users) number s = sym (append-nil s.unused)
+notes (setting.Groups groups) number s = sym (append-nil s.unused)
+notes (setting.AccessFolder path) number s = sym (append-nil s.unused)
+notes (setting.WithPort with_port) number s = sym (append-nil s.unused)
+notes setting.Unused number s = refl
 
 abbrev noted_of : List Entry → List ℕ
-noted_of entries = map (λ e. e.number) (filter (λ e. is_noted e.key) entries)
+noted_of entries = map (λ e. e.number) (filter (λ e. is_noted e.set) entries)
 
 noted_more : (b : Bool) (e : Entry) (entries : List Entry) → one_noted b e.number ++ map (λ e. e.number) entries ≡ map (λ e. e.number) (cond b (e ∷ entries) entries)
 noted_more true e entries = refl
@@ -206,9 +203,9 @@ noted : (entries : List Entry) (s : Settings) → AreFit entries → (applied en
 noted [] s f = sym (append-nil s.unused)
 noted (e ∷ entries) s f =
     noted entries (with_setting e.number e.set s) f.1
-    ∙ ap (λ (l : List ℕ). l ++ noted_of entries) (fit_notes e.key f.0.0 e.set f.0.1 e.number s)
-    ∙ append_assoc s.unused (one_noted (is_noted e.key) e.number) (noted_of entries)
-    ∙ ap (λ (l : List ℕ). s.unused ++ l) (noted_more (is_noted e.key) e (filter (λ e. is_noted e.key) entries))
+    ∙ ap (λ (l : List ℕ). l ++ noted_of entries) (notes e.set e.number s)
+    ∙ append_assoc s.unused (one_noted (is_noted e.set) e.number) (noted_of entries)
+    ∙ ap (λ (l : List ℕ). s.unused ++ l) (noted_more (is_noted e.set) e (filter (λ e. is_noted e.set) entries))
 
 no_users : defaults.users ≡ []
 unfolding defaults

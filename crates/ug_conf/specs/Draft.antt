@@ -1,9 +1,11 @@
 -- What lines of settings set, one after the other: usbguard-daemon.conf(5).
-use Rattle.std.specs.Prelude.{◌≡◌, ℕ, Bool, if◌then◌else◌, List, [], ◌∷◌, ◌++◌, Option, Some, None, Result, Ok, Err}
+use Rattle.std.specs.Prelude.{◌≡◌, ℕ, Bool, true, false, if◌then◌else◌, List, [], ◌∷◌, ◌++◌, Option, Some, None, Result, Ok, Err}
 use Rattle.std.specs.List.{list_any}
 use Rattle.ug_conf.specs.declared.fault.FaultKind.TheVariants.{NoEquals, UnknownKey, BadValue, Repeated}
 use Rattle.ug_types.specs.declared.text_fault.LineFault.TheVariants.{Bad, Memory}
 use Rattle.ug_conf.specs.declared.keys.Key.{Key}
+use Rattle.ug_conf.specs.declared.settings.AuthDefault.{AuthDefault}
+use Rattle.ug_conf.specs.declared.settings.AuthDefault.TheVariants as default
 use Rattle.ug_conf.specs.declared.settings.Settings.{Settings}
 use Rattle.ug_conf.specs.declared.values.Setting.{Setting}
 use Rattle.ug_conf.specs.declared.values.Setting.TheVariants as setting
@@ -22,6 +24,13 @@ pub record Draft : Type 0 where
 abbrev pub draft_of : Settings → List Key → Draft
 draft_of settings seen = record { settings = settings; seen = seen }
 
+-- a line with that default sets nothing yet
+abbrev pub is_unused : AuthDefault → Bool
+is_unused default.Keep = false
+is_unused default.None = false
+is_unused default.All = false
+is_unused default.Internal = true
+
 -- the settings with what the line of that number says
 abbrev pub with_setting : ℕ → Setting → Settings → Settings
 with_setting number (setting.RuleFile path) s = record s { rule_file = path }
@@ -30,7 +39,7 @@ with_setting number (setting.Implicit target) s = record s { implicit = target }
 with_setting number (setting.PresentDevice policy) s = record s { present_device = policy }
 with_setting number (setting.PresentController policy) s = record s { present_controller = policy }
 with_setting number (setting.Inserted policy) s = record s { inserted = policy }
-with_setting number (setting.Default default) s = record s { default = default; unused = s.unused ++ number ∷ [] }
+with_setting number (setting.Default default) s = record s { default = default; unused = if is_unused default then s.unused ++ number ∷ [] else s.unused }
 with_setting number (setting.Users users) s = record s { users = users ++ s.users }
 with_setting number (setting.Groups groups) s = record s { users = s.users ++ groups }
 with_setting number (setting.AccessFolder path) s = record s { access_folder = path }

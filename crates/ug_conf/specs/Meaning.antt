@@ -5,10 +5,10 @@ use Rattle.ug_equations.specs.Entries.{AreEntries, IsFirstBad}
 use Rattle.ug_types.specs.Elements.{Has, AllDistinct}
 use Rattle.ug_types.specs.declared.text_fault.TextFault.{TextFault}
 use Rattle.ug_conf.specs.declared.keys.Key.{Key}
-use Rattle.ug_conf.specs.declared.keys.Key.TheVariants as key
 use Rattle.ug_conf.specs.declared.settings.Settings.{Settings}
 use Rattle.ug_conf.specs.declared.values.Setting.{Setting}
 use Rattle.ug_conf.specs.declared.values.Setting.TheVariants as setting
+use Rattle.ug_conf.specs.Draft.{is_unused}
 use Rattle.ug_conf.specs.Faults.{kind_number}
 use Rattle.ug_conf.specs.Grammar.{IsSetting, IsBadSetting}
 use Rattle.ug_types.specs.Principals.{Named}
@@ -24,15 +24,11 @@ pub record Entry : Type 0 where
 abbrev pub GivesEntry : ℕ → List ℕ → Entry → Type 0
 GivesEntry number line entry = (entry.number ≡ number) × IsSetting line entry.key entry.set
 
--- keys whose lines set nothing yet, and are noted
-abbrev pub is_noted : Key → Bool
-is_noted key.RuleFolder = true
-is_noted key.AuthorizedDefault = true
-is_noted key.RestoreControllerDeviceState = true
-is_noted key.DeviceManagerBackend = true
-is_noted key.AuditBackend = true
-is_noted key.AuditFilePath = true
-is_noted key.HidePii = true
+-- lines that set nothing yet, and are noted
+abbrev pub is_noted : Setting → Bool
+is_noted (setting.RuleFolder path) = true
+is_noted (setting.Default default) = is_unused default
+is_noted setting.Unused = true
 is_noted _ = false
 
 abbrev pub keys_of : List Entry → List Key
@@ -62,7 +58,7 @@ pub record AreSettingsOf (entries : List Entry) (settings : Settings) : Type 0 w
   pub users_given : IsGiven entries setting.Users users []
   pub groups_given : IsGiven entries setting.Groups groups []
   pub all_users : settings.users ≡ users ++ groups
-  pub unused : settings.unused ≡ map (λ entry. entry.number) (filter (λ entry. is_noted entry.key) entries)
+  pub unused : settings.unused ≡ map (λ entry. entry.number) (filter (λ entry. is_noted entry.set) entries)
 
 -- a text gives these settings
 abbrev pub GivesSettings : List ℕ → Settings → Type 0

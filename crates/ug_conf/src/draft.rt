@@ -1,11 +1,11 @@
 // What the lines so far set.
 ghost use Rattle.std.specs.Prelude.{◌≡◌, ◌++◌, IfOk, OnOk, OnErr};
 ghost use Rattle.ug_types.specs.TextFaults.{IsLineRead};
-ghost use Rattle.ug_conf.specs.Draft.{draft_of, with_setting, key_read, value_read, assigned, line_read, LeavesDraft};
+ghost use Rattle.ug_conf.specs.Draft.{draft_of, is_unused, with_setting, key_read, value_read, assigned, line_read, LeavesDraft};
 
 use crate::fault::FaultKind;
 use crate::keys::{Key, known_key};
-use crate::settings::Settings;
+use crate::settings::{AuthDefault, Settings};
 use crate::values::{Setting, make_setting};
 use std::alloc::Global;
 use ug_equations::{LineCut, cut_line};
@@ -22,6 +22,18 @@ fn joined(
     let mut all = Vec::from_slice(alloc, front)?;
     all.extend_from_slice(behind)?;
     Ok(List::from_vec(all))
+}
+
+// Whether a line with that default sets nothing yet.
+fn is_unused(default: AuthDefault) -> bool
+    ensures { result ≡ is_unused default }
+{
+    match default {
+        AuthDefault::Keep => false,
+        AuthDefault::None => false,
+        AuthDefault::All => false,
+        AuthDefault::Internal => true,
+    }
 }
 
 // Sets what the line of that number says. A refusal changes nothing.
@@ -45,7 +57,9 @@ fn set(
         Setting::PresentController(policy) => settings.present_controller = policy,
         Setting::Inserted(policy) => settings.inserted = policy,
         Setting::Default(default) => {
-            settings.unused.push(number)?;
+            if is_unused(default) {
+                settings.unused.push(number)?;
+            }
             settings.default = default;
         }
         Setting::Users(users) => {

@@ -37,7 +37,7 @@ use Rattle.ug_table.specs.Order.{StandInOrder}
 use Rattle.ug_table.specs.Orders.{ProbedOne, with_verdict, verdict_entry, ordering}
 use Rattle.ug_table.specs.Parts.{AllBear, failures_told, told_in_reply, unsettled_names}
 use Rattle.ug_table.specs.Standings.{numbered}
-use Rattle.ug_table.specs.State.{State, Kept, kept_of}
+use Rattle.ug_table.specs.State.{State, Kept, kept_of, terms_of}
 use Rattle.ug_table.specs.declared.standing.Settled.{Settled}
 use Rattle.ug_table.specs.declared.standing.Settled.TheVariants as settled
 use Rattle.ug_table.specs.declared.standing.Standing.{Standing}
@@ -405,5 +405,5 @@ answered_stands (Order moment who line) k d became l a sound stand (inl h) = (h.
 answered_stands (Order moment who line) k d became l a sound stand (inr (inl h)) =
     (subst (λ (v : Kernel). IsKernel v) (sym h.0) sound, subst (λ (v : Kernel). Stand v a.sweep.standings a.sweep.next) (sym h.0) (stands_still k d a (once_standings d a became h.1.outcome h.1.state) stand))
 answered_stands (Order moment who line) k d became l a sound stand (inr (inr h)) =
-    let fair = h.law.fair policy_answer policy_later false swept_before in
+    let fair = h.law.fair policy_answer policy_later (terms_of false None) swept_before in
     (fair.sound, subst (λ (x : DaemonState). Stand l x.sweep.standings x.sweep.next) (sym h.state) fair.stand)

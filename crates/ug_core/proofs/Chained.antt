@@ -4,48 +4,51 @@ use Rattle.ug_types.specs.Elements.{Has}
 use Rattle.ug_types.specs.Names.{parent_of}
 use Rattle.ug_types.specs.declared.verdict.Held.{Held}
 use Rattle.ug_types.specs.declared.control.Control.TheVariants.{Authorized}
+use Rattle.ug_types.specs.declared.control.Write.{Write}
 use Rattle.ug_types.proofs.Elements.{has_left}
 use Rattle.ug_kernel.specs.declared.device.Device.{Device}
 use Rattle.ug_kernel.specs.declared.device.Effect.{Effect}
 use Rattle.ug_kernel.specs.Kernel.{Kernel, Live, Moves}
+use Rattle.ug_kernel.proofs.Births.{moves_then}
 use Rattle.ug_kernel.proofs.Quiet.{moves_quiet}
 use Rattle.ug_kernel.proofs.Stayed.{unmoving}
 use Rattle.ug_audit.specs.declared.entry.Entry.{Entry}
 use Rattle.ug_store.specs.Disk.{Disk}
 use Rattle.ug_table.specs.Allowed.{allowed_records}
 use Rattle.ug_table.specs.State.{State}
-use Rattle.ug_table.specs.Laws.{Stand, wrote_entries, IsAsJudged}
+use Rattle.ug_table.specs.Laws.{Stand, AreDefaulted, wrote_entries, IsAsJudged}
 use Rattle.ug_table.specs.declared.standing.Standing.{Standing}
 use Rattle.ug_core.specs.Policy.{Judging}
 use Rattle.ug_core.specs.Event.{DaemonState, IsStarted}
 use Rattle.ug_core.specs.InForce.{Decision, decision_of, decisions_in, last_decision, in_force, is_ordered}
 use Rattle.ug_core.specs.Rulings.{Decided, Ruling, Told, after_steps, at_moment, ruling_answer}
-use Rattle.ug_core.specs.Chain.{Happened, IsEvent, StaysOnDisk, Chain, IsKeptThroughout, journal, told_of, has_listed, WasDecided, IsExplained, IsJudgedOnce, IsRun}
+use Rattle.ug_core.specs.Chain.{Happened, IsEvent, StaysOnDisk, Chain, IsKeptThroughout, journal, told_of, has_listed, WasDecided, IsExplained, AllExplained, IsJudgedOnce, IsRun}
 use Rattle.ug_core.proofs.Verdicts.{is_verdict}
 use Rattle.ug_core.proofs.InForce.{unordered_has, decisions_append, or_else_none, last_has}
 use Rattle.ug_core.proofs.Walk.{WasWritten}
 use Rattle.ug_core.proofs.Kept.{stays_there, stays_then, kept_along}
 use Rattle.ug_core.proofs.Known.{same_device, only_number}
-use Rattle.ug_core.proofs.SoFar.{SoFar, moves_then, ruling_of, step_has, still_so, told_has}
+use Rattle.ug_core.proofs.SoFar.{SoFar, ruling_of, step_has, still_so, told_has}
 use Rattle.ug_core.proofs.OneMore.{one_more}
 
 moved : (policy : Judging) (first k l : Kernel) (hs : List Happened) (w : State Judging) → Moves k l → SoFar policy first k hs (told_of hs) (journal hs) w → SoFar policy first l hs (told_of hs) (journal hs) w
 moved policy first k l hs w m so = subst (λ (x : List Happened). SoFar policy first l x (told_of hs) (journal hs) w) (append-nil hs) (still_so policy first k l hs [] (told_of hs) (journal hs) w (moves_quiet k l m) so)
 
-pub along : (policy : Judging) (first : Kernel) (done hs : List Happened) (k : Kernel) (o : Option Disk) (d : DaemonState) (l : Kernel) (p : Option Disk) (e : DaemonState) → Chain k o d hs l p e → d.sweep.listed ≡ has_listed done → SoFar policy first k done (told_of done) (journal done) d.sweep → SoFar policy first l (done ++ hs) (told_of (done ++ hs)) (journal (done ++ hs)) e.sweep × (e.sweep.listed ≡ has_listed (done ++ hs))
+pub along : (policy : Judging) (first : Kernel) (done hs : List Happened) (k : Kernel) (o : Option Disk) (d : DaemonState) (l : Kernel) (p : Option Disk) (e : DaemonState) → Chain k o d hs l p e → d.sweep.listed ≡ has_listed done → SoFar policy first k done (told_of done) (journal done) d.sweep → SoFar policy first l (done ++ hs) (told_of (done ++ hs)) (journal (done ++ hs)) e.sweep × (e.sweep.listed ≡ has_listed (done ++ hs)) × (e.sweep.hub ≡ d.sweep.hub)
 along policy first done [] k o d l p e c listed so =
-    subst (λ (x : DaemonState). SoFar policy first l (done ++ []) (told_of (done ++ [])) (journal (done ++ [])) x.sweep × (x.sweep.listed ≡ has_listed (done ++ []))) (sym c.2)
-    (subst (λ (x : List Happened). SoFar policy first l x (told_of x) (journal x) d.sweep × (d.sweep.listed ≡ has_listed x)) (sym (append-nil done)) (moved policy first k l done d.sweep c.0 so, listed))
+    subst (λ (x : DaemonState). SoFar policy first l (done ++ []) (told_of (done ++ [])) (journal (done ++ [])) x.sweep × (x.sweep.listed ≡ has_listed (done ++ [])) × (x.sweep.hub ≡ d.sweep.hub)) (sym c.2)
+    (subst (λ (x : List Happened). SoFar policy first l x (told_of x) (journal x) d.sweep × (d.sweep.listed ≡ has_listed x) × (d.sweep.hub ≡ d.sweep.hub)) (sym (append-nil done)) (moved policy first k l done d.sweep c.0 so, listed, refl))
 along policy first done (h ∷ hs) k o d l p e c listed so =
     let start = subst (λ (x : DaemonState). SoFar policy first h.kernel done (told_of done) (journal done) x.sweep) (sym c.2) (moved policy first k h.kernel done d.sweep c.0 so) in
     let more = one_more policy first done h c.3.answers c.3.handled (ap (λ (x : DaemonState). x.sweep.listed) c.2 ∙ listed) start in
-    subst (λ (x : List Happened). SoFar policy first l x (told_of x) (journal x) e.sweep × (e.sweep.listed ≡ has_listed x)) (append_assoc done (h ∷ []) hs) (along policy first (done ++ h ∷ []) hs h.kernel_after h.disk_after h.after l p e c.4 more.1 more.0)
+    let r = along policy first (done ++ h ∷ []) hs h.kernel_after h.disk_after h.after l p e c.4 more.1 more.0 in
+    subst (λ (x : List Happened). SoFar policy first l x (told_of x) (journal x) e.sweep × (e.sweep.listed ≡ has_listed x) × (e.sweep.hub ≡ d.sweep.hub)) (append_assoc done (h ∷ []) hs) (r.0, r.1, r.2 ∙ more.2 ∙ ap (λ (x : DaemonState). x.sweep.hub) c.2)
 
-pub started_so : (policy : Judging) (number : ℕ) (k : Kernel) (d : DaemonState) → IsStarted policy number d → SoFar policy k k [] [] [] d.sweep
-started_so policy number k d s =
+pub started_so : (policy : Judging) (hub : Option Write) (number : ℕ) (k : Kernel) (d : DaemonState) → IsStarted policy hub number d → SoFar policy k k [] [] [] d.sweep
+started_so policy hub number k d s =
     let none : (x : Standing) → Has d.sweep.standings x → ⊥ = λ x a. subst (λ (ss : List Standing). Has ss x) s.standings a in
     record {
-      stand = subst (λ (ss : List Standing). Stand k ss d.sweep.next) (sym s.standings) (record { devices = λ x a. absurd a; numbers = λ x a. absurd a; names = tt; order = tt; distinct = tt; removed = λ x a. absurd a });
+      stand = subst (λ (ss : List Standing). Stand k ss d.sweep.next) (sym s.standings) (record { devices = λ x a. absurd a; numbers = λ x a. absurd a; names = tt; order = tt; distinct = tt; done = λ control x a. absurd a });
       steps = [];
       told = refl;
       can = tt;
@@ -57,6 +60,7 @@ started_so policy number k d s =
       numbers = s.next;
       agree = λ x a. absurd (none x a);
       known = λ c a. absurd a;
+      defaulted = λ x a marked i file what due. absurd (none x a);
     }
 
 -- a decision that was told, on the device of its held file
@@ -92,7 +96,7 @@ force_told es front back n d at force =
     let last : last_decision (decisions_in front) n ≡ Some d = sym (or_else_none (last_decision (decisions_in front) n)) ∙ force in
     subst (λ (ds : List Decision). Has ds d) (sym (ap (λ (x : List Entry). decisions_in x) at ∙ decisions_append front back)) (has_left (decisions_in front) (decisions_in back) d (last_has (decisions_in front) n d last).0)
 
-explained : (policy : Judging) (first k : Kernel) (hs : List Happened) (v : State Judging) (so : SoFar policy first k hs (told_of hs) (journal hs) v) (effect : Effect) → WasWritten [] (journal hs) k effect → IsExplained policy hs so.steps k effect
+explained : (policy : Judging) (first k : Kernel) (hs : List Happened) (v : State Judging) (so : SoFar policy first k hs (told_of hs) (journal hs) v) (effect : Effect) → WasWritten v.hub [] (journal hs) k effect → IsExplained v.hub policy hs so.steps k effect
 explained policy first k hs v so effect w =
     let two : List Entry = wrote_entries w.decision.number w.decision.name effect.write w.outcome in
     record {
@@ -107,36 +111,39 @@ explained policy first k hs v so effect w =
       decided = decided_on policy first k hs v so w.decision effect.device (force_told (journal hs) w.front (two ++ w.back) w.decision.number w.decision w.at w.force) w.device.file;
     }
 
-judged_once : (policy : Judging) (first k : Kernel) (hs : List Happened) (w : State Judging) (so : SoFar policy first k hs (told_of hs) (journal hs) w) (i : ℕ) (d : Device) → Live k.devices i d → IsAsJudged k w.standings i → IsJudgedOnce policy hs so.steps k w.standings i
+judged_once : (policy : Judging) (first k : Kernel) (hs : List Happened) (w : State Judging) (so : SoFar policy first k hs (told_of hs) (journal hs) w) (i : ℕ) (d : Device) → Live k.devices i d → IsAsJudged w.hub k w.standings i → IsJudgedOnce w.hub policy hs so.steps k w.standings i
 judged_once policy first k hs w so i d live a =
     let s : Standing = a.standing.s in
     let told : Has (decisions_in (journal hs)) (decision_of s) = force_told (journal hs) (journal hs) [] s.number (decision_of s) (sym (append-nil (journal hs))) (so.agree s a.standing.has) in
     record {
       stands = a;
       decided = decided_on policy first k hs w so (decision_of s) i told a.standing.file;
+      default = λ what root due. so.defaulted s a.standing.has (a.marked what root due) i a.standing.file what due;
       once = only_number (journal hs) k w.standings w.next i d s so.stand so.known live a.standing.has a.standing.file;
     }
 
-pub run_of : (policy : Judging) (first k : Kernel) (o : Option Disk) (hs : List Happened) (p : Option Disk) (e : DaemonState) → e.sweep.listed ≡ has_listed hs → SoFar policy first k hs (told_of hs) (journal hs) e.sweep → IsKeptThroughout policy.rules o hs p e.sweep.judge.rules → IsRun policy first o hs k p e
-run_of policy first k o hs p e listed so file = record {
+pub run_of : (policy : Judging) (hub : Option Write) (first k : Kernel) (o : Option Disk) (hs : List Happened) (p : Option Disk) (e : DaemonState) → e.sweep.hub ≡ hub → e.sweep.listed ≡ has_listed hs → SoFar policy first k hs (told_of hs) (journal hs) e.sweep → IsKeptThroughout policy.rules o hs p e.sweep.judge.rules → IsRun policy hub first o hs k p e
+run_of policy hub first k o hs p e setting listed so file = record {
   steps = so.steps;
   told = so.told;
   can = so.can;
   placed = so.placed;
   changed = so.changed;
   ordered = so.ordered;
-  explained = record { added = so.written.added; log = so.written.log; each = λ x a. explained policy first k hs e.sweep so x (so.written.each x a) };
+  explained = subst (λ (o : Option Write). AllExplained o policy hs so.steps first k) setting (record { added = so.written.added; log = so.written.log; each = λ x a. explained policy first k hs e.sweep so x (so.written.each x a) });
   numbers = so.numbers;
   agree = so.agree;
+  setting = setting;
+  defaulted = subst (λ (o : Option Write). AreDefaulted o k e.sweep.standings) setting so.defaulted;
   listed = listed;
-  once = judged_once policy first k hs e.sweep so;
+  once = subst (λ (o : Option Write). (i : ℕ) (d : Device) → Live k.devices i d → IsAsJudged o k e.sweep.standings i → IsJudgedOnce o policy hs so.steps k e.sweep.standings i) setting (judged_once policy first k hs e.sweep so);
   file = file;
 }
 
-pub is_run : (policy : Judging) (number : ℕ) (first : Kernel) (o : Option Disk) (d : DaemonState) (hs : List Happened) (k : Kernel) (p : Option Disk) (e : DaemonState) → IsStarted policy number d → Chain first o d hs k p e → IsRun policy first o hs k p e
-is_run policy number first o d hs k p e s c =
-    let so = along policy first [] hs first o d k p e c s.listed (started_so policy number first d s) in
-    run_of policy first k o hs p e so.1 so.0
+pub is_run : (policy : Judging) (hub : Option Write) (number : ℕ) (first : Kernel) (o : Option Disk) (d : DaemonState) (hs : List Happened) (k : Kernel) (p : Option Disk) (e : DaemonState) → IsStarted policy hub number d → Chain first o d hs k p e → IsRun policy hub first o hs k p e
+is_run policy hub number first o d hs k p e s c =
+    let so = along policy first [] hs first o d k p e c s.listed (started_so policy hub number first d s) in
+    run_of policy hub first k o hs p e (so.2 ∙ s.hub) so.1 so.0
     (subst (λ (j : Judging). IsKeptThroughout j.rules o hs p e.sweep.judge.rules) s.judge (kept_along first o d hs k p e c))
 
 -- a chain, and one event more

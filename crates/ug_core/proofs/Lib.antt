@@ -11,6 +11,7 @@ pub mod Places
 pub mod Probing
 pub mod Changed
 pub mod Known
+pub mod Defaulted
 pub mod Plain
 pub mod Noted
 pub mod Kept
@@ -22,3 +23,5 @@ pub mod Readable
 pub mod Started
 pub mod RowOrder
 pub mod RowWalk
+pub mod Written
+pub mod Stopped

@@ -22,7 +22,7 @@ use Rattle.ug_proto.specs.declared.request.Request.TheVariants as request
 use Rattle.ug_table.specs.Orders.{with_verdict, with_order, verdict_entry, just_ordered}
 use Rattle.ug_table.specs.Parts.{AllBear, numbers_given}
 use Rattle.ug_table.specs.Standings.{numbered}
-use Rattle.ug_table.specs.State.{State, with_kept}
+use Rattle.ug_table.specs.State.{State, terms_of, with_kept}
 use Rattle.ug_table.specs.Laws.{swept_before}
 use Rattle.ug_table.specs.declared.standing.Standing.{Standing}
 use Rattle.ug_table.proofs.Standings.{numbered_has}
@@ -100,6 +100,7 @@ record Behind (policy : Judging) (first : Kernel) (hs : List Happened) (h : Happ
   so : SoFar policy first h.kernel_answered (hs ++ h ∷ []) (told_of hs ++ told_if (was_done h.answered.reply) (changes_asked (ready_of h) h.event)) (journal hs ++ h.answered.sweep.entries) h.answered.sweep
   at : at_moment (moment_of h.event) h.answered.sweep.judge ≡ h.answered.sweep.judge
   listed : h.answered.sweep.listed ≡ h.before.sweep.listed
+  hub : h.answered.sweep.hub ≡ h.before.sweep.hub
   silent : list_any tells_unlisted h.answered.sweep.entries ≡ false
   ordered : unordered (decisions_in h.answered.sweep.entries) ≡ []
 
@@ -122,18 +123,20 @@ module _ (policy : Judging) (first : Kernel) (hs : List Happened) (h : Happened)
     silent : list_any tells_unlisted d.sweep.entries ≡ false
     at : at_moment (moment_of h.event) d.sweep.judge ≡ d.sweep.judge
     listed : d.sweep.listed ≡ h.before.sweep.listed
+    hub : d.sweep.hub ≡ h.before.sweep.hub
 
   -- an entry more, while all else stays
   amid_noted : (k : Kernel) (tl : List Told) (d a : DaemonState) (e : Entry) → decisions_in (e ∷ []) ≡ [] → list_any tells_unlisted (e ∷ []) ≡ false → a.sweep ≡ record d.sweep { entries = d.sweep.entries ++ e ∷ [] } → Amid k tl d → Amid k tl a
   amid_noted k tl d a e none unlisted is x =
       let w : State Judging = record d.sweep { entries = d.sweep.entries ++ e ∷ [] } in
-      let so : SoFar policy first k all tl (journal hs ++ w.entries) w = subst (λ (es : List Entry). SoFar policy first k all tl es w) (append_assoc (journal hs) d.sweep.entries (e ∷ [])) (noted_so policy first k all tl (journal hs ++ d.sweep.entries) (e ∷ []) d.sweep w none refl refl (λ m. refl) x.so) in
+      let so : SoFar policy first k all tl (journal hs ++ w.entries) w = subst (λ (es : List Entry). SoFar policy first k all tl es w) (append_assoc (journal hs) d.sweep.entries (e ∷ [])) (noted_so policy first k all tl (journal hs ++ d.sweep.entries) (e ∷ []) d.sweep w none refl refl refl (λ m. refl) x.so) in
       record {
         so = subst (λ (v : State Judging). SoFar policy first k all tl (journal hs ++ v.entries) v) (sym is) so;
         plain = ap (λ (v : State Judging). decisions_in v.entries) is ∙ decisions_more d.sweep.entries (e ∷ []) none ∙ x.plain;
         silent = ap (λ (v : State Judging). list_any tells_unlisted v.entries) is ∙ any_append d.sweep.entries (e ∷ []) unlisted ∙ x.silent;
         at = subst (λ (v : State Judging). at_moment (moment_of h.event) v.judge ≡ v.judge) (sym is) x.at;
         listed = ap (λ (v : State Judging). v.listed) is ∙ x.listed;
+        hub = ap (λ (v : State Judging). v.hub) is ∙ x.hub;
       }
 
   amid_stored : (k : Kernel) (tl : List Told) (d : DaemonState) (became : Stored) → Amid k tl d → Amid k tl (noted_store became d)
@@ -153,6 +156,7 @@ module _ (policy : Judging) (first : Kernel) (hs : List Happened) (h : Happened)
         silent = any_append d.sweep.entries (e ∷ []) (entry_unlisted change d.sweep.judge.next) ∙ x.silent;
         at = at_changed change d.sweep.judge (moment_of h.event) ∙ ap (λ (j : Judging). changed_by change j) x.at;
         listed = x.listed;
+        hub = x.hub;
       }
 
   amid_moves : (k l : Kernel) (tl : List Told) (d : DaemonState) → Quiet k l → Amid k tl d → Amid l tl d
@@ -162,6 +166,7 @@ module _ (policy : Judging) (first : Kernel) (hs : List Happened) (h : Happened)
     silent = x.silent;
     at = x.at;
     listed = x.listed;
+    hub = x.hub;
   }
 
   -- from a state behind the reply, of which this was told
@@ -170,6 +175,7 @@ module _ (policy : Judging) (first : Kernel) (hs : List Happened) (h : Happened)
     so = subst (λ (l : List Told). SoFar policy first h.kernel_answered all (told_of hs ++ l) (journal hs ++ h.answered.sweep.entries) h.answered.sweep) (sym told) x.so;
     at = x.at;
     listed = x.listed;
+    hub = x.hub;
     silent = x.silent;
     ordered = ap (λ (ds : List Decision). unordered ds) x.plain;
   }
@@ -321,7 +327,7 @@ module _ (policy : Judging) (first : Kernel) (hs : List Happened) (h : Happened)
         let law = subst (λ (x : DaemonState). OrderedOne c.number c.verdict who c.on c.standing c.middle x.sweep h.kernel_answered (with_kept x.sweep c.kept) c.how) c.after_change c.law in
         let its_entries : c.kept.entries ≡ w.entries ++ told ∷ c.rest = subst (λ (x : DaemonState). c.kept.entries ≡ x.sweep.entries ++ told ∷ c.rest) c.after_change c.entries in
         let state : h.answered ≡ answered_with now lines (c.how, c.kept) = subst (λ (x : DaemonState). h.answered ≡ answered_with x lines (c.how, c.kept)) c.after_change c.state in
-        let fair = law.fair policy_answer policy_later false swept_before in
+        let fair = law.fair policy_answer policy_later (terms_of false w.hub) swept_before in
         let rest : c.rest ≡ fair.rest = cancel (w.entries ++ told ∷ []) c.rest fair.rest (append_assoc w.entries (told ∷ []) c.rest ∙ sym its_entries ∙ fair.entries) in
         let inside : h.answered.sweep.entries ≡ w.entries ++ told ∷ (c.rest ++ entry.Reply (answer_of (reply_to lines c.how)) ∷ []) = ap (λ (x : DaemonState). x.sweep.entries) state ∙ ap (λ (es : List Entry). es ++ entry.Reply (answer_of (reply_to lines c.how)) ∷ []) its_entries ∙ append_assoc w.entries (told ∷ c.rest) (entry.Reply (answer_of (reply_to lines c.how)) ∷ []) in
         let was : WasOrdered all (decision_of y) = record {
@@ -345,7 +351,7 @@ module _ (policy : Judging) (first : Kernel) (hs : List Happened) (h : Happened)
         } in
         let set = ordered_so policy first c.middle all tl (journal hs ++ w.entries) w c.number c.verdict who c.standing here was amid.so in
         let none : decisions_in fair.rest ≡ [] = subst (λ (es : List Entry). decisions_in es ≡ []) rest (given_none c.rest c.given) in
-        let unfair = fair_so policy first all tl ((journal hs ++ w.entries) ++ told ∷ []) (moment_of h.event) false c.middle h.kernel_answered (just_ordered c.number c.verdict who c.standing w) kept_in amid.at fair (λ r p. no_ruling w.standings fair.rest r none p) set in
+        let unfair = fair_so policy first all tl ((journal hs ++ w.entries) ++ told ∷ []) (moment_of h.event) false c.middle h.kernel_answered (just_ordered c.number c.verdict who c.standing w) kept_in amid.at refl (λ were. law.defaults w.hub amid.so.defaulted) fair (λ r p. no_ruling w.standings fair.rest r none p) set in
         let written = subst (λ (ds : List Decision). SoFar policy first h.kernel_answered all (tl ++ decided (unordered ds)) (((journal hs ++ w.entries) ++ told ∷ []) ++ fair.rest) kept_in) none unfair in
         let same : ((journal hs ++ w.entries) ++ told ∷ []) ++ fair.rest ≡ journal hs ++ kept_in.entries = append_assoc (journal hs ++ w.entries) (told ∷ []) fair.rest ∙ append_assoc (journal hs) w.entries (told ∷ fair.rest) ∙ ap (λ (es : List Entry). journal hs ++ es) (sym (fair.entries ∙ append_assoc w.entries (told ∷ []) fair.rest)) in
         let its_decisions : decisions_in c.kept.entries ≡ decision_of y ∷ [] = ap (λ (es : List Entry). decisions_in es) its_entries ∙ decisions_append w.entries (told ∷ c.rest) ∙ ap (λ (ds : List Decision). ds ++ (decision_of y ∷ decisions_in c.rest)) amid.plain ∙ ap (λ (ds : List Decision). decision_of y ∷ ds) (given_none c.rest c.given) in
@@ -353,7 +359,7 @@ module _ (policy : Judging) (first : Kernel) (hs : List Happened) (h : Happened)
         let noted : State Judging = record kept_in { entries = kept_in.entries ++ e ∷ [] } in
         let last : SoFar policy first h.kernel_answered all (tl ++ []) (journal hs ++ noted.entries) noted =
         subst (λ (es : List Entry). SoFar policy first h.kernel_answered all (tl ++ []) es noted) (append_assoc (journal hs) kept_in.entries (e ∷ []))
-        (noted_so policy first h.kernel_answered all (tl ++ []) (journal hs ++ kept_in.entries) (e ∷ []) kept_in noted refl refl refl (λ m. refl) (subst (λ (es : List Entry). SoFar policy first h.kernel_answered all (tl ++ []) es kept_in) same written)) in
+        (noted_so policy first h.kernel_answered all (tl ++ []) (journal hs ++ kept_in.entries) (e ∷ []) kept_in noted refl refl refl refl (λ m. refl) (subst (λ (es : List Entry). SoFar policy first h.kernel_answered all (tl ++ []) es kept_in) same written)) in
         let whole : h.answered.sweep ≡ noted = ap (λ (x : DaemonState). x.sweep) state in
         record {
           so = subst (λ (l : List Told). SoFar policy first h.kernel_answered all l (journal hs ++ h.answered.sweep.entries) h.answered.sweep)
@@ -361,6 +367,7 @@ module _ (policy : Judging) (first : Kernel) (hs : List Happened) (h : Happened)
               (subst (λ (v : State Judging). SoFar policy first h.kernel_answered all (tl ++ []) (journal hs ++ v.entries) v) (sym whole) last);
           at = subst (λ (v : State Judging). at_moment (moment_of h.event) v.judge ≡ v.judge) (sym whole) amid.at;
           listed = ap (λ (v : State Judging). v.listed) whole ∙ amid.listed;
+          hub = ap (λ (v : State Judging). v.hub) whole ∙ amid.hub;
           silent = ap (λ (v : State Judging). list_any tells_unlisted v.entries) whole ∙ any_append c.kept.entries (e ∷ []) refl ∙ ap (λ (es : List Entry). list_any tells_unlisted es) its_entries ∙ any_front w.entries (told ∷ c.rest) amid.silent ∙ rest_listings c.standing.name c.rest c.bears;
           ordered = ap (λ (v : State Judging). unordered (decisions_in v.entries)) whole ∙ ap (λ (ds : List Decision). unordered ds) (decisions_more c.kept.entries (e ∷ []) refl ∙ its_decisions);
         }
@@ -391,16 +398,17 @@ module _ (policy : Judging) (first : Kernel) (hs : List Happened) (h : Happened)
   behind_event (Order moment who line) is x (inr (inr c)) = verdict_so moment who line is x c
 
   -- the whole event
-  one_event : AnswersEvent h.event h.kernel (ready_of h) h.became h.kernel_answered h.answered → Handled h.kernel_answered h.answered h.kernel_after h.after → h.before.sweep.listed ≡ has_listed hs → SoFar policy first h.kernel hs (told_of hs) (journal hs) h.before.sweep → SoFar policy first h.kernel_after (hs ++ h ∷ []) (told_of (hs ++ h ∷ [])) (journal (hs ++ h ∷ [])) h.after.sweep × (h.after.sweep.listed ≡ has_listed (hs ++ h ∷ []))
+  one_event : AnswersEvent h.event h.kernel (ready_of h) h.became h.kernel_answered h.answered → Handled h.kernel_answered h.answered h.kernel_after h.after → h.before.sweep.listed ≡ has_listed hs → SoFar policy first h.kernel hs (told_of hs) (journal hs) h.before.sweep → SoFar policy first h.kernel_after (hs ++ h ∷ []) (told_of (hs ++ h ∷ [])) (journal (hs ++ h ∷ [])) h.after.sweep × (h.after.sweep.listed ≡ has_listed (hs ++ h ∷ [])) × (h.after.sweep.hub ≡ h.before.sweep.hub)
   one_event answers law listed so =
       let longer = still_so policy first h.kernel h.kernel hs (h ∷ []) (told_of hs) (journal hs) h.before.sweep (quiet_refl h.kernel) so in
-      let begun = noted_so policy first h.kernel (hs ++ h ∷ []) (told_of hs) (journal hs) (ready_of h).sweep.entries h.before.sweep (ready_of h).sweep (first_decisions h.before.event h.event h.tried) refl refl (λ m. refl) longer in
-      let amid : Amid h.kernel (told_of hs) (ready_of h) = record { so = begun; plain = first_decisions h.before.event h.event h.tried; silent = first_listings h.before.event h.event h.tried; at = refl; listed = refl } in
+      let begun = noted_so policy first h.kernel (hs ++ h ∷ []) (told_of hs) (journal hs) (ready_of h).sweep.entries h.before.sweep (ready_of h).sweep (first_decisions h.before.event h.event h.tried) refl refl refl (λ m. refl) longer in
+      let amid : Amid h.kernel (told_of hs) (ready_of h) = record { so = begun; plain = first_decisions h.before.event h.event h.tried; silent = first_listings h.before.event h.event h.tried; at = refl; listed = refl; hub = refl } in
       let b = behind_event h.event refl amid answers in
       let a : State Judging = h.answered.sweep in
       let v : State Judging = law.swept in
       let fair = law.law.fair in
       let y : Entry = entry.End h.answered.event in
+      let kept_hub : v.hub ≡ a.hub = sym (ap (λ (z : State Judging). z.hub) law.entries) ∙ law.hub in
       let entries : h.after.sweep.entries ≡ a.entries ++ (fair.rest ++ y ∷ []) = ap (λ (z : State Judging). z.entries) law.entries ∙ ap (λ (es : List Entry). es ++ y ∷ []) fair.entries ∙ append_assoc a.entries fair.rest (y ∷ []) in
       let whole : (((journal hs ++ a.entries) ++ fair.rest) ++ y ∷ []) ≡ journal (hs ++ h ∷ []) =
       append_assoc (journal hs ++ a.entries) fair.rest (y ∷ [])
@@ -420,8 +428,8 @@ module _ (policy : Judging) (first : Kernel) (hs : List Happened) (h : Happened)
       ∙ ap (λ (l : List Told). told_of hs ++ (first_told ++ l)) (ap (λ (ds : List Decision). decided ds) (sym inside))
       ∙ ap (λ (o : Option Reply). told_of hs ++ (told_if (was_done o) (changes_asked (ready_of h) h.event) ++ decided (unordered (decisions_in h.after.sweep.entries)))) (sym law.reply)
       ∙ sym (told_append hs h) in
-      let swept = fair_so policy first (hs ++ h ∷ []) (told_of hs ++ first_told) (journal hs ++ a.entries) (moment_of h.event) (not a.listed) h.kernel_answered h.kernel_after a v b.at fair (λ r p. placed_new hs h fair.rest r entries (b.listed ∙ listed) p) b.so in
-      let last = noted_so policy first h.kernel_after (hs ++ h ∷ []) ((told_of hs ++ first_told) ++ ruled_told) ((journal hs ++ a.entries) ++ fair.rest) (y ∷ []) v h.after.sweep refl (ap (λ (z : State Judging). z.standings) law.entries) (ap (λ (z : State Judging). z.next) law.entries) (λ m. ap (λ (z : State Judging). at_moment m z.judge) law.entries) swept in (
+      let swept = fair_so policy first (hs ++ h ∷ []) (told_of hs ++ first_told) (journal hs ++ a.entries) (moment_of h.event) (not a.listed) h.kernel_answered h.kernel_after a v b.at kept_hub law.law.defaults fair (λ r p. placed_new hs h fair.rest r entries (b.listed ∙ listed) p) b.so in
+      let last = noted_so policy first h.kernel_after (hs ++ h ∷ []) ((told_of hs ++ first_told) ++ ruled_told) ((journal hs ++ a.entries) ++ fair.rest) (y ∷ []) v h.after.sweep refl (ap (λ (z : State Judging). z.standings) law.entries) (ap (λ (z : State Judging). z.next) law.entries) (ap (λ (z : State Judging). z.hub) law.entries) (λ m. ap (λ (z : State Judging). at_moment m z.judge) law.entries) swept in (
         subst (λ (l : List Told). SoFar policy first h.kernel_after (hs ++ h ∷ []) l (journal (hs ++ h ∷ [])) h.after.sweep) told
             (subst (λ (es : List Entry). SoFar policy first h.kernel_after (hs ++ h ∷ []) ((told_of hs ++ first_told) ++ ruled_told) es h.after.sweep) whole last),
         ap (λ (z : State Judging). z.listed) law.entries
@@ -429,7 +437,8 @@ module _ (policy : Judging) (first : Kernel) (hs : List Happened) (h : Happened)
             ∙ ap (λ (t : Bool). not t || a.listed) (sym (ap (λ (es : List Entry). list_any tells_unlisted es) entries ∙ any_front a.entries (fair.rest ++ y ∷ []) b.silent ∙ any_append fair.rest (y ∷ []) refl))
             ∙ ap (λ (t : Bool). not (list_any tells_unlisted h.after.sweep.entries) || t) (b.listed ∙ listed)
             ∙ sym (listed_append hs h),
+        law.hub ∙ b.hub,
       )
 
-pub one_more : (policy : Judging) (first : Kernel) (hs : List Happened) (h : Happened) → AnswersEvent h.event h.kernel (ready_of h) h.became h.kernel_answered h.answered → Handled h.kernel_answered h.answered h.kernel_after h.after → h.before.sweep.listed ≡ has_listed hs → SoFar policy first h.kernel hs (told_of hs) (journal hs) h.before.sweep → SoFar policy first h.kernel_after (hs ++ h ∷ []) (told_of (hs ++ h ∷ [])) (journal (hs ++ h ∷ [])) h.after.sweep × (h.after.sweep.listed ≡ has_listed (hs ++ h ∷ []))
+pub one_more : (policy : Judging) (first : Kernel) (hs : List Happened) (h : Happened) → AnswersEvent h.event h.kernel (ready_of h) h.became h.kernel_answered h.answered → Handled h.kernel_answered h.answered h.kernel_after h.after → h.before.sweep.listed ≡ has_listed hs → SoFar policy first h.kernel hs (told_of hs) (journal hs) h.before.sweep → SoFar policy first h.kernel_after (hs ++ h ∷ []) (told_of (hs ++ h ∷ [])) (journal (hs ++ h ∷ [])) h.after.sweep × (h.after.sweep.listed ≡ has_listed (hs ++ h ∷ [])) × (h.after.sweep.hub ≡ h.before.sweep.hub)
 one_more policy first hs h answers law listed so = one_event policy first hs h answers law listed so

@@ -1,4 +1,4 @@
--- A sweep keeps the rules as they were given, whatever is answered.
+-- A sweep keeps the rules as they were given, and what is written to the defaults, whatever is answered.
 use Rattle.std.proofs.Common.{◌≡◌, ℕ, ◌+◌, Bool, true, false, not, is_none, List, [], ◌∷◌, ◌++◌, Option, Some, None, refl, sym, ◌∙◌, subst}
 use Rattle.ug_types.specs.Names.{parent_of}
 use Rattle.ug_types.specs.Sweep.{in_sweep_order}
@@ -20,10 +20,10 @@ use Rattle.ug_audit.specs.declared.entry.Entry.TheVariants as entry
 use Rattle.ug_audit.specs.declared.entry.Fault.{Fault}
 use Rattle.ug_audit.specs.declared.entry.Fault.TheVariants as fault
 use Rattle.ug_table.specs.Allowed.{allowed_records}
-use Rattle.ug_table.specs.Bring.{bringing}
+use Rattle.ug_table.specs.Bring.{treating}
 use Rattle.ug_table.specs.Settle.{to_keep, known_in, judged_entry, standing_for, to_judge, if_place, if_record, admitting, after_bind, entering, to_mark, dropped, after_known, from_standing, settling}
 use Rattle.ug_table.specs.Standings.{standing_of}
-use Rattle.ug_table.specs.State.{State, kept_of}
+use Rattle.ug_table.specs.State.{State, Terms, kept_of, terms_for}
 use Rattle.ug_table.specs.Sweep.{settling_all, resettling_all, closing_unlisted, parted, marked_listed, unlisted, if_room, after_list, names_of, resumed, sweeping}
 use Rattle.ug_table.specs.declared.standing.Known.{Known}
 use Rattle.ug_table.specs.declared.standing.Settled.{Settled}
@@ -57,79 +57,86 @@ ends_after q (Room next) f g = λ b. ends_after q (next b) f g
 abbrev pub SameRules : Judging → State Judging → Type 0
 SameRules j w = as_given w.judge.rules ≡ as_given j.rules
 
-abbrev SameAfter : Judging → Settled × State Judging → Type 0
-SameAfter j p = SameRules j p.1
+-- and the state has them, and what is written to the defaults
+abbrev Stays : State Judging → State Judging → Type 0
+Stays j w = SameRules j.judge w × (w.hub ≡ j.hub)
 
-judge_so : (j : Judging) (name : List ℕ) (present : Bool) (w : State Judging) (b : Bound) (judged : Judged) → SameRules j w → EndsSo (SameAfter j) (to_judge policy_answer policy_later name present w b judged)
-judge_so j name present w b judged h =
-    let given = policy_answer w.judge judged (is_none (parent_of name)) present b.on w.standings in
-    let later : Judging = policy_later w.judge judged (is_none (parent_of name)) present b.on w.standings in
-    let same : as_given later.rules ≡ as_given j.rules = rules_stay w.judge (allowed_records w.standings) judged (is_none (parent_of name)) present ∙ h in
-    ends_after (SameAfter j) (bringing name (known_in w b.held.0 given) b.on (w.entries ++ judged_entry w name b.held.0 given ∷ []))
+abbrev SameAfter : State Judging → Settled × State Judging → Type 0
+SameAfter j p = Stays j p.1
+
+judge_so : (j : State Judging) (name : List ℕ) (terms : Terms) (w : State Judging) (b : Bound) (judged : Judged) → Stays j w → EndsSo (SameAfter j) (to_judge policy_answer policy_later name terms w b judged)
+judge_so j name terms w b judged h =
+    let given = policy_answer w.judge judged (is_none (parent_of name)) terms.present b.on w.standings in
+    let later : Judging = policy_later w.judge judged (is_none (parent_of name)) terms.present b.on w.standings in
+    let same : as_given later.rules ≡ as_given j.judge.rules = rules_stay w.judge (allowed_records w.standings) judged (is_none (parent_of name)) terms.present ∙ h.0 in
+    ends_after (SameAfter j) (treating terms.hub name (known_in w b.held.0 given) b.on (w.entries ++ judged_entry w name b.held.0 given ∷ []))
     (to_keep (record w { next = w.next + 1; judge = later }) (standing_for w name b.held.0 judged given))
-    (λ p. same)
+    (λ p. (same, h.1))
 
-place_so : (j : Judging) (name : List ℕ) (present : Bool) (w : State Judging) (b : Bound) (judged : Judged) (place : Bool) → SameRules j w → EndsSo (SameAfter j) (if_place policy_answer policy_later name present w b judged place)
-place_so j name present w b judged true h = judge_so j name present w b judged h
-place_so j name present w b judged false h = λ closed. h
+place_so : (j : State Judging) (name : List ℕ) (terms : Terms) (w : State Judging) (b : Bound) (judged : Judged) (place : Bool) → Stays j w → EndsSo (SameAfter j) (if_place policy_answer policy_later name terms w b judged place)
+place_so j name terms w b judged true h = judge_so j name terms w b judged h
+place_so j name terms w b judged false h = λ closed. h
 
-record_so : (j : Judging) (name : List ℕ) (present : Bool) (w : State Judging) (b : Bound) (room : Bool) → SameRules j w → EndsSo (SameAfter j) (if_record policy_answer policy_later name present w b room)
-record_so j name present w b true h = λ place. place_so j name present w b (judged_of name b.attrs b.parent) place h
-record_so j name present w b false h = λ closed. h
+record_so : (j : State Judging) (name : List ℕ) (terms : Terms) (w : State Judging) (b : Bound) (room : Bool) → Stays j w → EndsSo (SameAfter j) (if_record policy_answer policy_later name terms w b room)
+record_so j name terms w b true h = λ place. place_so j name terms w b (judged_of name b.attrs b.parent) place h
+record_so j name terms w b false h = λ closed. h
 
-bind_so : (j : Judging) (name : List ℕ) (present : Bool) (w : State Judging) (found : Binding) → SameRules j w → EndsSo (SameAfter j) (after_bind policy_answer policy_later name present w found)
+bind_so : (j : State Judging) (name : List ℕ) (terms : Terms) (w : State Judging) (found : Binding) → Stays j w → EndsSo (SameAfter j) (after_bind policy_answer policy_later name terms w found)
 unfolding admitting
-bind_so j name present w (bound.Bound b) h = λ room. record_so j name present w b room h
-bind_so j name present w bound.Absent h = h
-bind_so j name present w bound.Vanished h = h
-bind_so j name present w (bound.Failed failed) h = h
-bind_so j name present w bound.Memory h = h
+bind_so j name terms w (bound.Bound b) h = λ room. record_so j name terms w b room h
+bind_so j name terms w bound.Absent h = h
+bind_so j name terms w bound.Vanished h = h
+bind_so j name terms w (bound.Failed failed) h = h
+bind_so j name terms w bound.Memory h = h
 
-enter_so : (j : Judging) (name : List ℕ) (present : Bool) (w : State Judging) → SameRules j w → EndsSo (SameAfter j) (entering policy_answer policy_later name present w)
+enter_so : (j : State Judging) (name : List ℕ) (terms : Terms) (w : State Judging) → Stays j w → EndsSo (SameAfter j) (entering policy_answer policy_later name terms w)
 unfolding entering
-enter_so j name present w h = ends_after (SameAfter j) (binding name (parent_of name)) (after_bind policy_answer policy_later name present w) (λ found. bind_so j name present w found h)
+enter_so j name terms w h = ends_after (SameAfter j) (binding name (parent_of name)) (after_bind policy_answer policy_later name terms w) (λ found. bind_so j name terms w found h)
 
-known_so : (j : Judging) (name : List ℕ) (present : Bool) (w : State Judging) (known : Known) (a : Probe) (failed : FailedCall) → SameRules j w → EndsSo (SameAfter j) (after_known policy_answer policy_later name present w known a failed)
-known_so j name present w known (probe.Alive on) failed h = ends_after (SameAfter j) (bringing name known on w.entries) (to_mark w name) (λ p. h)
-known_so j name present w known probe.Gone failed h = λ closed. enter_so j name present (dropped w name known.number) h
-known_so j name present w known probe.Failed failed h = h
+known_so : (j : State Judging) (name : List ℕ) (terms : Terms) (w : State Judging) (known : Known) (a : Probe) (failed : FailedCall) → Stays j w → EndsSo (SameAfter j) (after_known policy_answer policy_later name terms w known a failed)
+known_so j name terms w known (probe.Alive on) failed h = ends_after (SameAfter j) (treating terms.hub name known on w.entries) (to_mark w name) (λ p. h)
+known_so j name terms w known probe.Gone failed h = λ closed. enter_so j name terms (dropped w name known.number) h
+known_so j name terms w known probe.Failed failed h = h
 
-standing_so : (j : Judging) (name : List ℕ) (present : Bool) (w : State Judging) (found : Option Known) → SameRules j w → EndsSo (SameAfter j) (from_standing policy_answer policy_later name present w found)
-standing_so j name present w (Some known) h = λ t. known_so j name present w known t.answer (failure_of t) h
-standing_so j name present w None h = enter_so j name present w h
+standing_so : (j : State Judging) (name : List ℕ) (terms : Terms) (w : State Judging) (found : Option Known) → Stays j w → EndsSo (SameAfter j) (from_standing policy_answer policy_later name terms w found)
+standing_so j name terms w (Some known) h = λ t. known_so j name terms w known t.answer (failure_of t) h
+standing_so j name terms w None h = enter_so j name terms w h
 
-settle_so : (j : Judging) (name : List ℕ) (present : Bool) (w : State Judging) → SameRules j w → EndsSo (SameAfter j) (settling policy_answer policy_later name present w)
+settle_so : (j : State Judging) (name : List ℕ) (terms : Terms) (w : State Judging) → Stays j w → EndsSo (SameAfter j) (settling policy_answer policy_later name terms w)
 unfolding settling
-settle_so j name present w h = standing_so j name present w (standing_of name w.standings) h
+settle_so j name terms w h = standing_so j name terms w (standing_of name w.standings) h
 
-all_so : (j : Judging) (names : List (List ℕ)) (present : Bool) (w : State Judging) → SameRules j w → EndsSo (SameRules j) (settling_all policy_answer policy_later names present w)
-all_so j [] present w h = h
-all_so j (name ∷ names) present w h =
-    ends_then (SameAfter j) (SameRules j) (settling policy_answer policy_later name present w) (λ p. settling_all policy_answer policy_later names present p.1)
-    (settle_so j name present w h)
-    (λ p k. all_so j names present p.1 k)
+all_so : (j : State Judging) (names : List (List ℕ)) (terms : Terms) (w : State Judging) → Stays j w → EndsSo (Stays j) (settling_all policy_answer policy_later names terms w)
+all_so j [] terms w h = h
+all_so j (name ∷ names) terms w h =
+    ends_then (SameAfter j) (Stays j) (settling policy_answer policy_later name terms w) (λ p. settling_all policy_answer policy_later names terms p.1)
+    (settle_so j name terms w h)
+    (λ p k. all_so j names terms p.1 k)
 
-unlisted_so : (j : Judging) (why : Fault) (w : State Judging) → SameRules j w → EndsSo (SameRules j) (unlisted why w)
-unlisted_so j why w h = ends_after (SameRules j) (resettling_all (names_of w.standings) (kept_of w.standings (w.entries ++ entry.UnsettledAll why ∷ []))) (resumed w) (λ k. h)
+unlisted_so : (j : State Judging) (why : Fault) (w : State Judging) → Stays j w → EndsSo (Stays j) (unlisted why w)
+unlisted_so j why w h = ends_after (Stays j) (resettling_all w.hub (names_of w.standings) (kept_of w.standings (w.entries ++ entry.UnsettledAll why ∷ []))) (resumed w) (λ k. h)
 
-room_so : (j : Judging) (names : List (List ℕ)) (w : State Judging) (room : Bool) → SameRules j w → EndsSo (SameRules j) (if_room policy_answer policy_later names w room)
+room_so : (j : State Judging) (names : List (List ℕ)) (w : State Judging) (room : Bool) → Stays j w → EndsSo (Stays j) (if_room policy_answer policy_later names w room)
 room_so j names w true h =
-    ends_after (SameRules j) (closing_unlisted names w.standings) (λ closed. settling_all policy_answer policy_later names (not w.listed) (marked_listed (parted names w)))
-    (λ closed. all_so j names (not w.listed) (marked_listed (parted names w)) h)
+    ends_after (Stays j) (closing_unlisted names w.standings) (λ closed. settling_all policy_answer policy_later names (terms_for w) (marked_listed (parted names w)))
+    (λ closed. all_so j names (terms_for w) (marked_listed (parted names w)) h)
 room_so j names w false h = unlisted_so j fault.Memory w h
 
-list_so : (j : Judging) (w : State Judging) (a : Listing) (failed : FailedCall) → SameRules j w → EndsSo (SameRules j) (after_list policy_answer policy_later w a failed)
+list_so : (j : State Judging) (w : State Judging) (a : Listing) (failed : FailedCall) → Stays j w → EndsSo (Stays j) (after_list policy_answer policy_later w a failed)
 list_so j w (listing.Names names) failed h = λ room. room_so j (in_sweep_order names) w room h
 list_so j w listing.Failed failed h = unlisted_so j (fault.Call failed) w h
 list_so j w listing.Memory failed h = unlisted_so j fault.Memory w h
 
-sweep_so : (w : State Judging) → EndsSo (SameRules w.judge) (sweeping policy_answer policy_later w)
+sweep_so : (w : State Judging) → EndsSo (Stays w) (sweeping policy_answer policy_later w)
 unfolding sweeping
-sweep_so w = λ t. list_so w.judge w t.answer (failure_of t) refl
+sweep_so w = λ t. list_so w w t.answer (failure_of t) (refl, refl)
+
+pub sweep_keeps_hub : {S : Type 0} (gives : S → (call : Call) → Answer call → S → Type 0) (s : S) (w v : State Judging) (t : S) → Runs gives s (sweeping policy_answer policy_later w) v t → v.hub ≡ w.hub
+sweep_keeps_hub gives s w v t h = (ends_run gives (Stays w) (sweeping policy_answer policy_later w) s v t (sweep_so w) h).1
 
 handle_so : (d : DaemonState) → EndsSo (λ (e : DaemonState). SameRules d.sweep.judge e.sweep) (handling d)
 unfolding handling
-handle_so d = ends_then (SameRules d.sweep.judge) (λ (e : DaemonState). SameRules d.sweep.judge e.sweep) (sweeping policy_answer policy_later d.sweep) (ended d) (sweep_so d.sweep) (λ v h. h)
+handle_so d = ends_then (Stays d.sweep) (λ (e : DaemonState). SameRules d.sweep.judge e.sweep) (sweeping policy_answer policy_later d.sweep) (ended d) (sweep_so d.sweep) (λ v h. h.0)
 
 pub event_keeps_rules : {S : Type 0} (gives : S → (call : Call) → Answer call → S → Type 0) (s : S) (d e : DaemonState) (t : S) → Runs gives s (handling d) e t → SameRules d.sweep.judge e.sweep
 event_keeps_rules gives s d e t h = ends_run gives (λ (x : DaemonState). SameRules d.sweep.judge x.sweep) (handling d) s e t (handle_so d) h

@@ -15,7 +15,8 @@ use Rattle.ug_print.specs.Bytes.{RuleOfBytes}
 use Rattle.ug_print.specs.RuleTexts.{rules_limit, rules_text_of}
 use Rattle.ug_print.specs.Words.{rule_text}
 use Rattle.ug_print.proofs.Printed.{printed}
-use Rattle.ug_rules.specs.RuleFile.{FitsFile, ReadsBack, permanent_rules, rules_in}
+use Rattle.ug_print.proofs.RuleTexts.{text_read}
+use Rattle.ug_rules.specs.RuleFile.{CanSave, IsSaveable, ReadsBack, permanent_rules, rules_in}
 use Rattle.ug_core.specs.Starting.{HoldsJust, permanent_entries}
 
 are_well : (lines : List (List ℕ)) (rules : List Rule) → AreRules lines rules → AllByRecursion WellFormed rules
@@ -38,9 +39,12 @@ rules_in_permanent id (rule ∷ rules) = ap (λ (rs : List Rule). rule ∷ rs) (
 pub list_reads_back : (text : List ℕ) (rules : List Rule) (list : Rules) → file_read text ≡ Ok rules → All RuleOfBytes rules → HoldsJust rules list → All ReadsBack (rules_in list.entries)
 list_reads_back text rules list e b h = subst (All ReadsBack) (sym (ap (λ (es : List RuleEntry). rules_in es) h.entries ∙ rules_in_permanent 1 rules)) (file_reads_back text rules e b)
 
-all_permanent : (id : ℕ) (rules : List Rule) → permanent_rules (permanent_entries id rules) ≡ rules
+pub all_permanent : (id : ℕ) (rules : List Rule) → permanent_rules (permanent_entries id rules) ≡ rules
 all_permanent id [] = refl
 all_permanent id (rule ∷ rules) = ap (λ (rs : List Rule). rule ∷ rs) (all_permanent (id + 1) rules)
 
-pub list_fits : (rules : List Rule) (list : Rules) → length (rules_text_of rules) ≤ rules_limit → HoldsJust rules list → FitsFile list.entries
-list_fits rules list fits h = subst (λ (rs : List Rule). length (rules_text_of rs) ≤ rules_limit) (sym (ap (λ (es : List RuleEntry). permanent_rules es) h.entries ∙ all_permanent 1 rules)) fits
+pub list_saves : (text : List ℕ) (rules : List Rule) (list : Rules) → file_read text ≡ Ok rules → All RuleOfBytes rules → length (rules_text_of rules) ≤ rules_limit → length rules ≤ 65536 → HoldsJust rules list → IsSaveable list.entries
+list_saves text rules list e b fits few h =
+    let well = All-from_recursion WellFormed rules (are_well _ rules (rules-read _ rules e)) in
+    let saves : CanSave rules = record { reads = text_read rules well b; fits = fits; few = few } in
+    subst CanSave (sym (ap (λ (es : List RuleEntry). permanent_rules es) h.entries ∙ all_permanent 1 rules)) saves

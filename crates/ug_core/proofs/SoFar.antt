@@ -4,6 +4,7 @@ use Rattle.std.specs.List.{list_any}
 use Rattle.ug_types.specs.Elements.{Has, AllDistinct}
 use Rattle.ug_types.specs.Principals.{Named}
 use Rattle.ug_types.specs.Names.{parent_of}
+use Rattle.ug_types.specs.declared.control.Write.{Write}
 use Rattle.ug_types.specs.declared.record.DeviceRecord.{DeviceRecord}
 use Rattle.ug_types.specs.declared.record.Judged.{Judged}
 use Rattle.ug_types.specs.declared.record.Judged.TheVariants as judged
@@ -27,8 +28,8 @@ use Rattle.ug_policy.specs.declared.entry.RuleEntry.{RuleEntry}
 use Rattle.ug_table.specs.Allowed.{allowed_records}
 use Rattle.ug_table.specs.Orders.{with_verdict, ordered_standing, with_order, verdict_entry, just_ordered}
 use Rattle.ug_table.specs.Standings.{numbered}
-use Rattle.ug_table.specs.State.{State}
-use Rattle.ug_table.specs.Laws.{IsDevice, Stand, IsTold, swept_before, wrote_entries, numbers_of, Account, IsFair, IsUnlisted, IsListed}
+use Rattle.ug_table.specs.State.{State, terms_of}
+use Rattle.ug_table.specs.Laws.{IsDevice, Stand, AreDefaulted, IsTold, swept_before, wrote_entries, numbers_of, Account, IsFair, IsUnlisted, IsListed}
 use Rattle.ug_table.specs.declared.standing.Standing.{Standing}
 use Rattle.ug_table.proofs.Devices.{device_stays, stand_stays}
 use Rattle.ug_table.proofs.Ordered.{has_ordered, ordered_is, ordered_other, stand_ordered}
@@ -45,22 +46,9 @@ use Rattle.ug_core.specs.Chain.{Happened, ready_of, changes_asked, decided, jour
 use Rattle.ug_core.proofs.InForce.{told_numbers, in_force_append, on_itself, on_another, unordered_append, unordered_all, decisions_append, decisions_more, has_decision, standing_found, fresh, numbers_append, follow_append, lift, lift_agree}
 use Rattle.ug_core.proofs.Steps.{after_ruled, can_ruled, can_then, ruled, ruled_has, ruled_unchanged, steps_append, told_ruled, told_then}
 use Rattle.ug_core.proofs.Walk.{after_rulings, decisions_by, IsAt, WasWritten, written_more, walk}
+use Rattle.ug_core.proofs.Defaulted.{quiet_defaulted, ordered_defaulted}
 use Rattle.ug_core.proofs.Known.{IsKnown, AreKnown, known_grow, known_still, known_new}
 use Rattle.ug_rules.specs.declared.edit.Edit.TheVariants.{Insert, Remove, Retarget}
-
--- what the kernel does by itself, one after another
-
-pub moved_then : (c d e : Device) → Moved c d → Moved d e → Moved c e
-moved_then c d e a b = record { stays = stays_trans c d e a.stays b.stays; on = b.on ∙ a.on }
-
-pub begins_then : (cs ds es : List Device) → Begins cs ds → Begins ds es → Begins cs es
-begins_then [] ds es a b = tt
-begins_then (c ∷ cs) [] es a b = absurd a
-begins_then (c ∷ cs) (d ∷ ds) [] a b = absurd b
-begins_then (c ∷ cs) (d ∷ ds) (e ∷ es) a b = (moved_then c d e a.0 b.0, begins_then cs ds es a.1 b.1)
-
-pub moves_then : (j k l : Kernel) → Moves j k → Moves k l → Moves j l
-moves_then j k l a b = record { devices = begins_then j.devices k.devices l.devices a.devices b.devices; held = b.held ∙ a.held; log = b.log ∙ a.log }
 
 -- entries of events and of runs
 
@@ -69,8 +57,8 @@ journal_append [] hs = refl
 journal_append (g ∷ gs) hs = ap (λ (es : List Entry). g.after.sweep.entries ++ es) (journal_append gs hs) ∙ sym (append_assoc g.after.sweep.entries (journal gs) (journal hs))
 
 -- a write of an event, behind what was told before it
-pub written_lifted : (pre : List Entry) (ss : List Standing) (es : List Entry) (k : Kernel) (e : Effect) → Agree [] pre ss → WasWritten ss es k e → WasWritten [] (pre ++ es) k e
-written_lifted pre ss es k e agree w = record {
+pub written_lifted : (hub : Option Write) (pre : List Entry) (ss : List Standing) (es : List Entry) (k : Kernel) (e : Effect) → Agree [] pre ss → WasWritten hub ss es k e → WasWritten hub [] (pre ++ es) k e
+written_lifted hub pre ss es k e agree w = record {
   decision = w.decision;
   judged = w.judged;
   outcome = w.outcome;
@@ -83,8 +71,8 @@ written_lifted pre ss es k e agree w = record {
   device = w.device;
 }
 
-pub written_stays : (before : List Standing) (es : List Entry) (k l : Kernel) (e : Effect) → Grows k l → WasWritten before es k e → WasWritten before es l e
-written_stays before es k l e g w = record {
+pub written_stays : (hub : Option Write) (before : List Standing) (es : List Entry) (k l : Kernel) (e : Effect) → Grows k l → WasWritten hub before es k e → WasWritten hub before es l e
+written_stays hub before es k l e g w = record {
   decision = w.decision;
   judged = w.judged;
   outcome = w.outcome;
@@ -98,10 +86,10 @@ written_stays before es k l e g w = record {
 }
 
 -- these effects were added to a log
-pub record AllWritten (es : List Entry) (first k : Kernel) : Type 0 where
+pub record AllWritten (hub : Option Write) (es : List Entry) (first k : Kernel) : Type 0 where
   pub added : List Effect
   pub log : k.log ≡ first.log ++ added
-  pub each : (e : Effect) → Has added e → WasWritten [] es k e
+  pub each : (e : Effect) → Has added e → WasWritten hub [] es k e
 
 -- the standings that a sweep leaves have the verdicts in force
 pub agree_left : (before : List Standing) (next0 next : ℕ) (rest : List Entry) (after : List Standing) (k : Kernel) → Stand k before next0 → Follow next0 (told_numbers rest) next → ((s : Standing) → Has after s → IsTold before rest s) → Agree before rest after
@@ -229,10 +217,11 @@ pub record SoFar (policy : Judging) (first k : Kernel) (hs : List Happened) (tl 
   pub placed : (r : Ruling) → Has steps (Ruled r) → IsPlaced hs k r
   pub changed : (change : Change) → Has steps (Changed change) → WasAsked hs change
   pub ordered : (d : Decision) → Has (decisions_in es) d → is_ordered d.cause ≡ true → WasOrdered hs d
-  pub written : AllWritten es first k
+  pub written : AllWritten w.hub es first k
   pub numbers : Follow 1 (given_numbers es) w.next
   pub agree : Agree [] es w.standings
   pub known : AreKnown (decisions_in es) k w.standings
+  pub defaulted : AreDefaulted w.hub k w.standings
 
 pub placed_stays : (hs more : List Happened) (k l : Kernel) (r : Ruling) → Grows k l → IsPlaced hs k r → IsPlaced (hs ++ more) l r
 placed_stays hs more k l r g p = record {
@@ -302,15 +291,16 @@ still_so policy first k l hs more tl es w quiet so =
       placed = λ r a. placed_stays hs more k l r g (so.placed r a);
       changed = λ c a. asked_stays hs more c (so.changed c a);
       ordered = λ d a is. ordered_stays hs more d (so.ordered d a is);
-      written = record { added = so.written.added; log = quiet.log ∙ so.written.log; each = λ e a. written_stays [] es k l e g (so.written.each e a) };
+      written = record { added = so.written.added; log = quiet.log ∙ so.written.log; each = λ e a. written_stays w.hub [] es k l e g (so.written.each e a) };
       numbers = so.numbers;
       agree = so.agree;
       known = known_grow (decisions_in es) k l w.standings g so.known;
+      defaulted = quiet_defaulted w.hub k l w.standings w.next quiet so.stand so.defaulted;
     }
 
 -- entries that tell no decision, and a judge whose context alone is another
-pub noted_so : (policy : Judging) (first k : Kernel) (hs : List Happened) (tl : List Told) (es fs : List Entry) (w v : State Judging) → decisions_in fs ≡ [] → v.standings ≡ w.standings → v.next ≡ w.next → Alike v.judge w.judge → SoFar policy first k hs tl es w → SoFar policy first k hs tl (es ++ fs) v
-noted_so policy first k hs tl es fs w v none standings next judge so =
+pub noted_so : (policy : Judging) (first k : Kernel) (hs : List Happened) (tl : List Told) (es fs : List Entry) (w v : State Judging) → decisions_in fs ≡ [] → v.standings ≡ w.standings → v.next ≡ w.next → v.hub ≡ w.hub → Alike v.judge w.judge → SoFar policy first k hs tl es w → SoFar policy first k hs tl (es ++ fs) v
+noted_so policy first k hs tl es fs w v none standings next hub judge so =
     let same : decisions_in (es ++ fs) ≡ decisions_in es = decisions_more es fs none in
     record {
       stand = subst (λ (n : ℕ). Stand k v.standings n) (sym next) (subst (λ (ss : List Standing). Stand k ss w.next) (sym standings) so.stand);
@@ -321,10 +311,11 @@ noted_so policy first k hs tl es fs w v none standings next judge so =
       placed = so.placed;
       changed = so.changed;
       ordered = λ d a is. so.ordered d (subst (λ (ds : List Decision). Has ds d) same a) is;
-      written = record { added = so.written.added; log = so.written.log; each = λ e a. written_more [] es fs k e (so.written.each e a) };
+      written = subst (λ (o : Option Write). AllWritten o (es ++ fs) first k) (sym hub) (record { added = so.written.added; log = so.written.log; each = λ e a. written_more w.hub [] es fs k e (so.written.each e a) });
       numbers = subst (λ (n : ℕ). Follow 1 (given_numbers (es ++ fs)) n) (sym next) (subst (λ (ds : List Decision). Follow 1 (numbers_on (unordered ds)) w.next) (sym same) so.numbers);
       agree = λ s a. ap (λ (ds : List Decision). or_else (last_decision ds s.number) None) same ∙ so.agree s (subst (λ (ss : List Standing). Has ss s) standings a);
       known = subst (λ (ss : List Standing). AreKnown (decisions_in (es ++ fs)) k ss) (sym standings) (subst (λ (ds : List Decision). AreKnown ds k w.standings) (sym same) so.known);
+      defaulted = subst (λ (o : Option Write). AreDefaulted o k v.standings) (sym hub) (subst (λ (ss : List Standing). AreDefaulted w.hub k ss) (sym standings) so.defaulted);
     }
 
 -- rules or a setting are changed
@@ -343,7 +334,7 @@ pub changed_so : (policy : Judging) (first k : Kernel) (hs : List Happened) (tl 
     → SoFar policy first k hs (tl ++ Was_changed change ∷ []) (es ++ change_entry change w.judge.next ∷ []) (record w { judge = changed_by change w.judge; entries = w.entries ++ change_entry change w.judge.next ∷ [] })
 changed_so policy first k hs tl es w change can was so =
     let e : Entry = change_entry change w.judge.next in
-    let noted = noted_so policy first k hs tl es (e ∷ []) w (record w { entries = w.entries ++ e ∷ [] }) (entry_silent change w.judge.next) refl refl (λ m. refl) so in
+    let noted = noted_so policy first k hs tl es (e ∷ []) w (record w { entries = w.entries ++ e ∷ [] }) (entry_silent change w.judge.next) refl refl refl (λ m. refl) so in
     let q : Judging = after_steps policy so.steps in
     let one : List PolicyStep = Changed change ∷ [] in
     let rules : w.judge.rules ≡ q.rules = ap (λ (j : Judging). j.rules) (so.judge (record { 0 = 0 })) in
@@ -366,6 +357,7 @@ changed_so policy first k hs tl es w change can was so =
       numbers = noted.numbers;
       agree = noted.agree;
       known = noted.known;
+      defaulted = noted.defaulted;
     }
 
 -- a verdict that was ordered is set and told
@@ -415,9 +407,10 @@ ordered_so policy first k hs tl es w number verdict who x at was so =
         | inl b ↦ so.ordered d b is
         | inr b ↦ elim b [ inl e ↦ subst (λ (v : Decision). WasOrdered hs v) e was | inr none ↦ absurd none ]
       ];
-      written = record { added = so.written.added; log = so.written.log; each = λ e a. written_more [] es (verdict_entry y ∷ []) k e (so.written.each e a) };
+      written = record { added = so.written.added; log = so.written.log; each = λ e a. written_more w.hub [] es (verdict_entry y ∷ []) k e (so.written.each e a) };
       numbers = subst (λ (l : List Decision). Follow 1 (numbers_on l) w.next) (sym same) so.numbers;
       agree = λ s a. in_force_append [] es (verdict_entry y ∷ []) s.number ∙ agree_one s (one_ordered number verdict who w.standings x s so.stand.distinct at a) numbered_x.1;
+      defaulted = ordered_defaulted w.hub k number verdict who w.standings so.defaulted;
       known = λ d a. elim (has_cases ds (c ∷ []) d (subst (λ (l : List Decision). Has l d) whole a)) [
         | inl b ↦ known_ordered d (so.known d b)
         | inr b ↦ elim b [
@@ -497,13 +490,13 @@ device_of policy rs l d devices h =
     (r.device, r.judged, subst (λ (y : Decision). IsDevice l r.device y.name y.held r.judged) x.is (devices r x.has))
 
 -- a sweep, or the writes of an order
-pub fair_so : (policy : Judging) (first : Kernel) (hs : List Happened) (tl : List Told) (es : List Entry) (moment : Moment) (present : Bool) (k l : Kernel) (w v : State Judging) → at_moment moment w.judge ≡ w.judge → (fair : IsFair policy_answer policy_later present swept_before k w l v) → ((r : Ruling) → IsAt present moment k l w.standings fair.rest r → IsPlaced hs l r) → SoFar policy first k hs tl es w → SoFar policy first l hs (tl ++ decided (unordered (decisions_in fair.rest))) (es ++ fair.rest) v
-fair_so policy first hs tl es moment present k l w v at fair placing so =
+pub fair_so : (policy : Judging) (first : Kernel) (hs : List Happened) (tl : List Told) (es : List Entry) (moment : Moment) (present : Bool) (k l : Kernel) (w v : State Judging) → at_moment moment w.judge ≡ w.judge → v.hub ≡ w.hub → (AreDefaulted w.hub k w.standings → AreDefaulted w.hub l v.standings) → (fair : IsFair policy_answer policy_later (terms_of present w.hub) swept_before k w l v) → ((r : Ruling) → IsAt present moment k l w.standings fair.rest r → IsPlaced hs l r) → SoFar policy first k hs tl es w → SoFar policy first l hs (tl ++ decided (unordered (decisions_in fair.rest))) (es ++ fair.rest) v
+fair_so policy first hs tl es moment present k l w v at hub keeps fair placing so =
     let rest : List Entry = fair.rest in
     let ss : List Standing = w.standings in
-    let account = subst (λ (j : Judging). Account policy_answer policy_later present swept_before k l ss k.log j w.next rest l.log v.judge v.next) (sym at) fair.account in
-    let x = walk present moment k l ss k.log w.judge w.next so.stand.numbers so.stand.distinct rest l.log v.judge v.next account in
-    let says = account_says policy_answer policy_later present swept_before k l ss k.log w.judge w.next rest l.log v.judge v.next so.stand.numbers fair.account in
+    let account = subst (λ (j : Judging). Account policy_answer policy_later (terms_of present w.hub) swept_before k l ss k.log j w.next rest l.log v.judge v.next) (sym at) fair.account in
+    let x = walk (terms_of present w.hub) moment k l ss k.log w.judge w.next so.stand.numbers so.stand.distinct rest l.log v.judge v.next account in
+    let says = account_says policy_answer policy_later (terms_of present w.hub) swept_before k l ss k.log w.judge w.next rest l.log v.judge v.next so.stand.numbers fair.account in
     let plain : (d : Decision) → Has (decisions_in rest) d → is_ordered d.cause ≡ false = λ d a. decision_given w.judge x.rulings d (subst (λ (ds : List Decision). Has ds d) x.told a) in
     let inner : unordered (decisions_in rest) ≡ decisions_in rest = unordered_all (decisions_in rest) plain in
     let all : decisions_in (es ++ rest) ≡ decisions_in es ++ decisions_in rest = decisions_append es rest in
@@ -533,17 +526,18 @@ fair_so policy first hs tl es moment present k l w v at fair placing so =
         | inl b ↦ so.ordered d b is
         | inr b ↦ (let other = plain d b in let none : ⊥ = cc in absurd none)
       ];
-      written = record {
+      written = subst (λ (o : Option Write). AllWritten o (es ++ rest) first l) (sym hub) (record {
         added = so.written.added ++ x.added;
         log = x.log_is ∙ ap (λ (ws : List Effect). ws ++ x.added) so.written.log ∙ append_assoc first.log so.written.added x.added;
         each = λ e a. elim (has_cases so.written.added x.added e a) [
-          | inl b ↦ written_more [] es rest l e (written_stays [] es k l e fair.grows (so.written.each e b))
-          | inr b ↦ written_lifted es ss rest l e so.agree (x.each e b)
+          | inl b ↦ written_more w.hub [] es rest l e (written_stays w.hub [] es k l e fair.grows (so.written.each e b))
+          | inr b ↦ written_lifted w.hub es ss rest l e so.agree (x.each e b)
         ];
-      };
+      });
       numbers = subst (λ (ds : List Decision). Follow 1 (numbers_on ds) v.next) (sym given) (subst (λ (ns : List ℕ). Follow 1 ns v.next) (sym (numbers_append (unordered (decisions_in es)) (decisions_in rest))) (follow_append 1 (given_numbers es) (told_numbers rest) w.next v.next so.numbers x.numbers));
       agree = lift_agree es ss v.standings rest so.agree (agree_left ss w.next v.next rest v.standings k so.stand x.numbers fair.left.told);
       known = subst (λ (ds : List Decision). AreKnown ds l v.standings) (sym all) known;
+      defaulted = subst (λ (o : Option Write). AreDefaulted o l v.standings) (sym hub) (keeps so.defaulted);
     }
   where
     placed_same : (hs : List Happened) (k l : Kernel) (r : Ruling) → Grows k l → IsPlaced hs k r → IsPlaced hs l r

@@ -2,6 +2,7 @@
 use Rattle.std.proofs.Common.{◌≡◌, ℕ, ◌+◌, ◌<◌, Bool, is_none, List, [], ◌∷◌, ◌++◌, Option, Some, inl, inr, refl, sym, ◌∙◌, ap, subst, append_assoc, append-nil}
 use Rattle.ug_types.specs.Elements.{Has, AllDistinct}
 use Rattle.ug_types.specs.Names.{parent_of}
+use Rattle.ug_types.specs.declared.control.Write.{Write}
 use Rattle.ug_types.specs.declared.record.DeviceRecord.{DeviceRecord}
 use Rattle.ug_types.specs.declared.record.Judged.{Judged}
 use Rattle.ug_types.specs.declared.record.Judged.TheVariants as judged
@@ -18,6 +19,7 @@ use Rattle.ug_audit.specs.declared.entry.Entry.TheVariants as entry
 use Rattle.ug_table.specs.Allowed.{allowed_records}
 use Rattle.ug_table.specs.Bring.{CallsFor}
 use Rattle.ug_table.specs.Laws.{IsDevice, IsProbed, Stand, AreLeft, AreMarkedIn, swept_before, MayHave, HasVerdict, wrote_entries, numbers_of, Account, Start, Note, Judge, Had, Had_not, Went}
+use Rattle.ug_table.specs.State.{Terms}
 use Rattle.ug_table.specs.declared.standing.Standing.{Standing}
 use Rattle.ug_core.specs.Policy.{Judging, later_of, policy_answer, policy_later}
 use Rattle.ug_core.specs.InForce.{Decision, decisions_in, decision_of, or_else, standing_decision, in_force, numbers_on, Follow}
@@ -60,8 +62,8 @@ pub record IsAt (present : Bool) (moment : Moment) (start k : Kernel) (before : 
   pub left : AreLeft before front r.standings
   pub marked : AreMarkedIn swept_before r.name before front r.standings
 
--- the effect is that of a write that is told, which the verdict in force calls for
-pub record WasWritten (before : List Standing) (es : List Entry) (k : Kernel) (effect : Effect) : Type 0 where
+-- the effect is that of a write that is told, which the verdict in force calls for, or the setting of the defaults
+pub record WasWritten (hub : Option Write) (before : List Standing) (es : List Entry) (k : Kernel) (effect : Effect) : Type 0 where
   pub decision : Decision
   pub judged : Judged
   pub outcome : Wrote
@@ -70,18 +72,18 @@ pub record WasWritten (before : List Standing) (es : List Entry) (k : Kernel) (e
   pub at : es ≡ front ++ (wrote_entries decision.number decision.name effect.write outcome ++ back)
   pub may : MayHave outcome
   pub force : in_force before front decision.number ≡ Some decision
-  pub wanted : CallsFor decision.verdict effect.write
+  pub wanted : CallsFor hub decision.name decision.verdict effect.write
   pub device : IsDevice k effect.device decision.name decision.held judged
 
-pub record Walked (present : Bool) (moment : Moment) (start k : Kernel) (before : List Standing) (log0 : List Effect) (policy : Judging) (next0 : ℕ) (es : List Entry) (log : List Effect) (judge : Judging) (next : ℕ) : Type 0 where
+pub record Walked (terms : Terms) (moment : Moment) (start k : Kernel) (before : List Standing) (log0 : List Effect) (policy : Judging) (next0 : ℕ) (es : List Entry) (log : List Effect) (judge : Judging) (next : ℕ) : Type 0 where
   pub rulings : List Ruling
   pub told : decisions_in es ≡ decisions_by policy rulings
   pub judge_is : judge ≡ at_moment moment (after_rulings policy rulings)
-  pub placed : (r : Ruling) → Has rulings r → IsAt present moment start k before es r
+  pub placed : (r : Ruling) → Has rulings r → IsAt terms.present moment start k before es r
   pub numbers : Follow next0 (told_numbers es) next
   pub added : List Effect
   pub log_is : log ≡ log0 ++ added
-  pub each : (e : Effect) → Has added e → WasWritten before es k e
+  pub each : (e : Effect) → Has added e → WasWritten terms.hub before es k e
 
 at_more : (present : Bool) (moment : Moment) (start k : Kernel) (before : List Standing) (es ws : List Entry) (r : Ruling) → IsAt present moment start k before es r → IsAt present moment start k before (es ++ ws) r
 at_more present moment start k before es ws r h = record {
@@ -99,8 +101,8 @@ at_more present moment start k before es ws r h = record {
   marked = h.marked;
 }
 
-pub written_more : (before : List Standing) (es ws : List Entry) (k : Kernel) (e : Effect) → WasWritten before es k e → WasWritten before (es ++ ws) k e
-written_more before es ws k e w =
+pub written_more : (hub : Option Write) (before : List Standing) (es ws : List Entry) (k : Kernel) (e : Effect) → WasWritten hub before es k e → WasWritten hub before (es ++ ws) k e
+written_more hub before es ws k e w =
     let two : List Entry = wrote_entries w.decision.number w.decision.name e.write w.outcome in
     record {
       decision = w.decision;
@@ -116,16 +118,16 @@ written_more before es ws k e w =
     }
 
 -- entries that tell no verdict
-more : (present : Bool) (moment : Moment) (start k : Kernel) (before : List Standing) (log0 : List Effect) (policy : Judging) (next0 : ℕ) (es ws : List Entry) (log : List Effect) (judge : Judging) (next : ℕ) → decisions_in ws ≡ [] → Walked present moment start k before log0 policy next0 es log judge next → Walked present moment start k before log0 policy next0 (es ++ ws) log judge next
-more present moment start k before log0 policy next0 es ws log judge next none h = record {
+more : (terms : Terms) (moment : Moment) (start k : Kernel) (before : List Standing) (log0 : List Effect) (policy : Judging) (next0 : ℕ) (es ws : List Entry) (log : List Effect) (judge : Judging) (next : ℕ) → decisions_in ws ≡ [] → Walked terms moment start k before log0 policy next0 es log judge next → Walked terms moment start k before log0 policy next0 (es ++ ws) log judge next
+more terms moment start k before log0 policy next0 es ws log judge next none h = record {
   rulings = h.rulings;
   told = decisions_more es ws none ∙ h.told;
   judge_is = h.judge_is;
-  placed = λ r a. at_more present moment start k before es ws r (h.placed r a);
+  placed = λ r a. at_more terms.present moment start k before es ws r (h.placed r a);
   numbers = subst (λ (ds : List Decision). Follow next0 (numbers_on ds) next) (sym (decisions_more es ws none)) h.numbers;
   added = h.added;
   log_is = h.log_is;
-  each = λ e a. written_more before es ws k e (h.each e a);
+  each = λ e a. written_more terms.hub before es ws k e (h.each e a);
 }
 
 -- the context is the same after a verdict
@@ -134,30 +136,30 @@ at_again moment p records (judged.Malformed kind place) controller was = refl
 at_again moment p records (judged.Good dev) controller was = refl
 
 -- a verdict
-judged_more : (present : Bool) (moment : Moment) (start k : Kernel) (before : List Standing) (log0 : List Effect) (policy : Judging) (next0 : ℕ) (es : List Entry) (log : List Effect) (judge : Judging) (next i : ℕ) (name : List ℕ) (held : Held) (dev : Judged) (on : Bool) (ss : List Standing) → IsDevice k i name held dev → IsProbed start k name held.0 i on → Stand k ss next → AreLeft before es ss → AreMarkedIn swept_before name before es ss
-    → Walked present moment start k before log0 policy next0 es log judge next
-    → Walked present moment start k before log0 policy next0 (es ++ entry.Judged next name held (policy_answer judge dev (is_none (parent_of name)) present on ss).0 (policy_answer judge dev (is_none (parent_of name)) present on ss).1 ∷ []) log (policy_later judge dev (is_none (parent_of name)) present on ss) (next + 1)
-judged_more present moment start k before log0 policy next0 es log judge next i name held dev on ss d b stand left so h =
-    let r : Ruling = record { number = next; name = name; held = held; device = i; judged = dev; present = present; on = on; moment = moment; standings = ss } in
+judged_more : (terms : Terms) (moment : Moment) (start k : Kernel) (before : List Standing) (log0 : List Effect) (policy : Judging) (next0 : ℕ) (es : List Entry) (log : List Effect) (judge : Judging) (next i : ℕ) (name : List ℕ) (held : Held) (dev : Judged) (on : Bool) (ss : List Standing) → IsDevice k i name held dev → IsProbed start k name held.0 i on → Stand k ss next → AreLeft before es ss → AreMarkedIn swept_before name before es ss
+    → Walked terms moment start k before log0 policy next0 es log judge next
+    → Walked terms moment start k before log0 policy next0 (es ++ entry.Judged next name held (policy_answer judge dev (is_none (parent_of name)) terms.present on ss).0 (policy_answer judge dev (is_none (parent_of name)) terms.present on ss).1 ∷ []) log (policy_later judge dev (is_none (parent_of name)) terms.present on ss) (next + 1)
+judged_more terms moment start k before log0 policy next0 es log judge next i name held dev on ss d b stand left so h =
+    let r : Ruling = record { number = next; name = name; held = held; device = i; judged = dev; present = terms.present; on = on; moment = moment; standings = ss } in
     let p : Judging = after_rulings policy h.rulings in
-    let a : Target × Cause = policy_answer judge dev (is_none (parent_of name)) present on ss in
+    let a : Target × Cause = policy_answer judge dev (is_none (parent_of name)) terms.present on ss in
     let x : Entry = entry.Judged next name held a.0 a.1 in
-    let same : policy_answer judge dev (is_none (parent_of name)) present on ss ≡ ruling_answer p r = ap (λ (j : Judging). policy_answer j dev (is_none (parent_of name)) present on ss) h.judge_is in
+    let same : policy_answer judge dev (is_none (parent_of name)) terms.present on ss ≡ ruling_answer p r = ap (λ (j : Judging). policy_answer j dev (is_none (parent_of name)) terms.present on ss) h.judge_is in
     let this : Decision = record { number = next; name = name; held = held; verdict = a.0; cause = a.1 } in
     let that : this ≡ decision_by p r = ap (λ (v : Target × Cause). record { number = next; name = name; held = held; verdict = v.0; cause = v.1 }) same in
     let whole : decisions_in (es ++ x ∷ []) ≡ decisions_in es ++ this ∷ [] = decisions_append es (x ∷ []) in
     record {
       rulings = h.rulings ++ r ∷ [];
       told = whole ∙ ap (λ (l : List Decision). l ++ this ∷ []) h.told ∙ ap (λ (y : Decision). decisions_by policy h.rulings ++ y ∷ []) that ∙ sym (decisions_then policy h.rulings (r ∷ []));
-      judge_is = ap (λ (j : Judging). policy_later j dev (is_none (parent_of name)) present on ss) h.judge_is ∙ at_again moment p (allowed_records ss) dev (is_none (parent_of name)) present ∙ ap (λ (j : Judging). at_moment moment j) (sym (after_append policy h.rulings (r ∷ [])));
+      judge_is = ap (λ (j : Judging). policy_later j dev (is_none (parent_of name)) terms.present on ss) h.judge_is ∙ at_again moment p (allowed_records ss) dev (is_none (parent_of name)) terms.present ∙ ap (λ (j : Judging). at_moment moment j) (sym (after_append policy h.rulings (r ∷ [])));
       placed = λ q y. elim (last_is h.rulings r q y) [
-        | inl z ↦ at_more present moment start k before es (x ∷ []) q (h.placed q z)
-        | inr is ↦ subst (λ (q : Ruling). IsAt present moment start k before (es ++ x ∷ []) q) is (record { front = es; back = []; verdict = a.0; cause = a.1; at = refl; moment_is = refl; present_is = refl; device = d; probed = b; stand = stand; left = left; marked = so })
+        | inl z ↦ at_more terms.present moment start k before es (x ∷ []) q (h.placed q z)
+        | inr is ↦ subst (λ (q : Ruling). IsAt terms.present moment start k before (es ++ x ∷ []) q) is (record { front = es; back = []; verdict = a.0; cause = a.1; at = refl; moment_is = refl; present_is = refl; device = d; probed = b; stand = stand; left = left; marked = so })
       ];
       numbers = subst (λ (ds : List Decision). Follow next0 (numbers_on ds) (next + 1)) (sym whole) (subst (λ (l : List ℕ). Follow next0 l (next + 1)) (sym (numbers_append (decisions_in es) (this ∷ []))) (follow_append next0 (told_numbers es) (next ∷ []) next (next + 1) h.numbers (refl, refl)));
       added = h.added;
       log_is = h.log_is;
-      each = λ e y. written_more before es (x ∷ []) k e (h.each e y);
+      each = λ e y. written_more terms.hub before es (x ∷ []) k e (h.each e y);
     }
 
 -- the verdict that a number has is in force
@@ -173,19 +175,19 @@ forced before es next0 next number name held verdict low distinct follow (inr t)
     let f = fresh (decisions_in es) next0 next follow in
     (t.0, ap (λ (o : Option Decision). or_else o (standing_decision before number)) (f.told (record { number = number; name = name; held = held; verdict = verdict; cause = t.0 }) (has_decision es number name held verdict t.0 t.1)).1)
 
-pub walk : (present : Bool) (moment : Moment) (start k : Kernel) (before : List Standing) (log0 : List Effect) (policy : Judging) (next0 : ℕ) → ((s : Standing) → Has before s → s.number < next0) → AllDistinct (numbers_of before) → (es : List Entry) (log : List Effect) (judge : Judging) (next : ℕ) → Account policy_answer policy_later present swept_before start k before log0 (at_moment moment policy) next0 es log judge next → Walked present moment start k before log0 policy next0 es log judge next
-walk present moment start k before log0 policy next0 low distinct es log judge next Start = record { rulings = []; told = refl; judge_is = refl; placed = λ r h. absurd h; numbers = refl; added = []; log_is = sym (append-nil log0); each = λ e h. absurd h }
-walk present moment start k before log0 policy next0 low distinct es log judge next (Note fs m j n e t a) = more present moment start k before log0 policy next0 fs (e ∷ []) m j n (ap (λ (l : List Decision). l ++ []) (neither_none e t)) (walk present moment start k before log0 policy next0 low distinct fs m j n a)
-walk present moment start k before log0 policy next0 low distinct es log judge next (Judge fs m j n i name held dev on ss d b stand left so a) = judged_more present moment start k before log0 policy next0 fs m j n i name held dev on ss d b stand left so (walk present moment start k before log0 policy next0 low distinct fs m j n a)
-walk present moment start k before log0 policy next0 low distinct es log judge next (Had_not fs m j n i number name held dev verdict what outcome d v due once may a) = more present moment start k before log0 policy next0 fs (wrote_entries number name what outcome) m j n refl (walk present moment start k before log0 policy next0 low distinct fs m j n a)
-walk present moment start k before log0 policy next0 low distinct es log judge next (Went fs m j n i number name held dev verdict d o v a) = more present moment start k before log0 policy next0 fs (entry.Gone number name ∷ []) m j n refl (walk present moment start k before log0 policy next0 low distinct fs m j n a)
-walk present moment start k before log0 policy next0 low distinct es log judge next (Had fs m j n i number name held dev verdict what outcome d v due once may a) =
-    let old = walk present moment start k before log0 policy next0 low distinct fs m j n a in
+pub walk : (terms : Terms) (moment : Moment) (start k : Kernel) (before : List Standing) (log0 : List Effect) (policy : Judging) (next0 : ℕ) → ((s : Standing) → Has before s → s.number < next0) → AllDistinct (numbers_of before) → (es : List Entry) (log : List Effect) (judge : Judging) (next : ℕ) → Account policy_answer policy_later terms swept_before start k before log0 (at_moment moment policy) next0 es log judge next → Walked terms moment start k before log0 policy next0 es log judge next
+walk terms moment start k before log0 policy next0 low distinct es log judge next Start = record { rulings = []; told = refl; judge_is = refl; placed = λ r h. absurd h; numbers = refl; added = []; log_is = sym (append-nil log0); each = λ e h. absurd h }
+walk terms moment start k before log0 policy next0 low distinct es log judge next (Note fs m j n e t a) = more terms moment start k before log0 policy next0 fs (e ∷ []) m j n (ap (λ (l : List Decision). l ++ []) (neither_none e t)) (walk terms moment start k before log0 policy next0 low distinct fs m j n a)
+walk terms moment start k before log0 policy next0 low distinct es log judge next (Judge fs m j n i name held dev on ss d b stand left so a) = judged_more terms moment start k before log0 policy next0 fs m j n i name held dev on ss d b stand left so (walk terms moment start k before log0 policy next0 low distinct fs m j n a)
+walk terms moment start k before log0 policy next0 low distinct es log judge next (Had_not fs m j n i number name held dev verdict what outcome d v due once may a) = more terms moment start k before log0 policy next0 fs (wrote_entries number name what outcome) m j n refl (walk terms moment start k before log0 policy next0 low distinct fs m j n a)
+walk terms moment start k before log0 policy next0 low distinct es log judge next (Went fs m j n i number name held dev verdict d o v a) = more terms moment start k before log0 policy next0 fs (entry.Gone number name ∷ []) m j n refl (walk terms moment start k before log0 policy next0 low distinct fs m j n a)
+walk terms moment start k before log0 policy next0 low distinct es log judge next (Had fs m j n i number name held dev verdict what outcome d v due once may a) =
+    let old = walk terms moment start k before log0 policy next0 low distinct fs m j n a in
     let two : List Entry = wrote_entries number name what outcome in
     let new : Effect = record { device = i; write = what } in
-    let h = more present moment start k before log0 policy next0 fs two m j n refl old in
+    let h = more terms moment start k before log0 policy next0 fs two m j n refl old in
     let given = forced before fs next0 n number name held verdict low distinct old.numbers v in
-    let this : WasWritten before (fs ++ two) k new = record {
+    let this : WasWritten terms.hub before (fs ++ two) k new = record {
       decision = record { number = number; name = name; held = held; verdict = verdict; cause = given.0 };
       judged = dev;
       outcome = outcome;
@@ -207,6 +209,6 @@ walk present moment start k before log0 policy next0 low distinct es log judge n
       log_is = ap (λ (l : List Effect). l ++ new ∷ []) h.log_is ∙ append_assoc log0 h.added (new ∷ []);
       each = λ e y. elim (last_is h.added new e y) [
         | inl z ↦ h.each e z
-        | inr same ↦ subst (λ (x : Effect). WasWritten before (fs ++ two) k x) same this
+        | inr same ↦ subst (λ (x : Effect). WasWritten terms.hub before (fs ++ two) k x) same this
       ];
     }

@@ -10,10 +10,12 @@ use Rattle.ug_types.specs.declared.verdict.Cause.{Cause}
 use Rattle.ug_types.specs.declared.verdict.Cause.TheVariants as causes
 use Rattle.ug_types.specs.declared.verdict.Moment.{Moment}
 use Rattle.ug_types.specs.declared.control.Control.TheVariants.{Authorized}
+use Rattle.ug_types.specs.declared.control.Write.{Write}
 use Rattle.ug_types.specs.Principals.{Named}
 use Rattle.ug_kernel.specs.declared.device.Device.{Device}
 use Rattle.ug_kernel.specs.declared.device.Effect.{Effect}
 use Rattle.ug_kernel.specs.declared.calls.Wrote.{Wrote}
+use Rattle.ug_kernel.specs.Guarded.{default_at, set_by}
 use Rattle.ug_kernel.specs.Kernel.{Kernel, Live, Moves}
 use Rattle.ug_audit.specs.declared.entry.Entry.{Entry}
 use Rattle.ug_audit.specs.declared.entry.Entry.TheVariants as entry
@@ -26,13 +28,13 @@ use Rattle.ug_proto.specs.Privileges.{needs}
 use Rattle.ug_proto.specs.Requests.{request_read}
 use Rattle.ug_store.specs.Disk.{Disk, IsAsItWas}
 use Rattle.ug_table.specs.Allowed.{allowed_records}
-use Rattle.ug_table.specs.Bring.{CallsFor}
-use Rattle.ug_table.specs.Laws.{IsDevice, IsProbed, Stand, AreLeft, AreMarkedIn, swept_before, MayHave, wrote_entries, IsJudged, IsAsJudged}
+use Rattle.ug_table.specs.Bring.{CallsFor, default_of}
+use Rattle.ug_table.specs.Laws.{IsDevice, IsProbed, Stand, AreDefaulted, AreLeft, AreMarkedIn, swept_before, MayHave, wrote_entries, IsJudged, IsAsJudged}
 use Rattle.ug_table.specs.Standings.{numbered}
 use Rattle.ug_table.specs.declared.standing.Standing.{Standing}
 use Rattle.ug_core.specs.Policy.{Judging}
 use Rattle.ug_core.specs.Verdicts.{IsVerdict}
-use Rattle.ug_core.specs.Durable.{IsKept, unsure_after, KeepsRules, KeepsFile, texts_of}
+use Rattle.ug_core.specs.Durable.{IsKept, unsure_behind, unsure_with, KeepsRules, KeepsFile, texts_of}
 use Rattle.ug_core.specs.Event.{DaemonState, IsStarted, moment_of, ready}
 use Rattle.ug_core.specs.Privileges.{is_granted}
 use Rattle.ug_core.specs.InForce.{Decision, decision_of, decisions_in, is_ordered, unordered, in_force, Agree, given_numbers, Follow}
@@ -67,7 +69,7 @@ ready_of h = ready h.event h.tried h.before
 pub record IsEvent (h : Happened) : Type 0 where
   pub answers : AnswersEvent h.event h.kernel (ready_of h) h.became h.kernel_answered h.answered
   pub handled : Handled h.kernel_answered h.answered h.kernel_after h.after
-  pub file : KeepsFile (λ (o : Option Disk). o) h.event h.disk h.before h.disk_after h.after
+  pub file : KeepsFile (λ (o : Option Disk). o) h.event h.tried h.became h.disk h.before h.disk_after h.after
 
 -- where a disk is told, one was told before, and is as it was
 abbrev pub StaysOnDisk : Option Disk → Option Disk → Type 0
@@ -196,8 +198,9 @@ WasDecided policy hs steps k i d =
     WasJudged policy hs steps k i d
     ⊎ (WasOrdered hs d × (slice_get k.held d.held.0 ≡ Some (record { device = i; control = Authorized })))
 
--- The effect is that of a write that is told. The verdict in force before its intent calls for it, and was given on that device.
-pub record IsExplained (policy : Judging) (hs : List Happened) (steps : List PolicyStep) (k : Kernel) (effect : Effect) : Type 0 where
+-- The effect is that of a write that is told. The verdict in force before its intent calls for it, or the setting of the defaults does; and
+-- the verdict was given on that device.
+pub record IsExplained (hub : Option Write) (policy : Judging) (hs : List Happened) (steps : List PolicyStep) (k : Kernel) (effect : Effect) : Type 0 where
   pub decision : Decision
   pub outcome : Wrote
   pub front : List Entry
@@ -205,25 +208,31 @@ pub record IsExplained (policy : Judging) (hs : List Happened) (steps : List Pol
   pub at : journal hs ≡ front ++ (wrote_entries decision.number decision.name effect.write outcome ++ back)
   pub may : MayHave outcome
   pub force : in_force [] front decision.number ≡ Some decision
-  pub wanted : CallsFor decision.verdict effect.write
+  pub wanted : CallsFor hub decision.name decision.verdict effect.write
   pub decided : WasDecided policy hs steps k effect.device decision
 
 -- each effect since the first kernel is explained
-pub record AllExplained (policy : Judging) (hs : List Happened) (steps : List PolicyStep) (first k : Kernel) : Type 0 where
+pub record AllExplained (hub : Option Write) (policy : Judging) (hs : List Happened) (steps : List PolicyStep) (first k : Kernel) : Type 0 where
   pub added : List Effect
   pub log : k.log ≡ first.log ++ added
-  pub each : (effect : Effect) → Has added effect → IsExplained policy hs steps k effect
+  pub each : (effect : Effect) → Has added effect → IsExplained hub policy hs steps k effect
 
--- the device was judged under the number of its standing and under no other, and stands as judged
-pub record IsJudgedOnce (policy : Judging) (hs : List Happened) (steps : List PolicyStep) (k : Kernel) (standings : List Standing) (i : ℕ) : Type 0 where
-  pub stands : IsAsJudged k standings i
+-- the device was judged under the number of its standing and under no other, and stands as judged; and where it is a root hub whose default
+-- is written, it has that default
+pub record IsJudgedOnce (hub : Option Write) (policy : Judging) (hs : List Happened) (steps : List PolicyStep) (k : Kernel) (standings : List Standing) (i : ℕ) : Type 0 where
+  pub stands : IsAsJudged hub k standings i
   pub decided : WasDecided policy hs steps k i (decision_of stands.standing.s)
+  pub default : (what : Write) → parent_of stands.standing.s.name ≡ None → default_of hub ≡ Some what → default_at i k ≡ set_by what
   pub once : (number : ℕ) → IsJudged k (journal hs) number i → number ≡ stands.standing.s.number
 
--- the texts that aren't sure after these events
+-- the texts that aren't sure after an event, and after these events
+
+abbrev pub unsure_past : List (List ℕ) → Happened → List (List ℕ)
+unsure_past unsure h = unsure_behind h.became (texts_of h.event h.before) (unsure_with h.tried unsure)
+
 abbrev pub unsure_of : List (List ℕ) → List Happened → List (List ℕ)
 unsure_of unsure [] = unsure
-unsure_of unsure (h ∷ hs) = unsure_of (unsure_after (texts_of h.event h.before) unsure h.after.sweep.entries) hs
+unsure_of unsure (h ∷ hs) = unsure_of (unsure_past unsure h) hs
 
 -- the disk was told before the event and after it, and at each moment of it the rule file was kept
 pub record KeptIn (unsure : List (List ℕ)) (h : Happened) : Type 0 where
@@ -231,12 +240,13 @@ pub record KeptIn (unsure : List (List ℕ)) (h : Happened) : Type 0 where
   pub told : h.disk ≡ Some disk
   pub disk_after : Disk
   pub told_after : h.disk_after ≡ Some disk_after
-  pub kept : KeepsRules (texts_of h.event h.before) h.before unsure disk h.after disk_after
+  pub before : IsKept h.before.sweep.judge.rules unsure disk.left
+  pub kept : KeepsRules (texts_of h.event h.before) h.tried h.became h.before unsure disk h.after disk_after
 
 -- in each event
 abbrev pub EachKept : List (List ℕ) → List Happened → Type 0
 EachKept unsure [] = Unit {0}
-EachKept unsure (h ∷ hs) = KeptIn unsure h × EachKept (unsure_after (texts_of h.event h.before) unsure h.after.sweep.entries) hs
+EachKept unsure (h ∷ hs) = KeptIn unsure h × EachKept (unsure_past unsure h) hs
 
 -- Where a disk is told at the end, one was told at the start. Where a crash then left no text but that of the rules, or one of those that
 -- aren't sure, it is so at each moment since; and each save that is done makes sure.
@@ -246,20 +256,22 @@ IsKeptThroughout rules o hs p later = (n : Disk) → p ≡ Some n → (m : Disk)
 -- What holds of any run from a start with that policy. What its events tell of the policy, in order, is a list of steps: rulings, each at
 -- its place and each by the policy as the steps before it left it, and changes, each as an order of one who may asked for it. All other
 -- decisions were ordered by somebody who may. Each effect is explained. Each new device got the next number; each standing has the
--- verdict in force; and a device that still lives and stands as judged was judged once. The rule file is kept.
-pub record IsRun (policy : Judging) (first : Kernel) (o : Option Disk) (hs : List Happened) (k : Kernel) (p : Option Disk) (e : DaemonState) : Type 0 where
+-- verdict in force; what is written to the defaults stays, and is the default of each device whose standing is marked so; and a device that still lives and stands as judged was judged once. The rule file is kept.
+pub record IsRun (policy : Judging) (hub : Option Write) (first : Kernel) (o : Option Disk) (hs : List Happened) (k : Kernel) (p : Option Disk) (e : DaemonState) : Type 0 where
   pub steps : List PolicyStep
   pub told : told_of hs ≡ told_by policy steps
   pub can : CanTake policy steps
   pub placed : (r : Ruling) → Has steps (Ruled r) → IsPlaced hs k r
   pub changed : (change : Change) → Has steps (Changed change) → WasAsked hs change
   pub ordered : (d : Decision) → Has (decisions_in (journal hs)) d → is_ordered d.cause ≡ true → WasOrdered hs d
-  pub explained : AllExplained policy hs steps first k
+  pub explained : AllExplained hub policy hs steps first k
   pub numbers : Follow 1 (given_numbers (journal hs)) e.sweep.next
   pub agree : Agree [] (journal hs) e.sweep.standings
+  pub setting : e.sweep.hub ≡ hub
+  pub defaulted : AreDefaulted hub k e.sweep.standings
   pub listed : e.sweep.listed ≡ has_listed hs
-  pub once : (i : ℕ) (d : Device) → Live k.devices i d → IsAsJudged k e.sweep.standings i → IsJudgedOnce policy hs steps k e.sweep.standings i
+  pub once : (i : ℕ) (d : Device) → Live k.devices i d → IsAsJudged hub k e.sweep.standings i → IsJudgedOnce hub policy hs steps k e.sweep.standings i
   pub file : IsKeptThroughout policy.rules o hs p e.sweep.judge.rules
 
 abbrev pub AreRuns : Type 0
-AreRuns = (policy : Judging) (number : ℕ) (first : Kernel) (o : Option Disk) (d : DaemonState) (hs : List Happened) (k : Kernel) (p : Option Disk) (e : DaemonState) → IsStarted policy number d → Chain first o d hs k p e → IsRun policy first o hs k p e
+AreRuns = (policy : Judging) (hub : Option Write) (number : ℕ) (first : Kernel) (o : Option Disk) (d : DaemonState) (hs : List Happened) (k : Kernel) (p : Option Disk) (e : DaemonState) → IsStarted policy hub number d → Chain first o d hs k p e → IsRun policy hub first o hs k p e

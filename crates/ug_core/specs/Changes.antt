@@ -23,7 +23,7 @@ use Rattle.ug_proto.specs.declared.request.Request.TheVariants as request
 use Rattle.ug_rule.specs.Rules.{rule_read}
 use Rattle.ug_rule.specs.declared.fault.Fault.{Fault}
 use Rattle.ug_rules.specs.RuleEdits.{CanEdit, EditReads, HasRoomFor, changes_file, edited_by, next_after}
-use Rattle.ug_rules.specs.RuleFile.{FitsFile, permanent_text}
+use Rattle.ug_rules.specs.RuleFile.{IsSaveable, permanent_text}
 use Rattle.ug_rules.specs.RulePlaces.{made_rule}
 use Rattle.ug_rules.specs.declared.edit.Edit.{Edit}
 use Rattle.ug_rules.specs.declared.edit.Edit.TheVariants.{Insert, Remove, Retarget}
@@ -115,10 +115,10 @@ text_if_saved false change p = None
 abbrev pub text_to_save : Change → Judging → Option (List ℕ)
 text_to_save change p = text_if_saved (is_saved change p.rules) change p
 
--- a rule file has room for the rules that it leaves
-abbrev pub ChangeFits : Change → Judging → Type 0
-ChangeFits (Rules edit) p = FitsFile (edited_by edit p.next p.rules)
-ChangeFits (Set set) p = Unit {0}
+-- the permanent rules that it leaves can be saved
+abbrev pub ChangeSaves : Change → Judging → Type 0
+ChangeSaves (Rules edit) p = IsSaveable (edited_by edit p.next p.rules)
+ChangeSaves (Set set) p = Unit {0}
 
 -- what is noted of it, where that id is the next
 abbrev pub change_entry : Change → ℕ → Entry

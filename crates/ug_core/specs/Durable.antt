@@ -3,6 +3,8 @@ use Rattle.std.specs.Prelude.{◌≡◌, ℕ, cond, List, [], ◌∷◌, ◌++�
 use Rattle.ug_types.specs.Elements.{Has}
 use Rattle.ug_types.specs.Principals.{Named}
 use Rattle.ug_types.specs.declared.refusal.Refusal.TheVariants as refusal
+use Rattle.ug_types.specs.declared.rule.Rule.{Rule}
+use Rattle.ug_types.specs.declared.saved.Saved.{Saved}
 use Rattle.ug_types.specs.declared.saved.Saved.TheVariants as saved
 use Rattle.ug_audit.specs.declared.entry.Entry.{Entry}
 use Rattle.ug_audit.specs.declared.entry.Entry.TheVariants as entry
@@ -11,32 +13,50 @@ use Rattle.ug_store.specs.Disk.{Disk, Images, IsImage}
 use Rattle.ug_proto.specs.Privileges.{needs}
 use Rattle.ug_proto.specs.Requests.{request_read}
 use Rattle.ug_proto.specs.declared.request.Request.{Request}
-use Rattle.ug_core.specs.Changes.{change_asked, text_to_save}
+use Rattle.ug_core.specs.Changes.{change_asked, changed_by, is_saved, text_to_save}
 use Rattle.ug_core.specs.Event.{DaemonState}
 use Rattle.ug_core.specs.Policy.{Judging}
 use Rattle.ug_core.specs.Privileges.{is_granted}
+use Rattle.ug_core.specs.Storing.{WritesRules}
 use Rattle.ug_core.specs.declared.changes.Change.{Change}
+use Rattle.ug_core.specs.declared.storing.Stored.{Stored}
+use Rattle.ug_core.specs.declared.storing.Stored.TheVariants as stored
 use Rattle.ug_core.specs.declared.daemon.Event.{Event}
 use Rattle.ug_core.specs.declared.daemon.Event.TheVariants.{Sweep, Order}
-use Rattle.ug_rules.specs.RuleFile.{permanent_text}
+use Rattle.ug_rules.specs.RuleFile.{permanent_rules, permanent_text}
 
 -- each text that a crash may leave is the text of the permanent rules, or one that isn't sure
 abbrev pub IsKept : List RuleEntry → List (List ℕ) → Images → Type 0
 IsKept rules unsure images = (text : List ℕ) → IsImage images text → (text ≡ permanent_text rules) ⊎ Has unsure text
 
--- after a save that was done nothing but its text is left; after an order whose save failed, perhaps the text that it was to save
-abbrev pub unsure_by : List (List ℕ) → List (List ℕ) → Entry → List (List ℕ)
-unsure_by texts unsure (entry.Save saved.Done) = []
-unsure_by texts unsure (entry.Reply (Err (refusal.StoreFault count))) = texts ++ unsure
-unsure_by texts unsure e = unsure
+-- A save that was done leaves nothing else: behind a pending save, and behind an order, which perhaps leaves what it was to save where its
+-- save failed. What isn't sure may be told by texts, or by the rules that they have.
 
--- the texts that aren't sure after these entries
-abbrev pub unsure_after : List (List ℕ) → List (List ℕ) → List Entry → List (List ℕ)
-unsure_after texts unsure [] = unsure
-unsure_after texts unsure (e ∷ es) = unsure_after texts (unsure_by texts unsure e) es
+abbrev pub unsure_with : {X : Type 0} → Option Saved → List X → List X
+unsure_with (Some saved.Done) unsure = []
+unsure_with tried unsure = unsure
 
--- the text that an order is to save: that of the permanent rules after just what it asks for, if one asks who may, and if it asks for
--- a change of them
+abbrev pub unsure_behind : {X : Type 0} → Stored → List X → List X → List X
+unsure_behind stored.Done asked unsure = []
+unsure_behind (stored.Failed count) asked unsure = asked ++ unsure
+unsure_behind became asked unsure = unsure
+
+-- what an order was to save, if it wrote it
+abbrev pub if_written : {X : Type 0} → Stored → List X → List X
+if_written stored.Done asked = asked
+if_written (stored.Failed count) asked = asked
+if_written became asked = []
+
+-- The change that an order asks for, if one asks who may. Where it concerns permanent rules, what it is to save: their text after just this
+-- change, and these rules.
+
+abbrev pub change_ordered : Named → DaemonState → Result Request ℕ → Option Change
+change_ordered who d (Ok asked) = cond (is_granted d.access who (needs asked)) (change_asked d.sweep.standings d.sweep.judge (Ok asked)) None
+change_ordered who d (Err place) = None
+
+abbrev pub change_in : Event → DaemonState → Option Change
+change_in (Sweep moment) d = None
+change_in (Order moment who line) d = change_ordered who d (request_read line)
 
 abbrev pub as_list : Option (List ℕ) → List (List ℕ)
 as_list (Some text) = text ∷ []
@@ -47,25 +67,42 @@ text_of_change (Some change) p = as_list (text_to_save change p)
 text_of_change None p = []
 
 abbrev pub text_of_request : Named → DaemonState → Result Request ℕ → List (List ℕ)
-text_of_request who d (Ok asked) = cond (is_granted d.access who (needs asked)) (text_of_change (change_asked d.sweep.standings d.sweep.judge (Ok asked)) d.sweep.judge) []
-text_of_request who d (Err place) = []
+text_of_request who d read = text_of_change (change_ordered who d read) d.sweep.judge
 
 abbrev pub texts_of : Event → DaemonState → List (List ℕ)
 texts_of (Sweep moment) d = []
 texts_of (Order moment who line) d = text_of_request who d (request_read line)
 
--- within each call of an event a crash leaves the text of the permanent rules, or that of its order, or one that wasn't sure before it;
--- and so after it
-pub record KeepsRules (texts : List (List ℕ)) (d : DaemonState) (unsure : List (List ℕ)) (m : Disk) (e : DaemonState) (n : Disk) : Type 0 where
-  pub since : List Images
-  pub past : n.past ≡ m.past ++ since
-  pub each : (images : Images) → Has since images → IsKept d.sweep.judge.rules (texts ++ unsure) images
-  pub left : IsKept e.sweep.judge.rules (unsure_after texts unsure e.sweep.entries) n.left
+abbrev pub rules_of_change : Option Change → Judging → List (List Rule)
+rules_of_change (Some change) p = cond (is_saved change p.rules) (permanent_rules (changed_by change p).rules ∷ []) []
+rules_of_change None p = []
+
+abbrev pub rules_of : Event → DaemonState → List (List Rule)
+rules_of event d = rules_of_change (change_in event d) d.sweep.judge
+
+-- what an order wrote can be read again
+abbrev pub WritesEvent : Event → DaemonState → Stored → Type 0
+WritesEvent event d became = WritesRules became (change_in event d) d.sweep.judge
+
+-- At each moment of an event a crash leaves the text of the permanent rules in force, or one that isn't sure: within the calls of a pending
+-- save, one that wasn't sure before the event; within those of its order, the one that this writes, or one that still isn't sure; and after
+-- it. It may leave the rule file as it is. The permanent rules stay as they were, unless the save of the order was done; and the entries tell what became of that.
+pub record KeepsRules (texts : List (List ℕ)) (tried : Option Saved) (became : Stored) (d : DaemonState) (unsure : List (List ℕ)) (m : Disk) (e : DaemonState) (n : Disk) : Type 0 where
+  pub saving : List Images
+  pub ordering : List Images
+  pub past : n.past ≡ (m.past ++ saving) ++ ordering
+  pub first : (images : Images) → Has saving images → IsKept d.sweep.judge.rules unsure images
+  pub second : (images : Images) → Has ordering images → IsKept d.sweep.judge.rules (if_written became texts ++ unsure_with tried unsure) images
+  pub left : IsKept e.sweep.judge.rules (unsure_behind became texts (unsure_with tried unsure)) n.left
+  pub possible : IsImage m.left m.text → IsImage n.left n.text
+  pub same : ((became ≡ stored.Done) → ⊥) → permanent_text e.sweep.judge.rules ≡ permanent_text d.sweep.judge.rules
+  pub done : became ≡ stored.Done → Has texts (permanent_text e.sweep.judge.rules) × Has e.sweep.entries (entry.Save saved.Done)
+  pub failed : (count : ℕ) → became ≡ stored.Failed count → Has e.sweep.entries (entry.Reply (Err (refusal.StoreFault count)))
 
 -- from a disk of which a crash leaves no other text
-abbrev pub FileIsKept : Event → DaemonState → Disk → DaemonState → Disk → Type 0
-FileIsKept event d m e n = (unsure : List (List ℕ)) → IsKept d.sweep.judge.rules unsure m.left → KeepsRules (texts_of event d) d unsure m e n
+abbrev pub FileIsKept : Event → Option Saved → Stored → DaemonState → Disk → DaemonState → Disk → Type 0
+FileIsKept event tried became d m e n = (unsure : List (List ℕ)) → IsKept d.sweep.judge.rules unsure m.left → KeepsRules (texts_of event d) tried became d unsure m e n
 
 -- where a disk is told after the event, one was told before it, and this is so
-abbrev pub KeepsFile : {S : Type 0} → (S → Option Disk) → Event → S → DaemonState → S → DaemonState → Type 0
-KeepsFile told event o d p e = (n : Disk) → told p ≡ Some n → (m : Disk) × (told o ≡ Some m) × FileIsKept event d m e n
+abbrev pub KeepsFile : {S : Type 0} → (S → Option Disk) → Event → Option Saved → Stored → S → DaemonState → S → DaemonState → Type 0
+KeepsFile told event tried became o d p e = (n : Disk) → told p ≡ Some n → (m : Disk) × (told o ≡ Some m) × FileIsKept event tried became d m e n

@@ -1,6 +1,7 @@
 -- An event of the daemon, in stages, each of which is on one object: a pending save, an order, and the sweep.
 use Rattle.std.specs.Prelude.{◌≡◌, ℕ, ◌+◌, ◌-◌, ◌^◌, Bool, true, false, ◌&&◌, nat_le, nat_lt, List, [], ◌∷◌, ◌++◌, Option, Some, None}
 use Rattle.rand_core.specs.declared.Rng.{Ghosts}
+use Rattle.ug_types.specs.declared.control.Write.{Write}
 use Rattle.ug_types.specs.declared.saved.Saved.{Saved}
 use Rattle.ug_types.specs.declared.saved.Saved.TheVariants as saved
 use Rattle.ug_types.specs.declared.verdict.Moment.{Moment}
@@ -34,7 +35,7 @@ pub record DaemonState : Type 0 where
 
 abbrev pub daemon_of : {R : Type 0} {g : Ghosts R} → Daemon R g → DaemonState
 daemon_of {g = g} d = record {
-  sweep = record { standings = d.table.standings; next = d.table.next; listed = d.table.listed; judge = judging_of g.stream d.policy; entries = without_drops d.report.entries.entries };
+  sweep = record { standings = d.table.standings; next = d.table.next; listed = d.table.listed; judge = judging_of g.stream d.policy; hub = d.hub_default; entries = without_drops d.report.entries.entries };
   access = d.acl;
   pending = d.store;
   event = d.next_event;
@@ -111,9 +112,10 @@ abbrev pub has_numbers : DaemonState → ℕ → ℕ → Bool
 has_numbers d sysfs_faults disk_faults =
     is_low d.sweep.next && is_low d.event && is_low sysfs_faults && is_low disk_faults && nat_lt d.sweep.judge.next (2 ^ 64 - 1)
 
--- a new daemon judges by that policy, has no standing, has noted nothing, and no save is pending
-pub record IsStarted (policy : Judging) (first : ℕ) (d : DaemonState) : Type 0 where
+-- a new daemon judges by that policy, writes that to the default of each root hub, has no standing, has noted nothing, and no save is pending
+pub record IsStarted (policy : Judging) (to_hubs : Option Write) (first : ℕ) (d : DaemonState) : Type 0 where
   pub judge : d.sweep.judge ≡ policy
+  pub hub : d.sweep.hub ≡ to_hubs
   pub standings : d.sweep.standings ≡ []
   pub next : d.sweep.next ≡ 1
   pub listed : d.sweep.listed ≡ false

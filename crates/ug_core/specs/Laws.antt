@@ -43,7 +43,7 @@ use Rattle.ug_table.specs.declared.standing.Standing.{Standing}
 use Rattle.ug_core.specs.Answering.{acting, answered_with, asking, deed_after, replying}
 use Rattle.ug_core.specs.Changes.{CanChange, change_asked, change_lines, changed_by, is_saved, lines_of, parameter_at}
 use Rattle.ug_core.specs.Storing.{TellsStored, noted_store, refused_by, stored_with, storing, with_changes}
-use Rattle.ug_rules.specs.RuleFile.{FitsFile}
+use Rattle.ug_rules.specs.RuleFile.{FitsFile, IsSaveable}
 use Rattle.ug_rules.specs.RulePlaces.{has_rule}
 use Rattle.ug_rules.specs.declared.edit.Edit.TheVariants.{Insert}
 use Rattle.ug_core.specs.DeviceRows.{device_rows}
@@ -51,7 +51,7 @@ use Rattle.ug_rules.specs.RuleRows.{rule_rows}
 use Rattle.ug_core.specs.Policy.{Judging, policy_answer, policy_later}
 use Rattle.ug_core.specs.Privileges.{denied_of, is_granted}
 use Rattle.ug_core.specs.Event.{DaemonState, ready, trying, handling}
-use Rattle.ug_core.specs.Durable.{KeepsFile}
+use Rattle.ug_core.specs.Durable.{KeepsFile, WritesEvent}
 use Rattle.ug_core.specs.declared.changes.Change.{Change}
 use Rattle.ug_core.specs.declared.changes.Change.TheVariants.{Rules}
 use Rattle.ug_core.specs.declared.choosing.Choice.{Choice}
@@ -67,6 +67,7 @@ pub record Handled (k : Kernel) (d : DaemonState) (l : Kernel) (e : DaemonState)
   pub swept : State Judging
   pub law : Swept policy_answer policy_later k d.sweep l swept
   pub entries : e.sweep ≡ record swept { entries = swept.entries ++ entry.End d.event ∷ [] }
+  pub hub : e.sweep.hub ≡ d.sweep.hub
   pub access : e.access ≡ d.access
   pub pending : e.pending ≡ d.pending
   pub event : e.event ≡ d.event + 1
@@ -333,7 +334,7 @@ TellsTried (Some saved) before after = (before ≤ after) × TellsSaveFault save
 
 -- An event: on the disk a pending save, and what became of it; on the kernel, where the numbering of calls begins anew, and on the disk the
 -- order from the state behind that; and on the kernel the sweep from the state behind the order. What a crash may leave of the rule file is
--- kept.
+-- kept, and what was written to it can be read again.
 pub record HandlesEvent {S T : Type 0} (begins : S → S → Type 0) (gives : S → (call : Call) → Answer call → S → Type 0) (told : S → Option Kernel) (calls faults : S → ℕ) (keeps : T → (call : DiskCall) → DiskTold call → T → Type 0) (told_disk : T → Option Disk) (disk_faults : T → ℕ) (event : Event) (s : S) (o : T) (d : DaemonState) (t : S) (p : T) (e : DaemonState) : Type 0 where
   pub tried : Option Saved
   pub disk_tried : T
@@ -346,9 +347,34 @@ pub record HandlesEvent {S T : Type 0} (begins : S → S → Type 0) (gives : S 
   pub answered : DaemonState
   pub answers : RunsAnswer gives keeps event start disk_tried (ready event tried d) became middle p answered
   pub answers_law : Answers told event s (ready event tried d) became middle answered
+  pub written : WritesEvent event d became
+  pub saveable : IsSaveable d.sweep.judge.rules
+  pub saveable_after : IsSaveable e.sweep.judge.rules
   pub counted_store : TellsStored became (disk_faults disk_tried) (disk_faults p)
   pub runs : Runs gives middle (handling answered) e t
   pub law : Handles told middle answered t e
   pub faults_told : TellsEvent gives calls faults event start (ready event tried d) became middle answered t e
   pub once : NamesOnceIn told middle answered t e
-  pub file : KeepsFile told_disk event o d p e
+  pub file : KeepsFile told_disk event tried became o d p e
+
+-- An event with something between its stages, on the kernel's object, which that relation tells: behind the pending save, and behind the
+-- order. The stages are those of an event, and what a crash may leave of the rule file is kept.
+pub record PassesEvent {S T : Type 0} (goes : S → T → S → Type 0) (begins : S → S → Type 0) (gives : S → (call : Call) → Answer call → S → Type 0) (keeps : T → (call : DiskCall) → DiskTold call → T → Type 0) (told_disk : T → Option Disk) (event : Event) (s : S) (o : T) (d : DaemonState) (t : S) (p : T) (e : DaemonState) : Type 0 where
+  pub tried : Option Saved
+  pub disk_tried : T
+  pub tries : RunsDisk keeps o (trying d) tried disk_tried
+  pub start : S
+  pub begun_there : begins s start
+  pub started : S
+  pub passes : goes start disk_tried started
+  pub became : Stored
+  pub middle : S
+  pub answered : DaemonState
+  pub answers : RunsAnswer gives keeps event started disk_tried (ready event tried d) became middle p answered
+  pub resumed : S
+  pub passes_on : goes middle p resumed
+  pub runs : Runs gives resumed (handling answered) e t
+  pub written : WritesEvent event d became
+  pub saveable : IsSaveable d.sweep.judge.rules
+  pub saveable_after : IsSaveable e.sweep.judge.rules
+  pub file : KeepsFile told_disk event tried became o d p e

@@ -13,3 +13,4 @@ pub mod Rulings
 pub mod Chain
 pub mod Starting
 pub mod DeviceRows
+pub mod Stops

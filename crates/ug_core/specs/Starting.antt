@@ -1,6 +1,7 @@
 -- The rules that a daemon starts with.
 use Rattle.std.specs.Prelude.{◌≡◌, ℕ, ◌+◌, ◌<◌, ◌≤◌, Bool, false, List, [], ◌∷◌, length, Option, Result, Ok, Err}
 use Rattle.rand_core.specs.Stream.{Stream}
+use Rattle.ug_types.specs.declared.control.Write.{Write}
 use Rattle.ug_types.specs.declared.rule.Rule.{Rule}
 use Rattle.ug_types.specs.declared.text_fault.FileFault.{FileFault}
 use Rattle.ug_types.specs.declared.text_fault.FileFault.TheVariants as file
@@ -92,6 +93,7 @@ pub record Loads {S : Type 0} (keeps : S → (call : DiskCall) → DiskTold call
 -- what a daemon is started with, beside its rules
 pub record Outset : Type 0 where
   pub classes : Classes
+  pub hub : Option Write
   pub access : List Addition
   pub clock : ℕ → ℕ
   pub words : Stream
@@ -110,7 +112,7 @@ policy_at outset list = record {
 
 -- a new daemon with what was loaded, and with that access
 pub record StartsWithRules (outset : Outset) (loaded : Bool × Rules) (d : DaemonState) : Type 0 where
-  pub started : IsStarted (policy_at outset loaded.1) outset.first d
+  pub started : IsStarted (policy_at outset loaded.1) outset.hub outset.first d
   pub access : d.access ≡ outset.access
   pub pending : d.pending ≡ loaded.0
 

@@ -9,7 +9,7 @@ use Rattle.ug_audit.specs.declared.entry.Entry.TheVariants as entry
 use Rattle.ug_print.specs.RuleTexts.{rules_limit}
 use Rattle.ug_rules.specs.RuleFile.{permanent_text}
 use Rattle.ug_store.specs.Store.{DiskProg, Ended, DiskRoom, then_disk, saving}
-use Rattle.ug_core.specs.Changes.{change_entry, changed_by, is_saved}
+use Rattle.ug_core.specs.Changes.{ChangeSaves, change_entry, changed_by, is_saved}
 use Rattle.ug_core.specs.Event.{DaemonState, noting}
 use Rattle.ug_core.specs.Policy.{Judging}
 use Rattle.ug_core.specs.declared.changes.Change.{Change}
@@ -46,6 +46,17 @@ unfoldable pub storing : DaemonState → Option Change → DiskProg Stored
 storing d change = storing_change d.sweep.judge change
 
 -- ---- what is left behind them
+
+-- something was written for the change: its save was done, or failed
+abbrev pub has_written : Stored → Bool
+has_written stored.Done = true
+has_written (stored.Failed count) = true
+has_written became = false
+
+-- what was written can be read again: it is saved of rules that can be
+abbrev pub WritesRules : Stored → Option Change → Judging → Type 0
+WritesRules became (Some change) p = has_written became ≡ true → ChangeSaves change p
+WritesRules became None p = Unit {0}
 
 -- why the change isn't in force
 abbrev pub refused_by : Stored → Option Refusal

@@ -6,8 +6,9 @@ ghost use Rattle.ug_audit.specs.Noting.{NotesEntries, tells_drop, without_drops}
 ghost use Rattle.ug_store.specs.Store.{RunsDisk, pending_after};
 ghost use Rattle.ug_table.specs.Parts.{unsettled_names};
 ghost use Rattle.ug_core.specs.Event.{begun, daemon_of, first_entry, handling, has_numbers, is_low, moment_of, noting, NotesMore, saving_rules, tried_with, trying};
-ghost use Rattle.ug_core.specs.Laws.{Handles, HandlesEvent, NamesOnceIn, TellsSweep, TellsTried};
+ghost use Rattle.ug_core.specs.Laws.{Handles, HandlesEvent, NamesOnceIn, PassesEvent, TellsSweep, TellsTried};
 
+use crate::between::Between;
 use crate::daemon::{Daemon, Event};
 use crate::report::Report;
 use rand_core::Rng;
@@ -106,19 +107,54 @@ impl<'z, R: Rng> Daemon<'z, R> {
         ensures alone { live_in panel.old ≡ 0
             → without_drops self.new.report.entries.entries ≡ self.new.report.entries.entries }
     {
-        // The standings are in order.
+        // The standings are in order, and the permanent rules can be saved.
         let _next = self.table.next_number();
+        self.policy.stay_saveable();
         self.begin(event, panel);
         let _tried = self.save_pending(alloc, disk, panel);
         sysfs.begin();
         let _stored = self.answer(alloc, event, sysfs, disk, panel);
         self.sweep(alloc, sysfs, panel);
+        self.policy.stay_saveable();
+    }
+
+    /// The same, with something between its stages.
+    pub fn handle_between<Y: Sysfs, D: RuleDisk, B: Between<Y, D>>(
+        &mut self,
+        alloc: Global,
+        event: &Event,
+        sysfs: &mut Y,
+        disk: &mut D,
+        panel: &mut Panel,
+        between: &mut B,
+    )
+        requires { IsTrue (has_numbers (daemon_of self.old) (Y.faults sysfs.old) (D.faults disk.old)) }
+        ensures passes { PassesEvent B.goes Y.begins Y.gives D.keeps D.told
+            event.now sysfs.old disk.old (daemon_of self.old) sysfs.new disk.new (daemon_of self.new) }
+        ensures number { self.new.report.event ≡ self.old.next_event }
+        ensures noted { NotesEntries self.new.report.entries.entries
+            (members (λ b. ⟦<dyn Auditor as Auditor>⟧ b.vtable) panel.old)
+            (members (λ b. ⟦<dyn Auditor as Auditor>⟧ b.vtable) panel.new) }
+        ensures alone { live_in panel.old ≡ 0
+            → without_drops self.new.report.entries.entries ≡ self.new.report.entries.entries }
+    {
+        // The standings are in order, and the permanent rules can be saved.
+        let _next = self.table.next_number();
+        self.policy.stay_saveable();
+        self.begin(event, panel);
+        let _tried = self.save_pending(alloc, disk, panel);
+        sysfs.begin();
+        between.pass(sysfs, disk);
+        let _stored = self.answer(alloc, event, sysfs, disk, panel);
+        between.pass(sysfs, disk);
+        self.sweep(alloc, sysfs, panel);
+        self.policy.stay_saveable();
     }
 
     // The first entry.
     fn begin(&mut self, event: &Event, panel: &mut Panel)
         ensures daemon { daemon_of self.new ≡ begun event.now (daemon_of self.old) }
-        ensures spare { 8 * length self.new.table.standings + 63 + live_in panel.new
+        ensures spare { 10 * length self.new.table.standings + 63 + live_in panel.new
             ≤ self.new.report.entries.spare }
         ensures reply { self.new.report.reply ≡ None }
         ensures watch { self.new.report.watch ≡ false }
@@ -203,7 +239,7 @@ impl<'z, R: Rng> Daemon<'z, R> {
     fn sweep<Y: Sysfs>(&mut self, alloc: Global, sysfs: &mut Y, panel: &mut Panel)
         requires next { (daemon_of self.old).sweep.next + 65536 < 2 ^ 64 }
         requires event { (daemon_of self.old).event + 1 < 2 ^ 64 }
-        requires spare { 8 * length self.old.table.standings + 2 + live_in panel.old
+        requires spare { 10 * length self.old.table.standings + 2 + live_in panel.old
             ≤ self.old.report.entries.spare }
         requires nameless { unsettled_names (daemon_of self.old).sweep.entries ≡ [] }
         ensures runs { Runs Y.gives sysfs.old (handling (daemon_of self.old)) (daemon_of self.new) sysfs.new }
@@ -219,9 +255,10 @@ impl<'z, R: Rng> Daemon<'z, R> {
             (members (λ b. ⟦<dyn Auditor as Auditor>⟧ b.vtable) panel.new) }
     {
         let number = self.next_event;
+        let hub_default = self.hub_default;
         let mut journal = Journal::join(panel, &mut self.report.entries);
         self.table
-            .sweep(alloc, sysfs, &mut self.policy, &mut journal);
+            .sweep(alloc, sysfs, &mut self.policy, hub_default, &mut journal);
         journal.push(Entry::End { number });
         self.next_event += 1;
     }

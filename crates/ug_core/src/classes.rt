@@ -1,10 +1,10 @@
 // What the settings say of each class of devices.
 ghost use Rattle.std.specs.Prelude.{◌≡◌};
 ghost use Rattle.ug_core.specs.Policy as policy;
-ghost use Rattle.ug_core.specs.Settings.{classes_of};
+ghost use Rattle.ug_core.specs.Settings.{classes_of, hub_of};
 
-use ug_conf::{Present, Settings};
-use ug_types::{Cause, Inserted, Target};
+use ug_conf::{AuthDefault, Present, Settings};
+use ug_types::{Cause, Inserted, Target, Write};
 
 /// The settings that verdicts and the rules made of devices go by: usbguard-daemon.conf(5).
 #[derive(Clone, Copy, Debug, PartialEq, Eq)]
@@ -66,6 +66,18 @@ impl Classes {
         } else {
             choice_of(self.inserted)
         }
+    }
+}
+
+/// What is written to the default of each root hub.
+pub fn hub_default(default: AuthDefault) -> Option<Write>
+    ensures { result ≡ hub_of default }
+{
+    match default {
+        AuthDefault::Keep => None,
+        AuthDefault::None => Some(Write::DefaultOff),
+        AuthDefault::All => Some(Write::DefaultOn),
+        AuthDefault::Internal => None,
     }
 }
 

@@ -7,7 +7,7 @@ use rand_core::Rng;
 use ug_acl::Acl;
 use ug_store::Store;
 use ug_table::Table;
-use ug_types::{Moment, Principal, Text};
+use ug_types::{Moment, Principal, Text, Write};
 
 /// What the daemon is to do.
 #[derive(Drop)]
@@ -18,14 +18,16 @@ pub enum Event {
     Order(Moment, Principal, Text),
 }
 
-/// The policy, the standings, the store of the rule file, who may do what, and the report of the last event.
+/// The policy, the standings, what is written to the default of each root hub, the store of the rule file, who may do what, and the report of
+/// the last event.
 #[derive(Drop)]
 pub struct Daemon<'z, R: Rng> {
     pub(crate) policy: Policy<'z, R>,
     pub(crate) table: Table,
+    pub(crate) hub_default: Option<Write>,
     pub(crate) store: Store,
     pub(crate) acl: Acl,
     pub(crate) next_event: u64,
     pub(crate) report: Report,
-    ghost room: { 8 * length table.standings + 128 ≤ report.entries.room },
+    ghost room: { 10 * length table.standings + 128 ≤ report.entries.room },
 }

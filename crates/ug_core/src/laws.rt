@@ -11,6 +11,7 @@ ghost use Rattle.ug_rules.specs.RuleFile.{as_given};
 ghost use Rattle.ug_core.specs.Policy.{Judging, judgements_of, later_of, verdict_of, words_needed};
 ghost use Rattle.ug_core.specs.Chain.{AreRuns};
 ghost use Rattle.ug_core.specs.Rulings.{CanTake, PolicyStep, after_steps, changed_alone, judgements_for, words_for};
+ghost use Rattle.ug_core.specs.Stops.{StartsJust, StartsSure, StopsLeaveRules};
 ghost use Rattle.ug_core.specs.Verdicts.{IsLater, IsVerdict};
 
 /// A verdict is the one that its cases say. What judges keeps the rules as they were given; and the histories stand for the
@@ -29,4 +30,12 @@ pub fn run_law()
     ensures runs { AreRuns }
     ensures later { (policy : Judging) (steps : List PolicyStep) → IsLater policy 0 [] policy → CanTake policy steps
         → IsLater (changed_alone policy steps) (words_for policy steps) (judgements_for policy steps) (after_steps policy steps) }
+{}
+
+/// A stop at any moment of a run leaves a rule file that is in the grammar and within its limit. Its rules are the permanent rules in force, or
+/// these after exactly one order, which was in progress, or whose save failed since the last save that was done. A start has just these rules.
+pub fn stop_law()
+    ensures leaves { StopsLeaveRules }
+    ensures starts { StartsJust }
+    ensures sure { StartsSure }
 {}

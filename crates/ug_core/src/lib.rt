@@ -1,6 +1,7 @@
 // The daemon's events.
 #![tactic(auto)]
 
+mod between;
 mod calls;
 mod changes;
 mod choosing;
@@ -19,9 +20,10 @@ mod start;
 mod start_fault;
 mod storing;
 
+pub use between::Between;
 pub use classes::Classes;
 pub use daemon::{Daemon, Event};
-pub use laws::{run_law, verdict_law};
+pub use laws::{run_law, stop_law, verdict_law};
 pub use list_laws::devices_law;
 pub use privileges::denied;
 pub use report::Report;

@@ -1,6 +1,6 @@
 // The rules of a disk's rule file.
 ghost use Rattle.std.specs.Prelude.{◌≡◌, false, All, IfOk};
-ghost use Rattle.ug_rules.specs.RuleFile.{FitsFile, ReadsBack, rules_in};
+ghost use Rattle.ug_rules.specs.RuleFile.{IsSaveable, ReadsBack, rules_in};
 ghost use Rattle.ug_core.specs.Starting.{Loads};
 
 use crate::rules::rules_of_text;
@@ -14,7 +14,7 @@ use ug_store::{RuleDisk, Store};
 pub fn load_rules<D: RuleDisk>(alloc: Global, disk: &mut D) -> Result<(Store, RuleList), StartFault>
     ensures loads { Loads D.keeps D.told D.faults disk.old result disk.new }
     ensures readable { IfOk result (λ r. All ReadsBack (rules_in r.1.entries)) }
-    ensures fits { IfOk result (λ r. FitsFile r.1.entries) }
+    ensures saves { IfOk result (λ r. IsSaveable r.1.entries) }
     ensures unsaved { IfOk result (λ r. r.0 ≡ false) }
 {
     let (store, text) = Store::recover(alloc, disk)?;

@@ -1,5 +1,5 @@
 // Orders of administrators: usbguard(1).
-ghost use Rattle.std.specs.Prelude.{◌≡◌, ◌≤◌, ◌<◌, ◌+◌, ◌-◌, ◌^◌, IsSome, None, Some, length};
+ghost use Rattle.std.specs.Prelude.{◌≡◌, ◌≤◌, ◌<◌, ◌+◌, ◌-◌, ◌^◌, IsSome, None, Some, length, true};
 ghost use Rattle.ug_kernel.specs.Tree.{Runs};
 ghost use Rattle.ug_audit.specs.Journal.{live_in, members};
 ghost use Rattle.ug_store.specs.Store.{DiskRoom, RunsDisk};
@@ -7,10 +7,12 @@ ghost use Rattle.ug_table.specs.Orders.{ordering};
 ghost use Rattle.ug_table.specs.Standings.{numbered};
 ghost use Rattle.ug_table.specs.State.{kept_of};
 ghost use Rattle.ug_core.specs.Answering.{acting, answer_of, CanDo, CanMake, deed_after, keeping, reply_to, replying};
-ghost use Rattle.ug_core.specs.Changes.{CanChange, ChangeFits, ChangeReads, HasRoom};
+ghost use Rattle.ug_core.specs.Changes.{CanChange, ChangeReads, ChangeSaves, HasRoom};
+ghost use Rattle.ug_core.specs.Durable.{WritesEvent, change_ordered};
 ghost use Rattle.ug_core.specs.Event.{daemon_of, NotesMore};
+ghost use Rattle.ug_proto.specs.Requests.{request_read};
 ghost use Rattle.ug_core.specs.Laws.{RunsAnswer, RunsOrder};
-ghost use Rattle.ug_core.specs.Storing.{TellsStored, if_kept, noted_save, pending_stored, refused_by, stored_with, storing, with_change};
+ghost use Rattle.ug_core.specs.Storing.{TellsStored, WritesRules, has_written, if_kept, noted_save, pending_stored, refused_by, stored_with, storing, with_change};
 
 use crate::changes::Change;
 use crate::choosing::Deed;
@@ -101,6 +103,7 @@ impl<'z, R: Rng> Daemon<'z, R> {
     // Saves the permanent rules with the change, where it concerns them, and makes room for it.
     #[tactic(auto, using(ug_store::proofs::DiskRuns::runs_then_disk))]
     fn save_change<D: RuleDisk>(&mut self, alloc: Global, disk: &mut D, change: &Change) -> Stored
+        requires can { CanChange change.now (daemon_of self.old).sweep.judge.rules }
         requires reads { ChangeReads change.now (daemon_of self.old).sweep.judge.rules }
         ensures runs { RunsDisk D.keeps disk.old (DiskRoom (if_kept (daemon_of self.old).sweep.judge change.now))
             result disk.new }
@@ -109,7 +112,8 @@ impl<'z, R: Rng> Daemon<'z, R> {
             { pending = pending_stored result (daemon_of self.old).pending } }
         ensures report { self.new.report ≡ self.old.report }
         ensures room { refused_by result ≡ None → HasRoom change.now self.new.policy.rules.spare }
-        ensures fits { refused_by result ≡ None → ChangeFits change.now (daemon_of self.old).sweep.judge }
+        ensures saves { refused_by result ≡ None → ChangeSaves change.now (daemon_of self.old).sweep.judge }
+        ensures written { has_written result ≡ true → ChangeSaves change.now (daemon_of self.old).sweep.judge }
     {
         match self.policy.reserve_for(change) {
             Ok(()) => {}
@@ -150,7 +154,7 @@ impl<'z, R: Rng> Daemon<'z, R> {
         requires can { CanChange change (daemon_of self.old).sweep.judge.rules }
         requires reads { ChangeReads change (daemon_of self.old).sweep.judge.rules }
         requires room { HasRoom change self.old.policy.rules.spare }
-        requires fits { ChangeFits change (daemon_of self.old).sweep.judge }
+        requires saves { ChangeSaves change (daemon_of self.old).sweep.judge }
         requires id { (daemon_of self.old).sweep.judge.next < 2 ^ 64 - 1 }
         requires spare { live_in panel.old < self.old.report.entries.spare }
         ensures daemon { daemon_of self.new ≡ with_change change (daemon_of self.old) }
@@ -183,6 +187,7 @@ impl<'z, R: Rng> Daemon<'z, R> {
         ensures runs { RunsDisk D.keeps disk.old (DiskRoom (if_kept (daemon_of self.old).sweep.judge change))
             result disk.new }
         ensures counted { TellsStored result (D.faults disk.old) (D.faults disk.new) }
+        ensures written { WritesRules result (Some change) (daemon_of self.old).sweep.judge }
         ensures daemon { daemon_of self.new ≡ stored_with result (Some change) (daemon_of self.old) }
         ensures standings { self.new.table.standings ≡ self.old.table.standings }
         ensures next { self.new.table.next ≡ self.old.table.next }
@@ -217,6 +222,7 @@ impl<'z, R: Rng> Daemon<'z, R> {
         requires spare { 1 + live_in panel.old < self.old.report.entries.spare }
         ensures runs { RunsDisk D.keeps disk.old (storing (daemon_of self.old) change) result disk.new }
         ensures counted { TellsStored result (D.faults disk.old) (D.faults disk.new) }
+        ensures written { WritesRules result change (daemon_of self.old).sweep.judge }
         ensures daemon { daemon_of self.new ≡ stored_with result change (daemon_of self.old) }
         ensures standings { self.new.table.standings ≡ self.old.table.standings }
         ensures next { self.new.table.next ≡ self.old.table.next }
@@ -306,6 +312,8 @@ impl<'z, R: Rng> Daemon<'z, R> {
         requires spare { 9 + live_in panel.old ≤ self.old.report.entries.spare }
         ensures runs { RunsOrder Y.gives D.keeps who.now line.now sysfs.old disk.old (daemon_of self.old)
             result sysfs.new disk.new (daemon_of self.new) }
+        ensures written { WritesRules result (change_ordered who.now (daemon_of self.old) (request_read line.now))
+            (daemon_of self.old).sweep.judge }
         ensures counted { TellsStored result (D.faults disk.old) (D.faults disk.new) }
         ensures len { length self.new.table.standings ≤ length self.old.table.standings }
         ensures next { self.new.table.next ≡ self.old.table.next }
@@ -338,6 +346,7 @@ impl<'z, R: Rng> Daemon<'z, R> {
         requires spare { 9 + live_in panel.old ≤ self.old.report.entries.spare }
         ensures runs { RunsAnswer Y.gives D.keeps event.now sysfs.old disk.old (daemon_of self.old)
             result sysfs.new disk.new (daemon_of self.new) }
+        ensures written { WritesEvent event.now (daemon_of self.old) result }
         ensures counted { TellsStored result (D.faults disk.old) (D.faults disk.new) }
         ensures len { length self.new.table.standings ≤ length self.old.table.standings }
         ensures next { self.new.table.next ≡ self.old.table.next }

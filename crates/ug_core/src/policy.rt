@@ -4,9 +4,9 @@ ghost use Rattle.ug_policy.specs.Deciding.{find_decider};
 ghost use Rattle.ug_rule.specs.Files.{file_read};
 ghost use Rattle.ug_table.specs.Allowed.{allowed_records};
 ghost use Rattle.ug_core.specs.Policy.{Judging, asks, by_class, clock_of, context_at, judging_of, policy_answer, policy_later, rules_if, stream_if};
-ghost use Rattle.ug_core.specs.Changes.{CanChange, ChangeFits, ChangeReads, HasRoom, changed_by, is_saved, parameter_at, text_to_save, verdict_edit};
+ghost use Rattle.ug_core.specs.Changes.{CanChange, ChangeReads, ChangeSaves, HasRoom, changed_by, is_saved, parameter_at, text_to_save, verdict_edit};
 ghost use Rattle.ug_rules.specs.RuleEdits.{EditReads, if_room_for};
-ghost use Rattle.ug_rules.specs.RuleFile.{FitsFile, ReadsBack, permanent_rules, permanent_text, rules_in};
+ghost use Rattle.ug_rules.specs.RuleFile.{FitsFile, IsSaveable, ReadsBack, permanent_rules, permanent_text, rules_in};
 ghost use Rattle.ug_rules.specs.RulePlaces.{has_rule, if_taken};
 ghost use Rattle.ug_rules.specs.RuleRows.{rule_rows};
 
@@ -81,7 +81,7 @@ impl<'z, R: Rng> Policy<'z, R> {
     /// These settings and rules, with the clock of that zone and the words of that generator.
     pub fn new(classes: Classes, list: RuleList, zone: TimeZone<'z>, rng: R) -> Policy<'z, R>
         requires readable { All ReadsBack (rules_in list.entries) }
-        requires fits { FitsFile list.entries }
+        requires saves { IsSaveable list.entries }
         ensures { judging_of R.stream result ≡ record { classes = classes; rules = list.entries; next = list.next; clock = clock_of zone.entry; ctx = record { moment = record { 0 = 0 }; second = 0 }; stream = R.stream rng } }
     {
         Policy {
@@ -167,9 +167,10 @@ impl<'z, R: Rng> Policy<'z, R> {
 
     /// The text that is saved before the change is in force, if one is.
     pub fn text_after(&self, alloc: Global, change: &Change) -> Result<Option<Text>, RulesTextFault>
-        requires { ChangeReads change.now (judging_of R.stream self.now).rules }
+        requires can { CanChange change.now (judging_of R.stream self.now).rules }
+        requires reads { ChangeReads change.now (judging_of R.stream self.now).rules }
         ensures text { IfOk result (λ text. text ≡ text_to_save change.now (judging_of R.stream self.now)) }
-        ensures fits { OnOk result (ChangeFits change.now (judging_of R.stream self.now)) }
+        ensures saves { OnOk result (ChangeSaves change.now (judging_of R.stream self.now)) }
         ensures too_long { result ≡ Err RulesTextFault.TooLong
             → (is_saved change.now (judging_of R.stream self.now).rules ≡ true)
             × (FitsFile (changed_by change.now (judging_of R.stream self.now)).rules → ⊥) }
@@ -185,7 +186,7 @@ impl<'z, R: Rng> Policy<'z, R> {
         requires can { CanChange change (judging_of R.stream self.old).rules }
         requires reads { ChangeReads change (judging_of R.stream self.old).rules }
         requires room { HasRoom change self.old.rules.spare }
-        requires fits { ChangeFits change (judging_of R.stream self.old) }
+        requires saves { ChangeSaves change (judging_of R.stream self.old) }
         requires id { (judging_of R.stream self.old).next < 2 ^ 64 - 1 }
         ensures { judging_of R.stream self.new ≡ changed_by change (judging_of R.stream self.old) }
     {
@@ -208,6 +209,13 @@ impl<'z, R: Rng> Policy<'z, R> {
         ensures reads { IfOk result (λ text. file_read text ≡ Ok (permanent_rules (judging_of R.stream self.now).rules)) }
     {
         self.rules.text(alloc)
+    }
+
+    /// The rules that aren't temporary read again from the text that is saved of them, for which a rule file has room.
+    pub fn stay_saveable(&self)
+        ensures { IsSaveable (judging_of R.stream self.now).rules }
+    {
+        self.rules.stay_saveable();
     }
 
     /// The rows of a list of the rules.

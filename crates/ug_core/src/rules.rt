@@ -2,7 +2,7 @@
 ghost use Rattle.std.specs.Prelude.{◌≡◌, ◌<◌, ◌≤◌, ◌+◌, ◌-◌, ◌^◌, ◌++◌, ◌∷◌, [], false, All, IfOk, OnOk, length};
 ghost use Rattle.ug_policy.specs.Edits.{new_entry};
 ghost use Rattle.ug_policy.specs.Kept.{StandsFor};
-ghost use Rattle.ug_rules.specs.RuleFile.{FitsFile, ReadsBack, rules_in};
+ghost use Rattle.ug_rules.specs.RuleFile.{IsSaveable, ReadsBack, rules_in};
 ghost use Rattle.ug_core.specs.Starting.{HoldsJust, StartsWith};
 
 use crate::start_fault::StartFault;
@@ -43,11 +43,11 @@ fn list_of(alloc: Global, rules: Vec<Rule>) -> Result<RuleList, NoMemory>
 
 /// The rules of a rule file's text, with ids from 1 on: permanent, and without histories. What is wrong is told in this order: the first
 /// bad line, too many rules, a canonical text that is too long.
-#[tactic(auto, using(crate::proofs::Readable::list_reads_back, crate::proofs::Readable::list_fits))]
+#[tactic(auto, using(crate::proofs::Readable::list_reads_back, crate::proofs::Readable::list_saves))]
 pub fn rules_of_text(alloc: Global, text: &[u8]) -> Result<RuleList, StartFault>
     ensures starts { StartsWith text.now result }
     ensures readable { IfOk result (λ list. All ReadsBack (rules_in list.entries)) }
-    ensures fits { IfOk result (λ list. FitsFile list.entries) }
+    ensures saves { IfOk result (λ list. IsSaveable list.entries) }
 {
     let rules = parse_file(alloc, text)?;
     if rules.len() > MOST {

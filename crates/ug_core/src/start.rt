@@ -3,12 +3,12 @@ ghost use Rattle.std.specs.Prelude.{◌≡◌, [], false, All, IfErr, IfOk};
 ghost use Rattle.ug_store.specs.Store.{seen_by};
 ghost use Rattle.ug_core.specs.Event.{daemon_of};
 ghost use Rattle.ug_core.specs.Policy.{clock_of};
-ghost use Rattle.ug_rules.specs.RuleFile.{FitsFile, ReadsBack, rules_in};
-ghost use Rattle.ug_core.specs.Settings.{classes_of};
+ghost use Rattle.ug_rules.specs.RuleFile.{IsSaveable, ReadsBack, rules_in};
+ghost use Rattle.ug_core.specs.Settings.{classes_of, hub_of};
 ghost use Rattle.ug_core.specs.Starting.{Starts, StartsWithRules};
 ghost use Rattle.ug_core.specs.Verdicts.{IsLater};
 
-use crate::classes::Classes;
+use crate::classes::{Classes, hub_default};
 use crate::daemon::Daemon;
 use crate::load::load_rules;
 use crate::policy::Policy;
@@ -23,6 +23,7 @@ use ug_conf::Settings;
 use ug_policy::RuleList;
 use ug_store::{RuleDisk, Store};
 use ug_table::Table;
+use ug_types::Write;
 
 /// The room of the entries that belong to no standing, and a place for each member of a panel.
 const ROOM: usize = 128;
@@ -31,6 +32,7 @@ const ROOM: usize = 128;
 #[derive(Drop)]
 struct Beside<'z, R> {
     classes: Classes,
+    hub_default: Option<Write>,
     acl: Acl,
     rng: R,
     zone: TimeZone<'z>,
@@ -40,16 +42,18 @@ struct Beside<'z, R> {
 impl<'z, R: Rng + Drop> Beside<'z, R> {
     fn start(self, alloc: Global, loaded: (Store, RuleList)) -> Result<Daemon<'z, R>, StartFault>
         requires readable { All ReadsBack (rules_in loaded.1.entries) }
-        requires fits { FitsFile loaded.1.entries }
+        requires saves { IsSaveable loaded.1.entries }
         requires unsaved { loaded.0 ≡ false }
         ensures ok { IfOk result (λ d. StartsWithRules (record {
           classes = self.entry.classes;
+          hub = self.entry.hub_default;
           access = self.entry.acl;
           clock = clock_of self.entry.zone;
           words = R.stream self.entry.rng;
           first = self.entry.first;
         }) loaded (daemon_of d)) }
         ensures err { IfErr result (λ e. e ≡ StartFault.Memory) }
+        ensures saveable { IfOk result (λ d. IsSaveable (daemon_of d).sweep.judge.rules) }
         ensures number { IfOk result (λ d. d.report.event ≡ 0) }
     {
         let mut entries = Entries::new(alloc);
@@ -57,6 +61,7 @@ impl<'z, R: Rng + Drop> Beside<'z, R> {
         Ok(Daemon {
             policy: Policy::new(self.classes, loaded.1, self.zone, self.rng),
             table: Table::new(alloc),
+            hub_default: self.hub_default,
             store: loaded.0,
             acl: self.acl,
             next_event: self.first,
@@ -83,17 +88,20 @@ impl<'z, R: Rng + Drop> Daemon<'z, R> {
     ) -> Result<Daemon<'z, R>, StartFault>
         ensures starts { Starts D.keeps D.told D.faults (record {
           classes = classes_of settings;
+          hub = hub_of settings.default;
           access = acl;
           clock = clock_of zone.entry;
           words = R.stream rng;
           first = first;
         }) disk.old (seen_by (λ d. daemon_of d) result) disk.new }
         ensures new { IfOk result (λ d. IsLater (daemon_of d).sweep.judge 0 [] (daemon_of d).sweep.judge) }
+        ensures saveable { IfOk result (λ d. IsSaveable (daemon_of d).sweep.judge.rules) }
         ensures number { IfOk result (λ d. d.report.event ≡ 0) }
     {
         let loaded = load_rules(alloc, disk)?;
         let beside = Beside {
             classes: Classes::of(&settings),
+            hub_default: hub_default(settings.default),
             acl,
             rng,
             zone,

@@ -67,6 +67,10 @@ impl<R: Files + AllocGlobal + Clone + Drop> Folder<R> {
                 let path = self.path_of(alloc, name, "remove")?;
                 open_to_write(&self.rt, path.as_str(), false)?
             }
+            Control::Default => {
+                let path = self.path_of(alloc, name, "authorized_default")?;
+                open_to_write(&self.rt, path.as_str(), true)?
+            }
         };
         let devnum = read_number(&self.rt, devnum_path.as_str())?;
         Ok(OpenControl {
@@ -213,6 +217,8 @@ fn write_control<R: Files>(rt: &R, control: &mut OpenControl<R::File>, what: Wri
         Write::On => b'1',
         Write::Off => b'0',
         Write::Remove => b'1',
+        Write::DefaultOff => b'0',
+        Write::DefaultOn => b'1',
     };
     match write_byte(&mut control.file, byte) {
         Ok(()) => Wrote::Done,

@@ -6,7 +6,7 @@ use Rattle.ug_kernel.specs.declared.calls.Wrote.{Wrote}
 use Rattle.ug_kernel.specs.declared.calls.Wrote.TheVariants as wrote
 use Rattle.ug_kernel.specs.Calls.{Call, Names, Open, Read, Ask_alive, Put, Close, Answer}
 use Rattle.ug_kernel.specs.Kernel.{Kernel, Stays}
-use Rattle.ug_kernel.specs.Called.{value_after, does_put, Does, IsWritten, Called}
+use Rattle.ug_kernel.specs.Called.{written_to, does_put, Does, IsWritten, Called}
 use Rattle.ug_kernel.specs.Quiet.{Quiet, Grows}
 use Rattle.ug_kernel.proofs.Quiet.{stays_refl, stays_trans, moves_quiet, does_quiet}
 use Rattle.ug_types.specs.Elements.{Has}
@@ -33,8 +33,8 @@ written_get : (held : ℕ) (write : Write) (k l : Kernel) (w : IsWritten held wr
 written_get held write k l w i d true c at =
     let is : i ≡ w.i = grind arith in
     let same : w.d ≡ d = some_same (slice_get k.devices w.i) w.d d w.live.at (subst (λ v. slice_get k.devices v ≡ Some d) is at) in
-    let stays : Stays w.d (record w.d { on = value_after write w.d.on }) = record { name = refl; parent = refl; descriptors = refl; product = refl; serial = refl; connect = refl; gone = λ g. g } in
-    (record w.d { on = value_after write w.d.on }, subst (λ v. slice_get l.devices v ≡ Some (record w.d { on = value_after write w.d.on })) (sym is) w.now, subst (λ v. Stays v (record w.d { on = value_after write w.d.on })) same stays)
+    let stays : Stays w.d (written_to write w.d) = record { name = refl; parent = refl; controller = refl; descriptors = refl; product = refl; serial = refl; connect = refl; guarded = refl; gone = λ g. g } in
+    (written_to write w.d, subst (λ v. slice_get l.devices v ≡ Some (written_to write w.d)) (sym is) w.now, subst (λ v. Stays v (written_to write w.d)) same stays)
 written_get held write k l w i d false c at =
     let apart : i ≡ w.i → ⊥ = λ e. let none : ⊥ = grind arith in none in
     (d, w.others i apart ∙ at, stays_refl d)

@@ -19,24 +19,26 @@ get_end [] x = refl
 get_end (y ∷ xs) x = get_end xs x
 
 pub stays_refl : (d : Device) → Stays d d
-stays_refl d = record { name = refl; parent = refl; descriptors = refl; product = refl; serial = refl; connect = refl; gone = λ g. g }
+stays_refl d = record { name = refl; parent = refl; controller = refl; descriptors = refl; product = refl; serial = refl; connect = refl; guarded = refl; gone = λ g. g }
 
 pub stays_trans : (a b c : Device) → Stays a b → Stays b c → Stays a c
 stays_trans a b c h k = record {
   name = k.name ∙ h.name;
   parent = k.parent ∙ h.parent;
+  controller = k.controller ∙ h.controller;
   descriptors = k.descriptors ∙ h.descriptors;
   product = k.product ∙ h.product;
   serial = k.serial ∙ h.serial;
   connect = k.connect ∙ h.connect;
+  guarded = k.guarded ∙ h.guarded;
   gone = λ g. k.gone (h.gone g);
 }
 
 moved_refl : (d : Device) → Moved d d
-moved_refl d = record { stays = stays_refl d; on = refl }
+moved_refl d = record { stays = stays_refl d; on = refl; default = refl }
 
 moved_trans : (a b c : Device) → Moved a b → Moved b c → Moved a c
-moved_trans a b c h k = record { stays = stays_trans a b c h.stays k.stays; on = k.on ∙ h.on }
+moved_trans a b c h k = record { stays = stays_trans a b c h.stays k.stays; on = k.on ∙ h.on; default = k.default ∙ h.default }
 
 pub quiet_refl : (k : Kernel) → Quiet k k
 quiet_refl k = record { devices = λ i d e. (d, e, moved_refl d); held = λ h f e. e; log = refl }

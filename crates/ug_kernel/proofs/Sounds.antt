@@ -1,12 +1,14 @@
 -- What keeps a kernel sound.
-use Rattle.std.proofs.Common.{◌≡◌, ℕ, zero, suc, ◌+◌, ◌<◌, ◌≤◌, Bool, true, false, if◌then◌else◌, List, [], ◌∷◌, ◌++◌, length, set, Some, None, refl, sym, ◌∙◌, ap, subst, arith, inl, inr}
+use Rattle.std.proofs.Common.{◌≡◌, ℕ, zero, suc, ◌+◌, ◌<◌, ◌≤◌, Bool, true, false, if◌then◌else◌, List, [], ◌∷◌, ◌++◌, length, set, Option, Some, None, refl, sym, ◌∙◌, ap, subst, arith, inl, inr}
 use Rattle.std.proofs.lemmas.Bool.{cases_eq}
 use Rattle.std.proofs.lemmas.Option.{slice_get_within, none-some, same_Some}
 use Rattle.std.specs.List.{slice_get}
 use Rattle.ug_types.specs.Names.{parent_of}
 use Rattle.ug_kernel.specs.declared.device.Device.{Device}
 use Rattle.ug_kernel.specs.declared.device.HeldFile.{HeldFile}
-use Rattle.ug_kernel.specs.Kernel.{Kernel, Live, live_count, IsSound, IsKernel, Begins, Moves}
+use Rattle.ug_types.specs.declared.control.Write.{Write}
+use Rattle.ug_kernel.specs.Called.{written_to}
+use Rattle.ug_kernel.specs.Kernel.{Kernel, Live, live_count, hub_of, IsSound, IsKernel, Begins, Moves}
 use Rattle.ug_kernel.proofs.Places.{at_push, at_longer, at_set_same, at_set_other}
 use Rattle.ug_kernel.proofs.Stayed.{stays_at, back_at, live_back, live_count_begins, length_begins}
 
@@ -15,6 +17,8 @@ pub record IsFit (ds : List Device) (x : Device) : Type 0 where
   pub free : (i : ℕ) (d : Device) → Live ds i d → d.name ≡ x.name → ⊥
   pub under : (p : ℕ) → x.parent ≡ Some p → (e : Device) × Live ds p e × (parent_of x.name ≡ Some e.name)
   pub root : x.parent ≡ None → parent_of x.name ≡ None
+  pub hub : x.parent ≡ None → x.controller ≡ None
+  pub controller : (p : ℕ) (e : Device) → x.parent ≡ Some p → slice_get ds p ≡ Some e → x.controller ≡ Some (hub_of p e.controller)
   pub few : live_count ds < 65536
 
 pub live_count_push : (ds : List Device) (x : Device) → live_count (ds ++ x ∷ []) ≤ live_count ds + 1
@@ -26,7 +30,7 @@ live_count_push [] x = pick x.gone
 live_count_push (d ∷ ds) x = omega (arith, live_count_push ds x)
 
 pub sound_push : (ds : List Device) (x : Device) → IsSound ds → IsFit ds x → IsSound (ds ++ x ∷ [])
-sound_push ds x s fit = record { names = names; below = below; parents = parents; named = named; roots = roots; few = omega (arith, live_count_push ds x, fit.few) }
+sound_push ds x s fit = record { names = names; below = below; parents = parents; named = named; roots = roots; hubs = hubs; controllers = controllers; few = omega (arith, live_count_push ds x, fit.few) }
   where
     names : (i j : ℕ) (d e : Device) → Live (ds ++ x ∷ []) i d → Live (ds ++ x ∷ []) j e → d.name ≡ e.name → i ≡ j
     names i j d e a b h = elim (at_push ds x i d a.at) [
@@ -80,13 +84,28 @@ sound_push ds x s fit = record { names = names; below = below; parents = parents
       | inr q ↦ ap (λ (y : Device). parent_of y.name) (sym q.1) ∙ fit.root (ap (λ (y : Device). y.parent) q.1 ∙ h)
     ]
 
+    hubs : (i : ℕ) (d : Device) → slice_get (ds ++ x ∷ []) i ≡ Some d → d.parent ≡ None → d.controller ≡ None
+    hubs i d a h = elim (at_push ds x i d a) [
+      | inl q ↦ s.hubs i d q.1 h
+      | inr q ↦ ap (λ (y : Device). y.controller) (sym q.1) ∙ fit.hub (ap (λ (y : Device). y.parent) q.1 ∙ h)
+    ]
+
+    controllers : (i p : ℕ) (d e : Device) → slice_get (ds ++ x ∷ []) i ≡ Some d → d.parent ≡ Some p → slice_get (ds ++ x ∷ []) p ≡ Some e → d.controller ≡ Some (hub_of p e.controller)
+    controllers i p d e a h b = elim (at_push ds x i d a) [
+      | inl q ↦ s.controllers i p d e q.1 h (older p e e b (omega (arith, s.below i p d q.1 h)))
+      | inr q ↦
+          let up = ap (λ (y : Device). y.parent) q.1 ∙ h in
+          let u = fit.under p up in
+          ap (λ (y : Device). y.controller) (sym q.1) ∙ fit.controller p e up (older p e e b (slice_get_within ds p u.0 u.1.at))
+    ]
+
 -- no device stays whose parent is gone before it
 pub record Kept (fs : List Device) : Type 0 where
   pub none : (i p : ℕ) (e f : Device) → Live fs i e → e.parent ≡ Some p → p < i → slice_get fs p ≡ Some f → f.gone ≡ false
 
 -- devices go, and no child stays without its parent
 pub sound_fewer : (ds fs : List Device) → IsSound ds → Begins ds fs → length fs ≡ length ds → Kept fs → IsSound fs
-sound_fewer ds fs s b n k = record { names = names; below = below; parents = parents; named = named; roots = roots; few = omega (arith, live_count_begins ds fs b n, s.few) }
+sound_fewer ds fs s b n k = record { names = names; below = below; parents = parents; named = named; roots = roots; hubs = hubs; controllers = controllers; few = omega (arith, live_count_begins ds fs b n, s.few) }
   where
     names : (i j : ℕ) (d e : Device) → Live fs i d → Live fs j e → d.name ≡ e.name → i ≡ j
     names i j d e x y h =
@@ -117,14 +136,26 @@ sound_fewer ds fs s b n k = record { names = names; below = below; parents = par
         let q = back_at ds fs b i d x (omega (arith, slice_get_within fs i d x)) in
         ap parent_of q.2.stays.name ∙ s.roots i q.0 q.1 (sym q.2.stays.parent ∙ h)
 
+    hubs : (i : ℕ) (d : Device) → slice_get fs i ≡ Some d → d.parent ≡ None → d.controller ≡ None
+    hubs i d x h =
+        let q = back_at ds fs b i d x (omega (arith, slice_get_within fs i d x)) in
+        q.2.stays.controller ∙ s.hubs i q.0 q.1 (sym q.2.stays.parent ∙ h)
+
+    controllers : (i p : ℕ) (d e : Device) → slice_get fs i ≡ Some d → d.parent ≡ Some p → slice_get fs p ≡ Some e → d.controller ≡ Some (hub_of p e.controller)
+    controllers i p d e x h y =
+        let q = back_at ds fs b i d x (omega (arith, slice_get_within fs i d x)) in
+        let r = back_at ds fs b p e y (omega (arith, slice_get_within fs p e y)) in
+        q.2.stays.controller ∙ s.controllers i p q.0 r.0 q.1 (sym q.2.stays.parent ∙ h) r.1 ∙ ap (λ (o : Option ℕ). Some (hub_of p o)) (sym r.2.stays.controller)
+
 -- a device with another value
 record Same (d e : Device) : Type 0 where
   name : e.name ≡ d.name
   parent : e.parent ≡ d.parent
+  controller : e.controller ≡ d.controller
   gone : e.gone ≡ d.gone
 
 same : (d : Device) → Same d d
-same d = record { name = refl; parent = refl; gone = refl }
+same d = record { name = refl; parent = refl; controller = refl; gone = refl }
 
 sound_same : (ds es : List Device) → IsSound ds → ((j : ℕ) (e : Device) → slice_get es j ≡ Some e → (d : Device) × (slice_get ds j ≡ Some d) × Same d e) → ((j : ℕ) (d : Device) → slice_get ds j ≡ Some d → (e : Device) × (slice_get es j ≡ Some e) × Same d e) → live_count es ≡ live_count ds → IsSound es
 sound_same ds es s back forth n = record {
@@ -143,32 +174,37 @@ sound_same ds es s back forth n = record {
       let r = back p e b in
       ap parent_of q.2.name ∙ s.named i p q.0 r.0 q.1 (sym q.2.parent ∙ h) r.1 ∙ ap Some (sym r.2.name);
   roots = λ i d a h. let q = back i d a in ap parent_of q.2.name ∙ s.roots i q.0 q.1 (sym q.2.parent ∙ h);
+  hubs = λ i d a h. let q = back i d a in q.2.controller ∙ s.hubs i q.0 q.1 (sym q.2.parent ∙ h);
+  controllers = λ i p d e a h b.
+      let q = back i d a in
+      let r = back p e b in
+      q.2.controller ∙ s.controllers i p q.0 r.0 q.1 (sym q.2.parent ∙ h) r.1 ∙ ap (λ (o : Option ℕ). Some (hub_of p o)) (sym r.2.controller);
   few = omega (arith, n, s.few);
 }
 
-pub live_count_set : (on : Bool) (ds : List Device) (i : ℕ) (d : Device) → slice_get ds i ≡ Some d → live_count (set ds i (record d { on = on })) ≡ live_count ds
-live_count_set on [] i d h = absurd (none-some d h)
-live_count_set on (e ∷ ds) zero d h = let one : e ≡ d = same_Some e d h in ap (λ (x : Device). (if x.gone then 0 else 1) + live_count ds) (sym one)
-live_count_set on (e ∷ ds) (suc i) d h = ap (λ (n : ℕ). (if e.gone then 0 else 1) + n) (live_count_set on ds i d h)
+pub live_count_set : (what : Write) (ds : List Device) (i : ℕ) (d : Device) → slice_get ds i ≡ Some d → live_count (set ds i (written_to what d)) ≡ live_count ds
+live_count_set what [] i d h = absurd (none-some d h)
+live_count_set what (e ∷ ds) zero d h = let one : e ≡ d = same_Some e d h in ap (λ (x : Device). (if x.gone then 0 else 1) + live_count ds) (sym one)
+live_count_set what (e ∷ ds) (suc i) d h = ap (λ (n : ℕ). (if e.gone then 0 else 1) + n) (live_count_set what ds i d h)
 
--- a device's value changes
-pub sound_set : (on : Bool) (ds : List Device) (i : ℕ) (d : Device) → slice_get ds i ≡ Some d → IsSound ds → IsSound (set ds i (record d { on = on }))
-sound_set on ds i d h s = sound_same ds (set ds i (record d { on = on })) s back forth (live_count_set on ds i d h)
+-- a device is written to
+pub sound_set : (what : Write) (ds : List Device) (i : ℕ) (d : Device) → slice_get ds i ≡ Some d → IsSound ds → IsSound (set ds i (written_to what d))
+sound_set what ds i d h s = sound_same ds (set ds i (written_to what d)) s back forth (live_count_set what ds i d h)
   where
-    back : (j : ℕ) (e : Device) → slice_get (set ds i (record d { on = on })) j ≡ Some e → (d : Device) × (slice_get ds j ≡ Some d) × Same d e
+    back : (j : ℕ) (e : Device) → slice_get (set ds i (written_to what d)) j ≡ Some e → (d : Device) × (slice_get ds j ≡ Some d) × Same d e
     back j e a = elim (cases_eq j i) [
       | inl q ↦
-          let one : record d { on = on } ≡ e = same_Some (record d { on = on }) e (sym (at_set_same ds i d (record d { on = on }) h) ∙ ap (slice_get (set ds i (record d { on = on }))) (sym q) ∙ a) in
-          (d, ap (slice_get ds) q ∙ h, subst (Same d) one (record { name = refl; parent = refl; gone = refl }))
-      | inr n ↦ (e, sym (at_set_other ds i j (record d { on = on }) n) ∙ a, same e)
+          let one : written_to what d ≡ e = same_Some (written_to what d) e (sym (at_set_same ds i d (written_to what d) h) ∙ ap (slice_get (set ds i (written_to what d))) (sym q) ∙ a) in
+          (d, ap (slice_get ds) q ∙ h, subst (Same d) one (record { name = refl; parent = refl; controller = refl; gone = refl }))
+      | inr n ↦ (e, sym (at_set_other ds i j (written_to what d) n) ∙ a, same e)
     ]
 
-    forth : (j : ℕ) (e : Device) → slice_get ds j ≡ Some e → (f : Device) × (slice_get (set ds i (record d { on = on })) j ≡ Some f) × Same e f
+    forth : (j : ℕ) (e : Device) → slice_get ds j ≡ Some e → (f : Device) × (slice_get (set ds i (written_to what d)) j ≡ Some f) × Same e f
     forth j e a = elim (cases_eq j i) [
       | inl q ↦
           let one : d ≡ e = same_Some d e (sym h ∙ ap (slice_get ds) (sym q) ∙ a) in
-          (record d { on = on }, ap (slice_get (set ds i (record d { on = on }))) q ∙ at_set_same ds i d (record d { on = on }) h, subst (λ x. Same x (record d { on = on })) one (record { name = refl; parent = refl; gone = refl }))
-      | inr n ↦ (e, at_set_other ds i j (record d { on = on }) n ∙ a, same e)
+          (written_to what d, ap (slice_get (set ds i (written_to what d))) q ∙ at_set_same ds i d (written_to what d) h, subst (λ x. Same x (written_to what d)) one (record { name = refl; parent = refl; controller = refl; gone = refl }))
+      | inr n ↦ (e, at_set_other ds i j (written_to what d) n ∙ a, same e)
     ]
 
 -- a file is opened

@@ -8,24 +8,26 @@ use Rattle.ug_kernel.specs.Kernel.{Kernel, Live, live_count, Stays, Moved, Begin
 use Rattle.ug_kernel.specs.Called.{Lived}
 
 pub stays : (d : Device) → Stays d d
-stays d = record { name = refl; parent = refl; descriptors = refl; product = refl; serial = refl; connect = refl; gone = λ h. h }
+stays d = record { name = refl; parent = refl; controller = refl; descriptors = refl; product = refl; serial = refl; connect = refl; guarded = refl; gone = λ h. h }
 
 pub stays_then : (d e f : Device) → Stays d e → Stays e f → Stays d f
 stays_then d e f s t = record {
   name = t.name ∙ s.name;
   parent = t.parent ∙ s.parent;
+  controller = t.controller ∙ s.controller;
   descriptors = t.descriptors ∙ s.descriptors;
   product = t.product ∙ s.product;
   serial = t.serial ∙ s.serial;
   connect = t.connect ∙ s.connect;
+  guarded = t.guarded ∙ s.guarded;
   gone = λ h. t.gone (s.gone h);
 }
 
 pub unmoved : (d : Device) → Moved d d
-unmoved d = record { stays = stays d; on = refl }
+unmoved d = record { stays = stays d; on = refl; default = refl }
 
 pub moved_then : (d e f : Device) → Moved d e → Moved e f → Moved d f
-moved_then d e f s t = record { stays = stays_then d e f s.stays t.stays; on = t.on ∙ s.on }
+moved_then d e f s t = record { stays = stays_then d e f s.stays t.stays; on = t.on ∙ s.on; default = t.default ∙ s.default }
 
 pub begins : (ds : List Device) → Begins ds ds
 begins [] = tt
@@ -103,4 +105,4 @@ live_count_begins (d ∷ ds) [] b n = absurd b
 live_count_begins (d ∷ ds) (e ∷ es) b n = omega (arith, count_one d e b.0.stays, live_count_begins ds es b.1 (omega arith))
 
 pub unmoving : (k : Kernel) → Moves k k
-unmoving k = record { devices = begins k.devices; held = refl; log = refl }
+unmoving k = record { devices = begins k.devices; born = λ i d h le. absurd (omega (arith, le, slice_get_within k.devices i d h)); held = refl; log = refl }

@@ -49,6 +49,20 @@ abbrev pub value_after : Write → Bool → Bool
 value_after write.On was = true
 value_after write.Off was = false
 value_after write.Remove was = was
+value_after write.DefaultOff was = was
+value_after write.DefaultOn was = was
+
+-- the value of `authorized_default` after it
+abbrev pub default_after : Write → Option Bool → Option Bool
+default_after write.On was = was
+default_after write.Off was = was
+default_after write.Remove was = was
+default_after write.DefaultOff was = Some false
+default_after write.DefaultOn was = Some true
+
+-- a device after a write
+abbrev pub written_to : Write → Device → Device
+written_to write d = record d { on = value_after write d.on; default = default_after write d.default }
 
 -- the held file is of the device of that identity
 pub record Holds (k : Kernel) (held i : ℕ) (d : Device) : Type 0 where
@@ -68,14 +82,14 @@ pub record IsOpened (name : List ℕ) (control : Control) (held : ℕ) (k l : Ke
   pub devices : l.devices ≡ k.devices
   pub log : l.log ≡ k.log
 
--- a write has its effect on the held file's device, which is live at the effect: one entry is added, and the value is set
+-- a write has its effect on the held file's device, which is live at the effect: one entry is added, and the value or the default is set
 pub record IsWritten (held : ℕ) (write : Write) (k l : Kernel) : Type 0 where
   pub i : ℕ
   pub d : Device
   pub holds : Holds k held i d
   pub live : Live k.devices i d
   pub log : l.log ≡ k.log ++ record { device = i; write = write } ∷ []
-  pub now : slice_get l.devices i ≡ Some (record d { on = value_after write d.on })
+  pub now : slice_get l.devices i ≡ Some (written_to write d)
   pub others : (j : ℕ) → (j ≡ i → ⊥) → slice_get l.devices j ≡ slice_get k.devices j
   pub number : length l.devices ≡ length k.devices
   pub files : l.held ≡ k.held

@@ -7,6 +7,8 @@ pub struct Device {
     pub name: NodeName,
     /// The parent's identity. A root hub has none.
     pub parent: Option<usize>,
+    /// The identity of the root hub that its parents lead to. A root hub has none.
+    pub controller: Option<usize>,
     pub descriptors: Text,
     pub product: Option<Text>,
     pub serial: Option<Text>,
@@ -14,6 +16,10 @@ pub struct Device {
     pub gone: bool,
     /// The value of `authorized`.
     pub on: bool,
+    /// Of a root hub the value of `authorized_default`, once it was written.
+    pub default: Option<bool>,
+    /// Of any other device whether its controller's default was off when it was born.
+    pub guarded: bool,
 }
 
 /// An open file of a device. Its place in the kernel's list is its number.

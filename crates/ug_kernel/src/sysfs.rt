@@ -1,7 +1,7 @@
 // The trait of the outside: what the kernel's files answer.
 ghost use Rattle.std.specs.Prelude.{◌≡◌, ℕ, List, [], ◌++◌, Option, Some};
 ghost use Rattle.ug_kernel.specs.Calls.{Call, Answer, Names, Open, Read, Ask_alive, Put, Close, Closed, Counts};
-ghost use Rattle.ug_kernel.specs.Kernel.{Kernel};
+ghost use Rattle.ug_kernel.specs.Kernel.{Kernel, IsOpenable};
 ghost use Rattle.ug_kernel.specs.Called.{Follows};
 ghost use Rattle.ug_kernel.specs.declared.record.CallRecord.{CallRecord};
 ghost use Rattle.ug_kernel.specs.Entries.{entry_of};
@@ -49,8 +49,9 @@ pub trait Sysfs {
         ensures few { HasFew result }
         ensures distinct { AreDistinct result };
 
-    /// Opens a file of the device of that name.
+    /// Opens a file of the device of that name. A root hub alone has an `authorized_default`.
     fn open_control(&mut self, alloc: Global, name: &NodeName, control: Control) -> Opened
+        requires { IsOpenable control name.now }
         ensures { gives self.old (Open name.now control) (record { answer = result; number = calls self.new; count = faults self.new }) self.new };
 
     /// Reads a file of the device of that name.

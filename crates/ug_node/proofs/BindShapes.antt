@@ -1,10 +1,11 @@
--- A binding, flat: each way through its tree has one of these shapes; and so has each that opens a `remove` file.
+-- A binding, flat: each way through its tree has one of these shapes; and so has each that opens a second file of a held device.
 use Rattle.std.proofs.Common.{◌≡◌, ℕ, ◌+◌, ◌≤◌, Bool, true, ◌&&◌, List, [], ◌∷◌, ◌++◌, Option, Some, None, Result, Ok, Err, ◌⊎◌, inl, inr, refl, sym, subst, append-nil, arith}
 use Rattle.ug_types.specs.Names.{parent_of}
 use Rattle.ug_types.specs.declared.record.Attrs.{Attrs}
 use Rattle.ug_types.specs.declared.verdict.Held.{Held}
 use Rattle.ug_types.specs.declared.control.Attr.{Attr}
-use Rattle.ug_types.specs.declared.control.Control.TheVariants.{Authorized, Remove}
+use Rattle.ug_types.specs.declared.control.Control.{Control}
+use Rattle.ug_types.specs.declared.control.Control.TheVariants.{Authorized}
 use Rattle.ug_kernel.specs.declared.calls.ReadOut.{ReadOut}
 use Rattle.ug_kernel.specs.declared.calls.Opened.{Opened}
 use Rattle.ug_kernel.specs.declared.calls.Probe.{Probe}
@@ -14,7 +15,7 @@ use Rattle.ug_kernel.specs.Along.{Made, answered, count_calls}
 use Rattle.ug_node.specs.Files.{after_read, reading, own_of, after_connect, after_serial, after_product, after_descriptors, reading_own, parent_of_files, after_parent_serial, after_parent_product, after_parent_descriptors, reading_parent}
 use Rattle.ug_node.specs.Bind.{binding_of, after_probe, probing, after_parent, to_parent, after_own, after_open, binding}
 use Rattle.ug_node.specs.Bound.{bytes_of, is_too_long}
-use Rattle.ug_node.specs.Removal.{after_remove_probe, after_remove_open, holding_remove}
+use Rattle.ug_node.specs.Removal.{after_hold_probe, after_hold_open, holding}
 use Rattle.ug_node.specs.declared.files.File.{File}
 use Rattle.ug_node.specs.declared.files.Stop.{Stop}
 use Rattle.ug_node.specs.declared.identity.Bound.{Bound}
@@ -78,14 +79,14 @@ pub data Binds_by (name : List ℕ) : List Made → Binding → Type 0 where
   Probe_failed : (file : Held) (call count number total : ℕ) (ms : List Made) (shut : Closing) → Reads name ms → count_calls ms ≤ 7 → Binds_by name (answered (Open name Authorized) (told (Opened.Token file) call count) ∷ (ms ++ answered (Ask_alive file.0) (told Probe.Failed number total) ∷ answered (Close file.0) shut ∷ [])) (Binding.Failed (record { call = number; count = total }))
   Bound_by : (call count number total : ℕ) (ms : List Made) (b : Bound) → Reads name ms → count_calls ms ≤ 7 → Files name ms b.attrs b.parent → Binds_by name (answered (Open name Authorized) (told (Opened.Token b.held) call count) ∷ (ms ++ answered (Ask_alive b.held.0) (told (Probe.Alive b.on) number total) ∷ [])) (Binding.Bound b)
 
--- and those that open a `remove` file
-pub data Holds_by (name : List ℕ) (held : ℕ) : List Made → RemoveHold → Type 0 where
-  Not_there : (call count : ℕ) → Holds_by name held (answered (Open name Remove) (told Opened.Absent call count) ∷ []) RemoveHold.Gone
-  Not_opened : (call count : ℕ) → Holds_by name held (answered (Open name Remove) (told Opened.Failed call count) ∷ []) (RemoveHold.Failed (record { call = call; count = count }))
-  No_memory : (call count : ℕ) → Holds_by name held (answered (Open name Remove) (told Opened.Memory call count) ∷ []) RemoveHold.Memory
-  Held_on : (file : Held) (on : Bool) (call count number total : ℕ) → Holds_by name held (answered (Open name Remove) (told (Opened.Token file) call count) ∷ answered (Ask_alive held) (told (Probe.Alive on) number total) ∷ []) (RemoveHold.Ready file)
-  Died : (file : Held) (call count number total : ℕ) (shut : Closing) → Holds_by name held (answered (Open name Remove) (told (Opened.Token file) call count) ∷ answered (Ask_alive held) (told Probe.Gone number total) ∷ answered (Close file.0) shut ∷ []) RemoveHold.Gone
-  Unasked : (file : Held) (call count number total : ℕ) (shut : Closing) → Holds_by name held (answered (Open name Remove) (told (Opened.Token file) call count) ∷ answered (Ask_alive held) (told Probe.Failed number total) ∷ answered (Close file.0) shut ∷ []) (RemoveHold.Failed (record { call = number; count = total }))
+-- and those that open a second file
+pub data Holds_by (control : Control) (name : List ℕ) (held : ℕ) : List Made → RemoveHold → Type 0 where
+  Not_there : (call count : ℕ) → Holds_by control name held (answered (Open name control) (told Opened.Absent call count) ∷ []) RemoveHold.Gone
+  Not_opened : (call count : ℕ) → Holds_by control name held (answered (Open name control) (told Opened.Failed call count) ∷ []) (RemoveHold.Failed (record { call = call; count = count }))
+  No_memory : (call count : ℕ) → Holds_by control name held (answered (Open name control) (told Opened.Memory call count) ∷ []) RemoveHold.Memory
+  Held_on : (file : Held) (on : Bool) (call count number total : ℕ) → Holds_by control name held (answered (Open name control) (told (Opened.Token file) call count) ∷ answered (Ask_alive held) (told (Probe.Alive on) number total) ∷ []) (RemoveHold.Ready file)
+  Died : (file : Held) (call count number total : ℕ) (shut : Closing) → Holds_by control name held (answered (Open name control) (told (Opened.Token file) call count) ∷ answered (Ask_alive held) (told Probe.Gone number total) ∷ answered (Close file.0) shut ∷ []) RemoveHold.Gone
+  Unasked : (file : Held) (call count number total : ℕ) (shut : Closing) → Holds_by control name held (answered (Open name control) (told (Opened.Token file) call count) ∷ answered (Ask_alive held) (told Probe.Failed number total) ∷ answered (Close file.0) shut ∷ []) (RemoveHold.Failed (record { call = number; count = total }))
 
 -- the walk
 
@@ -183,16 +184,16 @@ binds_by name = λ t. opened_by t.answer t.number t.count
     opened_by Opened.Failed call count = (refl, Open_failed call count)
     opened_by Opened.Memory call count = (refl, Open_short call count)
 
-pub holds_by : (name : List ℕ) (held : ℕ) → Ways (holding_remove name held) (Sure (Holds_by name held))
-unfolding holding_remove
-holds_by name held = λ t. by t.answer t.number t.count
+pub holds_by : (control : Control) (name : List ℕ) (held : ℕ) → Ways (holding control name held) (Sure (Holds_by control name held))
+unfolding holding
+holds_by control name held = λ t. by t.answer t.number t.count
   where
-    probed : (file : Held) (call count : ℕ) (r : Probe) (number total : ℕ) → Ways (after_remove_probe file r (record { call = number; count = total })) (Sure (λ ms x. Holds_by name held (answered (Open name Remove) (told (Opened.Token file) call count) ∷ answered (Ask_alive held) (told r number total) ∷ ms) x))
+    probed : (file : Held) (call count : ℕ) (r : Probe) (number total : ℕ) → Ways (after_hold_probe file r (record { call = number; count = total })) (Sure (λ ms x. Holds_by control name held (answered (Open name control) (told (Opened.Token file) call count) ∷ answered (Ask_alive held) (told r number total) ∷ ms) x))
     probed file call count (Probe.Alive on) number total = (refl, Held_on file on call count number total)
     probed file call count Probe.Gone number total = λ shut. (refl, Died file call count number total shut)
     probed file call count Probe.Failed number total = λ shut. (refl, Unasked file call count number total shut)
 
-    by : (r : Opened) (call count : ℕ) → Ways (after_remove_open held r (record { call = call; count = count })) (Sure (λ ms x. Holds_by name held (answered (Open name Remove) (told r call count) ∷ ms) x))
+    by : (r : Opened) (call count : ℕ) → Ways (after_hold_open held r (record { call = call; count = count })) (Sure (λ ms x. Holds_by control name held (answered (Open name control) (told r call count) ∷ ms) x))
     by (Opened.Token file) call count = λ t. probed file call count t.answer t.number t.count
     by Opened.Absent call count = (refl, Not_there call count)
     by Opened.Failed call count = (refl, Not_opened call count)
@@ -203,11 +204,11 @@ holds_by name held = λ t. by t.answer t.number t.count
 pub way_binds : (name : List ℕ) (ms : List Made) (r : Binding) → Way (binding name (parent_of name)) ms r → Binds_by name ms r
 way_binds name ms r way = ways_of (Binds_by name) (binding name (parent_of name)) ms r (ways_more (Sure (Binds_by name)) (λ ok ns x. Binds_by name ns x) (binding name (parent_of name)) (λ ok ns x h. h.1) (binds_by name)) way
 
-pub way_holds : (name : List ℕ) (held : ℕ) (ms : List Made) (r : RemoveHold) → Way (holding_remove name held) ms r → Holds_by name held ms r
-way_holds name held ms r way = ways_of (Holds_by name held) (holding_remove name held) ms r (ways_more (Sure (Holds_by name held)) (λ ok ns x. Holds_by name held ns x) (holding_remove name held) (λ ok ns x h. h.1) (holds_by name held)) way
+pub way_holds : (control : Control) (name : List ℕ) (held : ℕ) (ms : List Made) (r : RemoveHold) → Way (holding control name held) ms r → Holds_by control name held ms r
+way_holds control name held ms r way = ways_of (Holds_by control name held) (holding control name held) ms r (ways_more (Sure (Holds_by control name held)) (λ ok ns x. Holds_by control name held ns x) (holding control name held) (λ ok ns x h. h.1) (holds_by control name held)) way
 
 pub sure_binding : (name : List ℕ) → Ways (binding name (parent_of name)) (Sure (Way (binding name (parent_of name))))
 sure_binding name = sure_ways (Binds_by name) (binding name (parent_of name)) (binds_by name)
 
-pub sure_hold : (name : List ℕ) (held : ℕ) → Ways (holding_remove name held) (Sure (Way (holding_remove name held)))
-sure_hold name held = sure_ways (Holds_by name held) (holding_remove name held) (holds_by name held)
+pub sure_hold : (control : Control) (name : List ℕ) (held : ℕ) → Ways (holding control name held) (Sure (Way (holding control name held)))
+sure_hold control name held = sure_ways (Holds_by control name held) (holding control name held) (holds_by control name held)

@@ -1,11 +1,11 @@
--- What a binding and the opening of a `remove` file do to kernels.
+-- What a binding and the opening of a second file do to kernels.
 use Rattle.std.proofs.Common.{◌≡◌, ℕ, nat_le, Bool, true, false, cond, ◌≤◌, List, [], ◌∷◌, length, Option, Some, None, slice_get, inl, inr, refl, sym, ◌∙◌, ap, subst, arith, ◌++◌}
 use Rattle.std.proofs.lemmas.Option.{slice_get_past}
 use Rattle.ug_types.specs.Names.{parent_of}
 use Rattle.ug_types.specs.declared.record.Attrs.{Attrs}
 use Rattle.ug_types.specs.declared.control.Attr.{Attr}
 use Rattle.ug_types.specs.declared.control.Control.{Control}
-use Rattle.ug_types.specs.declared.control.Control.TheVariants.{Authorized, Remove}
+use Rattle.ug_types.specs.declared.control.Control.TheVariants.{Authorized}
 use Rattle.ug_types.specs.declared.verdict.Held.{Held}
 use Rattle.ug_kernel.specs.declared.device.Device.{Device}
 use Rattle.ug_kernel.specs.declared.device.HeldFile.{HeldFile}
@@ -33,7 +33,7 @@ use Rattle.ug_kernel.specs.declared.calls.FailedCall.{FailedCall}
 use Rattle.ug_kernel.proofs.Rises.{Counting}
 use Rattle.ug_kernel.proofs.Counted.{Tally, tally, counts, along_counted, counts_never_fall, along_never_falls}
 use Rattle.ug_node.specs.declared.removal.RemoveHold.{RemoveHold}
-use Rattle.ug_node.specs.Removal.{holding_remove, TellsRemoveFault, IsAuthorizedFile, RemoveSays, IsRemoveHold, HoldsRemove}
+use Rattle.ug_node.specs.Removal.{holding, TellsHoldFault, IsAuthorizedFile, HoldSays, IsHold, HoldsFile}
 
 -- The law of a binding, over kernels, and the numbers of a failed answer, by cases on the calls.
 
@@ -285,9 +285,9 @@ binds_tell {name} v w (Cut file call count ms of at t shut why r n few may stops
 binds_tell {name} v w (Probe_failed file call count number total ms shut n few) a = ends_closed (answered (Open name Authorized) (told (Opened.Token file) call count) ∷ ms) (answered (Ask_alive file.0) (told Probe.Failed number total)) file.0 shut (record { call = number; count = total }) v w (λ x y c. fault_so failed_probe (told Probe.Failed number total) x y refl c) a
 binds_tell v w x a = tt
 
-holds_tell : {name : List ℕ} {held : ℕ} {ms : List Made} {r : RemoveHold} (v w : Tally) → Holds_by name held ms r → Along counts v ms w → TellsRemoveFault v.faults w.calls w.faults r
+holds_tell : {control : Control} {name : List ℕ} {held : ℕ} {ms : List Made} {r : RemoveHold} (v w : Tally) → Holds_by control name held ms r → Along counts v ms w → TellsHoldFault v.faults w.calls w.faults r
 holds_tell v w (Not_opened call count) a = subst (λ (x : Tally). IsFault v.faults x.calls x.faults (record { call = call; count = count })) (sym a.2) (fault_so failed_open (told Opened.Failed call count) v a.0 refl a.1)
-holds_tell {name} {held} v w (Unasked file call count number total shut) a = ends_closed (answered (Open name Remove) (told (Opened.Token file) call count) ∷ []) (answered (Ask_alive held) (told Probe.Failed number total)) file.0 shut (record { call = number; count = total }) v w (λ x y c. fault_so failed_probe (told Probe.Failed number total) x y refl c) a
+holds_tell {control} {name} {held} v w (Unasked file call count number total shut) a = ends_closed (answered (Open name control) (told (Opened.Token file) call count) ∷ []) (answered (Ask_alive held) (told Probe.Failed number total)) file.0 shut (record { call = number; count = total }) v w (λ x y c. fault_so failed_probe (told Probe.Failed number total) x y refl c) a
 holds_tell v w x a = tt
 
 -- of the states of a run
@@ -297,14 +297,14 @@ told_fault gives calls faults counted name parent s r t e h =
     let x = ways_run gives (Sure (Binds_by name)) (binding name (parent_of name)) s r t (binds_by name) (subst (λ (p : Option (List ℕ)). Runs gives s (binding name p) r t) e h) in
     binds_tell (tally (calls s) (faults s)) (tally (calls t) (faults t)) x.so.1 (along_counted gives calls faults counted x.made s t x.along)
 
-pub remove_fault : {S : Type 0} (gives : S → (call : Call) → Answer call → S → Type 0) (calls faults : S → ℕ) (counted : Counting gives calls faults) (name : List ℕ) (held : ℕ) (s : S) (r : RemoveHold) (t : S) → Runs gives s (holding_remove name held) r t → TellsRemoveFault (faults s) (calls t) (faults t) r
-remove_fault gives calls faults counted name held s r t h =
-    let x = ways_run gives (Sure (Holds_by name held)) (holding_remove name held) s r t (holds_by name held) h in
+pub hold_fault : {S : Type 0} (gives : S → (call : Call) → Answer call → S → Type 0) (calls faults : S → ℕ) (counted : Counting gives calls faults) (control : Control) (name : List ℕ) (held : ℕ) (s : S) (r : RemoveHold) (t : S) → Runs gives s (holding control name held) r t → TellsHoldFault (faults s) (calls t) (faults t) r
+hold_fault gives calls faults counted control name held s r t h =
+    let x = ways_run gives (Sure (Holds_by control name held)) (holding control name held) s r t (holds_by control name held) h in
     holds_tell (tally (calls s) (faults s)) (tally (calls t) (faults t)) x.so.1 (along_counted gives calls faults counted x.made s t x.along)
 
--- The law of opening a device's `remove` file, over kernels, by cases on its calls.
+-- The law of opening a second file of a device, over kernels, by cases on its calls.
 
-holds_unwritten : {name : List ℕ} {held : ℕ} {ms : List Made} {r : RemoveHold} → Holds_by name held ms r → Unwritten ms
+holds_unwritten : {control : Control} {name : List ℕ} {held : ℕ} {ms : List Made} {r : RemoveHold} → Holds_by control name held ms r → Unwritten ms
 holds_unwritten (Held_on file on call count number total) = (tt, (tt, tt))
 holds_unwritten (Died file call count number total shut) = (tt, (tt, (tt, tt)))
 holds_unwritten (Unasked file call count number total shut) = (tt, (tt, (tt, tt)))
@@ -333,34 +333,34 @@ gone_dead k name held i f gone d live = gone i d (record { file = record { devic
 
 -- by cases
 
-holds_say : {name : List ℕ} {held : ℕ} {ms : List Made} {r : RemoveHold} (i : ℕ) (k l : Kernel) → Holds_by name held ms r → IsAuthorizedFile k name held i → Along calls k ms l → RemoveSays held i l r
-holds_say {name} {held} i k l (Not_there call count) f a =
-    let g = along_grows (answered (Open name Remove) (told Opened.Absent call count) ∷ []) k l a in
+holds_say : {control : Control} {name : List ℕ} {held : ℕ} {ms : List Made} {r : RemoveHold} (i : ℕ) (k l : Kernel) → Holds_by control name held ms r → IsAuthorizedFile k name held i → Along calls k ms l → HoldSays control held i l r
+holds_say {control} {name} {held} i k l (Not_there call count) f a =
+    let g = along_grows (answered (Open name control) (told Opened.Absent call count) ∷ []) k l a in
     let none = subst (λ v. NoneLived name k v) (sym a.2) a.1.says in
     gone_later l l name held i (grows_refl l) (file_later k l name held i g f) (λ d live. none i f.d (record { entry = (live_before k l i f.d d g f.device live).0; exit = (d, live) }) f.named)
-holds_say {name} {held} i k l (Held_on file on call count number total) f a =
+holds_say {control} {name} {held} i k l (Held_on file on call count number total) f a =
     let c = a.1 in
     let before = quiet_grows k c.before (moves_quiet k c.before c.moves_before) in
-    let own = quiet_grows c.before c.after (opened_quiet name Remove file.0 c.before c.after c.effect) in
+    let own = quiet_grows c.before c.after (opened_quiet name control file.0 c.before c.after c.effect) in
     let last = answered (Ask_alive held) (told (Probe.Alive on) number total) ∷ [] in
     let alive = a.2.1.says in
     let g = grows_trans c.before c.after a.0 own (quiet_grows c.after a.0 (moves_quiet c.after a.0 c.moves_after)) in
-    let now = file_later k a.0 name held i (called_grows (Open name Remove) (told (Opened.Token file) call count) k a.0 c) f in
+    let now = file_later k a.0 name held i (called_grows (Open name control) (told (Opened.Token file) call count) k a.0 c) f in
     let live : Live a.0.devices i alive.d = subst (λ v. Live a.0.devices v alive.d) (holds_is a.0 name held i alive.i alive.d now alive.holds) alive.live in
     let d = before.devices i f.d f.device in
     let first = (live_before c.before a.0 i d.0 alive.d g d.1 live).0 in
     let same = c.sound_before.devices.names c.effect.i i c.effect.d d.0 c.effect.live first (c.effect.named ∙ sym (d.2.name ∙ f.named)) in
-    let at = subst (λ v. slice_get c.after.held file.0 ≡ Some (record { device = v; control = Remove })) same (opened_file name Remove file.0 c.before c.after c.effect) in
-    (quiet_trans c.after a.0 l (moves_quiet c.after a.0 c.moves_after) (along_quiet last a.0 l (tt, tt) a.2)).held file.0 (record { device = i; control = Remove }) at
-holds_say {name} {held} i k l (Died file call count number total shut) f a =
-    let to = grows_trans k a.0 a.2.0 (called_grows (Open name Remove) (told (Opened.Token file) call count) k a.0 a.1) (called_grows (Ask_alive held) (told Probe.Gone number total) a.0 a.2.0 a.2.1) in
+    let at = subst (λ v. slice_get c.after.held file.0 ≡ Some (record { device = v; control = control })) same (opened_file name control file.0 c.before c.after c.effect) in
+    (quiet_trans c.after a.0 l (moves_quiet c.after a.0 c.moves_after) (along_quiet last a.0 l (tt, tt) a.2)).held file.0 (record { device = i; control = control }) at
+holds_say {control} {name} {held} i k l (Died file call count number total shut) f a =
+    let to = grows_trans k a.0 a.2.0 (called_grows (Open name control) (told (Opened.Token file) call count) k a.0 a.1) (called_grows (Ask_alive held) (told Probe.Gone number total) a.0 a.2.0 a.2.1) in
     let now = file_later k a.2.0 name held i to f in
     gone_later a.2.0 l name held i (along_grows (answered (Close file.0) shut ∷ []) a.2.0 l a.2.2) now (gone_dead a.2.0 name held i now a.2.1.says)
 holds_say i k l x f a = tt
 
-pub holding_law : (name : List ℕ) (held i : ℕ) (r : RemoveHold) (k l : Kernel) → IsKernel k → IsAuthorizedFile k name held i → Runs calls k (holding_remove name held) r l → IsRemoveHold held i k l r
-holding_law name held i r k l sound f runs =
-    let x = ways_run calls (Sure (Holds_by name held)) (holding_remove name held) k r l (holds_by name held) runs in
+pub holding_law : (control : Control) (name : List ℕ) (held i : ℕ) (r : RemoveHold) (k l : Kernel) → IsKernel k → IsAuthorizedFile k name held i → Runs calls k (holding control name held) r l → IsHold control held i k l r
+holding_law control name held i r k l sound f runs =
+    let x = ways_run calls (Sure (Holds_by control name held)) (holding control name held) k r l (holds_by control name held) runs in
     record {
       sound = along_sound x.made k l sound x.along;
       quiet = along_quiet x.made k l (holds_unwritten x.so.1) x.along;
@@ -368,7 +368,7 @@ holding_law name held i r k l sound f runs =
     }
 
 -- and over the states of a run
-pub told_holds : {S : Type 0} (gives : S → (call : Call) → Answer call → S → Type 0) (told : S → Option Kernel) (did : (s : S) (call : Call) (answer : Answer call) (t : S) (l : Kernel) → gives s call answer t → told t ≡ Some l → Follows call answer (told s) l) (name : List ℕ) (held : ℕ) (s : S) (r : RemoveHold) (t : S) → Runs gives s (holding_remove name held) r t → HoldsRemove told s name held r t
-told_holds gives told did name held s r t runs = λ l e.
-    let m = told_run gives told did (holding_remove name held) s r t l runs e in
-    (m.kernel, m.was, λ k i f. holding_law name held i r m.kernel l k f (m.run k).0)
+pub told_holds : {S : Type 0} (gives : S → (call : Call) → Answer call → S → Type 0) (told : S → Option Kernel) (did : (s : S) (call : Call) (answer : Answer call) (t : S) (l : Kernel) → gives s call answer t → told t ≡ Some l → Follows call answer (told s) l) (control : Control) (name : List ℕ) (held : ℕ) (s : S) (r : RemoveHold) (t : S) → Runs gives s (holding control name held) r t → HoldsFile told control s name held r t
+told_holds gives told did control name held s r t runs = λ l e.
+    let m = told_run gives told did (holding control name held) s r t l runs e in
+    (m.kernel, m.was, λ k i f. holding_law control name held i r m.kernel l k f (m.run k).0)

@@ -11,4 +11,4 @@ pub use failed::failed_call;
 pub use files::{File, Stop};
 pub use held::{put, reprobe};
 pub use identity::{Binding, Bound, bind};
-pub use removal::{RemoveHold, hold_remove};
+pub use removal::{RemoveHold, hold_default, hold_remove};

@@ -1,17 +1,19 @@
-// Opens the file by which a device is removed.
+// Opens a second file of a held device, as the one by which it is removed.
 ghost use Rattle.std.specs.Prelude.{◌≡◌};
+ghost use Rattle.ug_types.specs.declared.control.Control.TheVariants.{Remove, Default};
+ghost use Rattle.ug_kernel.specs.Kernel.{IsOpenable};
 ghost use Rattle.ug_kernel.specs.Tree.{Runs};
-ghost use Rattle.ug_node.specs.Removal.{holding_remove, HoldsRemove, TellsRemoveFault};
+ghost use Rattle.ug_node.specs.Removal.{holding, HoldsFile, TellsHoldFault};
 
 use crate::failed::failed_call;
 use std::alloc::Global;
 use ug_kernel::{Control, FailedCall, Opened, Probe, Sysfs};
 use ug_types::{Held, NodeName};
 
-/// The answer to the opening of a device's `remove` file. The file is closed on each answer but `Ready`.
+/// The answer to the opening of a second file of a device, as its `remove`. The file is closed on each answer but `Ready`.
 #[derive(Clone, Copy, Debug, PartialEq, Eq)]
 pub enum RemoveHold {
-    /// The `remove` file of that very device.
+    /// The file of that very device.
     Ready(Held),
     /// The device is gone.
     Gone,
@@ -27,18 +29,56 @@ pub fn hold_remove<Y: Sysfs>(
     name: &NodeName,
     held: Held,
 ) -> RemoveHold
-    ensures runs { Runs Y.gives sysfs.old (holding_remove name.now held.0) result sysfs.new }
-    ensures law { HoldsRemove Y.told sysfs.old name.now held.0 result sysfs.new }
-    ensures fault { TellsRemoveFault (Y.faults sysfs.old) (Y.calls sysfs.new) (Y.faults sysfs.new) result }
+    ensures runs { Runs Y.gives sysfs.old (holding Remove name.now held.0) result sysfs.new }
+    ensures law { HoldsFile Y.told Remove sysfs.old name.now held.0 result sysfs.new }
+    ensures fault { TellsHoldFault (Y.faults sysfs.old) (Y.calls sysfs.new) (Y.faults sysfs.new) result }
 {
-    open_remove(alloc, sysfs, name, held)
+    hold_file(alloc, sysfs, name, Control::Remove, held)
 }
 
-#[tactic(auto, unfolding(crate::specs::Removal::holding_remove))]
-fn open_remove<Y: Sysfs>(alloc: Global, sysfs: &mut Y, name: &NodeName, held: Held) -> RemoveHold
-    ensures { Runs Y.gives sysfs.old (holding_remove name.now held.0) result sysfs.new }
+/// Opens the `authorized_default` file of the root hub behind a held file, in the same way.
+pub fn hold_default<Y: Sysfs>(
+    alloc: Global,
+    sysfs: &mut Y,
+    name: &NodeName,
+    held: Held,
+) -> RemoveHold
+    requires { IsOpenable Default name.now }
+    ensures runs { Runs Y.gives sysfs.old (holding Default name.now held.0) result sysfs.new }
+    ensures law { HoldsFile Y.told Default sysfs.old name.now held.0 result sysfs.new }
+    ensures fault { TellsHoldFault (Y.faults sysfs.old) (Y.calls sysfs.new) (Y.faults sysfs.new) result }
 {
-    let file = match sysfs.open_control(alloc, name, Control::Remove) {
+    hold_file(alloc, sysfs, name, Control::Default, held)
+}
+
+// The same for each of the device's files.
+fn hold_file<Y: Sysfs>(
+    alloc: Global,
+    sysfs: &mut Y,
+    name: &NodeName,
+    control: Control,
+    held: Held,
+) -> RemoveHold
+    requires { IsOpenable control name.now }
+    ensures runs { Runs Y.gives sysfs.old (holding control name.now held.0) result sysfs.new }
+    ensures law { HoldsFile Y.told control sysfs.old name.now held.0 result sysfs.new }
+    ensures fault { TellsHoldFault (Y.faults sysfs.old) (Y.calls sysfs.new) (Y.faults sysfs.new) result }
+{
+    open_file(alloc, sysfs, name, control, held)
+}
+
+#[tactic(auto, unfolding(crate::specs::Removal::holding))]
+fn open_file<Y: Sysfs>(
+    alloc: Global,
+    sysfs: &mut Y,
+    name: &NodeName,
+    control: Control,
+    held: Held,
+) -> RemoveHold
+    requires { IsOpenable control name.now }
+    ensures { Runs Y.gives sysfs.old (holding control name.now held.0) result sysfs.new }
+{
+    let file = match sysfs.open_control(alloc, name, control) {
         Opened::Token(file) => file,
         Opened::Absent => return RemoveHold::Gone,
         Opened::Failed => return RemoveHold::Failed(failed_call(sysfs)),

@@ -2,7 +2,7 @@
 use Rattle.std.proofs.Common.{◌≡◌, ℕ, Bool, true, false, refl, inl, nat_le, cond, ◌||◌, List, [], ◌∷◌, ◌++◌, length, Option, Some, None, ◌∙◌, ap, not, inr}
 use Rattle.ug_kernel.specs.Calls.{Call, Names, Open, Read, Ask_alive, Put, Close, Closed, Answer, Told, failed_listing, failed_open, failed_read, failed_probe, failed_put}
 use Rattle.ug_kernel.specs.Tree.{Prog, Return, Ask, Room, Runs, then}
-use Rattle.ug_sysfs.specs.World.{World, Gives, entered, answer_from, refusing, answer_of, answer_unless, fate, fate_of, effect, opened_at, read_from, read_at, alive_of, probed_at, put_at, live_held, Wants}
+use Rattle.ug_sysfs.specs.World.{IsUnfailing, World, Gives, entered, answer_from, refusing, answer_of, answer_unless, fate, fate_of, effect, opened_at, read_from, read_at, alive_of, probed_at, put_at, live_held, Wants}
 use Rattle.ug_play.specs.Play.{play, IsPlayed}
 use Rattle.std.specs.List.{slice_get}
 use Rattle.std.proofs.lemmas.Bool.{cond_both}
@@ -105,8 +105,8 @@ never_wants false s call = refl
 none_failed : {X : Type 0} (failed : X → Bool) (t : Told X) → failed t.answer ≡ false → failure_if failed t ≡ []
 none_failed failed t e = ap (λ (b : Bool). cond b (failure_of t ∷ []) []) e
 
-unscheduled : (s : World) → s.fails ≡ [] → fate_of (entered s) ≡ None
-unscheduled s e = ap (λ (fs : List Failing). fate (entered s).calls None fs) e
+unscheduled : (s : World) → IsUnfailing s → fate_of (entered s) ≡ None
+unscheduled s e = ap (λ (b : Bool). cond b (Some false) (fate (entered s).calls None (entered s).fails)) e.1 ∙ ap (λ (fs : List Failing). fate (entered s).calls None fs) e.0
 
 answers_calmly : (call : Call) (s : World) → fate_of s ≡ None → failure call (answer_from s call).0 ≡ []
 answers_calmly Names s e = none_failed failed_listing _ (ap (λ (f : Option Bool). failed_listing (effect f Names s.kernel).0) e)
@@ -116,17 +116,17 @@ answers_calmly (Ask_alive held) s e = none_failed failed_probe _ (ap (λ (f : Op
 answers_calmly (Put held write) s e = none_failed failed_put _ (ap (λ (f : Option Bool). failed_put (effect f (Put held write) s.kernel).0) e ∙ fine_put_at write (live_held held s.kernel.held s.kernel.devices) s.kernel)
 answers_calmly (Close held) s e = refl
 
-never_fails : (s : World) (call : Call) → s.ran_out ≡ false → s.fails ≡ [] → failure call (answer_of s call).0 ≡ []
+never_fails : (s : World) (call : Call) → s.ran_out ≡ false → IsUnfailing s → failure call (answer_of s call).0 ≡ []
 never_fails s call o e = unless_cases (λ call (p : Answer call × World). failure call p.0 ≡ []) s.ran_out s (λ held. refl) (λ call t. let none : ⊥ = cc in absurd none) (λ call f. answers_calmly call (entered s) (unscheduled s e)) call
 
-pub fails_stay : (s : World) (call : Call) → s.fails ≡ [] → (answer_of s call).1.fails ≡ []
-fails_stay s call e = unless_cases (λ call (p : Answer call × World). p.1.fails ≡ []) s.ran_out s (λ held. e) (λ call t. e) (λ call f. e) call
+pub fails_stay : (s : World) (call : Call) → IsUnfailing s → IsUnfailing (answer_of s call).1
+fails_stay s call e = unless_cases (λ call (p : Answer call × World). IsUnfailing p.1) s.ran_out s (λ held. e) (λ call t. e) (λ call f. e) call
 
 -- the way that the script fixes: room is always there, no answer is want, and where no call is to fail, none does
 pub record Fixed {R : Type 0} (P : Bool → List Made → R → Type 0) (s : World) (r : R) : Type 0 where
   pub made : List Made
   pub sure : has_want made ≡ false
-  pub calm : s.ran_out ≡ false → s.fails ≡ [] → failures made ≡ []
+  pub calm : s.ran_out ≡ false → IsUnfailing s → failures made ≡ []
   pub so : P true made r
 
 pub play_way : {R : Type 0} (P : Bool → List Made → R → Type 0) (p : Prog R) (s : World) → Ways p P → Fixed P s (play p s).0

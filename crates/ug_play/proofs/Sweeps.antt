@@ -3,10 +3,10 @@ use Rattle.std.proofs.Common.{◌≡◌, ℕ, Bool, true, false, not, ◌&&◌, 
 use Rattle.std.specs.List.{list_any}
 use Rattle.std.proofs.lemmas.Bool.{or_left, or_parts, or_right}
 use Rattle.std.proofs.lemmas.List.Folds.{list_any-append}
-use Rattle.ug_table.proofs.Common.{in_sweep_order, Held, Made, failures, FailedCall, Entry, State, Answers, Laters, farewells, AreClosings, unlisted_files, failure_in, failures_told, Fault}
+use Rattle.ug_table.proofs.Common.{Terms, in_sweep_order, Held, Made, failures, FailedCall, Entry, State, Answers, Laters, farewells, AreClosings, unlisted_files, failure_in, failures_told, Fault}
 use Rattle.ug_kernel.specs.Tree.{Prog, Return, Runs, then}
 use Rattle.ug_kernel.proofs.Ways.{Ways, ways_more, ways_last}
-use Rattle.ug_sysfs.specs.World.{World, Gives}
+use Rattle.ug_sysfs.specs.World.{IsUnfailing, World, Gives}
 use Rattle.ug_table.specs.Sweep.{sweeping}
 use Rattle.ug_table.proofs.Standings.{farewells_by}
 use Rattle.ug_table.proofs.Chains.{Chain, Over, First, List_failed, List_short, No_room, Goes, Listed, Unlisted, Comes, sweeping_by, goes_entries}
@@ -30,9 +30,9 @@ refused_more false b x y = refl
 
 -- a chain
 
-chain_wants : {J : Type 0} {answer : Answers J} {later : Laters J} {binds present : Bool}
+chain_wants : {J : Type 0} {answer : Answers J} {later : Laters J} {binds : Bool} {terms : Terms}
     {names : List (List ℕ)} {w v : State J} {ok : Bool} {ms : List Made} {es : List Entry}
-    → Chain answer later binds present names w ok ms es v → tells_memory es ≡ refused ok ms
+    → Chain answer later binds terms names w ok ms es v → tells_memory es ≡ refused ok ms
 chain_wants (Over w) = refl
 chain_wants (First name names how w x v ok more ms ns es p c) =
     memory_more p.rest es
@@ -119,7 +119,7 @@ nobody_told (Entry.UnsettledAll (Fault.Call failed) ∷ es) m f = let none : ⊥
 nobody_told (Entry.UnsettledAll Fault.Memory ∷ es) m f = let none : ⊥ = cc in absurd none
 nobody_told (e ∷ es) m f = nobody_told es (or_parts (entry_tells_memory e) (tells_memory es) m).1 (nothing_behind (failure_in e) (failures_told es) f)
 
-pub quiet_sweep : {J : Type 0} (answer : Answers J) (later : Laters J) (w : State J) (s : World) → s.ran_out ≡ false → s.fails ≡ [] → NameNobody w.entries → NameNobody (play (sweeping answer later w) s).0.entries
+pub quiet_sweep : {J : Type 0} (answer : Answers J) (later : Laters J) (w : State J) (s : World) → s.ran_out ≡ false → IsUnfailing s → NameNobody w.entries → NameNobody (play (sweeping answer later w) s).0.entries
 quiet_sweep {J} answer later w s o e n =
     let k = play_way (λ ok ms v. Sums w.entries ok ms v.entries) (sweeping answer later w) s (sweeping_sums answer later w) in
     subst (λ (v : List Entry). NameNobody v) (sym k.so.entries) (nobody_more w.entries k.so.rest n (nobody_told k.so.rest (k.so.wants ∙ k.sure) (k.so.faults ∙ k.calm o e)))

@@ -1,7 +1,7 @@
 -- What a name's part tells of want of memory: it tells it just where memory was refused in it.
 use Rattle.std.proofs.Common.{◌≡◌, ℕ, Bool, ◌||◌, List, [], ◌∷◌, ◌++◌, Option, refl, sym, ◌∙◌, ap}
 use Rattle.std.proofs.lemmas.List.Folds.{list_any-append}
-use Rattle.ug_table.proofs.Common.{Made, Bound, Entry, AllBear, EndsUnsettled, Fault}
+use Rattle.ug_table.proofs.Common.{Made, Write, Bound, Entry, AllBear, EndsUnsettled, Fault}
 use Rattle.ug_table.specs.declared.standing.Standing.{Standing}
 use Rattle.ug_table.specs.declared.standing.Settled.{Settled}
 use Rattle.ug_table.specs.One.{whys}
@@ -24,10 +24,10 @@ memory_told name (Entry.Save became ∷ es) b h = absurd b.0
 memory_told name (Entry.Reply answered ∷ es) b h = absurd h.0
 memory_told name (e ∷ es) b h = memory_told name es b.1 h.1
 
-pub flat_want : {binds : Bool} {given : List Standing → Bound → Standing → Type 0} {name : List ℕ}
+pub flat_want : {hub : Option Write} {binds : Bool} {given : List Standing → Bound → Standing → Type 0} {name : List ℕ}
     {ss : List Standing} {ok : Bool} {ms : List Made} {rest : List Entry} {how : Settled}
     {rs : List Standing} {o : Option (List Standing × Bound)}
-    → Flat binds given name ss ok ms rest how rs o → tells_memory rest ≡ refused ok ms
+    → Flat hub binds given name ss ok ms rest how rs o → tells_memory rest ≡ refused ok ms
 flat_want {name = name} {rest = rest} f =
     let part = flat_is_part f in
     memory_told name rest part.bears part.last ∙ ap are_short (flat_whys f) ∙ sym (flat_short f)

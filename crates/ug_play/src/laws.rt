@@ -1,7 +1,7 @@
 // What a script fixes.
 ghost use Rattle.std.specs.Prelude.{◌≡◌, true, false, ◌⊎◌, List, [], ◌++◌};
 ghost use Rattle.ug_kernel.specs.Tree.{Prog, Runs};
-ghost use Rattle.ug_sysfs.specs.World.{World, Gives};
+ghost use Rattle.ug_sysfs.specs.World.{World, Gives, IsUnfailing};
 ghost use Rattle.ug_audit.specs.declared.entry.Entry.{Entry};
 ghost use Rattle.ug_table.specs.State.{State};
 ghost use Rattle.ug_table.specs.Sweep.{sweeping};
@@ -34,5 +34,5 @@ pub fn room_law<A: Judge>()
 /// Where no call is to fail, a sweep that the script fixes names nobody as unsettled.
 #[tactic(auto, using(crate::proofs::Sweeps::quiet_sweep))]
 pub fn quiet_law<A: Judge>()
-    ensures { (w : State A.Meaning) (s : World) → s.ran_out ≡ false → s.fails ≡ [] → NameNobody w.entries → NameNobody (play (sweeping A.answer A.later w) s).0.entries }
+    ensures { (w : State A.Meaning) (s : World) → s.ran_out ≡ false → IsUnfailing s → NameNobody w.entries → NameNobody (play (sweeping A.answer A.later w) s).0.entries }
 {}

@@ -5,3 +5,5 @@ pub mod Numbering
 pub mod Stands
 pub mod Finding
 pub mod Lists
+pub mod Walking
+pub mod Indexing

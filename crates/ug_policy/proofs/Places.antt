@@ -1,6 +1,6 @@
 -- The first element that passes a test.
-use Rattle.std.proofs.Common.{◌≡◌, ℕ, zero, suc, ◌<◌, ◌≤◌, ◌+◌, ◌∷◌, [], List, length, get_or, Bool, true, false, not, Some, None, arith, refl, ap, ◌∙◌, subst, inl, inr, ◌⊎◌}
-use Rattle.std.specs.List.{find, position, position_or_len}
+use Rattle.std.proofs.Common.{◌≡◌, ℕ, zero, suc, ◌<◌, ◌≤◌, ◌+◌, ◌∷◌, [], List, length, get_or, Bool, true, false, not, Some, None, arith, refl, ap, subst}
+use Rattle.std.specs.List.{position, position_or_len}
 use Rattle.std.proofs.lemmas.Bool.{cond-true, cond-false}
 use Rattle.std.proofs.lemmas.List.Quantifiers.{position-Some}
 

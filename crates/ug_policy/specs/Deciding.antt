@@ -4,7 +4,9 @@ use Rattle.std.specs.Option.{option_map}
 use Rattle.rand_core.specs.Stream.{Stream}
 use Rattle.ug_types.specs.declared.record.DeviceRecord.{DeviceRecord}
 use Rattle.ug_types.specs.declared.rule.Conds.{Conds}
+use Rattle.ug_types.specs.declared.verdict.Cause.{Cause}
 use Rattle.ug_types.specs.declared.verdict.Moment.{Moment}
+use Rattle.ug_types.specs.declared.verdict.Target.{Target}
 use Rattle.ug_cond.specs.declared.context.Context.{Context}
 use Rattle.ug_cond.specs.declared.history.History.{History}
 use Rattle.ug_cond.specs.Conditions.{conditions_hold}
@@ -12,7 +14,7 @@ use Rattle.ug_cond.specs.Judgements.{Judgement}
 use Rattle.ug_cond.specs.Truth.{ConditionsHold}
 use Rattle.ug_cond.specs.Words.{behind, random_count, words_of}
 use Rattle.ug_policy.specs.declared.entry.RuleEntry.{RuleEntry}
-use Rattle.ug_policy.specs.Matching.{matched, greatest, noted}
+use Rattle.ug_policy.specs.Matching.{answer_by, matched, greatest, noted}
 use Rattle.ug_policy.specs.Rules.{ids}
 
 -- how many words the conditions of a rule take
@@ -103,3 +105,11 @@ judgement_found dev moment f = record {
   evaluated = ids (filter (matched dev) (reached f));
   applied = option_map (λ (e : RuleEntry). e.id) (decider f);
 }
+
+-- A device is judged beside the records of those that are allowed: by the first of the rules that matches it and whose conditions hold
+-- with the next words, or by the implicit target. The rules that were evaluated have the moment in their histories, and their words
+-- are taken.
+pub record Judges (dev : DeviceRecord) (ctx : Context) (records : List DeviceRecord) (implicit : Target) (rules : List RuleEntry) (stream : Stream) (verdict : Target × Cause) (later : List RuleEntry) (left : Stream) : Type 0 where
+  pub answer : verdict ≡ answer_by implicit (decider (find_decider dev ctx records rules stream))
+  pub entries : later ≡ rules_judged dev ctx.moment (find_decider dev ctx records rules stream)
+  pub words : left ≡ behind (words_taken dev (reached (find_decider dev ctx records rules stream))) stream

@@ -1,5 +1,5 @@
 // Changes of a list of rules.
-ghost use Rattle.std.specs.Prelude.{◌≡◌, ◌≤◌, ◌<◌, ◌+◌, None, IfSome, OnOk, OnErr, insert, length, position, vec_len, vec_capacity};
+ghost use Rattle.std.specs.Prelude.{◌≡◌, ◌≤◌, ◌<◌, ◌+◌, None, IfSome, IfOk, OnOk, OnErr, insert, remove, length, position, vec_len, vec_capacity};
 ghost use Rattle.ug_types.specs.Elements.{Has, AllDistinct};
 ghost use Rattle.ug_policy.specs.declared.entry.RuleEntry.{RuleEntry as Entry};
 ghost use Rattle.ug_policy.specs.Rules.{ids};
@@ -44,9 +44,11 @@ pub fn put_rule(entries: &mut Vec<RuleEntry>, place: usize, entry: RuleEntry)
     let _put = entries.insert(place, entry);
 }
 
-/// Takes out the rule with that id.
-pub fn remove_rule(entries: &mut Vec<RuleEntry>, id: u64) -> Result<(), NoRule>
+/// Takes out the rule with that id, and tells its place.
+pub fn remove_rule(entries: &mut Vec<RuleEntry>, id: u64) -> Result<usize, NoRule>
     requires { AllDistinct (ids entries.old.items) }
+    ensures within { IfOk result (λ place. place < length entries.old.items) }
+    ensures place { IfOk result (λ place. entries.new.items ≡ remove entries.old.items place) }
     ensures entries { entries.new.items ≡ removed id entries.old.items }
     ensures ok { OnOk result (Has (ids entries.old.items) id) }
     ensures len { OnOk result (vec_len entries.new + 1 ≡ vec_len entries.old) }
@@ -57,7 +59,7 @@ pub fn remove_rule(entries: &mut Vec<RuleEntry>, id: u64) -> Result<(), NoRule>
     match place_of(entries, id) {
         Some(place) => {
             let _removed = entries.remove(place);
-            Ok(())
+            Ok(place)
         }
         None => Err(NoRule),
     }

@@ -3,6 +3,8 @@ ghost use Rattle.std.specs.Prelude.{◌≡◌, if◌then◌else◌, length};
 ghost use Rattle.ug_cond.specs.Words.{behind, words_of};
 ghost use Rattle.ug_policy.specs.Deciding as deciding;
 ghost use Rattle.ug_policy.specs.Matching as matching;
+ghost use Rattle.ug_policy.specs.Rules.{queries};
+ghost use Rattle.ug_index.specs.Candidates.{AreCandidates};
 
 use crate::entry::RuleEntry;
 use rand_core::Rng;
@@ -60,22 +62,23 @@ fn evaluate<A: Allowed, R: Rng>(
 }
 
 /// Judges by the first rule that matches and whose conditions hold, and brings the histories of the rules that were
-/// evaluated up to date.
+/// evaluated up to date. A rule that isn't at one of the places doesn't match, so that it is left alone.
 pub fn judge_by<A: Allowed, R: Rng>(
     entries: &mut [RuleEntry],
+    places: &[u32],
     dev: &DeviceRecord,
     ctx: &Context,
     allowed: &A,
     implicit: Target,
     rng: &mut R,
 ) -> (Target, Cause)
-    ensures answer { result ≡ matching.answer_by implicit (deciding.decider (deciding.find_decider dev.now ctx.now (A.records allowed.now) entries.old (R.stream rng.old))) }
-    ensures entries { entries.new ≡ deciding.rules_judged dev.now ctx.now.moment (deciding.find_decider dev.now ctx.now (A.records allowed.now) entries.old (R.stream rng.old)) }
-    ensures words { R.stream rng.new ≡ behind (deciding.words_taken dev.now (deciding.reached (deciding.find_decider dev.now ctx.now (A.records allowed.now) entries.old (R.stream rng.old)))) (R.stream rng.old) }
+    requires { AreCandidates (queries entries.old) dev.now.vendor dev.now.product places.now }
+    ensures judged { deciding.Judges dev.now ctx.now (A.records allowed.now) implicit entries.old (R.stream rng.old) result entries.new (R.stream rng.new) }
     ensures len { length entries.new ≡ length entries.old }
 {
-    for i in 0..entries.len() {
-        let entry = &mut entries[i];
+    for i in 0..places.len() {
+        let place = places[i] as usize;
+        let entry = &mut entries[place];
         if evaluate(entry, dev, ctx, allowed, rng) {
             return (entry.rule.target, Cause::Rule(entry.id));
         }

@@ -6,8 +6,8 @@ ghost use Rattle.ug_cond.specs.Words.{behind};
 ghost use Rattle.ug_policy.specs.declared.entry.RuleEntry as stored;
 ghost use Rattle.ug_policy.specs.Rules.{ids};
 ghost use Rattle.ug_policy.specs.Edits.{IsThere, inserted, new_entry, removed, retargeted};
-ghost use Rattle.ug_policy.specs.Matching.{answer_by, answered, judged, noted};
-ghost use Rattle.ug_policy.specs.Deciding.{HasNoDecider, IsDecider, decider, find_decider, judgement_found, reached, rules_judged, seen, words_taken};
+ghost use Rattle.ug_policy.specs.Matching.{answered, judged, noted};
+ghost use Rattle.ug_policy.specs.Deciding.{HasNoDecider, IsDecider, Judges, find_decider, judgement_found, seen, words_taken};
 ghost use Rattle.ug_policy.specs.Kept.{StandsFor};
 
 use crate::edits::{place_after, put_rule, remove_rule, set_rule_target};
@@ -17,26 +17,28 @@ use rand_core::Rng;
 use std::alloc::Global;
 use std::marker::Model;
 use ug_cond::{Allowed, Context, History};
+use ug_index::Index;
 use ug_types::{After, Cause, DeviceRecord, NoMemory, Rule, Target};
 
 const MAX_RULES: usize = 65536;
 
-/// At most 65,536 rules in order, the id of the next one, and room for more.
+/// At most 65,536 rules in order, the index of their places, the id of the next one, and room for more.
 #[derive(Drop)]
 pub struct RuleList {
     entries: Vec<RuleEntry>,
+    index: Index,
     next_id: u64,
 }
 
 impl Model for RuleList {
-    ghost use Rattle.std.specs.Prelude.{◌-◌, vec_len, vec_capacity};
-    ghost use Rattle.ug_policy.specs.Rules.{Rules, IsNumbered};
+    ghost use Rattle.std.specs.Prelude.{◌-◌, min, vec_len, vec_capacity};
+    ghost use Rattle.ug_policy.specs.Rules.{Rules, IsIndexed};
 
     ghost Value = { Rules };
 
-    ghost view = { λ l. record { entries = l.entries.items; next = l.next_id; spare = vec_capacity l.entries - vec_len l.entries } };
+    ghost view = { λ l. record { entries = l.entries.items; next = l.next_id; spare = min l.index.spare (vec_capacity l.entries - vec_len l.entries) } };
 
-    ghost invariant = { λ l. IsNumbered l.entries.items l.next_id };
+    ghost invariant = { λ l. IsIndexed l.entries.items l.next_id l.index };
 }
 
 impl RuleList {
@@ -48,6 +50,7 @@ impl RuleList {
     {
         RuleList {
             entries: Vec::new(alloc),
+            index: Index::new(alloc),
             next_id: 1,
         }
     }
@@ -93,6 +96,7 @@ impl RuleList {
         ensures more { self.old.spare ≤ self.new.spare }
         ensures err { OnErr result (self.new ≡ self.old) }
     {
+        self.index.reserve()?;
         match self.entries.reserve(1) {
             Ok(()) => Ok(()),
             Err(_) => Err(NoMemory),
@@ -119,6 +123,7 @@ impl RuleList {
         if self.entries.len() == MAX_RULES {
             return Err(InsertFault::Full);
         }
+        self.index.insert(place, &rule.query);
         let id = self.next_id;
         let history = History {
             evaluated: None,
@@ -140,12 +145,18 @@ impl RuleList {
         ensures entries { self.new.entries ≡ removed id self.old.entries }
         ensures next { self.new.next ≡ self.old.next }
         ensures ok { OnOk result (Has (ids self.old.entries) id) }
-        ensures spare { OnOk result (self.new.spare ≡ self.old.spare + 1) }
+        ensures spare { self.old.spare ≤ self.new.spare }
         ensures no_rule { OnErr result (¬ Has (ids self.old.entries) id) }
         ensures err { OnErr result (self.new ≡ self.old) }
         ensures history { (judgements : List Judgement) → StandsFor self.old.entries self.old.next judgements → StandsFor self.new.entries self.new.next judgements }
     {
-        remove_rule(&mut self.entries, id)
+        match remove_rule(&mut self.entries, id) {
+            Ok(place) => {
+                self.index.remove(place);
+                Ok(())
+            }
+            Err(_) => Err(NoRule),
+        }
     }
 
     /// Gives the rule of that id another target.
@@ -175,14 +186,13 @@ impl RuleList {
     ) -> (Target, Cause)
         ensures rule { (place : ℕ) (entry : stored.RuleEntry) → IsDecider dev.now ctx.now (A.records allowed.now) self.old.entries (R.stream rng.old) place entry → (result ≡ (entry.rule.target, Cause.Rule entry.id)) × (self.new.entries ≡ map (seen dev.now ctx.now.moment) (take place self.old.entries) ++ noted ctx.now.moment entry ∷ drop (place + 1) self.old.entries) × (R.stream rng.new ≡ behind (words_taken dev.now (take (place + 1) self.old.entries)) (R.stream rng.old)) }
         ensures implicit { HasNoDecider dev.now ctx.now (A.records allowed.now) self.old.entries (R.stream rng.old) → (result ≡ (implicit, Cause.Implicit)) × (self.new.entries ≡ map (seen dev.now ctx.now.moment) self.old.entries) × (R.stream rng.new ≡ behind (words_taken dev.now self.old.entries) (R.stream rng.old)) }
-        ensures answer { result ≡ answer_by implicit (decider (find_decider dev.now ctx.now (A.records allowed.now) self.old.entries (R.stream rng.old))) }
-        ensures entries { self.new.entries ≡ rules_judged dev.now ctx.now.moment (find_decider dev.now ctx.now (A.records allowed.now) self.old.entries (R.stream rng.old)) }
-        ensures words { R.stream rng.new ≡ behind (words_taken dev.now (reached (find_decider dev.now ctx.now (A.records allowed.now) self.old.entries (R.stream rng.old)))) (R.stream rng.old) }
+        ensures judged { Judges dev.now ctx.now (A.records allowed.now) implicit self.old.entries (R.stream rng.old) result self.new.entries (R.stream rng.new) }
         ensures next { self.new.next ≡ self.old.next }
         ensures spare { self.new.spare ≡ self.old.spare }
         ensures history { (judgements : List Judgement) → StandsFor self.old.entries self.old.next judgements → StandsFor self.new.entries self.new.next (judgements ++ judgement_found dev.now ctx.now.moment (find_decider dev.now ctx.now (A.records allowed.now) self.old.entries (R.stream rng.old)) ∷ []) }
         ensures plain { All (λ e. e.rule.conds ≡ None) self.old.entries → (result ≡ answered dev.now implicit self.old.entries) × (self.new.entries ≡ judged dev.now ctx.now.moment self.old.entries) × (R.stream rng.new ≡ R.stream rng.old) }
     {
-        judge_by(&mut self.entries, dev, ctx, allowed, implicit, rng)
+        let places = self.index.candidates(dev.vendor, dev.product);
+        judge_by(&mut self.entries, places, dev, ctx, allowed, implicit, rng)
     }
 }

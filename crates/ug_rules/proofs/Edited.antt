@@ -9,7 +9,7 @@ use Rattle.ug_policy.specs.Edits.{aimed, followed, has_id, inserted, new_entry, 
 use Rattle.ug_policy.specs.declared.entry.RuleEntry.{RuleEntry}
 use Rattle.ug_print.specs.RuleTexts.{rules_limit, rules_text_of}
 use Rattle.ug_rules.specs.RuleEdits.{EditReads, IsButForTarget, changes_file, edited_by, in_place, rules_after}
-use Rattle.ug_rules.specs.RuleFile.{FitsFile, permanent_rules, permanent_text, saved_of, saved_rule}
+use Rattle.ug_rules.specs.RuleFile.{CanSave, IsSaveable, permanent_rules, permanent_text, saved_of, saved_rule}
 use Rattle.ug_rules.specs.RulePlaces.{has_permanent}
 use Rattle.ug_rules.specs.declared.edit.Edit.{Edit}
 use Rattle.ug_rules.specs.declared.edit.Edit.TheVariants.{Insert, Remove, Retarget}
@@ -103,10 +103,13 @@ temporary_edit (Insert place rule false) es h = let none : ⊥ = cc in absurd no
 temporary_edit (Remove id) es h = append-nil (flat_map (in_place (Some (Remove id))) es) ∙ temporary_removed id es h
 temporary_edit (Retarget id rule) es h = let none : ⊥ = cc in absurd none
 
-pub text_stays : (edit : Edit) (next : ℕ) (es : List RuleEntry) → changes_file edit es ≡ false → permanent_text (edited_by edit next es) ≡ permanent_text es
-text_stays (Insert place rule temporary) next es h = ap (λ (rs : List Rule). rules_text_of rs) (inserted_rules place rule temporary next es ∙ temporary_edit (Insert place rule temporary) es h)
-text_stays (Remove id) next es h = ap (λ (rs : List Rule). rules_text_of rs) (removed_rules id es ∙ temporary_edit (Remove id) es h)
-text_stays (Retarget id rule) next es h = let none : ⊥ = cc in absurd none
+pub rules_stay : (edit : Edit) (next : ℕ) (es : List RuleEntry) → changes_file edit es ≡ false → permanent_rules (edited_by edit next es) ≡ permanent_rules es
+rules_stay (Insert place rule temporary) next es h = inserted_rules place rule temporary next es ∙ temporary_edit (Insert place rule temporary) es h
+rules_stay (Remove id) next es h = removed_rules id es ∙ temporary_edit (Remove id) es h
+rules_stay (Retarget id rule) next es h = let none : ⊥ = cc in absurd none
 
-pub fits_stays : (edit : Edit) (next : ℕ) (es : List RuleEntry) → changes_file edit es ≡ false → FitsFile es → FitsFile (edited_by edit next es)
-fits_stays edit next es h fits = subst (λ (text : List ℕ). length text ≤ rules_limit) (sym (text_stays edit next es h)) fits
+pub text_stays : (edit : Edit) (next : ℕ) (es : List RuleEntry) → changes_file edit es ≡ false → permanent_text (edited_by edit next es) ≡ permanent_text es
+text_stays edit next es h = ap (λ (rs : List Rule). rules_text_of rs) (rules_stay edit next es h)
+
+pub saves_stay : (edit : Edit) (next : ℕ) (es : List RuleEntry) → changes_file edit es ≡ false → IsSaveable es → IsSaveable (edited_by edit next es)
+saves_stay edit next es h saves = subst CanSave (sym (rules_stay edit next es h)) saves

@@ -12,7 +12,7 @@ use Rattle.ug_policy.specs.Matching.{greatest, matched}
 use Rattle.ug_policy.specs.declared.entry.RuleEntry.{RuleEntry}
 use Rattle.ug_policy.proofs.Finding.{whole_list}
 use Rattle.ug_print.specs.RuleTexts.{rules_limit, rules_text_of}
-use Rattle.ug_rules.specs.RuleFile.{FitsFile, ReadsBack, as_given, permanent_rules, permanent_text, rules_in, saved_of}
+use Rattle.ug_rules.specs.RuleFile.{CanSave, IsSaveable, ReadsBack, as_given, permanent_rules, permanent_text, rules_in, saved_of}
 
 abbrev given : RuleEntry → RuleEntry
 given e = new_entry e.id e.rule e.temporary
@@ -42,7 +42,7 @@ rules_in_given : (es : List RuleEntry) → rules_in (as_given es) ≡ rules_in e
 rules_in_given [] = refl
 rules_in_given (e ∷ es) = ap (λ (rs : List Rule). e.rule ∷ rs) (rules_in_given es)
 
-permanent_given : (es : List RuleEntry) → permanent_rules (as_given es) ≡ permanent_rules es
+pub permanent_given : (es : List RuleEntry) → permanent_rules (as_given es) ≡ permanent_rules es
 permanent_given [] = refl
 permanent_given (e ∷ es) = ap (λ (rs : List Rule). saved_of e ++ rs) (permanent_given es)
 
@@ -57,7 +57,7 @@ judged_reads dev ctx records es stream h =
     let judged = rules_judged dev ctx.moment (find_decider dev ctx records es stream) in
     subst (All ReadsBack) (sym (rules_in_given es) ∙ ap (λ (v : List RuleEntry). rules_in v) (sym (judged_given dev ctx records es stream)) ∙ rules_in_given judged) h
 
-pub judged_fits : (dev : DeviceRecord) (ctx : Context) (records : List DeviceRecord) (es : List RuleEntry) (stream : Stream) → FitsFile es → FitsFile (rules_judged dev ctx.moment (find_decider dev ctx records es stream))
-judged_fits dev ctx records es stream h =
+pub judged_saves : (dev : DeviceRecord) (ctx : Context) (records : List DeviceRecord) (es : List RuleEntry) (stream : Stream) → IsSaveable es → IsSaveable (rules_judged dev ctx.moment (find_decider dev ctx records es stream))
+judged_saves dev ctx records es stream h =
     let judged = rules_judged dev ctx.moment (find_decider dev ctx records es stream) in
-    subst (λ (text : List ℕ). length text ≤ rules_limit) (sym (text_given es) ∙ ap (λ (v : List RuleEntry). permanent_text v) (sym (judged_given dev ctx records es stream)) ∙ text_given judged) h
+    subst CanSave (sym (permanent_given es) ∙ ap (λ (v : List RuleEntry). permanent_rules v) (sym (judged_given dev ctx records es stream)) ∙ permanent_given judged) h

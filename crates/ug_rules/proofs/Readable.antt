@@ -1,8 +1,11 @@
 -- Rules that read again from their canonical texts.
-use Rattle.std.proofs.Common.{◌≡◌, ◌<◌, ◌≤◌, ℕ, length, arith, Bool, true, false, not, cond, List, [], ◌∷◌, ◌++◌, inl, inr, refl, sym, ap, subst, ◌∙◌}
+use Rattle.std.proofs.Common.{◌≡◌, ◌<◌, ◌≤◌, ℕ, suc, ◌+◌, length-append, length, arith, Bool, true, false, not, cond, List, [], ◌∷◌, ◌++◌, inl, inr, refl, sym, ap, subst, ◌∙◌}
 use Rattle.std.specs.Prelude.{All, IfOk, OnOk, Ok, Err, Result}
 use Rattle.std.specs.List.{AllByRecursion, flat_map}
 use Rattle.std.proofs.lemmas.Bool.{eqb-true}
+use Rattle.std.proofs.lemmas.List.{length-map}
+use Rattle.ug_types.specs.Elements.{AllDistinct, Has}
+use Rattle.ug_policy.specs.Rules.{ids}
 use Rattle.std.proofs.lemmas.List.Elements.{All-from_recursion, recursion_from_All}
 use Rattle.ug_types.specs.declared.rule.Rule.{Rule}
 use Rattle.ug_types.specs.declared.rule.After.{After}
@@ -18,8 +21,8 @@ use Rattle.ug_print.specs.Bytes.{RuleOfBytes}
 use Rattle.ug_print.specs.RuleTexts.{rules_limit, rules_text_of}
 use Rattle.ug_print.specs.Words.{rule_text}
 use Rattle.ug_print.proofs.RuleTexts.{text_read}
-use Rattle.ug_rules.specs.RuleEdits.{EditReads, IsButForTarget, edited_by}
-use Rattle.ug_rules.specs.RuleFile.{FitsFile, ReadsBack, permanent_rules, permanent_text, rules_in, saved_rule}
+use Rattle.ug_rules.specs.RuleEdits.{CanEdit, EditReads, IsButForTarget, edited_by}
+use Rattle.ug_rules.specs.RuleFile.{CanSave, FitsFile, IsRuleFile, IsSaveable, ReadsBack, permanent_rules, permanent_text, rules_in, saved_rule}
 use Rattle.ug_rules.specs.declared.edit.Edit.{Edit}
 use Rattle.ug_rules.specs.declared.edit.Edit.TheVariants.{Insert, Remove, Retarget}
 
@@ -95,14 +98,14 @@ was_inserted (Err fault.Full) there few p = absurd (few refl)
 pub record TextOf {E : Type 0} (too_long : E) (es : List RuleEntry) (r : Result (List ℕ) E) : Type 0 where
   pub text : IfOk r (λ text. text ≡ permanent_text es)
   pub reads : IfOk r (λ text. file_read text ≡ Ok (permanent_rules es))
-  pub fits : OnOk r (FitsFile es)
+  pub saves : OnOk r (IsSaveable es)
   pub long : r ≡ Err too_long → FitsFile es → ⊥
 
-pub text_of_list : {E : Type 0} (too_long : E) (es : List RuleEntry) (rules : List Rule) (r : Result (List ℕ) E) → rules ≡ permanent_rules es → All ReadsBack (rules_in es) → IfOk r (λ text. text ≡ rules_text_of rules) → OnOk r (All RuleOfBytes rules) → IfOk r (λ text. length text ≤ rules_limit) → (r ≡ Err too_long → rules_limit < length (rules_text_of rules)) → TextOf too_long es r
-text_of_list {E} too_long es rules r same back is bytes fits long = record {
+pub text_of_list : {E : Type 0} (too_long : E) (es : List RuleEntry) (rules : List Rule) (r : Result (List ℕ) E) → rules ≡ permanent_rules es → All ReadsBack (rules_in es) → IfOk r (λ text. text ≡ rules_text_of rules) → OnOk r (All RuleOfBytes rules) → IfOk r (λ text. length text ≤ rules_limit) → (r ≡ Err too_long → rules_limit < length (rules_text_of rules)) → length (permanent_rules es) ≤ 65536 → TextOf too_long es r
+text_of_list {E} too_long es rules r same back is bytes fits long few = record {
   text = by_text r is;
   reads = text_reads es rules r same back is bytes;
-  fits = by_fits r is fits;
+  saves = by_saves r is bytes fits;
   long = λ e k. let over = long e in let under : length (rules_text_of rules) ≤ rules_limit = subst (λ (rs : List Rule). length (rules_text_of rs) ≤ rules_limit) (sym same) k in omega (arith, over, under);
 }
   where
@@ -110,6 +113,70 @@ text_of_list {E} too_long es rules r same back is bytes fits long = record {
     by_text (Ok text) is = is ∙ ap (λ (rs : List Rule). rules_text_of rs) same
     by_text (Err e) is = tt
 
-    by_fits : (r : Result (List ℕ) E) → IfOk r (λ text. text ≡ rules_text_of rules) → IfOk r (λ text. length text ≤ rules_limit) → OnOk r (FitsFile es)
-    by_fits (Ok text) is h = subst (λ (t : List ℕ). length t ≤ rules_limit) (is ∙ ap (λ (rs : List Rule). rules_text_of rs) same) h
-    by_fits (Err e) is h = tt
+    by_saves : (r : Result (List ℕ) E) → IfOk r (λ text. text ≡ rules_text_of rules) → OnOk r (All RuleOfBytes rules) → IfOk r (λ text. length text ≤ rules_limit) → OnOk r (IsSaveable es)
+    by_saves (Ok text) is b h = record {
+      reads = permanent_reads es back (subst (All RuleOfBytes) same b);
+      fits = subst (λ (t : List ℕ). length t ≤ rules_limit) (is ∙ ap (λ (rs : List Rule). rules_text_of rs) same) h;
+      few = few;
+    }
+    by_saves (Err e) is b h = tt
+
+-- ---- how many permanent rules there are
+
+pub few_saved : (es : List RuleEntry) → length (permanent_rules es) ≤ length es
+few_saved [] = omega arith
+few_saved (e ∷ es) = by_flag e.temporary (few_saved es)
+  where
+    by_flag : (b : Bool) → length (permanent_rules es) ≤ length es → length (saved_rule b e.rule ++ permanent_rules es) ≤ suc (length es)
+    by_flag true h = omega (arith, h)
+    by_flag false h = omega (arith, h)
+
+none_followed : (id : ℕ) (added : RuleEntry) (es : List RuleEntry) → (Has (ids es) id → ⊥) → length (flat_map (followed id added) es) ≤ length es
+none_followed id added [] h = omega arith
+none_followed id added (e ∷ es) h = by_id (has_id id e) refl (none_followed id added es (λ k. h (inr k)))
+  where
+    by_id : (b : Bool) → has_id id e ≡ b → length (flat_map (followed id added) es) ≤ length es → length (cond b (e ∷ added ∷ []) (e ∷ []) ++ flat_map (followed id added) es) ≤ suc (length es)
+    by_id true is k = absurd (h (inl (eqb-true e.id id is)))
+    by_id false is k = omega (arith, k)
+
+one_followed : (id : ℕ) (added : RuleEntry) (es : List RuleEntry) → AllDistinct (ids es) → length (flat_map (followed id added) es) ≤ length es + 1
+one_followed id added [] d = omega arith
+one_followed id added (e ∷ es) d = by_id (has_id id e) refl (one_followed id added es d.1)
+  where
+    by_id : (b : Bool) → has_id id e ≡ b → length (flat_map (followed id added) es) ≤ length es + 1 → length (cond b (e ∷ added ∷ []) (e ∷ []) ++ flat_map (followed id added) es) ≤ suc (length es) + 1
+    by_id true is k =
+        let rest : length (flat_map (followed id added) es) ≤ length es = none_followed id added es (subst (λ (n : ℕ). Has (ids es) n → ⊥) (eqb-true e.id id is) d.0) in
+        omega (arith, rest)
+    by_id false is k = omega (arith, k)
+
+few_inserted : (place : After) (added : RuleEntry) (es : List RuleEntry) → AllDistinct (ids es) → length (inserted place added es) ≤ length es + 1
+few_inserted after.End added es d = omega (arith, length-append es (added ∷ []))
+few_inserted after.Front added es d = omega arith
+few_inserted (after.Rule id) added es d = one_followed id added es d
+
+few_removed : (id : ℕ) (es : List RuleEntry) → length (removed id es) ≤ length es
+few_removed id [] = omega arith
+few_removed id (e ∷ es) = by_id (not (has_id id e)) (few_removed id es)
+  where
+    by_id : (b : Bool) → length (removed id es) ≤ length es → length (cond b (e ∷ removed id es) (removed id es)) ≤ suc (length es)
+    by_id true k = omega (arith, k)
+    by_id false k = omega (arith, k)
+
+few_by : (edit : Edit) (next : ℕ) (es : List RuleEntry) → CanEdit edit es → AllDistinct (ids es) → length es ≤ 65536 → length (edited_by edit next es) ≤ 65536
+few_by (Insert place rule temporary) next es can d few =
+    let less : length es < 65536 = can.1 in
+    let more : length (inserted place (new_entry next rule temporary) es) ≤ length es + 1 = few_inserted place (new_entry next rule temporary) es d in
+    omega (arith, less, more)
+few_by (Remove id) next es can d few = let k : length (removed id es) ≤ length es = few_removed id es in omega (arith, k, few)
+few_by (Retarget id rule) next es can d few = let k = length-map es (λ (e : RuleEntry). cond (has_id id e) (aimed rule.target e) e) in omega (arith, k, few)
+
+-- so a list has room for those that an edit leaves
+pub few_edited : (edit : Edit) (next : ℕ) (es : List RuleEntry) → CanEdit edit es → AllDistinct (ids es) → length es ≤ 65536 → length (permanent_rules (edited_by edit next es)) ≤ 65536
+few_edited edit next es can d few =
+    let whole = few_by edit next es can d few in
+    let part = few_saved (edited_by edit next es) in
+    omega (arith, whole, part)
+
+-- what can be saved is a rule file's text
+pub saved_file : (rules : List Rule) → CanSave rules → IsRuleFile rules (rules_text_of rules)
+saved_file rules h = record { reads = h.reads; within = h.fits; fits = h.fits; few = h.few }

@@ -1,6 +1,7 @@
 -- The rules that are saved, and the text of the rule file with them.
 use Rattle.std.specs.Prelude.{◌≡◌, ◌≤◌, ℕ, Bool, if◌then◌else◌, List, [], ◌∷◌, length, map, flat_map, Ok}
 use Rattle.ug_types.specs.declared.rule.Rule.{Rule}
+use Rattle.ug_rule.specs.Files.{file_read}
 use Rattle.ug_rule.specs.Rules.{rule_read}
 use Rattle.ug_print.specs.RuleTexts.{rules_limit, rules_text_of}
 use Rattle.ug_print.specs.Words.{rule_text}
@@ -33,6 +34,23 @@ permanent_text entries = rules_text_of (permanent_rules entries)
 -- which a rule file has room for
 abbrev pub FitsFile : List RuleEntry → Type 0
 FitsFile entries = length (permanent_text entries) ≤ rules_limit
+
+-- the rules read again from their canonical text, for which a rule file has room; and a list has room for them
+pub record CanSave (rules : List Rule) : Type 0 where
+  pub reads : file_read (rules_text_of rules) ≡ Ok rules
+  pub fits : length (rules_text_of rules) ≤ rules_limit
+  pub few : length rules ≤ 65536
+
+-- so do the permanent ones
+abbrev pub IsSaveable : List RuleEntry → Type 0
+IsSaveable entries = CanSave (permanent_rules entries)
+
+-- the text is in the grammar of rule files and within their limit; it has these rules, and a daemon starts with them
+pub record IsRuleFile (rules : List Rule) (text : List ℕ) : Type 0 where
+  pub reads : file_read text ≡ Ok rules
+  pub within : length text ≤ rules_limit
+  pub fits : length (rules_text_of rules) ≤ rules_limit
+  pub few : length rules ≤ 65536
 
 -- the rule reads again from its canonical text
 abbrev pub ReadsBack : Rule → Type 0

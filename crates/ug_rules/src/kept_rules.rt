@@ -1,14 +1,12 @@
 // The rules in order, each of which reads again from the text that is saved of it.
 ghost use Rattle.std.specs.Prelude.{◌≡◌, ◌<◌, ◌+◌, ◌-◌, ◌^◌, All, Err, IfOk, IfSome, IsTrue, None, Ok, OnOk, Some, if◌then◌else◌};
-ghost use Rattle.ug_policy.specs.Deciding.{decider, find_decider, reached, rules_judged, words_taken};
-ghost use Rattle.ug_policy.specs.Matching.{answer_by};
-ghost use Rattle.ug_cond.specs.Words.{behind};
+ghost use Rattle.ug_policy.specs.Deciding.{Judges};
 ghost use Rattle.ug_policy.specs.Edits.{inserted, new_entry, removed, retargeted};
 ghost use Rattle.ug_print.specs.Generated.{generated_of};
 ghost use Rattle.ug_rule.specs.Files.{file_read};
 ghost use Rattle.ug_types.specs.declared.verdict.Target.{Target};
 ghost use Rattle.ug_rules.specs.RuleEdits.{CanEdit, EditReads, HasRoomFor, IsButForTarget, changes_file, edited_by, if_room_for, next_after};
-ghost use Rattle.ug_rules.specs.RuleFile.{FitsFile, ReadsBack, permanent_rules, permanent_text, rules_in};
+ghost use Rattle.ug_rules.specs.RuleFile.{FitsFile, IsSaveable, ReadsBack, permanent_rules, permanent_text, rules_in};
 ghost use Rattle.ug_rules.specs.RulePlaces.{has_permanent, has_rule, if_few, if_place, if_taken, made_rule};
 ghost use Rattle.ug_rules.specs.RuleRows.{rule_rows};
 
@@ -32,13 +30,13 @@ pub struct KeptRules {
 impl Model for KeptRules {
     ghost use Rattle.std.specs.Prelude.{All};
     ghost use Rattle.ug_policy.specs.Rules.{Rules};
-    ghost use Rattle.ug_rules.specs.RuleFile.{FitsFile, ReadsBack, rules_in};
+    ghost use Rattle.ug_rules.specs.RuleFile.{IsSaveable, ReadsBack, rules_in};
 
     ghost Value = { Rules };
 
     ghost view = { λ r. r.list };
 
-    ghost invariant = { λ r. All ReadsBack (rules_in r.list.entries) × FitsFile r.list.entries };
+    ghost invariant = { λ r. All ReadsBack (rules_in r.list.entries) × IsSaveable r.list.entries };
 }
 
 fn find_made(rules: &[RuleEntry], device: &DeviceRecord, with_port: bool) -> Option<u64>
@@ -55,7 +53,7 @@ fn find_made(rules: &[RuleEntry], device: &DeviceRecord, with_port: bool) -> Opt
 impl KeptRules {
     pub fn new(list: RuleList) -> KeptRules
         requires readable { All ReadsBack (rules_in list.entries) }
-        requires fits { FitsFile list.entries }
+        requires saves { IsSaveable list.entries }
         ensures { result ≡ list }
     {
         KeptRules { list }
@@ -169,7 +167,7 @@ impl KeptRules {
     fn insert(&mut self, after: After, rule: Rule, temporary: bool)
         requires can { CanEdit (Edit.Insert after rule temporary) self.old.entries }
         requires reads { ReadsBack rule }
-        requires fits { FitsFile (inserted after (new_entry self.old.next rule temporary) self.old.entries) }
+        requires saves { IsSaveable (inserted after (new_entry self.old.next rule temporary) self.old.entries) }
         requires spare { 0 < self.old.spare }
         requires id { self.old.next < 2 ^ 64 - 1 }
         ensures entries { self.new.entries ≡ inserted after (new_entry self.old.next rule temporary) self.old.entries }
@@ -179,7 +177,7 @@ impl KeptRules {
     }
 
     fn remove(&mut self, id: u64)
-        requires { FitsFile (removed id self.old.entries) }
+        requires { IsSaveable (removed id self.old.entries) }
         ensures entries { self.new.entries ≡ removed id self.old.entries }
         ensures next { self.new.next ≡ self.old.next }
     {
@@ -189,7 +187,7 @@ impl KeptRules {
     // Which differs from that rule in its target at most.
     fn retarget(&mut self, id: u64, rule: &Rule)
         requires reads { EditReads (Edit.Retarget id rule.now) self.old.entries }
-        requires fits { FitsFile (retargeted id rule.now.target self.old.entries) }
+        requires saves { IsSaveable (retargeted id rule.now.target self.old.entries) }
         ensures entries { self.new.entries ≡ retargeted id rule.now.target self.old.entries }
         ensures next { self.new.next ≡ self.old.next }
     {
@@ -200,7 +198,7 @@ impl KeptRules {
     pub fn edit(&mut self, edit: Edit)
         requires can { CanEdit edit self.old.entries }
         requires reads { EditReads edit self.old.entries }
-        requires fits { FitsFile (edited_by edit self.old.next self.old.entries) }
+        requires saves { IsSaveable (edited_by edit self.old.next self.old.entries) }
         requires room { HasRoomFor edit self.old.spare }
         requires id { self.old.next < 2 ^ 64 - 1 }
         ensures entries { self.new.entries ≡ edited_by edit self.old.next self.old.entries }
@@ -230,36 +228,41 @@ impl KeptRules {
 
     /// The same once the edit is done.
     pub fn text_after(&self, alloc: Global, edit: &Edit) -> Result<Text, RulesTextFault>
-        requires { EditReads edit.now self.now.entries }
+        requires can { CanEdit edit.now self.now.entries }
+        requires reads { EditReads edit.now self.now.entries }
         ensures text { IfOk result (λ text. text ≡ permanent_text (edited_by edit.now self.now.next self.now.entries)) }
         ensures reads { IfOk result (λ text. file_read text
             ≡ Ok (permanent_rules (edited_by edit.now self.now.next self.now.entries))) }
-        ensures fits { OnOk result (FitsFile (edited_by edit.now self.now.next self.now.entries)) }
+        ensures saves { OnOk result (IsSaveable (edited_by edit.now self.now.next self.now.entries)) }
         ensures too_long { result ≡ Err RulesTextFault.TooLong
             → FitsFile (edited_by edit.now self.now.next self.now.entries) → ⊥ }
     {
+        // No two rules have one id, and there are no more than a list takes.
+        let _next = self.list.next_id();
+        let _count = self.list.len();
         file_text(alloc, &self.list, Some(edit))
     }
 
-    // A rule file has room for the rules that are there.
-    fn keeps_fitting(&self)
-        ensures { FitsFile self.now.entries }
+    /// The rules that aren't temporary read again from the text that is saved of them, for which a rule file has room.
+    pub fn stay_saveable(&self)
+        ensures { IsSaveable self.now.entries }
     {
         let _rules = self.list.as_slice();
     }
 
     /// The same, where the edit changes rules that aren't temporary.
     pub fn text_if_saved(&self, alloc: Global, edit: &Edit) -> Result<Option<Text>, RulesTextFault>
-        requires { EditReads edit.now self.now.entries }
+        requires can { CanEdit edit.now self.now.entries }
+        requires reads { EditReads edit.now self.now.entries }
         ensures text { IfOk result (λ text. text ≡ (if changes_file edit.now self.now.entries
             then Some (permanent_text (edited_by edit.now self.now.next self.now.entries)) else None)) }
-        ensures fits { OnOk result (FitsFile (edited_by edit.now self.now.next self.now.entries)) }
+        ensures saves { OnOk result (IsSaveable (edited_by edit.now self.now.next self.now.entries)) }
         ensures too_long { result ≡ Err RulesTextFault.TooLong
             → IsTrue (changes_file edit.now self.now.entries)
             × (FitsFile (edited_by edit.now self.now.next self.now.entries) → ⊥) }
     {
         if !self.changes_file(edit) {
-            self.keeps_fitting();
+            self.stay_saveable();
             return Ok(None);
         }
         Ok(Some(self.text_after(alloc, edit)?))
@@ -274,9 +277,7 @@ impl KeptRules {
         implicit: Target,
         rng: &mut R,
     ) -> (Target, Cause)
-        ensures answer { result ≡ answer_by implicit (decider (find_decider dev.now ctx.now (A.records allowed.now) self.old.entries (R.stream rng.old))) }
-        ensures entries { self.new.entries ≡ rules_judged dev.now ctx.now.moment (find_decider dev.now ctx.now (A.records allowed.now) self.old.entries (R.stream rng.old)) }
-        ensures words { R.stream rng.new ≡ behind (words_taken dev.now (reached (find_decider dev.now ctx.now (A.records allowed.now) self.old.entries (R.stream rng.old)))) (R.stream rng.old) }
+        ensures judged { Judges dev.now ctx.now (A.records allowed.now) implicit self.old.entries (R.stream rng.old) result self.new.entries (R.stream rng.new) }
         ensures next { self.new.next ≡ self.old.next }
     {
         self.list.judge(dev, ctx, allowed, implicit, rng)

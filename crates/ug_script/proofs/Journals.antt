@@ -5,9 +5,11 @@ use Rattle.std.proofs.Common.{◌≡◌, ℕ, ◌+◌, ◌*◌, ◌<◌, ◌≤�
 use Rattle.std.specs.Cmp.Lexicographic.{pointwise}
 use Rattle.std.specs.List.{list_any}
 use Rattle.ug_types.specs.Elements.{Has}
+use Rattle.ug_kernel.specs.Guarded.{IsGuarded}
+use Rattle.ug_kernel.proofs.Guarded.{moves_guarded}
 use Rattle.ug_kernel.specs.Kernel.{Kernel, IsKernel, Moves}
 use Rattle.ug_kernel.proofs.Stayed.{unmoving}
-use Rattle.ug_sysfs.specs.World.{World, begun, moved, over}
+use Rattle.ug_sysfs.specs.World.{IsUnfailing, World, begun, moved, over}
 use Rattle.ug_sysfs.specs.Begins.{moved_moves, happened_moves}
 use Rattle.ug_audit.specs.declared.entry.Entry.{Entry}
 use Rattle.ug_audit.specs.declared.entry.Entry.TheVariants as entry
@@ -31,6 +33,7 @@ use Rattle.ug_core.specs.Storing.{stored_with, storing}
 use Rattle.ug_core.specs.Chain.{Happened, Chain, journal}
 use Rattle.std.proofs.Common.{Result, Ok, Err}
 use Rattle.std.proofs.lemmas.Option.{same_Some}
+use Rattle.ug_types.specs.declared.control.Write.{Write}
 use Rattle.ug_types.specs.declared.text_fault.TextFault.{TextFault}
 use Rattle.ug_store.specs.Disk.{Disk, IsAsItWas, IsImage}
 use Rattle.ug_store.specs.DiskCalls.{file_limit}
@@ -56,11 +59,12 @@ use Rattle.ug_script.specs.declared.step.Plan.TheVariants as plan
 use Rattle.ug_script.specs.declared.step.Step.{Step}
 use Rattle.ug_script.specs.declared.step.Step.TheVariants.{Skip, Setup, Move, Schedule, Event, Restart}
 use Rattle.ug_script.specs.Grammar.{step_of_line}
-use Rattle.ug_script.specs.Setup.{SetupState, no_setup, one_line_more, access_of, after_reading, policy_of, rules_disk, rules_from, rules_if_read, started, started_at, steps_of, with_rules}
+use Rattle.ug_script.specs.Setup.{Beside, SetupState, no_setup, one_line_more, beside_of, after_reading, policy_of, rules_disk, rules_from, rules_if_read, started, started_at, steps_of, with_rules}
 use Rattle.ug_script.specs.Script.{Script, Phase, fresh, takes_setup, has_started, closed_phase, with_setup_closed, daemon_by, daemon_in, disk_by, disk_in, can_start}
 use Rattle.ug_script.specs.Replay.{header, outcome_of, outcome_text, quiet, bad, line_added, with_devices, with_plan, with_played, with_restart, planned, answered_by, answered_from, answered_of, came_of, disk_of, event_from, event_of, in_script, left_played, restarted, taken, taken_if, tried_by, script_step}
 use Rattle.ug_script.specs.Laws.{calls_of, faults_of, StaysLawful}
 use Rattle.ug_script.specs.Journal.{happened_at, left_by, left_behind, EventsOfRuns, no_events, with_events, runs_by, runs_after, runs_in, journals, journal_of, events_text, runs_text, text_of_runs, RunStart, first_start, HoldsAtStart, IsDaemonRun, EndedRun, AreSuccessive, JudgesOnce, is_quiet, AreQuiet, Recorded, StaysRecorded}
+use Rattle.ug_script.proofs.Guards.{event_guarded}
 use Rattle.ug_script.proofs.Phases.{open_unstarted, closed_daemon, closed_disk, closed_started}
 use Rattle.ug_script.proofs.Lawful.{Holds, HoldsOf, answers, handled, event_disk, event_holds, event_nobody, event_saved, move_holds, order_runs, plan_holds, no_standing, tells_event, lawful_event}
 use Rattle.ug_script.proofs.Numbers.{Fits, FitsOf, fits_more, event_fits, started_fits, fits_numbers}
@@ -74,6 +78,7 @@ quiet_front (x ∷ steps) step q = let k = quiet_front steps step q.1 in ((q.0, 
 record Kept (first : World) (n : ℕ) (done : List (Option Step)) (runs : EventsOfRuns) (text : List ℕ) (s : Script) (w : World) : Type 0 where
   few : n ≤ 1048576
   holds : HoldsOf (daemon_in s) w
+  guarded : IsGuarded first.kernel → IsGuarded w.kernel
   fits : first.faults ≡ 0 → FitsOf n (daemon_in s) w (disk_in s)
   given : IsGiven n done s.setup
   kept : (disk_in s).ran_out ≡ false
@@ -82,12 +87,12 @@ record Kept (first : World) (n : ℕ) (done : List (Option Step)) (runs : Events
   few_rules : length start.rules ≤ 65536
   file : Disk
   at_start : HoldsAtStart start file
-  ended : AreSuccessive (access_of s.setup) (policy_of s.setup) (first_start s.setup.rules first.kernel) runs.ended start
-  chain : Chain start.kernel (Some file) (started_at start.number (access_of s.setup) (with_rules start.rules (policy_of s.setup))) runs.last w.kernel (disk_told (disk_in s)) (daemon_in s)
+  ended : AreSuccessive (beside_of s.setup) (policy_of s.setup) (first_start s.setup.rules first.kernel) runs.ended start
+  chain : Chain start.kernel (Some file) (started_at start.number (beside_of s.setup) (with_rules start.rules (policy_of s.setup))) runs.last w.kernel (disk_told (disk_in s)) (daemon_in s)
   none : has_started s.phase ≡ false → runs ≡ no_events
   written : text ≡ text_of_runs runs
-  nobody : AreQuiet done → first.fails ≡ [] → NameNobody (journal_of runs)
-  unfailing : AreQuiet done → first.fails ≡ [] → w.fails ≡ []
+  nobody : AreQuiet done → IsUnfailing first → NameNobody (journal_of runs)
+  unfailing : AreQuiet done → IsUnfailing first → IsUnfailing w
   unmoved : AreQuiet done → first.moves ≡ [] → w.moves ≡ []
   unplanned : AreQuiet done → s.planned ≡ []
   saved : AreQuiet done → (daemon_in s).pending ≡ false
@@ -119,16 +124,17 @@ setup_kept first n done runs text s w step setup lt opened h given =
     let on : disk_by setup s.phase ≡ rules_disk setup = o.2 setup in
     let file : Option Disk = Some (rules_disk setup).disk in
     let b : RunStart = first_start setup.rules first.kernel in
-    let begun : h.start ≡ first_start s.setup.rules first.kernel = subst (λ (x : EventsOfRuns). AreSuccessive (access_of s.setup) (policy_of s.setup) (first_start s.setup.rules first.kernel) x.ended h.start) none h.ended in
-    let before : Chain h.start.kernel (Some h.file) (started_at h.start.number (access_of s.setup) (with_rules h.start.rules (policy_of s.setup))) [] w.kernel (disk_told (disk_in s)) (daemon_in s) = subst (λ (x : EventsOfRuns). Chain h.start.kernel (Some h.file) (started_at h.start.number (access_of s.setup) (with_rules h.start.rules (policy_of s.setup))) x.last w.kernel (disk_told (disk_in s)) (daemon_in s)) none h.chain in
+    let begun : h.start ≡ first_start s.setup.rules first.kernel = subst (λ (x : EventsOfRuns). AreSuccessive (beside_of s.setup) (policy_of s.setup) (first_start s.setup.rules first.kernel) x.ended h.start) none h.ended in
+    let before : Chain h.start.kernel (Some h.file) (started_at h.start.number (beside_of s.setup) (with_rules h.start.rules (policy_of s.setup))) [] w.kernel (disk_told (disk_in s)) (daemon_in s) = subst (λ (x : EventsOfRuns). Chain h.start.kernel (Some h.file) (started_at h.start.number (beside_of s.setup) (with_rules h.start.rules (policy_of s.setup))) x.last w.kernel (disk_told (disk_in s)) (daemon_in s)) none h.chain in
     let moves : Moves first.kernel w.kernel = subst (λ (x : RunStart). Moves x.kernel w.kernel) begun before.0 in
     let stays : StaysOnDisk file (disk_told (disk_by setup s.phase)) = subst (λ (x : DiskWorld). StaysOnDisk file (disk_told x)) (sym on) (stays_there file) in
     record {
       few = omega (arith, lt);
       holds = subst (λ (d : DaemonState). HoldsOf d w) (sym new) (record { told = h.holds.told; sound = h.holds.sound; stand = no_standing w.kernel });
+      guarded = h.guarded;
       fits = λ e.
-          let low : w.faults ≤ 1099511627776 * n = (h.fits e).few_faults in
-          let more : w.faults ≤ 1099511627776 * (n + 1) = omega (arith, low) in
+          let low : w.faults ≤ 2199023255552 * n = (h.fits e).few_faults in
+          let more : w.faults ≤ 2199023255552 * (n + 1) = omega (arith, low) in
           subst (λ (d : DaemonState). FitsOf (n + 1) d w (disk_by setup s.phase)) (sym new) (subst (λ (x : DiskWorld). FitsOf (n + 1) (started setup) w x) (sym on) (started_fits (n + 1) 1 setup.rules w.faults 0 (omega arith) given.listed more (omega arith)));
       given = given;
       kept = ap (λ (x : DiskWorld). x.ran_out) on;
@@ -137,7 +143,7 @@ setup_kept first n done runs text s w step setup lt opened h given =
       few_rules = given.listed;
       file = (rules_disk setup).disk;
       at_start = first_holds setup first.kernel;
-      ended = subst (λ (x : EventsOfRuns). AreSuccessive (access_of setup) (policy_of setup) b x.ended b) (sym none) refl;
+      ended = subst (λ (x : EventsOfRuns). AreSuccessive (beside_of setup) (policy_of setup) b x.ended b) (sym none) refl;
       chain = subst (λ (x : EventsOfRuns). Chain first.kernel file (started setup) x.last w.kernel (disk_told (disk_by setup s.phase)) (daemon_by setup s.phase)) (sym none) (moves, stays, new);
       none = h.none;
       written = h.written;
@@ -159,12 +165,13 @@ kept_when first n done runs text false o s w x = tt
 -- ---- a line that changes neither the policy nor the daemon
 
 on_kept : (first : World) (n : ℕ) (done : List (Option Step)) (runs : EventsOfRuns) (text : List ℕ) (s : Script) (w v : World) (step : Option Step) (phase : Phase) (plan : List Planned) → n < 1048576 → Kept first n done runs text s w → daemon_by s.setup phase ≡ daemon_in s → disk_by s.setup phase ≡ disk_in s → has_started phase ≡ has_started s.phase → IsGiven (n + 1) (done ++ step ∷ []) s.setup → HoldsOf (daemon_in s) v → Moves w.kernel v.kernel → v.faults ≡ w.faults
-    → (AreQuiet (done ++ step ∷ []) → first.fails ≡ [] → v.fails ≡ []) → (AreQuiet (done ++ step ∷ []) → first.moves ≡ [] → v.moves ≡ []) → (AreQuiet (done ++ step ∷ []) → plan ≡ []) → Kept first (n + 1) (done ++ step ∷ []) runs text (record s { phase = phase; planned = plan }) v
+    → (AreQuiet (done ++ step ∷ []) → IsUnfailing first → IsUnfailing v) → (AreQuiet (done ++ step ∷ []) → first.moves ≡ [] → v.moves ≡ []) → (AreQuiet (done ++ step ∷ []) → plan ≡ []) → Kept first (n + 1) (done ++ step ∷ []) runs text (record s { phase = phase; planned = plan }) v
 on_kept first n done runs text s w v step phase plan lt h same on begun given holds moves faults unfailing unmoved unplanned =
-    let new : DaemonState = started_at h.start.number (access_of s.setup) (with_rules h.start.rules (policy_of s.setup)) in
+    let new : DaemonState = started_at h.start.number (beside_of s.setup) (with_rules h.start.rules (policy_of s.setup)) in
     record {
       few = omega (arith, lt);
       holds = subst (λ (d : DaemonState). HoldsOf d v) (sym same) holds;
+      guarded = λ g. moves_guarded w.kernel v.kernel moves (h.guarded g);
       fits = λ e.
           let d : DaemonState = daemon_in s in
           let o : DiskWorld = disk_in s in
@@ -214,8 +221,8 @@ is_event first n done runs text event s w h =
     }
 
 -- the chain with that event
-event_chain : (first : World) (n : ℕ) (done : List (Option Step)) (runs : EventsOfRuns) (text : List ℕ) (event : events.Event) (s : Script) (w : World) (h : Kept first n done runs text s w) → Chain h.start.kernel (Some h.file) (started_at h.start.number (access_of s.setup) (with_rules h.start.rules (policy_of s.setup))) (runs.last ++ happened_at event s w ∷ []) (event_of event s w).world.kernel (disk_told (event_of event s w).disk) (event_of event s w).daemon
-event_chain first n done runs text event s w h = chain_more h.start.kernel (Some h.file) (started_at h.start.number (access_of s.setup) (with_rules h.start.rules (policy_of s.setup))) runs.last w.kernel (disk_told (disk_in s)) (daemon_in s) (happened_at event s w) h.chain (unmoving w.kernel) (stays_there (disk_told (disk_in s))) refl (is_event first n done runs text event s w h)
+event_chain : (first : World) (n : ℕ) (done : List (Option Step)) (runs : EventsOfRuns) (text : List ℕ) (event : events.Event) (s : Script) (w : World) (h : Kept first n done runs text s w) → Chain h.start.kernel (Some h.file) (started_at h.start.number (beside_of s.setup) (with_rules h.start.rules (policy_of s.setup))) (runs.last ++ happened_at event s w ∷ []) (event_of event s w).world.kernel (disk_told (event_of event s w).disk) (event_of event s w).daemon
+event_chain first n done runs text event s w h = chain_more h.start.kernel (Some h.file) (started_at h.start.number (beside_of s.setup) (with_rules h.start.rules (policy_of s.setup))) runs.last w.kernel (disk_told (disk_in s)) (daemon_in s) (happened_at event s w) h.chain (unmoving w.kernel) (stays_there (disk_told (disk_in s))) refl (is_event first n done runs text event s w h)
 
 -- what a crash might have left within the event is forgotten, and what it may leave now is not
 forgets : (o : DiskWorld) → StaysOnDisk (disk_told o) (disk_told (forgetting o))
@@ -255,10 +262,11 @@ event_kept first n done runs text event s w lt h =
     let step : Option Step = Some (Event event) in
     let this : Happened = happened_at event s w in
     let all : journal_of (with_events (this ∷ []) runs) ≡ journal_of runs ++ p.daemon.sweep.entries = journal_more runs this in
-    let new : DaemonState = started_at h.start.number (access_of s.setup) (with_rules h.start.rules (policy_of s.setup)) in
+    let new : DaemonState = started_at h.start.number (beside_of s.setup) (with_rules h.start.rules (policy_of s.setup)) in
     record {
       few = omega (arith, lt);
       holds = event_holds event d w o h.holds;
+      guarded = λ g. event_guarded event d w o h.holds (h.guarded g);
       fits = λ e. event_fits n event d w o lt h.holds h.kept (h.fits e);
       given = given_still n done step s.setup refl refl refl refl refl h.given;
       kept = event_disk event d w o h.kept;
@@ -274,12 +282,12 @@ event_kept first n done runs text event s w lt h =
       nobody = λ q e.
           let quiet = (quiet_front done step q).0 in
           subst NameNobody (sym all) (nobody_more (journal_of runs) p.daemon.sweep.entries (h.nobody quiet e) (event_nobody event d w o h.holds.told (h.unfailing quiet e) h.kept));
-      unfailing = λ q e. refl;
+      unfailing = λ q e. (refl, refl);
       unmoved = λ q e. refl;
       unplanned = λ q. refl;
       saved = λ q.
           let quiet = (quiet_front done step q).0 in
-          event_saved event d w o h.kept (h.unplanned quiet) (h.saved quiet);
+          event_saved event d w o h.kept (h.unplanned quiet, refl) (h.saved quiet);
     }
 
 event_if : (first : World) (n : ℕ) (done : List (Option Step)) (runs : EventsOfRuns) (text : List ℕ) (event : events.Event) (s : Script) (w : World) (can has : Bool)
@@ -292,18 +300,18 @@ event_if first n done runs text event s w false has k = tt
 -- ---- a restart
 
 -- a run, from its start to where it came
-daemon_run : (access : List Addition) (policy : Judging) (b : RunStart) (file : Disk) (hs : List Happened) (k : Kernel) (p : Option Disk) (e : DaemonState) → length b.rules ≤ 65536 → HoldsAtStart b file → Chain b.kernel (Some file) (started_at b.number access (with_rules b.rules policy)) hs k p e → IsDaemonRun access policy b hs k p e
-daemon_run access policy b file hs k p e few holds chain = record {
+daemon_run : (beside : Beside) (policy : Judging) (b : RunStart) (file : Disk) (hs : List Happened) (k : Kernel) (p : Option Disk) (e : DaemonState) → length b.rules ≤ 65536 → HoldsAtStart b file → Chain b.kernel (Some file) (started_at b.number beside (with_rules b.rules policy)) hs k p e → IsDaemonRun beside policy b hs k p e
+daemon_run beside policy b file hs k p e few holds chain = record {
   few = few;
   file = file;
   holds = holds;
   chain = chain;
-  run = is_run (with_rules b.rules policy) b.number b.kernel (Some file) (started_at b.number access (with_rules b.rules policy)) hs k p e (record { judge = refl; standings = refl; next = refl; listed = refl; entries = refl; pending = refl; event = refl; reply = refl; watch = refl }) chain;
+  run = is_run (with_rules b.rules policy) beside.hub b.number b.kernel (Some file) (started_at b.number beside (with_rules b.rules policy)) hs k p e (record { judge = refl; hub = refl; standings = refl; next = refl; listed = refl; entries = refl; pending = refl; event = refl; reply = refl; watch = refl }) chain;
 }
 
 -- each text that a crash may leave behind a run is one of those that it might have left
-left_images : (access : List Addition) (policy : Judging) (b : RunStart) (hs : List Happened) (k : Kernel) (file : Disk) (e : DaemonState) → IsDaemonRun access policy b hs k (Some file) e → (text : List ℕ) → IsImage file.left text → Has (left_behind b hs e) text
-left_images access policy b hs k file e run text possible =
+left_images : (beside : Beside) (policy : Judging) (b : RunStart) (hs : List Happened) (k : Kernel) (file : Disk) (e : DaemonState) → IsDaemonRun beside policy b hs k (Some file) e → (text : List ℕ) → IsImage file.left text → Has (left_behind b hs e) text
+left_images beside policy b hs k file e run text possible =
     let law = run.run.file file refl in
     let same : law.0 ≡ run.file = same_Some law.0 run.file (sym law.1) in
     let began : IsKept (with_rules b.rules policy).rules (b.text ∷ b.unsure) law.0.left = subst (λ (m : Disk). IsKept (with_rules b.rules policy).rules (b.text ∷ b.unsure) m.left) (sym same) (λ text is. elim (run.holds.left text is) [
@@ -316,12 +324,12 @@ left_images access policy b hs k file e run text possible =
     ]
 
 -- one run more has ended
-run_ended : (access : List Addition) (policy : Judging) (first : RunStart) (runs : List (List Happened)) (b : RunStart) (hs : List Happened) (r : EndedRun access policy b hs) → AreSuccessive access policy first runs b → AreSuccessive access policy first (runs ++ hs ∷ []) r.next
-run_ended access policy first [] b hs r h = begins first h
+run_ended : (beside : Beside) (policy : Judging) (first : RunStart) (runs : List (List Happened)) (b : RunStart) (hs : List Happened) (r : EndedRun beside policy b hs) → AreSuccessive beside policy first runs b → AreSuccessive beside policy first (runs ++ hs ∷ []) r.next
+run_ended beside policy first [] b hs r h = begins first h
   where
-    begins : (c : RunStart) → b ≡ c → AreSuccessive access policy c (hs ∷ []) r.next
-    begins c e = subst (λ (x : RunStart). AreSuccessive access policy x (hs ∷ []) r.next) e (r, refl)
-run_ended access policy first (gs ∷ runs) b hs r h = (h.0, run_ended access policy h.0.next runs b hs r h.1)
+    begins : (c : RunStart) → b ≡ c → AreSuccessive beside policy c (hs ∷ []) r.next
+    begins c e = subst (λ (x : RunStart). AreSuccessive beside policy x (hs ∷ []) r.next) e (r, refl)
+run_ended beside policy first (gs ∷ runs) b hs r h = (h.0, run_ended beside policy h.0.next runs b hs r h.1)
 
 told_now : (o : DiskWorld) → o.ran_out ≡ false → disk_told o ≡ Some o.disk
 told_now o none = rw none refl
@@ -371,19 +379,19 @@ restart_kept first n done runs text s w rules lt loaded h =
     let step : Option Step = Some Restart in
     let d : DaemonState = daemon_in s in
     let o : DiskWorld = disk_in s in
-    let access : List Addition = access_of s.setup in
+    let beside : Beside = beside_of s.setup in
     let policy : Judging = policy_of s.setup in
     let read = from_text o.disk.text rules loaded in
-    let chain : Chain h.start.kernel (Some h.file) (started_at h.start.number access (with_rules h.start.rules policy)) runs.last w.kernel (Some o.disk) d = subst (λ (x : Option Disk). Chain h.start.kernel (Some h.file) (started_at h.start.number access (with_rules h.start.rules policy)) runs.last w.kernel x d) (told_now o h.kept) h.chain in
-    let run : IsDaemonRun access policy h.start runs.last w.kernel (Some o.disk) d = daemon_run access policy h.start h.file runs.last w.kernel (Some o.disk) d h.few_rules h.at_start chain in
+    let chain : Chain h.start.kernel (Some h.file) (started_at h.start.number beside (with_rules h.start.rules policy)) runs.last w.kernel (Some o.disk) d = subst (λ (x : Option Disk). Chain h.start.kernel (Some h.file) (started_at h.start.number beside (with_rules h.start.rules policy)) runs.last w.kernel x d) (told_now o h.kept) h.chain in
+    let run : IsDaemonRun beside policy h.start runs.last w.kernel (Some o.disk) d = daemon_run beside policy h.start h.file runs.last w.kernel (Some o.disk) d h.few_rules h.at_start chain in
     let b : RunStart = record { rules = rules; text = o.disk.text; unsure = left_behind h.start runs.last d; number = d.event; kernel = w.kernel } in
-    let this : EndedRun access policy h.start runs.last = record {
+    let this : EndedRun beside policy h.start runs.last = record {
       kernel = w.kernel;
       disk = Some o.disk;
       daemon = d;
       is = run;
       next = b;
-      behind = record { file = o.disk; told = refl; text = refl; reads = read.0; kept = left_images access policy h.start runs.last w.kernel o.disk d run o.disk.text h.possible; unsure = refl; number = refl; kernel = refl };
+      behind = record { file = o.disk; told = refl; text = refl; reads = read.0; kept = left_images beside policy h.start runs.last w.kernel o.disk d run o.disk.text h.possible; unsure = refl; number = refl; kernel = refl };
     } in
     let file : Disk = (after_reading o).disk in
     let given : IsGiven (n + 1) (done ++ step ∷ []) s.setup = given_still n done step s.setup refl refl refl refl refl h.given in
@@ -391,8 +399,9 @@ restart_kept first n done runs text s w rules lt loaded h =
     record {
       few = omega (arith, lt);
       holds = record { told = h.holds.told; sound = h.holds.sound; stand = no_standing w.kernel };
+      guarded = h.guarded;
       fits = λ e.
-          let low : w.faults ≤ 1099511627776 * n = (h.fits e).few_faults in
+          let low : w.faults ≤ 2199023255552 * n = (h.fits e).few_faults in
           let low_disk : o.faults ≤ 2 * n = (h.fits e).few_disk_faults in
           let events : d.event ≤ n + 1 = (h.fits e).few_events in
           started_fits (n + 1) d.event rules w.faults o.faults (omega (arith, events)) read.1 (omega (arith, low)) (omega (arith, low_disk));
@@ -402,8 +411,8 @@ restart_kept first n done runs text s w rules lt loaded h =
       start = b;
       few_rules = read.1;
       file = file;
-      at_start = record { text = refl; left = λ text is. inr (left_images access policy h.start runs.last w.kernel o.disk d run text is) };
-      ended = run_ended access policy (first_start s.setup.rules first.kernel) runs.ended h.start runs.last this h.ended;
+      at_start = record { text = refl; left = λ text is. inr (left_images beside policy h.start runs.last w.kernel o.disk d run text is) };
+      ended = run_ended beside policy (first_start s.setup.rules first.kernel) runs.ended h.start runs.last this h.ended;
       chain = (unmoving w.kernel, subst (λ (x : Option Disk). StaysOnDisk (Some file) x) (sym (told_reading o h.kept)) (stays_there (Some file)), refl);
       none = λ e. closed_now (sym e);
       written = append-nil text ∙ h.written ∙ sym (text_ended runs);
@@ -452,7 +461,7 @@ answered_still event d w o none = by_event event (ready event (tried_by d o).0 d
         (play_still (acting who (stored_with b.0 c.0.change r) (deed_after b.0 c.0.deed)) c.1 (play_still (asking r who line) m none).moves).moves
 
 -- where nobody is named, each live device was judged once and stands as judged
-event_once : (first : World) (n : ℕ) (done : List (Option Step)) (runs : EventsOfRuns) (text : List ℕ) (s : Script) (w : World) (h : Kept first n done runs text s w) → AreQuiet done → first.fails ≡ [] → first.moves ≡ [] → (event : events.Event) → JudgesOnce (with_rules h.start.rules (policy_of s.setup)) h.start.kernel h.file runs.last (happened_at event s w)
+event_once : (first : World) (n : ℕ) (done : List (Option Step)) (runs : EventsOfRuns) (text : List ℕ) (s : Script) (w : World) (h : Kept first n done runs text s w) → AreQuiet done → IsUnfailing first → first.moves ≡ [] → (event : events.Event) → JudgesOnce (with_rules h.start.rules (policy_of s.setup)) (beside_of s.setup).hub h.start.kernel h.file runs.last (happened_at event s w)
 unfolding daemon_run
 event_once first n done runs text s w h quiet_lines fails moves event =
     let policy : Judging = policy_of s.setup in
@@ -466,37 +475,37 @@ event_once first n done runs text s w h quiet_lines fails moves event =
     let rest : List Entry = law.law.fair.rest in
     let all : p.daemon.sweep.entries ≡ a.daemon.sweep.entries ++ (rest ++ y ∷ []) = ap (λ (z : State Judging). z.entries) law.entries ∙ ap (λ (z : List Entry). z ++ y ∷ []) law.law.fair.entries ∙ append_assoc a.daemon.sweep.entries rest (y ∷ []) in
     let quiet : NameNobody rest = nobody_left rest (y ∷ []) (nobody_right a.daemon.sweep.entries (rest ++ y ∷ []) (subst NameNobody all (event_nobody event d w o h.holds.told (h.unfailing quiet_lines fails) h.kept))) in
-    let run = (daemon_run (access_of s.setup) policy h.start h.file (runs.last ++ happened_at event s w ∷ []) l (disk_told p.disk) p.daemon h.few_rules h.at_start (event_chain first n done runs text event s w h)).run in
+    let run = (daemon_run (beside_of s.setup) policy h.start h.file (runs.last ++ happened_at event s w ∷ []) l (disk_told p.disk) p.daemon h.few_rules h.at_start (event_chain first n done runs text event s w h)).run in
     record {
       run = run;
       each = λ i e live.
           let lived = lived_in_play (handling a.daemon) a.world (answered_still event d w o (h.unmoved quiet_lines moves)) law.law.fair.grows i e live in
-          let as_judged : IsAsJudged l law.swept.standings i = elim (law.law.settled i lived.0 lived.1) [
+          let as_judged : IsAsJudged a.daemon.sweep.hub l law.swept.standings i = elim (law.law.settled i lived.0 lived.1) [
             | inl z ↦ z
             | inr named ↦ elim named [
               | inl z ↦ absurd (named_nowhere rest (entry.Unsettled lived.0.name z.0) quiet refl z.1)
               | inr z ↦ absurd (named_nowhere rest (entry.UnsettledAll z.0.0) quiet refl z.0.1)
             ]
           ] in
-          run.once i e live (subst (λ (z : State Judging). IsAsJudged l z.standings i) (sym law.entries) as_judged);
+          run.once i e live (subst (λ (o : Option Write). IsAsJudged o l p.daemon.sweep.standings i) (sym law.hub ∙ run.setting) (subst (λ (z : State Judging). IsAsJudged a.daemon.sweep.hub l z.standings i) (sym law.entries) as_judged));
     }
 
 recorded : (first : World) (lines : List (List ℕ)) (n : ℕ) (text : List ℕ) (s : Script) (w : World) → Kept first n (steps_of lines) (runs_in first lines) text s w → Recorded first lines text s w
 unfolding daemon_run
 recorded first lines n text s w h =
-    let access : List Addition = access_of s.setup in
+    let beside : Beside = beside_of s.setup in
     let policy : Judging = policy_of s.setup in
     let runs : EventsOfRuns = runs_in first lines in
     record {
-      access = access;
+      beside = beside;
       policy = policy;
       setup = given_setup n (steps_of lines) s.setup h.given;
       settings = λ whole e. ap (λ (ls : List (List ℕ)). settled (lines_read setting_line 1 (draft_of defaults []) ls)) e ∙ ap settled (given_setup n (steps_of lines) s.setup h.given).settings;
       later = λ rules steps few can. steps_later (with_rules rules policy) steps (policy_new policy rules few) can;
       runs = record {
         start = h.start;
-        ended = subst (λ (rs : List Rule). AreSuccessive access policy (first_start rs first.kernel) runs.ended h.start) h.given.rules h.ended;
-        last = daemon_run access policy h.start h.file runs.last w.kernel (disk_told (disk_in s)) (daemon_in s) h.few_rules h.at_start h.chain;
+        ended = subst (λ (rs : List Rule). AreSuccessive beside policy (first_start rs first.kernel) runs.ended h.start) h.given.rules h.ended;
+        last = daemon_run beside policy h.start h.file runs.last w.kernel (disk_told (disk_in s)) (daemon_in s) h.few_rules h.at_start h.chain;
       };
       written = h.written;
       nobody = h.nobody;
@@ -542,6 +551,7 @@ kept_fresh : (first : World) → Holds [] 1 first → Kept first 1 [] no_events 
 kept_fresh first h = record {
   few = omega arith;
   holds = h;
+  guarded = λ g. g;
   fits = λ e. started_fits 1 1 [] first.faults 0 (omega arith) (omega arith) (omega (arith, e)) (omega arith);
   given = given_first;
   kept = refl;
@@ -625,6 +635,7 @@ stays_lawful first run sound lines n text s w e =
     let h : Kept first n (steps_of lines) (runs_in first lines) text s w = kept_all first run sound lines n text s w e in
     record {
       sound = h.holds.sound;
+      guarded = h.guarded;
       stand = h.holds.stand;
       events = λ event. lawful_event event s w h.holds h.kept;
       told = h.kept;

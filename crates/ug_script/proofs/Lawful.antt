@@ -4,7 +4,7 @@ use Rattle.std.proofs.lemmas.Option.{same_Some}
 use Rattle.ug_kernel.specs.Kernel.{Kernel, IsKernel, Moves}
 use Rattle.ug_kernel.proofs.Grow.{quiet_grows}
 use Rattle.ug_kernel.proofs.Quiet.{moves_quiet}
-use Rattle.ug_sysfs.specs.World.{World, Gives, answer_of, begun, over, moved, told}
+use Rattle.ug_sysfs.specs.World.{IsUnfailing, World, Gives, answer_of, begun, over, moved, told}
 use Rattle.ug_sysfs.specs.declared.script.Move.{Move}
 use Rattle.ug_sysfs.specs.Count.{counts_each}
 use Rattle.ug_sysfs.specs.Law.{does_what_it_may}
@@ -33,8 +33,8 @@ use Rattle.ug_kernel.specs.Tree.{Prog, Return, Ask, Room}
 use Rattle.ug_types.specs.declared.saved.Saved.{Saved}
 use Rattle.ug_types.specs.declared.saved.Saved.TheVariants as saved
 use Rattle.ug_store.specs.PlayDisk.{play_disk}
-use Rattle.ug_store.specs.Scripted.{DiskWorld, MemKeeps}
-use Rattle.ug_store.proofs.PlayedDisk.{play_keeps_plan, play_runs_disk, play_stays_told}
+use Rattle.ug_store.specs.Scripted.{IsUnplanned, DiskWorld, MemKeeps}
+use Rattle.ug_store.proofs.PlayedDisk.{play_keeps_unplanned, play_runs_disk, play_stays_told}
 use Rattle.ug_play.specs.Play.{NameNobody}
 use Rattle.ug_play.proofs.Sweeps.{nobody_more}
 use Rattle.ug_core.specs.Laws.{AnswersEvent, Handled, RunsAnswer, TellsSweep, TellsEvent}
@@ -42,6 +42,7 @@ use Rattle.ug_core.specs.Storing.{stored_with, storing}
 use Rattle.ug_core.specs.Event.{trying}
 use Rattle.ug_core.specs.declared.daemon.Event.{Event}
 use Rattle.ug_core.specs.declared.daemon.Event.TheVariants.{Sweep, Order}
+use Rattle.ug_core.proofs.Plain.{sweep_keeps_hub}
 use Rattle.ug_core.proofs.Answered.{Answered, answering_made, answering_told, answered_stands, ready_failures, ready_names}
 use Rattle.ug_core.proofs.Failures.{event_tells, event_names}
 use Rattle.ug_script.specs.declared.step.Plan.{Plan}
@@ -63,7 +64,7 @@ HoldsOf d w = Holds d.sweep.standings d.sweep.next w
 moves_on : (ss : List Standing) (next : ℕ) (k l : Kernel) → Moves k l → Stand k ss next → Stand l ss next
 moves_on ss next k l m s = stand_stays k l ss next (quiet_grows k l (moves_quiet k l m)) s
 
-told_at : (w : World) → w.ran_out ≡ false → told w ≡ Some w.kernel
+pub told_at : (w : World) → w.ran_out ≡ false → told w ≡ Some w.kernel
 told_at w e = rw e refl
 
 -- ---- the order of an event
@@ -90,12 +91,12 @@ world_told (Order moment who line) d w o told =
     play_told (acting who (stored_with b.0 c.0.change d) (deed_after b.0 c.0.deed)) c.1 (play_told (asking d who line) w told)
 
 -- and where no call is to fail, none is behind an order
-pub play_calm : {R : Type 0} (p : Prog R) (w : World) → w.fails ≡ [] → (play p w).1.fails ≡ []
+pub play_calm : {R : Type 0} (p : Prog R) (w : World) → IsUnfailing w → IsUnfailing (play p w).1
 play_calm (Return value) w e = e
 play_calm (Ask call next) w e = play_calm (next (answer_of w call).0) (answer_of w call).1 (fails_stay w call e)
 play_calm (Room next) w e = play_calm (next true) w e
 
-world_calm : (event : Event) (d : DaemonState) (w : World) (o : DiskWorld) → w.fails ≡ [] → (answered_by event d w o).world.fails ≡ []
+world_calm : (event : Event) (d : DaemonState) (w : World) (o : DiskWorld) → IsUnfailing w → IsUnfailing (answered_by event d w o).world
 world_calm (Sweep moment) d w o none = none
 world_calm (Order moment who line) d w o none =
     let c = play (asking d who line) w in
@@ -137,6 +138,7 @@ swept_from a m h =
       swept = v;
       law = subst (λ (k : Kernel). Swept policy_answer policy_later k a.sweep t.kernel v) same (swept.2 (rw same h.sound) (rw same h.stand));
       entries = refl;
+      hub = sweep_keeps_hub Gives m a.sweep v t (play_runs p m);
       access = refl;
       pending = refl;
       event = refl;
@@ -178,7 +180,7 @@ plan_holds (plan.Fail f) d w h = record { told = h.told; sound = h.sound; stand 
 plan_holds (plan.FailDisk p) d w h = h
 
 pub no_standing : (k : Kernel) → Stand k [] 1
-no_standing k = record { devices = λ s a. absurd a; numbers = λ s a. absurd a; names = tt; order = tt; distinct = tt; removed = λ s a. absurd a }
+no_standing k = record { devices = λ s a. absurd a; numbers = λ s a. absurd a; names = tt; order = tt; distinct = tt; done = λ control s a. absurd a }
 
 -- what the event's entries tell of its calls
 
@@ -250,7 +252,7 @@ event_sure event d w o out =
     ap (λ (es : List entries.Entry). tells_memory es) y.so.entries ∙ memory_more a.daemon.sweep.entries y.so.rest ∙ ap (λ (b : Bool). b || tells_memory y.so.rest) before ∙ y.so.wants ∙ y.sure
 
 -- where no call of the kernel is to fail, an event names nobody
-pub event_nobody : (event : Event) (d : DaemonState) (w : World) (o : DiskWorld) → w.ran_out ≡ false → w.fails ≡ [] → o.ran_out ≡ false → NameNobody (event_from event d w o).daemon.sweep.entries
+pub event_nobody : (event : Event) (d : DaemonState) (w : World) (o : DiskWorld) → w.ran_out ≡ false → IsUnfailing w → o.ran_out ≡ false → NameNobody (event_from event d w o).daemon.sweep.entries
 event_nobody event d w o run none out =
     let r : DaemonState = ready event (tried_by d o).0 d in
     let a = answered_from event d w o in
@@ -260,14 +262,14 @@ event_nobody event d w o run none out =
     subst NameNobody (sym y.so.entries) (nobody_more a.daemon.sweep.entries y.so.rest before (y.so.nobody y.sure (y.calm (world_told event r (begun w) (tried_by d o).1 run) (world_calm event r (begun w) (tried_by d o).1 none))))
 
 -- where nothing is planned for the disk, an event leaves no save that is pending
-pub event_saved : (event : Event) (d : DaemonState) (w : World) (o : DiskWorld) → o.ran_out ≡ false → o.planned ≡ [] → d.pending ≡ false → (event_from event d w o).daemon.pending ≡ false
+pub event_saved : (event : Event) (d : DaemonState) (w : World) (o : DiskWorld) → o.ran_out ≡ false → IsUnplanned o → d.pending ≡ false → (event_from event d w o).daemon.pending ≡ false
 event_saved event d w o out none saved =
     let tried = (tried_by d o).0 in
     let r : DaemonState = ready event tried d in
     let a = answered_from event d w o in
     let calm : tried ≡ None = (trying_so d o out).calm saved in
     let begins : r.pending ≡ false = ap (λ (t : Option Saved). (ready event t d).pending) calm ∙ saved in
-    (sweep_so a.daemon a.world).so.pending ∙ answered_saved event r (begun w) (tried_by d o).1 (play_stays_told (trying d) o out) (play_keeps_plan (trying d) o ∙ none) begins
+    (sweep_so a.daemon a.world).so.pending ∙ answered_saved event r (begun w) (tried_by d o).1 (play_stays_told (trying d) o out) (play_keeps_unplanned (trying d) o none) begins
 
 pub lawful_event : (event : Event) (s : Script) (w : World) → HoldsOf (daemon_in s) w → (disk_in s).ran_out ≡ false → IsLawfulEvent event s w
 lawful_event event s w h out = record {

@@ -10,8 +10,10 @@ pub mod Starts
 pub mod Restarts
 pub mod OrdersPlayed
 pub mod Lawful
+pub mod Guards
 pub mod Spent
 pub mod Numbers
 pub mod Setups
 pub mod Skimmed
 pub mod Journals
+pub mod Filed

@@ -143,12 +143,12 @@ along_faults (m ∷ ms) s t a =
     omega (arith, one, rest)
 
 -- how far the numbers have come after so many lines: an event gives out 65,536 device numbers at most, has no more than
--- 1 + 14 (65,536 + 65,536 * 1,048,576) calls of the kernel, and saves twice at most
+-- 1 + 17 (65,536 + 65,536 * 1,048,576) calls of the kernel, and saves twice at most
 pub record Fits (lines event next id faults disk_faults : ℕ) : Type 0 where
   pub few_events : event ≤ lines + 1
   pub few_numbers : next ≤ 65536 * lines + 1
   pub few_ids : id ≤ lines + 65537
-  pub few_faults : faults ≤ 1099511627776 * lines
+  pub few_faults : faults ≤ 2199023255552 * lines
   pub few_disk_faults : disk_faults ≤ 2 * lines
 
 pub fits_more : {n event next id faults disk_faults : ℕ} → Fits n event next id faults disk_faults → Fits (n + 1) event next id faults disk_faults
@@ -183,13 +183,13 @@ answer_calls (Order moment who line) d w o out =
     let acts = few_calls (ActsSo kept (is_short_deed done)) (acting who kept done) c.1 4 (acting_ways who kept done (order_can who line d w o out)) (λ ok ms x so. so.few) in
     omega (arith, asks, acts)
 
-swept_fits : (n : ℕ) (a : DaemonState) (m : World) (faults : ℕ) → n < 1048576 → Holds a.sweep.standings a.sweep.next m → a.event ≤ n + 1 → a.sweep.next ≤ 65536 * n + 1 → a.sweep.judge.next ≤ n + 65538 → m.faults ≤ 1099511627776 * n + 5 → faults ≤ 2 * n + 2 → Fits (n + 1) (play (event.handling a) m).0.event (play (event.handling a) m).0.sweep.next (play (event.handling a) m).0.sweep.judge.next (play (event.handling a) m).1.faults faults
+swept_fits : (n : ℕ) (a : DaemonState) (m : World) (faults : ℕ) → n < 1048576 → Holds a.sweep.standings a.sweep.next m → a.event ≤ n + 1 → a.sweep.next ≤ 65536 * n + 1 → a.sweep.judge.next ≤ n + 65538 → m.faults ≤ 2199023255552 * n + 5 → faults ≤ 2 * n + 2 → Fits (n + 1) (play (event.handling a) m).0.event (play (event.handling a) m).0.sweep.next (play (event.handling a) m).0.sweep.judge.next (play (event.handling a) m).1.faults faults
 swept_fits n a m faults lt h old_event old_next old_id old_faults few_disk =
     let u : State Judging = a.sweep in
     let p = sweeping policy_answer policy_later u in
     let v : State Judging = (play p m).0 in
     let t : World = (play p m).1 in
-    let went : Went Gives (λ ok ms x. Spends (found ms) (1 + (14 * found ms + 14 * length u.standings)) u ms x) m v t = ways_run Gives (λ ok ms x. Spends (found ms) (1 + (14 * found ms + 14 * length u.standings)) u ms x) p m v t (sweeping_spends u) (play_runs p m) in
+    let went : Went Gives (λ ok ms x. Spends (found ms) (1 + (17 * found ms + 17 * length u.standings)) u ms x) m v t = ways_run Gives (λ ok ms x. Spends (found ms) (1 + (17 * found ms + 17 * length u.standings)) u ms x) p m v t (sweeping_spends u) (play_runs p m) in
     let listed = found_few went.made m t h.sound went.along in
     let stands = stand_few m.kernel a.sweep.standings a.sweep.next h.stand in
     let faults = along_faults went.made m t went.along in
@@ -226,7 +226,7 @@ event_fits n event d w o lt h out f =
     swept_fits n a.daemon a.world a.disk.faults lt (answered_holds event d w o h) (omega (arith, same_event, old_event)) (omega (arith, same_next, old_next)) (omega (arith, more_ids, old_id)) (omega (arith, calls, old_faults)) (omega (arith, tried, saved, old_disk))
 
 -- a daemon that has had no event, or isn't there yet
-pub started_fits : (n event : ℕ) (rules : List Rule) (faults disk_faults : ℕ) → event ≤ n + 1 → length rules ≤ 65536 → faults ≤ 1099511627776 * n → disk_faults ≤ 2 * n → Fits n event 1 (length rules + 1) faults disk_faults
+pub started_fits : (n event : ℕ) (rules : List Rule) (faults disk_faults : ℕ) → event ≤ n + 1 → length rules ≤ 65536 → faults ≤ 2199023255552 * n → disk_faults ≤ 2 * n → Fits n event 1 (length rules + 1) faults disk_faults
 started_fits n event rules faults disk_faults first few low few_disk = record { few_events = omega (arith, first); few_numbers = omega arith; few_ids = omega (arith, few); few_faults = omega (arith, low); few_disk_faults = omega (arith, few_disk) }
 
 -- the numbers leave room

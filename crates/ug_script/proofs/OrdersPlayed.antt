@@ -12,7 +12,7 @@ use Rattle.ug_play.proofs.Wants.{memory_more}
 use Rattle.ug_print.specs.RuleTexts.{rules_limit}
 use Rattle.ug_rules.specs.RuleFile.{permanent_text}
 use Rattle.ug_store.specs.PlayDisk.{play_disk}
-use Rattle.ug_store.specs.Scripted.{DiskWorld}
+use Rattle.ug_store.specs.Scripted.{IsUnplanned, DiskWorld}
 use Rattle.ug_store.specs.Store.{Ended, saving, then_disk}
 use Rattle.ug_store.proofs.PlayedDisk.{play_saving_done, play_saving_faults, play_saving_sure, play_stays_told, play_then_disk}
 use Rattle.ug_core.specs.Answering.{acting, asking, deed_after}
@@ -60,7 +60,7 @@ trying_so d o told = by_pending d.pending
 -- it doesn't want memory, it doesn't fail where nothing is planned, and there is one fault more at most
 pub record StoringSo (o : DiskWorld) (x : Stored × DiskWorld) : Type 0 where
   pub sure : x.0 ≡ stored.Memory → ⊥
-  pub calm : o.planned ≡ [] → (count : ℕ) → x.0 ≡ stored.Failed count → ⊥
+  pub calm : IsUnplanned o → (count : ℕ) → x.0 ≡ stored.Failed count → ⊥
   pub faults : x.1.faults ≤ o.faults + 1
 
 without_save : (o : DiskWorld) (became : Stored) → (became ≡ stored.Memory → ⊥) → ((count : ℕ) → became ≡ stored.Failed count → ⊥) → StoringSo o (became, o)
@@ -155,7 +155,7 @@ module _ (who : Named) (line : List ℕ) (d : DaemonState) (w : World) (o : Disk
         ids = omega (arith, below, same);
       }
 
-  order_saved : o.planned ≡ [] → d.pending ≡ false → (play (acting who Kept Done) Behind).0.pending ≡ false
+  order_saved : IsUnplanned o → d.pending ≡ false → (play (acting who Kept Done) Behind).0.pending ≡ false
   order_saved none saved = acted.so.pending ∙ kept_saved Became Chosen.change ((storing_so d Chosen.change o told).calm none) saved
     where
       kept_saved : (became : Stored) (change : Option Change) → ((count : ℕ) → became ≡ stored.Failed count → ⊥) → d.pending ≡ false → (stored_with became change d).pending ≡ false
@@ -176,7 +176,7 @@ answered_so (Sweep moment) d w o told = record { rest = []; entries = sym (appen
 answered_so (Order moment who line) d w o told = order_so who line d w o told
 
 -- where nothing is planned, no save is left pending
-pub answered_saved : (event : Event) (d : DaemonState) (w : World) (o : DiskWorld) → o.ran_out ≡ false → o.planned ≡ [] → d.pending ≡ false → (answered_by event d w o).daemon.pending ≡ false
+pub answered_saved : (event : Event) (d : DaemonState) (w : World) (o : DiskWorld) → o.ran_out ≡ false → IsUnplanned o → d.pending ≡ false → (answered_by event d w o).daemon.pending ≡ false
 answered_saved (Sweep moment) d w o told none saved = saved
 answered_saved (Order moment who line) d w o told none saved = order_saved who line d w o told none saved
 

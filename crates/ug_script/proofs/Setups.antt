@@ -24,7 +24,7 @@ use Rattle.ug_script.specs.declared.step.SetupLine.{SetupLine}
 use Rattle.ug_script.specs.declared.step.SetupLine.TheVariants.{Rule, Conf, Access, Seed, Zone}
 use Rattle.ug_script.specs.declared.step.Step.{Step}
 use Rattle.ug_script.specs.declared.step.Step.TheVariants.{Setup}
-use Rattle.ug_script.specs.Setup.{SetupState, no_setup, is_offset, with_draft, one_line_more, everything, granted, access_of, clock_ahead, seeded, no_seed, given_or, policy_of, rule_asked, conf_asked, access_asked, seed_asked, zone_asked, first_or, with_rules, IsSetup}
+use Rattle.ug_script.specs.Setup.{SetupState, no_setup, is_offset, with_draft, one_line_more, everything, granted, beside_of, clock_ahead, seeded, no_seed, given_or, policy_of, rule_asked, conf_asked, access_asked, seed_asked, zone_asked, first_or, with_rules, IsSetup}
 use Rattle.ug_script.specs.Words.{is_entry}
 
 pub flat_more : {X : Type 0} (f : Option Step → List X) (steps : List (Option Step)) (step : Option Step) → flat_map f (steps ++ step ∷ []) ≡ flat_map f steps ++ f step
@@ -216,7 +216,7 @@ first_alone : {X : Type 0} (other : X) (o : Option X) → given_or other o ≡ f
 first_alone other None = refl
 first_alone other (Some x) = refl
 
-pub given_setup : (n : ℕ) (done : List (Option Step)) (s : SetupState) → IsGiven n done s → IsSetup done (access_of s) (policy_of s)
+pub given_setup : (n : ℕ) (done : List (Option Step)) (s : SetupState) → IsGiven n done s → IsSetup done (beside_of s) (policy_of s)
 given_setup n done s h = record {
   draft = s.settings.draft;
   settings = h.read;
@@ -225,6 +225,7 @@ given_setup n done s h = record {
   next = ap (λ (l : List types.Rule). length l + 1) h.rules;
   clock = ap (λ (z : ℤ). clock_ahead z) (first_alone (pos 0) s.zone ∙ ap (λ (l : List ℤ). first_or (pos 0) l) (sym h.zones));
   ctx = refl;
+  hub = refl;
   allowed = ap (λ (l : List AccessLine). map everything s.settings.draft.settings.users ++ map granted l) h.granted;
   words = ap (λ (z : List ℕ). seeded z) (first_alone no_seed s.seed ∙ ap (λ (l : List (List ℕ)). first_or no_seed l) (sym h.seeds));
 }

@@ -16,7 +16,7 @@ use Rattle.ug_node.specs.declared.identity.Bound.{Bound}
 use Rattle.ug_node.proofs.BindShapes.{count_more}
 use Rattle.ug_audit.specs.declared.entry.Entry.{Entry}
 use Rattle.ug_table.specs.Allowed.{allowed_records}
-use Rattle.ug_table.specs.State.{State}
+use Rattle.ug_table.specs.State.{State, Terms}
 use Rattle.ug_table.specs.Sweep.{names_of, sweeping}
 use Rattle.ug_table.specs.Parts.{AreClosings, unlisted_files, count_listed}
 use Rattle.ug_table.specs.declared.standing.Standing.{Standing}
@@ -33,28 +33,28 @@ later_id : (p : Judging) (records : List DeviceRecord) (dev : Judged) (controlle
 later_id p records (judged.Malformed kind place) controller was = refl
 later_id p records (judged.Good dev) controller was = refl
 
-judged_id : (present : Bool) (name : List ℕ) (w : State Judging)
+judged_id : (terms : Terms) (name : List ℕ) (w : State Judging)
     (o : Option (List Standing × Bound))
-    → (judge_after policy_later present name w o).next ≡ w.judge.next
-judged_id present name w None = refl
-judged_id present name w (Some x) =
+    → (judge_after policy_later terms name w o).next ≡ w.judge.next
+judged_id terms name w None = refl
+judged_id terms name w (Some x) =
     let dev = judged_of name x.1.attrs x.1.parent in
-    later_id w.judge (allowed_records x.0) dev (is_none (parent_of name)) present
+    later_id w.judge (allowed_records x.0) dev (is_none (parent_of name)) terms.present
 
-chain_id : {binds present : Bool} {names : List (List ℕ)} {w v : State Judging} {ok : Bool}
+chain_id : {binds : Bool} {terms : Terms} {names : List (List ℕ)} {w v : State Judging} {ok : Bool}
     {ms : List Made} {es : List Entry}
-    → Chain policy_answer policy_later binds present names w ok ms es v
+    → Chain policy_answer policy_later binds terms names w ok ms es v
     → v.judge.next ≡ w.judge.next
 chain_id (Over w) = refl
-chain_id {present = present} (First name names how w x v ok more ms ns es p c) =
-    chain_id c ∙ ap (λ (j : Judging). j.next) p.judge ∙ judged_id present name w p.judged
+chain_id {terms = terms} (First name names how w x v ok more ms ns es p c) =
+    chain_id c ∙ ap (λ (j : Judging). j.next) p.judge ∙ judged_id terms name w p.judged
 
 -- calls
 
-chain_calls : {binds present : Bool} {names : List (List ℕ)} {w v : State Judging} {ok : Bool}
+chain_calls : {binds : Bool} {terms : Terms} {names : List (List ℕ)} {w v : State Judging} {ok : Bool}
     {ms : List Made} {es : List Entry}
-    → Chain policy_answer policy_later binds present names w ok ms es v
-    → count_calls ms ≤ 14 * length names
+    → Chain policy_answer policy_later binds terms names w ok ms es v
+    → count_calls ms ≤ 17 * length names
 chain_calls (Over w) = omega arith
 chain_calls (First name names how w x v ok more ms ns es p c) =
     let few = flat_few p.flat in
@@ -85,7 +85,7 @@ found (m ∷ ms) = named_in m.call m.answer
 
 goes_calls : {w v : State Judging} {ok : Bool} {ms : List Made} {es : List Entry}
     → Goes policy_answer policy_later w ok ms es v
-    → count_calls ms ≤ 1 + (14 * found ms + 14 * length w.standings)
+    → count_calls ms ≤ 1 + (17 * found ms + 17 * length w.standings)
 goes_calls {w = w} (Listed names failed ok shut made es v closings c) =
     let few = chain_calls c in
     let same = length-sweep_order names in
@@ -126,10 +126,10 @@ pub record Spends (numbers calls : ℕ) (w : State Judging) (ms : List Made) (v 
 
 pub sweeping_spends : (w : State Judging)
     → Ways (sweeping policy_answer policy_later w)
-    (λ ok ms v. Spends (found ms) (1 + (14 * found ms + 14 * length w.standings)) w ms v)
+    (λ ok ms v. Spends (found ms) (1 + (17 * found ms + 17 * length w.standings)) w ms v)
 sweeping_spends w =
     ways_more (Comes policy_answer policy_later w)
-    (λ ok ms v. Spends (found ms) (1 + (14 * found ms + 14 * length w.standings)) w ms v)
+    (λ ok ms v. Spends (found ms) (1 + (17 * found ms + 17 * length w.standings)) w ms v)
     (sweeping policy_answer policy_later w)
     (λ ok ms v x. record { next = goes_next x.1; made = goes_calls x.1; id = goes_id x.1 })
     (sweeping_by policy_answer policy_later w)

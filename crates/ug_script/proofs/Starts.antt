@@ -2,6 +2,7 @@
 use Rattle.std.proofs.Common.{◌≡◌, ℕ, ◌<◌, ◌≤◌, Bool, true, false, ◌&&◌, if◌then◌else◌, nat_le, List, [], ◌∷◌, length, Option, None, Result, Ok, Err, inl, inr, refl, sym, ◌∙◌, ap, subst}
 use Rattle.std.proofs.lemmas.Bool.{leb-false, leb-true, le-leb, lt-leb}
 use Rattle.rand_core.specs.Stream.{Stream}
+use Rattle.ug_types.specs.declared.control.Write.{Write}
 use Rattle.ug_types.specs.declared.rule.Rule.{Rule}
 use Rattle.ug_types.specs.declared.text_fault.TextFault.{TextFault}
 use Rattle.ug_acl.specs.Acls.{Addition}
@@ -28,24 +29,25 @@ use Rattle.ug_core.specs.declared.start_fault.StartFault.{StartFault}
 use Rattle.ug_core.specs.declared.start_fault.StartFault.TheVariants as fault
 use Rattle.ug_script.specs.declared.start.NoStart.{NoStart}
 use Rattle.ug_script.specs.declared.start.NoStart.TheVariants as no_start
-use Rattle.ug_script.specs.Setup.{SetupState, StartsOn, access_of, after_reading, policy_of, rules_from, rules_if_read, rules_taken, started, started_at, with_rules}
+use Rattle.ug_script.specs.Setup.{Beside, SetupState, StartsOn, access_of, beside_of, after_reading, policy_of, rules_from, rules_if_read, rules_taken, started, started_at, with_rules}
 use Rattle.ug_script.specs.Script.{fits_file, no_start_of}
 
-abbrev made : List Standing → ℕ → Bool → Judging → List Entry → List Addition → Bool → ℕ → Option Reply → Bool → DaemonState
-made ss next listed judge es access pending number reply watch = record { sweep = record { standings = ss; next = next; listed = listed; judge = judge; entries = es }; access = access; pending = pending; event = number; reply = reply; watch = watch }
+abbrev made : List Standing → ℕ → Bool → Judging → Option Write → List Entry → List Addition → Bool → ℕ → Option Reply → Bool → DaemonState
+made ss next listed judge hub es access pending number reply watch = record { sweep = record { standings = ss; next = next; listed = listed; judge = judge; hub = hub; entries = es }; access = access; pending = pending; event = number; reply = reply; watch = watch }
 
-started_is : (p : Judging) (access : List Addition) (number : ℕ) (d : DaemonState) → IsStarted p number d → d.access ≡ access → d ≡ started_at number access p
-started_is p access number d h given =
-    ap (λ (x : List Standing). made x d.sweep.next d.sweep.listed d.sweep.judge d.sweep.entries d.access d.pending d.event d.reply d.watch) h.standings
-    ∙ ap (λ (x : ℕ). made [] x d.sweep.listed d.sweep.judge d.sweep.entries d.access d.pending d.event d.reply d.watch) h.next
-    ∙ ap (λ (x : Bool). made [] 1 x d.sweep.judge d.sweep.entries d.access d.pending d.event d.reply d.watch) h.listed
-    ∙ ap (λ (x : Judging). made [] 1 false x d.sweep.entries d.access d.pending d.event d.reply d.watch) h.judge
-    ∙ ap (λ (x : List Entry). made [] 1 false p x d.access d.pending d.event d.reply d.watch) h.entries
-    ∙ ap (λ (x : List Addition). made [] 1 false p [] x d.pending d.event d.reply d.watch) given
-    ∙ ap (λ (x : Bool). made [] 1 false p [] access x d.event d.reply d.watch) h.pending
-    ∙ ap (λ (x : ℕ). made [] 1 false p [] access false x d.reply d.watch) h.event
-    ∙ ap (λ (x : Option Reply). made [] 1 false p [] access false number x d.watch) h.reply
-    ∙ ap (λ (x : Bool). made [] 1 false p [] access false number None x) h.watch
+started_is : (p : Judging) (beside : Beside) (number : ℕ) (d : DaemonState) → IsStarted p beside.hub number d → d.access ≡ beside.access → d ≡ started_at number beside p
+started_is p beside number d h given =
+    ap (λ (x : List Standing). made x d.sweep.next d.sweep.listed d.sweep.judge d.sweep.hub d.sweep.entries d.access d.pending d.event d.reply d.watch) h.standings
+    ∙ ap (λ (x : ℕ). made [] x d.sweep.listed d.sweep.judge d.sweep.hub d.sweep.entries d.access d.pending d.event d.reply d.watch) h.next
+    ∙ ap (λ (x : Bool). made [] 1 x d.sweep.judge d.sweep.hub d.sweep.entries d.access d.pending d.event d.reply d.watch) h.listed
+    ∙ ap (λ (x : Judging). made [] 1 false x d.sweep.hub d.sweep.entries d.access d.pending d.event d.reply d.watch) h.judge
+    ∙ ap (λ (x : Option Write). made [] 1 false p x d.sweep.entries d.access d.pending d.event d.reply d.watch) h.hub
+    ∙ ap (λ (x : List Entry). made [] 1 false p beside.hub x d.access d.pending d.event d.reply d.watch) h.entries
+    ∙ ap (λ (x : List Addition). made [] 1 false p beside.hub [] x d.pending d.event d.reply d.watch) given
+    ∙ ap (λ (x : Bool). made [] 1 false p beside.hub [] beside.access x d.event d.reply d.watch) h.pending
+    ∙ ap (λ (x : ℕ). made [] 1 false p beside.hub [] beside.access false x d.reply d.watch) h.event
+    ∙ ap (λ (x : Option Reply). made [] 1 false p beside.hub [] beside.access false number x d.watch) h.reply
+    ∙ ap (λ (x : Bool). made [] 1 false p beside.hub [] beside.access false number None x) h.watch
 
 -- ---- the rules of a text
 
@@ -56,13 +58,13 @@ abbrev from_if : Bool → Result (List Rule) TextFault → Result (List Rule) Fa
 from_if fits read = if fits then rules_if_read read else Err InputTooLong
 
 -- a text for which a file has room gives what its rules give
-from_text : (text : List ℕ) (read : Result (List Rule) TextFault) → length text ≤ file_limit → file_read text ≡ read → rules_from text ≡ rules_if_read read
+pub from_text : (text : List ℕ) (read : Result (List Rule) TextFault) → length text ≤ file_limit → file_read text ≡ read → rules_from text ≡ rules_if_read read
 from_text text read fits is = ap (λ (b : Bool). from_if b (file_read text)) (le-leb (length text) file_limit fits) ∙ ap (λ (r : Result (List Rule) TextFault). rules_if_read r) is
 
 from_long : (text : List ℕ) → file_limit < length text → rules_from text ≡ Err InputTooLong
 from_long text long = ap (λ (b : Bool). from_if b (file_read text)) (lt-leb (length text) file_limit long)
 
-are_taken : (rules : List Rule) → length rules ≤ 65536 → length (rules_text_of rules) ≤ rules_limit → rules_taken rules ≡ Ok rules
+pub are_taken : (rules : List Rule) → length rules ≤ 65536 → length (rules_text_of rules) ≤ rules_limit → rules_taken rules ≡ Ok rules
 are_taken rules few fits =
     ap (λ (b : Bool). taken_if rules b (nat_le (length (rules_text_of rules)) rules_limit)) (le-leb (length rules) 65536 few)
     ∙ ap (λ (b : Bool). taken_if rules true b) (le-leb (length (rules_text_of rules)) rules_limit fits)
@@ -148,24 +150,24 @@ outset_is setup outset classes clock words rules list h =
 abbrev IsSession : SetupState → ℕ → DiskWorld → DaemonState → DiskWorld → Type 0
 IsSession setup number o d t = StartsOn setup number o d × (t ≡ after_reading o)
 
-loaded_session : (setup : SetupState) (outset : Outset) (o : DiskWorld) (read : Result (List ℕ) RecoverFault) (now : Bool × Rules) (d : DaemonState) (t : DiskWorld) → IsOutset setup outset → outset.access ≡ access_of setup → GivesText o.disk.text (after_reading o) read t → StartsAfter read (Ok now) → StartsWithRules outset now d → IsSession setup outset.first o d t
+loaded_session : (setup : SetupState) (outset : Outset) (o : DiskWorld) (read : Result (List ℕ) RecoverFault) (now : Bool × Rules) (d : DaemonState) (t : DiskWorld) → IsOutset setup outset → (outset.access ≡ access_of setup) × (outset.hub ≡ (beside_of setup).hub) → GivesText o.disk.text (after_reading o) read t → StartsAfter read (Ok now) → StartsWithRules outset now d → IsSession setup outset.first o d t
 loaded_session setup outset o (Ok got) now d t is given gives after with =
     let has : HasRulesOf o.disk.text now.1 = subst (λ (x : List ℕ). HasRulesOf x now.1) gives.0 after.1 in
-    let new : IsStarted (with_rules has.rules (policy_of setup)) outset.first d = subst (λ (p : Judging). IsStarted p outset.first d) (is has.rules now.1 has.holds) with.started in (
+    let new : IsStarted (with_rules has.rules (policy_of setup)) (beside_of setup).hub outset.first d = subst (λ (o : Option Write). IsStarted (with_rules has.rules (policy_of setup)) o outset.first d) given.1 (subst (λ (p : Judging). IsStarted p outset.hub outset.first d) (is has.rules now.1 has.holds) with.started) in (
       record {
         rules = has.rules;
         loaded = from_text o.disk.text (Ok has.rules) gives.1 has.reads ∙ are_taken has.rules has.few has.fits;
-        is = started_is (with_rules has.rules (policy_of setup)) (access_of setup) outset.first d new (with.access ∙ given);
+        is = started_is (with_rules has.rules (policy_of setup)) (beside_of setup) outset.first d new (with.access ∙ given.0);
       },
       gives.2,
     )
 loaded_session setup outset o (Err e) now d t is given gives after with = let none : ⊥ = cc in absurd none
 
-from_loads : (setup : SetupState) (outset : Outset) (faults : DiskWorld → ℕ) (o : DiskWorld) (loaded : Result (Bool × Rules) StartFault) (d : DaemonState) (t : DiskWorld) → IsOutset setup outset → outset.access ≡ access_of setup → Loads MemKeeps disk_told faults o loaded t → StartsFrom outset loaded (Ok d) → IsSession setup outset.first o d t
+from_loads : (setup : SetupState) (outset : Outset) (faults : DiskWorld → ℕ) (o : DiskWorld) (loaded : Result (Bool × Rules) StartFault) (d : DaemonState) (t : DiskWorld) → IsOutset setup outset → (outset.access ≡ access_of setup) × (outset.hub ≡ (beside_of setup).hub) → Loads MemKeeps disk_told faults o loaded t → StartsFrom outset loaded (Ok d) → IsSession setup outset.first o d t
 from_loads setup outset faults o (Ok now) d t is given loads starts = loaded_session setup outset o loads.read now d t is given (read_whole o loads.read t loads.runs) loads.starts starts
 from_loads setup outset faults o (Err e) d t is given loads starts = let none : ⊥ = cc in absurd none
 
-pub starts_on : (setup : SetupState) (outset : Outset) (faults : DiskWorld → ℕ) (o : DiskWorld) (d : DaemonState) (t : DiskWorld) → outset.classes ≡ (policy_of setup).classes → outset.clock ≡ (policy_of setup).clock → outset.words ≡ (policy_of setup).stream → outset.access ≡ access_of setup → Starts MemKeeps disk_told faults outset o (Ok d) t → IsSession setup outset.first o d t
+pub starts_on : (setup : SetupState) (outset : Outset) (faults : DiskWorld → ℕ) (o : DiskWorld) (d : DaemonState) (t : DiskWorld) → outset.classes ≡ (policy_of setup).classes → outset.clock ≡ (policy_of setup).clock → outset.words ≡ (policy_of setup).stream → (outset.access ≡ access_of setup) × (outset.hub ≡ (beside_of setup).hub) → Starts MemKeeps disk_told faults outset o (Ok d) t → IsSession setup outset.first o d t
 starts_on setup outset faults o d t classes clock words given h = from_loads setup outset faults o h.loaded d t (outset_is setup outset classes clock words) given h.loads h.starts
 
 -- ---- a start that is refused
@@ -225,4 +227,4 @@ first_rules setup o is reads fits few =
     ap (λ (x : DiskWorld). rules_from x.disk.text) is ∙ from_text (rules_text_of setup.rules) (Ok setup.rules) room reads ∙ are_taken setup.rules few room
 
 pub first_daemon : (setup : SetupState) (o : DiskWorld) (d : DaemonState) → rules_from o.disk.text ≡ Ok setup.rules → StartsOn setup 1 o d → d ≡ started setup
-first_daemon setup o d has h = h.is ∙ ap (λ (rs : List Rule). started_at 1 (access_of setup) (with_rules rs (policy_of setup))) (same_rules setup.rules h.rules (rules_from o.disk.text) has h.loaded)
+first_daemon setup o d has h = h.is ∙ ap (λ (rs : List Rule). started_at 1 (beside_of setup) (with_rules rs (policy_of setup))) (same_rules setup.rules h.rules (rules_from o.disk.text) has h.loaded)

@@ -4,6 +4,7 @@ use Rattle.std.specs.Prelude.{ℕ, true, false, List, [], ◌∷◌, None, Some,
 use Rattle.ug_types.specs.declared.rule.Op.TheVariants.{Equals}
 use Rattle.ug_types.specs.declared.rule.Rule.{Rule}
 use Rattle.ug_types.specs.declared.verdict.Target.TheVariants.{Allow}
+use Rattle.ug_conf.specs.declared.settings.AuthDefault.TheVariants as auth
 use Rattle.ug_sysfs.specs.declared.script.Failing.{Failing}
 use Rattle.ug_sysfs.specs.declared.script.NewDevice.{NewDevice}
 use Rattle.ug_sysfs.specs.declared.script.Move.TheVariants.{Plug, Unplug}
@@ -39,7 +40,7 @@ abbrev pub other : NewDevice
 other = device_of (codes "1-1") other_bytes
 
 abbrev pub hub_world : World
-hub_world = record { kernel = record { devices = plugged hub []; held = []; log = [] }; moves = []; fails = []; calls = 0; faults = 0; made = []; ran_out = false }
+hub_world = record { kernel = record { devices = plugged hub []; held = []; log = [] }; moves = []; fails = []; halted = false; calls = 0; faults = 0; made = []; ran_out = false }
 
 -- the rule that allows 1050:0011
 abbrev pub key_rule : Rule
@@ -88,3 +89,19 @@ replaced = record { call = 12; after = false; action = Unplug (codes "1-1") } �
 -- the twelfth call fails, and has its effect all the same
 abbrev pub failing : List Failing
 failing = record { call = 12; effect = true } ∷ []
+
+-- no rule, and no device that comes is authorised
+abbrev pub guarding : SetupState
+guarding = record no_setup { settings = record no_setup.settings { draft = record no_setup.settings.draft { settings = record no_setup.settings.draft.settings { default = auth.None } } } }
+
+-- a daemon with that, over the root hub
+abbrev pub guarded_first : Played
+guarded_first = record { daemon = started guarding; world = hub_world; disk = rules_disk guarding }
+
+-- a device is plugged in that would start authorised
+abbrev pub born_behind : Played → Played
+born_behind p = record p { world = with_devices (plugged (record key { on = true }) (over p.world).kernel.devices) (over p.world) }
+
+-- the tenth call fails, and has no effect
+abbrev pub tenth_fails : List Failing
+tenth_fails = record { call = 10; effect = false } ∷ []

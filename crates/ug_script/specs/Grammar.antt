@@ -144,7 +144,7 @@ mishap_of false = mishap.NoEffect
 -- the same of a call of the disk
 abbrev pub disk_plan : Option Failing → Option Plan
 disk_plan None = None
-disk_plan (Some failing) = Some (plan.FailDisk (record { call = failing.call; mishap = mishap_of failing.effect }))
+disk_plan (Some failing) = Some (plan.FailDisk (record { call = failing.call; mishap = mishap_of failing.effect; stops = false }))
 
 -- the lines of calls that fail
 unfoldable pub fails_of : List ℕ → Option Plan

@@ -1,10 +1,11 @@
 -- What happens in a script from its first line on, and what that says of each write and of each device.
 use Rattle.std.specs.Prelude.{◌≡◌, ◌⊎◌, ℕ, ◌≤◌, Bool, true, false, ◌&&◌, if◌then◌else◌, List, [], ◌∷◌, ◌++◌, length, flat_map, Option, Some, None, Ok}
 use Rattle.ug_types.specs.Elements.{Has}
+use Rattle.ug_types.specs.declared.control.Write.{Write}
 use Rattle.ug_types.specs.declared.rule.Rule as types
 use Rattle.ug_kernel.specs.declared.device.Device.{Device}
 use Rattle.ug_kernel.specs.Kernel.{Kernel, Live}
-use Rattle.ug_sysfs.specs.World.{World}
+use Rattle.ug_sysfs.specs.World.{IsUnfailing, World}
 use Rattle.ug_audit.specs.declared.entry.Entry.{Entry}
 use Rattle.ug_play.specs.Play.{NameNobody}
 use Rattle.ug_acl.specs.Acls.{Addition}
@@ -28,7 +29,7 @@ use Rattle.ug_script.specs.Grammar.{step_of_line}
 use Rattle.ug_script.specs.Script.{Script, can_start, daemon_in, disk_in}
 use Rattle.ug_script.specs.Laws.{tried_of}
 use Rattle.ug_script.specs.Replay.{answered_of, event_of, outcome_of, outcome_text, script_step}
-use Rattle.ug_script.specs.Setup.{steps_of, conf_asked, rule_asked, IsSetup, started_at, with_rules}
+use Rattle.ug_script.specs.Setup.{steps_of, conf_asked, rule_asked, IsSetup, Beside, started_at, with_rules}
 
 -- an event, with what is scheduled for it
 abbrev pub happened_at : events.Event → Script → World → Happened
@@ -128,12 +129,12 @@ pub record HoldsAtStart (b : RunStart) (file : Disk) : Type 0 where
 
 -- A run of the daemon from its start: it began with that access, with no device, and with that policy but for its rules. Its events are a
 -- chain from there, over the kernel and the rule file as they were at the start, with all that this says of each write and of the file.
-pub record IsDaemonRun (access : List Addition) (policy : Judging) (b : RunStart) (hs : List Happened) (k : Kernel) (p : Option Disk) (e : DaemonState) : Type 0 where
+pub record IsDaemonRun (beside : Beside) (policy : Judging) (b : RunStart) (hs : List Happened) (k : Kernel) (p : Option Disk) (e : DaemonState) : Type 0 where
   pub few : length b.rules ≤ 65536
   pub file : Disk
   pub holds : HoldsAtStart b file
-  pub chain : Chain b.kernel (Some file) (started_at b.number access (with_rules b.rules policy)) hs k p e
-  pub run : IsRun (with_rules b.rules policy) b.kernel (Some file) hs k p e
+  pub chain : Chain b.kernel (Some file) (started_at b.number beside (with_rules b.rules policy)) hs k p e
+  pub run : IsRun (with_rules b.rules policy) beside.hub b.kernel (Some file) hs k p e
 
 -- the texts that a crash might leave behind a run: that of the permanent rules in force, or one that isn't sure
 abbrev pub left_behind : RunStart → List Happened → DaemonState → List (List ℕ)
@@ -152,29 +153,29 @@ pub record StartsBehind (b : RunStart) (hs : List Happened) (k : Kernel) (p : Op
   pub kernel : c.kernel ≡ k
 
 -- a run that was ended, where it came to, and with what the next began
-pub record EndedRun (access : List Addition) (policy : Judging) (b : RunStart) (hs : List Happened) : Type 0 where
+pub record EndedRun (beside : Beside) (policy : Judging) (b : RunStart) (hs : List Happened) : Type 0 where
   pub kernel : Kernel
   pub disk : Option Disk
   pub daemon : DaemonState
-  pub is : IsDaemonRun access policy b hs kernel disk daemon
+  pub is : IsDaemonRun beside policy b hs kernel disk daemon
   pub next : RunStart
   pub behind : StartsBehind b hs kernel disk daemon next
 
 -- runs one after another
-abbrev pub AreSuccessive : List Addition → Judging → RunStart → List (List Happened) → RunStart → Type 0
-AreSuccessive access policy b [] c = c ≡ b
-AreSuccessive access policy b (hs ∷ runs) c = (r : EndedRun access policy b hs) × AreSuccessive access policy r.next runs c
+abbrev pub AreSuccessive : Beside → Judging → RunStart → List (List Happened) → RunStart → Type 0
+AreSuccessive beside policy b [] c = c ≡ b
+AreSuccessive beside policy b (hs ∷ runs) c = (r : EndedRun beside policy b hs) × AreSuccessive beside policy r.next runs c
 
 -- all runs of a script: those that were ended, one after another from the first start, and the last one
-pub record AreDaemonRuns (access : List Addition) (policy : Judging) (first : RunStart) (runs : EventsOfRuns) (k : Kernel) (p : Option Disk) (e : DaemonState) : Type 0 where
+pub record AreDaemonRuns (beside : Beside) (policy : Judging) (first : RunStart) (runs : EventsOfRuns) (k : Kernel) (p : Option Disk) (e : DaemonState) : Type 0 where
   pub start : RunStart
-  pub ended : AreSuccessive access policy first runs.ended start
-  pub last : IsDaemonRun access policy start runs.last k p e
+  pub ended : AreSuccessive beside policy first runs.ended start
+  pub last : IsDaemonRun beside policy start runs.last k p e
 
 -- each device that is live at the end of that event was judged just once since the first kernel, and stands as judged
-pub record JudgesOnce (policy : Judging) (first : Kernel) (file : Disk) (hs : List Happened) (h : Happened) : Type 0 where
-  pub run : IsRun policy first (Some file) (hs ++ h ∷ []) h.kernel_after h.disk_after h.after
-  pub each : (i : ℕ) (d : Device) → Live h.kernel_after.devices i d → IsJudgedOnce policy (hs ++ h ∷ []) run.steps h.kernel_after h.after.sweep.standings i
+pub record JudgesOnce (policy : Judging) (hub : Option Write) (first : Kernel) (file : Disk) (hs : List Happened) (h : Happened) : Type 0 where
+  pub run : IsRun policy hub first (Some file) (hs ++ h ∷ []) h.kernel_after h.disk_after h.after
+  pub each : (i : ℕ) (d : Device) → Live h.kernel_after.devices i d → IsJudgedOnce hub policy (hs ++ h ∷ []) run.steps h.kernel_after h.after.sweep.standings i
 
 -- the step schedules no move and lets no call fail
 abbrev pub is_quiet : Option Step → Bool
@@ -192,16 +193,16 @@ AreQuiet (step ∷ steps) = (is_quiet step ≡ true) × AreQuiet steps
 -- no move was scheduled and no call was to fail, nobody is named as unsettled, no save is pending, and after an event that comes next each
 -- live device was judged just once since the last start and stands as judged.
 pub record Recorded (first : World) (lines : List (List ℕ)) (text : List ℕ) (s : Script) (w : World) : Type 0 where
-  pub access : List Addition
+  pub beside : Beside
   pub policy : Judging
-  pub setup : IsSetup (steps_of lines) access policy
+  pub setup : IsSetup (steps_of lines) beside policy
   pub settings : (whole : List ℕ) → lines_of whole ≡ flat_map conf_asked (steps_of lines) → conf_read whole ≡ Ok setup.draft.settings
   pub later : (rules : List types.Rule) (steps : List PolicyStep) → length rules ≤ 65536 → CanTake (with_rules rules policy) steps → IsLater (changed_alone (with_rules rules policy) steps) (words_for (with_rules rules policy) steps) (judgements_for (with_rules rules policy) steps) (after_steps (with_rules rules policy) steps)
-  pub runs : AreDaemonRuns access policy (first_start (flat_map rule_asked (steps_of lines)) first.kernel) (runs_in first lines) w.kernel (disk_told (disk_in s)) (daemon_in s)
+  pub runs : AreDaemonRuns beside policy (first_start (flat_map rule_asked (steps_of lines)) first.kernel) (runs_in first lines) w.kernel (disk_told (disk_in s)) (daemon_in s)
   pub written : text ≡ text_of_runs (runs_in first lines)
-  pub nobody : AreQuiet (steps_of lines) → first.fails ≡ [] → NameNobody (journal_of (runs_in first lines))
+  pub nobody : AreQuiet (steps_of lines) → IsUnfailing first → NameNobody (journal_of (runs_in first lines))
   pub saved : AreQuiet (steps_of lines) → (daemon_in s).pending ≡ false
-  pub once : AreQuiet (steps_of lines) → first.fails ≡ [] → first.moves ≡ [] → (event : events.Event) → JudgesOnce (with_rules runs.start.rules policy) runs.start.kernel runs.last.file (runs_in first lines).last (happened_at event s w)
+  pub once : AreQuiet (steps_of lines) → IsUnfailing first → first.moves ≡ [] → (event : events.Event) → JudgesOnce (with_rules runs.start.rules policy) beside.hub runs.start.kernel runs.last.file (runs_in first lines).last (happened_at event s w)
 
 -- the same of all lines
 abbrev pub StaysRecorded : World → Type 0

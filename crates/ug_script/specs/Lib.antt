@@ -8,3 +8,4 @@ pub mod Generating
 pub mod Laws
 pub mod Journal
 pub mod Example
+pub mod RuleFiles

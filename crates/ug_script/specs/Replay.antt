@@ -6,7 +6,7 @@ use Rattle.ug_types.specs.declared.rule.Rule as types
 use Rattle.ug_types.specs.declared.saved.Saved.{Saved}
 use Rattle.ug_kernel.specs.declared.device.Device.{Device}
 use Rattle.ug_sysfs.specs.Queue.{with_move}
-use Rattle.ug_sysfs.specs.World.{World, begun, moved, over}
+use Rattle.ug_sysfs.specs.World.{halting, World, begun, moved, over}
 use Rattle.ug_audit.specs.declared.entry.Entry.{Entry}
 use Rattle.ug_audit.specs.Lines.{entry_line}
 use Rattle.ug_lines.specs.Lines.{lines_of}
@@ -41,7 +41,7 @@ use Rattle.ug_script.specs.declared.step.StepFault.{StepFault}
 use Rattle.ug_script.specs.declared.step.StepFault.TheVariants.{Bad, Memory}
 use Rattle.ug_script.specs.Grammar.{step_of_line}
 use Rattle.ug_script.specs.Script.{Script, Started, takes_setup, with_setup_closed, daemon_in, disk_in, can_start, fresh, phase_of}
-use Rattle.ug_script.specs.Setup.{SetupState, one_line_more, access_of, after_reading, policy_of, rules_from, started_at, with_rules}
+use Rattle.ug_script.specs.Setup.{SetupState, beside_of, one_line_more, after_reading, policy_of, rules_from, started_at, with_rules}
 
 abbrev pub script_of : Running → Script
 script_of r = record { setup = r.setup; phase = phase_of r.phase; planned = r.plan.items }
@@ -183,6 +183,28 @@ abbrev pub IsEventPlayed : Event → DaemonState → World → DiskWorld → Dae
 IsEventPlayed event d w o e t p =
     (record { daemon = e; world = t; disk = p } ≡ event_from event d w o) ⊎ (tells e ⊎ ((t.ran_out ≡ true) ⊎ (p.ran_out ≡ true)))
 
+-- ---- with something between its stages
+
+-- The same event with something that is done to the kernel behind the pending save and behind the order, by what became of the disk.
+
+abbrev pub answer_through : (DiskWorld → World → World) → Event → DaemonState → World → DiskWorld → OrderPlayed
+answer_through halts event d w o = answered_by event (ready event (tried_by d o).0 d) (halts (tried_by d o).1 (begun w)) (tried_by d o).1
+
+abbrev pub swept_through : (DiskWorld → World → World) → OrderPlayed → Played
+swept_through halts a = swept_over a.disk (play (handling a.daemon) (halts a.disk a.world))
+
+abbrev pub event_through : (DiskWorld → World → World) → Event → DaemonState → World → DiskWorld → Played
+event_through halts event d w o = swept_through halts (answer_through halts event d w o)
+
+-- the event came to that, or its entries tell want of memory, or the kernel or the disk has run out
+abbrev pub IsPlayedThrough : (DiskWorld → World → World) → Event → DaemonState → World → DiskWorld → DaemonState → World → DiskWorld → Type 0
+IsPlayedThrough halts event d w o e t p =
+    (record { daemon = e; world = t; disk = p } ≡ event_through halts event d w o) ⊎ (tells e ⊎ ((t.ran_out ≡ true) ⊎ (p.ran_out ≡ true)))
+
+-- the kernel is halted as soon as the machine has stopped in a call of the disk
+abbrev pub halted : DiskWorld → World → World
+halted o w = cond o.stopped (halting w) w
+
 -- the calls that are to fail are those that lines planned, and they are numbered anew
 abbrev pub begun_disk : List Planned → DiskWorld → DiskWorld
 begun_disk plan o = record (begun_on o) { planned = plan }
@@ -226,7 +248,7 @@ event_taken event s w = cond (can_start s.setup s.phase) (in_script s (event_by 
 -- the words of the seed from the first one on. It has the access that these lines give, knows no device, and counts its devices from 1. The
 -- numbers of events go on. The kernel, its open files, the files of the disk and what is scheduled for the next event stay as they are.
 abbrev pub with_restart : List types.Rule → Script → Script
-with_restart rules s = record s { phase = Started (started_at (daemon_in s).event (access_of s.setup) (with_rules rules (policy_of s.setup))) (after_reading (disk_in s)) }
+with_restart rules s = record s { phase = Started (started_at (daemon_in s).event (beside_of s.setup) (with_rules rules (policy_of s.setup))) (after_reading (disk_in s)) }
 
 -- where none starts with that text, the one before stays, and the disk was read
 abbrev pub without_restart : Script → Script

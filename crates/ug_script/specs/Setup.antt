@@ -5,6 +5,7 @@ use Rattle.rand_chacha.specs.ChaCha.{next_word, of_seed}
 use Rattle.rand_core.specs.Steps.{stream_of, steps_u32}
 use Rattle.rand_core.specs.Stream.{Stream}
 use Rattle.ug_types.specs.Principals.{Named}
+use Rattle.ug_types.specs.declared.control.Write.{Write}
 use Rattle.ug_types.specs.declared.rule.Rule as types
 use Rattle.ug_acl.specs.Acls.{Addition, addition}
 use Rattle.ug_acl.specs.Pairs.{all_pairs}
@@ -16,7 +17,7 @@ use Rattle.ug_conf.specs.Reader.{Progress, next_number}
 use Rattle.ug_conf.specs.Texts.{setting_line}
 use Rattle.ug_lines.specs.LineReading.{lines_read}
 use Rattle.ug_core.specs.Starting.{permanent_entries}
-use Rattle.ug_core.specs.Settings.{classes_of}
+use Rattle.ug_core.specs.Settings.{classes_of, hub_of}
 use Rattle.ug_core.specs.Policy.{Judging}
 use Rattle.ug_core.specs.Event.{DaemonState}
 use Rattle.ug_print.specs.RuleTexts.{rules_limit, rules_text_of}
@@ -126,6 +127,14 @@ granted line = addition line.who line.grants
 abbrev pub access_of : SetupState → List Addition
 access_of s = map everything s.settings.draft.settings.users ++ map granted s.access
 
+-- what a daemon is started with beside its policy: who may do what, and what is written to the default of each root hub
+pub record Beside : Type 0 where
+  pub access : List Addition
+  pub hub : Option Write
+
+abbrev pub beside_of : SetupState → Beside
+beside_of s = record { access = access_of s; hub = hub_of s.settings.draft.settings.default }
+
 -- a disk behind a reading of its rule file: the moment within that call is past
 abbrev pub after_reading : DiskWorld → DiskWorld
 after_reading o = record o { disk = past_within Load o.disk }
@@ -136,12 +145,12 @@ rules_disk s = after_reading (world_at_first (rules_text_of s.rules))
 
 -- the daemon that judges by a policy, before its first event, which has that number. Users and groups may do what was added, and no save
 -- is pending.
-abbrev pub started_at : ℕ → List Addition → Judging → DaemonState
-started_at number access policy = record { sweep = record { standings = []; next = 1; listed = false; judge = policy; entries = [] }; access = access; pending = false; event = number; reply = None; watch = false }
+abbrev pub started_at : ℕ → Beside → Judging → DaemonState
+started_at number beside policy = record { sweep = record { standings = []; next = 1; listed = false; judge = policy; hub = beside.hub; entries = [] }; access = beside.access; pending = false; event = number; reply = None; watch = false }
 
 -- the first one of a script, whose events are numbered from 1
 abbrev pub started : SetupState → DaemonState
-started s = started_at 1 (access_of s) (policy_of s)
+started s = started_at 1 (beside_of s) (policy_of s)
 
 -- ---- the rules that a daemon starts with
 
@@ -161,7 +170,7 @@ rules_from text = if nat_le (length text) file_limit then rules_if_read (file_re
 pub record StartsOn (s : SetupState) (number : ℕ) (o : DiskWorld) (d : DaemonState) : Type 0 where
   pub rules : List types.Rule
   pub loaded : rules_from o.disk.text ≡ Ok rules
-  pub is : d ≡ started_at number (access_of s) (with_rules rules (policy_of s))
+  pub is : d ≡ started_at number (beside_of s) (with_rules rules (policy_of s))
 
 -- ---- what lines ask for
 
@@ -199,7 +208,7 @@ first_or other (x ∷ xs) = x
 -- lines give, read as the lines of one text; the clock is that of the `zone` line, or that of UTC; and the words are those of the
 -- `seed` line's seed, or of 32 bytes 0. No moment has come. The users and the groups of the settings may do everything, and each
 -- `access` line adds what it grants.
-pub record IsSetup (steps : List (Option Step)) (access : List Addition) (policy : Judging) : Type 0 where
+pub record IsSetup (steps : List (Option Step)) (beside : Beside) (policy : Judging) : Type 0 where
   pub draft : Draft
   pub settings : lines_read setting_line 1 (draft_of defaults []) (flat_map conf_asked steps) ≡ Ok draft
   pub classes : policy.classes ≡ classes_of draft.settings
@@ -207,5 +216,6 @@ pub record IsSetup (steps : List (Option Step)) (access : List Addition) (policy
   pub next : policy.next ≡ length (flat_map rule_asked steps) + 1
   pub clock : policy.clock ≡ clock_ahead (first_or (pos 0) (flat_map zone_asked steps))
   pub ctx : policy.ctx ≡ record { moment = record { 0 = 0 }; second = 0 }
-  pub allowed : access ≡ map everything draft.settings.users ++ map granted (flat_map access_asked steps)
+  pub hub : beside.hub ≡ hub_of draft.settings.default
+  pub allowed : beside.access ≡ map everything draft.settings.users ++ map granted (flat_map access_asked steps)
   pub words : policy.stream ≡ seeded (first_or no_seed (flat_map seed_asked steps))

@@ -1,11 +1,13 @@
 // Events of a script.
-ghost use Rattle.std.specs.Prelude.{◌≡◌, ◌≤◌, ◌++◌, ◌∷◌, [], true, OnOk, Some};
+ghost use Rattle.std.specs.Prelude.{◌≡◌, ◌≤◌, ◌++◌, ◌∷◌, [], true, false, OnOk, Some};
 ghost use Rattle.ug_types.specs.Ends.{Rose};
 ghost use Rattle.ug_console.specs.Runs.{Closes, Steps};
 ghost use Rattle.ug_core.specs.Event.{daemon_of, has_numbers};
+ghost use Rattle.ug_script.specs.RuleFiles.{IsStillOn};
 ghost use Rattle.ug_script.specs.Replay as replay;
-ghost use Rattle.ug_script.specs.Replay.{IsEventPlayed, came_of, event_by, event_from};
+ghost use Rattle.ug_script.specs.Replay.{IsEventPlayed, IsPlayedThrough, came_of, event_by, event_from};
 
+use crate::halting::Halting;
 use crate::session::Session;
 use crate::text::{outcome_text, put, tells_memory};
 use std::alloc::Global;
@@ -17,14 +19,16 @@ use ug_sysfs::{SimKernel, Sysfs};
 use ug_types::{NoMemory, Sink};
 
 fn plan_failure(disk: &mut MemDisk, planned: &Planned) -> Result<(), NoMemory>
-    ensures { OnOk result (disk.new ≡ record disk.old { planned = disk.old.planned ++ planned.now ∷ [] }) }
+    ensures ok { OnOk result (disk.new ≡ record disk.old { planned = disk.old.planned ++ planned.now ∷ [] }) }
+    ensures same { IsStillOn disk.old disk.new }
 {
-    disk.fail(planned.call, planned.mishap)?;
+    disk.plan(*planned)?;
     Ok(())
 }
 
 fn plan_failures(disk: &mut MemDisk, plan: &[Planned]) -> Result<(), NoMemory>
-    ensures { OnOk result (disk.new ≡ record disk.old { planned = disk.old.planned ++ plan.now }) }
+    ensures ok { OnOk result (disk.new ≡ record disk.old { planned = disk.old.planned ++ plan.now }) }
+    ensures same { IsStillOn disk.old disk.new }
 {
     for planned in plan {
         plan_failure(disk, planned)?;
@@ -34,7 +38,8 @@ fn plan_failures(disk: &mut MemDisk, plan: &[Planned]) -> Result<(), NoMemory>
 
 /// The calls that are to fail are those of the plan alone, and they are numbered anew.
 fn begin_disk(disk: &mut MemDisk, plan: &[Planned]) -> Result<(), NoMemory>
-    ensures { OnOk result (disk.new ≡ replay.begun_disk plan.now disk.old) }
+    ensures ok { OnOk result (disk.new ≡ replay.begun_disk plan.now disk.old) }
+    ensures same { IsStillOn disk.old disk.new }
 {
     disk.end_event();
     disk.begin();
@@ -44,15 +49,24 @@ fn begin_disk(disk: &mut MemDisk, plan: &[Planned]) -> Result<(), NoMemory>
 /// An event, which the script fixes unless it is told that memory was wanting. Nobody but the journal notes it.
 fn handle(alloc: Global, session: &mut Session, event: &Event, kernel: &mut SimKernel)
     requires { has_numbers (daemon_of session.old.daemon) kernel.old.faults session.old.disk.faults ≡ true }
-    ensures played { IsEventPlayed event.now (daemon_of session.old.daemon) kernel.old session.old.disk
+    ensures played { IsPlayedThrough replay.halted event.now (daemon_of session.old.daemon) kernel.old session.old.disk
+        (daemon_of session.new.daemon) kernel.new session.new.disk }
+    ensures unstopped { session.new.disk.stopped ≡ false
+        → IsEventPlayed event.now (daemon_of session.old.daemon) kernel.old session.old.disk
         (daemon_of session.new.daemon) kernel.new session.new.disk }
     ensures all { session.new.daemon.report.entries.entries
         ≡ (daemon_of session.new.daemon).sweep.entries }
 {
     let mut panel = Panel::new(Vec::new(alloc));
-    session
-        .daemon
-        .handle(alloc, event, kernel, &mut session.disk, &mut panel);
+    let mut halting = Halting {};
+    session.daemon.handle_between(
+        alloc,
+        event,
+        kernel,
+        &mut session.disk,
+        &mut panel,
+        &mut halting,
+    );
 }
 
 fn put_outcome<K: Sink>(alloc: Global, report: &Report, out: &mut K) -> Ran
@@ -85,6 +99,10 @@ fn play_event<K: Sink>(
     ensures cause { result ≡ Ran.SinkFailed → Rose (K.faults out.old) (K.faults out.new) }
 {
     handle(alloc, session, event, kernel);
+    if session.disk.stopped() {
+        // No line plans a stop yet.
+        return Ran::Memory;
+    }
     let noted = session.daemon.report().entries.as_slice();
     if kernel.ran_out() || session.disk.ran_out() || tells_memory(noted) {
         return Ran::Memory;

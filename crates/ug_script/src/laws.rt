@@ -9,7 +9,7 @@ ghost use Rattle.ug_kernel.specs.Kernel.{IsKernel};
 ghost use Rattle.ug_sysfs.specs.World.{World};
 ghost use Rattle.ug_audit.specs.declared.entry.Entry.TheVariants as entry;
 ghost use Rattle.ug_audit.specs.declared.entry.Fault.TheVariants as fault;
-ghost use Rattle.ug_script.specs.Example.{first_played, event_at, event_with, plugged_in, replaced, failing};
+ghost use Rattle.ug_script.specs.Example.{first_played, event_at, event_with, plugged_in, replaced, failing, guarded_first, born_behind, tenth_fails};
 ghost use Rattle.ug_script.specs.declared.step.AccessLine.{AccessLine};
 ghost use Rattle.ug_script.specs.declared.step.SetupLine.TheVariants.{Access};
 ghost use Rattle.ug_script.specs.Grammar.{grant_of, IsAccess};
@@ -72,4 +72,34 @@ pub fn worked_law()
         ∷ entry.End 2 ∷ [] }
     ensures again { (event_at 102 (event_with 101 [] failing plugged_in)).daemon.sweep.entries
         ≡ entry.Event 3 (record { 0 = 102 }) ∷ entry.End 3 ∷ [] }
+{}
+
+/// Events under `AuthorizedDefault=none`, worked by hand. The default of the root hub is switched off, and a device that comes then is
+/// born off. Where that write fails, the hub is named, the device is born on, and the next event makes both writes.
+pub fn default_law()
+    ensures written { (event_at 100 guarded_first).daemon.sweep.entries
+        ≡ entry.Event 1 (record { 0 = 100 })
+        ∷ entry.Judged 1 (codes "usb1") (record { 0 = 0 }) target.Allow cause.Keep
+        ∷ entry.Intent 1 (codes "usb1") write.DefaultOff
+        ∷ entry.Wrote 1 (codes "usb1") write.DefaultOff wrote.Done
+        ∷ entry.End 1 ∷ [] }
+    ensures born_off { (event_at 101 (born_behind (event_at 100 guarded_first))).daemon.sweep.entries
+        ≡ entry.Event 2 (record { 0 = 101 })
+        ∷ entry.Judged 2 (codes "1-1") (record { 0 = 2 }) target.Block cause.Implicit
+        ∷ entry.End 2 ∷ [] }
+    ensures failed { (event_with 100 [] tenth_fails guarded_first).daemon.sweep.entries
+        ≡ entry.Event 1 (record { 0 = 100 })
+        ∷ entry.Judged 1 (codes "usb1") (record { 0 = 0 }) target.Allow cause.Keep
+        ∷ entry.Intent 1 (codes "usb1") write.DefaultOff
+        ∷ entry.Wrote 1 (codes "usb1") write.DefaultOff wrote.Failed
+        ∷ entry.Unsettled (codes "usb1") (fault.Call (record { call = 10; count = 1 }))
+        ∷ entry.End 1 ∷ [] }
+    ensures born_on { (event_at 101 (born_behind (event_with 100 [] tenth_fails guarded_first))).daemon.sweep.entries
+        ≡ entry.Event 2 (record { 0 = 101 })
+        ∷ entry.Intent 1 (codes "usb1") write.DefaultOff
+        ∷ entry.Wrote 1 (codes "usb1") write.DefaultOff wrote.Done
+        ∷ entry.Judged 2 (codes "1-1") (record { 0 = 3 }) target.Block cause.Implicit
+        ∷ entry.Intent 2 (codes "1-1") write.Off
+        ∷ entry.Wrote 2 (codes "1-1") write.Off wrote.Done
+        ∷ entry.End 2 ∷ [] }
 {}

@@ -102,6 +102,7 @@ fn planned_disk_fail(text: &[u8]) -> Option<Plan>
         Some(failing) => Some(Plan::FailDisk(Planned {
             call: failing.call,
             mishap: mishap(failing.effect),
+            stops: false,
         })),
         None => None,
     }

@@ -8,7 +8,7 @@ ghost use Rattle.ug_script.specs.Generating.{skimmed, skimmed_if};
 ghost use Rattle.ug_script.specs.Grammar.{AsksForRule, AsksForRules, step_of_line};
 ghost use Rattle.ug_script.specs.Replay as replay;
 ghost use Rattle.ug_script.specs.Script as script;
-ghost use Rattle.ug_script.specs.Script.{daemon_in, fresh, phase_of, with_setup_closed};
+ghost use Rattle.ug_script.specs.Script.{can_start, daemon_in, fresh, phase_of, with_setup_closed};
 ghost use Rattle.ug_script.specs.Setup.{rules_from};
 ghost use Rattle.ug_store.specs.declared.mishap.Planned.{Planned};
 ghost use Rattle.ug_core.specs.Event.{daemon_of};
@@ -19,7 +19,7 @@ use crate::parse::parse_line;
 use crate::progress::{Phase, Running};
 use crate::session::Session;
 use crate::setup::Setup;
-use crate::start::{NoStart, restart_daemon, start_daemon};
+use crate::start::{restart_daemon, start_daemon};
 use crate::step::{Plan, SetupLine, Step, StepFault};
 use std::alloc::Global;
 use ug_console::Ran;
@@ -73,6 +73,7 @@ fn planned_event<K: Sink>(
 /// Another daemon in place of that one, where the rule file gives one.
 fn restart_session(alloc: Global, setup: &Setup, session: &mut Session) -> Ran
     ensures silent { ¬ (result ≡ Ran.SinkFailed) }
+    ensures given { (¬ (result ≡ Ran.Bad)) × (¬ (result ≡ Ran.TooLong)) }
     ensures ran { (plan : List Planned) (w : World) (held : Option (List ℕ))
         → Steps (restarted (rules_from session.old.disk.disk.text)
         (started_script setup.now session.old plan) w)
@@ -80,9 +81,7 @@ fn restart_session(alloc: Global, setup: &Setup, session: &mut Session) -> Ran
 {
     match restart_daemon(alloc, setup, session) {
         Ok(()) => Ran::Done,
-        Err(NoStart::BadRules) => Ran::Bad,
-        Err(NoStart::TooLong) => Ran::TooLong,
-        Err(NoStart::Memory) => Ran::Memory,
+        Err(NoMemory) => Ran::Memory,
     }
 }
 
@@ -184,6 +183,8 @@ impl Running {
     fn first_restart(&mut self, alloc: Global) -> Ran
         requires { script.has_started (phase_of self.old.phase) ≡ false }
         ensures silent { ¬ (result ≡ Ran.SinkFailed) }
+        ensures given { ¬ (result ≡ Ran.Bad) }
+        ensures short { result ≡ Ran.TooLong → can_start (script_of self.old).setup (script_of self.old).phase ≡ false }
         ensures ran { (w : World) (held : Option (List ℕ)) → Steps (restart_taken (script_of self.old) w)
             (Some (script_of self.new), w) held held result }
     {
@@ -202,6 +203,8 @@ impl Running {
     /// Another daemon over the same disk, in place of the one that there is, or of the first one.
     fn restart(&mut self, alloc: Global) -> Ran
         ensures silent { ¬ (result ≡ Ran.SinkFailed) }
+        ensures given { ¬ (result ≡ Ran.Bad) }
+        ensures short { result ≡ Ran.TooLong → can_start (script_of self.old).setup (script_of self.old).phase ≡ false }
         ensures ran { (w : World) (held : Option (List ℕ)) → Steps (restart_taken (script_of self.old) w)
             (Some (script_of self.new), w) held held result }
     {

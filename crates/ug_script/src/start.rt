@@ -1,14 +1,16 @@
 // The daemons that a script starts.
 ghost use Rattle.std.specs.Prelude.{◌≡◌, ◌≤◌, length, pos, true, false, Err, Ok, IfOk, IfSome, IsTrue, OnErr, OnOk};
 ghost use Rattle.ug_console.specs.Fold.{BadLine, InputTooLong};
+ghost use Rattle.ug_rules.specs.RuleFile.{IsSaveable};
+ghost use Rattle.ug_script.specs.RuleFiles.{IsStillOn};
 ghost use Rattle.ug_core.specs.Event.{daemon_of};
 ghost use Rattle.ug_core.specs.Policy.{clock_of};
-ghost use Rattle.ug_core.specs.Settings.{classes_of};
+ghost use Rattle.ug_core.specs.Settings.{classes_of, hub_of};
 ghost use Rattle.ug_rule.specs.Files.{file_read};
 ghost use Rattle.ug_store.specs.Scripted.{world_at_first};
 ghost use Rattle.ug_print.specs.RuleTexts.{rules_text_of};
 ghost use Rattle.ug_script.specs.Script.{fits_file, no_start_of};
-ghost use Rattle.ug_script.specs.Setup.{StartsOn, after_reading, clock_ahead, given_or, is_offset, no_seed, policy_of, rules_disk, rules_from, started};
+ghost use Rattle.ug_script.specs.Setup.{StartsOn, after_reading, beside_of, clock_ahead, given_or, is_offset, no_seed, policy_of, rules_disk, rules_from, started};
 
 use crate::access::access_of;
 use crate::session::Session;
@@ -88,8 +90,10 @@ fn rng_for(setup: &Setup) -> ChaCha20Rng
 
 /// Settings that judge as the lines say. The others are those of `default_settings`: a script has no use for them.
 fn settings_of(alloc: Global, setup: &Setup) -> Result<Settings, NoMemory>
-    ensures { IfOk result (λ settings. classes_of settings
+    ensures classes { IfOk result (λ settings. classes_of settings
         ≡ classes_of setup.now.settings.draft.settings) }
+    ensures hub { IfOk result (λ settings. hub_of settings.default
+        ≡ (beside_of setup.now).hub) }
 {
     let given = setup.settings.so_far();
     let mut settings = default_settings(alloc)?;
@@ -97,6 +101,7 @@ fn settings_of(alloc: Global, setup: &Setup) -> Result<Settings, NoMemory>
     settings.present_device = given.present_device;
     settings.present_controller = given.present_controller;
     settings.inserted = given.inserted;
+    settings.default = given.default;
     settings.with_port = given.with_port;
     Ok(settings)
 }
@@ -142,9 +147,11 @@ fn start_on(
     disk: &mut MemDisk,
 ) -> Result<Daemon<'static, ChaCha20Rng>, NoStart>
     ensures started { IfOk result (λ daemon. StartsOn setup.now first disk.old (daemon_of daemon)) }
+    ensures saves { IfOk result (λ daemon. IsSaveable (daemon_of daemon).sweep.judge.rules) }
     ensures bad { result ≡ Err NoStart.BadRules → rules_from disk.old.disk.text ≡ Err BadLine }
     ensures too_long { result ≡ Err NoStart.TooLong → rules_from disk.old.disk.text ≡ Err InputTooLong }
     ensures read { (result ≡ Err NoStart.Memory → ⊥) → disk.new ≡ after_reading disk.old }
+    ensures still { disk.new.ran_out ≡ false → IsStillOn disk.old disk.new }
 {
     let settings = settings_of(alloc, setup)?;
     let access = access_of(alloc, setup)?;
@@ -173,17 +180,24 @@ pub fn start_daemon(alloc: Global, setup: &Setup) -> Result<Session, RulesTextFa
     }
 }
 
-/// A new daemon over the same disk, whose first event has the number that the daemon before would have given it. Where none starts, the one
-/// before stays.
-pub fn restart_daemon(alloc: Global, setup: &Setup, session: &mut Session) -> Result<(), NoStart>
+/// A new daemon over the same disk, whose first event has the number that the daemon before would have given it. The rule file gives one, so
+/// that only want of memory refuses it. Then the one before stays.
+pub fn restart_daemon(alloc: Global, setup: &Setup, session: &mut Session) -> Result<(), NoMemory>
     ensures started { OnOk result (StartsOn setup.now (daemon_of session.old.daemon).event
         session.old.disk (daemon_of session.new.daemon)) }
     ensures kept { OnErr result (session.new.daemon ≡ session.old.daemon) }
-    ensures bad { result ≡ Err NoStart.BadRules → rules_from session.old.disk.disk.text ≡ Err BadLine }
-    ensures too_long { result ≡ Err NoStart.TooLong → rules_from session.old.disk.disk.text ≡ Err InputTooLong }
-    ensures read { (result ≡ Err NoStart.Memory → ⊥) → session.new.disk ≡ after_reading session.old.disk }
+    ensures read { OnOk result (session.new.disk ≡ after_reading session.old.disk) }
 {
+    if session.disk.ran_out() {
+        return Err(NoMemory);
+    }
     let first = session.daemon.next_event();
-    session.daemon = start_on(alloc, setup, first, &mut session.disk)?;
-    Ok(())
+    match start_on(alloc, setup, first, &mut session.disk) {
+        Ok(daemon) => {
+            session.daemon = daemon;
+            Ok(())
+        }
+        Err(NoStart::Memory) => Err(NoMemory),
+        Err(NoStart::BadRules | NoStart::TooLong) => unreachable!(),
+    }
 }

@@ -1,6 +1,7 @@
 -- What turns tell, and the run that they are.
 use Rattle.std.proofs.Common.{◌≡◌, ℕ, ◌+◌, ◌<◌, Bool, true, false, List, [], ◌∷◌, ◌++◌, Option, Some, None, inl, inr, length, map, refl, sym, ◌∙◌, ap, subst, append_assoc, append-nil, length-append}
 use Rattle.std.specs.List.{flat_map}
+use Rattle.ug_types.specs.declared.control.Write.{Write}
 use Rattle.ug_types.specs.declared.verdict.Moment.{Moment}
 use Rattle.ug_types.specs.declared.waiter.Ready.{Ready}
 use Rattle.ug_types.specs.Told.{GrowsBy}
@@ -17,6 +18,9 @@ use Rattle.ug_core.specs.Policy.{Judging}
 use Rattle.ug_core.specs.Event.{DaemonState, IsStarted, ready}
 use Rattle.ug_core.specs.Durable.{KeepsFile}
 use Rattle.ug_core.specs.Laws.{AnswersEvent, Handled}
+use Rattle.ug_core.specs.Stops.{AllReadable, IsReadable}
+use Rattle.ug_core.specs.Durable.{WritesEvent}
+use Rattle.ug_rules.specs.RuleFile.{IsSaveable}
 use Rattle.ug_core.specs.declared.storing.Stored.{Stored}
 use Rattle.ug_core.specs.Chain.{Happened, Chain, StaysOnDisk, journal}
 use Rattle.ug_core.proofs.Answered.{answered_stands}
@@ -51,27 +55,29 @@ rests : (o : Option Disk) → StaysOnDisk o o
 rests o n is = (n, is, record { text = refl; fresh = refl; synced = refl; left = refl })
 
 nothing_stands : (k : Kernel) → Stand k [] 1
-nothing_stands k = record { devices = λ s h. absurd h; numbers = λ s h. absurd h; names = tt; order = tt; distinct = tt; removed = λ s h e. absurd h }
+nothing_stands k = record { devices = λ s h. absurd h; numbers = λ s h. absurd h; names = tt; order = tt; distinct = tt; done = λ control s h e. absurd h }
 
 stands_after : (k : Kernel) (d : DaemonState) (m : Kernel) (e : DaemonState) → Handled k d m e → Stand m e.sweep.standings e.sweep.next
 stands_after k d m e h = subst (λ (v : State Judging). Stand m v.standings v.next) (sym h.entries) h.law.fair.stand
 
-stands_first : (policy : Judging) (first : ℕ) (d : DaemonState) (k : Kernel) → IsStarted policy first d → Stand k d.sweep.standings d.sweep.next
-stands_first policy first d k h = subst (λ (n : ℕ). Stand k d.sweep.standings n) (sym h.next) (subst (λ (ss : List Standing). Stand k ss 1) (sym h.standings) (nothing_stands k))
+stands_first : (policy : Judging) (hub : Option Write) (first : ℕ) (d : DaemonState) (k : Kernel) → IsStarted policy hub first d → Stand k d.sweep.standings d.sweep.next
+stands_first policy hub first d k h = subst (λ (n : ℕ). Stand k d.sweep.standings n) (sym h.next) (subst (λ (ss : List Standing). Stand k ss 1) (sym h.standings) (nothing_stands k))
 
 record IsChained (events : List TurnEvent) (k : Kernel) (o : Option Disk) (d : DaemonState) (l : Kernel) (p : Option Disk) (e : DaemonState) : Type 0 where
   hs : List Happened
   events_are : map (λ h. h.event) hs ≡ map (λ x. x.event) events
   entries_are : journal hs ≡ without_drops (events_entries events)
   chain : Chain k o d hs l p e
+  readable : AllReadable hs
 
 chained_more : (x : TurnEvent) (xs : List TurnEvent) (tried : Option Saved) (k : Kernel) (o : Option Disk) (d : DaemonState) (became : Stored) (j : Kernel) (a : DaemonState) (m : Kernel) (n : Option Disk) (b : DaemonState) (l : Kernel) (p : Option Disk) (e : DaemonState)
-    → b.sweep.entries ≡ without_drops x.entries → AnswersEvent x.event k (ready x.event tried d) became j a → Handled j a m b → KeepsFile (λ (y : Option Disk). y) x.event o d n b → IsChained xs m n b l p e → IsChained (x ∷ xs) k o d l p e
-chained_more x xs tried k o d became j a m n b l p e is answers handled file c = record {
+    → b.sweep.entries ≡ without_drops x.entries → AnswersEvent x.event k (ready x.event tried d) became j a → Handled j a m b → KeepsFile (λ (y : Option Disk). y) x.event tried became o d n b → IsSaveable d.sweep.judge.rules → WritesEvent x.event d became → IsSaveable b.sweep.judge.rules → IsChained xs m n b l p e → IsChained (x ∷ xs) k o d l p e
+chained_more x xs tried k o d became j a m n b l p e is answers handled file saves writes saves_after c = record {
   hs = record { event = x.event; tried = tried; kernel = k; disk = o; before = d; became = became; kernel_answered = j; answered = a; kernel_after = m; disk_after = n; after = b } ∷ c.hs;
   events_are = ap (λ (es : List Event). x.event ∷ es) c.events_are;
   entries_are = ap (λ (es : List Entry). b.sweep.entries ++ es) c.entries_are ∙ (ap (λ (es : List Entry). es ++ without_drops (events_entries xs)) is ∙ sym (drops_append x.entries (events_entries xs)));
   chain = (unmoving k, rests o, refl, record { answers = answers; handled = handled; file = file }, c.chain);
+  readable = (record { before = saves; written = writes; after = saves_after }, c.readable);
 }
 
 pub flat-append : {A B : Type 0} (f : A → List B) (xs ys : List A) → flat_map f (xs ++ ys) ≡ flat_map f xs ++ flat_map f ys
@@ -122,7 +128,7 @@ module _ {Y D : Type 0} (begins : Y → Y → Type 0) (gives : Y → (call : Cal
     l,
     ap (λ (x : Core Y D). told x.sysfs) (sym h) ∙ is,
     λ sound stand.
-        record { hs = []; events_are = refl; entries_are = refl; chain = (unmoving l, subst (λ (x : Core Y D). StaysOnDisk (disk_told c.disk) (disk_told x.disk)) (sym h) (rests (disk_told c.disk)), ap (λ (x : Core Y D). x.daemon) h) },
+        record { hs = []; events_are = refl; entries_are = refl; chain = (unmoving l, subst (λ (x : Core Y D). StaysOnDisk (disk_told c.disk) (disk_told x.disk)) (sym h) (rests (disk_told c.disk)), ap (λ (x : Core Y D). x.daemon) h); readable = tt },
   )
   chained c (x ∷ xs) d l h is =
       let m : Core Y D = h.0 in
@@ -136,7 +142,7 @@ module _ {Y D : Type 0} (begins : Y → Y → Type 0) (gives : Y → (call : Cal
             let answers = now.2 sound stand in
             let behind = answered_stands x.event now.0 begins_so h.1.handled.became swept.0 h.1.handled.answered sound stand answers in
             let handled : Handled swept.0 h.1.handled.answered later.0 m.daemon = swept.2 behind.0 behind.1 in
-            chained_more x xs h.1.handled.tried now.0 (disk_told c.disk) c.daemon h.1.handled.became swept.0 h.1.handled.answered later.0 (disk_told m.disk) m.daemon l (disk_told d.disk) d.daemon h.1.entries answers handled h.1.handled.file
+            chained_more x xs h.1.handled.tried now.0 (disk_told c.disk) c.daemon h.1.handled.became swept.0 h.1.handled.answered later.0 (disk_told m.disk) m.daemon l (disk_told d.disk) d.daemon h.1.entries answers handled h.1.handled.file h.1.handled.saveable h.1.handled.written h.1.handled.saveable_after
             (later.2 handled.law.fair.sound (stands_after swept.0 h.1.handled.answered later.0 m.daemon handled)),
       )
 
@@ -216,20 +222,20 @@ module _ {Y D : Type 0} (begins : Y → Y → Type 0) (gives : Y → (call : Cal
           let later = calls_told h.0 turns t after h.2 is in
           extends_more (links_told s.links) (links_told h.0.links) (turn.comes ++ turn.sends) (turns_calls turns) later.0 after later.1 (turn_told s turn h.0 later.0 h.1 later.1) later
 
-      run_told : (policy : Judging) (first : ℕ) (s : TurnWorld Y D N W C) (turns : List Turned) (t : TurnWorld Y D N W C) (l : Kernel) → IsStarted policy first s.core.daemon → Are s turns t → told t.core.sysfs ≡ Some l
-          → (k : Kernel) × (told s.core.sysfs ≡ Some k) × (IsKernel k → IsRunOfTurns policy turns k (disk_told s.core.disk) s.core.daemon l (disk_told t.core.disk) t.core.daemon)
-      run_told policy first s turns t l started h is =
+      run_told : (policy : Judging) (hub : Option Write) (first : ℕ) (s : TurnWorld Y D N W C) (turns : List Turned) (t : TurnWorld Y D N W C) (l : Kernel) → IsStarted policy hub first s.core.daemon → Are s turns t → told t.core.sysfs ≡ Some l
+          → (k : Kernel) × (told s.core.sysfs ≡ Some k) × (IsKernel k → IsRunOfTurns policy hub turns k (disk_told s.core.disk) s.core.daemon l (disk_told t.core.disk) t.core.daemon)
+      run_told policy hub first s turns t l started h is =
           let c = chained s.core (turns_events turns) t.core l (turns_handled s turns t h) is in (
             c.0,
             c.1,
             λ sound.
-                let chain = c.2 sound (stands_first policy first s.core.daemon c.0 started) in
-                record { happened = chain.hs; events = chain.events_are; entries = chain.entries_are; chain = chain.chain; run = is_run policy first c.0 (disk_told s.core.disk) s.core.daemon chain.hs l (disk_told t.core.disk) t.core.daemon started chain.chain },
+                let chain = c.2 sound (stands_first policy hub first s.core.daemon c.0 started) in
+                record { happened = chain.hs; events = chain.events_are; entries = chain.entries_are; chain = chain.chain; run = is_run policy hub first c.0 (disk_told s.core.disk) s.core.daemon chain.hs l (disk_told t.core.disk) t.core.daemon started chain.chain; readable = chain.readable },
           )
 
       pub turns_tell : TurnsTell begins gives told calls faults keeps disk_told disk_faults links waits clocks links_told waiter_told clock_told
-      turns_tell policy first s turns t started h = record {
-        run = λ l is. run_told policy first s turns t l started h is;
+      turns_tell policy hub first s turns t started h = record {
+        run = λ l is. run_told policy hub first s turns t l started h is;
         calls = λ after is. calls_told s turns t after h is;
         tokens = λ after is. tokens_told s turns t after h is;
         moments = λ after is. moments_told s turns t after h is;

@@ -86,6 +86,7 @@ swap_end text m n r answer.Done count x past v same fresh within did run =
       since = m.left ∷ m.left ∷ or_text m.left text ∷ [];
       past = past;
       each = each_three text m.left;
+      wanting = λ e. let none : ⊥ = cc in absurd none;
       now = (did.0 ∙ fresh, did.1 ∙ ap (λ (f : List ℕ). Texts (f ∷ [])) fresh);
     })
 swap_end text m n r answer.Failed count x past v same fresh within did run =
@@ -94,6 +95,7 @@ swap_end text m n r answer.Failed count x past v same fresh within did run =
       since = m.left ∷ m.left ∷ or_text m.left text ∷ [];
       past = past;
       each = each_three text m.left;
+      wanting = λ e. let none : ⊥ = cc in absurd none;
       now = (which, subst (λ (i : Images). IsOldOr m.left text i) (sym (did.1 ∙ within)) (or_text_is m.left text));
     })
 swap_end text m n r answer.Memory count x past v same fresh within did run = absurd did
@@ -125,6 +127,7 @@ sync_saved text m u v r a count keeps pu fresh called x run = pick a called run
       since = m.left ∷ m.left ∷ [];
       past = past_of h.past;
       each = each_two text m.left;
+      wanting = λ e. let none : ⊥ = cc in absurd none;
       now = kept_failed text m v count (both (sync_keeps answer.Failed u v h.effect));
     })
     pick answer.Memory h k = absurd h.effect
@@ -136,12 +139,14 @@ first_saved text m u r answer.Failed count called x run = as_run text m r (saved
   since = m.left ∷ [];
   past = called.past;
   each = each_one text m.left;
+  wanting = λ e. let none : ⊥ = cc in absurd none;
   now = kept_failed text m u count (write_keeps answer.Failed text m u called.effect);
 })
 first_saved text m u r answer.Memory count called x run = as_run text m r saved.Memory x u run (record {
   since = m.left ∷ [];
   past = called.past;
   each = each_one text m.left;
+  wanting = λ e images has. elim has [ inl same ↦ sym same | inr none ↦ absurd none ];
   now = called.effect;
 })
 

@@ -4,9 +4,9 @@ use Rattle.std.proofs.lemmas.List.{append-nil}
 use Rattle.ug_types.proofs.Elements.{has_cases, has_left, has_right}
 use Rattle.ug_store.specs.DiskCalls.{Load, Write_new, Sync_new, Swap}
 use Rattle.ug_store.specs.Disk.{Disk, Images, Texts, Anything, IsImage, or_text, while_swapping, DiskCalled}
-use Rattle.ug_store.specs.Store.{SavedAs}
-use Rattle.ug_store.specs.History.{StoreStep, Saves_text, Reads_text, StoreSteps, IsDoneSaving, NoneDone, CameToDisk, MayStand, HoldsOnly, StandsAfter, StandsWithin, ReadsStanding, CoversEnds, StaysPossible}
-use Rattle.ug_store.proofs.Saving.{write_keeps, sync_keeps}
+use Rattle.ug_store.specs.Store.{DiskProg, Ended, AskDisk, DiskRoom, RunsDisk, SavedAs}
+use Rattle.ug_store.specs.History.{StoreStep, Saves_text, Reads_text, StoreSteps, IsDoneSaving, NoneDone, CameToDisk, MayStand, HoldsOnly, StandsAfter, StandsWithin, ReadsStanding, CoversEnds, LeavesInside, StaysPossible}
+use Rattle.ug_store.proofs.Saving.{disk_calls, write_keeps, sync_keeps}
 use Rattle.ug_store.specs.declared.disk.DiskAnswer.{DiskAnswer}
 use Rattle.ug_store.specs.declared.disk.DiskAnswer.TheVariants as answer
 use Rattle.ug_types.specs.declared.saved.Saved.{Saved}
@@ -148,3 +148,13 @@ stays_possible Load told m n h is = kept_possible m n h.effect.1.text h.effect.1
 stays_possible (Write_new text) told m n h is = let k = write_keeps told.answer text m n h.effect in kept_possible m n k.0 k.1 is
 stays_possible Sync_new told m n h is = let k = sync_keeps told.answer m n h.effect in kept_possible m n k.0 k.1 is
 stays_possible Swap told m n h is = swap_possible told.answer told.count m n h is
+
+-- so it is over any calls
+pub possible_runs : {R : Type 0} (p : DiskProg R) (m : Disk) (r : R) (n : Disk) → RunsDisk disk_calls m p r n → IsImage m.left m.text → IsImage n.left n.text
+possible_runs (Ended value) m r n h is = subst (λ (x : Disk). IsImage x.left x.text) (sym h.1) is
+possible_runs (AskDisk call next) m r n h is = possible_runs (next h.0) h.1 r n h.3 (stays_possible call h.0 m h.1 h.2 is)
+possible_runs (DiskRoom next) m r n h is = possible_runs (next h.0) m r n h.1 is
+
+-- what a call leaves it may leave within
+pub leaves_inside : LeavesInside
+leaves_inside call told m n h is = covers_ends call told m n h n.text (inr (stays_possible call told m n h is))

@@ -77,3 +77,13 @@ CoversEnds = (call : DiskCall) (told : DiskTold call) (m n : Disk) → DiskCalle
 abbrev pub StaysPossible : Type 0
 StaysPossible = (call : DiskCall) (told : DiskTold call) (m n : Disk) → DiskCalled call told m n
     → IsImage m.left m.text → IsImage n.left n.text
+
+-- the rule file that a call leaves, whether it was done or failed, is one that a stop within the call may leave
+abbrev pub LeavesInside : Type 0
+LeavesInside = (call : DiskCall) (told : DiskTold call) (m n : Disk) → DiskCalled call told m n
+    → IsImage m.left m.text → IsImage (inside call m) n.text
+
+-- The machine comes up again behind a stop: the rule file has one of these texts, and a further stop leaves no other.
+pub record ComesUp (images : Images) (n : Disk) : Type 0 where
+  pub stood : IsImage images n.text
+  pub left : n.left ≡ Texts (n.text ∷ [])

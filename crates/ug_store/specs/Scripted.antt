@@ -1,5 +1,5 @@
 -- A disk in memory with its script, and what the script fixes.
-use Rattle.std.specs.Prelude.{◌≡◌, ℕ, ◌+◌, ◌-◌, ◌^◌, nat_lt, Bool, true, false, cond, ◌⊎◌, nat_eq, nat_le, if◌then◌else◌, List, [], ◌∷◌, ◌++◌, length, Option, Some, None}
+use Rattle.std.specs.Prelude.{◌≡◌, ℕ, ◌+◌, ◌-◌, ◌^◌, nat_lt, Bool, true, false, cond, not, ◌&&◌, ◌||◌, ◌⊎◌, nat_eq, nat_le, if◌then◌else◌, List, [], ◌∷◌, ◌++◌, length, Option, Some, None}
 use Rattle.ug_store.specs.DiskCalls.{DiskCall, Load, Write_new, Sync_new, Swap, DiskReply, DiskTold, file_limit}
 use Rattle.ug_store.specs.Disk.{Disk, Texts, while_swapping, inside}
 use Rattle.ug_store.specs.Passed.{left_within, left_after}
@@ -16,6 +16,7 @@ use Rattle.ug_store.specs.declared.mem_disk.Passed.{Passed}
 pub record DiskWorld : Type 0 where
   pub disk : Disk
   pub planned : List Planned
+  pub stopped : Bool
   pub calls : ℕ
   pub faults : ℕ
   pub ran_out : Bool
@@ -25,16 +26,30 @@ abbrev pub disk_at_first : List ℕ → Disk
 disk_at_first text = record { text = text; fresh = []; synced = false; left = Texts (text ∷ []); past = [] }
 
 abbrev pub world_at_first : List ℕ → DiskWorld
-world_at_first text = record { disk = disk_at_first text; planned = []; calls = 0; faults = 0; ran_out = false }
+world_at_first text = record { disk = disk_at_first text; planned = []; stopped = false; calls = 0; faults = 0; ran_out = false }
 
 -- one more, up to the greatest number of 64 bits
 abbrev pub one_up : ℕ → ℕ
 one_up n = cond (nat_lt n (2 ^ 64 - 1)) (n + 1) n
 
--- how call n is to fail, if it is. The last word on it counts
-abbrev pub mishap_at : ℕ → Option Mishap → List Planned → Option Mishap
-mishap_at n so_far [] = so_far
-mishap_at n so_far (p ∷ ps) = mishap_at n (cond (nat_eq p.call n) (Some p.mishap) so_far) ps
+-- the word on call n, if there is one. The last counts
+abbrev pub word_at : ℕ → Option Planned → List Planned → Option Planned
+word_at n so_far [] = so_far
+word_at n so_far (p ∷ ps) = word_at n (cond (nat_eq p.call n) (Some p) so_far) ps
+
+-- A call in which the machine stops has its effect only where it swaps.
+abbrev pub mishap_of : Bool → Planned → Mishap
+mishap_of swaps p = cond (p.stops && not swaps) mishap.NoEffect p.mishap
+
+-- how a call fails, if it does: behind a stop each does, and has no effect
+abbrev pub fate_by : Bool → Bool → Option Planned → Option Mishap
+fate_by true swaps word = Some mishap.NoEffect
+fate_by false swaps None = None
+fate_by false swaps (Some p) = Some (mishap_of swaps p)
+
+abbrev pub stops_by : Option Planned → Bool
+stops_by None = false
+stops_by (Some p) = p.stops
 
 -- the call is done
 abbrev pub goes_well : Option Mishap → Bool
@@ -103,9 +118,16 @@ with_number Swap w = record w { calls = one_up w.calls }
 
 abbrev pub fate_at : DiskCall → DiskWorld → Option Mishap
 fate_at Load w = None
-fate_at (Write_new text) w = mishap_at w.calls None w.planned
-fate_at Sync_new w = mishap_at w.calls None w.planned
-fate_at Swap w = mishap_at w.calls None w.planned
+fate_at (Write_new text) w = fate_by w.stopped false (word_at w.calls None w.planned)
+fate_at Sync_new w = fate_by w.stopped false (word_at w.calls None w.planned)
+fate_at Swap w = fate_by w.stopped true (word_at w.calls None w.planned)
+
+-- the machine has stopped in this call, or before it
+abbrev pub stopped_at : DiskCall → DiskWorld → Bool
+stopped_at Load w = w.stopped
+stopped_at (Write_new text) w = w.stopped || stops_by (word_at w.calls None w.planned)
+stopped_at Sync_new w = w.stopped || stops_by (word_at w.calls None w.planned)
+stopped_at Swap w = w.stopped || stops_by (word_at w.calls None w.planned)
 
 abbrev pub reply_by : (call : DiskCall) → Option Mishap → Disk → DiskReply call
 reply_by Load fate m = loaded_of m.text
@@ -125,6 +147,7 @@ abbrev pub world_after : DiskCall → DiskWorld → DiskWorld
 world_after call w = record w {
   disk = disk_after call (fate_at call w) (past_within call w.disk);
   faults = faults_by (fate_at call w) w.faults;
+  stopped = stopped_at call w;
 }
 
 -- a disk that has run out fails
@@ -165,7 +188,15 @@ MemKeeps s call a t =
 
 -- an event begins: its calls are numbered from 1
 abbrev pub begun_on : DiskWorld → DiskWorld
-begun_on w = record w { calls = 0 }
+begun_on w = record w { calls = 0; stopped = false }
+
+-- no call is to fail, and none has stopped
+abbrev pub IsUnplanned : DiskWorld → Type 0
+IsUnplanned w = (w.planned ≡ []) × (w.stopped ≡ false)
+
+-- The machine comes up again: the rule file is as it was left, a further stop leaves no other, and the new file is gone.
+abbrev pub coming_up : DiskWorld → DiskWorld
+coming_up w = record w { disk = disk_at_first w.disk.text; stopped = false }
 
 -- an event is over: no call is to fail any more
 abbrev pub over_on : DiskWorld → DiskWorld

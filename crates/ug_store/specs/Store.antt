@@ -71,11 +71,13 @@ SavedAs saved.Done text m n = (n.text ≡ text) × (n.left ≡ Texts (text ∷ [
 SavedAs (saved.Failed count) text m n = ((n.text ≡ m.text) ⊎ (n.text ≡ text)) × IsOldOr m.left text n.left
 SavedAs saved.Memory text m n = IsAsItWas m n
 
--- within each call since, a crash leaves what it might have left before, or the text
+-- within each call since, a crash leaves what it might have left before, or the text; and what it might have left before, where memory was
+-- refused for the new file
 pub record HasSaved (text : List ℕ) (m : Disk) (r : Saved) (n : Disk) : Type 0 where
   pub since : List Images
   pub past : n.past ≡ m.past ++ since
   pub each : (images : Images) → Has since images → IsOldOr m.left text images
+  pub wanting : r ≡ saved.Memory → (images : Images) → Has since images → images ≡ m.left
   pub now : SavedAs r text m n
 
 -- where a disk is told at the end, one was told at the start

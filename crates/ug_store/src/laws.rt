@@ -2,9 +2,9 @@
 ghost use Rattle.std.specs.Prelude.{◌≡◌, ℕ, ◌++◌, ◌∷◌, [], true, None, Some, List};
 ghost use Rattle.ug_store.specs.declared.mishap.Planned.{Planned};
 ghost use Rattle.ug_store.specs.DiskCalls.{DiskCall, DiskTold};
-ghost use Rattle.ug_store.specs.Scripted.{DiskWorld, MemKeeps, mishap_at};
+ghost use Rattle.ug_store.specs.Scripted.{DiskWorld, MemKeeps, word_at};
 ghost use Rattle.ug_store.specs.PlayDisk.{SavesAsPlayed, ReadsAsPlayed};
-ghost use Rattle.ug_store.specs.History.{StandsAfter, StandsWithin, ReadsStanding, CoversEnds, StaysPossible};
+ghost use Rattle.ug_store.specs.History.{StandsAfter, StandsWithin, ReadsStanding, CoversEnds, LeavesInside, StaysPossible};
 
 /// From a rule file that a crash leaves as it is: whatever was saved and read since, and whatever the disk answered,
 /// a crash at any moment leaves the text of the last save that was done (the first text, where none was), or of one
@@ -20,14 +20,15 @@ pub fn history_law()
 pub fn moment_law()
     ensures ends { CoversEnds }
     ensures stays { StaysPossible }
+    ensures inside { LeavesInside }
 {}
 
 /// A call of a disk in memory fails where it is planned to. The last word on it counts.
 pub fn mishap_law()
-    ensures none { (n : ℕ) → mishap_at n None [] ≡ None }
-    ensures last { (n : ℕ) (ps : List Planned) (p : Planned) → p.call ≡ n → mishap_at n None (ps ++ p ∷ []) ≡ Some p.mishap }
+    ensures none { (n : ℕ) → word_at n None [] ≡ None }
+    ensures last { (n : ℕ) (ps : List Planned) (p : Planned) → p.call ≡ n → word_at n None (ps ++ p ∷ []) ≡ Some p }
     ensures other { (n : ℕ) (ps : List Planned) (p : Planned) → ¬ (p.call ≡ n)
-        → mishap_at n None (ps ++ p ∷ []) ≡ mishap_at n None ps }
+        → word_at n None (ps ++ p ∷ []) ≡ word_at n None ps }
 {}
 
 /// Over a disk in memory, a save and a reading are those that its script fixes, unless they tell want of memory or the

@@ -1,8 +1,8 @@
 // A disk in memory, which goes by a script.
-ghost use Rattle.std.specs.Prelude.{◌≡◌, ◌⊎◌, ◌++◌, ◌∷◌, [], true, false, None, IsOk, IfOk, OnOk, OnErr};
+ghost use Rattle.std.specs.Prelude.{◌≡◌, ◌⊎◌, ◌||◌, ◌++◌, ◌∷◌, [], true, false, None, IsOk, IfOk, OnOk, OnErr};
 ghost use Rattle.ug_store.specs.MemLaw.{mem_did, mem_counted};
 ghost use Rattle.ug_store.specs.Passed.{any_settles};
-ghost use Rattle.ug_store.specs.Scripted.{forgetting, world_at_first, mishap_at, takes_effect, goes_well, answer_of_fate, faults_by, written_if, traded_if, loaded_of, one_up, begun_on, over_on, disk_told, MemKeeps, IsNoted};
+ghost use Rattle.ug_store.specs.Scripted.{coming_up, fate_by, stops_by, forgetting, world_at_first, word_at, takes_effect, goes_well, answer_of_fate, faults_by, written_if, traded_if, loaded_of, one_up, begun_on, over_on, disk_told, MemKeeps, IsNoted};
 
 use crate::disk::{DiskAnswer, Loaded, RuleDisk};
 use crate::mishap::{Mishap, Planned};
@@ -40,6 +40,7 @@ pub struct MemDisk {
     fresh: Text,
     synced: bool,
     planned: Vec<Planned>,
+    stopped: bool,
     calls: u64,
     faults: u64,
     ran_out: bool,
@@ -62,6 +63,7 @@ impl Model for MemDisk {
         past = left_so_far (left_now (Texts (s.first ∷ [])) s.earlier.items) s.passed.items;
       };
       planned = s.planned.items;
+      stopped = s.stopped;
       calls = s.calls;
       faults = s.faults;
       ran_out = s.ran_out;
@@ -98,6 +100,7 @@ impl MemDisk {
             fresh: Text::new(alloc),
             synced: false,
             planned: Vec::new(alloc),
+            stopped: false,
             calls: 0,
             faults: 0,
             ran_out: false,
@@ -109,16 +112,51 @@ impl MemDisk {
         ensures { self.new ≡ begun_on self.old }
     {
         self.calls = 0;
+        self.stopped = false;
     }
 
     /// A call of the event that is to fail. The last word on a call counts.
+    pub fn plan(&mut self, planned: Planned) -> Result<(), NoMemory>
+        ensures ok { OnOk result (self.new ≡ record self.old { planned = self.old.planned ++ planned ∷ [] }) }
+        ensures err { OnErr result (self.new ≡ self.old) }
+    {
+        self.planned.push(planned)?;
+        Ok(())
+    }
+
+    /// The same for a call that fails alone.
     pub fn fail(&mut self, call: u64, mishap: Mishap) -> Result<(), NoMemory>
         ensures ok { OnOk result (self.new ≡ record self.old {
-          planned = self.old.planned ++ record { call = call; mishap = mishap } ∷ [];
+          planned = self.old.planned ++ record { call = call; mishap = mishap; stops = false } ∷ [];
         }) }
         ensures err { OnErr result (self.new ≡ self.old) }
     {
-        self.planned.push(Planned { call, mishap })?;
+        self.plan(Planned {
+            call,
+            mishap,
+            stops: false,
+        })
+    }
+
+    /// Whether the machine has stopped in a call of the event.
+    pub fn stopped(&self) -> bool
+        ensures { result ≡ self.now.stopped }
+    {
+        self.stopped
+    }
+
+    /// The machine comes up again behind a stop.
+    pub fn come_up(&mut self) -> Result<(), NoMemory>
+        ensures ok { OnOk result (self.new ≡ coming_up self.old) }
+        ensures err { OnErr result (self.new ≡ self.old) }
+    {
+        let first = Text::of(self.alloc, self.text.bytes())?;
+        self.first = first;
+        self.earlier.clear();
+        self.passed.clear();
+        self.fresh = Text::new(self.alloc);
+        self.synced = false;
+        self.stopped = false;
         Ok(())
     }
 
@@ -192,10 +230,17 @@ impl MemDisk {
     }
 
     // How the call is to fail, if it is.
-    fn fate(&self) -> Option<Mishap>
-        ensures { result ≡ mishap_at self.now.calls None self.now.planned }
+    fn fate(&self, swaps: bool) -> Option<Mishap>
+        ensures { result ≡ fate_by self.now.stopped swaps (word_at self.now.calls None self.now.planned) }
     {
-        mishap_at(&self.planned, self.calls)
+        fate_by(self.stopped, swaps, word_at(&self.planned, self.calls))
+    }
+
+    // The machine may stop in this call.
+    fn stop_here(&mut self)
+        ensures { self.new ≡ record self.old { stopped = self.old.stopped || stops_by (word_at self.old.calls None self.old.planned) } }
+    {
+        self.stopped = self.stopped || stops_by(word_at(&self.planned, self.calls));
     }
 
     fn answer(&mut self, fate: Option<Mishap>) -> DiskAnswer
@@ -244,17 +289,39 @@ fn any_settles(passed: &[Passed]) -> bool
     false
 }
 
-// How a call is to fail, if it is.
-fn mishap_at(planned: &[Planned], call: u64) -> Option<Mishap>
-    ensures { result ≡ mishap_at call None planned.now }
+// The word on a call, if there is one.
+fn word_at(planned: &[Planned], call: u64) -> Option<Planned>
+    ensures { result ≡ word_at call None planned.now }
 {
     let mut found = None;
     for plan in planned {
         if plan.call == call {
-            found = Some(plan.mishap);
+            found = Some(*plan);
         }
     }
     found
+}
+
+fn fate_by(stopped: bool, swaps: bool, word: Option<Planned>) -> Option<Mishap>
+    ensures { result ≡ fate_by stopped swaps word }
+{
+    if stopped {
+        return Some(Mishap::NoEffect);
+    }
+    match word {
+        None => None,
+        Some(planned) if planned.stops && !swaps => Some(Mishap::NoEffect),
+        Some(planned) => Some(planned.mishap),
+    }
+}
+
+fn stops_by(word: Option<Planned>) -> bool
+    ensures { result ≡ stops_by word }
+{
+    match word {
+        None => false,
+        Some(planned) => planned.stops,
+    }
 }
 
 fn takes_effect(fate: Option<Mishap>) -> bool
@@ -329,11 +396,12 @@ impl RuleDisk for MemDisk {
         if !self.enter(Passed::Quiet) {
             return DiskAnswer::Failed;
         }
-        let fate = self.fate();
+        let fate = self.fate(false);
         match Text::of(alloc, text) {
             Ok(copy) => self.put(fate, copy),
             Err(_) => return DiskAnswer::Memory,
         }
+        self.stop_here();
         self.answer(fate)
     }
 
@@ -342,14 +410,15 @@ impl RuleDisk for MemDisk {
         if !self.enter(Passed::Quiet) {
             return DiskAnswer::Failed;
         }
-        let fate = self.fate();
+        let fate = self.fate(false);
         self.synced = self.synced || takes_effect(fate);
+        self.stop_here();
         self.answer(fate)
     }
 
     fn swap(&mut self) -> DiskAnswer {
         self.calls = one_up(self.calls);
-        let fate = self.fate();
+        let fate = self.fate(true);
         match Text::of(self.alloc, self.fresh.bytes()) {
             Ok(copy) => {
                 let passed = Passed::Swap {
@@ -367,6 +436,7 @@ impl RuleDisk for MemDisk {
             }
         }
         self.trade(fate);
+        self.stop_here();
         self.answer(fate)
     }
 

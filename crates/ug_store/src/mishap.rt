@@ -9,9 +9,11 @@ pub enum Mishap {
     Effect,
 }
 
-/// A call that is to fail.
+/// A call that is to fail. Where the machine stops in it, its effect comes only if it is a swap, and all later calls of the event fail and
+/// do nothing.
 #[derive(Clone, Copy)]
 pub struct Planned {
     pub call: u64,
     pub mishap: Mishap,
+    pub stops: bool,
 }

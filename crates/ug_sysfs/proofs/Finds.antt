@@ -5,6 +5,8 @@ use Rattle.std.proofs.lemmas.Option.{none-some, same_Some}
 use Rattle.std.specs.List.{slice_get}
 use Rattle.std.specs.Cmp.Lexicographic.{pointwise}
 use Rattle.ug_kernel.specs.declared.device.Device.{Device}
+use Rattle.ug_types.specs.declared.control.Write.{Write}
+use Rattle.ug_kernel.specs.Called.{written_to}
 use Rattle.ug_kernel.specs.Kernel.{Live}
 use Rattle.ug_kernel.proofs.Places.{at_push}
 use Rattle.ug_sysfs.specs.Devices.{IsDistinct, is_named, find}
@@ -78,10 +80,10 @@ pub find_gone : (q : List ℕ) (ds : List Device) (i : ℕ) (d : Device) → IsD
 find_gone q ds i d h a g = find_fell q 0 ds i d h a g ∙ ap (λ (b : Bool). cond b None (find q 0 ds)) (test_of q d g)
 
 -- a device's value changes
-pub find_switched : (q : List ℕ) (n : ℕ) (ds : List Device) (i : ℕ) (d : Device) (on : Bool) → slice_get ds i ≡ Some d → find q n (set ds i (record d { on = on })) ≡ find q n ds
-find_switched q n [] i d on h = absurd (none-some d h)
-find_switched q n (e ∷ ds) zero d on h = ap (λ (x : Device). cond (is_named q x) (Some n) (find q (n + 1) ds)) (sym (same_Some e d h))
-find_switched q n (e ∷ ds) (suc i) d on h = ap (λ (o : Option ℕ). cond (is_named q e) (Some n) o) (find_switched q (n + 1) ds i d on h)
+pub find_switched : (q : List ℕ) (n : ℕ) (ds : List Device) (i : ℕ) (d : Device) (write : Write) → slice_get ds i ≡ Some d → find q n (set ds i (written_to write d)) ≡ find q n ds
+find_switched q n [] i d write h = absurd (none-some d h)
+find_switched q n (e ∷ ds) zero d write h = ap (λ (x : Device). cond (is_named q x) (Some n) (find q (n + 1) ds)) (sym (same_Some e d h))
+find_switched q n (e ∷ ds) (suc i) d write h = ap (λ (o : Option ℕ). cond (is_named q e) (Some n) o) (find_switched q (n + 1) ds i d write h)
 
 pub distinct_push : (ds : List Device) (x : Device) → IsDistinct ds → find x.name 0 ds ≡ None → IsDistinct (ds ++ x ∷ [])
 distinct_push ds x s fresh i j d e a b n = elim (at_push ds x i d a.at) [
@@ -115,8 +117,8 @@ distinct_gone ds i d s = distinct_back ds (set ds i (record d { gone = true })) 
   | inr p ↦ (e, record { at = p; here = a.here }, refl)
 ])
 
-pub distinct_switched : (ds : List Device) (i : ℕ) (d : Device) (on : Bool) → slice_get ds i ≡ Some d → IsDistinct ds → IsDistinct (set ds i (record d { on = on }))
-distinct_switched ds i d on at s = distinct_back ds (set ds i (record d { on = on })) s (λ j e a. elim (at_set ds i (record d { on = on }) j e a.at) [
+pub distinct_switched : (ds : List Device) (i : ℕ) (d : Device) (write : Write) → slice_get ds i ≡ Some d → IsDistinct ds → IsDistinct (set ds i (written_to write d))
+distinct_switched ds i d write at s = distinct_back ds (set ds i (written_to write d)) s (λ j e a. elim (at_set ds i (written_to write d) j e a.at) [
   | inl p ↦ (d, record { at = ap (slice_get ds) p.0 ∙ at; here = ap (λ (y : Device). y.gone) p.1 ∙ a.here }, ap (λ (y : Device). y.name) p.1)
   | inr p ↦ (e, record { at = p; here = a.here }, refl)
 ])

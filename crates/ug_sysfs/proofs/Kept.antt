@@ -8,7 +8,7 @@ use Rattle.std.specs.HashMap.{get, spare}
 use Rattle.ug_kernel.specs.declared.device.Device.{Device}
 use Rattle.ug_types.specs.declared.control.Write.{Write}
 use Rattle.ug_kernel.specs.Kernel.{live_count}
-use Rattle.ug_kernel.specs.Called.{value_after}
+use Rattle.ug_kernel.specs.Called.{written_to}
 use Rattle.ug_kernel.proofs.Sounds.{live_count_set}
 use Rattle.ug_sysfs.specs.declared.roster.Roster.TheInside.{Inside}
 use Rattle.ug_sysfs.specs.Devices.{IsDistinct, find, with_gone, gone_in}
@@ -32,11 +32,11 @@ indexed_gone r s i d h at g updates items room capacity left = record {
   entries = omega (arith, h.entries);
 }
 
-pub indexed_switched : (r s : Inside) (i : ℕ) (d : Device) (on : Bool) → IsIndexed r → slice_get r.all.items i ≡ Some d → s.index ≡ r.index → s.all.items ≡ set r.all.items i (record d { on = on }) → s.room ≡ r.room → vec_capacity s.all ≡ vec_capacity r.all → IsIndexed s
-indexed_switched r s i d on h at index items room capacity = record {
-  index = λ q. ap (λ m. get (pointwise nat_eq) m q) index ∙ h.index q ∙ sym (find_switched q 0 r.all.items i d on at) ∙ ap (find q 0) (sym items);
-  distinct = subst IsDistinct (sym items) (distinct_switched r.all.items i d on at h.distinct);
-  places = omega (arith, h.places, ap length items, length-set r.all.items i (record d { on = on }));
+pub indexed_switched : (r s : Inside) (i : ℕ) (d : Device) (write : Write) → IsIndexed r → slice_get r.all.items i ≡ Some d → s.index ≡ r.index → s.all.items ≡ set r.all.items i (written_to write d) → s.room ≡ r.room → vec_capacity s.all ≡ vec_capacity r.all → IsIndexed s
+indexed_switched r s i d write h at index items room capacity = record {
+  index = λ q. ap (λ m. get (pointwise nat_eq) m q) index ∙ h.index q ∙ sym (find_switched q 0 r.all.items i d write at) ∙ ap (find q 0) (sym items);
+  distinct = subst IsDistinct (sym items) (distinct_switched r.all.items i d write at h.distinct);
+  places = omega (arith, h.places, ap length items, length-set r.all.items i (written_to write d));
   entries = omega (arith, h.entries, ap spare index);
 }
 
@@ -49,8 +49,8 @@ was_gone ds i d at g =
     let same : get_or ds i d ≡ record d { gone = true } = same_Some (get_or ds i d) d (sym (slice_get-get_or ds i d lt) ∙ at) ∙ (λ j. record d { gone = g j }) in
     sym (set-get_or ds i d) ∙ ap (set ds i) same ∙ gone_at ds i d at
 
-pub switched_at : (write : Write) (i : ℕ) (ds : List Device) (d : Device) (on : Bool) → slice_get ds i ≡ Some d → on ≡ value_after write d.on → set ds i (record d { on = on }) ≡ switched write i ds
-switched_at write i ds d on at e = ap (λ (b : Bool). set ds i (record d { on = b })) e ∙ ap (λ o. switched_to write i o ds) (sym at)
+pub switched_at : (write : Write) (i : ℕ) (ds : List Device) (d : Device) → slice_get ds i ≡ Some d → set ds i (written_to write d) ≡ switched write i ds
+switched_at write i ds d at = ap (λ o. switched_to write i o ds) (sym at)
 
 -- a write leaves as many live
 pub count_switched : (write : Write) (i : ℕ) (ds : List Device) → live_count (switched write i ds) ≡ live_count ds
@@ -58,4 +58,4 @@ count_switched write i ds = at (slice_get ds i) refl
   where
     at : (o : Option Device) → slice_get ds i ≡ o → live_count (switched_to write i o ds) ≡ live_count ds
     at None h = refl
-    at (Some d) h = live_count_set (value_after write d.on) ds i d h
+    at (Some d) h = live_count_set write ds i d h

@@ -9,7 +9,7 @@ use Rattle.std.proofs.lemmas.Option.{none-some, same_Some, slice_get_within, sli
 use Rattle.ug_kernel.specs.declared.device.Device.{Device}
 use Rattle.ug_types.specs.declared.control.Write.{Write}
 use Rattle.ug_kernel.specs.Kernel.{live_count}
-use Rattle.ug_kernel.specs.Called.{value_after}
+use Rattle.ug_kernel.specs.Called.{written_to}
 use Rattle.ug_sysfs.specs.Devices.{fall, gone_in, with_gone, falls_at, stepped}
 use Rattle.ug_sysfs.specs.World.{live_names, switched_to, switched}
 use Rattle.ug_sysfs.specs.Living.{live_places, is_live, is_live_at, name_of, name_at, with_name, names_at, stepped_from, fall_each}
@@ -39,17 +39,17 @@ places_push n (e ∷ ds) d g = pick e.gone (places_push (n + 1) ds d g)
     pick false rest = ap (λ (ks : List ℕ). n ∷ ks) (rest ∙ ap (λ (k : ℕ). live_places (n + 1) ds ++ k ∷ []) more)
 
 -- a device's value changes
-places_value : (n : ℕ) (ds : List Device) (i : ℕ) (d : Device) (on : Bool) → slice_get ds i ≡ Some d → live_places n (set ds i (record d { on = on })) ≡ live_places n ds
-places_value n [] i d on h = absurd (none-some d h)
-places_value n (e ∷ ds) zero d on h = ap (λ (x : Device). cond x.gone (live_places (n + 1) ds) (n ∷ live_places (n + 1) ds)) (sym (same_Some e d h))
-places_value n (e ∷ ds) (suc i) d on h = ap (λ (ks : List ℕ). cond e.gone ks (n ∷ ks)) (places_value (n + 1) ds i d on h)
+places_value : (n : ℕ) (ds : List Device) (i : ℕ) (d : Device) (write : Write) → slice_get ds i ≡ Some d → live_places n (set ds i (written_to write d)) ≡ live_places n ds
+places_value n [] i d write h = absurd (none-some d h)
+places_value n (e ∷ ds) zero d write h = ap (λ (x : Device). cond x.gone (live_places (n + 1) ds) (n ∷ live_places (n + 1) ds)) (sym (same_Some e d h))
+places_value n (e ∷ ds) (suc i) d write h = ap (λ (ks : List ℕ). cond e.gone ks (n ∷ ks)) (places_value (n + 1) ds i d write h)
 
 pub places_switched : (write : Write) (i : ℕ) (ds : List Device) → live_places 0 (switched write i ds) ≡ live_places 0 ds
 places_switched write i ds = at (slice_get ds i) refl
   where
     at : (o : Option Device) → slice_get ds i ≡ o → live_places 0 (switched_to write i o ds) ≡ live_places 0 ds
     at None h = refl
-    at (Some d) h = places_value 0 ds i d (value_after write d.on) h
+    at (Some d) h = places_value 0 ds i d write h
 
 -- the names at the live places are the live names
 names_placed : (n : ℕ) (fs ds : List Device) → ((k : ℕ) → slice_get fs (n + k) ≡ slice_get ds k) → names_at (live_places n ds) fs ≡ live_names ds

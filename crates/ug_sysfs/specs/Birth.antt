@@ -19,11 +19,11 @@ pub record CanBeBorn (d : NewDevice) (ds : List Device) : Type 0 where
   pub free : (i : ℕ) (e : Device) → Live ds i e → e.name ≡ d.name → ⊥
   pub parent : (o : Option ℕ) × IsParent o d.name ds
 
--- it is the newest device, is live, and has its parent's identity
+-- it is the newest device, is live, and has its parent's identity; it starts as its controller's default says
 pub record IsBorn (d : NewDevice) (ds es : List Device) : Type 0 where
   pub parent : Option ℕ
   pub who : IsParent parent d.name ds
-  pub newest : es ≡ ds ++ born_as d parent ∷ []
+  pub newest : es ≡ ds ++ born_as d parent ds ∷ []
 
 some_parent : (name : List ℕ) (ds : List Device) (p : List ℕ) → parent_of name ≡ Some p → (o : Option ℕ) → IsParent o name ds → (i : ℕ) × (e : Device) × Live ds i e × (e.name ≡ p)
 some_parent name ds p h None is = absurd (none-some p (sym is ∙ h))

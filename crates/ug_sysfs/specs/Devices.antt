@@ -4,7 +4,7 @@ use Rattle.std.specs.List.{slice_get}
 use Rattle.std.specs.Cmp.Lexicographic.{pointwise}
 use Rattle.ug_types.specs.Names.{parent_of}
 use Rattle.ug_kernel.specs.declared.device.Device.{Device}
-use Rattle.ug_kernel.specs.Kernel.{Live, live_count}
+use Rattle.ug_kernel.specs.Kernel.{Live, live_count, hub_of, is_off, default_in}
 use Rattle.ug_sysfs.specs.declared.script.NewDevice.{NewDevice}
 use Rattle.ug_sysfs.specs.declared.parent.Parent.{Parent}
 use Rattle.ug_sysfs.specs.declared.parent.Parent.TheVariants as parent
@@ -69,21 +69,47 @@ unplug_at (Some i) ds = fall i (take i ds) (drop i ds)
 abbrev pub unplugged : List ℕ → List Device → List Device
 unplugged name ds = unplug_at (find name 0 ds) ds
 
--- a new device under that parent, live
-abbrev pub born_as : NewDevice → Option ℕ → Device
-born_as d parent = record {
+-- the controller of what is born under that parent
+
+abbrev pub hub_under : ℕ → Option Device → ℕ
+hub_under p None = p
+hub_under p (Some e) = hub_of p e.controller
+
+abbrev pub controller_under : Option ℕ → List Device → Option ℕ
+controller_under None ds = None
+controller_under (Some p) ds = Some (hub_under p (slice_get ds p))
+
+-- and the default of that controller
+abbrev pub default_of : Option ℕ → List Device → Option Bool
+default_of None ds = None
+default_of (Some r) ds = default_in (slice_get ds r)
+
+-- a default that is set is the value that a device starts with
+abbrev pub starts_on : Option Bool → Bool → Bool
+starts_on None on = on
+starts_on (Some v) on = v
+
+-- a new device under that parent, live, with that controller, whose default is this
+abbrev pub born_with : NewDevice → Option ℕ → Option ℕ → Option Bool → Device
+born_with d parent controller default = record {
   name = d.name;
   parent = parent;
+  controller = controller;
   descriptors = d.descriptors;
   product = d.product;
   serial = d.serial;
   connect = d.connect;
   gone = false;
-  on = d.on;
+  on = starts_on default d.on;
+  default = None;
+  guarded = is_off default;
 }
 
+abbrev pub born_as : NewDevice → Option ℕ → List Device → Device
+born_as d parent ds = born_with d parent (controller_under parent ds) (default_of (controller_under parent ds) ds)
+
 abbrev pub born : NewDevice → Option ℕ → List Device → List Device
-born d parent ds = ds ++ born_as d parent ∷ []
+born d parent ds = ds ++ born_as d parent ds ∷ []
 
 abbrev pub born_under : NewDevice → Option ℕ → List Device → List Device
 born_under d None ds = ds

@@ -14,14 +14,14 @@ use Rattle.ug_kernel.specs.declared.calls.ReadOut.{ReadOut}
 use Rattle.ug_kernel.specs.declared.calls.ReadOut.TheVariants as out
 use Rattle.ug_kernel.specs.Calls.{Call, Names, Open, Read, Ask_alive, Put, Close, Closing, Answer, raised}
 use Rattle.ug_kernel.specs.Kernel.{Kernel, Live, IsKernel, Stays, Moves}
-use Rattle.ug_kernel.specs.Called.{NoneLived, read_of, within, text_within, value_after, IsWritten, Does, IsGoneAt, IsAlive, IsFile, says_read, Says, Called, Follows}
+use Rattle.ug_kernel.specs.Called.{NoneLived, read_of, within, text_within, written_to, IsWritten, Does, IsGoneAt, IsAlive, IsFile, says_read, Says, Called, Follows}
 use Rattle.ug_kernel.proofs.Places.{at_set_same, at_set_other}
 use Rattle.ug_kernel.proofs.Stayed.{live_back, lived_at, unmoving}
 use Rattle.ug_kernel.proofs.Sounds.{sound_set, held_push, kernel_moves}
 use Rattle.ug_sysfs.specs.Devices.{find}
 use Rattle.ug_sysfs.specs.Reply.{Reply, failure, IsMemory}
 use Rattle.ug_sysfs.specs.World.{World, opened_at, read_from, read_at, live_held, live_names, probed_at, put_at, act, hidden, effect, shift, entered, ended, fate_of, counted, with_kernel, told_as, answer_from, answer_unless, Wants, Gives, begun, told}
-use Rattle.ug_sysfs.specs.Begins.{begins_happen}
+use Rattle.ug_sysfs.specs.Begins.{happen_moves}
 use Rattle.ug_sysfs.specs.Find.{find_some, find_none, listed_live, distinct_names, HeldLive, live_held_some, live_held_none}
 use Rattle.ug_sysfs.specs.Sound.{sound_happen}
 
@@ -119,16 +119,16 @@ is_written h write i k f = rw f.live.at (record {
   holds = record { file = f.file; at = f.at; is = f.is; device = f.live.at };
   live = f.live;
   log = refl;
-  now = at_set_same k.devices i f.device (record f.device { on = value_after write f.device.on }) f.live.at;
-  others = λ j n. at_set_other k.devices i j (record f.device { on = value_after write f.device.on }) n;
-  number = length-set k.devices i (record f.device { on = value_after write f.device.on });
+  now = at_set_same k.devices i f.device (written_to write f.device) f.live.at;
+  others = λ j n. at_set_other k.devices i j (written_to write f.device) n;
+  number = length-set k.devices i (written_to write f.device);
   files = refl;
 })
 
 written_sound : (write : Write) (i : ℕ) (d : Device) (k : Kernel) → Live k.devices i d → IsKernel k → IsKernel (put_at write (Some i) k).1
 written_sound write i d k l s = rw l.at (record {
-  devices = sound_set (value_after write d.on) k.devices i d l.at s.devices;
-  held = λ h f a. omega (arith, s.held h f a, length-set k.devices i (record d { on = value_after write d.on }));
+  devices = sound_set write k.devices i d l.at s.devices;
+  held = λ h f a. omega (arith, s.held h f a, length-set k.devices i (written_to write d));
 })
 
 ready_put : (h : ℕ) (write : Write) (w : World) (k : Kernel) (o : Option ℕ) → live_held h k.held k.devices ≡ o → Ready (Put h write) (told_as (Put h write) (put_at write o k).0 w) k (put_at write o k).1
@@ -199,7 +199,7 @@ ready (Some false) c w k = ready_still c w k
 
 -- moves of a script are moves
 shifts : (n : ℕ) (after : Bool) (w : World) → Moves w.kernel (shift n after w).kernel
-shifts n after w = record { devices = begins_happen n after w.moves w.kernel.devices; held = refl; log = refl }
+shifts n after w = happen_moves n after w.moves w.kernel
 
 shifts_sound : (n : ℕ) (after : Bool) (w : World) → IsKernel w.kernel → IsKernel (shift n after w).kernel
 shifts_sound n after w s = kernel_moves w.kernel (shift n after w).kernel s (shifts n after w) (sound_happen n after w.moves w.kernel.devices s.devices)

@@ -14,9 +14,9 @@ use Rattle.ug_sysfs.specs.declared.script.NewDevice.{NewDevice}
 use Rattle.ug_sysfs.specs.declared.script.Move.{Move}
 use Rattle.ug_sysfs.specs.declared.script.Move.TheVariants.{Plug, Unplug}
 use Rattle.ug_sysfs.specs.declared.script.Scheduled.{Scheduled}
-use Rattle.ug_sysfs.specs.Devices.{find, born_as, gone_of, felled, falls, fall, unplug_at, unplugged, born_under, placed, plug_at, plugged}
+use Rattle.ug_sysfs.specs.Devices.{hub_under, find, born_as, gone_of, felled, falls, fall, unplug_at, unplugged, born_under, placed, plug_at, plugged}
 use Rattle.ug_sysfs.specs.World.{moved, due, happen, happen_all}
-use Rattle.ug_sysfs.specs.Begins.{begins_unplug, plugged_moves, unplugged_moves, moved_moves, happened_moves}
+use Rattle.ug_sysfs.specs.Begins.{length_fall, begins_unplug, plugged_moves, unplugged_moves, moved_moves, happened_moves}
 use Rattle.ug_sysfs.specs.Find.{find_some, find_none}
 
 kept_push : (target : ℕ) (bs : List Device) (d : Device) → Kept bs → Kept (bs ++ felled target bs d ∷ [])
@@ -44,10 +44,6 @@ pub kept_fall : (target : ℕ) (bs ds : List Device) → Kept bs → Kept (fall 
 kept_fall target bs [] k = k
 kept_fall target bs (d ∷ ds) k = kept_fall target (bs ++ felled target bs d ∷ []) ds (kept_push target bs d k)
 
-length_fall : (target : ℕ) (bs ds : List Device) → length (fall target bs ds) ≡ length bs + length ds
-length_fall target bs [] = omega arith
-length_fall target bs (d ∷ ds) = omega (arith, length_fall target (bs ++ felled target bs d ∷ []) ds, length-append bs (felled target bs d ∷ []))
-
 pub length_felled : (target : ℕ) (ds : List Device) → length (fall target (take target ds) (drop target ds)) ≡ length ds
 length_felled target ds = omega (arith, length_fall target (take target ds) (drop target ds), ap length (take-append-drop target ds), length-append (take target ds) (drop target ds))
 
@@ -66,17 +62,21 @@ sound_unplug None ds s = s
 sound_unplug (Some i) ds s = sound_fewer ds (fall i (take i ds) (drop i ds)) s (begins_unplug (Some i) ds) (length_felled i ds) (kept_fall i (take i ds) (drop i ds) (kept_front ds i s))
 
 sound_placed : (d : NewDevice) (o : Option (List ℕ)) (ds : List Device) → parent_of d.name ≡ o → live_count ds < 65536 → IsSound ds → ((i : ℕ) (e : Device) → Live ds i e → e.name ≡ d.name → ⊥) → IsSound (placed d o ds)
-sound_placed d None ds up few s free = sound_push ds (born_as d None) s (record { free = free; under = λ p h. absurd (none-some p h); root = λ h. up; few = few })
+sound_placed d None ds up few s free = sound_push ds (born_as d None ds) s (record { free = free; under = λ p h. absurd (none-some p h); root = λ h. up; hub = λ h. refl; controller = λ p e h. absurd (none-some p h); few = few })
 sound_placed d (Some name) ds up few s free = below (find name 0 ds) refl
   where
     below : (o : Option ℕ) → find name 0 ds ≡ o → IsSound (born_under d o ds)
     below None h = s
     below (Some i) h =
         let f = find_some name i ds h in
-        sound_push ds (born_as d (Some i)) s (record {
+        sound_push ds (born_as d (Some i) ds) s (record {
           free = free;
           under = λ p e. (f.device, subst (λ (j : ℕ). Live ds j f.device) (let q : i ≡ p = cc in q) f.live, up ∙ ap Some (sym f.named));
           root = λ h. absurd (none-some i (sym h));
+          hub = λ h. absurd (none-some i (sym h));
+          controller = λ p e h at.
+              let same : i ≡ p = cc in
+              ap (λ (j : ℕ). Some (hub_under j (slice_get ds j))) same ∙ ap (λ (o : Option Device). Some (hub_under p o)) at;
           few = few;
         })
 
@@ -128,6 +128,8 @@ new_sound = record {
     parents = λ i p d a h. absurd (none-some d a.at);
     named = λ i p d e a h b. absurd (none-some d a);
     roots = λ i d a h. absurd (none-some d a);
+    hubs = λ i d a h. absurd (none-some d a);
+    controllers = λ i p d e a h b. absurd (none-some d a);
     few = omega arith;
   };
   held = λ h f a. absurd (none-some f a);

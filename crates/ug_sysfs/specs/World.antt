@@ -17,7 +17,7 @@ use Rattle.ug_kernel.specs.declared.calls.Wrote.{Wrote}
 use Rattle.ug_kernel.specs.declared.calls.Wrote.TheVariants as wrote
 use Rattle.ug_kernel.specs.Calls.{Call, Names, Open, Read, Ask_alive, Put, Close, Closed, Answer, raised}
 use Rattle.ug_kernel.specs.Kernel.{Kernel}
-use Rattle.ug_kernel.specs.Called.{read_of, value_after}
+use Rattle.ug_kernel.specs.Called.{read_of, written_to}
 use Rattle.ug_sysfs.specs.declared.script.Failing.{Failing}
 use Rattle.ug_sysfs.specs.declared.script.Move.{Move}
 use Rattle.ug_sysfs.specs.declared.script.Move.TheVariants.{Plug, Unplug}
@@ -31,6 +31,7 @@ pub record World : Type 0 where
   pub kernel : Kernel
   pub moves : List Scheduled
   pub fails : List Failing
+  pub halted : Bool
   pub calls : ℕ
   pub faults : ℕ
   pub made : List CallRecord
@@ -114,7 +115,7 @@ probed_at (Some i) ds = alive_of (slice_get ds i)
 
 abbrev pub switched_to : Write → ℕ → Option Device → List Device → List Device
 switched_to write i None ds = ds
-switched_to write i (Some d) ds = set ds i (record d { on = value_after write d.on })
+switched_to write i (Some d) ds = set ds i (written_to write d)
 
 abbrev pub switched : Write → ℕ → List Device → List Device
 switched write i ds = switched_to write i (slice_get ds i) ds
@@ -163,8 +164,13 @@ noted made w = record (shift w.calls true w) { made = w.made ++ made }
 abbrev pub ended : (call : Call) → Reply call → World → World
 ended call reply w = noted (listed call reply) w
 
+-- a call of a kernel that is halted fails without effect
 abbrev pub fate_of : World → Option Bool
-fate_of w = fate w.calls None w.fails
+fate_of w = cond w.halted (Some false) (fate w.calls None w.fails)
+
+-- no call fails by itself
+abbrev pub IsUnfailing : World → Type 0
+IsUnfailing w = (w.fails ≡ []) × (w.halted ≡ false)
 
 abbrev pub faults_after : Option Bool → ℕ → ℕ
 faults_after None n = n
@@ -270,12 +276,17 @@ Gives s call a t = ((a ≡ (answer_of s call).0) × (t ≡ (answer_of s call).1)
 abbrev pub begun : World → World
 begun w = record w { calls = 0; made = [] }
 
+-- each call fails from now on, up to the event's end
+abbrev pub halting : World → World
+halting w = record w { halted = true }
+
 -- an event is over: what is still to come happens, and no call fails any more
 abbrev pub over : World → World
 over w = record w {
   kernel = record w.kernel { devices = happen_all w.moves w.kernel.devices };
   moves = [];
   fails = [];
+  halted = false;
 }
 
 abbrev pub told : World → Option Kernel

@@ -2,7 +2,9 @@
 ghost use Rattle.std.specs.Prelude.{◌≡◌, ◌+◌, ◌<◌, ◌≤◌};
 ghost use Rattle.ug_types.specs.Names.{parent_of};
 ghost use Rattle.ug_kernel.specs.Kernel.{live_count};
-ghost use Rattle.ug_sysfs.specs.Devices.{plugged, sought};
+ghost use Rattle.std.specs.List.{slice_get};
+ghost use Rattle.ug_kernel.specs.Kernel.{is_off};
+ghost use Rattle.ug_sysfs.specs.Devices.{plugged, sought, hub_under, controller_under, default_of, starts_on};
 
 use crate::census::Census;
 use crate::script::NewDevice;
@@ -34,6 +36,59 @@ pub fn find_parent(census: &Census, name: &NodeName) -> Parent
     }
 }
 
+// The root hub that leads to what is born under a parent.
+fn hub_under(devices: &[Device], parent: usize) -> usize
+    ensures { result ≡ hub_under parent (slice_get devices.now parent) }
+{
+    match devices.get(parent) {
+        Some(device) => match device.controller {
+            Some(controller) => controller,
+            None => parent,
+        },
+        None => parent,
+    }
+}
+
+fn controller_under(devices: &[Device], parent: Option<usize>) -> Option<usize>
+    ensures { result ≡ controller_under parent devices.now }
+{
+    match parent {
+        Some(parent) => Some(hub_under(devices, parent)),
+        None => None,
+    }
+}
+
+// The default of a controller.
+fn default_of(devices: &[Device], controller: Option<usize>) -> Option<bool>
+    ensures { result ≡ default_of controller devices.now }
+{
+    match controller {
+        Some(controller) => match devices.get(controller) {
+            Some(device) => device.default,
+            None => None,
+        },
+        None => None,
+    }
+}
+
+fn starts_on(default: Option<bool>, on: bool) -> bool
+    ensures { result ≡ starts_on default on }
+{
+    match default {
+        Some(value) => value,
+        None => on,
+    }
+}
+
+fn is_off(default: Option<bool>) -> bool
+    ensures { result ≡ is_off default }
+{
+    match default {
+        Some(value) => !value,
+        None => false,
+    }
+}
+
 /// A device is born, if it can be. There is room for it.
 #[tactic(auto, using(ug_kernel::proofs::Sounds::live_count_push))]
 pub fn plug(census: &mut Census, device: NewDevice)
@@ -54,14 +109,19 @@ pub fn plug(census: &mut Census, device: NewDevice)
         Parent::Live(i) => Some(i),
         Parent::Missing => return,
     };
+    let controller = controller_under(census.devices(), parent);
+    let default = default_of(census.devices(), controller);
     census.push(Device {
         name: device.name,
         parent,
+        controller,
         descriptors: device.descriptors,
         product: device.product,
         serial: device.serial,
         connect: device.connect,
         gone: false,
-        on: device.on,
+        on: starts_on(default, device.on),
+        default: None,
+        guarded: is_off(default),
     });
 }

@@ -1,6 +1,6 @@
 // The devices that were born, with an index of the live names, and room for some that are still to be born.
 ghost use Rattle.std.specs.Prelude.{◌≡◌, ◌+◌, ◌<◌, ◌++◌, ◌∷◌, [], length, true, false, None, OnOk, OnErr};
-ghost use Rattle.ug_kernel.specs.Called.{value_after};
+ghost use Rattle.ug_kernel.specs.Called.{value_after, default_after, written_to};
 ghost use Rattle.ug_sysfs.specs.Devices.{IsDistinct, find, with_gone, falls, falls_at, stepped};
 ghost use Rattle.ug_sysfs.specs.World.{switched};
 
@@ -126,8 +126,7 @@ impl Roster {
         ensures room { self.new.room ≡ self.old.room }
     {
         if i < self.all.len() {
-            let on = value_after(write, self.all[i].on);
-            self.all[i].on = on;
+            switch_device(&mut self.all[i], write);
         }
     }
 }
@@ -145,6 +144,14 @@ fn is_gone(devices: &[Device], parent: Option<usize>) -> bool
     }
 }
 
+// A device after a write.
+fn switch_device(device: &mut Device, write: Write)
+    ensures { device.new ≡ written_to write device.old }
+{
+    device.on = value_after(write, device.on);
+    device.default = default_after(write, device.default);
+}
+
 // The value after a write.
 fn value_after(write: Write, was: bool) -> bool
     ensures { result ≡ value_after write was }
@@ -153,5 +160,20 @@ fn value_after(write: Write, was: bool) -> bool
         Write::On => true,
         Write::Off => false,
         Write::Remove => was,
+        Write::DefaultOff => was,
+        Write::DefaultOn => was,
+    }
+}
+
+// The default after a write.
+fn default_after(write: Write, was: Option<bool>) -> Option<bool>
+    ensures { result ≡ default_after write was }
+{
+    match write {
+        Write::On => was,
+        Write::Off => was,
+        Write::Remove => was,
+        Write::DefaultOff => Some(false),
+        Write::DefaultOn => Some(true),
     }
 }

@@ -7,7 +7,7 @@ ghost use Rattle.ug_kernel.specs.Few.{HasFew, AreDistinct};
 ghost use Rattle.ug_sysfs.specs.Law.{does_what_it_may, begins_afresh};
 ghost use Rattle.ug_sysfs.specs.Queue.{with_move};
 ghost use Rattle.ug_sysfs.specs.Noted.{notes_itself, begins_empty};
-ghost use Rattle.ug_sysfs.specs.World.{moved, Gives, Effects, RunsOut, Puts, Ends, Enters, begun, over, fate_of, counted, told};
+ghost use Rattle.ug_sysfs.specs.World.{halting, moved, Gives, Effects, RunsOut, Puts, Ends, Enters, begun, over, fate_of, counted, told};
 
 use crate::census::Census;
 use crate::devices::{live_held, read_file};
@@ -35,6 +35,7 @@ pub struct SimKernel {
     log: Vec<Effect>,
     moves: VecDeque<Scheduled>,
     fails: Failures,
+    halted: bool,
     calls: u64,
     faults: u64,
     made: Vec<CallRecord>,
@@ -52,6 +53,7 @@ impl Model for SimKernel {
       kernel = record { devices = s.census.devices; held = s.held.items; log = s.log.items };
       moves = s.moves.items;
       fails = s.fails;
+      halted = s.halted;
       calls = s.calls;
       faults = s.faults;
       made = s.made.items;
@@ -69,6 +71,7 @@ impl SimKernel {
           kernel = record { devices = []; held = []; log = [] };
           moves = [];
           fails = [];
+          halted = false;
           calls = 0;
           faults = 0;
           made = [];
@@ -81,6 +84,7 @@ impl SimKernel {
             log: Vec::new(alloc),
             moves: VecDeque::new(alloc),
             fails: Failures::new(alloc),
+            halted: false,
             calls: 0,
             faults: 0,
             made: Vec::new(alloc),
@@ -157,6 +161,14 @@ impl SimKernel {
     {
         happen_all(&mut self.census, &mut self.moves);
         self.fails.clear();
+        self.halted = false;
+    }
+
+    /// From now on each call of the event fails, without effect. The moves at it happen, and it is counted.
+    pub fn halt(&mut self)
+        ensures { self.new ≡ halting self.old }
+    {
+        self.halted = true;
     }
 
     /// Whether an entry of the log or of the calls found no memory.
@@ -229,7 +241,11 @@ impl SimKernel {
         ensures fate { result ≡ fate_of self.old }
         ensures counted { self.new ≡ counted self.old }
     {
-        let fate = self.fails.fate(self.calls);
+        let fate = if self.halted {
+            Some(false)
+        } else {
+            self.fails.fate(self.calls)
+        };
         if fate.is_some() {
             self.faults = one_more(self.faults);
         }

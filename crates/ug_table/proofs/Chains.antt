@@ -1,6 +1,6 @@
 -- A sweep, flat: the listing, the closings of what isn't listed, and a chain of parts, one for each name, each with its shape.
 use Rattle.std.proofs.Common.{◌≡◌, ℕ, Bool, true, false, not, cond, map, List, [], ◌∷◌, refl, sym, ◌∙◌, ap, subst, ◌&&◌, ◌++◌, Option, Some, append_assoc, append-nil}
-use Rattle.ug_table.proofs.Common.{Held, Close, Call, Answer, Names, Kernel, IsKernel, Quiet, Ask, calls, Runs, Made, answered, Along, failures, failure_of, lists, numbered, farewells, AreClosings, unlisted_files, Standing, in_sweep_order, FailedCall, Listing, Entry, Fault, State, Kept, kept_of, with_kept, noted, Answers, Laters, Settled, Target, Cause, closing_unlisted, settling_all, resettling_all, parted, names_of, resumed, unlisted, marked_listed, if_room, after_list, sweeping, settling, resettling, Ways, Sure, ways_more, along_sound, Unwritten, along_quiet, Ran, ways_next, ways_last, behind_sure, ways_run, filter, again_numbered, resettling_numbered}
+use Rattle.ug_table.proofs.Common.{Terms, terms_of, terms_for, Write, Held, Close, Call, Answer, Names, Kernel, IsKernel, Quiet, Ask, calls, Runs, Made, answered, Along, failures, failure_of, lists, numbered, farewells, AreClosings, unlisted_files, Standing, in_sweep_order, FailedCall, Listing, Entry, Fault, State, Kept, kept_of, with_kept, noted, Answers, Laters, Settled, Target, Cause, closing_unlisted, settling_all, resettling_all, parted, names_of, resumed, unlisted, marked_listed, if_room, after_list, sweeping, settling, resettling, Ways, Sure, ways_more, along_sound, Unwritten, along_quiet, Ran, ways_next, ways_last, behind_sure, ways_run, filter, again_numbered, resettling_numbered}
 use Rattle.ug_table.proofs.Shapes.{Piece, Settles, settles, Resettles, resettles, told_at}
 
 -- The closing of the files of what isn't listed.
@@ -33,14 +33,14 @@ closings_quiet files ms k l sound c a =
     (along_sound ms k l sound a, along_quiet ms k l (closings_unwritten files ms c) a)
 
 -- one for each name, in this order
-pub data Chain {J : Type 0} (answer : Answers J) (later : Laters J) (binds present : Bool)
+pub data Chain {J : Type 0} (answer : Answers J) (later : Laters J) (binds : Bool) (terms : Terms)
     : List (List ℕ) → State J → Bool → List Made → List Entry → State J → Type 0 where
-  Over : (w : State J) → Chain answer later binds present [] w true [] [] w
+  Over : (w : State J) → Chain answer later binds terms [] w true [] [] w
   First : (name : List ℕ) (names : List (List ℕ)) (how : Settled) (w x v : State J) (ok more : Bool)
       (ms ns : List Made) (es : List Entry)
-      → (p : Piece answer later binds present name w ok ms how x)
-      → Chain answer later binds present names x more ns es v
-      → Chain answer later binds present (name ∷ names) w (ok && more) (ms ++ ns) (p.rest ++ es) v
+      → (p : Piece answer later binds terms name w ok ms how x)
+      → Chain answer later binds terms names x more ns es v
+      → Chain answer later binds terms (name ∷ names) w (ok && more) (ms ++ ns) (p.rest ++ es) v
 
 -- why names aren't bound: the listing failed, or memory was short for it, or for what is noted of it
 pub data Without : Listing → FailedCall → Bool → Fault → Type 0 where
@@ -55,7 +55,7 @@ pub data Goes {J : Type 0} (answer : Answers J) (later : Laters J) (w : State J)
   Listed : (found : List (List ℕ)) (failed : FailedCall) (ok : Bool) (shut made : List Made)
       (es : List Entry) (v : State J)
       → AreClosings (unlisted_files (in_sweep_order found) w.standings) shut
-      → Chain answer later true (not w.listed) (in_sweep_order found)
+      → Chain answer later true (terms_for w) (in_sweep_order found)
       (marked_listed (parted (in_sweep_order found) w)) ok made es v
       → Goes answer later w ok
       (answered Names (told_at (Listing.Names found) failed) ∷ (shut ++ made))
@@ -63,7 +63,7 @@ pub data Goes {J : Type 0} (answer : Answers J) (later : Laters J) (w : State J)
   Unlisted : (list : Listing) (failed : FailedCall) (room : Bool) (why : Fault) (ok : Bool)
       (made : List Made) (es : List Entry) (v : State J)
       → Without list failed room why
-      → Chain answer later false (not w.listed) (names_of w.standings)
+      → Chain answer later false (terms_for w) (names_of w.standings)
       (noted w (Entry.UnsettledAll why)) ok made es v
       → Goes answer later w (room && ok) (answered Names (told_at list failed) ∷ made)
       (Entry.UnsettledAll why ∷ es) v
@@ -72,51 +72,51 @@ pub data Goes {J : Type 0} (answer : Answers J) (later : Laters J) (w : State J)
 
 module _ {J : Type 0} (answer : Answers J) (later : Laters J) where
   -- whatever its entries
-  abbrev pub Linked : Bool → Bool → List (List ℕ) → State J → Bool → List Made → State J → Type 0
-  Linked binds present names w ok ms v =
-      (es : List Entry) × Chain answer later binds present names w ok ms es v
+  abbrev pub Linked : Bool → Terms → List (List ℕ) → State J → Bool → List Made → State J → Type 0
+  Linked binds terms names w ok ms v =
+      (es : List Entry) × Chain answer later binds terms names w ok ms es v
 
   abbrev pub Comes : State J → Bool → List Made → State J → Type 0
   Comes w ok ms v = (es : List Entry) × Goes answer later w ok ms es v
 
-  linked : (binds present : Bool) (name : List ℕ) (names : List (List ℕ)) (w x v : State J)
+  linked : (binds : Bool) (terms : Terms) (name : List ℕ) (names : List (List ℕ)) (w x v : State J)
       (ok more : Bool) (ms ns : List Made) (how : Settled)
-      → Piece answer later binds present name w ok ms how x → Linked binds present names x more ns v
-      → Linked binds present (name ∷ names) w (ok && more) (ms ++ ns) v
-  linked binds present name names w x v ok more ms ns how p c =
+      → Piece answer later binds terms name w ok ms how x → Linked binds terms names x more ns v
+      → Linked binds terms (name ∷ names) w (ok && more) (ms ++ ns) v
+  linked binds terms name names w x v ok more ms ns how p c =
       (p.rest ++ c.0, First name names how w x v ok more ms ns c.0 p c.1)
 
-  settling_chain : (names : List (List ℕ)) (present : Bool) (w : State J)
-      → Ways (settling_all answer later names present w) (Linked true present names w)
-  settling_chain [] present w = ([], Over w)
-  settling_chain (name ∷ names) present w =
-      let Q = Linked true present (name ∷ names) w in
-      ways_next (Settles answer later name present w) Q (settling answer later name present w)
-      (λ (p : Settled × State J). settling_all answer later names present p.1)
-      (settles answer later name present w)
-      (λ ok ms p a. ways_more (Linked true present names p.1)
+  settling_chain : (names : List (List ℕ)) (terms : Terms) (w : State J)
+      → Ways (settling_all answer later names terms w) (Linked true terms names w)
+  settling_chain [] terms w = ([], Over w)
+  settling_chain (name ∷ names) terms w =
+      let Q = Linked true terms (name ∷ names) w in
+      ways_next (Settles answer later name terms w) Q (settling answer later name terms w)
+      (λ (p : Settled × State J). settling_all answer later names terms p.1)
+      (settles answer later name terms w)
+      (λ ok ms p a. ways_more (Linked true terms names p.1)
       (λ more ns v. Q (ok && more) (ms ++ ns) v)
-      (settling_all answer later names present p.1)
-      (λ more ns v c. linked true present name names w p.1 v ok more ms ns p.0 a c)
-      (settling_chain names present p.1))
+      (settling_all answer later names terms p.1)
+      (λ more ns v c. linked true terms name names w p.1 v ok more ms ns p.0 a c)
+      (settling_chain names terms p.1))
 
-  resettling_chain : (names : List (List ℕ)) (present : Bool) (w : State J) (k : Kept)
-      → Ways (resettling_all names k)
-      (λ ok ms j. Linked false present names (with_kept w k) ok ms (with_kept w j))
-  resettling_chain [] present w k = ([], Over (with_kept w k))
-  resettling_chain (name ∷ names) present w k =
+  resettling_chain : (names : List (List ℕ)) (terms : Terms) (w : State J) (k : Kept)
+      → Ways (resettling_all terms.hub names k)
+      (λ ok ms j. Linked false terms names (with_kept w k) ok ms (with_kept w j))
+  resettling_chain [] terms w k = ([], Over (with_kept w k))
+  resettling_chain (name ∷ names) terms w k =
       let all : List (List ℕ) = name ∷ names in
       let u : State J = with_kept w k in
       let L : List (List ℕ) → State J → Bool → List Made → Kept → Type 0 =
-      λ ns x ok ms j. Linked false present ns x ok ms (with_kept w j) in
-      ways_next (Resettles answer later name present w k) (L all u) (resettling name k)
-      (λ (p : Settled × Kept). resettling_all names p.1) (resettles answer later name present w k)
+      λ ns x ok ms j. Linked false terms ns x ok ms (with_kept w j) in
+      ways_next (Resettles answer later name terms w k) (L all u) (resettling terms.hub name k)
+      (λ (p : Settled × Kept). resettling_all terms.hub names p.1) (resettles answer later name terms w k)
       (λ ok ms p a.
       let x : State J = with_kept w p.1 in
       ways_more (L names x) (λ more ns j. L all u (ok && more) (ms ++ ns) j)
-      (resettling_all names p.1)
-      (λ more ns j c. linked false present name names u x (with_kept w j) ok more ms ns p.0 a c)
-      (resettling_chain names present w p.1))
+      (resettling_all terms.hub names p.1)
+      (λ more ns j c. linked false terms name names u x (with_kept w j) ok more ms ns p.0 a c)
+      (resettling_chain names terms w p.1))
 
   pub sweeping_by : (w : State J) → Ways (sweeping answer later w) (Comes w)
   unfolding sweeping
@@ -132,10 +132,10 @@ module _ {J : Type 0} (answer : Answers J) (later : Laters J) where
       without list failed room why by =
           let names = names_of w.standings in
           let k = kept_of w.standings (w.entries ++ Entry.UnsettledAll why ∷ []) in
-          ways_last (λ ok ms j. Linked false (not w.listed) names (with_kept w k) ok ms
+          ways_last (λ ok ms j. Linked false (terms_for w) names (with_kept w k) ok ms
           (with_kept w j))
-          (λ ok ms v. Behind list failed (room && ok) ms v) (resettling_all names k) (resumed w)
-          (λ j. with_kept w j) (λ j. refl) (resettling_chain names (not w.listed) w k)
+          (λ ok ms v. Behind list failed (room && ok) ms v) (resettling_all w.hub names k) (resumed w)
+          (λ j. with_kept w j) (λ j. refl) (resettling_chain names (terms_for w) w k)
           (λ ok ms j c. let v : State J = with_kept w j in
           (Entry.UnsettledAll why ∷ c.0, Unlisted list failed room why ok ms c.0 v by c.1))
 
@@ -148,17 +148,17 @@ module _ {J : Type 0} (answer : Answers J) (later : Laters J) where
           let list = Listing.Names found in
           behind_sure (λ ms (r : Unit {0}). AreClosings (unlisted_files names w.standings) ms)
           (Behind list failed) (closing_unlisted names w.standings)
-          (λ (r : Unit {0}). settling_all answer later names (not w.listed) u)
+          (λ (r : Unit {0}). settling_all answer later names (terms_for w) u)
           (closes names w.standings)
-          (λ shut r closings. ways_more (Linked true (not w.listed) names u)
+          (λ shut r closings. ways_more (Linked true (terms_for w) names u)
           (λ ok ms v. Behind list failed ok (shut ++ ms) v)
-          (settling_all answer later names (not w.listed) u)
+          (settling_all answer later names (terms_for w) u)
           (λ ok ms v c. (
             farewells names w.standings ++ c.0,
             Listed found failed ok shut ms c.0
                 v closings c.1,
           ))
-          (settling_chain names (not w.listed) u))
+          (settling_chain names (terms_for w) u))
       with_room found failed false =
           without (Listing.Names found) failed false Fault.Memory (No_room found failed)
 
@@ -172,9 +172,9 @@ module _ {J : Type 0} (answer : Answers J) (later : Laters J) where
 
 -- the entries that are added
 
-chain_entries : {J : Type 0} {answer : Answers J} {later : Laters J} {binds present : Bool}
+chain_entries : {J : Type 0} {answer : Answers J} {later : Laters J} {binds : Bool} {terms : Terms}
     {names : List (List ℕ)} {w v : State J} {ok : Bool} {ms : List Made} {es : List Entry}
-    → Chain answer later binds present names w ok ms es v → v.entries ≡ w.entries ++ es
+    → Chain answer later binds terms names w ok ms es v → v.entries ≡ w.entries ++ es
 chain_entries (Over w) = sym (append-nil w.entries)
 chain_entries (First name names how w x v ok more ms ns es p c) =
     chain_entries c ∙ ap (λ (y : List Entry). y ++ es) p.entries ∙ append_assoc w.entries p.rest es
@@ -191,20 +191,20 @@ goes_entries {w = w} (Unlisted list failed room why ok made es v by c) =
 
 module _ {S J : Type 0} (gives : S → (call : Call) → Answer call → S → Type 0) (answer : Answers J)
     (later : Laters J) where
-  pub settling_run : (name : List ℕ) (present : Bool) (w : State J) (s : S) (p : Settled × State J)
-      (t : S) → Runs gives s (settling answer later name present w) p t
-      → Ran gives (Settles answer later name present w) s p t
-  settling_run name present w s p t h =
-      ways_run gives (Settles answer later name present w) (settling answer later name present w) s
+  pub settling_run : (name : List ℕ) (terms : Terms) (w : State J) (s : S) (p : Settled × State J)
+      (t : S) → Runs gives s (settling answer later name terms w) p t
+      → Ran gives (Settles answer later name terms w) s p t
+  settling_run name terms w s p t h =
+      ways_run gives (Settles answer later name terms w) (settling answer later name terms w) s
       p t
-      (settles answer later name present w) h
+      (settles answer later name terms w) h
 
-  pub resettling_run : (name : List ℕ) (present : Bool) (w : State J) (k : Kept) (s : S)
-      (p : Settled × Kept) (t : S) → Runs gives s (resettling name k) p t
-      → Ran gives (Resettles answer later name present w k) s p t
-  resettling_run name present w k s p t h =
-      ways_run gives (Resettles answer later name present w k) (resettling name k) s p t
-      (resettles answer later name present w k) h
+  pub resettling_run : (name : List ℕ) (terms : Terms) (w : State J) (k : Kept) (s : S)
+      (p : Settled × Kept) (t : S) → Runs gives s (resettling terms.hub name k) p t
+      → Ran gives (Resettles answer later name terms w k) s p t
+  resettling_run name terms w k s p t h =
+      ways_run gives (Resettles answer later name terms w k) (resettling terms.hub name k) s p t
+      (resettles answer later name terms w k) h
 
   pub sweeping_run : (s : S) (w : State J) (t : S) (v : State J)
       → Runs gives s (sweeping answer later w) v t → Ran gives (Comes answer later w) s v t
@@ -213,13 +213,13 @@ module _ {S J : Type 0} (gives : S → (call : Call) → Answer call → S → T
       (sweeping_by answer later w) h
 
 -- the standing of a number is settled by its name
-pub run_numbered : {S : Type 0} (gives : S → (call : Call) → Answer call → S → Type 0) (number : ℕ)
+pub run_numbered : {S : Type 0} (gives : S → (call : Call) → Answer call → S → Type 0) (hub : Option Write) (number : ℕ)
     (k : Kept) (x : Standing) (s : S) (p : Settled × Kept) (t : S)
-    → numbered number k.standings ≡ Some x → Runs gives s (resettling_numbered number k) p t
-    → Runs gives s (resettling x.name k) p t
+    → numbered number k.standings ≡ Some x → Runs gives s (resettling_numbered hub number k) p t
+    → Runs gives s (resettling hub x.name k) p t
 unfolding resettling_numbered
-run_numbered gives number k x s p t e r =
-    subst (λ (o : Option Standing). Runs gives s (again_numbered k o) p t) e r
+run_numbered gives hub number k x s p t e r =
+    subst (λ (o : Option Standing). Runs gives s (again_numbered hub k o) p t) e r
 
 -- whatever the judge is
 
@@ -229,20 +229,21 @@ no_verdict judge dev controller present on ss = (Target.Block, Cause.Implicit)
 pub no_later : Laters (Unit {0})
 no_later judge dev controller present on ss = tt
 
-abbrev pub unjudged : Kept → State (Unit {0})
-unjudged k = record {
+abbrev pub unjudged : Option Write → Kept → State (Unit {0})
+unjudged hub k = record {
   standings = k.standings;
   next = 0;
   listed = false;
   judge = tt;
+  hub = hub;
   entries =
       k.entries;
 }
 
-pub numbered_run : {S : Type 0} (gives : S → (call : Call) → Answer call → S → Type 0) (number : ℕ)
+pub numbered_run : {S : Type 0} (gives : S → (call : Call) → Answer call → S → Type 0) (hub : Option Write) (number : ℕ)
     (k : Kept) (x : Standing) (s : S) (p : Settled × Kept) (t : S)
-    → numbered number k.standings ≡ Some x → Runs gives s (resettling_numbered number k) p t
-    → Ran gives (Resettles no_verdict no_later x.name false (unjudged k) k) s p t
-numbered_run gives number k x s p t e r =
-    resettling_run gives no_verdict no_later x.name false (unjudged k) k s p t
-    (run_numbered gives number k x s p t e r)
+    → numbered number k.standings ≡ Some x → Runs gives s (resettling_numbered hub number k) p t
+    → Ran gives (Resettles no_verdict no_later x.name (terms_of false hub) (unjudged hub k) k) s p t
+numbered_run gives hub number k x s p t e r =
+    resettling_run gives no_verdict no_later x.name (terms_of false hub) (unjudged hub k) k s p t
+    (run_numbered gives hub number k x s p t e r)

@@ -7,7 +7,7 @@ pub use Rattle.ug_kernel.proofs.Quiet.{WritesNothing, called_quiet, moves_quiet,
 pub use Rattle.ug_kernel.proofs.Told.{told_run}
 pub use Rattle.ug_kernel.proofs.Ways.{Sure, Unwritten, Way, Ways, Went as Ran, along_grows, along_quiet, along_sound, along_split, behind_sure, failures_more, sure_last, way_runs, ways_last, ways_more, ways_next, ways_run}
 pub use Rattle.ug_kernel.specs.Along.{Made, answered, Along, failure_of, failures, count_calls, failure, Rises}
-pub use Rattle.ug_kernel.specs.Called.{Follows, says_probe, IsWritten, IsGoneAt, says_put, Called, says_listing, Lived, value_after, does_put, IsAlive}
+pub use Rattle.ug_kernel.specs.Called.{Follows, says_probe, IsWritten, IsGoneAt, says_put, Called, says_listing, Lived, value_after, written_to, does_put, IsAlive}
 pub use Rattle.ug_kernel.specs.Calls.{Call, Answer, Names, Ask_alive, Put, Close, Told, Closing, Open, Read, failed_read}
 pub use Rattle.ug_kernel.specs.Kernel.{Kernel, Moves, IsKernel, Live, Stays}
 pub use Rattle.ug_kernel.specs.Quiet.{Grows, Quiet}
@@ -22,17 +22,18 @@ pub use Rattle.ug_node.specs.declared.identity.Binding.{Binding}
 pub use Rattle.ug_node.specs.declared.identity.Bound.{Bound}
 pub use Rattle.ug_node.specs.declared.removal.RemoveHold.{RemoveHold}
 pub use Rattle.ug_record.specs.Records.{judged_of}
-pub use Rattle.ug_table.specs.Bring.{CallsFor, after_hold, after_value, after_write, close_gone, if_to_go, is_reject, is_to_go, to_value, wants, write_of}
-unfoldable pub use Rattle.ug_table.specs.Bring.{bringing, removing, valuing, writing}
-pub use Rattle.ug_table.specs.Laws.{Stand, IsSpared, Tries, IsDevice, MayHave, MayHaveNot, wrote_entries, HasRemoval, IsFirst, Account, Start, Had, Had_not, AreInOrder, none_before, IsProbed, numbers_of, Judge, IsOne, IsTold, HasStanding, IsFair, IsRemoveMarked, swept_before, IsGone, Went, gone_of, IsRecordOf, IsNamed, IsAsJudged, IsSettled, TellsNeither, HasVerdict, Note, Swept, Sweeps, IsMarked, IsUnlisted, IsListed, IsMarkedIn, AreMarkedIn, Stands, IsJudged, AreLeft, WasRemoved}
+pub use Rattle.ug_table.specs.Bring.{CallsFor, NeedsMemory, after_default, by_default, default_due, default_of, defaulted_known, after_hold, after_value, after_write, close_gone, if_to_go, is_reject, is_to_go, to_value, wants, write_of}
+pub use Rattle.ug_table.specs.Done.{IsOnce, control_of, is_done}
+unfoldable pub use Rattle.ug_table.specs.Bring.{bringing, once, treating, valuing, writing}
+pub use Rattle.ug_table.specs.Laws.{Stand, IsSpared, Tries, IsDevice, MayHave, MayHaveNot, wrote_entries, HasDone, IsFirst, Account, Start, Had, Had_not, AreInOrder, none_before, IsProbed, numbers_of, Judge, IsOne, IsTold, HasStanding, IsFair, IsDoneMarked, swept_before, IsGone, Went, gone_of, IsRecordOf, IsNamed, IsAsJudged, IsSettled, TellsNeither, HasVerdict, Note, Swept, Sweeps, IsMarked, IsUnlisted, IsListed, IsMarkedIn, AreMarkedIn, Stands, IsJudged, AreLeft, WasDone, TellsDone}
 pub use Rattle.ug_table.specs.One.{GoesAsPart, IsOf, LivedAs, NeedsRoom, ResettledOne, ResettlesOne, SettledOne, SettlesOne, again_numbered, failed_of, why_in, why_of, whys}
 unfoldable pub use Rattle.ug_table.specs.One.{resettling_numbered}
 pub use Rattle.ug_table.specs.Order.{IsNextNumbered, KeepsOrder, StandInOrder, is_nearer}
-pub use Rattle.ug_table.specs.Parts.{name_in, unsettled_names, EndsUnsettled, NamesOnce, Part, IsLast, unlisted_files, OpenFile, open_file, Behind, behind_more, IsWriteDue, PutMade, AtMostOneEach, told_by, failure_in, failures_told, write_in, writes_in, TellsWrites, IsBoundAnew, LacksRoom, control_of, known_files, AllBear, number_of, AreOfNumber, numbers_given, AreClosings, close_file, files_left, files_after, AreAbout, EndsAtFailure, AreDue, put_of, puts_of, InParts, AfterListing, GoesInParts, TellsFaults}
+pub use Rattle.ug_table.specs.Parts.{is_default, opens, opens_default, found_by, name_in, unsettled_names, EndsUnsettled, NamesOnce, Part, IsLast, unlisted_files, OpenFile, open_file, Behind, behind_more, IsWriteDue, PutMade, AtMostOneEach, told_by, failure_in, failures_told, write_in, writes_in, TellsWrites, IsBoundAnew, LacksRoom, OpenedFile, IsOnceDue, known_files, AllBear, number_of, AreOfNumber, numbers_given, AreClosings, close_file, files_left, files_after, AreAbout, EndsAtFailure, AreDue, put_of, puts_of, InParts, AfterListing, GoesInParts, TellsFaults}
 pub use Rattle.ug_table.specs.Settle.{after_again, after_bind, after_known, again, dropped, from_standing, if_place, if_record, judged_entry, kept_standings, known_in, no_room, standing_for, stands, to_judge, to_keep, to_keep_mark, to_mark, tried_standings, unsettled_by}
 unfoldable pub use Rattle.ug_table.specs.Settle.{admitting, entering, resettling, settling}
-pub use Rattle.ug_table.specs.Standings.{lists, farewells, known_of, standing_of, without, with_standing, place_for, settled_standing, same_name, marked, numbered, removed_of}
-pub use Rattle.ug_table.specs.State.{State, Answers, Laters, Kept, noted, kept_of, with_kept}
+pub use Rattle.ug_table.specs.Standings.{did_default, with_default, lists, farewells, known_of, standing_of, without, with_standing, place_for, settled_standing, same_name, marked, numbered, removed_of}
+pub use Rattle.ug_table.specs.State.{State, Answers, Laters, Kept, Terms, terms_of, terms_for, noted, kept_of, with_kept}
 pub use Rattle.ug_table.specs.Sweep.{after_list, closing_unlisted, if_room, marked_listed, names_of, parted, resettling_all, resumed, settling_all, unlisted}
 unfoldable pub use Rattle.ug_table.specs.Sweep.{sweeping}
 pub use Rattle.ug_table.specs.declared.standing.Known.{Known}
@@ -43,7 +44,7 @@ pub use Rattle.ug_types.specs.Elements.{Has, AllDistinct}
 pub use Rattle.ug_types.specs.Names.{parent_of, sweep_cmp}
 pub use Rattle.ug_types.specs.Sweep.{in_sweep_order, in_place, sweep_total, sweep_exact}
 pub use Rattle.ug_types.specs.declared.control.Control.{Control}
-pub use Rattle.ug_types.specs.declared.control.Control.TheVariants.{Authorized, Remove}
+pub use Rattle.ug_types.specs.declared.control.Control.TheVariants.{Authorized, Remove, Default}
 pub use Rattle.ug_types.specs.declared.control.Write.{Write}
 pub use Rattle.ug_types.specs.declared.record.Judged.{Judged}
 pub use Rattle.ug_types.specs.declared.verdict.Cause.{Cause}

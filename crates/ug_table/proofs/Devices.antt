@@ -50,8 +50,9 @@ stand_stays k l ss next g h = record {
   names = h.names;
   order = h.order;
   distinct = h.distinct;
-  removed = λ s a r i f.
+  done = λ control s a r i f.
       let x = h.devices s a in
       let is : x.0 ≡ i = file_same l s.held.0 x.0 i (file_later k l s.held.0 x.0 g x.1.file) f in
-      subst (λ (v : ℕ). Has l.log (record { device = v; write = Write.Remove })) is (g.log (record { device = x.0; write = Write.Remove }) (h.removed s a r x.0 x.1.file));
+      let w = h.done control s a r x.0 x.1.file in
+      (w.0, w.1, subst (λ (v : ℕ). Has l.log (record { device = v; write = w.0 })) is (g.log (record { device = x.0; write = w.0 }) w.2));
 }

@@ -1,16 +1,16 @@
 -- A part is fair, and so is a sweep.
-use Rattle.std.proofs.Common.{◌≡◌, ℕ, Bool, true, false, not, ◌&&◌, List, [], ◌∷◌, ◌++◌, ◌⊎◌, Some, slice_get, inl, inr, refl, sym, ◌∙◌, ap, subst, append_assoc, append-nil, ◌+◌, ◌<◌, is_none, Option, arith, cond, map, true≢false}
+use Rattle.std.proofs.Common.{◌≡◌, ℕ, Bool, true, false, not, ◌&&◌, List, [], ◌∷◌, ◌++◌, ◌⊎◌, Some, slice_get, inl, inr, refl, sym, ◌∙◌, ap, subst, append_assoc, append-nil, ◌+◌, ◌<◌, is_none, Option, None, arith, cond, map, true≢false}
 use Rattle.std.proofs.lemmas.Bool.{and_parts, and_cases, both_ways, not-true, not-false, cond_both, cases_Bool}
-use Rattle.ug_table.proofs.Common.{Has, AllDistinct, Target, Control, Authorized, Remove, Write, Wrote, Put, Close, Told, Closing, Ask_alive, Names, Kernel, Moves, IsKernel, Live, IsWritten, IsGoneAt, says_put, Called, says_listing, Grows, Quiet, calls, Runs, RemoveHold, Entry, State, Answers, Laters, known_of, standing_of, without, with_standing, place_for, lists, farewells, Tries, IsDevice, MayHave, MayHaveNot, wrote_entries, HasRemoval, WasRemoved, IsFirst, Account, Start, Had, Had_not, AreInOrder, none_before, IsProbed, Stand, numbers_of, Judge, IsOne, IsTold, HasStanding, IsFair, IsRemoveMarked, swept_before, IsGone, Went as WentAway, gone_of, Standing, Settled, Made, answered, Along, failure_of, FailedCall, parent_of, Judged, Held, Cause, Bound, Binding, Known, in_sweep_order, unlisted_files, Fault, Probe, Listing, names_of, parted, marked_listed, sweeping, unsettled_by, standing_for, judged_entry, tried_standings, dropped, has_right, distinct_one, has_map, has_new, has_old, filter_has, has_filter, write_of, is_reject, CallsFor, is_to_go, Way, way_runs, along_split, filter, some_same, called_grows, quiet_grows, grows_refl, judged_of, binding, map_has, distinct_filter}
+use Rattle.ug_table.proofs.Common.{Has, AllDistinct, Terms, terms_for, did_default, with_default, defaulted_known, default_due, default_of, Default, Target, Control, Authorized, Remove, Write, Wrote, Put, Close, Told, Closing, Ask_alive, Names, Kernel, Moves, IsKernel, Live, IsWritten, IsGoneAt, says_put, Called, says_listing, Grows, Quiet, calls, Runs, RemoveHold, Entry, State, Answers, Laters, known_of, standing_of, without, with_standing, place_for, lists, farewells, Tries, IsDevice, MayHave, MayHaveNot, wrote_entries, HasDone, WasDone, IsOnce, control_of, is_done, IsFirst, Account, Start, Had, Had_not, AreInOrder, none_before, IsProbed, Stand, numbers_of, Judge, IsOne, IsTold, HasStanding, IsFair, IsDoneMarked, swept_before, IsGone, Went as WentAway, gone_of, Standing, Settled, Made, answered, Along, failure_of, FailedCall, parent_of, Judged, Held, Cause, Bound, Binding, Known, in_sweep_order, unlisted_files, Fault, Probe, Listing, names_of, parted, marked_listed, sweeping, unsettled_by, standing_for, judged_entry, tried_standings, dropped, has_right, distinct_one, has_map, has_new, has_old, filter_has, has_filter, write_of, is_reject, CallsFor, is_to_go, Way, way_runs, along_split, filter, some_same, called_grows, quiet_grows, grows_refl, judged_of, binding, map_has, distinct_filter}
 use Rattle.ug_kernel.specs.declared.device.HeldFile.{HeldFile}
 use Rattle.ug_kernel.specs.declared.device.Effect.{Effect}
-use Rattle.ug_node.specs.Removal.{holding_remove, RemoveSays}
+use Rattle.ug_node.specs.Removal.{holding, HoldSays}
 use Rattle.ug_node.proofs.Laws.{holding_law, gone_later, binding_law}
-use Rattle.ug_table.proofs.Standings.{IsHeldAs, file_same, file_later, IsFileOf, found, with_own, each_with, listed_is, IsOpen, open_name}
-use Rattle.ug_table.proofs.OnePart.{no_removal}
+use Rattle.ug_table.proofs.Standings.{did_stands, IsHeldAs, file_same, file_later, IsFileOf, found, with_own, each_with, listed_is, IsOpen, open_name}
+use Rattle.ug_table.proofs.OnePart.{value_twice}
 use Rattle.ug_table.proofs.Devices.{device_stays, stand_stays, probed_from}
-use Rattle.ug_table.proofs.Steps.{NoRemoval, AreMarked, keeps_itself, removal_marks, removal_removed, marks_keep, keep_one, keep_marks, FairFrom, fair_trans, StepFrom, fair_by, After, same_refl, plain_fair, keep_fair, fair_end, then_quiet, then_called, then_note, then_same, then_went, one_itself, without_less, tried_after, left_all, in_order, stand_by, stand_of, fair_refl, gone_device, account_stays}
-use Rattle.ug_table.proofs.Shapes.{Written, Done, Went, Broke, Valued, Same, Set, Unheld, Gone_by, Failed_by, Short_by, Removal, Not_held, Put_on, Carried, By_value, And_removal, Brought, Left_open, Let_go, told_at, Piece, Opening, Fresh, Lost, Unbound_end, Failed_so, Short_so, Flat, Unprobed, Tried, Stopped, Unbound, No_place, Judged_so, IsGiven, next_after, judge_after, opening_none, opening_absent}
+use Rattle.ug_table.proofs.Steps.{did_same, default_marks, Same as Alike, Marks, KeepMarks, none_of, NoneDone, AreMarked, keeps_itself, done_marks, done_more, marks_keep, keep_one, keep_marks, FairFrom, fair_trans, StepFrom, fair_by, After, same_refl, plain_fair, keep_fair, fair_end, then_quiet, then_called, then_note, then_same, then_went, one_itself, without_less, tried_after, left_all, in_order, stand_by, stand_of, fair_refl, gone_device, account_stays}
+use Rattle.ug_table.proofs.Shapes.{Written, Done, Went, Broke, Valued, Same, Set, Unheld, Gone_by, Failed_by, Short_by, OnceMade, Not_held, Put_on, Carried, By_value, And_removal, Brought, Left_open, Let_go, Treated, No_default, And_default, Cut_default, Gone_default, due_is, told_at, Piece, Opening, Fresh, Lost, Unbound_end, Failed_so, Short_so, Flat, Unprobed, Tried, Stopped, Unbound, No_place, Judged_so, IsGiven, next_after, judge_after, opening_none, opening_absent}
 use Rattle.ug_types.specs.declared.record.Attrs.{Attrs}
 use Rattle.ug_node.specs.Bound.{attrs_of, IsBound, BindSays}
 use Rattle.ug_table.proofs.Marks.{order_new, keeps_filter, sweep_in_order, AreIn, dropped_in, AreSplit, AreFresh, split_in, parted_split, parted_fresh, part_split, part_fresh, flat_part, order_distinct}
@@ -49,22 +49,22 @@ more w ss es = record w { standings = ss; entries = w.entries ++ es }
 abbrev StandsAs : {J : Type 0} → Kernel → State J → Standing → ℕ → Type 0
 StandsAs m u s i = Has u.standings s × IsDevice m i s.name s.held s.judged
 
-put_account : {J : Type 0} {answer : Answers J} {later : Laters J} {present : Bool} {tried : Tries} (m l : Kernel) (u : State J) (s : Standing) (i held : ℕ) (control : Control) (what : Write) (outcome : Wrote) (failed : FailedCall) → StandsAs m u s i → IsHeldAs m held i control → CallsFor s.verdict what → IsFirst u.standings [] s.number what → Called (Put held what) (told_at outcome failed) m l → Account answer later present tried m l u.standings m.log u.judge u.next (wrote_entries s.number s.name what outcome) l.log u.judge u.next
-put_account {J} {answer} {later} {present} {tried} m l u s i held control what outcome failed at file due first c =
+put_account : {J : Type 0} {answer : Answers J} {later : Laters J} {terms : Terms} {tried : Tries} (m l : Kernel) (u : State J) (s : Standing) (i held : ℕ) (control : Control) (what : Write) (outcome : Wrote) (failed : FailedCall) → StandsAs m u s i → IsHeldAs m held i control → CallsFor terms.hub s.name s.verdict what → IsFirst u.standings [] s.number what → Called (Put held what) (told_at outcome failed) m l → Account answer later terms tried m l u.standings m.log u.judge u.next (wrote_entries s.number s.name what outcome) l.log u.judge u.next
+put_account {J} {answer} {later} {terms} {tried} m l u s i held control what outcome failed at file due first c =
     let g = called_grows (Put held what) (told_at outcome failed) m l c in
     let here = device_stays m l i s.name s.held s.judged g at.1 in
     let es = wrote_entries s.number s.name what outcome in
     elim (put_logs held i control what outcome failed m l file c) [
-      | inl e ↦ subst (λ (v : List Effect). Account answer later present tried m l u.standings m.log u.judge u.next es v u.judge u.next) (sym e.1) (Had [] m.log u.judge u.next i s.number s.name s.held s.judged s.verdict what outcome here (inl (s, at.0, refl, refl, refl, refl)) due first e.0 Start)
-      | inr e ↦ subst (λ (v : List Effect). Account answer later present tried m l u.standings m.log u.judge u.next es v u.judge u.next) (sym e.1) (Had_not [] m.log u.judge u.next i s.number s.name s.held s.judged s.verdict what outcome here (inl (s, at.0, refl, refl, refl, refl)) due first e.0 Start)
+      | inl e ↦ subst (λ (v : List Effect). Account answer later terms tried m l u.standings m.log u.judge u.next es v u.judge u.next) (sym e.1) (Had [] m.log u.judge u.next i s.number s.name s.held s.judged s.verdict what outcome here (inl (s, at.0, refl, refl, refl, refl)) due first e.0 Start)
+      | inr e ↦ subst (λ (v : List Effect). Account answer later terms tried m l u.standings m.log u.judge u.next es v u.judge u.next) (sym e.1) (Had_not [] m.log u.judge u.next i s.number s.name s.held s.judged s.verdict what outcome here (inl (s, at.0, refl, refl, refl, refl)) due first e.0 Start)
     ]
 
 -- a write that leaves the marks
-put_fair : {J : Type 0} {answer : Answers J} {later : Laters J} {present : Bool} {tried : Tries} {k m : Kernel} {w u : State J} (l : Kernel) (s : Standing) (i held : ℕ) (control : Control) (what : Write) (outcome : Wrote) (failed : FailedCall) → StandsAs m u s i → IsHeldAs m held i control → CallsFor s.verdict what → IsFirst u.standings [] s.number what → NoRemoval (wrote_entries s.number s.name what outcome) → Called (Put held what) (told_at outcome failed) m l → FairFrom answer later present tried k w m u → FairFrom answer later present tried k w l (more u u.standings (wrote_entries s.number s.name what outcome))
-put_fair {J} {answer} {later} {present} {tried} {k} {m} {w} {u} l s i held control what outcome failed at file due first none c h =
+put_fair : {J : Type 0} {answer : Answers J} {later : Laters J} {terms : Terms} {tried : Tries} {k m : Kernel} {w u : State J} (l : Kernel) (s : Standing) (i held : ℕ) (control : Control) (what : Write) (outcome : Wrote) (failed : FailedCall) → StandsAs m u s i → IsHeldAs m held i control → CallsFor terms.hub s.name s.verdict what → IsFirst u.standings [] s.number what → NoneDone (wrote_entries s.number s.name what outcome) → Called (Put held what) (told_at outcome failed) m l → FairFrom answer later terms tried k w m u → FairFrom answer later terms tried k w l (more u u.standings (wrote_entries s.number s.name what outcome))
+put_fair {J} {answer} {later} {terms} {tried} {k} {m} {w} {u} l s i held control what outcome failed at file due first none c h =
     let g = called_grows (Put held what) (told_at outcome failed) m l c in
     let es = wrote_entries s.number s.name what outcome in
-    fair_trans h (keep_fair answer later present tried m l u u.standings es c.sound g h.fair.stand (same_refl u.standings) (keeps_itself u.standings) none (tt, (tt, tt)) (put_account m l u s i held control what outcome failed at file due first c))
+    fair_trans h (keep_fair answer later terms tried m l u u.standings es c.sound g h.fair.stand (same_refl u.standings) (keeps_itself u.standings) none (tt, (tt, tt)) (put_account m l u s i held control what outcome failed at file due first c))
 
 -- the standings after it, by how it was settled
 abbrev Afters : List Standing → Standing → (Settled → List Standing) → Type 0
@@ -76,131 +76,137 @@ abbrev mid : {J : Type 0} → State J → (Settled → List Standing) → Settle
 mid w after Settled.Stands = w.standings
 mid w after how = after how
 
-value_called : (verdict : Target) → CallsFor verdict (write_of verdict)
-value_called Target.Allow = tt
-value_called x = tt
+value_called : (hub : Option Write) (name : List ℕ) (verdict : Target) → CallsFor hub name verdict (write_of verdict)
+value_called hub name Target.Allow = refl
+value_called hub name x = refl
 
 value_first : (ss : List Standing) (es : List Entry) (number : ℕ) (verdict : Target) → IsFirst ss es number (write_of verdict)
-value_first ss es number Target.Allow = tt
-value_first ss es number x = tt
+value_first ss es number verdict = λ once w. value_twice verdict once
 
-put_no_removal : (s : Standing) (what : Write) (outcome : Wrote) → (what ≡ Write.Remove → outcome ≡ Wrote.Done → ⊥) → NoRemoval (wrote_entries s.number s.name what outcome)
-put_no_removal s what outcome none number name (inl e) = let none : ⊥ = cc in none
-put_no_removal s what outcome none number name (inr (inl e)) = none (let a : what ≡ Write.Remove = cc in a) (let b : outcome ≡ Wrote.Done = cc in b)
-put_no_removal s what outcome none number name (inr (inr x)) = x
+put_none_done : (s : Standing) (what : Write) (outcome : Wrote) → (IsOnce (control_of what) → outcome ≡ Wrote.Done → ⊥) → NoneDone (wrote_entries s.number s.name what outcome)
+put_none_done s what outcome none number name w once (inl e) = let none : ⊥ = cc in none
+put_none_done s what outcome none number name w once (inr (inl e)) = none (let a : w ≡ what = cc in subst (λ (v : Write). IsOnce (control_of v)) a once) (let b : outcome ≡ Wrote.Done = cc in b)
+put_none_done s what outcome none number name w once (inr (inr x)) = x
 
 -- entries behind others
-joined : {J : Type 0} {answer : Answers J} {later : Laters J} {present : Bool} {tried : Tries} {k l : Kernel} {w : State J} (u : State J) (ss : List Standing) (es fs : List Entry) → FairFrom answer later present tried k w l (record u { standings = ss; entries = (u.entries ++ es) ++ fs }) → FairFrom answer later present tried k w l (more u ss (es ++ fs))
-joined {answer = answer} {later = later} {present = present} {tried = tried} {k = k} {l = l} {w = w} u ss es fs h = subst (λ (v : List Entry). FairFrom answer later present tried k w l (record u { standings = ss; entries = v })) (append_assoc u.entries es fs) h
+joined : {J : Type 0} {answer : Answers J} {later : Laters J} {terms : Terms} {tried : Tries} {k l : Kernel} {w : State J} (u : State J) (ss : List Standing) (es fs : List Entry) → FairFrom answer later terms tried k w l (record u { standings = ss; entries = (u.entries ++ es) ++ fs }) → FairFrom answer later terms tried k w l (more u ss (es ++ fs))
+joined {answer = answer} {later = later} {terms = terms} {tried = tried} {k = k} {l = l} {w = w} u ss es fs h = subst (λ (v : List Entry). FairFrom answer later terms tried k w l (record u { standings = ss; entries = v })) (append_assoc u.entries es fs) h
 
-value_fair : {J : Type 0} {answer : Answers J} {later : Laters J} {present : Bool} {tried : Tries} {k m : Kernel} {w : State J} {t : Told Wrote} {es : List Entry} {how : Settled} (u : State J) (n : Kernel) (s : Standing) (after : Settled → List Standing) (what : Write) → Written s.name s.number what t es how → Has u.standings s → Afters u.standings s after → says_put s.held.0 t.answer n m → FairFrom answer later present tried k w m (more u u.standings (wrote_entries s.number s.name what t.answer)) → FairFrom answer later present tried k w m (more u (mid u after how) es)
+value_fair : {J : Type 0} {answer : Answers J} {later : Laters J} {terms : Terms} {tried : Tries} {k m : Kernel} {w : State J} {t : Told Wrote} {es : List Entry} {how : Settled} (u : State J) (n : Kernel) (s : Standing) (after : Settled → List Standing) (what : Write) → Written s.name s.number what t es how → Has u.standings s → Afters u.standings s after → says_put s.held.0 t.answer n m → FairFrom answer later terms tried k w m (more u u.standings (wrote_entries s.number s.name what t.answer)) → FairFrom answer later terms tried k w m (more u (mid u after how) es)
 value_fair u n s after what (Done failed) has a says h = h
 value_fair u n s after what (Went failed) has a says h = joined u (after Settled.Nobody) (wrote_entries s.number s.name what Wrote.Gone) _ (then_went s (after Settled.Nobody) has (a Settled.Nobody) says h)
 value_fair u n s after what (Broke failed) has a says h = let after_fault = a (Settled.Fault failed) in then_same (after (Settled.Fault failed)) after_fault.0 after_fault.1 h
 
-none_more : {J : Type 0} {answer : Answers J} {later : Laters J} {present : Bool} {tried : Tries} {k l : Kernel} {w : State J} (u : State J) → FairFrom answer later present tried k w l u → FairFrom answer later present tried k w l (more u u.standings [])
-none_more {answer = answer} {later = later} {present = present} {tried = tried} {k = k} {l = l} {w = w} u h = subst (λ (v : List Entry). FairFrom answer later present tried k w l (record u { entries = v })) (sym (append-nil u.entries)) h
+none_more : {J : Type 0} {answer : Answers J} {later : Laters J} {terms : Terms} {tried : Tries} {k l : Kernel} {w : State J} (u : State J) → FairFrom answer later terms tried k w l u → FairFrom answer later terms tried k w l (more u u.standings [])
+none_more {answer = answer} {later = later} {terms = terms} {tried = tried} {k = k} {l = l} {w = w} u h = subst (λ (v : List Entry). FairFrom answer later terms tried k w l (record u { entries = v })) (sym (append-nil u.entries)) h
 
-valued_fair : {J : Type 0} {answer : Answers J} {later : Laters J} {present : Bool} {tried : Tries} {k m : Kernel} {w u : State J} {on : Bool} {ms : List Made} {es : List Entry} {how : Settled} (l : Kernel) (s : Standing) (after : Settled → List Standing) → Valued s.name (known_of s) on ms es how → Has u.standings s → Afters u.standings s after → FairFrom answer later present tried k w m u → Along calls m ms l → FairFrom answer later present tried k w l (more u (mid u after how) es)
+valued_fair : {J : Type 0} {answer : Answers J} {later : Laters J} {terms : Terms} {tried : Tries} {k m : Kernel} {w u : State J} {on : Bool} {ms : List Made} {es : List Entry} {how : Settled} (l : Kernel) (s : Standing) (after : Settled → List Standing) → Valued s.name (known_of s) on ms es how → Has u.standings s → Afters u.standings s after → FairFrom answer later terms tried k w m u → Along calls m ms l → FairFrom answer later terms tried k w l (more u (mid u after how) es)
 valued_fair {u = u} l s after (Same e) has a h r = fair_end l (more u u.standings []) refl r (none_more u h)
-valued_fair {m = m} {u = u} l s after (Set t es how e v) has a h r =
+valued_fair {terms = terms} {m = m} {u = u} l s after (Set t es how e v) has a h r =
     let x = h.fair.stand.devices s has in
-    let put = put_fair r.0 s x.0 s.held.0 Authorized (write_of s.verdict) t.answer (failure_of t) (has, x.1) x.1.file (value_called s.verdict) (value_first u.standings [] s.number s.verdict) (put_no_removal s (write_of s.verdict) t.answer (λ e f. no_removal s.verdict e)) r.1 h in
+    let put = put_fair r.0 s x.0 s.held.0 Authorized (write_of s.verdict) t.answer (failure_of t) (has, x.1) x.1.file (value_called terms.hub s.name s.verdict) (value_first u.standings [] s.number s.verdict) (put_none_done s (write_of s.verdict) t.answer (λ once f. value_twice s.verdict once)) r.1 h in
     fair_end l (more u (mid u after how) es) refl r.2 (value_fair u m s after (write_of s.verdict) v has a r.1.says put)
 
--- the removal
-
-reject_calls : (verdict : Target) → is_reject verdict ≡ true → CallsFor verdict Write.Remove
-reject_calls Target.Reject e = tt
-reject_calls x e = let none : ⊥ = cc in absurd none
+-- a write that is made once
 
 removed_if : (a b : Bool) → (a && not b) ≡ false → a ≡ true → b ≡ true
 removed_if a b e r = elim (and_cases a (not b) e) [ inl f ↦ absurd (both_ways a f r) | inr f ↦ not-false b f ]
 
-remove_first : {J : Type 0} (m : Kernel) (u : State J) (s : Standing) → Has u.standings s → s.removed ≡ false → (distinct : (t : Standing) → Has u.standings t → t.number ≡ s.number → t ≡ s) → IsFirst u.standings [] s.number Write.Remove
-remove_first m u s has e one (inl b) =
-    true≢false (sym b.3 ∙ ap (λ (v : Standing). v.removed) (one b.0 b.1 b.2) ∙ e)
-remove_first m u s has e one (inr b) = b.1
+once_first : (ss : List Standing) (s : Standing) (what : Write) → AllDistinct (numbers_of ss) → Has ss s → is_done (control_of what) s ≡ false → IsFirst ss [] s.number what
+once_first ss s what distinct has e once (inl b) =
+    true≢false (sym b.3 ∙ ap (is_done (control_of what)) (distinct_one (λ (v : Standing). v.number) ss b.0 s distinct b.1 has b.2) ∙ e)
+once_first ss s what distinct has e once (inr b) = b.3
 
 -- the log has it
-done_removal : (m l : Kernel) (s : Standing) (i file : ℕ) (failed : FailedCall) → IsDevice m i s.name s.held s.judged → IsHeldAs m file i Remove → Called (Put file Write.Remove) (told_at Wrote.Done failed) m l → HasRemoval l s.held
-done_removal m l s i file failed d of c j at =
-    let g = called_grows (Put file Write.Remove) (told_at Wrote.Done failed) m l c in
+done_logged : (m l : Kernel) (s : Standing) (i file : ℕ) (what : Write) (failed : FailedCall) → IsDevice m i s.name s.held s.judged → IsHeldAs m file i (control_of what) → Called (Put file what) (told_at Wrote.Done failed) m l → HasDone (control_of what) l s.held
+done_logged m l s i file what failed d of c j at =
+    let g = called_grows (Put file what) (told_at Wrote.Done failed) m l c in
     let is : i ≡ j = file_same l s.held.0 i j (file_later m l s.held.0 i g d.file) at in
-    let e : Effect = record { device = i; write = Write.Remove } in
-    let logged : Has l.log e = subst (λ (v : List Effect). Has v e) (sym (one_more file i Remove Write.Remove m c.before c.after l of c.moves_before c.effect c.moves_after)) (has_right m.log (e ∷ []) e (inl refl)) in
-    subst (λ (v : ℕ). Has l.log (record { device = v; write = Write.Remove })) is logged
+    let e : Effect = record { device = i; write = what } in
+    let logged : Has l.log e = subst (λ (v : List Effect). Has v e) (sym (one_more file i (control_of what) what m c.before c.after l of c.moves_before c.effect c.moves_after)) (has_right m.log (e ∷ []) e (inl refl)) in
+    (what, refl, subst (λ (v : ℕ). Has l.log (record { device = v; write = what })) is logged)
 
--- a removal that was done marks the standing
-removed_fair : {J : Type 0} {answer : Answers J} {later : Laters J} {present : Bool} {tried : Tries} {k m : Kernel} {w u : State J} (l : Kernel) (s : Standing) (i file : ℕ) (failed : FailedCall) (rs : List Standing) → StandsAs m u s i → IsHeldAs m file i Remove → is_reject s.verdict ≡ true → s.removed ≡ false → After s u.standings Settled.Stands rs → Called (Put file Write.Remove) (told_at Wrote.Done failed) m l → FairFrom answer later present tried k w m u → FairFrom answer later present tried k w l (more u rs (wrote_entries s.number s.name Write.Remove Wrote.Done))
-removed_fair {J} {answer} {later} {present} {tried} {k} {m} {w} {u} l s i file failed rs at of reject fresh a c h =
-    let g = called_grows (Put file Write.Remove) (told_at Wrote.Done failed) m l c in
+-- one that was done marks the standing
+done_fair : {J : Type 0} {answer : Answers J} {later : Laters J} {terms : Terms} {tried : Tries} {k m : Kernel} {w u : State J} (l : Kernel) (s : Standing) (i file : ℕ) (what : Write) (P : Type 0) (failed : FailedCall) (rs : List Standing) → StandsAs m u s i → IsHeldAs m file i (control_of what) → CallsFor terms.hub s.name s.verdict what → P → is_done (control_of what) s ≡ false → Alike u.standings rs × Marks (control_of what) P s u.standings rs → Called (Put file what) (told_at Wrote.Done failed) m l → FairFrom answer later terms tried k w m u → FairFrom answer later terms tried k w l (more u rs (wrote_entries s.number s.name what Wrote.Done))
+done_fair {J} {answer} {later} {terms} {tried} {k} {m} {w} {u} l s i file what P failed rs at of due p fresh a c h =
+    let g = called_grows (Put file what) (told_at Wrote.Done failed) m l c in
     let stand = h.fair.stand in
-    let es = wrote_entries s.number s.name Write.Remove Wrote.Done in
-    let first = remove_first m u s at.0 fresh (λ t b e. distinct_one (λ (v : Standing). v.number) u.standings t s stand.distinct b at.0 e) in
-    let account = put_account m l u s i file Remove Write.Remove Wrote.Done failed at of (reject_calls s.verdict reject) first c in
-    let removed = removal_removed l u.standings rs s (stand_stays m l u.standings u.next g stand).removed (done_removal m l s i file failed at.1 of c) a.1 in
-    fair_trans h (plain_fair answer later present tried m l u rs es c.sound g stand a.0 (removal_marks u.standings rs s stand.distinct reject a.1) removed (tt, (tt, tt)) account)
+    let es = wrote_entries s.number s.name what Wrote.Done in
+    let first = once_first u.standings s what stand.distinct at.0 fresh in
+    let account = put_account m l u s i file (control_of what) what Wrote.Done failed at of due first c in
+    let done = done_more (control_of what) P l u.standings rs s (stand_stays m l u.standings u.next g stand).done (done_logged m l s i file what failed at.1 of c) a.1 in
+    fair_trans h (plain_fair answer later terms tried m l u rs es c.sound g stand a.0 (done_marks what P u.standings rs s stand.distinct p a.1) done (tt, (tt, tt)) account)
 
--- where the `remove` file's device is gone, that of the `authorized` file is so
-gone_through : (k l : Kernel) (s : Standing) (i file : ℕ) (d : IsDevice k i s.name s.held s.judged) → IsHeldAs k file i Remove → IsGoneAt file k → Grows k l → IsGoneAt s.held.0 l
-gone_through k l s i file d of gone g =
-    gone_later k l s.name s.held.0 i g (record { d = d.d; file = d.file; device = d.device; named = d.named }) (λ e live. gone i e (record { file = record { device = i; control = Remove }; at = of; is = refl; device = live.at }) live)
+-- where the device of a second file is gone, that of the `authorized` file is so
+gone_through : (control : Control) (k l : Kernel) (s : Standing) (i file : ℕ) (d : IsDevice k i s.name s.held s.judged) → IsHeldAs k file i control → IsGoneAt file k → Grows k l → IsGoneAt s.held.0 l
+gone_through control k l s i file d of gone g =
+    gone_later k l s.name s.held.0 i g (record { d = d.d; file = d.file; device = d.device; named = d.named }) (λ e live. gone i e (record { file = record { device = i; control = control }; at = of; is = refl; device = live.at }) live)
 
-put_on_fair : {J : Type 0} {answer : Answers J} {later : Laters J} {present : Bool} {tried : Tries} {k m : Kernel} {w u : State J} {t : Told Wrote} {es : List Entry} {how : Settled} (x y : Kernel) (s : Standing) (i file : ℕ) (after : Settled → List Standing) (shut : Closing) → Written s.name s.number Write.Remove t es how → StandsAs m u s i → IsHeldAs m file i Remove → is_reject s.verdict ≡ true → s.removed ≡ false → Afters u.standings s after → Called (Put file Write.Remove) t m x → Called (Close file) shut x y → FairFrom answer later present tried k w m u → FairFrom answer later present tried k w y (more u (after how) es)
-put_on_fair {u = u} x y s i file after shut (Done failed) at of reject fresh a c d h =
-    then_called (Close file) shut y tt d (removed_fair x s i file failed (after Settled.Stands) at of reject fresh (a Settled.Stands) c h)
-put_on_fair {m = m} {u = u} x y s i file after shut (Went failed) at of reject fresh a c d h =
-    let first = remove_first m u s at.0 fresh (λ t b e. distinct_one (λ (v : Standing). v.number) u.standings t s h.fair.stand.distinct b at.0 e) in
-    let put = put_fair x s i file Remove Write.Remove Wrote.Gone failed at of (reject_calls s.verdict reject) first (put_no_removal s Write.Remove Wrote.Gone (λ e f. let none : ⊥ = cc in none)) c h in
-    let g = called_grows (Put file Write.Remove) (told_at Wrote.Gone failed) m x c in
-    let gone = gone_through x y s i file (device_stays m x i s.name s.held s.judged g at.1) (g.held file (record { device = i; control = Remove }) of) c.says (called_grows (Close file) shut x y d) in
-    joined u (after Settled.Nobody) (wrote_entries s.number s.name Write.Remove Wrote.Gone) _ (then_went s (after Settled.Nobody) at.0 (a Settled.Nobody) gone (then_called (Close file) shut y tt d put))
-put_on_fair {m = m} {u = u} x y s i file after shut (Broke failed) at of reject fresh a c d h =
-    let first = remove_first m u s at.0 fresh (λ t b e. distinct_one (λ (v : Standing). v.number) u.standings t s h.fair.stand.distinct b at.0 e) in
-    let put = put_fair x s i file Remove Write.Remove Wrote.Failed failed at of (reject_calls s.verdict reject) first (put_no_removal s Write.Remove Wrote.Failed (λ e f. let none : ⊥ = cc in none)) c h in
-    let mark = a (Settled.Fault failed) in
+-- the standings once it stands, where P holds, and where it ends otherwise
+record Ends (file : Control) (P : Type 0) (s : Standing) (ss : List Standing) (after : Settled → List Standing) : Type 0 where
+  done : Alike ss (after Settled.Stands) × Marks file P s ss (after Settled.Stands)
+  gone : After s ss Settled.Nobody (after Settled.Nobody)
+  fault : (failed : FailedCall) → Alike ss (after (Settled.Fault failed)) × KeepMarks ss (after (Settled.Fault failed))
+  short : Alike ss (after Settled.Memory) × KeepMarks ss (after Settled.Memory)
+
+put_on_fair : {J : Type 0} {answer : Answers J} {later : Laters J} {terms : Terms} {tried : Tries} {k m : Kernel} {w u : State J} {t : Told Wrote} {es : List Entry} {how : Settled} (x y : Kernel) (s : Standing) (i file : ℕ) (what : Write) (P : Type 0) (after : Settled → List Standing) (shut : Closing) → Written s.name s.number what t es how → StandsAs m u s i → IsHeldAs m file i (control_of what) → CallsFor terms.hub s.name s.verdict what → P → is_done (control_of what) s ≡ false → Ends (control_of what) P s u.standings after → Called (Put file what) t m x → Called (Close file) shut x y → FairFrom answer later terms tried k w m u → FairFrom answer later terms tried k w y (more u (after how) es)
+put_on_fair {u = u} x y s i file what P after shut (Done failed) at of due p fresh a c d h =
+    then_called (Close file) shut y tt d (done_fair x s i file what P failed (after Settled.Stands) at of due p fresh a.done c h)
+put_on_fair {m = m} {u = u} x y s i file what P after shut (Went failed) at of due p fresh a c d h =
+    let first = once_first u.standings s what h.fair.stand.distinct at.0 fresh in
+    let put = put_fair x s i file (control_of what) what Wrote.Gone failed at of due first (put_none_done s what Wrote.Gone (λ e f. let none : ⊥ = cc in none)) c h in
+    let g = called_grows (Put file what) (told_at Wrote.Gone failed) m x c in
+    let gone = gone_through (control_of what) x y s i file (device_stays m x i s.name s.held s.judged g at.1) (g.held file (record { device = i; control = control_of what }) of) c.says (called_grows (Close file) shut x y d) in
+    joined u (after Settled.Nobody) (wrote_entries s.number s.name what Wrote.Gone) _ (then_went s (after Settled.Nobody) at.0 a.gone gone (then_called (Close file) shut y tt d put))
+put_on_fair {m = m} {u = u} x y s i file what P after shut (Broke failed) at of due p fresh a c d h =
+    let first = once_first u.standings s what h.fair.stand.distinct at.0 fresh in
+    let put = put_fair x s i file (control_of what) what Wrote.Failed failed at of due first (put_none_done s what Wrote.Failed (λ e f. let none : ⊥ = cc in none)) c h in
+    let mark = a.fault failed in
     then_same (after (Settled.Fault failed)) mark.0 mark.1 (then_called (Close file) shut y tt d put)
 
-unheld_fair : {J : Type 0} {answer : Answers J} {later : Laters J} {present : Bool} {tried : Tries} {k m : Kernel} {w u : State J} {r : RemoveHold} {es : List Entry} {how : Settled} (s : Standing) (i : ℕ) (after : Settled → List Standing) → Unheld s.name s.number r es how → Has u.standings s → RemoveSays s.held.0 i m r → Afters u.standings s after → FairFrom answer later present tried k w m u → FairFrom answer later present tried k w m (more u (after how) es)
-unheld_fair s i after Gone_by has says a h = then_went s (after Settled.Nobody) has (a Settled.Nobody) says h
-unheld_fair {u = u} s i after (Failed_by failed) has says a h = let mark = a (Settled.Fault failed) in none_more (record u { standings = after (Settled.Fault failed) }) (then_same (after (Settled.Fault failed)) mark.0 mark.1 h)
-unheld_fair {u = u} s i after Short_by has says a h = let short = a Settled.Memory in none_more (record u { standings = after Settled.Memory }) (then_same (after Settled.Memory) short.0 short.1 h)
+unheld_fair : {J : Type 0} {answer : Answers J} {later : Laters J} {terms : Terms} {tried : Tries} {k m : Kernel} {w u : State J} {r : RemoveHold} {es : List Entry} {how : Settled} (s : Standing) (i : ℕ) (file : Control) (P : Type 0) (after : Settled → List Standing) → Unheld s.name s.number r es how → Has u.standings s → HoldSays file s.held.0 i m r → Ends file P s u.standings after → FairFrom answer later terms tried k w m u → FairFrom answer later terms tried k w m (more u (after how) es)
+unheld_fair s i file P after Gone_by has says a h = then_went s (after Settled.Nobody) has a.gone says h
+unheld_fair {u = u} s i file P after (Failed_by failed) has says a h = let mark = a.fault failed in none_more (record u { standings = after (Settled.Fault failed) }) (then_same (after (Settled.Fault failed)) mark.0 mark.1 h)
+unheld_fair {u = u} s i file P after Short_by has says a h = none_more (record u { standings = after Settled.Memory }) (then_same (after Settled.Memory) a.short.0 a.short.1 h)
 
--- the `remove` file of the standing's device
-held_fair : {J : Type 0} {answer : Answers J} {later : Laters J} {present : Bool} {tried : Tries} {k m : Kernel} {w u : State J} (l : Kernel) (s : Standing) (ms : List Made) (r : RemoveHold) → Has u.standings s → Way (holding_remove s.name s.held.0) ms r → Along calls m ms l → FairFrom answer later present tried k w m u → (i : ℕ) × IsDevice l i s.name s.held s.judged × RemoveSays s.held.0 i l r × FairFrom answer later present tried k w l u
-held_fair {J} {answer} {later} {present} {tried} {k} {m} {w} {u} l s ms r has way a h =
+-- a second file of the standing's device
+held_fair : {J : Type 0} {answer : Answers J} {later : Laters J} {terms : Terms} {tried : Tries} {k m : Kernel} {w u : State J} (l : Kernel) (s : Standing) (control : Control) (ms : List Made) (r : RemoveHold) → Has u.standings s → Way (holding control s.name s.held.0) ms r → Along calls m ms l → FairFrom answer later terms tried k w m u → (i : ℕ) × IsDevice l i s.name s.held s.judged × HoldSays control s.held.0 i l r × FairFrom answer later terms tried k w l u
+held_fair {J} {answer} {later} {terms} {tried} {k} {m} {w} {u} l s control ms r has way a h =
     let x = h.fair.stand.devices s has in
-    let law = holding_law s.name s.held.0 x.0 r m l h.fair.sound (record { d = x.1.d; file = x.1.file; device = x.1.device; named = x.1.named }) (way_runs calls (holding_remove s.name s.held.0) ms m r l way a) in
-    let later_h : FairFrom answer later present tried k w l u = then_quiet l law.sound law.quiet h in
+    let law = holding_law control s.name s.held.0 x.0 r m l h.fair.sound (record { d = x.1.d; file = x.1.file; device = x.1.device; named = x.1.named }) (way_runs calls (holding control s.name s.held.0) ms m r l way a) in
+    let later_h : FairFrom answer later terms tried k w l u = then_quiet l law.sound law.quiet h in
     (x.0, device_stays m l x.0 s.name s.held s.judged (quiet_grows m l law.quiet) x.1, law.says, later_h)
 
-removal_fair : {J : Type 0} {answer : Answers J} {later : Laters J} {present : Bool} {tried : Tries} {k m : Kernel} {w u : State J} {ms : List Made} {es : List Entry} {how : Settled} (l : Kernel) (s : Standing) (after : Settled → List Standing) → Removal s.name (known_of s) ms es how → is_to_go (known_of s) ≡ true → Has u.standings s → Afters u.standings s after → FairFrom answer later present tried k w m u → Along calls m ms l → FairFrom answer later present tried k w l (more u (after how) es)
-removal_fair l s after (Not_held ms r es how way v) go has a h along =
-    let x = held_fair l s ms r has way along h in
-    unheld_fair s x.0 after v has x.2 a x.3
-removal_fair {m = m} {u = u} l s after (Put_on ms file t shut es how way v) go has a h along =
-    let cut = along_split calls ms (answered (Put file.0 Write.Remove) t ∷ answered (Close file.0) shut ∷ []) m l along in
-    let x = held_fair cut.0 s ms (RemoveHold.Ready file) has way cut.1 h in
+-- a write that is made once, where it is due and the standing isn't marked with its file
+once_fair : {J : Type 0} {answer : Answers J} {later : Laters J} {terms : Terms} {tried : Tries} {k m : Kernel} {w u : State J} {what : Write} {ms : List Made} {es : List Entry} {how : Settled} (l : Kernel) (s : Standing) (P : Type 0) (after : Settled → List Standing) → OnceMade s.name (known_of s) what ms es how → CallsFor terms.hub s.name s.verdict what → P → is_done (control_of what) s ≡ false → Has u.standings s → Ends (control_of what) P s u.standings after → FairFrom answer later terms tried k w m u → Along calls m ms l → FairFrom answer later terms tried k w l (more u (after how) es)
+once_fair {what = what} l s P after (Not_held ms r es how way v) due p fresh has a h along =
+    let x = held_fair l s (control_of what) ms r has way along h in
+    unheld_fair s x.0 (control_of what) P after v has x.2 a x.3
+once_fair {m = m} {u = u} {what = what} l s P after (Put_on ms file t shut es how way v) due p fresh has a h along =
+    let cut = along_split calls ms (answered (Put file.0 what) t ∷ answered (Close file.0) shut ∷ []) m l along in
+    let x = held_fair cut.0 s (control_of what) ms (RemoveHold.Ready file) has way cut.1 h in
     fair_end l (more u (after how) es) refl cut.2.2.2
-    (put_on_fair cut.2.0 cut.2.2.0 s x.0 file.0 after shut v (has, x.1) x.2
-    (and_parts (is_reject s.verdict) (not s.removed) go).0
-    (not-true s.removed (and_parts (is_reject s.verdict) (not s.removed) go).1) a cut.2.1
+    (put_on_fair cut.2.0 cut.2.2.0 s x.0 file.0 what P after shut v (has, x.1) x.2 due p fresh a cut.2.1
     cut.2.2.1 x.3)
+
+-- the removal
+removal_ends : (ss : List Standing) (s : Standing) (after : Settled → List Standing) → Afters ss s after → Ends Remove (is_reject s.verdict ≡ true) s ss after
+removal_ends ss s after a = record { done = a Settled.Stands; gone = a Settled.Nobody; fault = λ failed. a (Settled.Fault failed); short = a Settled.Memory }
 
 -- both
 
-only_value : {J : Type 0} {answer : Answers J} {later : Laters J} {present : Bool} {tried : Tries} {k l : Kernel} {w : State J} (u : State J) (s : Standing) (after : Settled → List Standing) (how : Settled) (es : List Entry) → (how ≡ Settled.Stands → is_to_go (known_of s) ≡ false) → Has u.standings s → Afters u.standings s after → FairFrom answer later present tried k w l (more u (mid u after how) es) → FairFrom answer later present tried k w l (more u (after how) es)
-only_value u s after Settled.Stands es f has a h = let stands = a Settled.Stands in then_same (after Settled.Stands) stands.0 (marks_keep u.standings (after Settled.Stands) s has (removed_if (is_reject s.verdict) s.removed (f refl)) stands.1) h
+only_value : {J : Type 0} {answer : Answers J} {later : Laters J} {terms : Terms} {tried : Tries} {k l : Kernel} {w : State J} (u : State J) (s : Standing) (after : Settled → List Standing) (how : Settled) (es : List Entry) → (how ≡ Settled.Stands → is_to_go (known_of s) ≡ false) → Has u.standings s → Afters u.standings s after → FairFrom answer later terms tried k w l (more u (mid u after how) es) → FairFrom answer later terms tried k w l (more u (after how) es)
+only_value u s after Settled.Stands es f has a h = let stands = a Settled.Stands in then_same (after Settled.Stands) stands.0 (marks_keep Remove (is_reject s.verdict ≡ true) u.standings (after Settled.Stands) s has (removed_if (is_reject s.verdict) s.removed (f refl)) stands.1) h
 only_value u s after how es f has a h = h
 
-carried_fair : {J : Type 0} {answer : Answers J} {later : Laters J} {present : Bool} {tried : Tries} {k m : Kernel} {w u : State J} {on : Bool} {ms : List Made} {es : List Entry} {how : Settled} (l : Kernel) (s : Standing) (after : Settled → List Standing) → Carried s.name (known_of s) on ms es how → Has u.standings s → ((how : Settled) → After s u.standings how (after how)) → FairFrom answer later present tried k w m u → Along calls m ms l → FairFrom answer later present tried k w l (record u { standings = after how; entries = u.entries ++ es })
+carried_fair : {J : Type 0} {answer : Answers J} {later : Laters J} {terms : Terms} {tried : Tries} {k m : Kernel} {w u : State J} {on : Bool} {ms : List Made} {es : List Entry} {how : Settled} (l : Kernel) (s : Standing) (after : Settled → List Standing) → Carried s.name (known_of s) on ms es how → Has u.standings s → ((how : Settled) → After s u.standings how (after how)) → FairFrom answer later terms tried k w m u → Along calls m ms l → FairFrom answer later terms tried k w l (record u { standings = after how; entries = u.entries ++ es })
 carried_fair {u = u} l s after (By_value ms es how v f) has a h along = only_value u s after how es f has a (valued_fair l s after v has a h along)
 carried_fair {m = m} {u = u} l s after (And_removal ms ns es fs how go v r) has a h along =
     let cut = along_split calls ms ns m l along in
-    joined u (after how) es fs (removal_fair l s after r go has a (valued_fair cut.0 s after v has a h cut.1) cut.2)
+    let parts = and_parts (is_reject s.verdict) (not s.removed) go in
+    joined u (after how) es fs (once_fair l s (is_reject s.verdict ≡ true) after r parts.0 parts.0 (not-true s.removed parts.1) has (removal_ends u.standings s after a) (valued_fair cut.0 s after v has a h cut.1) cut.2)
 
-pub brought_fair : {J : Type 0} {answer : Answers J} {later : Laters J} {present : Bool} {tried : Tries} {k m : Kernel} {w u : State J} {on : Bool} {ms : List Made} {es : List Entry} {how : Settled} (l : Kernel) (s : Standing) (after : Settled → List Standing) → Brought s.name (known_of s) on ms es how → Has u.standings s → ((how : Settled) → After s u.standings how (after how)) → FairFrom answer later present tried k w m u → Along calls m ms l → FairFrom answer later present tried k w l (record u { standings = after how; entries = u.entries ++ es })
+pub brought_fair : {J : Type 0} {answer : Answers J} {later : Laters J} {terms : Terms} {tried : Tries} {k m : Kernel} {w u : State J} {on : Bool} {ms : List Made} {es : List Entry} {how : Settled} (l : Kernel) (s : Standing) (after : Settled → List Standing) → Brought s.name (known_of s) on ms es how → Has u.standings s → ((how : Settled) → After s u.standings how (after how)) → FairFrom answer later terms tried k w m u → Along calls m ms l → FairFrom answer later terms tried k w l (record u { standings = after how; entries = u.entries ++ es })
 brought_fair l s after (Left_open ms es how c n) has a h along = carried_fair l s after c has a h along
 brought_fair {m = m} l s after (Let_go ms es shut c) has a h along =
     let cut = along_split calls ms (answered (Close s.held.0) shut ∷ []) m l along in
@@ -209,35 +215,44 @@ brought_fair {m = m} l s after (Let_go ms es shut c) has a h along =
 -- The settling of one name is fair.
 
 -- the state in which a device was just judged
-abbrev given_of : {J : Type 0} → Answers J → State J → List ℕ → Judged → Bool → Bool → Target × Cause
-given_of answer w name judged present on = answer w.judge judged (is_none (parent_of name)) present on w.standings
+abbrev given_of : {J : Type 0} → Answers J → State J → List ℕ → Judged → Terms → Bool → Target × Cause
+given_of answer w name judged terms on = answer w.judge judged (is_none (parent_of name)) terms.present on w.standings
 
-abbrev new_standing : {J : Type 0} → Answers J → State J → List ℕ → ℕ → Judged → Bool → Bool → Standing
-new_standing answer w name held judged present on = standing_for w name held judged (given_of answer w name judged present on)
+abbrev new_standing : {J : Type 0} → Answers J → State J → List ℕ → ℕ → Judged → Terms → Bool → Standing
+new_standing answer w name held judged terms on = standing_for w name held judged (given_of answer w name judged terms on)
 
-abbrev just_judged : {J : Type 0} → Answers J → Laters J → State J → List ℕ → ℕ → Judged → Bool → Bool → State J
-just_judged answer later w name held judged present on = record w {
-  standings = with_standing (new_standing answer w name held judged present on) w.standings;
+abbrev just_judged : {J : Type 0} → Answers J → Laters J → State J → List ℕ → ℕ → Judged → Terms → Bool → State J
+just_judged answer later w name held judged terms on = record w {
+  standings = with_standing (new_standing answer w name held judged terms on) w.standings;
   next = w.next + 1;
-  judge = later w.judge judged (is_none (parent_of name)) present on w.standings;
-  entries = w.entries ++ judged_entry w name held (given_of answer w name judged present on) ∷ [];
+  judge = later w.judge judged (is_none (parent_of name)) terms.present on w.standings;
+  entries = w.entries ++ judged_entry w name held (given_of answer w name judged terms on) ∷ [];
 }
 
-stand_more : (k : Kernel) (ss : List Standing) (next i : ℕ) (s : Standing) → IsDevice k i s.name s.held s.judged → s.number ≡ next → s.removed ≡ false → (Has (names_of ss) s.name → ⊥) → Stand k ss next → Stand k (with_standing s ss) (next + 1)
+-- it isn't marked with any file
+abbrev IsUnmarked : Standing → Type 0
+IsUnmarked s = (control : Control) → is_done control s ≡ false
+
+new_unmarked : (s : Standing) → s.removed ≡ false → s.defaulted ≡ false → IsUnmarked s
+new_unmarked s e f Authorized = refl
+new_unmarked s e f Remove = e
+new_unmarked s e f Default = f
+
+stand_more : (k : Kernel) (ss : List Standing) (next i : ℕ) (s : Standing) → IsDevice k i s.name s.held s.judged → s.number ≡ next → IsUnmarked s → (Has (names_of ss) s.name → ⊥) → Stand k ss next → Stand k (with_standing s ss) (next + 1)
 stand_more k ss next i s d number fresh absent stand =
     stand_by k (with_standing s ss) (next + 1) (order_new next ss s number absent (in_order stand))
     (each_with (λ (v : Standing). (i : ℕ) × IsDevice k i v.name v.held v.judged) s ss (i, d) stand.devices)
-    (each_with (λ (v : Standing). v.removed ≡ true → HasRemoval k v.held) s ss (λ r. absurd (true≢false (sym r ∙ fresh))) stand.removed)
+    (λ control. each_with (λ (v : Standing). is_done control v ≡ true → HasDone control k v.held) s ss (λ r. absurd (true≢false (sym r ∙ fresh control))) (stand.done control))
 
--- a new standing isn't marked as removed
-new_marks : (ss : List Standing) (next : ℕ) (s : Standing) (e : Entry) → s.number ≡ next → s.removed ≡ false → AllDistinct (numbers_of ss) → ((x : Standing) → Has ss x → x.number < next) → NoRemoval (e ∷ []) → AreMarked ss (e ∷ []) (with_standing s ss)
-new_marks ss next s e number fresh distinct low none =
-    let unmarked : WasRemoved ss (e ∷ []) s.number → ⊥ = λ w. elim w [
+-- a new standing isn't marked
+new_marks : (ss : List Standing) (next : ℕ) (s : Standing) (e : Entry) → s.number ≡ next → IsUnmarked s → AllDistinct (numbers_of ss) → ((x : Standing) → Has ss x → x.number < next) → NoneDone (e ∷ []) → AreMarked ss (e ∷ []) (with_standing s ss)
+new_marks ss next s e number fresh distinct low none control once =
+    let unmarked : WasDone control ss (e ∷ []) s.number → ⊥ = λ w. elim w [
       | inl b ↦
           omega (arith, low b.0 b.1, b.2, number)
-      | inr b ↦ none s.number b.0 b.1
+      | inr b ↦ none_of (e ∷ []) none control once s.number b
     ] in
-    each_with (λ (v : Standing). IsRemoveMarked ss (e ∷ []) v) s ss (inr (fresh, unmarked)) (λ t a. keep_one ss (e ∷ []) t (keeps_itself ss t a) distinct (none t.number))
+    each_with (λ (v : Standing). IsDoneMarked control ss (e ∷ []) v) s ss (inr (fresh control, unmarked)) (λ t a. keep_one control ss (e ∷ []) t (keeps_itself ss t a control) distinct (none_of (e ∷ []) none control once t.number))
 
 -- a device of the name had no standing, where the name had none
 none_stood : (k : Kernel) (ss : List Standing) (next i : ℕ) (name : List ℕ) (held : Held) (judged : Judged) → IsDevice k i name held judged → (Has (names_of ss) name → ⊥) → Stand k ss next → HasStanding k ss i → ⊥
@@ -253,22 +268,22 @@ judged_same number n name m held g verdict u cause d (inl e) = ((cc), (cc), (cc)
 judged_same number n name m held g verdict u cause d (inr none) = absurd none
 
 -- a device was bound, and is judged
-judged_fair : {J : Type 0} (answer : Answers J) (later : Laters J) (present : Bool) (n m : Kernel) (u : State J) (name : List ℕ) (held i : ℕ) (judged : Judged) (on : Bool) → IsKernel m → Quiet n m → IsDevice m i name (record { 0 = held }) judged → IsProbed n m name held i on → (Has (names_of u.standings) name → ⊥) → Stand n u.standings u.next → FairFrom answer later present none_before n u m (just_judged answer later u name held judged present on)
-judged_fair answer later present n m u name held i judged on sound q d probed absent stand =
-    let given = given_of answer u name judged present on in
-    let s = new_standing answer u name held judged present on in
+judged_fair : {J : Type 0} (answer : Answers J) (later : Laters J) (terms : Terms) (n m : Kernel) (u : State J) (name : List ℕ) (held i : ℕ) (judged : Judged) (on : Bool) → IsKernel m → Quiet n m → IsDevice m i name (record { 0 = held }) judged → IsProbed n m name held i on → (Has (names_of u.standings) name → ⊥) → Stand n u.standings u.next → FairFrom answer later terms none_before n u m (just_judged answer later u name held judged terms on)
+judged_fair answer later terms n m u name held i judged on sound q d probed absent stand =
+    let given = given_of answer u name judged terms on in
+    let s = new_standing answer u name held judged terms on in
     let e = judged_entry u name held given in
     let file : Held = record { 0 = held } in
-    let now = just_judged answer later u name held judged present on in
+    let now = just_judged answer later u name held judged terms on in
     let there = stand_stays n m u.standings u.next (quiet_grows n m q) stand in
-    let account : Account answer later present none_before n m u.standings m.log u.judge u.next (e ∷ []) m.log now.judge now.next = Judge [] m.log u.judge u.next i name file judged on u.standings d probed there (left_all u.standings stand.distinct) (λ s a. inr (refl, a)) Start in
-    let fair : IsFair answer later present none_before n u m now = record {
+    let account : Account answer later terms none_before n m u.standings m.log u.judge u.next (e ∷ []) m.log now.judge now.next = Judge [] m.log u.judge u.next i name file judged on u.standings d probed there (left_all u.standings stand.distinct) (λ s a. inr (refl, a)) Start in
+    let fair : IsFair answer later terms none_before n u m now = record {
       sound = sound;
       grows = quiet_grows n m q;
       rest = e ∷ [];
       entries = refl;
-      stand = stand_more m u.standings u.next i s d refl refl absent there;
-      account = subst (λ (v : List Effect). Account answer later present none_before n m u.standings v u.judge u.next (e ∷ []) m.log now.judge now.next) q.log account;
+      stand = stand_more m u.standings u.next i s d refl (new_unmarked s refl refl) absent there;
+      account = subst (λ (v : List Effect). Account answer later terms none_before n m u.standings v u.judge u.next (e ∷ []) m.log now.judge now.next) q.log account;
       left = record {
         told = each_with (λ (v : Standing). IsTold u.standings (e ∷ []) v) s u.standings (inr (inl refl)) (λ t a. inl (one_itself u.standings t a));
         kept = λ t a. inl (one_itself now.standings t (has_old u.standings (place_for name u.standings) s t a));
@@ -276,7 +291,7 @@ judged_fair answer later present n m u name held i judged on sound q d probed ab
             let x = judged_same u.next number name m file held given.0 verdict given.1 cause a in
             inl (s, has_new u.standings (place_for name u.standings) s, x.0, x.1, x.2, x.3, x.4);
         ended = λ t other a g. elim g [ inl is ↦ let none : ⊥ = cc in none | inr none ↦ none ];
-        removed = new_marks u.standings u.next s e refl refl stand.distinct stand.numbers (λ number m h. elim h [ inl is ↦ let none : ⊥ = cc in none | inr none ↦ none ]);
+        done = new_marks u.standings u.next s e refl (new_unmarked s refl refl) stand.distinct stand.numbers (λ number m w once h. elim h [ inl is ↦ let none : ⊥ = cc in none | inr none ↦ none ]);
       };
       gone = tt;
       once = λ j a b x y. sym (judged_same u.next a name x.name file x.held given.0 x.verdict given.1 x.cause x.has).0 ∙ (judged_same u.next b name y.name file y.held given.0 y.verdict given.1 y.cause y.has).0;
@@ -293,96 +308,147 @@ bound_device name k l b x =
     let own : judged_of x.d.name b.attrs b.parent ≡ judged_of x.d.name (attrs_of x.d) b.parent = ap (λ (v : Attrs). judged_of x.d.name v b.parent) x.own in
     record { d = x.d; device = x.device; file = x.file; named = x.named; of = (b.parent, x.parents, cc (named, own)) }
 
-bound_fair : {J : Type 0} {answer : Answers J} {later : Laters J} {present : Bool} {tried : Tries} {k n : Kernel} {w u : State J} (m : Kernel) (name : List ℕ) (b : Bound) → IsKernel m → Quiet n m → IsBound name n m b → (Has (names_of u.standings) name → ⊥) → AreIn tried name w u → FairFrom answer later present tried k w n u → FairFrom answer later present tried k w m (just_judged answer later u name b.held.0 (judged_of name b.attrs b.parent) present b.on)
+bound_fair : {J : Type 0} {answer : Answers J} {later : Laters J} {terms : Terms} {tried : Tries} {k n : Kernel} {w u : State J} (m : Kernel) (name : List ℕ) (b : Bound) → IsKernel m → Quiet n m → IsBound name n m b → (Has (names_of u.standings) name → ⊥) → AreIn tried name w u → FairFrom answer later terms tried k w n u → FairFrom answer later terms tried k w m (just_judged answer later u name b.held.0 (judged_of name b.attrs b.parent) terms b.on)
 unfolding judged_fair
-bound_fair {J} {answer} {later} {present} {tried} {k} {n} {w} {u} m name b sound q x absent so h =
+bound_fair {J} {answer} {later} {terms} {tried} {k} {n} {w} {u} m name b sound q x absent so h =
     let probed : IsProbed n m name b.held.0 x.i b.on = record { first = n; last = m; since = grows_refl n; lived = x.lived; until = grows_refl m } in
     let judged = judged_of name b.attrs b.parent in
     let device = bound_device name n m b x in
-    let step = judged_fair answer later present n m u name b.held.0 x.i judged b.on sound q device probed absent h.fair.stand in
-    let now = just_judged answer later u name b.held.0 judged present b.on in
-    let before = account_stays answer later present tried k n m w.standings k.log w.judge w.next h.fair.rest n.log u.judge u.next (quiet_grows n m q) h.fair.account in
-    let whole : Account answer later present tried k m w.standings k.log w.judge w.next (h.fair.rest ++ judged_entry u name b.held.0 (given_of answer u name judged present b.on) ∷ []) n.log now.judge now.next = Judge h.fair.rest n.log u.judge u.next x.i name b.held judged b.on u.standings device (probed_from k n m name b.held.0 x.i b.on h.fair.grows probed) (stand_stays n m u.standings u.next (quiet_grows n m q) h.fair.stand) h.fair.left (so h.fair.rest h.fair.entries) before in
-    fair_by h step (subst (λ (v : List Effect). Account answer later present tried k m w.standings k.log w.judge w.next (h.fair.rest ++ judged_entry u name b.held.0 (given_of answer u name judged present b.on) ∷ []) v now.judge now.next) (sym q.log) whole)
+    let step = judged_fair answer later terms n m u name b.held.0 x.i judged b.on sound q device probed absent h.fair.stand in
+    let now = just_judged answer later u name b.held.0 judged terms b.on in
+    let before = account_stays answer later terms tried k n m w.standings k.log w.judge w.next h.fair.rest n.log u.judge u.next (quiet_grows n m q) h.fair.account in
+    let whole : Account answer later terms tried k m w.standings k.log w.judge w.next (h.fair.rest ++ judged_entry u name b.held.0 (given_of answer u name judged terms b.on) ∷ []) n.log now.judge now.next = Judge h.fair.rest n.log u.judge u.next x.i name b.held judged b.on u.standings device (probed_from k n m name b.held.0 x.i b.on h.fair.grows probed) (stand_stays n m u.standings u.next (quiet_grows n m q) h.fair.stand) h.fair.left (so h.fair.rest h.fair.entries) before in
+    fair_by h step (subst (λ (v : List Effect). Account answer later terms tried k m w.standings k.log w.judge w.next (h.fair.rest ++ judged_entry u name b.held.0 (given_of answer u name judged terms b.on) ∷ []) v now.judge now.next) (sym q.log) whole)
 
 -- a known device is brought to its verdict
-pub known_brought : {J : Type 0} {answer : Answers J} {later : Laters J} {present : Bool} {tried : Tries} {k m : Kernel} {w u : State J} {ms : List Made} {es : List Entry} {how : Settled} (l : Kernel) (name : List ℕ) (known : Known) (on : Bool) → standing_of name u.standings ≡ Some known → FairFrom answer later present tried k w m u → Brought name known on ms es how → Along calls m ms l → FairFrom answer later present tried k w l (record u { standings = tried_standings u.standings name how; entries = u.entries ++ es })
+pub known_brought : {J : Type 0} {answer : Answers J} {later : Laters J} {terms : Terms} {tried : Tries} {k m : Kernel} {w u : State J} {ms : List Made} {es : List Entry} {how : Settled} (l : Kernel) (name : List ℕ) (known : Known) (on : Bool) → standing_of name u.standings ≡ Some known → FairFrom answer later terms tried k w m u → Brought name known on ms es how → Along calls m ms l → FairFrom answer later terms tried k w l (record u { standings = tried_standings u.standings name how; entries = u.entries ++ es })
 known_brought {m = m} {u = u} {ms = ms} {es = es} {how = how} l name known on at h b along =
     let f = found name u.standings known at in
     let named : Brought f.s.name known on ms es how = subst (λ (v : List ℕ). Brought v known on ms es how) (sym f.named) b in
     let own : Brought f.s.name (known_of f.s) on ms es how = subst (λ (v : Known). Brought f.s.name v on ms es how) (sym f.known) named in
     brought_fair l f.s (tried_standings u.standings name) own f.has (λ how. tried_after m u.standings u.next name f.s how f.has f.named h.fair.stand) h along
 
+-- the write to the default of a root hub that is due
+
+default_calls : (hub : Option Write) (name : List ℕ) (verdict : Target) (what : Write) → control_of what ≡ Default → parent_of name ≡ None → default_of hub ≡ Some what → CallsFor hub name verdict what
+default_calls hub name verdict Write.DefaultOff f r e = (r, e)
+default_calls hub name verdict Write.DefaultOn f r e = (r, e)
+default_calls hub name verdict x f r e = let none : ⊥ = cc in absurd none
+
+-- the standings behind it
+abbrev default_after : List Standing → List ℕ → Settled → List Standing
+default_after ss name Settled.Stands = map (with_default name) ss
+default_after ss name how = tried_standings ss name how
+
+after_cut : (ss : List Standing) (name : List ℕ) (how : Settled) → (how ≡ Settled.Stands → ⊥) → default_after ss name how ≡ tried_standings ss name how
+after_cut ss name Settled.Stands n = absurd (n refl)
+after_cut ss name how n = refl
+
+default_ends : (m : Kernel) (ss : List Standing) (next : ℕ) (name : List ℕ) (s : Standing) (what : Write) → control_of what ≡ Default → Has ss s → s.name ≡ name → Stand m ss next → Ends (control_of what) (Unit {0}) s ss (default_after ss name)
+default_ends m ss next name s what file has named stand =
+    let ends : Ends Default (Unit {0}) s ss (default_after ss name) = record {
+      done = (did_same ss name, default_marks m ss next name s has named stand);
+      gone = tried_after m ss next name s Settled.Nobody has named stand;
+      fault = λ failed. tried_after m ss next name s (Settled.Fault failed) has named stand;
+      short = tried_after m ss next name s Settled.Memory has named stand;
+    } in
+    subst (λ (c : Control). Ends c (Unit {0}) s ss (default_after ss name)) (sym file) ends
+
+default_fair : {J : Type 0} {answer : Answers J} {later : Laters J} {terms : Terms} {tried : Tries} {k m : Kernel} {w u : State J} {ds : List Made} {fs : List Entry} {how : Settled} (l : Kernel) (name : List ℕ) (known : Known) (what : Write) → standing_of name u.standings ≡ Some known → default_due terms.hub name known ≡ Some what → FairFrom answer later terms tried k w m u → OnceMade name known what ds fs how → Along calls m ds l → FairFrom answer later terms tried k w l (more u (default_after u.standings name how) fs)
+default_fair {terms = terms} {m = m} {u = u} {ds = ds} {fs = fs} {how = how} l name known what at e h o along =
+    let f = found name u.standings known at in
+    let s = f.s in
+    let due = due_is terms.hub name known what e in
+    let named : OnceMade s.name known what ds fs how = subst (λ (v : List ℕ). OnceMade v known what ds fs how) (sym f.named) o in
+    let own : OnceMade s.name (known_of s) what ds fs how = subst (λ (v : Known). OnceMade s.name v what ds fs how) (sym f.known) named in
+    let fresh : is_done (control_of what) s ≡ false = ap (λ (c : Control). is_done c s) due.file ∙ ap (λ (v : Known). v.defaulted) f.known ∙ due.fresh in
+    let root : parent_of s.name ≡ None = ap parent_of f.named ∙ due.root in
+    once_fair l s (Unit {0}) (default_after u.standings name) own (default_calls terms.hub s.name s.verdict what due.file root due.is) tt fresh f.has (default_ends m u.standings u.next name s what due.file f.has f.named h.fair.stand) h along
+
+-- a known device has all its writes
+known_treated : {J : Type 0} {answer : Answers J} {later : Laters J} {terms : Terms} {tried : Tries} {k m : Kernel} {w u : State J} {d : Bool} {ms : List Made} {es : List Entry} {how : Settled} (l : Kernel) (name : List ℕ) (known : Known) (on : Bool) → standing_of name u.standings ≡ Some known → FairFrom answer later terms tried k w m u → Treated terms.hub name known on d ms es how → Along calls m ms l → FairFrom answer later terms tried k w l (record u { standings = tried_standings (did_default name d u.standings) name how; entries = u.entries ++ es })
+known_treated l name known on at h (No_default ms es how e b) along = known_brought l name known on at h b along
+known_treated {m = m} {u = u} l name known on at h (And_default what ds ms fs es how e o b) along =
+    let cut = along_split calls ds ms m l along in
+    let first = default_fair cut.0 name known what at e h o cut.1 in
+    let now = did_stands name true u.standings known at in
+    joined u (tried_standings (map (with_default name) u.standings) name how) fs es (known_brought l name (defaulted_known known) on now first b cut.2)
+known_treated {answer = answer} {later = later} {terms = terms} {tried = tried} {k = k} {w = w} {u = u} l name known on at h (Cut_default what ds fs how e o cut) along =
+    subst (λ (v : List Standing). FairFrom answer later terms tried k w l (more u v fs)) (after_cut u.standings name how cut.0) (default_fair l name known what at e h o along)
+known_treated {m = m} l name known on at h (Gone_default what ds fs shut e o) along =
+    let cut = along_split calls ds (answered (Close known.held.0) shut ∷ []) m l along in
+    fair_end l _ refl cut.2.2 (then_called (Close known.held.0) shut cut.2.0 tt cut.2.1 (default_fair cut.0 name known what at e h o cut.1))
+
 -- and the name is told where it ends unsettled
-told_fair : {J : Type 0} {answer : Answers J} {later : Laters J} {present : Bool} {tried : Tries} {k l : Kernel} {w : State J} (u : State J) (rs : List Standing) (es : List Entry) (name : List ℕ) (how : Settled) → FairFrom answer later present tried k w l (record u { standings = rs; entries = u.entries ++ es }) → FairFrom answer later present tried k w l (record u { standings = rs; entries = u.entries ++ (es ++ unsettled_by name how) })
-told_fair {J} {answer} {later} {present} {tried} {k} {l} {w} u rs es name how h = joined u rs es (unsettled_by name how) (by how)
+told_fair : {J : Type 0} {answer : Answers J} {later : Laters J} {terms : Terms} {tried : Tries} {k l : Kernel} {w : State J} (u : State J) (rs : List Standing) (es : List Entry) (name : List ℕ) (how : Settled) → FairFrom answer later terms tried k w l (record u { standings = rs; entries = u.entries ++ es }) → FairFrom answer later terms tried k w l (record u { standings = rs; entries = u.entries ++ (es ++ unsettled_by name how) })
+told_fair {J} {answer} {later} {terms} {tried} {k} {l} {w} u rs es name how h = joined u rs es (unsettled_by name how) (by how)
   where
     v : State J
     v = record u { standings = rs; entries = u.entries ++ es }
 
-    by : (x : Settled) → FairFrom answer later present tried k w l (record v { entries = v.entries ++ unsettled_by name x })
+    by : (x : Settled) → FairFrom answer later terms tried k w l (record v { entries = v.entries ++ unsettled_by name x })
     by Settled.Stands = none_more v h
     by Settled.Nobody = none_more v h
     by (Settled.Fault failed) = then_note (Entry.Unsettled name (Fault.Call failed)) tt h
     by Settled.Memory = then_note (Entry.Unsettled name Fault.Memory) tt h
 
-known_settled : {J : Type 0} {answer : Answers J} {later : Laters J} {present : Bool} {tried : Tries} {k m : Kernel} {w u : State J} {ms : List Made} {es : List Entry} {how : Settled} (l : Kernel) (name : List ℕ) (known : Known) (on : Bool) → standing_of name u.standings ≡ Some known → FairFrom answer later present tried k w m u → Brought name known on ms es how → Along calls m ms l → FairFrom answer later present tried k w l (record u { standings = tried_standings u.standings name how; entries = u.entries ++ (es ++ unsettled_by name how) })
-known_settled {u = u} {es = es} {how = how} l name known on at h b along = told_fair u (tried_standings u.standings name how) es name how (known_brought l name known on at h b along)
+known_settled : {J : Type 0} {answer : Answers J} {later : Laters J} {terms : Terms} {tried : Tries} {k m : Kernel} {w u : State J} {d : Bool} {ms : List Made} {es : List Entry} {how : Settled} (l : Kernel) (name : List ℕ) (known : Known) (on : Bool) → standing_of name u.standings ≡ Some known → FairFrom answer later terms tried k w m u → Treated terms.hub name known on d ms es how → Along calls m ms l → FairFrom answer later terms tried k w l (record u { standings = tried_standings (did_default name d u.standings) name how; entries = u.entries ++ (es ++ unsettled_by name how) })
+known_settled {u = u} {d = d} {es = es} {how = how} l name known on at h b along = told_fair u (tried_standings (did_default name d u.standings) name how) es name how (known_treated l name known on at h b along)
 
 -- a known device that is gone loses its standing
-then_dropped : {J : Type 0} {answer : Answers J} {later : Laters J} {present : Bool} {tried : Tries} {k m : Kernel} {w u : State J} (name : List ℕ) (known : Known) → standing_of name u.standings ≡ Some known → IsGoneAt known.held.0 m → FairFrom answer later present tried k w m u → FairFrom answer later present tried k w m (dropped u name known.number)
-then_dropped {J} {answer} {later} {present} {tried} {k} {m} {w} {u} name known at gone h =
+then_dropped : {J : Type 0} {answer : Answers J} {later : Laters J} {terms : Terms} {tried : Tries} {k m : Kernel} {w u : State J} (name : List ℕ) (known : Known) → standing_of name u.standings ≡ Some known → IsGoneAt known.held.0 m → FairFrom answer later terms tried k w m u → FairFrom answer later terms tried k w m (dropped u name known.number)
+then_dropped {J} {answer} {later} {terms} {tried} {k} {m} {w} {u} name known at gone h =
     let f = found name u.standings known at in
     let held : f.s.held ≡ known.held = ap (λ (v : Known). v.held) f.known in
     let number : f.s.number ≡ known.number = ap (λ (v : Known). v.number) f.known in
     let went = then_went f.s (without name u.standings) f.has (without_less m u.standings u.next name f.s f.has f.named h.fair.stand) (subst (λ (v : Held). IsGoneAt v.0 m) (sym held) gone) h in
     let e : Entry.Gone f.s.number f.s.name ≡ Entry.Gone known.number name = cc (number, f.named) in
-    subst (λ (v : Entry). FairFrom answer later present tried k w m (record u { standings = without name u.standings; entries = u.entries ++ v ∷ [] })) e went
+    subst (λ (v : Entry). FairFrom answer later terms tried k w m (record u { standings = without name u.standings; entries = u.entries ++ v ∷ [] })) e went
 
 -- and one whose probe failed is marked
-then_failed : {J : Type 0} {answer : Answers J} {later : Laters J} {present : Bool} {tried : Tries} {k m : Kernel} {w u : State J} (name : List ℕ) (known : Known) (failed : FailedCall) → standing_of name u.standings ≡ Some known → FairFrom answer later present tried k w m u → FairFrom answer later present tried k w m (record u { standings = tried_standings u.standings name (Settled.Fault failed); entries = u.entries ++ Entry.Unsettled name (Fault.Call failed) ∷ [] })
+then_failed : {J : Type 0} {answer : Answers J} {later : Laters J} {terms : Terms} {tried : Tries} {k m : Kernel} {w u : State J} (name : List ℕ) (known : Known) (failed : FailedCall) → standing_of name u.standings ≡ Some known → FairFrom answer later terms tried k w m u → FairFrom answer later terms tried k w m (record u { standings = tried_standings u.standings name (Settled.Fault failed); entries = u.entries ++ Entry.Unsettled name (Fault.Call failed) ∷ [] })
 then_failed {m = m} {u = u} name known failed at h =
     let f = found name u.standings known at in
     let after = tried_after m u.standings u.next name f.s (Settled.Fault failed) f.has f.named h.fair.stand in
     then_same (tried_standings u.standings name (Settled.Fault failed)) after.0 after.1 (then_note (Entry.Unsettled name (Fault.Call failed)) tt h)
 
 -- before a binding, the name has no standing left
-record OpensFair {J : Type 0} (answer : Answers J) (later : Laters J) (present : Bool) (tried : Tries) (k : Kernel) (w : State J) (l : Kernel) (v : State J) (name : List ℕ) (binds : Bool) : Type 0 where
-  fair : FairFrom answer later present tried k w l v
+record OpensFair {J : Type 0} (answer : Answers J) (later : Laters J) (terms : Terms) (tried : Tries) (k : Kernel) (w : State J) (l : Kernel) (v : State J) (name : List ℕ) (binds : Bool) : Type 0 where
+  fair : FairFrom answer later terms tried k w l v
   so : binds ≡ true → AreIn tried name w v
 
-opening_fair : {J : Type 0} {answer : Answers J} {later : Laters J} {present : Bool} {tried : Tries} {binds : Bool} {k m : Kernel} {w u : State J} {name : List ℕ} {ms : List Made} {es : List Entry} {rs : List Standing} (l : Kernel) → Opening name u.standings ms es rs → (binds ≡ true → AreIn tried name w u) → FairFrom answer later present tried k w m u → Along calls m ms l → OpensFair answer later present tried k w l (record u { standings = rs; entries = u.entries ++ es }) name binds
-opening_fair {J} {answer} {later} {present} {tried} {binds} {k} {m} {w} {u} {name} l (Fresh e) so h a =
-    subst (λ (v : List Entry). OpensFair answer later present tried k w l (record u { entries = v }) name binds) (sym (append-nil u.entries)) (record { fair = fair_end l u refl a h; so = so })
+opening_fair : {J : Type 0} {answer : Answers J} {later : Laters J} {terms : Terms} {tried : Tries} {binds : Bool} {k m : Kernel} {w u : State J} {name : List ℕ} {ms : List Made} {es : List Entry} {rs : List Standing} (l : Kernel) → Opening name u.standings ms es rs → (binds ≡ true → AreIn tried name w u) → FairFrom answer later terms tried k w m u → Along calls m ms l → OpensFair answer later terms tried k w l (record u { standings = rs; entries = u.entries ++ es }) name binds
+opening_fair {J} {answer} {later} {terms} {tried} {binds} {k} {m} {w} {u} {name} l (Fresh e) so h a =
+    subst (λ (v : List Entry). OpensFair answer later terms tried k w l (record u { entries = v }) name binds) (sym (append-nil u.entries)) (record { fair = fair_end l u refl a h; so = so })
 opening_fair {tried = tried} {w = w} {u = u} {name = name} l (Lost known failed shut e) so h a = record {
   fair = fair_end l _ refl a.2.2 (then_called (Close known.held.0) shut a.2.0 tt a.2.1 (then_dropped name known e a.1.says (then_called (Ask_alive known.held.0) (told_at Probe.Gone failed) a.0 tt a.1 h)));
   so = λ b. dropped_in tried w u name known.number h.fair.rest h.fair.entries (so b);
 }
 
 -- the state after a name's part
-abbrev ended_as : {J : Type 0} → Laters J → Bool → List ℕ → State J → Option (List Standing × Bound) → List Standing → List Entry → State J
-ended_as later present name u o rs es = record u { standings = rs; next = next_after u o; judge = judge_after later present name u o; entries = u.entries ++ es }
+abbrev ended_as : {J : Type 0} → Laters J → Terms → List ℕ → State J → Option (List Standing × Bound) → List Standing → List Entry → State J
+ended_as later terms name u o rs es = record u { standings = rs; next = next_after u o; judge = judge_after later terms name u o; entries = u.entries ++ es }
 
-unbound_fair : {J : Type 0} {answer : Answers J} {later : Laters J} {present : Bool} {tried : Tries} {k l : Kernel} {w : State J} {name : List ℕ} {r : Binding} {fs : List Entry} {how : Settled} (u : State J) (rs : List Standing) (es : List Entry) → Unbound_end name r fs how → FairFrom answer later present tried k w l (record u { standings = rs; entries = u.entries ++ es }) → FairFrom answer later present tried k w l (record u { standings = rs; entries = u.entries ++ (es ++ fs) })
-unbound_fair {J} {answer} {later} {present} {tried} {k} {l} {w} {name} {r} {fs} u rs es end h = joined u rs es fs (by end h)
+unbound_fair : {J : Type 0} {answer : Answers J} {later : Laters J} {terms : Terms} {tried : Tries} {k l : Kernel} {w : State J} {name : List ℕ} {r : Binding} {fs : List Entry} {how : Settled} (u : State J) (rs : List Standing) (es : List Entry) → Unbound_end name r fs how → FairFrom answer later terms tried k w l (record u { standings = rs; entries = u.entries ++ es }) → FairFrom answer later terms tried k w l (record u { standings = rs; entries = u.entries ++ (es ++ fs) })
+unbound_fair {J} {answer} {later} {terms} {tried} {k} {l} {w} {name} {r} {fs} u rs es end h = joined u rs es fs (by end h)
   where
     v : State J
     v = record u { standings = rs; entries = u.entries ++ es }
 
-    by : {r : Binding} {fs : List Entry} {how : Settled} → Unbound_end name r fs how → FairFrom answer later present tried k w l v → FairFrom answer later present tried k w l (record v { entries = v.entries ++ fs })
+    by : {r : Binding} {fs : List Entry} {how : Settled} → Unbound_end name r fs how → FairFrom answer later terms tried k w l v → FairFrom answer later terms tried k w l (record v { entries = v.entries ++ fs })
     by (Failed_so failed) h = then_note (Entry.Unsettled name (Fault.Call failed)) tt h
     by Short_so h = then_note (Entry.Unsettled name Fault.Memory) tt h
     by x h = none_more v h
 
 -- a binding leads to what it says
-binds_fair : {J : Type 0} {answer : Answers J} {later : Laters J} {present : Bool} {tried : Tries} {k n : Kernel} {w u : State J} (m : Kernel) (name : List ℕ) (ns : List Made) (r : Binding) → Way (binding name (parent_of name)) ns r → FairFrom answer later present tried k w n u → Along calls n ns m → IsKernel m × Quiet n m × BindSays name n m r × FairFrom answer later present tried k w m u
+binds_fair : {J : Type 0} {answer : Answers J} {later : Laters J} {terms : Terms} {tried : Tries} {k n : Kernel} {w u : State J} (m : Kernel) (name : List ℕ) (ns : List Made) (r : Binding) → Way (binding name (parent_of name)) ns r → FairFrom answer later terms tried k w n u → Along calls n ns m → IsKernel m × Quiet n m × BindSays name n m r × FairFrom answer later terms tried k w m u
 binds_fair {n = n} m name ns r way h a =
     let law = binding_law name (parent_of name) r n m refl h.fair.sound (way_runs calls (binding name (parent_of name)) ns n r m way a) in
     (law.sound, law.quiet, law.says, then_quiet m law.sound law.quiet h)
 
-flat_fair : {J : Type 0} {answer : Answers J} {later : Laters J} {present : Bool} {tried : Tries} {binds : Bool} {given : List Standing → Bound → Standing → Type 0} {k m : Kernel} {w u : State J} {name : List ℕ} {ok : Bool} {ms : List Made} {rest : List Entry} {how : Settled} {rs : List Standing} {o : Option (List Standing × Bound)} (l : Kernel) → Flat binds given name u.standings ok ms rest how rs o → ((ss : List Standing) (b : Bound) (x : Standing) → given ss b x → IsGiven answer present name u ss b x) → (binds ≡ true → AreIn tried name w u) → FairFrom answer later present tried k w m u → Along calls m ms l → FairFrom answer later present tried k w l (ended_as later present name u o rs rest)
+flat_fair : {J : Type 0} {answer : Answers J} {later : Laters J} {terms : Terms} {tried : Tries} {binds : Bool} {given : List Standing → Bound → Standing → Type 0} {k m : Kernel} {w u : State J} {name : List ℕ} {ok : Bool} {ms : List Made} {rest : List Entry} {how : Settled} {rs : List Standing} {o : Option (List Standing × Bound)} (l : Kernel) → Flat terms.hub binds given name u.standings ok ms rest how rs o → ((ss : List Standing) (b : Bound) (x : Standing) → given ss b x → IsGiven answer terms name u ss b x) → (binds ≡ true → AreIn tried name w u) → FairFrom answer later terms tried k w m u → Along calls m ms l → FairFrom answer later terms tried k w l (ended_as later terms name u o rs rest)
 flat_fair {name = name} l (Unprobed known failed at) is so h a = fair_end l _ refl a.2 (then_failed name known failed at (then_called (Ask_alive known.held.0) (told_at Probe.Failed failed) a.0 tt a.1 h))
-flat_fair {name = name} l (Tried known on failed ms es how at b) is so h a = known_settled l name known on at (then_called (Ask_alive known.held.0) (told_at (Probe.Alive on) failed) a.0 tt a.1 h) b a.2
+flat_fair {name = name} l (Tried known on failed d ms es how at b) is so h a = known_settled l name known on at (then_called (Ask_alive known.held.0) (told_at (Probe.Alive on) failed) a.0 tt a.1 h) b a.2
 flat_fair l (Stopped ms es rs f opening) is so h a = (opening_fair l opening so h a).fair
 flat_fair {m = m} {u = u} {name = name} l (Unbound ms ns es fs rs r how t opening way end) is so h a =
     let cut = along_split calls ms ns m l a in
@@ -393,7 +459,7 @@ flat_fair {m = m} {u = u} {name = name} l (No_place ms ns es rs b shut t opening
     let far = along_split calls ns last cut.0 l cut.2 in
     let x = binds_fair far.0 name ns (Binding.Bound b) way (opening_fair cut.0 opening so h cut.1).fair far.1 in
     joined u rs es _ (fair_end l _ refl far.2.2 (then_note (Entry.Unsettled name Fault.Memory) tt (then_called (Close b.held.0) shut far.2.0 tt far.2.1 x.3)))
-flat_fair {J} {answer} {later} {present} {tried} {k = k} {m = m} {w = w} {u = u} {name = name} l (Judged_so ms ns os es fs rs b x how t opening way given new brought) is so h a =
+flat_fair {J} {answer} {later} {terms} {tried} {k = k} {m = m} {w = w} {u = u} {name = name} l (Judged_so ms ns os es fs rs b x d how t opening way given new brought) is so h a =
     let cut = along_split calls ms (ns ++ os) m l a in
     let far = along_split calls ns os cut.0 l cut.2 in
     let o = opening_fair cut.0 opening so h cut.1 in
@@ -402,27 +468,27 @@ flat_fair {J} {answer} {later} {present} {tried} {k = k} {m = m} {w = w} {u = u}
     let y = binds_fair n name ns (Binding.Bound b) way o.fair far.1 in
     let judged : Judged = judged_of name b.attrs b.parent in
     let first = bound_fair n name b y.0 y.1 y.2 (opening_absent opening) (o.so t) o.fair in
-    let now = just_judged answer later v name b.held.0 judged present b.on in
-    let s = new_standing answer v name b.held.0 judged present b.on in
-    let e = judged_entry v name b.held.0 (given_of answer v name judged present b.on) in
-    let E : Standing → State J = λ z. ended_as later present name u (Some (rs, b)) (tried_standings (with_standing z rs) name how) (es ++ Entry.Judged z.number name z.held z.verdict z.cause ∷ (fs ++ unsettled_by name how)) in
-    let T : Standing → Type 0 = λ z. Brought name (known_of z) b.on os fs how → FairFrom answer later present tried k w l (E z) in
-    let own : T s = λ br. subst (λ (q : List Entry). FairFrom answer later present tried k w l (record now { standings = tried_standings (with_standing s rs) name how; entries = q })) (append_assoc v.entries (e ∷ []) (fs ++ unsettled_by name how) ∙ append_assoc u.entries es (e ∷ (fs ++ unsettled_by name how)))
+    let now = just_judged answer later v name b.held.0 judged terms b.on in
+    let s = new_standing answer v name b.held.0 judged terms b.on in
+    let e = judged_entry v name b.held.0 (given_of answer v name judged terms b.on) in
+    let E : Standing → State J = λ z. ended_as later terms name u (Some (rs, b)) (tried_standings (did_default name d (with_standing z rs)) name how) (es ++ Entry.Judged z.number name z.held z.verdict z.cause ∷ (fs ++ unsettled_by name how)) in
+    let T : Standing → Type 0 = λ z. Treated terms.hub name (known_of z) b.on d os fs how → FairFrom answer later terms tried k w l (E z) in
+    let own : T s = λ br. subst (λ (q : List Entry). FairFrom answer later terms tried k w l (record now { standings = tried_standings (did_default name d (with_standing s rs)) name how; entries = q })) (append_assoc v.entries (e ∷ []) (fs ++ unsettled_by name how) ∙ append_assoc u.entries es (e ∷ (fs ++ unsettled_by name how)))
     (known_settled l name (known_of s) b.on (with_own name s rs refl (opening_none opening)) first br far.2) in
     (subst T (sym (is rs b x given)) own) brought
 
-pub piece_fair : {J : Type 0} {answer : Answers J} {later : Laters J} {binds present : Bool}
+pub piece_fair : {J : Type 0} {answer : Answers J} {later : Laters J} {binds : Bool} {terms : Terms}
     {tried : Tries} {name : List ℕ} {how : Settled} {ok : Bool} {ms : List Made} {k m l : Kernel}
     {w u v : State J} → (binds ≡ true → AreIn tried name w u)
-    → FairFrom answer later present tried k w m u
-    → Piece answer later binds present name u ok ms how v → Along calls m ms l
-    → FairFrom answer later present tried k w l v
-piece_fair {J} {answer} {later} {present = present} {tried = tried} {name = name} {k = k} {l = l}
+    → FairFrom answer later terms tried k w m u
+    → Piece answer later binds terms name u ok ms how v → Along calls m ms l
+    → FairFrom answer later terms tried k w l v
+piece_fair {J} {answer} {later} {terms = terms} {tried = tried} {name = name} {k = k} {l = l}
     {w = w}
     {u = u} {v = v} so h p a =
-    let is : v ≡ ended_as later present name u p.judged v.standings p.rest =
-    λ i. record { standings = v.standings; next = p.next i; listed = p.listed i; judge = p.judge i; entries = p.entries i } in
-    subst (λ (x : State J). FairFrom answer later present tried k w l x) (sym is)
+    let is : v ≡ ended_as later terms name u p.judged v.standings p.rest =
+    λ i. record { standings = v.standings; next = p.next i; listed = p.listed i; hub = p.hub i; judge = p.judge i; entries = p.entries i } in
+    subst (λ (x : State J). FairFrom answer later terms tried k w l x) (sym is)
     (flat_fair l p.flat (λ ss b z g. g) so h a)
 
 -- The sweep is fair.
@@ -431,14 +497,14 @@ piece_fair {J} {answer} {later} {present = present} {tried = tried} {name = name
 abbrev Awaits : {J : Type 0} → List (List ℕ) → State J → State J → Type 0
 Awaits names w u = AllDistinct names × AreInOrder names × AreSplit names w u × AreFresh names w u
 
-chain_fair : {J : Type 0} {answer : Answers J} {later : Laters J} {binds present : Bool}
+chain_fair : {J : Type 0} {answer : Answers J} {later : Laters J} {binds : Bool} {terms : Terms}
     {names : List (List ℕ)} {k m : Kernel} {w u v : State J} {ok : Bool} {ms : List Made}
     {es : List Entry} (l : Kernel) → (binds ≡ true → Awaits names w u)
-    → FairFrom answer later present swept_before k w m u
-    → Chain answer later binds present names u ok ms es v → Along calls m ms l
-    → FairFrom answer later present swept_before k w l v
-chain_fair {answer = answer} {later = later} {present = present} {k = k} {w = w} l so h (Over x) a =
-    subst (λ (n : Kernel). FairFrom answer later present swept_before k w n x) (sym a) h
+    → FairFrom answer later terms swept_before k w m u
+    → Chain answer later binds terms names u ok ms es v → Along calls m ms l
+    → FairFrom answer later terms swept_before k w l v
+chain_fair {answer = answer} {later = later} {terms = terms} {k = k} {w = w} l so h (Over x) a =
+    subst (λ (n : Kernel). FairFrom answer later terms swept_before k w n x) (sym a) h
 chain_fair {m = m} {w = w} l so h (First name names how u x v ok more ms ns es p c) a =
     let rest = h.fair.rest in
     let e = h.fair.entries in
@@ -484,12 +550,12 @@ farewell_distinct names ss d = subst AllDistinct (sym (ap gone_of (farewells_are
 abbrev AreGone : Kernel → List (List ℕ) → List Standing → Type 0
 AreGone m names ss = (s : Standing) (i : ℕ) → Has ss s → IsDevice m i s.name s.held s.judged → lists names s.name ≡ false → IsGone m i
 
-farewell_account : {J : Type 0} (answer : Answers J) (later : Laters J) (present : Bool) (tried : Tries) (m : Kernel) (names : List (List ℕ)) (before : List Standing) (log : List Effect) (judge : J) (next : ℕ) (ss : List Standing) (es : List Entry) → Stand m before next → AreGone m names before → ((s : Standing) → Has ss s → Has before s) → Account answer later present tried m m before log judge next es log judge next → Account answer later present tried m m before log judge next (es ++ farewells names ss) log judge next
-farewell_account answer later present tried m names before log judge next [] es stand gone sub a = subst (λ (v : List Entry). Account answer later present tried m m before log judge next v log judge next) (sym (append-nil es)) a
-farewell_account {J} answer later present tried m names before log judge next (s ∷ ss) es stand gone sub a =
+farewell_account : {J : Type 0} (answer : Answers J) (later : Laters J) (terms : Terms) (tried : Tries) (m : Kernel) (names : List (List ℕ)) (before : List Standing) (log : List Effect) (judge : J) (next : ℕ) (ss : List Standing) (es : List Entry) → Stand m before next → AreGone m names before → ((s : Standing) → Has ss s → Has before s) → Account answer later terms tried m m before log judge next es log judge next → Account answer later terms tried m m before log judge next (es ++ farewells names ss) log judge next
+farewell_account answer later terms tried m names before log judge next [] es stand gone sub a = subst (λ (v : List Entry). Account answer later terms tried m m before log judge next v log judge next) (sym (append-nil es)) a
+farewell_account {J} answer later terms tried m names before log judge next (s ∷ ss) es stand gone sub a =
     let e = Entry.Gone s.number s.name in
-    let A : List Entry → Type 0 = λ v. Account answer later present tried m m before log judge next v log judge next in
-    let rec : (fs : List Entry) → A fs → A (fs ++ farewells names ss) = λ fs b. farewell_account answer later present tried m names before log judge next ss fs stand gone (λ t h. sub t (inr h)) b in
+    let A : List Entry → Type 0 = λ v. Account answer later terms tried m m before log judge next v log judge next in
+    let rec : (fs : List Entry) → A fs → A (fs ++ farewells names ss) = λ fs b. farewell_account answer later terms tried m names before log judge next ss fs stand gone (λ t h. sub t (inr h)) b in
     let has = sub s (inl refl) in
     let d = stand.devices s has in
     cond_both (lists names s.name) (farewells names ss) (e ∷ farewells names ss) (λ (l : List Entry). A (es ++ l)) (λ q. rec es a)
@@ -497,20 +563,20 @@ farewell_account {J} answer later present tried m names before log judge next (s
     (rec (es ++ e ∷ []) (WentAway es log judge next d.0 s.number s.name s.held s.judged s.verdict d.1
     (gone s d.0 has d.1 q) (inl (s, has, refl, refl, refl, refl)) a)))
 
-parted_fair : {J : Type 0} (answer : Answers J) (later : Laters J) (present : Bool) (tried : Tries) (m : Kernel) (u : State J) (names : List (List ℕ)) → IsKernel m → Stand m u.standings u.next → AreGone m names u.standings → StepFrom answer later present tried m u m (parted names u)
-parted_fair answer later present tried m u names sound stand gone =
+parted_fair : {J : Type 0} (answer : Answers J) (later : Laters J) (terms : Terms) (tried : Tries) (m : Kernel) (u : State J) (names : List (List ℕ)) → IsKernel m → Stand m u.standings u.next → AreGone m names u.standings → StepFrom answer later terms tried m u m (parted names u)
+parted_fair answer later terms tried m u names sound stand gone =
     let ss = u.standings in
     let listed : Standing → Bool = λ s. lists names s.name in
     let rs = filter listed ss in
     let there : (s : Standing) → Has rs s → IsOne ss s = λ s a. one_itself ss s (filter_has listed ss s a).0 in
     let none : (number : ℕ) (name : List ℕ) (held : Held) (verdict : Target) (cause : Cause) → Has (farewells names ss) (Entry.Judged number name held verdict cause) → ⊥ = λ number name held verdict cause a. let t = farewell_has names ss (Entry.Judged number name held verdict cause) a in let e = t.3 in let none : ⊥ = cc in none in
-    let fair : IsFair answer later present tried m u m (parted names u) = record {
+    let fair : IsFair answer later terms tried m u m (parted names u) = record {
       sound = sound;
       grows = grows_refl m;
       rest = farewells names ss;
       entries = refl;
-      stand = stand_of m ss rs u.next there (keeps_filter listed ss) (λ s a. stand.removed s (filter_has listed ss s a).0) stand;
-      account = farewell_account answer later present tried m names ss m.log u.judge u.next ss [] stand gone (λ s a. a) Start;
+      stand = stand_of m ss rs u.next there (keeps_filter listed ss) (λ control s a. stand.done control s (filter_has listed ss s a).0) stand;
+      account = farewell_account answer later terms tried m names ss m.log u.judge u.next ss [] stand gone (λ s a. a) Start;
       left = record {
         told = λ s a. inl (there s a);
         kept = λ s a. elim (cases_Bool (lists names s.name)) [
@@ -525,7 +591,7 @@ parted_fair answer later present tried m u names sound stand gone =
             let f = filter_has listed ss s a in
             let same : t.0 ≡ s = distinct_one (λ (v : Standing). v.number) ss t.0 s stand.distinct t.1 f.0 number in
             true≢false (sym f.1 ∙ sym (ap (λ (v : Standing). lists names v.name) same) ∙ t.2);
-        removed = keep_marks ss rs (farewells names ss) stand.distinct (λ s a. keeps_itself ss s (filter_has listed ss s a).0) (λ number name a. let t = farewell_has names ss (Entry.Wrote number name Write.Remove Wrote.Done) a in let e = t.3 in let none : ⊥ = cc in none);
+        done = keep_marks ss rs (farewells names ss) stand.distinct (λ s a. keeps_itself ss s (filter_has listed ss s a).0) (λ number name what once a. let t = farewell_has names ss (Entry.Wrote number name what Wrote.Done) a in let e = t.3 in let none : ⊥ = cc in none);
       };
       gone = farewell_distinct names ss stand.distinct;
       once = λ i a b p q. absurd (none a p.name p.held p.verdict p.cause p.has);
@@ -546,16 +612,16 @@ listing_gone k m names ss next g says stand s i a d out =
     gone_device m i s.name s.held s.judged d dead
 
 -- a listing succeeded
-then_listed : {J : Type 0} {answer : Answers J} {later : Laters J} {present : Bool} {tried : Tries} {k m : Kernel} {w u : State J} → FairFrom answer later present tried k w m u → FairFrom answer later present tried k w m (marked_listed u)
-then_listed {J} {answer} {later} {present} {tried} {k} {m} {w} {u} h =
+then_listed : {J : Type 0} {answer : Answers J} {later : Laters J} {terms : Terms} {tried : Tries} {k m : Kernel} {w u : State J} → FairFrom answer later terms tried k w m u → FairFrom answer later terms tried k w m (marked_listed u)
+then_listed {J} {answer} {later} {terms} {tried} {k} {m} {w} {u} h =
     let x = h.fair in
-    let fair : IsFair answer later present tried k w m (marked_listed u) = record { sound = x.sound; grows = x.grows; rest = x.rest; entries = x.entries; stand = x.stand; account = x.account; left = x.left; gone = x.gone; once = x.once; unjudged = x.unjudged } in
+    let fair : IsFair answer later terms tried k w m (marked_listed u) = record { sound = x.sound; grows = x.grows; rest = x.rest; entries = x.entries; stand = x.stand; account = x.account; left = x.left; gone = x.gone; once = x.once; unjudged = x.unjudged } in
     record { stood = h.stood; fair = fair }
 
 goes_fair : {J : Type 0} {answer : Answers J} {later : Laters J} {k l : Kernel} {w v : State J}
     {ok : Bool} {ms : List Made} {es : List Entry} → IsKernel k → Stand k w.standings w.next
     → Goes answer later w ok ms es v → Along calls k ms l
-    → FairFrom answer later (not w.listed) swept_before k w l v
+    → FairFrom answer later (terms_for w) swept_before k w l v
 goes_fair {answer = answer} {later = later} {k = k} {l = l} {w = w} sound stand
     (Listed found failed ok shut made es v closings chain) b =
     let names = in_sweep_order found in
@@ -566,10 +632,10 @@ goes_fair {answer = answer} {later = later} {k = k} {l = l} {w = w} sound stand
     stand in
     let q = closings_quiet (unlisted_files names w.standings) shut m cut.0 b.1.sound closings cut.1
     in
-    let f = then_called Names a m tt b.1 (fair_refl answer later (not w.listed) swept_before k w sound stand)
+    let f = then_called Names a m tt b.1 (fair_refl answer later (terms_for w) swept_before k w sound stand)
     in
     let h = fair_trans f
-    (parted_fair answer later (not w.listed) swept_before m w names f.fair.sound f.fair.stand gone) in
+    (parted_fair answer later (terms_for w) swept_before m w names f.fair.sound f.fair.stand gone) in
     chain_fair l (λ e. (
       order_distinct found b.1.says.1,
       sweep_in_order found b.1.says.1,
@@ -582,9 +648,9 @@ goes_fair {answer = answer} {later = later} {k = k} {l = l} {w = w} sound stand
     chain_fair l (λ e. let none : ⊥ = cc in absurd none)
     (then_note (Entry.UnsettledAll why) tt
     (then_called Names (told_at list failed) b.0 tt b.1
-    (fair_refl answer later (not w.listed) swept_before k w sound stand))) chain b.2
+    (fair_refl answer later (terms_for w) swept_before k w sound stand))) chain b.2
 
-pub sweeping_fair : {J : Type 0} (answer : Answers J) (later : Laters J) (w : State J) (k l : Kernel) (v : State J) → IsKernel k → Stand k w.standings w.next → Runs calls k (sweeping answer later w) v l → IsFair answer later (not w.listed) swept_before k w l v
+pub sweeping_fair : {J : Type 0} (answer : Answers J) (later : Laters J) (w : State J) (k l : Kernel) (v : State J) → IsKernel k → Stand k w.standings w.next → Runs calls k (sweeping answer later w) v l → IsFair answer later (terms_for w) swept_before k w l v
 sweeping_fair answer later w k l v sound stand r =
     let x = sweeping_run calls answer later k w l v r in
     (goes_fair sound stand x.so.1 x.along).fair

@@ -2,17 +2,17 @@
 use Rattle.std.proofs.Common.{◌≡◌, ℕ, ◌+◌, ◌≤◌, length, Some, None, arith, Bool, true, false, List, [], ◌∷◌, ◌++◌, inl, inr, refl, sym, ◌∙◌, ap, subst}
 use Rattle.std.proofs.lemmas.List.{length-append}
 use Rattle.ug_types.proofs.Sorting.{length-sweep_order}
-use Rattle.ug_table.proofs.Common.{in_sweep_order, FailedCall, Listing, Call, Names, Answer, Runs, Made, answered, Along, failure, failures, Rises, Entry, Fault, State, Answers, Laters, lists, farewells, told_by, failures_told, numbers_given, InParts, unlisted_files, AfterListing, GoesInParts, TellsFaults, Standing, names_of, sweeping, failures_more, filter}
+use Rattle.ug_table.proofs.Common.{Terms, Write, in_sweep_order, FailedCall, Listing, Call, Names, Answer, Runs, Made, answered, Along, failure, failures, Rises, Entry, Fault, State, Answers, Laters, lists, farewells, told_by, failures_told, numbers_given, InParts, unlisted_files, AfterListing, GoesInParts, TellsFaults, Standing, names_of, sweeping, failures_more, filter}
 use Rattle.ug_kernel.proofs.Rises.{Counting, along_numbered, along_rises}
 use Rattle.ug_table.proofs.Shapes.{told_at, next_after}
 use Rattle.ug_table.proofs.OnePart.{told_more, given_count, given_more, flat_given, flat_none, flat_is_part}
 use Rattle.ug_table.proofs.Standings.{farewells_by}
 use Rattle.ug_table.proofs.Chains.{closings_calm, Chain, Over, First, Without, List_failed, No_room, Goes, Listed, Unlisted, goes_entries, sweeping_run}
 
-chain_parts : {J : Type 0} {answer : Answers J} {later : Laters J} {binds present : Bool}
+chain_parts : {J : Type 0} {answer : Answers J} {later : Laters J} {binds : Bool} {terms : Terms}
     {names : List (List ℕ)} {w v : State J} {ok : Bool} {ms : List Made} {es : List Entry}
-    → Chain answer later binds present names w ok ms es v
-    → InParts names w.standings v.standings ms es
+    → Chain answer later binds terms names w ok ms es v
+    → InParts terms.hub names w.standings v.standings ms es
 chain_parts (Over w) = (refl, refl, refl)
 chain_parts (First name names how w x v ok more ms ns es p c) =
     (x.standings, ms, ns, p.rest, es, refl, refl, flat_is_part p.flat, chain_parts c)
@@ -30,9 +30,9 @@ given_length : (es fs : List Entry)
 given_length es fs =
     ap length (given_more es fs) ∙ length-append (numbers_given es) (numbers_given fs)
 
-pub chain_next : {J : Type 0} {answer : Answers J} {later : Laters J} {binds present : Bool}
+pub chain_next : {J : Type 0} {answer : Answers J} {later : Laters J} {binds : Bool} {terms : Terms}
     {names : List (List ℕ)} {w v : State J} {ok : Bool} {ms : List Made} {es : List Entry}
-    → Chain answer later binds present names w ok ms es v
+    → Chain answer later binds terms names w ok ms es v
     → v.next ≡ w.next + length (numbers_given es)
 chain_next (Over w) = omega arith
 chain_next (First name names how w x v ok more ms ns es p c) =
@@ -41,16 +41,16 @@ chain_next (First name names how w x v ok more ms ns es p c) =
     omega (arith, chain_next c, p.next, next, flat_given p.flat, given_length p.rest es)
 
 -- one a name at most, and none where nothing is bound
-pub chain_given : {J : Type 0} {answer : Answers J} {later : Laters J} {present : Bool}
+pub chain_given : {J : Type 0} {answer : Answers J} {later : Laters J} {terms : Terms}
     {names : List (List ℕ)} {w v : State J} {ok : Bool} {ms : List Made} {es : List Entry}
-    → Chain answer later true present names w ok ms es v → length (numbers_given es) ≤ length names
+    → Chain answer later true terms names w ok ms es v → length (numbers_given es) ≤ length names
 chain_given (Over w) = omega arith
 chain_given (First name names how w x v ok more ms ns es p c) =
     omega (arith, chain_given c, (flat_is_part p.flat).given, given_length p.rest es)
 
-pub chain_none : {J : Type 0} {answer : Answers J} {later : Laters J} {present : Bool}
+pub chain_none : {J : Type 0} {answer : Answers J} {later : Laters J} {terms : Terms}
     {names : List (List ℕ)} {w v : State J} {ok : Bool} {ms : List Made} {es : List Entry}
-    → Chain answer later false present names w ok ms es v → length (numbers_given es) ≡ 0
+    → Chain answer later false terms names w ok ms es v → length (numbers_given es) ≡ 0
 chain_none (Over w) = refl
 chain_none (First name names how w x v ok more ms ns es p c) =
     omega (arith, chain_none c, flat_given p.flat, flat_none refl p.flat, given_length p.rest es)
@@ -99,9 +99,9 @@ in_parts {w = w} a (Unlisted list failed room why ok made es v by c) =
     }
 
 -- each failed call is told in its part
-chain_tells : {J : Type 0} {answer : Answers J} {later : Laters J} {binds present : Bool}
+chain_tells : {J : Type 0} {answer : Answers J} {later : Laters J} {binds : Bool} {terms : Terms}
     {names : List (List ℕ)} {w v : State J} {ok : Bool} {ms : List Made} {es : List Entry}
-    → Chain answer later binds present names w ok ms es v → failures_told es ≡ failures ms
+    → Chain answer later binds terms names w ok ms es v → failures_told es ≡ failures ms
 chain_tells (Over w) = refl
 chain_tells (First name names how w x v ok more ms ns es p c) =
     told_more p.rest es

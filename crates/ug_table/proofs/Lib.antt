@@ -6,6 +6,7 @@ pub mod Standings
 pub mod Says
 pub mod Steps
 pub mod Fair
+pub mod Defaults
 pub mod Lived
 pub mod Shapes
 pub mod Chains

@@ -1,9 +1,9 @@
 -- One name more.
-use Rattle.std.proofs.Common.{◌≡◌, ℕ, ◌+◌, ◌<◌, ◌≤◌, Bool, List, ◌∷◌, ◌++◌, length, get_or, set, map, take, drop, sym, ap, ◌∙◌, subst, arith}
+use Rattle.std.proofs.Common.{◌≡◌, ℕ, ◌+◌, ◌<◌, ◌≤◌, Bool, Option, List, ◌∷◌, ◌++◌, length, get_or, set, map, take, drop, sym, ap, ◌∙◌, subst, arith}
 use Rattle.std.proofs.lemmas.List.Edits.{map_over_more}
 use Rattle.std.proofs.lemmas.Grind.{common_steps}
 use Rattle.std.proofs.lemmas.List.{drop_more, get_or_default}
-use Rattle.ug_table.proofs.Common.{Entry, Standing, Call, Answer, Runs, State, Kept, Answers, Laters, Settled, settling_all, resettling_all, settling, resettling}
+use Rattle.ug_table.proofs.Common.{Terms, Write, Entry, Standing, Call, Answer, Runs, State, Kept, Answers, Laters, Settled, settling_all, resettling_all, settling, resettling}
 use Rattle.ug_kernel.proofs.Runs.{runs_then}
 use Rattle.ug_audit.specs.declared.journal.Journal.{Journal}
 use Rattle.ug_audit.specs.Journal.{Notes, Told}
@@ -12,15 +12,15 @@ use Rattle.ug_audit.proofs.Noting.{goes_on}
 next_of : {X : Type 0} (xs : List X) (i : ℕ) (x : X) → i < length xs → x ≡ get_or xs i x → drop i xs ≡ x ∷ drop (i + 1) xs
 next_of {X} xs i x lt e = drop_more xs i x lt ∙ ap (λ (y : X). y ∷ drop (i + 1) xs) (sym e)
 
-pub settling_more : {S J : Type 0} (gives : S → (call : Call) → Answer call → S → Type 0) (answer : Answers J) (later : Laters J) (names : List (List ℕ)) (present : Bool) (i : ℕ) (name : List ℕ) (w : State J) (s u : S) (p : Settled × State J) → i < length names → name ≡ get_or names i name → Runs gives s (settling answer later name present w) p u → (r : State J) (t : S) → Runs gives u (settling_all answer later (drop (i + 1) names) present p.1) r t → Runs gives s (settling_all answer later (drop i names) present w) r t
-settling_more {S} {J} gives answer later names present i name w s u p lt e h r t k =
-    subst (λ (xs : List (List ℕ)). Runs gives s (settling_all answer later xs present w) r t) (sym (next_of names i name lt e))
-    (runs_then gives s (settling answer later name present w) (λ (q : Settled × State J). settling_all answer later (drop (i + 1) names) present q.1) p u r t h k)
+pub settling_more : {S J : Type 0} (gives : S → (call : Call) → Answer call → S → Type 0) (answer : Answers J) (later : Laters J) (names : List (List ℕ)) (terms : Terms) (i : ℕ) (name : List ℕ) (w : State J) (s u : S) (p : Settled × State J) → i < length names → name ≡ get_or names i name → Runs gives s (settling answer later name terms w) p u → (r : State J) (t : S) → Runs gives u (settling_all answer later (drop (i + 1) names) terms p.1) r t → Runs gives s (settling_all answer later (drop i names) terms w) r t
+settling_more {S} {J} gives answer later names terms i name w s u p lt e h r t k =
+    subst (λ (xs : List (List ℕ)). Runs gives s (settling_all answer later xs terms w) r t) (sym (next_of names i name lt e))
+    (runs_then gives s (settling answer later name terms w) (λ (q : Settled × State J). settling_all answer later (drop (i + 1) names) terms q.1) p u r t h k)
 
-pub resettling_more : {S : Type 0} (gives : S → (call : Call) → Answer call → S → Type 0) (names : List (List ℕ)) (i : ℕ) (name : List ℕ) (w : Kept) (s u : S) (p : Settled × Kept) → i < length names → name ≡ get_or names i name → Runs gives s (resettling name w) p u → (r : Kept) (t : S) → Runs gives u (resettling_all (drop (i + 1) names) p.1) r t → Runs gives s (resettling_all (drop i names) w) r t
-resettling_more {S} gives names i name w s u p lt e h r t k =
-    subst (λ (xs : List (List ℕ)). Runs gives s (resettling_all xs w) r t) (sym (next_of names i name lt e))
-    (runs_then gives s (resettling name w) (λ (q : Settled × Kept). resettling_all (drop (i + 1) names) q.1) p u r t h k)
+pub resettling_more : {S : Type 0} (gives : S → (call : Call) → Answer call → S → Type 0) (hub : Option Write) (names : List (List ℕ)) (i : ℕ) (name : List ℕ) (w : Kept) (s u : S) (p : Settled × Kept) → i < length names → name ≡ get_or names i name → Runs gives s (resettling hub name w) p u → (r : Kept) (t : S) → Runs gives u (resettling_all hub (drop (i + 1) names) p.1) r t → Runs gives s (resettling_all hub (drop i names) w) r t
+resettling_more {S} gives hub names i name w s u p lt e h r t k =
+    subst (λ (xs : List (List ℕ)). Runs gives s (resettling_all hub xs w) r t) (sym (next_of names i name lt e))
+    (runs_then gives s (resettling hub name w) (λ (q : Settled × Kept). resettling_all hub (drop (i + 1) names) q.1) p u r t h k)
 
 -- what is noted in two parts
 pub notes_then : {X : Type 0} {F : X → Type 0} (told : Told X F) (m n most : ℕ) (a b c : Journal X F) → Notes told m a b → Notes told n b c → m + n ≤ most → Notes told most a c
@@ -34,5 +34,5 @@ changed_more f xs ys i d y is lt same h =
     ap (set ys i) is ∙ map_over_more f xs ys i (get_or ys i d) lt h read
 
 -- a state whose fields are those of another
-pub same_state : {J : Type 0} (ss rs : List Standing) (next after : ℕ) (listed seen : Bool) (judge : J) (es : List Entry) → rs ≡ ss → after ≡ next → seen ≡ listed → let made : State J = record { standings = rs; next = after; listed = seen; judge = judge; entries = es } in let was : State J = record { standings = ss; next = next; listed = listed; judge = judge; entries = es } in made ≡ was
-same_state ss rs next after listed seen judge es a b c = λ i. record { standings = a i; next = b i; listed = c i; judge = judge; entries = es }
+pub same_state : {J : Type 0} (ss rs : List Standing) (next after : ℕ) (listed seen : Bool) (judge : J) (hub : Option Write) (es : List Entry) → rs ≡ ss → after ≡ next → seen ≡ listed → let made : State J = record { standings = rs; next = after; listed = seen; judge = judge; hub = hub; entries = es } in let was : State J = record { standings = ss; next = next; listed = listed; judge = judge; hub = hub; entries = es } in made ≡ was
+same_state ss rs next after listed seen judge hub es a b c = λ i. record { standings = a i; next = b i; listed = c i; judge = judge; hub = hub; entries = es }

@@ -1,8 +1,8 @@
 -- Marks and the order of standings.
 use Rattle.std.proofs.Common.{◌≡◌, ℕ, Bool, true, false, not, cond, List, [], ◌∷◌, ◌++◌, map, Option, inl, inr, refl, sym, ◌∙◌, ap, subst, Some, append_assoc, ◌⊎◌, ◌+◌, add-one, true≢false, ◌<◌, ◌≤◌, None, length, min, take, get_or, arith}
-use Rattle.ug_table.proofs.Common.{Has, AllDistinct, Bound, Binding, Entry, State, Answers, Laters, same_name, without, marked, place_for, with_standing, known_of, standing_of, lists, farewells, IsNamed, IsMarked, IsUnlisted, IsListed, swept_before, AreInOrder, Tries, IsMarkedIn, AreMarkedIn, numbers_of, Standing, Known, Settled, Made, Along, Fault, EndsUnsettled, sweep_cmp, in_place, in_sweep_order, sweep_total, sweep_exact, Kernel, Runs, calls, names_of, parted, sweeping, unsettled_by, kept_standings, tried_standings, dropped, has_left, has_right, has_cases, filter_has, map_has, has_map, cancel, last_is, distinct_filter, distinct_insert, filter, insert, whys, why_of, StandInOrder, KeepsOrder, IsNextNumbered, is_nearer}
+use Rattle.ug_table.proofs.Common.{Has, AllDistinct, Bound, Binding, Entry, State, Answers, Laters, same_name, without, did_default, with_default, Terms, Write, marked, place_for, with_standing, known_of, standing_of, lists, farewells, IsNamed, IsMarked, IsUnlisted, IsListed, swept_before, AreInOrder, Tries, IsMarkedIn, AreMarkedIn, numbers_of, Standing, Known, Settled, Made, Along, Fault, EndsUnsettled, sweep_cmp, in_place, in_sweep_order, sweep_total, sweep_exact, Kernel, Runs, calls, names_of, parted, sweeping, unsettled_by, kept_standings, tried_standings, dropped, has_left, has_right, has_cases, filter_has, map_has, has_map, cancel, last_is, distinct_filter, distinct_insert, filter, insert, whys, why_of, StandInOrder, KeepsOrder, IsNextNumbered, is_nearer}
 use Rattle.ug_table.proofs.Shapes.{Unbound_end, Absent_so, Flat, Unprobed, Tried, Stopped, Unbound, No_place, Judged_so, opening_absent, flat_rest, new_known}
-use Rattle.ug_table.proofs.Standings.{kept_tried, each_with, farewells_by, is_same, missing, missing_without, found, others_have, tried_own, lists_has, either_listed, same_is, fields_stay}
+use Rattle.ug_table.proofs.Standings.{known_as, did_stands, kept_tried, each_with, farewells_by, is_same, missing, missing_without, found, others_have, tried_own, lists_has, either_listed, same_is, fields_stay}
 use Rattle.ug_table.proofs.OnePart.{flat_is_part, flat_whys, told_in}
 use Rattle.ug_table.proofs.Says.{Each, NamesOnly, each_has, each_append, each_map, NamesNone, none_named}
 use Rattle.std.specs.Ordering.{is_gt, is_lt, ordering_reverse}
@@ -79,15 +79,15 @@ tried_mark ss name how rest s t a e = inr (marked_mark ss name false s a e, subs
 own_name : (ss : List Standing) (name : List ℕ) (s : Standing) → Has ss s → s.name ≡ name → Has (names_of ss) name
 own_name ss name s a e = subst (λ (v : List ℕ). Has (names_of ss) v) e (has_map (λ (v : Standing). v.name) ss s a)
 
-flat_mark : {binds : Bool} {given : List Standing → Bound → Standing → Type 0} {name : List ℕ} {ss : List Standing} {ok : Bool} {ms : List Made} {rest : List Entry} {how : Settled} {rs : List Standing} {o : Option (List Standing × Bound)} → Tells how name rest → Flat binds given name ss ok ms rest how rs o → (s : Standing) → Has rs s → s.name ≡ name → IsMarked rest s
+flat_mark : {hub : Option Write} {binds : Bool} {given : List Standing → Bound → Standing → Type 0} {name : List ℕ} {ss : List Standing} {ok : Bool} {ms : List Made} {rest : List Entry} {how : Settled} {rs : List Standing} {o : Option (List Standing × Bound)} → Tells how name rest → Flat hub binds given name ss ok ms rest how rs o → (s : Standing) → Has rs s → s.name ≡ name → IsMarked rest s
 flat_mark {name = name} {ss = ss} t (Unprobed known failed at) s a is = tried_mark ss name (Settled.Fault failed) (Entry.Unsettled name (Fault.Call failed) ∷ []) s t a is
-flat_mark {name = name} {ss = ss} t (Tried known on failed ms es how at b) s a is = tried_mark ss name how (es ++ unsettled_by name how) s t a is
+flat_mark {name = name} {ss = ss} t (Tried known on failed d ms es how at b) s a is = tried_mark (did_default name d ss) name how (es ++ unsettled_by name how) s t a is
 flat_mark {name = name} t (Stopped ms es rs f opening) s a is = absurd (opening_absent opening (own_name rs name s a is))
 flat_mark {name = name} t (Unbound ms ns es fs rs r how f opening way end) s a is = absurd (opening_absent opening (own_name rs name s a is))
 flat_mark {name = name} t (No_place ms ns es rs b shut f opening way) s a is = absurd (opening_absent opening (own_name rs name s a is))
-flat_mark {name = name} {rest = rest} t (Judged_so ms ns os es fs rs b x how f opening way given new brought) s a is = tried_mark (with_standing x rs) name how rest s t a is
+flat_mark {name = name} {rest = rest} t (Judged_so ms ns os es fs rs b x d how f opening way given new brought) s a is = tried_mark (did_default name d (with_standing x rs)) name how rest s t a is
 
-pub flat_part : {binds : Bool} {given : List Standing → Bound → Standing → Type 0} {name : List ℕ} {ss : List Standing} {ok : Bool} {ms : List Made} {rest : List Entry} {how : Settled} {rs : List Standing} {o : Option (List Standing × Bound)} → Flat binds given name ss ok ms rest how rs o → Part name ss rest rs
+pub flat_part : {hub : Option Write} {binds : Bool} {given : List Standing → Bound → Standing → Type 0} {name : List ℕ} {ss : List Standing} {ok : Bool} {ms : List Made} {rest : List Entry} {how : Settled} {rs : List Standing} {o : Option (List Standing × Bound)} → Flat hub binds given name ss ok ms rest how rs o → Part name ss rest rs
 flat_part {name = name} {ss = ss} {rest = rest} {how = how} {rs = rs} f =
     let last = (flat_is_part f).last in
     record { only = ends_only name rest last; others = λ s. others_have name rs ss s (flat_rest f); mark = flat_mark (tells_how how name rest last (flat_whys f)) f }
@@ -113,19 +113,19 @@ unbound_stands : {name : List ℕ} {r : Binding} {es : List Entry} {how : Settle
 unbound_stands Absent_so e = let none : ⊥ = cc in none
 unbound_stands x e = let none : ⊥ = cc in none
 
-pub flat_stands : {binds : Bool} {given : List Standing → Bound → Standing → Type 0} {name : List ℕ} {ss : List Standing} {ok : Bool} {ms : List Made} {rest : List Entry} {how : Settled} {rs : List Standing} {o : Option (List Standing × Bound)} → Flat binds given name ss ok ms rest how rs o → how ≡ Settled.Stands → Has (names_of rs) name
-flat_stands {name = name} {ss = ss} (Tried known on failed ms es how at b) e = tried_stands name ss known how at e
+pub flat_stands : {hub : Option Write} {binds : Bool} {given : List Standing → Bound → Standing → Type 0} {name : List ℕ} {ss : List Standing} {ok : Bool} {ms : List Made} {rest : List Entry} {how : Settled} {rs : List Standing} {o : Option (List Standing × Bound)} → Flat hub binds given name ss ok ms rest how rs o → how ≡ Settled.Stands → Has (names_of rs) name
+flat_stands {name = name} {ss = ss} (Tried known on failed d ms es how at b) e = tried_stands name (did_default name d ss) (known_as d known) how (did_stands name d ss known at) e
 flat_stands (Unbound ms ns es fs rs r how t opening way end) e = absurd (unbound_stands end e)
-flat_stands {name = name} (Judged_so ms ns os es fs rs b x how t opening way given new brought) e = tried_stands name (with_standing x rs) (known_of x) how (new_known opening new) e
+flat_stands {name = name} (Judged_so ms ns os es fs rs b x d how t opening way given new brought) e = tried_stands name (did_default name d (with_standing x rs)) (known_as d (known_of x)) how (did_stands name d (with_standing x rs) (known_of x) (new_known opening new)) e
 flat_stands x e = let none : ⊥ = cc in absurd none
 
-pub flat_nobody : {binds : Bool} {given : List Standing → Bound → Standing → Type 0} {name : List ℕ} {ss : List Standing} {ok : Bool} {ms : List Made} {rest : List Entry} {how : Settled} {rs : List Standing} {o : Option (List Standing × Bound)} → Flat binds given name ss ok ms rest how rs o → how ≡ Settled.Nobody → Has (names_of rs) name → ⊥
+pub flat_nobody : {hub : Option Write} {binds : Bool} {given : List Standing → Bound → Standing → Type 0} {name : List ℕ} {ss : List Standing} {ok : Bool} {ms : List Made} {rest : List Entry} {how : Settled} {rs : List Standing} {o : Option (List Standing × Bound)} → Flat hub binds given name ss ok ms rest how rs o → how ≡ Settled.Nobody → Has (names_of rs) name → ⊥
 flat_nobody (Unprobed known failed at) e = let none : ⊥ = cc in absurd none
-flat_nobody {name = name} {ss = ss} (Tried known on failed ms es how at b) e = tried_nobody ss name how e
+flat_nobody {name = name} {ss = ss} (Tried known on failed d ms es how at b) e = tried_nobody (did_default name d ss) name how e
 flat_nobody (Stopped ms es rs f opening) e = opening_absent opening
 flat_nobody (Unbound ms ns es fs rs r how t opening way end) e = opening_absent opening
 flat_nobody (No_place ms ns es rs b shut t opening way) e = opening_absent opening
-flat_nobody {name = name} (Judged_so ms ns os es fs rs b x how t opening way given new brought) e = tried_nobody (with_standing x rs) name how e
+flat_nobody {name = name} (Judged_so ms ns os es fs rs b x d how t opening way given new brought) e = tried_nobody (did_default name d (with_standing x rs)) name how e
 
 -- The marks at the end of a sweep, and whether a listing has succeeded.
 
@@ -167,9 +167,9 @@ parts_more n names ss ms rs es fs distinct a b =
       mark = λ s h c. mark s h c;
     }
 
-chain_parts : {J : Type 0} {answer : Answers J} {later : Laters J} {binds present : Bool}
+chain_parts : {J : Type 0} {answer : Answers J} {later : Laters J} {binds : Bool} {terms : Terms}
     {names : List (List ℕ)} {w v : State J} {ok : Bool} {ms : List Made} {es : List Entry}
-    → AllDistinct names → Chain answer later binds present names w ok ms es v
+    → AllDistinct names → Chain answer later binds terms names w ok ms es v
     → Parts names w.standings es v.standings × (v.listed ≡ w.listed)
 chain_parts distinct (Over w) = (record { only = tt; others = λ s a ne. a; mark = λ s a h. absurd h }, refl)
 chain_parts distinct (First n names how w x v ok more ms ns es p c) =
@@ -402,6 +402,14 @@ pub keeps_tried : (name : List ℕ) (how : Settled) (ss : List Standing) → Kee
 keeps_tried name Settled.Nobody ss = keeps_filter (λ (s : Standing). not (same_name s.name name)) ss
 keeps_tried name Settled.Stands ss = keeps_marked name true ss
 keeps_tried name how ss = keeps_marked name false ss
+
+-- and one whose default was written
+pub keeps_did : (name : List ℕ) (d : Bool) (ss : List Standing) → KeepsOrder ss (did_default name d ss)
+keeps_did name true ss = keeps_map (with_default name) ss (λ s. refl) (λ s. refl)
+keeps_did name false ss = λ next o. o
+
+pub keeps_treated : (name : List ℕ) (d : Bool) (how : Settled) (ss : List Standing) → KeepsOrder ss (tried_standings (did_default name d ss) name how)
+keeps_treated name d how ss = λ next o. keeps_tried name how (did_default name d ss) next (keeps_did name d ss next o)
 
 -- a new one
 pub order_new : (next : ℕ) (ss : List Standing) (s : Standing) → s.number ≡ next → (Has (names_of ss) s.name → ⊥) → StandInOrder next ss → StandInOrder (next + 1) (with_standing s ss)

@@ -1,7 +1,7 @@
 -- The names that a sweep tells, none twice; and that no device is told for want of memory that had a standing, lived through it, and
 -- wasn't still to be removed.
 use Rattle.std.proofs.Common.{◌≡◌, ℕ, Bool, true, List, [], ◌∷◌, ◌++◌, Option, Some, ◌⊎◌, inl, inr, refl, sym, ◌∙◌, ap, subst, append_assoc}
-use Rattle.ug_table.proofs.Common.{Has, AllDistinct, Call, Answer, Names, Ask_alive, Kernel, Follows, says_probe, Runs, calls, Made, answered, Along, Entry, State, Answers, Laters, farewells, standing_of, name_in, unsettled_names, EndsUnsettled, NamesOnce, Part, Standing, in_sweep_order, Grows, Probe, Fault, Stand, IsSpared, Known, Listing, names_of, sweeping, has_cases, cancel, has_right, is_to_go, along_split, along_grows, some_same, called_grows, grows_trans, told_run}
+use Rattle.ug_table.proofs.Common.{Has, AllDistinct, Call, Answer, Names, Ask_alive, Kernel, Follows, says_probe, Runs, calls, Made, answered, Along, Entry, State, Answers, Laters, farewells, standing_of, name_in, unsettled_names, EndsUnsettled, NamesOnce, Part, Standing, in_sweep_order, Grows, Probe, Fault, Stand, IsSpared, Known, Listing, names_of, sweeping, has_cases, cancel, has_right, NeedsMemory, known_of, Terms, terms_for, Write, along_split, along_grows, some_same, called_grows, grows_trans, told_run}
 use Rattle.ug_table.proofs.Marks.{order_distinct, ends_only, named_only, farewell_none}
 use Rattle.ug_table.proofs.Says.{none_named}
 use Rattle.ug_table.proofs.Chains.{Chain, Over, First, Goes, Listed, Unlisted, goes_entries, sweeping_run}
@@ -21,9 +21,9 @@ part_name name (Entry.Unsettled other why ∷ es) h = inr (ap (λ (v : List ℕ)
 part_name name (Entry.UnsettledAll why ∷ es) h = absurd h.0
 part_name name (e ∷ es) h = part_name name es h.1
 
-chain_names : {J : Type 0} {answer : Answers J} {later : Laters J} {binds present : Bool}
+chain_names : {J : Type 0} {answer : Answers J} {later : Laters J} {binds : Bool} {terms : Terms}
     {names : List (List ℕ)} {w v : State J} {ok : Bool} {ms : List Made} {es : List Entry}
-    (name : List ℕ) → Chain answer later binds present names w ok ms es v
+    (name : List ℕ) → Chain answer later binds terms names w ok ms es v
     → Has (unsettled_names es) name → Has names name
 chain_names name (Over w) a = a
 chain_names name (First n names how w x v ok more ms ns es p c) a =
@@ -40,9 +40,9 @@ chain_names name (First n names how w x v ok more ms ns es p c) a =
     ]
 
 -- none is told twice
-chain_once : {J : Type 0} {answer : Answers J} {later : Laters J} {binds present : Bool}
+chain_once : {J : Type 0} {answer : Answers J} {later : Laters J} {binds : Bool} {terms : Terms}
     {names : List (List ℕ)} {w v : State J} {ok : Bool} {ms : List Made} {es : List Entry}
-    → AllDistinct names → Chain answer later binds present names w ok ms es v
+    → AllDistinct names → Chain answer later binds terms names w ok ms es v
     → AllDistinct (unsettled_names es)
 chain_once d (Over w) = tt
 chain_once d (First name names how w x v ok more ms ns es p c) =
@@ -95,8 +95,8 @@ lives_on {name} {known} {i} {k = k} {l = l} u same g h x = record {
 }
 
 -- a part that tells the name for want of memory
-part_spared : (name : List ℕ) (known : Known) (i : ℕ) (k l : Kernel) (ss rs : List Standing) (ms : List Made) (es : List Entry) → Part name ss rs ms es → Lives name known i ss k l → Along calls k ms l → Has es (Entry.Unsettled name Fault.Memory) → is_to_go known ≡ true
-part_spared name known i k l ss rs ms es part lives a told = elim (part.memory told) [
+part_spared : (hub : Option Write) (name : List ℕ) (known : Known) (i : ℕ) (k l : Kernel) (ss rs : List Standing) (ms : List Made) (es : List Entry) → Part hub name ss rs ms es → Lives name known i ss k l → Along calls k ms l → Has es (Entry.Unsettled name Fault.Memory) → NeedsMemory hub name known
+part_spared hub name known i k l ss rs ms es part lives a told = elim (part.memory told) [
   | inl anew ↦ absurd (elim anew [
     | inl none ↦ let at = lives.at in let none : ⊥ = cc in none
     | inr gone ↦
@@ -110,7 +110,7 @@ part_spared name known i k l ss rs ms es part lives a told = elim (part.memory t
         (subst (λ (v : Known). IsFileOf u v.held.0 i) (sym same) (file_later k u known.held.0 i g lives.file))
         (lives_between k u l i name g (along_grows gone.1 u l step.2) lives.first lives.last)
   ])
-  | inr lacks ↦ subst (λ (v : Known). is_to_go v ≡ true) (some_same (standing_of name ss) lacks.0.0 known lacks.0.1 lives.at) lacks.0.2
+  | inr lacks ↦ subst (λ (v : Known). NeedsMemory hub name v) (some_same (standing_of name ss) lacks.0.0 known lacks.0.1 lives.at) lacks.0.2
 ]
 
 name_told : (es : List Entry) (name : List ℕ) (why : Fault) → Has es (Entry.Unsettled name why) → Has (unsettled_names es) name
@@ -120,13 +120,13 @@ name_told (e ∷ es) name why (inr a) = has_right (name_in e) (unsettled_names e
 
 -- the chain
 
-chain_spared : {J : Type 0} {answer : Answers J} {later : Laters J} {binds present : Bool}
+chain_spared : {J : Type 0} {answer : Answers J} {later : Laters J} {binds : Bool} {terms : Terms}
     {names : List (List ℕ)} {w v : State J} {ok : Bool} {ms : List Made} {es : List Entry}
     {name : List ℕ} {known : Known} {i : ℕ} {k l : Kernel} → AllDistinct names
-    → Chain answer later binds present names w ok ms es v → Lives name known i w.standings k l
-    → Along calls k ms l → Has es (Entry.Unsettled name Fault.Memory) → is_to_go known ≡ true
+    → Chain answer later binds terms names w ok ms es v → Lives name known i w.standings k l
+    → Along calls k ms l → Has es (Entry.Unsettled name Fault.Memory) → NeedsMemory terms.hub name known
 chain_spared d (Over w) lives a told = absurd told
-chain_spared {name = name} {known = known} {i = i} {k = k} {l = l} d
+chain_spared {terms = terms} {name = name} {known = known} {i = i} {k = k} {l = l} d
     (First n names how w x v ok more ms ns es p c) lives a told =
     let cut = along_split calls ms ns k l a in
     let u = cut.0 in
@@ -136,10 +136,10 @@ chain_spared {name = name} {known = known} {i = i} {k = k} {l = l} d
     elim (has_cases p.rest es (Entry.Unsettled name Fault.Memory) told) [
       | inl y ↦
           let is : name ≡ n = named_only n name p.rest (ends_only n p.rest part.last) (Fault.Memory, y) in
-          let own = subst (λ (z : List ℕ). Part z w.standings x.standings ms p.rest) (sym is) part
+          let own = subst (λ (z : List ℕ). Part terms.hub z w.standings x.standings ms p.rest) (sym is) part
           in
           let mid = lives_between k u l i name g h lives.first lives.last in
-          part_spared name known i k u w.standings x.standings ms p.rest own
+          part_spared terms.hub name known i k u w.standings x.standings ms p.rest own
           (record { at = lives.at; file = lives.file; first = lives.first; last = mid }) cut.1 y
       | inr y ↦
           let there = chain_names name c (name_told es name Fault.Memory y) in
@@ -153,7 +153,7 @@ goes_spared : {J : Type 0} {answer : Answers J} {later : Laters J} {w v : State 
     {ms : List Made} {es : List Entry} {name : List ℕ} {known : Known} {i : ℕ} {k l : Kernel}
     → AllDistinct (names_of w.standings) → Goes answer later w ok ms es v
     → Lives name known i w.standings k l → Along calls k ms l
-    → Has es (Entry.Unsettled name Fault.Memory) → is_to_go known ≡ true
+    → Has es (Entry.Unsettled name Fault.Memory) → NeedsMemory w.hub name known
 goes_spared {w = w} {name = name} {k = k} {l = l} d
     (Listed found failed ok shut made es v closings c) lives a told =
     let names = in_sweep_order found in
@@ -181,7 +181,7 @@ goes_spared {k = k} {l = l} d (Unlisted list failed room why ok made es v by c) 
 pub sweeping_spared : {J : Type 0} (answer : Answers J) (later : Laters J) (w : State J)
     (k l : Kernel) (v : State J) (rest : List Entry) → Stand k w.standings w.next
     → Runs calls k (sweeping answer later w) v l → v.entries ≡ w.entries ++ rest
-    → IsSpared k l w.standings rest
+    → IsSpared w.hub k l w.standings rest
 sweeping_spared answer later w k l v rest stand r e i d lives stood told =
     let x = sweeping_run calls answer later k w l v r in
     let first = lives_first k l i d lives in
@@ -189,11 +189,11 @@ sweeping_spared answer later w k l v rest stand r e i d lives stood told =
     let file = stand_files k w.standings w.next stand s stood.has in
     let named = open_named k s.name d.name s.held.0 i file stood.file first in
     let same = cancel w.entries rest x.so.0 (sym e ∙ goes_entries x.so.1) in
-    goes_spared stand.names x.so.1
+    subst (λ (v : List ℕ). NeedsMemory w.hub v (known_of s)) (sym named) (goes_spared stand.names x.so.1
     (record {
       at = stands_one d.name w.standings s stand.names stood.has named;
       file = stood.file;
       first = first;
       last = lives_last k l i d (along_grows x.made k l x.along) lives;
     })
-    x.along (subst (λ (es : List Entry). Has es (Entry.Unsettled d.name Fault.Memory)) same told)
+    x.along (subst (λ (es : List Entry). Has es (Entry.Unsettled d.name Fault.Memory)) same told))

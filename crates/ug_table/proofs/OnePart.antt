@@ -1,10 +1,11 @@
 -- One name's part of a sweep, from its shapes: one law on its calls, and one on its entries.
-use Rattle.std.proofs.Common.{◌≡◌, ℕ, ◌≤◌, Bool, true, false, not, ◌||◌, List, [], ◌∷◌, ◌++◌, length, Option, Some, None, ◌⊎◌, inl, inr, refl, sym, ◌∙◌, ap, subst, append_assoc, append-nil, arith}
-use Rattle.ug_table.proofs.Common.{Has, Held, Target, Authorized, Remove, Write, FailedCall, Probe, Wrote, Open, Ask_alive, Put, Close, Told, Made, answered, failures, count_calls, Bound, Binding, RemoveHold, Entry, Fault, known_of, with_standing, standing_of, wrote_entries, OpenFile, open_file, Behind, behind_more, IsWriteDue, PutMade, AtMostOneEach, told_by, failure_in, failures_told, write_in, writes_in, TellsWrites, EndsUnsettled, IsBoundAnew, LacksRoom, control_of, known_files, AllBear, number_of, AreOfNumber, numbers_given, Part, Standing, Known, Settled, unsettled_by, tried_standings, has_right, wants, write_of, is_to_go, why_in, whys, why_of}
+use Rattle.std.proofs.Common.{◌≡◌, ℕ, ◌≤◌, Bool, true, false, not, ◌||◌, List, [], ◌∷◌, ◌++◌, map, length, Option, Some, None, ◌⊎◌, inl, inr, refl, sym, ◌∙◌, ap, subst, append_assoc, append-nil, arith}
+use Rattle.ug_table.proofs.Common.{Has, Held, Control, Default, Target, Authorized, Remove, IsOnce, has_cases, map_has, did_default, Write, FailedCall, Probe, Wrote, Open, Ask_alive, Put, Close, Told, Made, answered, failures, count_calls, Bound, Binding, RemoveHold, Entry, Fault, known_of, with_standing, standing_of, wrote_entries, OpenFile, open_file, Behind, behind_more, IsWriteDue, PutMade, AtMostOneEach, told_by, failure_in, failures_told, write_in, writes_in, TellsWrites, EndsUnsettled, IsBoundAnew, LacksRoom, control_of, known_files, AllBear, number_of, AreOfNumber, numbers_given, Part, Standing, Known, Settled, unsettled_by, tried_standings, has_right, wants, write_of, is_to_go, why_in, whys, why_of}
 use Rattle.ug_node.proofs.BindShapes.{way_binds, Holds_by, way_holds}
-use Rattle.ug_table.proofs.Shapes.{Written, Done, Went, Valued, Same, Set, Unheld, Gone_by, Short_by, Removal, Not_held, Put_on, Carried, By_value, And_removal, Brought, Left_open, Let_go, Opening, Fresh, Lost, Unbound_end, Absent_so, Vanished_so, Flat, Unprobed, Tried, Stopped, Unbound, No_place, Judged_so, told_at, opening_none, flat_rest, new_known}
-use Rattle.ug_table.proofs.Standings.{others_stand, stands_file, stands_number, without_own, tried_own}
-use Rattle.ug_table.proofs.PartCalls.{has_want, failed_by, are_short, behind_after, CallsOf, calls_are, calls_more, calls_as, closed_first, binding_faults, binding_files, binds_calls, IsFound, bound_found, hold_faults, hold_files, holds_calls, ready_due, IsShort, hold_short}
+use Rattle.ug_table.specs.Bring.{NeedsMemory}
+use Rattle.ug_table.proofs.Shapes.{Written, Done, Went, Valued, Same, Set, Unheld, Gone_by, Short_by, OnceMade, Not_held, Put_on, Carried, By_value, And_removal, Brought, Left_open, Let_go, Treated, No_default, And_default, Cut_default, Gone_default, due_is, due_once, Opening, Fresh, Lost, Unbound_end, Absent_so, Vanished_so, Flat, Unprobed, Tried, Stopped, Unbound, No_place, Judged_so, told_at, opening_none, flat_rest, new_known}
+use Rattle.ug_table.proofs.Standings.{known_as, did_stands, did_without, others_stand, stands_file, stands_number, without_own, tried_own}
+use Rattle.ug_table.proofs.PartCalls.{has_want, failed_by, are_short, behind_after, CallsOf, calls_are, calls_more, calls_as, closed_first, binding_faults, binding_files, binds_calls, IsFound, bound_found, hold_faults, hold_files, holds_calls, ready_due, default_found, IsShort, hold_short}
 
 -- entries
 
@@ -119,28 +120,28 @@ abbrev pub ended_number : Settled → ℕ → Option ℕ
 ended_number Settled.Nobody number = None
 ended_number how number = Some number
 
--- the value's writes: none, or one that is no removal
+-- the value's writes: none, or one that isn't made once
 abbrev AreValue : List PutMade → Type 0
-AreValue ps = (ps ≡ []) ⊎ ((p : PutMade) × (ps ≡ p ∷ []) × (p.write ≡ Write.Remove → ⊥))
+AreValue ps = (ps ≡ []) ⊎ ((p : PutMade) × (ps ≡ p ∷ []) × (IsOnce (control_of p.write) → ⊥))
 
--- the removal's: none, or a removal
-abbrev AreRemoval : List PutMade → Type 0
-AreRemoval ps = (ps ≡ []) ⊎ ((p : PutMade) × (ps ≡ p ∷ []) × (p.write ≡ Write.Remove))
+-- those of one that is: none, or that one
+abbrev AreOnce : Write → List PutMade → Type 0
+AreOnce what ps = (ps ≡ []) ⊎ ((p : PutMade) × (ps ≡ p ∷ []) × (p.write ≡ what))
 
 single_value : (ps : List PutMade) → AreValue ps → AtMostOneEach ps
 single_value ps (inl e) = subst (λ v. AtMostOneEach v) (sym e) tt
 single_value ps (inr h) = subst (λ v. AtMostOneEach v) (sym h.1) (λ a. a, tt)
 
-single_both : (ps qs : List PutMade) → AreValue ps → AreRemoval qs → AtMostOneEach (ps ++ qs)
-single_both ps qs h (inl e) =
+single_both : (what : Write) → IsOnce (control_of what) → (ps qs : List PutMade) → AreValue ps → AreOnce what qs → AtMostOneEach (ps ++ qs)
+single_both what once ps qs h (inl e) =
     subst (λ v. AtMostOneEach (ps ++ v)) (sym e)
     (subst (λ v. AtMostOneEach v) (sym (append-nil ps)) (single_value ps h))
-single_both ps qs (inl e) (inr k) =
+single_both what once ps qs (inl e) (inr k) =
     subst (λ v. AtMostOneEach (v ++ qs)) (sym e)
     (subst (λ v. AtMostOneEach v) (sym k.1) (λ a. a, tt))
-single_both ps qs (inr h) (inr k) =
+single_both what once ps qs (inr h) (inr k) =
     let apart : Has (k.0.write ∷ []) h.0.write → ⊥ =
-    λ a. elim a [ inl e ↦ h.2 (sym e ∙ k.2) | inr n ↦ n ] in
+    λ a. elim a [ inl e ↦ h.2 (subst (λ (v : Write). IsOnce (control_of v)) (sym k.2 ∙ e) once) | inr n ↦ n ] in
     subst (λ v. AtMostOneEach (v ++ qs)) (sym h.1)
     (subst (λ v. AtMostOneEach (h.0 ∷ v)) (sym k.1) (apart, (λ a. a, tt)))
 
@@ -154,6 +155,39 @@ pub record Goes (P : List PutMade → Type 0) (Q : Type 0) (name : List ℕ) (kn
   pub entries : EntriesOf name (Some known.number) es (ended_number how known.number) [] ps []
   pub single : P ps
   pub short : how ≡ Settled.Memory → Q
+
+-- each kind of write once at most, and none to a default
+abbrev pub AreVerdicts : List PutMade → Type 0
+AreVerdicts ps = AtMostOneEach ps × ((p : PutMade) → Has ps p → control_of p.write ≡ Default → ⊥)
+
+value_verdicts : (ps : List PutMade) → AreValue ps → (p : PutMade) → Has ps p → control_of p.write ≡ Default → ⊥
+value_verdicts ps (inl none) p a e = subst (λ (v : List PutMade). Has v p) none a
+value_verdicts ps (inr h) p a e = elim (subst (λ (v : List PutMade). Has v p) h.1 a) [
+  | inl is ↦ h.2 (subst IsOnce (sym (ap (λ (v : PutMade). control_of v.write) is ∙ e)) tt)
+  | inr none ↦ none
+]
+
+removal_verdicts : (ps : List PutMade) → AreOnce Write.Remove ps → (p : PutMade) → Has ps p → control_of p.write ≡ Default → ⊥
+removal_verdicts ps (inl none) p a e = subst (λ (v : List PutMade). Has v p) none a
+removal_verdicts ps (inr h) p a e = elim (subst (λ (v : List PutMade). Has v p) h.1 a) [
+  | inl is ↦
+      let f : control_of Write.Remove ≡ Default = sym (ap control_of h.2) ∙ ap (λ (v : PutMade). control_of v.write) is ∙ e in
+      let none : ⊥ = cc in none
+  | inr none ↦ none
+]
+
+single_once : (what : Write) (ps : List PutMade) → AreOnce what ps → AtMostOneEach ps
+single_once what ps (inl e) = subst (λ (v : List PutMade). AtMostOneEach v) (sym e) tt
+single_once what ps (inr h) = subst (λ (v : List PutMade). AtMostOneEach v) (sym h.1) (λ a. a, tt)
+
+-- behind the write to a default
+single_default : (what : Write) (ps qs : List PutMade) → control_of what ≡ Default → AreOnce what ps → AreVerdicts qs → AtMostOneEach (ps ++ qs)
+single_default what ps qs file (inl none) v = subst (λ (x : List PutMade). AtMostOneEach (x ++ qs)) (sym none) v.0
+single_default what ps qs file (inr h) v =
+    let apart : Has (map (λ (p : PutMade). p.write) qs) h.0.write → ⊥ = λ a.
+    let m = map_has (λ (p : PutMade). p.write) qs h.0.write a in
+    v.1 m.0 m.1 (ap control_of (m.2 ∙ h.2) ∙ file) in
+    subst (λ (x : List PutMade). AtMostOneEach (x ++ qs)) (sym h.1) (apart, v.0)
 
 goes_are : {P : List PutMade → Type 0} {Q : Type 0} {name : List ℕ} {known : Known}
     {files after : List OpenFile} {b : Behind} {ms : List Made} {es : List Entry} {how : Settled}
@@ -194,9 +228,10 @@ value_file : (verdict : Target) (held : ℕ) (files : List OpenFile)
 value_file Target.Allow held files h = h
 value_file x held files h = h
 
-pub no_removal : (verdict : Target) → write_of verdict ≡ Write.Remove → ⊥
-no_removal Target.Allow e = let none : ⊥ = cc in none
-no_removal x e = let none : ⊥ = cc in none
+-- a value may be written again
+pub value_twice : (verdict : Target) → IsOnce (control_of (write_of verdict)) → ⊥
+value_twice Target.Allow once = once
+value_twice x once = once
 
 valued_goes : {name : List ℕ} {known : Known} {on : Bool} {ms : List Made} {es : List Entry}
     {how : Settled} (b : Behind) → IsFound b known.held.0 on → Valued name known on ms es how
@@ -215,13 +250,13 @@ valued_goes {known = known} {on = on} b f (Set t es how ne w) =
     goes_are (calls_are (file, tt) (inl refl, tt) (due, tt) refl faults.0 faults.1 refl
     (omega arith))
     (written_entries w) (inr
-    (record { write = write_of v; outcome = t.answer }, refl, no_removal v)) faults.2
+    (record { write = write_of v; outcome = t.answer }, refl, value_twice v)) faults.2
 
-unheld_goes : {name : List ℕ} {known : Known} {held : ℕ} {ms : List Made} {r : RemoveHold}
+unheld_goes : {what : Write} {name : List ℕ} {known : Known} {held : ℕ} {ms : List Made} {r : RemoveHold}
     {es : List Entry} {how : Settled} {files : List OpenFile} {b : Behind}
-    → Unheld name known.number r es how → Holds_by name held ms r
-    → CallsOf name files b ms (hold_files r files) (hold_faults r) [] 2
-    → Goes AreRemoval (IsShort ms) name known files b ms es how files 3
+    → Unheld name known.number r es how → Holds_by (control_of what) name held ms r
+    → CallsOf name files b ms (hold_files (control_of what) r files) (hold_faults r) [] 2
+    → Goes (AreOnce what) (IsShort (control_of what) ms) name known files b ms es how files 3
 unheld_goes Gone_by h c =
     goes_are (calls_as refl (omega arith) c)
     (entries_are (refl, refl) refl refl (tt, tt) (refl, tt) refl) (inl refl)
@@ -233,44 +268,49 @@ unheld_goes x h c =
     goes_are (calls_as refl (omega arith) c) (entries_are refl refl refl tt tt refl) (inl refl)
     (λ e. let none : ⊥ = cc in absurd none)
 
-removal_goes : {name : List ℕ} {known : Known} {ms : List Made} {es : List Entry} {how : Settled}
-    (b : Behind) → Removal name known ms es how
+once_goes : {what : Write} {name : List ℕ} {known : Known} {ms : List Made} {es : List Entry} {how : Settled}
+    (b : Behind) → IsOnce (control_of what) → OnceMade name known what ms es how
     → let own = open_file known.held.0 Authorized ∷ [] in
-    Goes AreRemoval (IsShort ms) name known own b ms es how own 3
-removal_goes {name} {known} b (Not_held ms r es how way u) =
-    let by = way_holds name known.held.0 ms r way in
+    Goes (AreOnce what) (IsShort (control_of what) ms) name known own b ms es how own 3
+once_goes {what} {name} {known} b once (Not_held ms r es how way u) =
+    let by = way_holds (control_of what) name known.held.0 ms r way in
     let own : List OpenFile = open_file known.held.0 Authorized ∷ [] in
     unheld_goes u by (holds_calls own b (inl refl) by)
-removal_goes {name} {known} b (Put_on ms file t shut es how way w) =
-    let by = way_holds name known.held.0 ms (RemoveHold.Ready file) way in
+once_goes {what} {name} {known} b once (Put_on ms file t shut es how way w) =
+    let by = way_holds (control_of what) name known.held.0 ms (RemoveHold.Ready file) way in
     let own : List OpenFile = open_file known.held.0 Authorized ∷ [] in
     let faults = written_faults file.0 w in
     goes_are
     (calls_more {m = 1} (holds_calls own b (inl refl) by)
-    (calls_are (inl refl, ((Remove, inl refl), tt)) (inl refl, (inr tt, tt))
-    (ready_due b by, (tt, tt))
-    (closed_first file.0 Remove own) faults.0 faults.1 refl (omega arith)))
-    (written_entries w) (inr (record { write = Write.Remove; outcome = t.answer }, refl, refl))
+    (calls_are (inl refl, ((control_of what, inl refl), tt)) (inl refl, (inr tt, tt))
+    (ready_due what b once by, (tt, tt))
+    (closed_first file.0 (control_of what) own) faults.0 faults.1 refl (omega arith)))
+    (written_entries w) (inr (record { write = what; outcome = t.answer }, refl, refl))
     (λ e. absurd (faults.2 e))
 
 -- both
 
 abbrev pub ToGo : Known → List Made → Type 0
-ToGo known ms = (is_to_go known ≡ true) × IsShort ms
+ToGo known ms = (is_to_go known ≡ true) × IsShort Remove ms
 
 carried_goes : {name : List ℕ} {known : Known} {on : Bool} {ms : List Made} {es : List Entry}
     {how : Settled} (b : Behind) → IsFound b known.held.0 on → Carried name known on ms es how
     → let own = open_file known.held.0 Authorized ∷ [] in
-    Goes AtMostOneEach (ToGo known ms) name known own b ms es how own 4
+    Goes AreVerdicts (ToGo known ms) name known own b ms es how own 4
 carried_goes b f (By_value ms es how v k) =
     let h = valued_goes b f v in
-    goes_are (calls_as refl (omega arith) h.calls) h.entries (single_value h.ps h.single)
+    goes_are (calls_as refl (omega arith) h.calls) h.entries (single_value h.ps h.single, value_verdicts h.ps h.single)
     (λ e. absurd (h.short e))
 carried_goes b f (And_removal ms ns es fs how go v r) =
     let h = valued_goes b f v in
-    let k = removal_goes (behind_after b ms) r in
-    goes_are (calls_more h.calls k.calls) (entries_more h.entries k.entries)
-    (single_both h.ps k.ps h.single k.single)
+    let k = once_goes (behind_after b ms) tt r in
+    goes_are (calls_more h.calls k.calls) (entries_more h.entries k.entries) (
+      single_both Write.Remove tt h.ps k.ps h.single k.single,
+      λ p a e. elim (has_cases h.ps k.ps p a) [
+        | inl x ↦ value_verdicts h.ps h.single p x e
+        | inr x ↦ removal_verdicts k.ps k.single p x e
+      ],
+    )
     (λ e.
     let y = k.short e in
     (go, (y.0, y.1, has_right ms ns (answered (Open y.0 Remove) y.1) y.2, y.3)))
@@ -283,7 +323,7 @@ still_open how held n = refl
 pub brought_goes : {name : List ℕ} {known : Known} {on : Bool} {ms : List Made} {es : List Entry}
     {how : Settled} (b : Behind) → IsFound b known.held.0 on → Brought name known on ms es how
     → let own = open_file known.held.0 Authorized ∷ [] in
-    Goes AtMostOneEach (ToGo known ms) name known own b ms es how (ended_files how known.held.0) 4
+    Goes AreVerdicts (ToGo known ms) name known own b ms es how (ended_files how known.held.0) 4
 brought_goes {known = known} b f (Left_open ms es how c n) =
     let h = carried_goes b f c in
     goes_are (calls_as (still_open how known.held.0 n) (omega arith) h.calls) h.entries h.single
@@ -300,6 +340,48 @@ brought_goes {name} {known} b f (Let_go ms es shut c) =
     goes_are (subst (λ v. CallsOf name own b (ms ++ last) [] [] v 4) (append-nil h.ps) all)
     h.entries h.single
     (λ e. let none : ⊥ = cc in absurd none)
+
+-- all writes of a sweep
+
+-- memory may be wanted for it, and an opening was short of it
+abbrev pub Lacks : Option Write → List ℕ → Known → List Made → Type 0
+Lacks hub name known ms = NeedsMemory hub name known × ((control : Control) × IsShort control ms)
+
+unheld_stops : {name : List ℕ} {number : ℕ} {r : RemoveHold} {es : List Entry} {how : Settled} → Unheld name number r es how → how ≡ Settled.Stands → ⊥
+unheld_stops Gone_by e = let none : ⊥ = cc in none
+unheld_stops x e = let none : ⊥ = cc in none
+
+once_found : {what : Write} {name : List ℕ} {known : Known} {ds : List Made} {fs : List Entry} {how : Settled} {held : ℕ} {on : Bool} (b : Behind) → control_of what ≡ Default → OnceMade name known what ds fs how → how ≡ Settled.Stands → IsFound b held on → IsFound (behind_after b ds) held on
+once_found b file (Not_held ms r es how way u) e f = absurd (unheld_stops u e)
+once_found {what} {name} {known} b file (Put_on ms held t shut es how way w) e f = default_found what t shut b file (way_holds (control_of what) name known.held.0 ms (RemoveHold.Ready held) way) f
+
+pub treated_goes : {hub : Option Write} {name : List ℕ} {known : Known} {on d : Bool} {ms : List Made} {es : List Entry} {how : Settled} (b : Behind) → IsFound b known.held.0 on → Treated hub name known on d ms es how → let own = open_file known.held.0 Authorized ∷ [] in Goes AtMostOneEach (Lacks hub name known ms) name known own b ms es how (ended_files how known.held.0) 7
+treated_goes b f (No_default ms es how e x) =
+    let h = brought_goes b f x in
+    goes_are (calls_as refl (omega arith) h.calls) h.entries h.single.0 (λ m. let y = h.short m in (inl y.0, (Remove, y.1)))
+treated_goes {hub} {name} {known} b f (And_default what ds ms fs es how e w x) =
+    let due = due_is hub name known what e in
+    let k = once_goes b (due_once due) w in
+    let h = brought_goes (behind_after b ds) (once_found b due.file w refl f) x in
+    goes_are (calls_more k.calls h.calls) (entries_more k.entries h.entries) (single_default what k.ps h.ps due.file k.single h.single)
+    (λ m. let y = h.short m in (inl y.0, (Remove, (y.1.0, y.1.1, has_right ds ms (answered (Open y.1.0 Remove) y.1.1) y.1.2, y.1.3))))
+treated_goes {hub} {name} {known} b f (Cut_default what ds fs how e w cut) =
+    let due = due_is hub name known what e in
+    let k = once_goes b (due_once due) w in
+    goes_are (calls_as (still_open how known.held.0 cut.1) (omega arith) k.calls) k.entries (single_once what k.ps k.single)
+    (λ m. (inr (what, e), (control_of what, k.short m)))
+treated_goes {hub} {name} {known} b f (Gone_default what ds fs shut e w) =
+    let due = due_is hub name known what e in
+    let k = once_goes b (due_once due) w in
+    let own : List OpenFile = open_file known.held.0 Authorized ∷ [] in
+    let last : List Made = answered (Close known.held.0) shut ∷ [] in
+    let end : CallsOf name own (behind_after b ds) last [] [] [] 0 =
+    calls_are ((Authorized, inl refl), tt) (inl refl, tt) (tt, tt)
+    (closed_first known.held.0 Authorized [])
+    refl refl refl (omega arith) in
+    let all = calls_more k.calls end in
+    goes_are (subst (λ v. CallsOf name own b (ds ++ last) [] [] v 7) (append-nil k.ps) (calls_as refl (omega arith) all))
+    k.entries (single_once what k.ps k.single) (λ m. let none : ⊥ = cc in absurd none)
 
 -- the name is told behind them where it ended unsettled
 told_entries : {name : List ℕ} {from : Option ℕ} {es : List Entry} {ps : List PutMade}
@@ -375,8 +457,17 @@ tried_so name ss how known e =
           (stands_number _ known.number known.held own),
     )
 
+-- a default that was written leaves its file and its number
+known_file : (d : Bool) (known : Known) (how : Settled) → ended_files how known.held.0 ≡ ended_files how (known_as d known).held.0
+known_file true known how = refl
+known_file false known how = refl
+
+known_number : (d : Bool) (known : Known) (how : Settled) → ended_number how known.number ≡ ended_number how (known_as d known).number
+known_number true known how = refl
+known_number false known how = refl
+
 abbrev start : Behind
-start = record { last = None; earlier = None }
+start = record { last = None; earlier = None; found = None }
 
 -- how many numbers were given out
 abbrev pub given_count : Option (List Standing × Bound) → ℕ
@@ -384,27 +475,27 @@ given_count None = 0
 given_count (Some judged) = 1
 
 -- All that a part says of its calls and entries. Where room was refused, the calls don't tell how it ended.
-record FlatGoes (binds : Bool) (name : List ℕ) (o p : Option Known) (ok : Bool) (ms : List Made)
+record FlatGoes (hub : Option Write) (binds : Bool) (name : List ℕ) (o p : Option Known) (ok : Bool) (ms : List Made)
     (es : List Entry) (how : Settled) (given : ℕ) : Type 0 where
   faults : List Fault
   ps : List PutMade
   ns : List ℕ
-  calls : CallsOf name (known_files o) start ms (known_files p) faults ps 14
+  calls : CallsOf name (known_files o) start ms (known_files p) faults ps 17
   entries : EntriesOf name (number_of o) es (number_of p) (why_of how) ps ns
   single : AtMostOneEach ps
   failed : failed_by faults ≡ failed_by (why_of how)
   short : (not ok || are_short faults) ≡ are_short (why_of how)
-  memory : how ≡ Settled.Memory → ((binds ≡ true) × IsBoundAnew o ms) ⊎ LacksRoom o ms
+  memory : how ≡ Settled.Memory → ((binds ≡ true) × IsBoundAnew o ms) ⊎ LacksRoom hub name o ms
   count : length ns ≡ given
 
-flat_are : {binds : Bool} {name : List ℕ} {o p : Option Known} {ok : Bool} {ms : List Made}
+flat_are : {hub : Option Write} {binds : Bool} {name : List ℕ} {o p : Option Known} {ok : Bool} {ms : List Made}
     {es : List Entry} {how : Settled} {given : ℕ} {faults : List Fault} {ps : List PutMade}
-    {ns : List ℕ} → CallsOf name (known_files o) start ms (known_files p) faults ps 14
+    {ns : List ℕ} → CallsOf name (known_files o) start ms (known_files p) faults ps 17
     → EntriesOf name (number_of o) es (number_of p) (why_of how) ps ns → AtMostOneEach ps
     → failed_by faults ≡ failed_by (why_of how)
     → (not ok || are_short faults) ≡ are_short (why_of how)
-    → (how ≡ Settled.Memory → ((binds ≡ true) × IsBoundAnew o ms) ⊎ LacksRoom o ms)
-    → length ns ≡ given → FlatGoes binds name o p ok ms es how given
+    → (how ≡ Settled.Memory → ((binds ≡ true) × IsBoundAnew o ms) ⊎ LacksRoom hub name o ms)
+    → length ns ≡ given → FlatGoes hub binds name o p ok ms es how given
 flat_are {faults = faults} {ps = ps} {ns = ns} c e a f s m n = record {
   faults = faults;
   ps = ps;
@@ -418,36 +509,36 @@ flat_are {faults = faults} {ps = ps} {ns = ns} c e a f s m n = record {
   count = n;
 }
 
-flat_goes : {binds : Bool} {given : List Standing → Bound → Standing → Type 0} {name : List ℕ}
+flat_goes : {hub : Option Write} {binds : Bool} {given : List Standing → Bound → Standing → Type 0} {name : List ℕ}
     {ss : List Standing} {ok : Bool} {ms : List Made} {rest : List Entry} {how : Settled}
     {rs : List Standing} {o : Option (List Standing × Bound)}
-    → Flat binds given name ss ok ms rest how rs o
-    → FlatGoes binds name (standing_of name ss) (standing_of name rs) ok ms rest how (given_count o)
-flat_goes {binds} {name = name} {ss = ss} {how = how} {rs = rs} (Unprobed known failed at) =
+    → Flat hub binds given name ss ok ms rest how rs o
+    → FlatGoes hub binds name (standing_of name ss) (standing_of name rs) ok ms rest how (given_count o)
+flat_goes {hub} {binds} {name = name} {ss = ss} {how = how} {rs = rs} (Unprobed known failed at) =
     let m : Made = answered (Ask_alive known.held.0) (told_at Probe.Failed failed) in
     let own : List OpenFile = open_file known.held.0 Authorized ∷ [] in
     let e : Entry = Entry.Unsettled name (Fault.Call failed) in
     let so = tried_so name ss how known at in
-    let one : CallsOf name own start (m ∷ []) own (Fault.Call failed ∷ []) [] 14 =
+    let one : CallsOf name own start (m ∷ []) own (Fault.Call failed ∷ []) [] 17 =
     calls_are (inl refl, tt) (inl refl, tt) (tt, tt) refl refl refl refl (omega arith) in
-    subst (λ o. FlatGoes binds name o (standing_of name rs) true (m ∷ []) (e ∷ []) how 0) (sym at)
+    subst (λ o. FlatGoes hub binds name o (standing_of name rs) true (m ∷ []) (e ∷ []) how 0) (sym at)
     (flat_are (calls_as so.0 (omega arith) one)
     (entries_to so.1 (entries_are refl refl refl ((refl, refl), tt) (refl, tt) refl))
     tt refl refl (λ e. let none : ⊥ = cc in absurd none) refl)
-flat_goes {binds} {name = name} {ss = ss} {rs = rs} (Tried known on failed ms es how at brought) =
+flat_goes {hub} {binds} {name = name} {ss = ss} {rs = rs} (Tried known on failed d ms es how at brought) =
     let t : Told Probe = told_at (Probe.Alive on) failed in
     let m : Made = answered (Ask_alive known.held.0) t in
     let own : List OpenFile = open_file known.held.0 Authorized ∷ [] in
-    let so = tried_so name ss how known at in
-    let h = brought_goes (behind_more start m) (t, refl, refl) brought in
+    let so = tried_so name (did_default name d ss) how (known_as d known) (did_stands name d ss known at) in
+    let h = treated_goes (behind_more start m) (t, refl, refl) brought in
     let one : CallsOf name own start (m ∷ []) own [] [] 1 =
     calls_are (inl refl, tt) (inl refl, tt) (tt, tt) refl refl refl refl (omega arith) in
     let all = es ++ unsettled_by name how in
-    subst (λ o. FlatGoes binds name o (standing_of name rs) true (m ∷ ms) all how 0) (sym at)
-    (flat_are (calls_as so.0 (omega arith) (calls_more one h.calls))
-    (entries_to so.1 (told_entries known.number how h.entries))
+    subst (λ o. FlatGoes hub binds name o (standing_of name rs) true (m ∷ ms) all how 0) (sym at)
+    (flat_are (calls_as (known_file d known how ∙ so.0) (omega arith) (calls_more one h.calls))
+    (entries_to (known_number d known how ∙ so.1) (told_entries known.number how h.entries))
     h.single refl refl
-    (λ e. let x = h.short e in inr ((known, refl, x.0), (x.1.0, x.1.1, inr x.1.2, x.1.3))) refl)
+    (λ e. let x = h.short e in inr ((known, refl, x.0), (x.1.0, x.1.1.0, x.1.1.1, inr x.1.1.2, x.1.1.3))) refl)
 flat_goes (Stopped ms es rs f opening) =
     let h = opening_goes start opening in
     let none = sym (opening_none opening) in
@@ -475,30 +566,30 @@ flat_goes {name = name} (No_place ms ns es rs v shut t opening way) =
     (entries_to (ap number_of none)
     (entries_more h.entries (entries_are refl refl refl ((refl, refl), tt) (refl, tt) refl)))
     tt refl refl (λ e. inl (t, h.anew (ns ++ last))) refl
-flat_goes {name = name} (Judged_so ms ns os es fs rs v x how t opening way given new brought) =
+flat_goes {name = name} (Judged_so ms ns os es fs rs v x d how t opening way given new brought) =
     let h = opening_goes start opening in
     let c : Behind = behind_after start ms in
     let by = way_binds name ns (Binding.Bound v) way in
     let f = bound_found c by in
     let found = subst (λ (w : Held). IsFound (behind_after c ns) w.0 v.on) (sym new.held) f in
-    let k = brought_goes (behind_after c ns) found brought in
+    let k = treated_goes (behind_after c ns) found brought in
     let held = ap (λ (w : Held). open_file w.0 Authorized ∷ []) (sym new.held) in
-    let so = tried_so name (with_standing x rs) how (known_of x) (new_known opening new) in
+    let so = tried_so name (did_default name d (with_standing x rs)) how (known_as d (known_of x)) (did_stands name d (with_standing x rs) (known_of x) (new_known opening new)) in
     let e : List Entry = Entry.Judged x.number name x.held x.verdict x.cause ∷ [] in
     let given : EntriesOf name None e (Some x.number) [] [] (x.number ∷ []) =
     entries_are (refl, refl) refl refl (tt, tt) (refl, tt) refl in
     let bound = calls_as {m = 9} held (omega arith) (binds_calls [] c by) in
-    flat_are (calls_as so.0 (omega arith) (calls_more h.calls (calls_more bound k.calls)))
-    (entries_to so.1
+    flat_are (calls_as (known_file d (known_of x) how ∙ so.0) (omega arith) (calls_more h.calls (calls_more bound k.calls)))
+    (entries_to (known_number d (known_of x) how ∙ so.1)
     (entries_more h.entries (entries_more given (told_entries x.number how k.entries))))
     k.single refl refl (λ e. inl (t, h.anew (ns ++ os))) refl
 
 -- where nothing is bound, no number is given out
-pub flat_none : {binds : Bool} {given : List Standing → Bound → Standing → Type 0} {name : List ℕ}
+pub flat_none : {hub : Option Write} {binds : Bool} {given : List Standing → Bound → Standing → Type 0} {name : List ℕ}
     {ss : List Standing} {ok : Bool} {ms : List Made} {rest : List Entry} {how : Settled}
     {rs : List Standing} {o : Option (List Standing × Bound)} → binds ≡ false
-    → Flat binds given name ss ok ms rest how rs o → given_count o ≡ 0
-flat_none f (Judged_so ms ns os es fs rs b x how t opening way given new brought) =
+    → Flat hub binds given name ss ok ms rest how rs o → given_count o ≡ 0
+flat_none f (Judged_so ms ns os es fs rs b x d how t opening way given new brought) =
     let none : ⊥ = cc in absurd none
 flat_none f x = refl
 
@@ -534,10 +625,10 @@ tells_memory es name how e a = by how
     by (Settled.Fault failed) (inr none) = absurd none
     by Settled.Memory b = refl
 
-module _ {binds : Bool} {given : List Standing → Bound → Standing → Type 0} {name : List ℕ}
+module _ {hub : Option Write} {binds : Bool} {given : List Standing → Bound → Standing → Type 0} {name : List ℕ}
     {ss : List Standing} {ok : Bool} {ms : List Made} {rest : List Entry} {how : Settled}
     {rs : List Standing} {o : Option (List Standing × Bound)}
-    (f : Flat binds given name ss ok ms rest how rs o) where
+    (f : Flat hub binds given name ss ok ms rest how rs o) where
   pub flat_whys : whys rest ≡ why_of how
   flat_whys = (flat_goes f).entries.why
 
@@ -545,7 +636,7 @@ module _ {binds : Bool} {given : List Standing → Bound → Standing → Type 0
   pub flat_short : (not ok || has_want ms) ≡ are_short (why_of how)
   flat_short = let h = flat_goes f in ap (λ (v : Bool). not ok || v) h.calls.short ∙ h.short
 
-  pub flat_few : count_calls ms ≤ 14
+  pub flat_few : count_calls ms ≤ 17
   flat_few = (flat_goes f).calls.few
 
   -- a number is given out where a device is judged
@@ -554,13 +645,13 @@ module _ {binds : Bool} {given : List Standing → Bound → Standing → Type 0
 
   -- where nothing is bound, it ends for want of memory only if the standing's device is to be removed
   pub flat_room : binds ≡ false → how ≡ Settled.Memory
-      → (known : Known) × (standing_of name ss ≡ Some known) × (is_to_go known ≡ true)
+      → (known : Known) × (standing_of name ss ≡ Some known) × NeedsMemory hub name known
   flat_room unbound e = elim ((flat_goes f).memory e) [
     | inl x ↦ let bound = x.0 in absurd (let none : ⊥ = cc in none)
     | inr x ↦ x.0
   ]
 
-  pub flat_is_part : Part name ss rs ms rest
+  pub flat_is_part : Part hub name ss rs ms rest
   flat_is_part =
       let h = flat_goes f in
       let c = h.calls in

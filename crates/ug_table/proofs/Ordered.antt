@@ -1,9 +1,9 @@
 -- What an order does, over the states of a run.
-use Rattle.std.proofs.Common.{◌≡◌, ℕ, ◌≤◌, Bool, true, false, cond, nat_eq, List, [], ◌∷◌, ◌++◌, Option, Some, None, map, ◌⊎◌, inl, inr, refl, sym, ◌∙◌, ap, subst, append_assoc, arith}
+use Rattle.std.proofs.Common.{◌≡◌, ℕ, ◌≤◌, Bool, true, false, cond, nat_eq, List, [], ◌∷◌, ◌++◌, Option, Some, None, is_none, not, ◌&&◌, map, ◌⊎◌, inl, inr, refl, sym, ◌∙◌, ap, subst, append_assoc, arith}
 use Rattle.ug_types.specs.Principals.{Named}
 use Rattle.ug_kernel.specs.declared.device.Effect.{Effect}
-use Rattle.ug_table.proofs.Common.{Has, Authorized, open_file, Quiet, says_probe, none_before, Held, Target, Call, Answer, Ask_alive, Told, Follows, Runs, calls, Made, Entry, State, Kept, Answers, Laters, kept_of, with_kept, known_of, known_files, standing_of, numbered, number_of, AreOfNumber, numbers_given, AtMostOneEach, TellsWrites, writes_in, HasRemoval, wrote_entries, Account, Start, Note, Judge, Had, Had_not, Went, Tries, IsNamed, Stand, IsDevice, Standing, Settled, Probe, Kernel, IsKernel, Cause, names_of, unsettled_by, tried_standings, cancel, has_left, has_right, last_is, map_has, distinct_one, bringing, Ways, Sure, Ran, ways_run, sure_last, NeedsRoom, told_run, called_quiet, StandInOrder, KeepsOrder, AllBear}
-use Rattle.ug_table.specs.Marks.{has_number, stood_removed, LeavesMarks}
+use Rattle.ug_table.proofs.Common.{Has, Control, Authorized, Remove, Default, is_done, Terms, terms_of, Write, default_of, parent_of, open_file, Quiet, says_probe, none_before, Held, Target, Call, Answer, Ask_alive, Told, Follows, Runs, calls, Made, Entry, State, Kept, Answers, Laters, kept_of, with_kept, known_of, known_files, standing_of, numbered, number_of, AreOfNumber, numbers_given, AtMostOneEach, TellsWrites, writes_in, HasDone, wrote_entries, Account, Start, Note, Judge, Had, Had_not, Went, Tries, IsNamed, Stand, IsDevice, Standing, Settled, Probe, Kernel, IsKernel, Cause, names_of, unsettled_by, tried_standings, cancel, has_left, has_right, last_is, map_has, distinct_one, bringing, Ways, Sure, Ran, ways_run, sure_last, NeedsRoom, told_run, called_quiet, StandInOrder, KeepsOrder, AllBear}
+use Rattle.ug_table.specs.Marks.{has_number, stood_done, LeavesMarks}
 use Rattle.ug_table.specs.Orders.{to_probe, probing, ProbesOne, with_verdict, ordered_standing, with_order, verdict_entry, to_tried, to_order, ordering, behind_probe, GoesAsOrder, HasOrdered, IsStopped, just_ordered, OrderedOne, OrdersOne}
 use Rattle.ug_kernel.specs.Along.{count_calls}
 use Rattle.ug_kernel.proofs.Ways.{ways_more}
@@ -12,10 +12,13 @@ use Rattle.ug_table.proofs.PartCalls.{has_want, are_short}
 use Rattle.ug_kernel.proofs.Rises.{Counting, along_numbered, along_rises}
 use Rattle.ug_kernel.proofs.Runs.{runs_then}
 use Rattle.ug_table.proofs.Fair.{known_brought}
+use Rattle.ug_kernel.proofs.Guarded.{along_logs}
+use Rattle.ug_table.specs.Laws.{AreDefaulted}
+use Rattle.ug_table.proofs.Defaults.{fair_defaults}
 use Rattle.ug_table.proofs.Lived.{StandsSo, as_judged, brought_own, judged_at, lives_first, lives_last, stand_files}
 use Rattle.ug_table.proofs.Marks.{keeps_map, known_has, names_distinct, tried_nobody}
 use Rattle.ug_table.proofs.One.{AreStood, left_gone, numbered_named, of_number, stood_at, told_of, tried_leaves}
-use Rattle.ug_table.proofs.OnePart.{Goes, ToGo, brought_goes, ended_files, tried_so}
+use Rattle.ug_table.proofs.OnePart.{AreVerdicts, Goes, ToGo, brought_goes, ended_files, tried_so}
 use Rattle.ug_table.proofs.Shapes.{Adds, Brought, brought, told_at}
 use Rattle.ug_table.proofs.Standings.{AreNamed, rest_map, IsFileOf, LiveAs, file_later, numbered_has, open_named, stands_one, tried_new, tried_own}
 use Rattle.ug_table.proofs.Steps.{FairFrom, fair_refl, in_order, stand_by, tried_one}
@@ -131,7 +134,7 @@ order_part gives calls faults counted next number verdict who on k x s p t order
     let kept = keeps_ordered number verdict who k.standings next order in
     let one = stands_one y.name ss y (names_distinct (names_of ss) kept.order) (has_ordered number verdict who k.standings x at) refl in
     let so = tried_so y.name ss p.0 (known_of y) one in
-    let goes : (t : Told Probe) → t.answer ≡ Probe.Alive on → Goes AtMostOneEach (ToGo (known_of y) ms) y.name (known_of y) (open_file y.held.0 Authorized ∷ []) (behind_probe y.held.0 t) ms o.rest p.0 (ended_files p.0 y.held.0) 4 = λ t e. brought_goes (behind_probe y.held.0 t) (t, refl, e) o.brought in
+    let goes : (t : Told Probe) → t.answer ≡ Probe.Alive on → Goes AreVerdicts (ToGo (known_of y) ms) y.name (known_of y) (open_file y.held.0 Authorized ∷ []) (behind_probe y.held.0 t) ms o.rest p.0 (ended_files p.0 y.held.0) 4 = λ t e. brought_goes (behind_probe y.held.0 t) (t, refl, e) o.brought in
     let g = goes (told_at (Probe.Alive on) (record { call = 0; count = 0 })) refl in
     let now : standing_of y.name (tried_standings ss y.name p.0) ≡ standing_of y.name p.1.standings = ap (standing_of y.name) (sym o.standings) in
     record {
@@ -143,7 +146,7 @@ order_part gives calls faults counted next number verdict who on k x s p t order
       leaves = g.calls.left ∙ so.0 ∙ ap known_files now;
       ends = g.calls.ends;
       due = λ t e. (goes t e).calls.due;
-      single = subst AtMostOneEach (sym g.calls.puts) g.single;
+      single = subst AtMostOneEach (sym g.calls.puts) g.single.0;
       writes = subst (λ v. TellsWrites y.name v (writes_in o.rest)) (sym g.calls.puts) g.entries.writes;
       few = g.calls.few;
       bears = g.entries.bears;
@@ -159,7 +162,12 @@ order_part gives calls faults counted next number verdict who on k x s p t order
       rises = λ low. along_rises gives calls faults counted ms s t low run.along;
     }
 
-pub order_marks : {S : Type 0} (gives : S → (call : Call) → Answer call → S → Type 0) (next number : ℕ) (verdict : Target) (who : Named) (on : Bool) (k : Kept) (x : Standing) (s : S) (p : Settled × Kept) (t : S) → StandInOrder next k.standings → numbered number k.standings ≡ Some x → Runs gives s (ordering number verdict who on k) p t → LeavesMarks (has_number number) k.standings p.1.standings p.0
+-- where no default is written, none is due
+none_for : (b : Bool) → cond b (default_of None) None ≡ None
+none_for true = refl
+none_for false = refl
+
+pub order_marks : {S : Type 0} (gives : S → (call : Call) → Answer call → S → Type 0) (next number : ℕ) (verdict : Target) (who : Named) (on : Bool) (k : Kept) (x : Standing) (s : S) (p : Settled × Kept) (t : S) → StandInOrder next k.standings → numbered number k.standings ≡ Some x → Runs gives s (ordering number verdict who on k) p t → LeavesMarks None (has_number number) k.standings p.1.standings p.0
 order_marks gives next number verdict who on k x s p t order at r =
     let o = (ordering_run gives number verdict who on k x s p t at r).so.1 in
     let y = with_verdict verdict who x in
@@ -168,9 +176,13 @@ order_marks gives next number verdict who on k x s p t order at r =
     let named : AreNamed (of_number number) y.name ss = numbered_named next number ss y (keeps_ordered number verdict who k.standings next order) (numbered_now number verdict who k.standings x at) in
     let stood : AreStood (of_number number) k.standings ss = λ s a own.
     let m = map_has f k.standings s a in
-    subst (λ (v : Standing). stood_removed v.number k.standings ≡ v.removed) m.2 (stood_at k.standings m.0 order.distinct m.1) in
-    subst (λ (v : List Standing). LeavesMarks (has_number number) k.standings v p.0) (sym o.standings)
-    (tried_leaves (of_number number) y.name k.standings ss p.0 named (rest_map (of_number number) f k.standings (λ s. refl) (λ s a e. ordered_other number verdict who s e)) stood)
+    subst (λ (v : Standing). stood_done Remove v.number k.standings ≡ v.removed) m.2 (stood_at Remove k.standings m.0 order.distinct m.1) in
+    subst (λ (v : List Standing). LeavesMarks None (has_number number) k.standings v p.0) (sym o.standings)
+    (tried_leaves None (of_number number) y.name k.standings ss p.0 named (rest_map (of_number number) f k.standings (λ s. refl) (λ s a e. ordered_other number verdict who s e)) stood
+    (record {
+      stays = λ s a own e. let m = map_has f k.standings s a in subst (λ (v : Standing). stood_done Default v.number k.standings ≡ true → v.defaulted ≡ true) m.2 (λ h. sym (stood_at Default k.standings m.0 order.distinct m.1) ∙ h) e;
+      done = λ s a own h. none_for (is_none (parent_of s.name) && not s.defaulted);
+    }))
 
 pub order_verdict : {S : Type 0} (gives : S → (call : Call) → Answer call → S → Type 0) (next number : ℕ) (verdict : Target) (who : Named) (on : Bool) (k : Kept) (s : S) (p : Settled × Kept) (t : S) → StandInOrder next k.standings → Runs gives s (ordering number verdict who on k) p t → HasOrdered number verdict who k.standings p.1.standings
 order_verdict gives next number verdict who on k s p t order r = λ x at z a e.
@@ -185,22 +197,28 @@ order_verdict gives next number verdict who on k s p t order r = λ x at z a e.
     (j.3 ∙ ap (λ (v : Standing). v.name) same, j.4 ∙ ap (λ (v : Standing). v.held) same, j.5 ∙ ap (λ (v : Standing). v.judged) same, j.6 ∙ ap (λ (v : Standing). v.verdict) same, j.7 ∙ ap (λ (v : Standing). v.cause) same)
 
 -- want of memory
-pub order_short : {S : Type 0} (gives : S → (call : Call) → Answer call → S → Type 0) (number : ℕ) (verdict : Target) (who : Named) (on : Bool) (k : Kept) (x : Standing) (s : S) (p : Settled × Kept) (t : S) → numbered number k.standings ≡ Some x → Runs gives s (ordering number verdict who on k) p t → p.0 ≡ Settled.Memory → NeedsRoom number (with_order number verdict who k.standings)
+pub order_short : {S : Type 0} (gives : S → (call : Call) → Answer call → S → Type 0) (number : ℕ) (verdict : Target) (who : Named) (on : Bool) (k : Kept) (x : Standing) (s : S) (p : Settled × Kept) (t : S) → numbered number k.standings ≡ Some x → Runs gives s (ordering number verdict who on k) p t → p.0 ≡ Settled.Memory → NeedsRoom None number (with_order number verdict who k.standings)
 order_short gives number verdict who on k x s p t at r e =
     let run = ordering_run gives number verdict who on k x s p t at r in
     let y = with_verdict verdict who x in
     let t = told_at (Probe.Alive on) (record { call = 0; count = 0 }) in
     let g = brought_goes (behind_probe y.held.0 t) (t, refl, refl) run.so.1.brought in
-    (y, numbered_now number verdict who k.standings x at, (g.short e).0)
+    (y, numbered_now number verdict who k.standings x at, inl (g.short e).0)
 
 -- in the words of devices
+
+-- an order leaves the marks
+ordered_done : (control : Control) (number : ℕ) (verdict : Target) (who : Named) (s : Standing) → is_done control (ordered_standing number verdict who s) ≡ is_done control s
+ordered_done Authorized number verdict who s = refl
+ordered_done Remove number verdict who s = refl
+ordered_done Default number verdict who s = refl
 
 pub stand_ordered : (k : Kernel) (ss : List Standing) (next number : ℕ) (verdict : Target) (who : Named) → Stand k ss next → Stand k (with_order number verdict who ss) next
 stand_ordered k ss next number verdict who stand =
     let f = ordered_standing number verdict who in
     stand_by k (with_order number verdict who ss) next (keeps_ordered number verdict who ss next (in_order stand))
     (λ s a. let m = map_has f ss s a in subst (λ (v : Standing). (i : ℕ) × IsDevice k i v.name v.held v.judged) m.2 (stand.devices m.0 m.1))
-    (λ s a. let m = map_has f ss s a in subst (λ (v : Standing). v.removed ≡ true → HasRemoval k v.held) m.2 (stand.removed m.0 m.1))
+    (λ control s a. let m = map_has f ss s a in subst (λ (v : Standing). is_done control v ≡ true → HasDone control k v.held) m.2 (λ r. stand.done control m.0 m.1 (sym (ordered_done control number verdict who m.0) ∙ r)))
 
 -- no verdict is told, and no write but of that number
 abbrev OnlyOf : ℕ → Entry → Type 0
@@ -225,7 +243,7 @@ only_of number now (x ∷ es) end at h g e (inl is) = subst (OnlyOf number) is t
 only_of number now (x ∷ es) end at h g e (inr a) = only_of number now es end at h g e a
 
 -- the effects of an account in which no other write is told
-account_own : {J : Type 0} {answer : Answers J} {later : Laters J} {present : Bool} {tried : Tries} {start k : Kernel} {before : List Standing} {log0 : List Effect} {judge0 : J} {next0 : ℕ} {es : List Entry} {log : List Effect} {judge : J} {next : ℕ} (number : ℕ) (file : Held) → ((s : Standing) → Has before s → s.number ≡ number → s.held ≡ file) → Account answer later present tried start k before log0 judge0 next0 es log judge next → ((e : Entry) → Has es e → OnlyOf number e) → (f : Effect) → Has log f → Has log0 f ⊎ IsFileOf k file.0 f.device
+account_own : {J : Type 0} {answer : Answers J} {later : Laters J} {terms : Terms} {tried : Tries} {start k : Kernel} {before : List Standing} {log0 : List Effect} {judge0 : J} {next0 : ℕ} {es : List Entry} {log : List Effect} {judge : J} {next : ℕ} (number : ℕ) (file : Held) → ((s : Standing) → Has before s → s.number ≡ number → s.held ≡ file) → Account answer later terms tried start k before log0 judge0 next0 es log judge next → ((e : Entry) → Has es e → OnlyOf number e) → (f : Effect) → Has log f → Has log0 f ⊎ IsFileOf k file.0 f.device
 account_own number file own Start only f a = inl a
 account_own number file own (Note es log judge next e t h) only f a = account_own number file own h (λ x b. only x (has_left es (e ∷ []) x b)) f a
 account_own number file own (Judge es log judge next i name held judged on ss d q st left marks h) only f a = account_own number file own h (λ x b. only x (has_left es _ x b)) f a
@@ -247,6 +265,11 @@ stopped Settled.Stands name n = absurd n.1
 stopped Settled.Nobody name n = absurd n.1
 stopped how name n = tt
 
+ordered_defaults : (hub : Option Write) (k : Kernel) (number : ℕ) (verdict : Target) (who : Named) (ss : List Standing) → AreDefaulted hub k ss → AreDefaulted hub k (with_order number verdict who ss)
+ordered_defaults hub k number verdict who ss was s a marked i file what e =
+    let m = map_has (ordered_standing number verdict who) ss s a in
+    was m.0 m.1 (ap (λ (v : Standing). v.defaulted) m.2 ∙ marked) i (subst (λ (h : Held). IsFileOf k h.0 i) (sym (ap (λ (v : Standing). v.held) m.2)) file) what e
+
 pub order_one : {J : Type 0} (number : ℕ) (verdict : Target) (who : Named) (on : Bool) (w : State J) (k l : Kernel) (p : Settled × Kept) (x : Standing) → IsKernel k → Stand k w.standings w.next → numbered number w.standings ≡ Some x → Runs calls k (ordering number verdict who on (kept_of w.standings w.entries)) p l → OrderedOne number verdict who on x k w l (with_kept w p.1) p.0
 order_one {J} number verdict who on w k l p x sound stand at r =
     let run = ordering_run calls number verdict who on (kept_of w.standings w.entries) x k p l at r in
@@ -260,10 +283,10 @@ order_one {J} number verdict who on w k l p x sound stand at r =
     let one = stands_one y.name ss y stands.names mine refl in
     let added : p.1.entries ≡ u.entries ++ o.rest = o.entries ∙ sym (append_assoc w.entries (verdict_entry y ∷ []) o.rest) in
     let is : p.1 ≡ kept_of (tried_standings ss y.name p.0) (u.entries ++ o.rest) = λ i. record { standings = o.standings i; entries = added i } in
-    let fair : (answer : Answers J) (later : Laters J) (present : Bool) (tried : Tries) → FairFrom answer later present tried k u l (with_kept w p.1) = λ answer later present tried.
-    subst (λ (v : Kept). FairFrom answer later present tried k u l (with_kept w v)) (sym is)
-    (known_brought l y.name (known_of y) on one (fair_refl answer later present tried k u sound stands) o.brought run.along) in
-    let a = fair (λ judge dev controller present on ss. (x.verdict, x.cause)) (λ judge dev controller present on ss. judge) false none_before in
+    let fair : (answer : Answers J) (later : Laters J) (terms : Terms) (tried : Tries) → FairFrom answer later terms tried k u l (with_kept w p.1) = λ answer later terms tried.
+    subst (λ (v : Kept). FairFrom answer later terms tried k u l (with_kept w v)) (sym is)
+    (known_brought l y.name (known_of y) on one (fair_refl answer later terms tried k u sound stands) o.brought run.along) in
+    let a = fair (λ judge dev controller present on ss. (x.verdict, x.cause)) (λ judge dev controller present on ss. judge) (terms_of false None) none_before in
     let g = a.fair.grows in
     let files = stand_files k w.standings w.next stand in
     let t = told_at (Probe.Alive on) (record { call = 0; count = 0 }) in
@@ -272,7 +295,8 @@ order_one {J} number verdict who on w k l p x sound stand at r =
     let only : (e : Entry) → Has a.fair.rest e → OnlyOf number e = subst (λ (v : List Entry). (e : Entry) → Has v e → OnlyOf number e) rest (λ e b. subst (λ (n : ℕ). OnlyOf n e) was.1 (only_of x.number (Some x.number) o.rest _ (inr refl) told.numbers told.given e b)) in
     let held : (s : Standing) → Has ss s → s.number ≡ number → s.held ≡ x.held = λ s b e. ap (λ (v : Standing). v.held) (distinct_one (λ (v : Standing). v.number) ss s y stands.distinct b mine (e ∙ sym was.1)) in
     record {
-      fair = λ answer later present tried. (fair answer later present tried).fair;
+      fair = λ answer later terms tried. (fair answer later terms tried).fair;
+      defaults = λ hub was. fair_defaults (fair (λ judge dev controller present on ss. (x.verdict, x.cause)) (λ judge dev controller present on ss. judge) (terms_of false hub) none_before).fair stands (along_logs run.made k l run.along) (ordered_defaults hub k number verdict who w.standings was);
       own = account_own number x.held held a.fair.account only;
       ended = λ i d file lives value.
           let first = lives_first k l i d lives in
@@ -281,8 +305,8 @@ order_one {J} number verdict who on w k l p x sound stand at r =
           elim (brought_own i k l o.brought sound last file (d, lives.entry.at, value) run.along) [
             | inl h ↦
                 let z = tried_new ss y.name p.0 y h.0 refl mine in
-                let so = as_judged l (tried_standings ss y.name p.0) i y.held y.verdict z.0 z.1 z.2 z.3 (file_later k l x.held.0 i g file) h.1 z.4 in
-                inl (judged_at l p.1.standings w.next i a.fair.stand (subst (λ (v : List Standing). StandsSo l v i) (sym o.standings) so))
+                let so = as_judged None l (tried_standings ss y.name p.0) i y.held y.verdict z.0 z.1 z.2 z.3 (file_later k l x.held.0 i g file) h.1 z.4 (z.5 None (none_for (is_none (parent_of y.name) && not y.defaulted))) in
+                inl (judged_at None l p.1.standings w.next i a.fair.stand (subst (λ (v : List Standing). StandsSo None l v i) (sym o.standings) so))
             | inr n ↦ inr (stopped p.0 y.name n)
           ];
       nobody = λ e i file. left_gone y mine a (subst (λ (v : List Standing). Has (names_of v) y.name → ⊥) (sym o.standings) (tried_nobody ss y.name p.0 e)) i file;

@@ -1,8 +1,8 @@
--- The calls of one name's part of a sweep, and those of a binding and of the opening of a `remove` file.
+-- The calls of one name's part of a sweep, and those of a binding and of the opening of a second file.
 use Rattle.std.proofs.Common.{◌≡◌, ℕ, ◌+◌, ◌≤◌, Bool, true, false, cond, ◌||◌, List, [], ◌∷◌, ◌++◌, Some, inl, inr, refl, sym, ◌∙◌, ap, subst, append_assoc, append-nil, arith}
 use Rattle.std.specs.Prelude.{if◌then◌else◌, nat_eq}
 use Rattle.std.proofs.lemmas.List.Folds.{list_any-append}
-use Rattle.ug_table.proofs.Common.{Has, Held, Control, Authorized, Remove, FailedCall, Listing, Probe, Call, Names, Open, Read, Ask_alive, Close, Closing, Told, Answer, failed_read, Made, answered, failure, failures, count_calls, Bound, Binding, RemoveHold, Fault, OpenFile, open_file, close_file, files_left, files_after, AreAbout, EndsAtFailure, Behind, behind_more, IsWriteDue, AreDue, PutMade, put_of, puts_of, told_by, Write, failures_more, list_any, binding_of}
+use Rattle.ug_table.proofs.Common.{Has, Held, Control, Authorized, IsOnce, IsOnceDue, control_of, Default, Put, Wrote, opens_default, found_by, FailedCall, Listing, Probe, Call, Names, Open, Read, Ask_alive, Close, Closing, Told, Answer, failed_read, Made, answered, failure, failures, count_calls, Bound, Binding, RemoveHold, Fault, OpenFile, open_file, close_file, files_left, files_after, AreAbout, EndsAtFailure, Behind, behind_more, IsWriteDue, AreDue, PutMade, put_of, puts_of, told_by, Write, failures_more, list_any, binding_of}
 use Rattle.ug_types.specs.declared.control.Attr.{Attr}
 use Rattle.ug_kernel.specs.declared.calls.Opened.{Opened}
 use Rattle.ug_kernel.specs.declared.calls.ReadOut.{ReadOut}
@@ -231,12 +231,17 @@ binds_calls files b x = calls_are (refl, tt) (inl refl, tt) (tt, tt) refl refl r
 
 -- the device of that open file was found alive last
 abbrev pub IsFound : Behind → ℕ → Bool → Type 0
-IsFound b held on = (t : Told Probe) × (b.last ≡ Some (answered (Ask_alive held) t)) ×
+IsFound b held on = (t : Told Probe) × (b.found ≡ Some (answered (Ask_alive held) t)) ×
     (t.answer ≡ Probe.Alive on)
 
 stop_unbound : (why : Stop) (x : Bound) → Binding.Bound x ≡ binding_of why → ⊥
 stop_unbound Stop.Vanished x e = let none : ⊥ = cc in none
 stop_unbound y x e = let none : ⊥ = cc in none
+
+-- readings open no default
+reads_open : {name : List ℕ} {ms : List Made} (b : Behind) → Reads name ms → opens_default b.last ≡ false → opens_default (behind_after b ms).last ≡ false
+reads_open b No_more e = e
+reads_open b (Then_read of at t ms may came r) e = reads_open (behind_more b (answered (Read of at) t)) r refl
 
 pub bound_found : {name : List ℕ} {ms : List Made} {x : Bound} (b : Behind)
     → Binds_by name ms (Binding.Bound x) → IsFound (behind_after b ms) x.held.0 x.on
@@ -245,10 +250,12 @@ bound_found {x = x} b (Cut file call count ms of at t shut why r a few may stops
 bound_found {name} b (Bound_by call count number total ms x a few are) =
     let start : Made = answered (Open name Authorized) (told (Opened.Token x.held) call count) in
     let end : Made = answered (Ask_alive x.held.0) (told (Probe.Alive x.on) number total) in
-    let last = ap (λ (v : Behind). v.last) (behind_join (behind_more b start) ms (end ∷ [])) in
-    (told (Probe.Alive x.on) number total, last, refl)
+    let c = behind_more b start in
+    let last = ap (λ (v : Behind). v.found) (behind_join c ms (end ∷ [])) in
+    let none = ap (λ (v : Bool). cond v (behind_after c ms).found (Some end)) (reads_open c a refl) in
+    (told (Probe.Alive x.on) number total, last ∙ none, refl)
 
--- the opening of a `remove` file
+-- the opening of a second file
 
 abbrev pub hold_faults : RemoveHold → List Fault
 hold_faults (RemoveHold.Failed failed) = Fault.Call failed ∷ []
@@ -256,40 +263,64 @@ hold_faults RemoveHold.Memory = Fault.Memory ∷ []
 hold_faults r = []
 
 -- it is held where it is ready
-abbrev pub hold_files : RemoveHold → List OpenFile → List OpenFile
-hold_files (RemoveHold.Ready file) files = open_file file.0 Remove ∷ files
-hold_files r files = files
+abbrev pub hold_files : Control → RemoveHold → List OpenFile → List OpenFile
+hold_files control (RemoveHold.Ready file) files = open_file file.0 control ∷ files
+hold_files control r files = files
 
-pub holds_calls : {name : List ℕ} {held : ℕ} {ms : List Made} {r : RemoveHold}
+pub holds_calls : {control : Control} {name : List ℕ} {held : ℕ} {ms : List Made} {r : RemoveHold}
     (files : List OpenFile) (b : Behind) → Has files (open_file held Authorized)
-    → Holds_by name held ms r → CallsOf name files b ms (hold_files r files) (hold_faults r) [] 2
+    → Holds_by control name held ms r → CallsOf name files b ms (hold_files control r files) (hold_faults r) [] 2
 holds_calls files b has (Held_on file on call count number total) =
     calls_are (refl, (inr has, tt)) (inl refl, (inl refl, tt)) (tt, (tt, tt)) refl refl refl refl
     (omega arith)
-holds_calls files b has (Died file call count number total shut) =
-    calls_are (refl, (inr has, ((Remove, inl refl), tt))) (inl refl, (inl refl, (inr tt, tt)))
+holds_calls {control} files b has (Died file call count number total shut) =
+    calls_are (refl, (inr has, ((control, inl refl), tt))) (inl refl, (inl refl, (inr tt, tt)))
     (tt, (tt, (tt, tt)))
-    (closed_first file.0 Remove files) refl refl refl (omega arith)
-holds_calls files b has (Unasked file call count number total shut) =
-    calls_are (refl, (inr has, ((Remove, inl refl), tt))) (inl refl, (inl refl, (inr tt, tt)))
+    (closed_first file.0 control files) refl refl refl (omega arith)
+holds_calls {control} files b has (Unasked file call count number total shut) =
+    calls_are (refl, (inr has, ((control, inl refl), tt))) (inl refl, (inl refl, (inr tt, tt)))
     (tt, (tt, (tt, tt)))
-    (closed_first file.0 Remove files) refl refl refl (omega arith)
+    (closed_first file.0 control files) refl refl refl (omega arith)
 holds_calls files b has x =
     calls_are (refl, tt) (inl refl, tt) (tt, tt) refl refl refl refl (omega arith)
 
-pub ready_due : {name : List ℕ} {held : ℕ} {ms : List Made} {file : Held} (b : Behind)
-    → Holds_by name held ms (RemoveHold.Ready file) → IsWriteDue (behind_after b ms) file.0 Write.Remove
-ready_due {name} {held} b (Held_on file on call count number total) = (
+ready_once : {control : Control} {name : List ℕ} {held : ℕ} {ms : List Made} {file : Held} (b : Behind)
+    → Holds_by control name held ms (RemoveHold.Ready file) → IsOnceDue control (behind_after b ms) file.0
+ready_once {control} {name} {held} b (Held_on file on call count number total) = (
   (on, (held, told (Probe.Alive on) number total, refl, refl)),
   (name, told (Opened.Token file) call count, file, refl, refl, refl),
 )
 
+once_due : (what : Write) (b : Behind) (file : ℕ) → IsOnce (control_of what) → IsOnceDue (control_of what) b file → IsWriteDue b file what
+once_due Write.On b file once h = absurd once
+once_due Write.Off b file once h = absurd once
+once_due x b file once h = h
+
+pub ready_due : (what : Write) {name : List ℕ} {held : ℕ} {ms : List Made} {file : Held} (b : Behind)
+    → IsOnce (control_of what) → Holds_by (control_of what) name held ms (RemoveHold.Ready file) → IsWriteDue (behind_after b ms) file.0 what
+ready_due what {ms = ms} {file = file} b once h = once_due what (behind_after b ms) file.0 once (ready_once b h)
+
+-- the probe of a value still counts behind a default that was written
+held_found : {name : List ℕ} {held : ℕ} {ms : List Made} {file : Held} {h : ℕ} {on : Bool} (b : Behind) → Holds_by Default name held ms (RemoveHold.Ready file) → IsFound b h on → IsFound (behind_after b ms) h on
+held_found b (Held_on file on call count number total) f = f
+
+put_found : (what : Write) (file h : ℕ) (on : Bool) (t : Told Wrote) (shut : Closing) (b : Behind) → control_of what ≡ Default → IsFound b h on → IsFound (behind_after b (answered (Put file what) t ∷ answered (Close file) shut ∷ [])) h on
+put_found Write.DefaultOff file h on t shut b e f = f
+put_found Write.DefaultOn file h on t shut b e f = f
+put_found x file h on t shut b e f = let none : ⊥ = cc in absurd none
+
+pub default_found : {name : List ℕ} {held : ℕ} {ms : List Made} {file : Held} {h : ℕ} {on : Bool} (what : Write) (t : Told Wrote) (shut : Closing) (b : Behind) → control_of what ≡ Default → Holds_by (control_of what) name held ms (RemoveHold.Ready file) → IsFound b h on → IsFound (behind_after b (ms ++ answered (Put file.0 what) t ∷ answered (Close file.0) shut ∷ [])) h on
+default_found {name} {held} {ms} {file} {h} {on} what t shut b e by f =
+    let ns : List Made = answered (Put file.0 what) t ∷ answered (Close file.0) shut ∷ [] in
+    let mid : IsFound (behind_after b ms) h on = held_found b (subst (λ (c : Control). Holds_by c name held ms (RemoveHold.Ready file)) e by) f in
+    subst (λ (v : Behind). IsFound v h on) (sym (behind_join b ms ns)) (put_found what file.0 h on t shut (behind_after b ms) e mid)
+
 -- an opening that was short of memory is among the calls
-abbrev pub IsShort : List Made → Type 0
-IsShort ms =
-    (name : List ℕ) × (t : Told Opened) × Has ms (answered (Open name Remove) t) ×
+abbrev pub IsShort : Control → List Made → Type 0
+IsShort control ms =
+    (name : List ℕ) × (t : Told Opened) × Has ms (answered (Open name control) t) ×
     (t.answer ≡ Opened.Memory)
 
-pub hold_short : {name : List ℕ} {held : ℕ} {ms : List Made} → Holds_by name held ms RemoveHold.Memory
-    → IsShort ms
-hold_short {name} (No_memory call count) = (name, told Opened.Memory call count, inl refl, refl)
+pub hold_short : {control : Control} {name : List ℕ} {held : ℕ} {ms : List Made} → Holds_by control name held ms RemoveHold.Memory
+    → IsShort control ms
+hold_short {control} {name} (No_memory call count) = (name, told Opened.Memory call count, inl refl, refl)

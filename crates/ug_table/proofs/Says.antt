@@ -1,6 +1,6 @@
 -- What an account says of the numbers that it tells.
 use Rattle.std.proofs.Common.{◌≡◌, ℕ, ◌+◌, ◌<◌, ◌≤◌, Bool, ◌⊎◌, List, [], ◌∷◌, ◌++◌, inl, inr, refl, sym, ◌∙◌, ap, subst, arith}
-use Rattle.ug_table.proofs.Common.{Has, AllDistinct, Judged, Held, Target, Cause, Write, Wrote, Kernel, Entry, IsNamed, Tries, IsDevice, IsGone, IsProbed, TellsNeither, HasVerdict, wrote_entries, Account, Start, Note, Judge, Had, Had_not, Went, numbers_of, gone_of, Standing, Answers, Laters, has_left, only_left, last_is, distinct_one, has_cases}
+use Rattle.ug_table.proofs.Common.{Terms, Has, AllDistinct, Judged, Held, Target, Cause, Write, Wrote, Kernel, Entry, IsNamed, Tries, IsDevice, IsGone, IsProbed, TellsNeither, HasVerdict, wrote_entries, Account, Start, Note, Judge, Had, Had_not, Went, numbers_of, gone_of, Standing, Answers, Laters, has_left, only_left, last_is, distinct_one, has_cases}
 use Rattle.ug_kernel.specs.declared.device.Effect.{Effect}
 
 -- each entry is so
@@ -177,28 +177,28 @@ verdict_low start k before next0 es next number name held verdict low h (inl a) 
     omega (arith, h.rises, low a.0 a.1, a.2)
 verdict_low start k before next0 es next number name held verdict low h (inr a) = (h.judged number name held verdict a.0 a.1).below
 
-pub account_says : {J : Type 0} (answer : Answers J) (later : Laters J) (present : Bool) (tried : Tries) (start k : Kernel) (before : List Standing) (log0 : List Effect) (judge0 : J) (next0 : ℕ) (es : List Entry) (log : List Effect) (judge : J) (next : ℕ) → AreLow before next0 → Account answer later present tried start k before log0 judge0 next0 es log judge next → Says start k before next0 es next
-account_says answer later present tried start k before log0 judge0 next0 es log judge next low Start = record {
+pub account_says : {J : Type 0} (answer : Answers J) (later : Laters J) (terms : Terms) (tried : Tries) (start k : Kernel) (before : List Standing) (log0 : List Effect) (judge0 : J) (next0 : ℕ) (es : List Entry) (log : List Effect) (judge : J) (next : ℕ) → AreLow before next0 → Account answer later terms tried start k before log0 judge0 next0 es log judge next → Says start k before next0 es next
+account_says answer later terms tried start k before log0 judge0 next0 es log judge next low Start = record {
   rises = omega arith;
   judged = λ number name held verdict cause a. absurd a;
   gone = λ number name a. absurd a;
   one = λ number n m x y v u c d a b. absurd a;
   wrote = λ number name what outcome a. absurd a;
 }
-account_says answer later present tried start k before log0 judge0 next0 es log judge next low (Note fs m j n e t h) = says_rest start k before next0 fs (e ∷ []) n (plain_unjudged (e ∷ []) (plain_note e t, tt)) (said_neither start k before next0 (fs ++ e ∷ []) n e t, tt) (account_says answer later present tried start k before log0 judge0 next0 fs m j n low h)
-account_says answer later present tried start k before log0 judge0 next0 es log judge next low (Judge fs m j n i name held judged on ss d b stands left so h) =
-    let says = account_says answer later present tried start k before log0 judge0 next0 fs m j n low h in
+account_says answer later terms tried start k before log0 judge0 next0 es log judge next low (Note fs m j n e t h) = says_rest start k before next0 fs (e ∷ []) n (plain_unjudged (e ∷ []) (plain_note e t, tt)) (said_neither start k before next0 (fs ++ e ∷ []) n e t, tt) (account_says answer later terms tried start k before log0 judge0 next0 fs m j n low h)
+account_says answer later terms tried start k before log0 judge0 next0 es log judge next low (Judge fs m j n i name held judged on ss d b stands left so h) =
+    let says = account_says answer later terms tried start k before log0 judge0 next0 fs m j n low h in
     says_judged start k before next0 fs n name held _ _ (record { after = says.rises; below = omega arith; i = i; judged = judged; on = on; device = d; probed = b }) says
-account_says answer later present tried start k before log0 judge0 next0 es log judge next low (Had fs m j n i number name held judged verdict what outcome d v due first may h) =
-    let says = account_says answer later present tried start k before log0 judge0 next0 fs m j n low h in
+account_says answer later terms tried start k before log0 judge0 next0 es log judge next low (Had fs m j n i number name held judged verdict what outcome d v due first may h) =
+    let says = account_says answer later terms tried start k before log0 judge0 next0 fs m j n low h in
     let es = wrote_entries number name what outcome in
     says_rest start k before next0 fs es n (plain_unjudged es (tt, (tt, tt))) (tt, (verdict_low start k before next0 fs n number name held verdict low says v, tt)) says
-account_says answer later present tried start k before log0 judge0 next0 es log judge next low (Had_not fs m j n i number name held judged verdict what outcome d v due first may h) =
-    let says = account_says answer later present tried start k before log0 judge0 next0 fs m j n low h in
+account_says answer later terms tried start k before log0 judge0 next0 es log judge next low (Had_not fs m j n i number name held judged verdict what outcome d v due first may h) =
+    let says = account_says answer later terms tried start k before log0 judge0 next0 fs m j n low h in
     let es = wrote_entries number name what outcome in
     says_rest start k before next0 fs es n (plain_unjudged es (tt, (tt, tt))) (tt, (verdict_low start k before next0 fs n number name held verdict low says v, tt)) says
-account_says answer later present tried start k before log0 judge0 next0 es log judge next low (Went fs m j n i number name held judged verdict d o v h) =
-    let says = account_says answer later present tried start k before log0 judge0 next0 fs m j n low h in
+account_says answer later terms tried start k before log0 judge0 next0 es log judge next low (Went fs m j n i number name held judged verdict d o v h) =
+    let says = account_says answer later terms tried start k before log0 judge0 next0 fs m j n low h in
     let es = Entry.Gone number name ∷ [] in
     says_rest start k before next0 fs es n (gone_unjudged number name) (record { below = verdict_low start k before next0 fs n number name held verdict low says v; i = i; held = held; judged = judged; verdict = verdict; device = d; gone = o; had = verdict_more before fs es number name held verdict v }, tt) says
 

@@ -2,7 +2,7 @@
 use Rattle.std.proofs.Common.{◌≡◌, ◌↔◌, ℕ, nat_eq, Option, option_copied, IsNone, IsSome, Bor, sym, Bool, true, false, not, ◌∙◌, ◌||◌, List, [], ◌∷◌, Some, None, map, cond, ◌⊎◌, inl, inr, refl, ap, subst, arith, true≢false, slice_get, ◌&&◌, ◌++◌, take, drop}
 use Rattle.std.proofs.lemmas.Bool.{or_right, or_cases, cases_Bool, cond_both, cond-false, both_ways, not-true, not-false, false_from_ne_true}
 use Rattle.std.specs.Cmp.Lexicographic.{bytes_decides}
-use Rattle.ug_table.proofs.Common.{Has, AllDistinct, same_name, known_of, standing_of, numbered, without, marked, lists, removed_of, place_for, with_standing, settled_standing, Standing, Known, Target, Device, Control, Authorized, Remove, Write, Wrote, Told, Put, Kernel, Live, IsKernel, Lived, value_after, does_put, IsWritten, IsGoneAt, IsAlive, Called, Quiet, Grows, FailedCall, Settled, Held, open_file, known_files, number_of, Entry, farewells, names_of, kept_standings, tried_standings, filter_has, map_has, has_map, distinct_one, has_filter, insert_has, is_reject, wants, write_of, filter, insert, some_same, moves_quiet}
+use Rattle.ug_table.proofs.Common.{Has, AllDistinct, same_name, known_of, standing_of, numbered, without, marked, lists, removed_of, did_default, with_default, default_due, defaulted_known, Default, IsOnce, control_of, is_done, place_for, with_standing, settled_standing, Standing, Known, Target, Device, Control, Authorized, Remove, Write, Wrote, Told, Put, Kernel, Live, IsKernel, Lived, value_after, written_to, does_put, IsWritten, IsGoneAt, IsAlive, Called, Quiet, Grows, FailedCall, Settled, Held, open_file, known_files, number_of, Entry, farewells, names_of, kept_standings, tried_standings, filter_has, map_has, has_map, distinct_one, has_filter, insert_has, is_reject, wants, write_of, filter, insert, some_same, moves_quiet}
 use Rattle.ug_kernel.specs.declared.device.HeldFile.{HeldFile}
 use Rattle.ug_kernel.proofs.Held.{live_before}
 use Rattle.ug_node.proofs.BindShapes.{told}
@@ -112,13 +112,25 @@ or_by true b = inl refl
 or_by false true = inr (refl, refl)
 or_by false false = inl refl
 
-pub still_removed : (name : List ℕ) (s : Standing) → removed_of name false s ≡ s.removed
+still_removed : (name : List ℕ) (s : Standing) → removed_of name false s ≡ s.removed
 still_removed name s = cond_both (same_name s.name name) (s.removed || false) s.removed (λ (v : Bool). v ≡ s.removed) (λ e. or_none s.removed) (λ e. refl)
 
-pub settled_removed : (name : List ℕ) (s : Standing) → (removed_of name true s ≡ s.removed) ⊎ ((s.name ≡ name) × (removed_of name true s ≡ true) × (is_reject s.verdict ≡ true))
+-- the mark of each file
+
+pub still_done : (control : Control) (name : List ℕ) (s : Standing) → is_done control (marked name false s) ≡ is_done control s
+still_done Authorized name s = refl
+still_done Remove name s = still_removed name s
+still_done Default name s = refl
+
+settled_removed : (name : List ℕ) (s : Standing) → (removed_of name true s ≡ s.removed) ⊎ ((s.name ≡ name) × (removed_of name true s ≡ true) × (is_reject s.verdict ≡ true))
 settled_removed name s = cond_both (same_name s.name name) (s.removed || is_reject s.verdict) s.removed
     (λ (v : Bool). (v ≡ s.removed) ⊎ ((s.name ≡ name) × (v ≡ true) × (is_reject s.verdict ≡ true)))
     (λ e. elim (or_by s.removed (is_reject s.verdict)) [ inl h ↦ inl h | inr h ↦ inr (same_is s.name name e, h.0, h.1) ]) (λ e. inl refl)
+
+pub settled_done : (control : Control) (name : List ℕ) (s : Standing) → (is_done control (marked name true s) ≡ is_done control s) ⊎ ((control ≡ Remove) × (s.name ≡ name) × (is_done Remove (marked name true s) ≡ true) × (is_reject s.verdict ≡ true))
+settled_done Authorized name s = inl refl
+settled_done Default name s = inl refl
+settled_done Remove name s = elim (settled_removed name s) [ inl e ↦ inl e | inr e ↦ inr (refl, e.0, e.1, e.2) ]
 
 pub reject_removed : (name : List ℕ) (s : Standing) → same_name s.name name ≡ true → is_reject s.verdict ≡ true → removed_of name true s ≡ true
 reject_removed name s e r = ap (λ (t : Bool). cond t (s.removed || is_reject s.verdict) s.removed) e
@@ -215,20 +227,26 @@ done_value held i verdict failed k l file c =
     let w : IsWritten held (write_of verdict) c.before c.after = c.effect in
     let at = (moves_quiet k c.before c.moves_before).held held (record { device = i; control = Authorized }) file in
     let is = written_device held i Authorized (write_of verdict) c.before c.after w at in
-    let d : Device = record w.d { on = value_after (write_of verdict) w.d.on } in
+    let d : Device = written_to (write_of verdict) w.d in
     let now : slice_get c.after.devices i ≡ Some d = subst (λ x. slice_get c.after.devices x ≡ Some d) is w.now in
     quiet_value c.after l i (wants verdict) (moves_quiet c.after l c.moves_after) (d, now, verdict_value verdict w.d.on)
 
--- a removal leaves the value
-pub removal_value : (file i : ℕ) (on : Bool) (failed : FailedCall) (k l : Kernel) → IsHeldAs k file i Remove → Called (Put file Write.Remove) (told_at Wrote.Done failed) k l → Value k i on → Value l i on
-removal_value file i on failed k l of c v =
-    let w : IsWritten file Write.Remove c.before c.after = c.effect in
+-- a write to a file that is written once leaves the value
+once_value : (what : Write) (was : Bool) → IsOnce (control_of what) → value_after what was ≡ was
+once_value Write.On was once = absurd once
+once_value Write.Off was once = absurd once
+once_value x was once = refl
+
+pub once_leaves : (what : Write) (file i : ℕ) (on : Bool) (failed : FailedCall) (k l : Kernel) → IsOnce (control_of what) → IsHeldAs k file i (control_of what) → Called (Put file what) (told_at Wrote.Done failed) k l → Value k i on → Value l i on
+once_leaves what file i on failed k l once of c v =
+    let w : IsWritten file what c.before c.after = c.effect in
     let moved = moves_quiet k c.before c.moves_before in
-    let is = written_device file i Remove Write.Remove c.before c.after w (moved.held file (record { device = i; control = Remove }) of) in
+    let is = written_device file i (control_of what) what c.before c.after w (moved.held file (record { device = i; control = control_of what }) of) in
     let was = quiet_value k c.before i on moved v in
     let same : w.d ≡ was.0 = some_same (slice_get c.before.devices i) w.d was.0 (subst (λ x. slice_get c.before.devices x ≡ Some w.d) is w.live.at) was.1 in
-    let now : slice_get c.after.devices i ≡ Some w.d = subst (λ x. slice_get c.after.devices x ≡ Some w.d) is w.now in
-    quiet_value c.after l i on (moves_quiet c.after l c.moves_after) (w.d, now, ap (λ (x : Device). x.on) same ∙ was.2)
+    let d : Device = written_to what w.d in
+    let now : slice_get c.after.devices i ≡ Some d = subst (λ x. slice_get c.after.devices x ≡ Some d) is w.now in
+    quiet_value c.after l i on (moves_quiet c.after l c.moves_after) (d, now, once_value what w.d.on once ∙ ap (λ (x : Device). x.on) same ∙ was.2)
 
 -- devices of other names keep their values
 abbrev pub Others : List ℕ → Kernel → Kernel → Type 0
@@ -335,8 +353,34 @@ tried_files k ss name how f s a =
     let t = tried_was ss name how s a in
     subst (λ v. IsOpen k v s.held.0) t.2 (subst (λ v. IsOpen k t.0.name v.0) t.3 (f t.0 t.1))
 
-pub tried_new : (ss : List Standing) (name : List ℕ) (how : Settled) (s : Standing) → how ≡ Settled.Stands → s.name ≡ name → Has ss s → (t : Standing) × Has (tried_standings ss name how) t × (t.held ≡ s.held) × (t.verdict ≡ s.verdict) × IsRemovedIf t
-tried_new ss name how s e named h = subst (λ (v : Settled). (t : Standing) × Has (tried_standings ss name v) t × (t.held ≡ s.held) × (t.verdict ≡ s.verdict) × IsRemovedIf t) (sym e) (marked name true s, has_map (marked name true) ss s h, refl, refl, λ r. reject_removed name s (is_same s.name name named) r)
+pub tried_new : (ss : List Standing) (name : List ℕ) (how : Settled) (s : Standing) → how ≡ Settled.Stands → s.name ≡ name → Has ss s → (t : Standing) × Has (tried_standings ss name how) t × (t.held ≡ s.held) × (t.verdict ≡ s.verdict) × IsRemovedIf t × ((hub : Option Write) → default_due hub s.name (known_of s) ≡ None → default_due hub t.name (known_of t) ≡ None)
+tried_new ss name how s e named h = subst (λ (v : Settled). (t : Standing) × Has (tried_standings ss name v) t × (t.held ≡ s.held) × (t.verdict ≡ s.verdict) × IsRemovedIf t × ((hub : Option Write) → default_due hub s.name (known_of s) ≡ None → default_due hub t.name (known_of t) ≡ None)) (sym e) (marked name true s, has_map (marked name true) ss s h, refl, refl, λ r. reject_removed name s (is_same s.name name named) r, λ hub h. h)
+
+-- the default of its device was written
+
+pub default_other : (name : List ℕ) (s : Standing) → (s.name ≡ name → ⊥) → with_default name s ≡ s
+default_other name s ne = ap (λ (b : Bool). let v : Standing = record s { defaulted = b || s.defaulted } in v) (other_test s.name name ne)
+
+pub default_own : (name : List ℕ) (s : Standing) → s.name ≡ name → with_default name s ≡ record s { defaulted = true }
+default_own name s e = ap (λ (b : Bool). let v : Standing = record s { defaulted = b || s.defaulted } in v) (is_same s.name name e)
+
+pub did_was : (ss : List Standing) (name : List ℕ) (d : Bool) (s : Standing) → Has (did_default name d ss) s → Was ss s
+did_was ss name true s h = let m = map_has (with_default name) ss s h in (m.0, m.1, ap (λ (v : Standing). v.name) m.2, ap (λ (v : Standing). v.held) m.2)
+did_was ss name false s h = (s, h, refl, refl)
+
+pub did_files : (k : Kernel) (ss : List Standing) (name : List ℕ) (d : Bool) → Files k ss → Files k (did_default name d ss)
+did_files k ss name d f s a =
+    let t = did_was ss name d s a in
+    subst (λ v. IsOpen k v s.held.0) t.2 (subst (λ v. IsOpen k t.0.name v.0) t.3 (f t.0 t.1))
+
+-- the standing of the name, marked where that was so
+abbrev pub default_as : Bool → Standing → Standing
+default_as true s = record s { defaulted = true }
+default_as false s = s
+
+pub did_has : (name : List ℕ) (d : Bool) (ss : List Standing) (s : Standing) → s.name ≡ name → Has ss s → Has (did_default name d ss) (default_as d s)
+did_has name true ss s e a = subst (λ (v : Standing). Has (map (with_default name) ss) v) (default_own name s e) (has_map (with_default name) ss s a)
+did_has name false ss s e a = a
 
 -- The standing of a name once another name was settled, and once it was itself.
 
@@ -369,6 +413,32 @@ pub tried_own : (name : List ℕ) (ss : List Standing) (how : Settled) (known : 
 tried_own name ss Settled.Nobody known e n = absurd (n refl)
 tried_own name ss Settled.Stands known e n = marked_own name true ss known e
 tried_own name ss how known e n = marked_own name false ss known e
+
+-- one whose default was written
+default_stands : (name : List ℕ) (ss : List Standing) (known : Known) → standing_of name ss ≡ Some known → standing_of name (map (with_default name) ss) ≡ Some (defaulted_known known)
+default_stands name [] known e = let none : ⊥ = cc in absurd none
+default_stands name (s ∷ ss) known e =
+    elim (same_name s.name name) as (λ (b : Bool). cond b (Some (known_of s)) (standing_of name ss) ≡ Some known → cond b (Some (known_of (record s { defaulted = b || s.defaulted }))) (standing_of name (map (with_default name) ss)) ≡ Some (defaulted_known known)) [ true ↦ (λ f. let same : known_of s ≡ known = cc in ap (λ (v : Known). Some (defaulted_known v)) same) | false ↦ default_stands name ss known ] e
+
+abbrev pub known_as : Bool → Known → Known
+known_as true known = defaulted_known known
+known_as false known = known
+
+pub did_stands : (name : List ℕ) (d : Bool) (ss : List Standing) (known : Known) → standing_of name ss ≡ Some known → standing_of name (did_default name d ss) ≡ Some (known_as d known)
+did_stands name true ss known e = default_stands name ss known e
+did_stands name false ss known e = e
+
+-- and others are passed over
+default_without : (name : List ℕ) (ss : List Standing) → without name (map (with_default name) ss) ≡ without name ss
+default_without name [] = refl
+default_without name (s ∷ ss) = elim (same_name s.name name) as (λ (b : Bool). cond (not b) (record s { defaulted = b || s.defaulted } ∷ without name (map (with_default name) ss)) (without name (map (with_default name) ss)) ≡ cond (not b) (s ∷ without name ss) (without name ss)) [
+  | true ↦ default_without name ss
+  | false ↦ ap (λ (v : List Standing). s ∷ v) (default_without name ss)
+]
+
+pub did_without : (name : List ℕ) (d : Bool) (ss : List Standing) → without name (did_default name d ss) ≡ without name ss
+did_without name true ss = default_without name ss
+did_without name false ss = refl
 
 -- a new one
 
@@ -424,6 +494,27 @@ marked_between name b x (t ∷ ts) ds n =
     let own = marked_other name b t (λ e. n (inl e)) in
     ap (λ (v : Standing). v ∷ map (marked name b) (ts ++ x ∷ ds)) own
     ∙ ap (λ (v : List Standing). t ∷ v) (marked_between name b x ts ds (λ a. n (inr a)))
+
+default_none : (name : List ℕ) (ss : List Standing) → (Has (names_of ss) name → ⊥) → map (with_default name) ss ≡ ss
+default_none name [] n = refl
+default_none name (s ∷ ss) n =
+    ap (λ (v : Standing). v ∷ map (with_default name) ss) (default_other name s (λ e. n (inl e)))
+    ∙ ap (λ (v : List Standing). s ∷ v) (default_none name ss (λ a. n (inr a)))
+
+default_between : (name : List ℕ) (x : Standing) (ts ds : List Standing) → (Has (names_of (ts ++ ds)) name → ⊥) → map (with_default name) (ts ++ x ∷ ds) ≡ ts ++ with_default name x ∷ ds
+default_between name x [] ds n = ap (λ (v : List Standing). with_default name x ∷ v) (default_none name ds n)
+default_between name x (t ∷ ts) ds n =
+    let own = default_other name t (λ e. n (inl e)) in
+    ap (λ (v : Standing). v ∷ map (with_default name) (ts ++ x ∷ ds)) own
+    ∙ ap (λ (v : List Standing). t ∷ v) (default_between name x ts ds (λ a. n (inr a)))
+
+-- a new standing that is marked so
+pub did_with : (d : Bool) (x : Standing) (ss : List Standing) → x.defaulted ≡ false → standing_of x.name ss ≡ None → with_standing (record x { defaulted = d }) ss ≡ did_default x.name d (with_standing x ss)
+did_with true x ss fresh none =
+    let p : ℕ = place_for x.name ss in
+    let absent = subst (λ (v : List Standing). Has (names_of v) x.name → ⊥) (sym (take-append-drop p ss)) (missing x.name ss none) in
+    ap (λ (v : Standing). insert ss p v) (sym (default_own x.name x refl)) ∙ sym (default_between x.name x (take p ss) (drop p ss) absent)
+did_with false x ss fresh none = ap (λ (b : Bool). let y : Standing = record x { defaulted = b } in with_standing y ss) (sym fresh)
 
 without_none : (name : List ℕ) (ss : List Standing) → (Has (names_of ss) name → ⊥)
     → without name ss ≡ ss

@@ -1,22 +1,22 @@
 -- Fair steps, one after another.
-use Rattle.std.proofs.Common.{◌≡◌, ℕ, Bool, List, ◌++◌, inl, inr, sym, ◌∙◌, subst, true, false, ◌⊎◌, refl, ap, ◌<◌, ◌≤◌, append-nil, [], ◌∷◌, Some, slice_get, append_assoc, arith, not, map}
-use Rattle.ug_table.proofs.Common.{Has, AllDistinct, Held, Target, Kernel, Live, IsKernel, Grows, Quiet, Entry, Tries, HasVerdict, Account, Start, Note, Judge, Had, Had_not, Went, IsTold, HasRemoval, Stand, numbers_of, wrote_entries, IsRemoveMarked, IsDevice, IsGone, IsProbed, IsOne, Stands, HasStanding, IsJudged, gone_of, IsFair, AreLeft, WasRemoved, IsFirst, TellsNeither, Standing, Answers, Laters, State, noted, Judged, Cause, Device, Write, Wrote, Authorized, Call, Answer, IsGoneAt, Called, same_name, without, marked, removed_of, Settled, names_of, tried_standings, has_left, has_right, distinct_one, has_cases, distinct_append, filter_has, has_filter, map_has, has_map, is_reject, some_same, quiet_grows, grows_trans, grows_refl, moves_quiet, WritesNothing, quiet_refl, called_quiet, StandInOrder, KeepsOrder}
+use Rattle.std.proofs.Common.{◌||◌, ◌≡◌, ℕ, Bool, List, ◌++◌, inl, inr, sym, ◌∙◌, subst, true, false, ◌⊎◌, refl, ap, ◌<◌, ◌≤◌, append-nil, [], ◌∷◌, Some, slice_get, append_assoc, arith, not, map}
+use Rattle.ug_table.proofs.Common.{Terms, Has, AllDistinct, Held, Target, Kernel, Live, IsKernel, Grows, Quiet, Entry, Tries, HasVerdict, Account, Start, Note, Judge, Had, Had_not, Went, IsTold, HasDone, Stand, numbers_of, wrote_entries, IsDoneMarked, TellsDone, IsOnce, control_of, is_done, Control, Remove, IsDevice, IsGone, IsProbed, IsOne, Stands, HasStanding, IsJudged, gone_of, IsFair, AreLeft, WasDone, IsFirst, TellsNeither, Standing, Answers, Laters, State, noted, Judged, Cause, Device, Write, Wrote, Authorized, Call, Answer, IsGoneAt, Called, same_name, without, marked, removed_of, with_default, Default, Settled, names_of, tried_standings, has_left, has_right, distinct_one, has_cases, distinct_append, filter_has, has_filter, map_has, has_map, is_reject, some_same, quiet_grows, grows_trans, grows_refl, moves_quiet, WritesNothing, quiet_refl, called_quiet, StandInOrder, KeepsOrder}
 use Rattle.ug_kernel.specs.declared.device.Effect.{Effect}
 use Rattle.ug_table.proofs.Devices.{device_stays, gone_stays, probed_stays, stand_stays}
 use Rattle.std.proofs.lemmas.Bool.{cases_Bool, both_ways, true_from_ne_false, true≢false}
-use Rattle.ug_table.proofs.Standings.{missing_without, IsFileOf, file_same, file_later, same_is, is_same, still_removed, settled_removed, reject_removed}
+use Rattle.ug_table.proofs.Standings.{missing_without, IsFileOf, file_same, file_later, same_is, is_same, still_done, settled_done, reject_removed}
 use Rattle.ug_table.proofs.Says.{Says, gone_has, gone_append, account_says, one_held, AreLow, IsPlain, Plain, NoJudged, plain_unjudged, gone_unjudged, plain_note, plain_distinct, each_has, one_neither}
-use Rattle.ug_table.proofs.Marks.{keeps_filter, keeps_marked, names_distinct}
+use Rattle.ug_table.proofs.Marks.{keeps_map, keeps_filter, keeps_marked, names_distinct}
 
 -- Accounts of one part of a sweep after another.
 
-pub account_stays : {J : Type 0} (answer : Answers J) (later : Laters J) (present : Bool) (tried : Tries) (start k l : Kernel) (before : List Standing) (log0 : List Effect) (judge0 : J) (next0 : ℕ) (es : List Entry) (log : List Effect) (judge : J) (next : ℕ) → Grows k l → Account answer later present tried start k before log0 judge0 next0 es log judge next → Account answer later present tried start l before log0 judge0 next0 es log judge next
-account_stays answer later present tried start k l before log0 judge0 next0 es log judge next g Start = Start
-account_stays answer later present tried start k l before log0 judge0 next0 es log judge next g (Note fs m j n e t h) = Note fs m j n e t (account_stays answer later present tried start k l before log0 judge0 next0 fs m j n g h)
-account_stays answer later present tried start k l before log0 judge0 next0 es log judge next g (Judge fs m j n i name held judged on ss d b stands left so h) = Judge fs m j n i name held judged on ss (device_stays k l i name held judged g d) (probed_stays start k l name held.0 i on g b) (stand_stays k l ss n g stands) left so (account_stays answer later present tried start k l before log0 judge0 next0 fs m j n g h)
-account_stays answer later present tried start k l before log0 judge0 next0 es log judge next g (Had fs m j n i number name held judged verdict what outcome d v due first may h) = Had fs m j n i number name held judged verdict what outcome (device_stays k l i name held judged g d) v due first may (account_stays answer later present tried start k l before log0 judge0 next0 fs m j n g h)
-account_stays answer later present tried start k l before log0 judge0 next0 es log judge next g (Had_not fs m j n i number name held judged verdict what outcome d v due first may h) = Had_not fs m j n i number name held judged verdict what outcome (device_stays k l i name held judged g d) v due first may (account_stays answer later present tried start k l before log0 judge0 next0 fs m j n g h)
-account_stays answer later present tried start k l before log0 judge0 next0 es log judge next g (Went fs m j n i number name held judged verdict d o v h) = Went fs m j n i number name held judged verdict (device_stays k l i name held judged g d) (gone_stays k l i g o) v (account_stays answer later present tried start k l before log0 judge0 next0 fs m j n g h)
+pub account_stays : {J : Type 0} (answer : Answers J) (later : Laters J) (terms : Terms) (tried : Tries) (start k l : Kernel) (before : List Standing) (log0 : List Effect) (judge0 : J) (next0 : ℕ) (es : List Entry) (log : List Effect) (judge : J) (next : ℕ) → Grows k l → Account answer later terms tried start k before log0 judge0 next0 es log judge next → Account answer later terms tried start l before log0 judge0 next0 es log judge next
+account_stays answer later terms tried start k l before log0 judge0 next0 es log judge next g Start = Start
+account_stays answer later terms tried start k l before log0 judge0 next0 es log judge next g (Note fs m j n e t h) = Note fs m j n e t (account_stays answer later terms tried start k l before log0 judge0 next0 fs m j n g h)
+account_stays answer later terms tried start k l before log0 judge0 next0 es log judge next g (Judge fs m j n i name held judged on ss d b stands left so h) = Judge fs m j n i name held judged on ss (device_stays k l i name held judged g d) (probed_stays start k l name held.0 i on g b) (stand_stays k l ss n g stands) left so (account_stays answer later terms tried start k l before log0 judge0 next0 fs m j n g h)
+account_stays answer later terms tried start k l before log0 judge0 next0 es log judge next g (Had fs m j n i number name held judged verdict what outcome d v due first may h) = Had fs m j n i number name held judged verdict what outcome (device_stays k l i name held judged g d) v due first may (account_stays answer later terms tried start k l before log0 judge0 next0 fs m j n g h)
+account_stays answer later terms tried start k l before log0 judge0 next0 es log judge next g (Had_not fs m j n i number name held judged verdict what outcome d v due first may h) = Had_not fs m j n i number name held judged verdict what outcome (device_stays k l i name held judged g d) v due first may (account_stays answer later terms tried start k l before log0 judge0 next0 fs m j n g h)
+account_stays answer later terms tried start k l before log0 judge0 next0 es log judge next g (Went fs m j n i number name held judged verdict d o v h) = Went fs m j n i number name held judged verdict (device_stays k l i name held judged g d) (gone_stays k l i g o) v (account_stays answer later terms tried start k l before log0 judge0 next0 fs m j n g h)
 
 -- each of these standings was there before, or was told
 abbrev AreTold : List Standing → List Entry → List Standing → Type 0
@@ -40,82 +40,95 @@ told_before before middle es fs s told (inl h) = elim (told h.0 h.1) [
 ]
 told_before before middle es fs s told (inr h) = inr (has_right es fs (Entry.Judged s.number s.name s.held s.verdict s.cause) h)
 
--- Which standings are marked as removed, as entries are added.
+-- What standings are marked with, as entries are added. All of it is said of each file that is written once.
 
 -- it was there with the same mark
+abbrev pub KeepsFor : Control → List Standing → Standing → Type 0
+KeepsFor control ss s = (b : Standing) × Has ss b × (b.number ≡ s.number) × (b.held ≡ s.held) × (is_done control b ≡ is_done control s)
+
+-- and so with each mark
 abbrev pub Keeps : List Standing → Standing → Type 0
-Keeps ss s = (b : Standing) × Has ss b × (b.number ≡ s.number) × (b.held ≡ s.held) × (b.removed ≡ s.removed)
+Keeps ss s = (control : Control) → KeepsFor control ss s
 
 abbrev pub KeepMarks : List Standing → List Standing → Type 0
 KeepMarks ss rs = (s : Standing) → Has rs s → Keeps ss s
 
 pub keeps_itself : (ss : List Standing) (s : Standing) → Has ss s → Keeps ss s
-keeps_itself ss s a = (s, a, refl, refl, refl)
+keeps_itself ss s a = λ control. (s, a, refl, refl, refl)
 
--- entries that tell of no removal that was done
-abbrev pub NoRemoval : List Entry → Type 0
-NoRemoval es = (number : ℕ) (name : List ℕ) → Has es (Entry.Wrote number name Write.Remove Wrote.Done) → ⊥
+-- entries that tell of no write to such a file that was done
+abbrev pub NoneDone : List Entry → Type 0
+NoneDone es = (number : ℕ) (name : List ℕ) (what : Write) → IsOnce (control_of what) → Has es (Entry.Wrote number name what Wrote.Done) → ⊥
 
 abbrev pub AreMarked : List Standing → List Entry → List Standing → Type 0
-AreMarked ss es rs = (s : Standing) → Has rs s → IsRemoveMarked ss es s
+AreMarked ss es rs = (control : Control) → IsOnce control → (s : Standing) → Has rs s → IsDoneMarked control ss es s
 
-abbrev pub AreRemoved : Kernel → List Standing → Type 0
-AreRemoved k ss = (s : Standing) → Has ss s → s.removed ≡ true → HasRemoval k s.held
+abbrev pub AreDone : Kernel → List Standing → Type 0
+AreDone k ss = (control : Control) → (s : Standing) → Has ss s → is_done control s ≡ true → HasDone control k s.held
 
-pub keep_one : (ss : List Standing) (es : List Entry) (s : Standing) → Keeps ss s → AllDistinct (numbers_of ss) → ((name : List ℕ) → Has es (Entry.Wrote s.number name Write.Remove Wrote.Done) → ⊥) → IsRemoveMarked ss es s
-keep_one ss es s b distinct none = elim (cases_Bool b.0.removed) [
+pub keep_one : (control : Control) (ss : List Standing) (es : List Entry) (s : Standing) → KeepsFor control ss s → AllDistinct (numbers_of ss) → (TellsDone control es s.number → ⊥) → IsDoneMarked control ss es s
+keep_one control ss es s b distinct none = elim (cases_Bool (is_done control b.0)) [
   | inl e ↦ inl (sym b.4 ∙ e, inl (b.0, b.1, b.2, e))
   | inr e ↦
-      let unmarked : WasRemoved ss es s.number → ⊥ = λ w. elim w [
+      let unmarked : WasDone control ss es s.number → ⊥ = λ w. elim w [
         | inl c ↦
             let same : c.0 ≡ b.0 = distinct_one (λ (v : Standing). v.number) ss c.0 b.0 distinct c.1 b.1 (c.2 ∙ sym b.2) in
-            both_ways c.0.removed (ap (λ (v : Standing). v.removed) same ∙ e) c.3
-        | inr c ↦ none c.0 c.1
+            both_ways (is_done control c.0) (ap (is_done control) same ∙ e) c.3
+        | inr c ↦ none c
       ] in
       inr (sym b.4 ∙ e, unmarked)
 ]
 
-pub keep_marks : (ss rs : List Standing) (es : List Entry) → AllDistinct (numbers_of ss) → KeepMarks ss rs → NoRemoval es → AreMarked ss es rs
-keep_marks ss rs es distinct keep none s a = keep_one ss es s (keep s a) distinct (none s.number)
+-- none is told of that file
+pub none_of : (es : List Entry) → NoneDone es → (control : Control) → IsOnce control → (number : ℕ) → TellsDone control es number → ⊥
+none_of es none control once number h = none number h.0 h.1 (subst IsOnce (sym h.2) once) h.3
 
-pub keep_removal : (k : Kernel) (ss : List Standing) (s : Standing) → AreRemoved k ss → Keeps ss s → s.removed ≡ true → HasRemoval k s.held
-keep_removal k ss s stand b r = subst (λ (v : Held). HasRemoval k v) b.3 (stand b.0 b.1 (b.4 ∙ r))
+pub keep_marks : (ss rs : List Standing) (es : List Entry) → AllDistinct (numbers_of ss) → KeepMarks ss rs → NoneDone es → AreMarked ss es rs
+keep_marks ss rs es distinct keep none control once s a = keep_one control ss es s (keep s a control) distinct (none_of es none control once s.number)
 
-pub keep_removed : (m l : Kernel) (ss rs : List Standing) (next : ℕ) → Stand m ss next → Grows m l → KeepMarks ss rs → AreRemoved l rs
-keep_removed m l ss rs next stand g keep s a r = keep_removal l ss s (stand_stays m l ss next g stand).removed (keep s a) r
+pub keep_done : (control : Control) (k : Kernel) (ss : List Standing) (s : Standing) → AreDone k ss → KeepsFor control ss s → is_done control s ≡ true → HasDone control k s.held
+keep_done control k ss s stand b r = subst (λ (v : Held). HasDone control k v) b.3 (stand control b.0 b.1 (b.4 ∙ r))
 
--- the marks as a standing is settled: its own says that it was removed, if it is rejected, and the others stay
-pub record Marks (x : Standing) (ss rs : List Standing) : Type 0 where
-  pub each : (s : Standing) → Has rs s → Keeps ss s ⊎ ((s.number ≡ x.number) × (s.held ≡ x.held) × (s.removed ≡ true) × (is_reject x.verdict ≡ true))
-  pub own : (s : Standing) → Has rs s → s.number ≡ x.number → is_reject x.verdict ≡ true → s.removed ≡ true
+pub keep_all_done : (m l : Kernel) (ss rs : List Standing) (next : ℕ) → Stand m ss next → Grows m l → KeepMarks ss rs → AreDone l rs
+keep_all_done m l ss rs next stand g keep control s a r = keep_done control l ss s (stand_stays m l ss next g stand).done (keep s a control) r
 
--- it wasn't to be removed, so each mark stays
-pub marks_keep : (ss rs : List Standing) (x : Standing) → Has ss x → (is_reject x.verdict ≡ true → x.removed ≡ true) → Marks x ss rs → KeepMarks ss rs
-marks_keep ss rs x has was m s a = elim (m.each s a) [
+-- the marks as a write to that file is done for a standing where P holds: its own has that mark, and the others stay
+pub record Marks (file : Control) (P : Type 0) (x : Standing) (ss rs : List Standing) : Type 0 where
+  pub each : (s : Standing) → Has rs s → (control : Control) → KeepsFor control ss s ⊎ ((control ≡ file) × (s.number ≡ x.number) × (s.held ≡ x.held) × (is_done file s ≡ true) × P)
+  pub own : (s : Standing) → Has rs s → s.number ≡ x.number → P → is_done file s ≡ true
+
+-- it had that mark, so each mark stays
+pub marks_keep : (file : Control) (P : Type 0) (ss rs : List Standing) (x : Standing) → Has ss x → (P → is_done file x ≡ true) → Marks file P x ss rs → KeepMarks ss rs
+marks_keep file P ss rs x has was m s a control = elim (m.each s a control) [
   | inl b ↦ b
-  | inr b ↦ (x, has, sym b.0, sym b.1, was b.3 ∙ sym b.2)
+  | inr b ↦ (x, has, sym b.1, sym b.2, subst (λ (c : Control). is_done c x ≡ is_done c s) (sym b.0) (was b.4 ∙ sym b.3))
 ]
 
--- it was removed just now
-pub removal_marks : (ss rs : List Standing) (x : Standing) → AllDistinct (numbers_of ss) → is_reject x.verdict ≡ true → Marks x ss rs → AreMarked ss (wrote_entries x.number x.name Write.Remove Wrote.Done) rs
-removal_marks ss rs x distinct reject m s a = elim (cases_Bool s.removed) [
-  | inl e ↦ elim (m.each s a) [
+-- what two entries of a write tell as done is that write
+done_now : (number n : ℕ) (name m : List ℕ) (what w : Write) → Has (wrote_entries number name what Wrote.Done) (Entry.Wrote n m w Wrote.Done) → (n ≡ number) × (w ≡ what)
+done_now number n name m what w (inl e) = let none : ⊥ = cc in absurd none
+done_now number n name m what w (inr (inl e)) = ((cc), (cc))
+done_now number n name m what w (inr (inr none)) = absurd none
+
+-- it was done just now
+pub done_marks : (what : Write) (P : Type 0) (ss rs : List Standing) (x : Standing) → AllDistinct (numbers_of ss) → P → Marks (control_of what) P x ss rs → AreMarked ss (wrote_entries x.number x.name what Wrote.Done) rs
+done_marks what P ss rs x distinct p m control once s a = elim (cases_Bool (is_done control s)) [
+  | inl e ↦ elim (m.each s a control) [
     | inl b ↦ inl (e, inl (b.0, b.1, b.2, b.4 ∙ e))
-    | inr b ↦ inl (e, inr (x.name, inr (inl (ap (λ (v : ℕ). Entry.Wrote v x.name Write.Remove Wrote.Done) (sym b.0)))))
+    | inr b ↦ inl (e, inr (x.name, what, sym b.0, inr (inl (ap (λ (v : ℕ). Entry.Wrote v x.name what Wrote.Done) (sym b.1)))))
   ]
   | inr e ↦
-      let other : s.number ≡ x.number → ⊥ = λ is. both_ways s.removed e (m.own s a is reject) in
-      let kept : Keeps ss s = elim (m.each s a) [ inl b ↦ b | inr b ↦ absurd (other b.0) ] in
-      keep_one ss (wrote_entries x.number x.name Write.Remove Wrote.Done) s kept distinct (λ name h. elim h [
-        | inl is ↦ let none : ⊥ = cc in none
-        | inr g ↦ elim g [ inl is ↦ other (let same : s.number ≡ x.number = cc in same) | inr none ↦ none ]
-      ])
+      let other : control ≡ control_of what → s.number ≡ x.number → ⊥ = λ c is. both_ways (is_done control s) e (ap (λ (v : Control). is_done v s) c ∙ m.own s a is p) in
+      let kept : KeepsFor control ss s = elim (m.each s a control) [ inl b ↦ b | inr b ↦ absurd (other b.0 b.1) ] in
+      keep_one control ss (wrote_entries x.number x.name what Wrote.Done) s kept distinct (λ h.
+      let t = done_now x.number s.number x.name h.0 what h.1 h.3 in
+      other (sym h.2 ∙ ap control_of t.1) t.0)
 ]
 
-pub removal_removed : (k : Kernel) (ss rs : List Standing) (x : Standing) → AreRemoved k ss → HasRemoval k x.held → Marks x ss rs → AreRemoved k rs
-removal_removed k ss rs x stand log m s a r = elim (m.each s a) [
-  | inl b ↦ keep_removal k ss s stand b r
-  | inr b ↦ subst (λ (v : Held). HasRemoval k v) (sym b.1) log
+pub done_more : (file : Control) (P : Type 0) (k : Kernel) (ss rs : List Standing) (x : Standing) → AreDone k ss → HasDone file k x.held → Marks file P x ss rs → AreDone k rs
+done_more file P k ss rs x stand log m control s a r = elim (m.each s a control) [
+  | inl b ↦ keep_done control k ss s stand b r
+  | inr b ↦ subst (λ (c : Control). HasDone c k s.held) (sym b.0) (subst (λ (v : Held). HasDone file k v) (sym b.2) log)
 ]
 
 -- One fair part of a sweep after another.
@@ -137,44 +150,43 @@ stands_by ss rs es fs number name held verdict cause kept (inl t) = elim (kept t
 ]
 stands_by ss rs es fs number name held verdict cause kept (inr g) = inr (has_left es fs (Entry.Gone number name) g)
 
--- a number of the second part that was marked or told as removed in the first is marked so between them
-removed_back : (before middle : List Standing) (es fs : List Entry) (bound number : ℕ) → AreLow before bound → ((n : ℕ) (name : List ℕ) (what : Write) (outcome : Wrote) → Has es (Entry.Wrote n name what outcome) → n < bound) → AreLeft before es middle → ((t : Standing) × Has middle t × (t.number ≡ number)) ⊎ (bound ≤ number) → WasRemoved before (es ++ fs) number → WasRemoved middle fs number
-removed_back before middle es fs bound number low told a (inl t) w =
-    let removed : WasRemoved before es number → WasRemoved middle fs number = λ x. elim (a.removed t.0 t.1) [
+-- a number of the second part that was marked or told with a file in the first is marked so between them
+done_back : (control : Control) (once : IsOnce control) (before middle : List Standing) (es fs : List Entry) (bound number : ℕ) → AreLow before bound → ((n : ℕ) (name : List ℕ) (what : Write) (outcome : Wrote) → Has es (Entry.Wrote n name what outcome) → n < bound) → AreLeft before es middle → ((t : Standing) × Has middle t × (t.number ≡ number)) ⊎ (bound ≤ number) → WasDone control before (es ++ fs) number → WasDone control middle fs number
+done_back control once before middle es fs bound number low told a (inl t) w =
+    let done : WasDone control before es number → WasDone control middle fs number = λ x. elim (a.done control once t.0 t.1) [
       | inl y ↦ inl (t.0, t.1, t.2, y.0)
-      | inr y ↦ absurd (y.1 (subst (λ (v : ℕ). WasRemoved before es v) (sym t.2) x))
+      | inr y ↦ absurd (y.1 (subst (λ (v : ℕ). WasDone control before es v) (sym t.2) x))
     ] in
     elim w [
-      | inl b ↦ removed (inl b)
-      | inr b ↦ elim (has_cases es fs (Entry.Wrote number b.0 Write.Remove Wrote.Done) b.1) [ inl x ↦ removed (inr (b.0, x)) | inr x ↦ inr (b.0, x) ]
+      | inl b ↦ done (inl b)
+      | inr b ↦ elim (has_cases es fs (Entry.Wrote number b.0 b.1 Wrote.Done) b.3) [ inl x ↦ done (inr (b.0, b.1, b.2, x)) | inr x ↦ inr (b.0, b.1, b.2, x) ]
     ]
-removed_back before middle es fs bound number low told a (inr new) w = elim w [
+done_back control once before middle es fs bound number low told a (inr new) w = elim w [
   | inl b ↦
       absurd (omega (arith, low b.0 b.1, b.2, new))
-  | inr b ↦ elim (has_cases es fs (Entry.Wrote number b.0 Write.Remove Wrote.Done) b.1) [
+  | inr b ↦ elim (has_cases es fs (Entry.Wrote number b.0 b.1 Wrote.Done) b.3) [
     | inl x ↦
-        absurd (omega (arith, told number b.0 Write.Remove Wrote.Done x, new))
-    | inr x ↦ inr (b.0, x)
+        absurd (omega (arith, told number b.0 b.1 Wrote.Done x, new))
+    | inr x ↦ inr (b.0, b.1, b.2, x)
   ]
 ]
 
-removed_on : (before middle : List Standing) (es fs : List Entry) (number : ℕ) → AreLeft before es middle → WasRemoved middle fs number → WasRemoved before (es ++ fs) number
-removed_on before middle es fs number a (inl t) = elim (a.removed t.0 t.1) [
+done_on : (control : Control) (once : IsOnce control) (before middle : List Standing) (es fs : List Entry) (number : ℕ) → AreLeft before es middle → WasDone control middle fs number → WasDone control before (es ++ fs) number
+done_on control once before middle es fs number a (inl t) = elim (a.done control once t.0 t.1) [
   | inl y ↦ elim y.1 [
     | inl b ↦ inl (b.0, b.1, b.2 ∙ t.2, b.3)
-    | inr b ↦ inr (b.0, has_left es fs (Entry.Wrote number b.0 Write.Remove Wrote.Done) (subst (λ (v : ℕ). Has es (Entry.Wrote v b.0 Write.Remove Wrote.Done)) t.2 b.1))
+    | inr b ↦ inr (b.0, b.1, b.2, has_left es fs (Entry.Wrote number b.0 b.1 Wrote.Done) (subst (λ (v : ℕ). Has es (Entry.Wrote v b.0 b.1 Wrote.Done)) t.2 b.3))
   ]
   | inr y ↦ let was : true ≡ false = sym t.3 ∙ y.0 in let none : ⊥ = cc in absurd none
 ]
-removed_on before middle es fs number a (inr b) = inr (b.0, has_right es fs (Entry.Wrote number b.0 Write.Remove Wrote.Done) b.1)
+done_on control once before middle es fs number a (inr b) = inr (b.0, b.1, b.2, has_right es fs (Entry.Wrote number b.0 b.1 Wrote.Done) b.3)
 
 first_on : (before middle : List Standing) (es fs : List Entry) (bound number : ℕ) (what : Write) → AreLow before bound → ((n : ℕ) (name : List ℕ) (w : Write) (outcome : Wrote) → Has es (Entry.Wrote n name w outcome) → n < bound) → AreLeft before es middle → ((t : Standing) × Has middle t × (t.number ≡ number)) ⊎ (bound ≤ number) → IsFirst middle fs number what → IsFirst before (es ++ fs) number what
-first_on before middle es fs bound number Write.Remove low told a n f = λ w. f (removed_back before middle es fs bound number low told a n w)
-first_on before middle es fs bound number x low told a n f = tt
+first_on before middle es fs bound number what low told a n f = λ once w. f once (done_back (control_of what) once before middle es fs bound number low told a n w)
 
-marked_on : (before middle : List Standing) (es fs : List Entry) (bound : ℕ) (s : Standing) → AreLow before bound → ((n : ℕ) (name : List ℕ) (w : Write) (outcome : Wrote) → Has es (Entry.Wrote n name w outcome) → n < bound) → AreLeft before es middle → ((t : Standing) × Has middle t × (t.number ≡ s.number)) ⊎ (bound ≤ s.number) → IsRemoveMarked middle fs s → IsRemoveMarked before (es ++ fs) s
-marked_on before middle es fs bound s low told a n (inl y) = inl (y.0, removed_on before middle es fs s.number a y.1)
-marked_on before middle es fs bound s low told a n (inr y) = inr (y.0, λ w. y.1 (removed_back before middle es fs bound s.number low told a n w))
+marked_on : (control : Control) (once : IsOnce control) (before middle : List Standing) (es fs : List Entry) (bound : ℕ) (s : Standing) → AreLow before bound → ((n : ℕ) (name : List ℕ) (w : Write) (outcome : Wrote) → Has es (Entry.Wrote n name w outcome) → n < bound) → AreLeft before es middle → ((t : Standing) × Has middle t × (t.number ≡ s.number)) ⊎ (bound ≤ s.number) → IsDoneMarked control middle fs s → IsDoneMarked control before (es ++ fs) s
+marked_on control once before middle es fs bound s low told a n (inl y) = inl (y.0, done_on control once before middle es fs s.number a y.1)
+marked_on control once before middle es fs bound s low told a n (inr y) = inr (y.0, λ w. y.1 (done_back control once before middle es fs bound s.number low told a n w))
 
 -- what is left by entries, and then by others whose verdicts have numbers above those that the first tell gone
 left_trans : (before middle ss : List Standing) (es fs : List Entry) (bound : ℕ) → AreLow before bound → ((number : ℕ) (name : List ℕ) (what : Write) (outcome : Wrote) → Has es (Entry.Wrote number name what outcome) → number < bound) → ((number : ℕ) (name : List ℕ) → Has es (Entry.Gone number name) → number < bound) → ((number : ℕ) (name : List ℕ) (held : Held) (verdict : Target) (cause : Cause) → Has fs (Entry.Judged number name held verdict cause) → bound ≤ number) → AreLeft before es middle → AreLeft middle fs ss → AreLeft before (es ++ fs) ss
@@ -196,56 +208,56 @@ left_trans before middle ss es fs bound first wrote below after a b = record {
     ]
     | inr x ↦ b.ended s name h x
   ];
-  removed = λ s h.
+  done = λ control once s h.
       let n : ((t : Standing) × Has middle t × (t.number ≡ s.number)) ⊎ (bound ≤ s.number) = elim (b.told s h) [ inl t ↦ inl (t.0, t.1, sym t.2) | inr j ↦ inr (after s.number s.name s.held s.verdict s.cause j) ] in
-      marked_on before middle es fs bound s first wrote a n (b.removed s h);
+      marked_on control once before middle es fs bound s first wrote a n (b.done control once s h);
 }
 
 -- numbers below one are below a later one
 low_later : (ss : List Standing) (next later : ℕ) → next ≤ later → AreLow ss next → AreLow ss later
 low_later ss next later le low s a = let below = low s a in omega (arith, below, le)
 
-had_number : {J : Type 0} (answer : Answers J) (later : Laters J) (present : Bool) (tried : Tries) (mid k : Kernel) (middle : List Standing) (log1 : List Effect) (judge1 : J) (next1 : ℕ) (gs : List Entry) (log : List Effect) (judge : J) (next number : ℕ) (name : List ℕ) (held : Held) (verdict : Target) → AreLow middle next1 → Account answer later present tried mid k middle log1 judge1 next1 gs log judge next → HasVerdict middle gs number name held verdict → ((t : Standing) × Has middle t × (t.number ≡ number)) ⊎ (next1 ≤ number)
-had_number answer later present tried mid k middle log1 judge1 next1 gs log judge next number name held verdict low a (inl h) = inl (h.0, h.1, h.2)
-had_number answer later present tried mid k middle log1 judge1 next1 gs log judge next number name held verdict low a (inr h) = inr ((account_says answer later present tried mid k middle log1 judge1 next1 gs log judge next low a).judged number name held verdict h.0 h.1).after
+had_number : {J : Type 0} (answer : Answers J) (later : Laters J) (terms : Terms) (tried : Tries) (mid k : Kernel) (middle : List Standing) (log1 : List Effect) (judge1 : J) (next1 : ℕ) (gs : List Entry) (log : List Effect) (judge : J) (next number : ℕ) (name : List ℕ) (held : Held) (verdict : Target) → AreLow middle next1 → Account answer later terms tried mid k middle log1 judge1 next1 gs log judge next → HasVerdict middle gs number name held verdict → ((t : Standing) × Has middle t × (t.number ≡ number)) ⊎ (next1 ≤ number)
+had_number answer later terms tried mid k middle log1 judge1 next1 gs log judge next number name held verdict low a (inl h) = inl (h.0, h.1, h.2)
+had_number answer later terms tried mid k middle log1 judge1 next1 gs log judge next number name held verdict low a (inr h) = inr ((account_says answer later terms tried mid k middle log1 judge1 next1 gs log judge next low a).judged number name held verdict h.0 h.1).after
 
 none_left : (es fs : List Entry) → NoJudged (es ++ fs) → NoJudged es
 none_left es fs none number name held verdict cause a = none number name held verdict cause (has_left es fs (Entry.Judged number name held verdict cause) a)
 
-account_trans : {J : Type 0} (answer : Answers J) (later : Laters J) (present : Bool) (tried : Tries) (start mid k : Kernel) (before middle : List Standing) (log0 log1 : List Effect) (judge0 judge1 : J) (next0 next1 : ℕ) (es : List Entry) (log : List Effect) (judge : J) (next : ℕ) (fs : List Entry) → Grows start mid → AreLow before next0 → AreLow middle next1 → AreLeft before es middle → Account answer later present tried start k before log0 judge0 next0 es log1 judge1 next1 → Account answer later present tried mid k middle log1 judge1 next1 fs log judge next → NoJudged fs → Account answer later present tried start k before log0 judge0 next0 (es ++ fs) log judge next
-account_trans answer later present tried start mid k before middle log0 log1 judge0 judge1 next0 next1 es log judge next fs g low mlow left a Start none = subst (λ v. Account answer later present tried start k before log0 judge0 next0 v log1 judge1 next1) (sym (append-nil es)) a
-account_trans answer later present tried start mid k before middle log0 log1 judge0 judge1 next0 next1 es log judge next fs g low mlow left a (Note gs m j n e t h) none =
-    subst (λ v. Account answer later present tried start k before log0 judge0 next0 v m j n) (append_assoc es gs (e ∷ []))
-    (Note (es ++ gs) m j n e t (account_trans answer later present tried start mid k before middle log0 log1 judge0 judge1 next0 next1 es m j n gs g low mlow left a h (none_left gs _ none)))
-account_trans answer later present tried start mid k before middle log0 log1 judge0 judge1 next0 next1 es log judge next fs g low mlow left a (Judge gs m j n i name held judged on ss d b stands there so h) none =
+account_trans : {J : Type 0} (answer : Answers J) (later : Laters J) (terms : Terms) (tried : Tries) (start mid k : Kernel) (before middle : List Standing) (log0 log1 : List Effect) (judge0 judge1 : J) (next0 next1 : ℕ) (es : List Entry) (log : List Effect) (judge : J) (next : ℕ) (fs : List Entry) → Grows start mid → AreLow before next0 → AreLow middle next1 → AreLeft before es middle → Account answer later terms tried start k before log0 judge0 next0 es log1 judge1 next1 → Account answer later terms tried mid k middle log1 judge1 next1 fs log judge next → NoJudged fs → Account answer later terms tried start k before log0 judge0 next0 (es ++ fs) log judge next
+account_trans answer later terms tried start mid k before middle log0 log1 judge0 judge1 next0 next1 es log judge next fs g low mlow left a Start none = subst (λ v. Account answer later terms tried start k before log0 judge0 next0 v log1 judge1 next1) (sym (append-nil es)) a
+account_trans answer later terms tried start mid k before middle log0 log1 judge0 judge1 next0 next1 es log judge next fs g low mlow left a (Note gs m j n e t h) none =
+    subst (λ v. Account answer later terms tried start k before log0 judge0 next0 v m j n) (append_assoc es gs (e ∷ []))
+    (Note (es ++ gs) m j n e t (account_trans answer later terms tried start mid k before middle log0 log1 judge0 judge1 next0 next1 es m j n gs g low mlow left a h (none_left gs _ none)))
+account_trans answer later terms tried start mid k before middle log0 log1 judge0 judge1 next0 next1 es log judge next fs g low mlow left a (Judge gs m j n i name held judged on ss d b stands there so h) none =
     absurd (none n name held _ _ (has_right gs (_ ∷ []) _ (inl refl)))
-account_trans answer later present tried start mid k before middle log0 log1 judge0 judge1 next0 next1 es log judge next fs g low mlow left a (Had gs m j n i number name held judged verdict what outcome d v due first may h) none =
-    subst (λ x. Account answer later present tried start k before log0 judge0 next0 x (m ++ record { device = i; write = what } ∷ []) j n) (append_assoc es gs (wrote_entries number name what outcome))
+account_trans answer later terms tried start mid k before middle log0 log1 judge0 judge1 next0 next1 es log judge next fs g low mlow left a (Had gs m j n i number name held judged verdict what outcome d v due first may h) none =
+    subst (λ x. Account answer later terms tried start k before log0 judge0 next0 x (m ++ record { device = i; write = what } ∷ []) j n) (append_assoc es gs (wrote_entries number name what outcome))
     (Had (es ++ gs) m j n i number name held judged verdict what outcome d (verdict_before before middle es gs number name held verdict left.told v) due
     (first_on before middle es gs next1 number what
-    (low_later before next0 next1 (account_says answer later present tried start k before log0 judge0 next0 es log1 judge1 next1 low a).rises low)
-    (account_says answer later present tried start k before log0 judge0 next0 es log1 judge1 next1 low a).wrote left
-    (had_number answer later present tried mid k middle log1 judge1 next1 gs m j n number name held verdict mlow h v) first)
-    may (account_trans answer later present tried start mid k before middle log0 log1 judge0 judge1 next0 next1 es m j n gs g low mlow left a h (none_left gs _ none)))
-account_trans answer later present tried start mid k before middle log0 log1 judge0 judge1 next0 next1 es log judge next fs g low mlow left a (Had_not gs m j n i number name held judged verdict what outcome d v due first may h) none =
-    subst (λ x. Account answer later present tried start k before log0 judge0 next0 x m j n) (append_assoc es gs (wrote_entries number name what outcome))
+    (low_later before next0 next1 (account_says answer later terms tried start k before log0 judge0 next0 es log1 judge1 next1 low a).rises low)
+    (account_says answer later terms tried start k before log0 judge0 next0 es log1 judge1 next1 low a).wrote left
+    (had_number answer later terms tried mid k middle log1 judge1 next1 gs m j n number name held verdict mlow h v) first)
+    may (account_trans answer later terms tried start mid k before middle log0 log1 judge0 judge1 next0 next1 es m j n gs g low mlow left a h (none_left gs _ none)))
+account_trans answer later terms tried start mid k before middle log0 log1 judge0 judge1 next0 next1 es log judge next fs g low mlow left a (Had_not gs m j n i number name held judged verdict what outcome d v due first may h) none =
+    subst (λ x. Account answer later terms tried start k before log0 judge0 next0 x m j n) (append_assoc es gs (wrote_entries number name what outcome))
     (Had_not (es ++ gs) m j n i number name held judged verdict what outcome d (verdict_before before middle es gs number name held verdict left.told v) due
     (first_on before middle es gs next1 number what
-    (low_later before next0 next1 (account_says answer later present tried start k before log0 judge0 next0 es log1 judge1 next1 low a).rises low)
-    (account_says answer later present tried start k before log0 judge0 next0 es log1 judge1 next1 low a).wrote left
-    (had_number answer later present tried mid k middle log1 judge1 next1 gs m j n number name held verdict mlow h v) first)
-    may (account_trans answer later present tried start mid k before middle log0 log1 judge0 judge1 next0 next1 es m j n gs g low mlow left a h (none_left gs _ none)))
-account_trans answer later present tried start mid k before middle log0 log1 judge0 judge1 next0 next1 es log judge next fs g low mlow left a (Went gs m j n i number name held judged verdict d o v h) none =
-    subst (λ x. Account answer later present tried start k before log0 judge0 next0 x m j n) (append_assoc es gs (Entry.Gone number name ∷ []))
-    (Went (es ++ gs) m j n i number name held judged verdict d o (verdict_before before middle es gs number name held verdict left.told v) (account_trans answer later present tried start mid k before middle log0 log1 judge0 judge1 next0 next1 es m j n gs g low mlow left a h (none_left gs _ none)))
+    (low_later before next0 next1 (account_says answer later terms tried start k before log0 judge0 next0 es log1 judge1 next1 low a).rises low)
+    (account_says answer later terms tried start k before log0 judge0 next0 es log1 judge1 next1 low a).wrote left
+    (had_number answer later terms tried mid k middle log1 judge1 next1 gs m j n number name held verdict mlow h v) first)
+    may (account_trans answer later terms tried start mid k before middle log0 log1 judge0 judge1 next0 next1 es m j n gs g low mlow left a h (none_left gs _ none)))
+account_trans answer later terms tried start mid k before middle log0 log1 judge0 judge1 next0 next1 es log judge next fs g low mlow left a (Went gs m j n i number name held judged verdict d o v h) none =
+    subst (λ x. Account answer later terms tried start k before log0 judge0 next0 x m j n) (append_assoc es gs (Entry.Gone number name ∷ []))
+    (Went (es ++ gs) m j n i number name held judged verdict d o (verdict_before before middle es gs number name held verdict left.told v) (account_trans answer later terms tried start mid k before middle log0 log1 judge0 judge1 next0 next1 es m j n gs g low mlow left a h (none_left gs _ none)))
 
 -- a fair part, with the standings that it began with
-pub record FairFrom {J : Type 0} (answer : Answers J) (later : Laters J) (present : Bool) (tried : Tries) (k : Kernel) (w : State J) (l : Kernel) (v : State J) : Type 0 where
+pub record FairFrom {J : Type 0} (answer : Answers J) (later : Laters J) (terms : Terms) (tried : Tries) (k : Kernel) (w : State J) (l : Kernel) (v : State J) : Type 0 where
   pub stood : Stand k w.standings w.next
-  pub fair : IsFair answer later present tried k w l v
+  pub fair : IsFair answer later terms tried k w l v
 
-says_of : {J : Type 0} {answer : Answers J} {later : Laters J} {present : Bool} {tried : Tries} {k l : Kernel} {w v : State J} (a : FairFrom answer later present tried k w l v) → Says k l w.standings w.next a.fair.rest v.next
-says_of {J} {answer} {later} {present} {tried} {k} {l} {w} {v} a = account_says answer later present tried k l w.standings k.log w.judge w.next a.fair.rest l.log v.judge v.next a.stood.numbers a.fair.account
+says_of : {J : Type 0} {answer : Answers J} {later : Laters J} {terms : Terms} {tried : Tries} {k l : Kernel} {w v : State J} (a : FairFrom answer later terms tried k w l v) → Says k l w.standings w.next a.fair.rest v.next
+says_of {J} {answer} {later} {terms} {tried} {k} {l} {w} {v} a = account_says answer later terms tried k l w.standings k.log w.judge w.next a.fair.rest l.log v.judge v.next a.stood.numbers a.fair.account
 
 device_is : (m l : Kernel) (j i : ℕ) (name : List ℕ) (held : Held) (judged : Judged) → Grows m l → IsDevice m j name held judged → IsFileOf l held.0 i → j ≡ i
 device_is m l j i name held judged g d f = file_same l held.0 j i (file_later m l held.0 j g d.file) f
@@ -260,14 +272,14 @@ probed_lives m l name held i on p gone =
     let same : x.0 ≡ p.lived.opened.d = some_same (slice_get before.devices i) x.0 p.lived.opened.d x.1 at in
     true≢false (sym (x.2.gone gone.2) ∙ ap (λ (v : Device). v.gone) same ∙ p.lived.opened.live.here)
 
-judged_lives : {J : Type 0} {answer : Answers J} {later : Laters J} {present : Bool} {tried : Tries} {m l : Kernel} {u v : State J} (b : FairFrom answer later present tried m u l v) (i n : ℕ) → IsJudged l b.fair.rest n i → IsGone m i → ⊥
+judged_lives : {J : Type 0} {answer : Answers J} {later : Laters J} {terms : Terms} {tried : Tries} {m l : Kernel} {u v : State J} (b : FairFrom answer later terms tried m u l v) (i n : ℕ) → IsJudged l b.fair.rest n i → IsGone m i → ⊥
 judged_lives {m = m} {l = l} b i n x gone =
     let j = (says_of b).judged n x.name x.held x.verdict x.cause x.has in
     let is : j.i ≡ i = file_same l x.held.0 j.i i j.device.file x.file in
     probed_lives m l x.name x.held.0 j.i j.on j.probed (subst (λ (y : ℕ). IsGone m y) (sym is) gone)
 
 -- a verdict of the part, or from before it, stands after it, or its number is told gone
-stands_or_gone : {J : Type 0} {answer : Answers J} {later : Laters J} {present : Bool} {tried : Tries} {k m : Kernel} {w u : State J} (a : FairFrom answer later present tried k w m u) (number : ℕ) (name : List ℕ) (held : Held) (verdict : Target) → HasVerdict w.standings a.fair.rest number name held verdict → ((s : Standing) × Has u.standings s × (s.held ≡ held)) ⊎ Has a.fair.rest (Entry.Gone number name)
+stands_or_gone : {J : Type 0} {answer : Answers J} {later : Laters J} {terms : Terms} {tried : Tries} {k m : Kernel} {w u : State J} (a : FairFrom answer later terms tried k w m u) (number : ℕ) (name : List ℕ) (held : Held) (verdict : Target) → HasVerdict w.standings a.fair.rest number name held verdict → ((s : Standing) × Has u.standings s × (s.held ≡ held)) ⊎ Has a.fair.rest (Entry.Gone number name)
 stands_or_gone a number name held verdict (inl h) = elim (a.fair.left.kept h.0 h.1) [
   | inl t ↦ inl (t.0, t.1, sym t.4 ∙ h.4)
   | inr g ↦ inr (gone_as a.fair.rest h.0.number number h.0.name name h.2 h.3 g)
@@ -278,7 +290,7 @@ stands_or_gone a number name held verdict (inr h) = elim (a.fair.left.judged num
 ]
 
 -- so its device has a standing, or is gone
-pub had_before : {J : Type 0} {answer : Answers J} {later : Laters J} {present : Bool} {tried : Tries} {k m : Kernel} {w u : State J} (a : FairFrom answer later present tried k w m u) (l : Kernel) (i number : ℕ) (name : List ℕ) (held : Held) (verdict : Target) → Grows m l → HasVerdict w.standings a.fair.rest number name held verdict → IsFileOf l held.0 i → HasStanding l u.standings i ⊎ IsGone m i
+pub had_before : {J : Type 0} {answer : Answers J} {later : Laters J} {terms : Terms} {tried : Tries} {k m : Kernel} {w u : State J} (a : FairFrom answer later terms tried k w m u) (l : Kernel) (i number : ℕ) (name : List ℕ) (held : Held) (verdict : Target) → Grows m l → HasVerdict w.standings a.fair.rest number name held verdict → IsFileOf l held.0 i → HasStanding l u.standings i ⊎ IsGone m i
 had_before {k = k} {m = m} {w = w} {u = u} a l i number name held verdict g v file = elim (stands_or_gone a number name held verdict v) [
   | inl t ↦ inl (record { s = t.0; has = t.1; file = subst (λ (x : Held). IsFileOf l x.0 i) (sym t.2) file })
   | inr e ↦
@@ -290,7 +302,7 @@ had_before {k = k} {m = m} {w = w} {u = u} a l i number name held verdict g v fi
 ]
 
 -- so it isn't judged later
-judged_before : {J : Type 0} {answer : Answers J} {later : Laters J} {present : Bool} {tried before_this : Tries} {k m l : Kernel} {w u v : State J} (a : FairFrom answer later present tried k w m u) (b : FairFrom answer later present before_this m u l v) (i number n : ℕ) (name : List ℕ) (held : Held) (verdict : Target) → HasVerdict w.standings a.fair.rest number name held verdict → IsFileOf l held.0 i → IsJudged l b.fair.rest n i → ⊥
+judged_before : {J : Type 0} {answer : Answers J} {later : Laters J} {terms : Terms} {tried before_this : Tries} {k m l : Kernel} {w u v : State J} (a : FairFrom answer later terms tried k w m u) (b : FairFrom answer later terms before_this m u l v) (i number n : ℕ) (name : List ℕ) (held : Held) (verdict : Target) → HasVerdict w.standings a.fair.rest number name held verdict → IsFileOf l held.0 i → IsJudged l b.fair.rest n i → ⊥
 judged_before {l = l} a b i number n name held verdict v file x = elim (had_before a l i number name held verdict b.fair.grows v file) [
   | inl s ↦ b.fair.unjudged i n s x
   | inr gone ↦ judged_lives b i n x gone
@@ -302,7 +314,7 @@ judged_split l es fs n i x = elim (has_cases es fs (Entry.Judged n x.name x.held
   | inr h ↦ inr (record { name = x.name; held = x.held; verdict = x.verdict; cause = x.cause; has = h; file = x.file })
 ]
 
-judged_back : {J : Type 0} {answer : Answers J} {later : Laters J} {present : Bool} {tried : Tries} {k m : Kernel} {w u : State J} (a : FairFrom answer later present tried k w m u) (l : Kernel) (n i : ℕ) → Grows m l → IsJudged l a.fair.rest n i → IsJudged m a.fair.rest n i
+judged_back : {J : Type 0} {answer : Answers J} {later : Laters J} {terms : Terms} {tried : Tries} {k m : Kernel} {w u : State J} (a : FairFrom answer later terms tried k w m u) (l : Kernel) (n i : ℕ) → Grows m l → IsJudged l a.fair.rest n i → IsJudged m a.fair.rest n i
 judged_back {m = m} a l n i g x =
     let j = (says_of a).judged n x.name x.held x.verdict x.cause x.has in
     let is : j.i ≡ i = device_is m l j.i i x.name x.held j.judged g j.device x.file in
@@ -314,18 +326,18 @@ standing_back k m l ss next i stand g j h =
     let is : x.0 ≡ i = device_is k l x.0 i h.s.name h.s.held h.s.judged (grows_trans k m l g j) x.1 h.file in
     record { s = h.s; has = h.has; file = subst (λ (y : ℕ). IsFileOf m h.s.held.0 y) is (file_later k m h.s.held.0 x.0 g x.1.file) }
 
-once_by : {J : Type 0} {answer : Answers J} {later : Laters J} {present : Bool} {tried before_this : Tries} {k m l : Kernel} {w u v : State J} (a : FairFrom answer later present tried k w m u) (b : FairFrom answer later present before_this m u l v) (i x y : ℕ) → IsJudged l a.fair.rest x i ⊎ IsJudged l b.fair.rest x i → IsJudged l a.fair.rest y i ⊎ IsJudged l b.fair.rest y i → x ≡ y
+once_by : {J : Type 0} {answer : Answers J} {later : Laters J} {terms : Terms} {tried before_this : Tries} {k m l : Kernel} {w u v : State J} (a : FairFrom answer later terms tried k w m u) (b : FairFrom answer later terms before_this m u l v) (i x y : ℕ) → IsJudged l a.fair.rest x i ⊎ IsJudged l b.fair.rest x i → IsJudged l a.fair.rest y i ⊎ IsJudged l b.fair.rest y i → x ≡ y
 once_by {l = l} a b i x y (inl p) (inl q) = a.fair.once i x y (judged_back a l x i b.fair.grows p) (judged_back a l y i b.fair.grows q)
 once_by a b i x y (inl p) (inr q) = absurd (judged_before a b i x y p.name p.held p.verdict (inr (p.cause, p.has)) p.file q)
 once_by a b i x y (inr p) (inl q) = absurd (judged_before a b i y x q.name q.held q.verdict (inr (q.cause, q.has)) q.file p)
 once_by a b i x y (inr p) (inr q) = b.fair.once i x y p q
 
-unjudged_by : {J : Type 0} {answer : Answers J} {later : Laters J} {present : Bool} {tried before_this : Tries} {k m l : Kernel} {w u v : State J} (a : FairFrom answer later present tried k w m u) (b : FairFrom answer later present before_this m u l v) (i n : ℕ) → HasStanding l w.standings i → IsJudged l a.fair.rest n i ⊎ IsJudged l b.fair.rest n i → ⊥
+unjudged_by : {J : Type 0} {answer : Answers J} {later : Laters J} {terms : Terms} {tried before_this : Tries} {k m l : Kernel} {w u v : State J} (a : FairFrom answer later terms tried k w m u) (b : FairFrom answer later terms before_this m u l v) (i n : ℕ) → HasStanding l w.standings i → IsJudged l a.fair.rest n i ⊎ IsJudged l b.fair.rest n i → ⊥
 unjudged_by {k = k} {m = m} {l = l} {w = w} a b i n h (inl p) = a.fair.unjudged i n (standing_back k m l w.standings w.next i a.stood a.fair.grows b.fair.grows h) (judged_back a l n i b.fair.grows p)
 unjudged_by a b i n h (inr p) = judged_before a b i h.s.number n h.s.name h.s.held h.s.verdict (inl (h.s, h.has, refl, refl, refl, refl)) h.file p
 
 -- a number that was told gone has no verdict later, so it isn't told so again
-gone_by : {J : Type 0} {answer : Answers J} {later : Laters J} {present : Bool} {tried before_this : Tries} {k m l : Kernel} {w u v : State J} (a : FairFrom answer later present tried k w m u) (b : FairFrom answer later present before_this m u l v) (number : ℕ) → Has (gone_of a.fair.rest) number → Has (gone_of b.fair.rest) number → ⊥
+gone_by : {J : Type 0} {answer : Answers J} {later : Laters J} {terms : Terms} {tried before_this : Tries} {k m l : Kernel} {w u v : State J} (a : FairFrom answer later terms tried k w m u) (b : FairFrom answer later terms before_this m u l v) (number : ℕ) → Has (gone_of a.fair.rest) number → Has (gone_of b.fair.rest) number → ⊥
 gone_by a b number x y =
     let p = gone_has a.fair.rest number x in
     let q = gone_has b.fair.rest number y in
@@ -338,16 +350,16 @@ gone_by a b number x y =
     ]
 
 -- a small step, in which nothing is judged
-pub record StepFrom {J : Type 0} (answer : Answers J) (later : Laters J) (present : Bool) (tried : Tries) (k : Kernel) (w : State J) (l : Kernel) (v : State J) : Type 0 where
-  pub step : FairFrom answer later present tried k w l v
+pub record StepFrom {J : Type 0} (answer : Answers J) (later : Laters J) (terms : Terms) (tried : Tries) (k : Kernel) (w : State J) (l : Kernel) (v : State J) : Type 0 where
+  pub step : FairFrom answer later terms tried k w l v
   pub none : NoJudged step.fair.rest
 
 -- one part after another, with its account
-pub fair_by : {J : Type 0} {answer : Answers J} {later : Laters J} {present : Bool} {tried before_this : Tries} {k m l : Kernel} {w u v : State J} (a : FairFrom answer later present tried k w m u) (b : FairFrom answer later present before_this m u l v) → Account answer later present tried k l w.standings k.log w.judge w.next (a.fair.rest ++ b.fair.rest) l.log v.judge v.next → FairFrom answer later present tried k w l v
-fair_by {J} {answer} {later} {present} {tried} {before_this} {k} {m} {l} {w} {u} {v} a b account =
+pub fair_by : {J : Type 0} {answer : Answers J} {later : Laters J} {terms : Terms} {tried before_this : Tries} {k m l : Kernel} {w u v : State J} (a : FairFrom answer later terms tried k w m u) (b : FairFrom answer later terms before_this m u l v) → Account answer later terms tried k l w.standings k.log w.judge w.next (a.fair.rest ++ b.fair.rest) l.log v.judge v.next → FairFrom answer later terms tried k w l v
+fair_by {J} {answer} {later} {terms} {tried} {before_this} {k} {m} {l} {w} {u} {v} a b account =
     let es = a.fair.rest in
     let fs = b.fair.rest in
-    let fair : IsFair answer later present tried k w l v = record {
+    let fair : IsFair answer later terms tried k w l v = record {
       sound = b.fair.sound;
       grows = grows_trans k m l a.fair.grows b.fair.grows;
       rest = es ++ fs;
@@ -361,13 +373,13 @@ fair_by {J} {answer} {later} {present} {tried} {before_this} {k} {m} {l} {w} {u}
     } in
     record { stood = a.stood; fair = fair }
 
-pub fair_trans : {J : Type 0} {answer : Answers J} {later : Laters J} {present : Bool} {tried : Tries} {k m l : Kernel} {w u v : State J} → FairFrom answer later present tried k w m u → StepFrom answer later present tried m u l v → FairFrom answer later present tried k w l v
-fair_trans {J} {answer} {later} {present} {tried} {k} {m} {l} {w} {u} {v} a s =
+pub fair_trans : {J : Type 0} {answer : Answers J} {later : Laters J} {terms : Terms} {tried : Tries} {k m l : Kernel} {w u v : State J} → FairFrom answer later terms tried k w m u → StepFrom answer later terms tried m u l v → FairFrom answer later terms tried k w l v
+fair_trans {J} {answer} {later} {terms} {tried} {k} {m} {l} {w} {u} {v} a s =
     let b = s.step in
     let es = a.fair.rest in
     let fs = b.fair.rest in
-    let account = account_stays answer later present tried k m l w.standings k.log w.judge w.next es m.log u.judge u.next b.fair.grows a.fair.account in
-    fair_by a b (account_trans answer later present tried k m l w.standings u.standings k.log m.log w.judge u.judge w.next u.next es l.log v.judge v.next fs a.fair.grows a.stood.numbers b.stood.numbers a.fair.left account b.fair.account s.none)
+    let account = account_stays answer later terms tried k m l w.standings k.log w.judge w.next es m.log u.judge u.next b.fair.grows a.fair.account in
+    fair_by a b (account_trans answer later terms tried k m l w.standings u.standings k.log m.log w.judge u.judge w.next u.next es l.log v.judge v.next fs a.fair.grows a.stood.numbers b.stood.numbers a.fair.left account b.fair.account s.none)
 
 -- Small fair steps: calls that write nothing, plain entries, marked standings, and one standing that ends.
 
@@ -395,7 +407,7 @@ left_all ss distinct = record {
   kept = λ s a. inl (one_itself ss s a);
   judged = λ number name held verdict cause a. absurd a;
   ended = λ s name a g. g;
-  removed = λ s a. keep_one ss [] s (keeps_itself ss s a) distinct (λ name h. h);
+  done = λ control once s a. keep_one control ss [] s (keeps_itself ss s a control) distinct (λ h. h.3);
 }
 
 pub same_refl : (ss : List Standing) → Same ss ss
@@ -411,36 +423,36 @@ one_device k before next s stand b =
 pub in_order : {k : Kernel} {ss : List Standing} {next : ℕ} → Stand k ss next → StandInOrder next ss
 in_order stand = record { order = stand.order; distinct = stand.distinct; numbers = stand.numbers }
 
-pub stand_by : (k : Kernel) (ss : List Standing) (next : ℕ) → StandInOrder next ss → ((s : Standing) → Has ss s → (i : ℕ) × IsDevice k i s.name s.held s.judged) → AreRemoved k ss → Stand k ss next
-stand_by k ss next o devices removed = record {
+pub stand_by : (k : Kernel) (ss : List Standing) (next : ℕ) → StandInOrder next ss → ((s : Standing) → Has ss s → (i : ℕ) × IsDevice k i s.name s.held s.judged) → AreDone k ss → Stand k ss next
+stand_by k ss next o devices done = record {
   devices = devices;
   numbers = o.numbers;
   names = names_distinct (names_of ss) o.order;
   order = o.order;
   distinct = o.distinct;
-  removed = removed;
+  done = done;
 }
 
-pub stand_of : (k : Kernel) (before ss : List Standing) (next : ℕ) → ((s : Standing) → Has ss s → IsOne before s) → KeepsOrder before ss → AreRemoved k ss → Stand k before next → Stand k ss next
-stand_of k before ss next there keeps removed stand =
-    stand_by k ss next (keeps next (in_order stand)) (λ s h. one_device k before next s stand (there s h)) removed
+pub stand_of : (k : Kernel) (before ss : List Standing) (next : ℕ) → ((s : Standing) → Has ss s → IsOne before s) → KeepsOrder before ss → AreDone k ss → Stand k before next → Stand k ss next
+stand_of k before ss next there keeps done stand =
+    stand_by k ss next (keeps next (in_order stand)) (λ s h. one_device k before next s stand (there s h)) done
 
 -- a step whose entries tell no verdict and no end
-pub plain_fair : {J : Type 0} (answer : Answers J) (later : Laters J) (present : Bool) (tried : Tries) (m l : Kernel) (u : State J) (rs : List Standing) (fs : List Entry) → IsKernel l → Grows m l → Stand m u.standings u.next → Same u.standings rs → AreMarked u.standings fs rs → AreRemoved l rs → Plain fs → Account answer later present tried m l u.standings m.log u.judge u.next fs l.log u.judge u.next → StepFrom answer later present tried m u l (record u { standings = rs; entries = u.entries ++ fs })
-plain_fair answer later present tried m l u rs fs sound g stand same marked removed plain account =
-    let fair : IsFair answer later present tried m u l (record u { standings = rs; entries = u.entries ++ fs }) = record {
+pub plain_fair : {J : Type 0} (answer : Answers J) (later : Laters J) (terms : Terms) (tried : Tries) (m l : Kernel) (u : State J) (rs : List Standing) (fs : List Entry) → IsKernel l → Grows m l → Stand m u.standings u.next → Same u.standings rs → AreMarked u.standings fs rs → AreDone l rs → Plain fs → Account answer later terms tried m l u.standings m.log u.judge u.next fs l.log u.judge u.next → StepFrom answer later terms tried m u l (record u { standings = rs; entries = u.entries ++ fs })
+plain_fair answer later terms tried m l u rs fs sound g stand same marked done plain account =
+    let fair : IsFair answer later terms tried m u l (record u { standings = rs; entries = u.entries ++ fs }) = record {
       sound = sound;
       grows = g;
       rest = fs;
       entries = refl;
-      stand = stand_of l u.standings rs u.next same.there same.order removed (stand_stays m l u.standings u.next g stand);
+      stand = stand_of l u.standings rs u.next same.there same.order done (stand_stays m l u.standings u.next g stand);
       account = account;
       left = record {
         told = λ s h. inl (same.there s h);
         kept = λ s h. inl (same.kept s h);
         judged = λ number name held verdict cause h. absurd (plain_unjudged fs plain number name held verdict cause h);
         ended = λ s name h a. each_has IsPlain fs (Entry.Gone s.number name) plain a;
-        removed = marked;
+        done = marked;
       };
       gone = plain_distinct fs plain;
       once = λ i a b p q. absurd (plain_unjudged fs plain a p.name p.held p.verdict p.cause p.has);
@@ -449,38 +461,38 @@ plain_fair answer later present tried m l u rs fs sound g stand same marked remo
     record { step = record { stood = stand; fair = fair }; none = plain_unjudged fs plain }
 
 -- a step that leaves the marks
-pub keep_fair : {J : Type 0} (answer : Answers J) (later : Laters J) (present : Bool) (tried : Tries) (m l : Kernel) (u : State J) (rs : List Standing) (fs : List Entry) → IsKernel l → Grows m l → Stand m u.standings u.next → Same u.standings rs → KeepMarks u.standings rs → NoRemoval fs → Plain fs → Account answer later present tried m l u.standings m.log u.judge u.next fs l.log u.judge u.next → StepFrom answer later present tried m u l (record u { standings = rs; entries = u.entries ++ fs })
-keep_fair answer later present tried m l u rs fs sound g stand same keep none plain account =
-    plain_fair answer later present tried m l u rs fs sound g stand same (keep_marks u.standings rs fs stand.distinct keep none) (keep_removed m l u.standings rs u.next stand g keep) plain account
+pub keep_fair : {J : Type 0} (answer : Answers J) (later : Laters J) (terms : Terms) (tried : Tries) (m l : Kernel) (u : State J) (rs : List Standing) (fs : List Entry) → IsKernel l → Grows m l → Stand m u.standings u.next → Same u.standings rs → KeepMarks u.standings rs → NoneDone fs → Plain fs → Account answer later terms tried m l u.standings m.log u.judge u.next fs l.log u.judge u.next → StepFrom answer later terms tried m u l (record u { standings = rs; entries = u.entries ++ fs })
+keep_fair answer later terms tried m l u rs fs sound g stand same keep none plain account =
+    plain_fair answer later terms tried m l u rs fs sound g stand same (keep_marks u.standings rs fs stand.distinct keep none) (keep_all_done m l u.standings rs u.next stand g keep) plain account
 
 -- a step from a state at which what went before is fair
-fair_quiet : {J : Type 0} (answer : Answers J) (later : Laters J) (present : Bool) (tried : Tries) (k l : Kernel) (w : State J) → IsKernel l → Quiet k l → Stand k w.standings w.next → StepFrom answer later present tried k w l w
-fair_quiet answer later present tried k l w sound q stand =
-    let account : Account answer later present tried k l w.standings k.log w.judge w.next [] l.log w.judge w.next = subst (λ v. Account answer later present tried k l w.standings k.log w.judge w.next [] v w.judge w.next) (sym q.log) Start in
-    let step = keep_fair answer later present tried k l w w.standings [] sound (quiet_grows k l q) stand (same_refl w.standings) (keeps_itself w.standings) (λ number name h. h) tt account in
-    subst (λ (x : List Entry). StepFrom answer later present tried k w l (record w { entries = x })) (append-nil w.entries) step
+fair_quiet : {J : Type 0} (answer : Answers J) (later : Laters J) (terms : Terms) (tried : Tries) (k l : Kernel) (w : State J) → IsKernel l → Quiet k l → Stand k w.standings w.next → StepFrom answer later terms tried k w l w
+fair_quiet answer later terms tried k l w sound q stand =
+    let account : Account answer later terms tried k l w.standings k.log w.judge w.next [] l.log w.judge w.next = subst (λ v. Account answer later terms tried k l w.standings k.log w.judge w.next [] v w.judge w.next) (sym q.log) Start in
+    let step = keep_fair answer later terms tried k l w w.standings [] sound (quiet_grows k l q) stand (same_refl w.standings) (keeps_itself w.standings) (λ number name what once h. h) tt account in
+    subst (λ (x : List Entry). StepFrom answer later terms tried k w l (record w { entries = x })) (append-nil w.entries) step
 
-pub fair_refl : {J : Type 0} (answer : Answers J) (later : Laters J) (present : Bool) (tried : Tries) (k : Kernel) (w : State J) → IsKernel k → Stand k w.standings w.next → FairFrom answer later present tried k w k w
-fair_refl answer later present tried k w sound stand = (fair_quiet answer later present tried k k w sound (quiet_refl k) stand).step
+pub fair_refl : {J : Type 0} (answer : Answers J) (later : Laters J) (terms : Terms) (tried : Tries) (k : Kernel) (w : State J) → IsKernel k → Stand k w.standings w.next → FairFrom answer later terms tried k w k w
+fair_refl answer later terms tried k w sound stand = (fair_quiet answer later terms tried k k w sound (quiet_refl k) stand).step
 
-pub then_quiet : {J : Type 0} {answer : Answers J} {later : Laters J} {present : Bool} {tried : Tries} {k m : Kernel} {w u : State J} (l : Kernel) → IsKernel l → Quiet m l → FairFrom answer later present tried k w m u → FairFrom answer later present tried k w l u
-then_quiet {J} {answer} {later} {present} {tried} {k} {m} {w} {u} l sound q h = fair_trans h (fair_quiet answer later present tried m l u sound q h.fair.stand)
+pub then_quiet : {J : Type 0} {answer : Answers J} {later : Laters J} {terms : Terms} {tried : Tries} {k m : Kernel} {w u : State J} (l : Kernel) → IsKernel l → Quiet m l → FairFrom answer later terms tried k w m u → FairFrom answer later terms tried k w l u
+then_quiet {J} {answer} {later} {terms} {tried} {k} {m} {w} {u} l sound q h = fair_trans h (fair_quiet answer later terms tried m l u sound q h.fair.stand)
 
-pub then_called : {J : Type 0} {answer : Answers J} {later : Laters J} {present : Bool} {tried : Tries} {k m : Kernel} {w u : State J} (call : Call) (a : Answer call) (l : Kernel) → WritesNothing call → Called call a m l → FairFrom answer later present tried k w m u → FairFrom answer later present tried k w l u
-then_called {J} {answer} {later} {present} {tried} {k} {m} {w} {u} call a l n c h = then_quiet l c.sound (called_quiet call a m l n c) h
+pub then_called : {J : Type 0} {answer : Answers J} {later : Laters J} {terms : Terms} {tried : Tries} {k m : Kernel} {w u : State J} (call : Call) (a : Answer call) (l : Kernel) → WritesNothing call → Called call a m l → FairFrom answer later terms tried k w m u → FairFrom answer later terms tried k w l u
+then_called {J} {answer} {later} {terms} {tried} {k} {m} {w} {u} call a l n c h = then_quiet l c.sound (called_quiet call a m l n c) h
 
 -- the state and the kernel at a tree's end
-pub fair_end : {J : Type 0} {answer : Answers J} {later : Laters J} {present : Bool} {tried : Tries} {k m : Kernel} {w u : State J} (l : Kernel) (v : State J) → v ≡ u → l ≡ m → FairFrom answer later present tried k w m u → FairFrom answer later present tried k w l v
-fair_end {J} {answer} {later} {present} {tried} {k} {m} {w} {u} l v e f h = subst (λ x. FairFrom answer later present tried k w x v) (sym f) (subst (λ x. FairFrom answer later present tried k w m x) (sym e) h)
+pub fair_end : {J : Type 0} {answer : Answers J} {later : Laters J} {terms : Terms} {tried : Tries} {k m : Kernel} {w u : State J} (l : Kernel) (v : State J) → v ≡ u → l ≡ m → FairFrom answer later terms tried k w m u → FairFrom answer later terms tried k w l v
+fair_end {J} {answer} {later} {terms} {tried} {k} {m} {w} {u} l v e f h = subst (λ x. FairFrom answer later terms tried k w x v) (sym f) (subst (λ x. FairFrom answer later terms tried k w m x) (sym e) h)
 
-pub then_note : {J : Type 0} {answer : Answers J} {later : Laters J} {present : Bool} {tried : Tries} {k l : Kernel} {w u : State J} (e : Entry) → TellsNeither e → FairFrom answer later present tried k w l u → FairFrom answer later present tried k w l (noted u e)
-then_note {J} {answer} {later} {present} {tried} {k} {l} {w} {u} e t h =
-    fair_trans h (keep_fair answer later present tried l l u u.standings (e ∷ []) h.fair.sound (grows_refl l) h.fair.stand (same_refl u.standings) (keeps_itself u.standings) (λ number name a. one_neither e (Entry.Wrote number name Write.Remove Wrote.Done) t a) (plain_note e t, tt) (Note [] l.log u.judge u.next e t Start))
+pub then_note : {J : Type 0} {answer : Answers J} {later : Laters J} {terms : Terms} {tried : Tries} {k l : Kernel} {w u : State J} (e : Entry) → TellsNeither e → FairFrom answer later terms tried k w l u → FairFrom answer later terms tried k w l (noted u e)
+then_note {J} {answer} {later} {terms} {tried} {k} {l} {w} {u} e t h =
+    fair_trans h (keep_fair answer later terms tried l l u u.standings (e ∷ []) h.fair.sound (grows_refl l) h.fair.stand (same_refl u.standings) (keeps_itself u.standings) (λ number name what once a. one_neither e (Entry.Wrote number name what Wrote.Done) t a) (plain_note e t, tt) (Note [] l.log u.judge u.next e t Start))
 
-pub then_same : {J : Type 0} {answer : Answers J} {later : Laters J} {present : Bool} {tried : Tries} {k l : Kernel} {w u : State J} (ss : List Standing) → Same u.standings ss → KeepMarks u.standings ss → FairFrom answer later present tried k w l u → FairFrom answer later present tried k w l (record u { standings = ss })
-then_same {J} {answer} {later} {present} {tried} {k} {l} {w} {u} ss same keep h =
-    let step = keep_fair answer later present tried l l u ss [] h.fair.sound (grows_refl l) h.fair.stand same keep (λ number name a. a) tt Start in
-    fair_trans h (subst (λ (x : List Entry). StepFrom answer later present tried l u l (record u { standings = ss; entries = x })) (append-nil u.entries) step)
+pub then_same : {J : Type 0} {answer : Answers J} {later : Laters J} {terms : Terms} {tried : Tries} {k l : Kernel} {w u : State J} (ss : List Standing) → Same u.standings ss → KeepMarks u.standings ss → FairFrom answer later terms tried k w l u → FairFrom answer later terms tried k w l (record u { standings = ss })
+then_same {J} {answer} {later} {terms} {tried} {k} {l} {w} {u} ss same keep h =
+    let step = keep_fair answer later terms tried l l u ss [] h.fair.sound (grows_refl l) h.fair.stand same keep (λ number name what once a. a) tt Start in
+    fair_trans h (subst (λ (x : List Entry). StepFrom answer later terms tried l u l (record u { standings = ss; entries = x })) (append-nil u.entries) step)
 
 -- a standing that ends
 
@@ -490,17 +502,17 @@ gone_device k i name held judged x dead = (x.d, x.device, true_from_ne_false x.d
 gone_held : (k : Kernel) (i : ℕ) (name : List ℕ) (held : Held) (judged : Judged) → IsDevice k i name held judged → IsGoneAt held.0 k → IsGone k i
 gone_held k i name held judged x gone = gone_device k i name held judged x (λ live. gone i x.d (record { file = record { device = i; control = Authorized }; at = x.file; is = refl; device = x.device }) live)
 
-went_fair : {J : Type 0} (answer : Answers J) (later : Laters J) (present : Bool) (tried : Tries) (m : Kernel) (u : State J) (x : Standing) (rs : List Standing) → IsKernel m → Stand m u.standings u.next → Has u.standings x → Less x u.standings rs → IsGoneAt x.held.0 m → StepFrom answer later present tried m u m (record u { standings = rs; entries = u.entries ++ Entry.Gone x.number x.name ∷ [] })
-went_fair answer later present tried m u x rs sound stand has less gone =
+went_fair : {J : Type 0} (answer : Answers J) (later : Laters J) (terms : Terms) (tried : Tries) (m : Kernel) (u : State J) (x : Standing) (rs : List Standing) → IsKernel m → Stand m u.standings u.next → Has u.standings x → Less x u.standings rs → IsGoneAt x.held.0 m → StepFrom answer later terms tried m u m (record u { standings = rs; entries = u.entries ++ Entry.Gone x.number x.name ∷ [] })
+went_fair answer later terms tried m u x rs sound stand has less gone =
     let e = Entry.Gone x.number x.name in
     let d = stand.devices x has in
     let none = gone_unjudged x.number x.name in
-    let fair : IsFair answer later present tried m u m (record u { standings = rs; entries = u.entries ++ e ∷ [] }) = record {
+    let fair : IsFair answer later terms tried m u m (record u { standings = rs; entries = u.entries ++ e ∷ [] }) = record {
       sound = sound;
       grows = grows_refl m;
       rest = e ∷ [];
       entries = refl;
-      stand = stand_of m u.standings rs u.next less.there less.order (λ s h. keep_removal m u.standings s stand.removed (less.marks s h)) stand;
+      stand = stand_of m u.standings rs u.next less.there less.order (λ control s h. keep_done control m u.standings s stand.done (less.marks s h control)) stand;
       account = Went [] m.log u.judge u.next d.0 x.number x.name x.held x.judged x.verdict d.1 (gone_held m d.0 x.name x.held x.judged d.1 gone) (inl (x, has, refl, refl, refl, refl)) Start;
       left = record {
         told = λ s h. inl (less.there s h);
@@ -510,7 +522,7 @@ went_fair answer later present tried m u x rs sound stand has less gone =
         ];
         judged = λ number name held verdict cause h. absurd (none number name held verdict cause h);
         ended = λ s name h a. elim a [ inl is ↦ less.apart s h (let same : s.number ≡ x.number = cc in same) | inr n ↦ n ];
-        removed = keep_marks u.standings rs (e ∷ []) stand.distinct less.marks (λ number name h. elim h [ inl is ↦ let none : ⊥ = cc in none | inr n ↦ n ]);
+        done = keep_marks u.standings rs (e ∷ []) stand.distinct less.marks (λ number name what once h. elim h [ inl is ↦ let none : ⊥ = cc in none | inr n ↦ n ]);
       };
       gone = (λ n. n, tt);
       once = λ i a b p q. absurd (none a p.name p.held p.verdict p.cause p.has);
@@ -518,13 +530,13 @@ went_fair answer later present tried m u x rs sound stand has less gone =
     } in
     record { step = record { stood = stand; fair = fair }; none = none }
 
-pub then_went : {J : Type 0} {answer : Answers J} {later : Laters J} {present : Bool} {tried : Tries} {k m : Kernel} {w u : State J} (x : Standing) (rs : List Standing) → Has u.standings x → Less x u.standings rs → IsGoneAt x.held.0 m → FairFrom answer later present tried k w m u → FairFrom answer later present tried k w m (record u { standings = rs; entries = u.entries ++ Entry.Gone x.number x.name ∷ [] })
-then_went {J} {answer} {later} {present} {tried} {k} {m} {w} {u} x rs has less gone h = fair_trans h (went_fair answer later present tried m u x rs h.fair.sound h.fair.stand has less gone)
+pub then_went : {J : Type 0} {answer : Answers J} {later : Laters J} {terms : Terms} {tried : Tries} {k m : Kernel} {w u : State J} (x : Standing) (rs : List Standing) → Has u.standings x → Less x u.standings rs → IsGoneAt x.held.0 m → FairFrom answer later terms tried k w m u → FairFrom answer later terms tried k w m (record u { standings = rs; entries = u.entries ++ Entry.Gone x.number x.name ∷ [] })
+then_went {J} {answer} {later} {terms} {tried} {k} {m} {w} {u} x rs has less gone h = fair_trans h (went_fair answer later terms tried m u x rs h.fair.sound h.fair.stand has less gone)
 
 -- what becomes of the standings as one of them is settled
 abbrev pub After : Standing → List Standing → Settled → List Standing → Type 0
 After x ss Settled.Nobody rs = Less x ss rs
-After x ss Settled.Stands rs = Same ss rs × Marks x ss rs
+After x ss Settled.Stands rs = Same ss rs × Marks Remove (is_reject x.verdict ≡ true) x ss rs
 After x ss how rs = Same ss rs × KeepMarks ss rs
 
 marked_one : (ss : List Standing) (name : List ℕ) (mark : Bool) (s : Standing) → Has (map (marked name mark) ss) s → IsOne ss s
@@ -544,22 +556,60 @@ marked_same ss name mark = record {
 
 -- marked as unsettled
 unsettled_marks : (ss : List Standing) (name : List ℕ) → KeepMarks ss (map (marked name false) ss)
-unsettled_marks ss name s a =
+unsettled_marks ss name s a control =
     let m = map_has (marked name false) ss s a in
-    (m.0, m.1, ap (λ (v : Standing). v.number) m.2, ap (λ (v : Standing). v.held) m.2, sym (still_removed name m.0) ∙ ap (λ (v : Standing). v.removed) m.2)
+    (m.0, m.1, ap (λ (v : Standing). v.number) m.2, ap (λ (v : Standing). v.held) m.2, sym (still_done control name m.0) ∙ ap (is_done control) m.2)
+
+-- marked as one whose default was written
+
+did_one : (ss : List Standing) (name : List ℕ) (s : Standing) → Has (map (with_default name) ss) s → IsOne ss s
+did_one ss name s a = let m = map_has (with_default name) ss s a in (m.0, m.1, ap (λ (v : Standing). v.number) (sym m.2), ap (λ (v : Standing). v.name) (sym m.2), ap (λ (v : Standing). v.held) (sym m.2), ap (λ (v : Standing). v.judged) (sym m.2), ap (λ (v : Standing). v.verdict) (sym m.2), ap (λ (v : Standing). v.cause) (sym m.2))
+
+pub did_same : (ss : List Standing) (name : List ℕ) → Same ss (map (with_default name) ss)
+did_same ss name = record {
+  there = did_one ss name;
+  kept = λ s a. (with_default name s, has_map (with_default name) ss s a, refl, refl, refl, refl, refl, refl);
+  order = keeps_map (with_default name) ss (λ s. refl) (λ s. refl);
+}
+
+pub default_marks : (k : Kernel) (ss : List Standing) (next : ℕ) (name : List ℕ) (x : Standing) → Has ss x → x.name ≡ name → Stand k ss next → Marks Default (Unit {0}) x ss (map (with_default name) ss)
+default_marks k ss next name x has named stand = record { each = each; own = own }
+  where
+    by_name : (b : Standing) → Has ss b → b.name ≡ name → b ≡ x
+    by_name b a e = distinct_one (λ (v : Standing). v.name) ss b x stand.names a has (e ∙ sym named)
+
+    flag : (b : Standing) → b.name ≡ name → is_done Default (with_default name b) ≡ true
+    flag b e = ap (λ (t : Bool). t || b.defaulted) (is_same b.name name e)
+
+    each : (s : Standing) → Has (map (with_default name) ss) s → (control : Control) → KeepsFor control ss s ⊎ ((control ≡ Default) × (s.number ≡ x.number) × (s.held ≡ x.held) × (is_done Default s ≡ true) × Unit {0})
+    each s a Authorized = let m = map_has (with_default name) ss s a in inl (m.0, m.1, ap (λ (v : Standing). v.number) m.2, ap (λ (v : Standing). v.held) m.2, refl)
+    each s a Remove = let m = map_has (with_default name) ss s a in inl (m.0, m.1, ap (λ (v : Standing). v.number) m.2, ap (λ (v : Standing). v.held) m.2, ap (λ (v : Standing). v.removed) m.2)
+    each s a Default =
+        let m = map_has (with_default name) ss s a in
+        elim (cases_Bool (same_name m.0.name name)) [
+          | inl e ↦
+              let is = by_name m.0 m.1 (same_is m.0.name name e) in
+              inr (refl, sym (ap (λ (v : Standing). v.number) m.2) ∙ ap (λ (v : Standing). v.number) is, sym (ap (λ (v : Standing). v.held) m.2) ∙ ap (λ (v : Standing). v.held) is, sym (ap (is_done Default) m.2) ∙ flag m.0 (same_is m.0.name name e), tt)
+          | inr e ↦ inl (m.0, m.1, ap (λ (v : Standing). v.number) m.2, ap (λ (v : Standing). v.held) m.2, sym (ap (λ (t : Bool). t || m.0.defaulted) e) ∙ ap (is_done Default) m.2)
+        ]
+
+    own : (s : Standing) → Has (map (with_default name) ss) s → s.number ≡ x.number → Unit {0} → is_done Default s ≡ true
+    own s a e p =
+        let m = map_has (with_default name) ss s a in
+        let is : m.0 ≡ x = distinct_one (λ (v : Standing). v.number) ss m.0 x stand.distinct m.1 has (ap (λ (v : Standing). v.number) m.2 ∙ e) in
+        sym (ap (is_done Default) m.2) ∙ flag m.0 (ap (λ (v : Standing). v.name) is ∙ named)
 
 -- marked as settled
-settled_marks : (k : Kernel) (ss : List Standing) (next : ℕ) (name : List ℕ) (x : Standing) → Has ss x → x.name ≡ name → Stand k ss next → Marks x ss (map (marked name true) ss)
+settled_marks : (k : Kernel) (ss : List Standing) (next : ℕ) (name : List ℕ) (x : Standing) → Has ss x → x.name ≡ name → Stand k ss next → Marks Remove (is_reject x.verdict ≡ true) x ss (map (marked name true) ss)
 settled_marks k ss next name x has named stand = record {
-  each = λ s a.
+  each = λ s a control.
       let m = map_has (marked name true) ss s a in
       let number : m.0.number ≡ s.number = ap (λ (v : Standing). v.number) m.2 in
       let held : m.0.held ≡ s.held = ap (λ (v : Standing). v.held) m.2 in
-      let flag : removed_of name true m.0 ≡ s.removed = ap (λ (v : Standing). v.removed) m.2 in
       let is : m.0.name ≡ name → m.0 ≡ x = λ e. distinct_one (λ (v : Standing). v.name) ss m.0 x stand.names m.1 has (e ∙ sym named) in
-      elim (settled_removed name m.0) [
-        | inl e ↦ inl (m.0, m.1, number, held, sym e ∙ flag)
-        | inr e ↦ inr (sym number ∙ ap (λ (v : Standing). v.number) (is e.0), sym held ∙ ap (λ (v : Standing). v.held) (is e.0), sym flag ∙ e.1, subst (λ (v : Standing). is_reject v.verdict ≡ true) (is e.0) e.2)
+      elim (settled_done control name m.0) [
+        | inl e ↦ inl (m.0, m.1, number, held, sym e ∙ ap (is_done control) m.2)
+        | inr e ↦ inr (e.0, sym number ∙ ap (λ (v : Standing). v.number) (is e.1), sym held ∙ ap (λ (v : Standing). v.held) (is e.1), sym (ap (is_done Remove) m.2) ∙ e.2, subst (λ (v : Standing). is_reject v.verdict ≡ true) (is e.1) e.3)
       ];
   own = λ s a e r.
       let m = map_has (marked name true) ss s a in

@@ -1,4 +1,5 @@
 pub mod Standings
+pub mod Done
 pub mod Bring
 pub mod Table
 pub mod State

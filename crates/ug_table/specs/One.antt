@@ -13,24 +13,25 @@ use Rattle.ug_audit.specs.declared.entry.Entry.{Entry}
 use Rattle.ug_audit.specs.declared.entry.Entry.TheVariants as entry
 use Rattle.ug_audit.specs.declared.entry.Fault.{Fault}
 use Rattle.ug_audit.specs.declared.entry.Fault.TheVariants as fault
-use Rattle.ug_table.specs.State.{State, Kept, Answers, Laters}
+use Rattle.ug_table.specs.State.{State, Kept, Answers, Laters, Terms, terms_of}
 use Rattle.ug_table.specs.Settle.{resettling}
 use Rattle.ug_table.specs.Sweep.{names_of}
-use Rattle.ug_table.specs.Bring.{is_to_go}
+use Rattle.ug_types.specs.declared.control.Write.{Write}
+use Rattle.ug_table.specs.Bring.{NeedsMemory}
 use Rattle.ug_table.specs.Standings.{known_of, numbered}
-use Rattle.ug_table.specs.Laws.{Stand, Tries, none_before, IsFair, IsGone, IsNamed, IsAsJudged}
+use Rattle.ug_table.specs.Laws.{Stand, AreDefaulted, Tries, none_before, IsFair, IsGone, IsNamed, IsAsJudged}
 use Rattle.ug_table.specs.Parts.{Part}
 use Rattle.ug_table.specs.declared.standing.Standing.{Standing}
 use Rattle.ug_table.specs.declared.standing.Settled.{Settled}
 use Rattle.ug_table.specs.declared.standing.Settled.TheVariants as settled
 
-abbrev pub again_numbered : Kept → Option Standing → Prog (Settled × Kept)
-again_numbered k (Some s) = resettling s.name k
-again_numbered k None = Return (settled.Nobody, k)
+abbrev pub again_numbered : Option Write → Kept → Option Standing → Prog (Settled × Kept)
+again_numbered hub k (Some s) = resettling hub s.name k
+again_numbered hub k None = Return (settled.Nobody, k)
 
 -- the known name of that number's standing
-unfoldable pub resettling_numbered : ℕ → Kept → Prog (Settled × Kept)
-resettling_numbered number k = again_numbered k (numbered number k.standings)
+unfoldable pub resettling_numbered : Option Write → ℕ → Kept → Prog (Settled × Kept)
+resettling_numbered hub number k = again_numbered hub k (numbered number k.standings)
 
 -- why entries tell names as unsettled
 abbrev pub why_in : Entry → List Fault
@@ -59,12 +60,12 @@ failed_of settled.Memory = []
 -- answered just where a call of the part failed, with its number and count; and want of memory just where it is told. A standing of
 -- the name is there where the answer says so, and none where it says that there is nobody. Calls are numbered on, and so both numbers
 -- of a fault rise.
-pub record GoesAsPart {S : Type 0} (gives : S → (call : Call) → Answer call → S → Type 0) (calls faults : S → ℕ) (name : List ℕ) (s : S) (before : List Standing) (es : List Entry) (t : S) (after : List Standing) (fs : List Entry) (how : Settled) : Type 0 where
+pub record GoesAsPart {S : Type 0} (hub : Option Write) (gives : S → (call : Call) → Answer call → S → Type 0) (calls faults : S → ℕ) (name : List ℕ) (s : S) (before : List Standing) (es : List Entry) (t : S) (after : List Standing) (fs : List Entry) (how : Settled) : Type 0 where
   pub made : List Made
   pub along : Along gives s made t
   pub rest : List Entry
   pub entries : fs ≡ es ++ rest
-  pub part : Part name before after made rest
+  pub part : Part hub name before after made rest
   pub why : whys rest ≡ why_of how
   pub failed : failures made ≡ failed_of how
   pub stands : how ≡ settled.Stands → Has (names_of after) name
@@ -78,15 +79,16 @@ LivedAs k l name i = (d : Device) × Lived k.devices l.devices i d × (d.name �
 
 -- The settling of a name is fair; a device of the name that lived through is as judged or the name is told; and where the answer says
 -- that there is nobody, no device of the name lived through.
-pub record SettledOne {J : Type 0} (answer : Answers J) (later : Laters J) (present : Bool) (name : List ℕ) (k : Kernel) (w : State J) (l : Kernel) (v : State J) (how : Settled) : Type 0 where
-  pub fair : IsFair answer later present none_before k w l v
-  pub ended : (i : ℕ) → LivedAs k l name i → IsAsJudged l v.standings i ⊎ IsNamed fair.rest name
+pub record SettledOne {J : Type 0} (answer : Answers J) (later : Laters J) (terms : Terms) (name : List ℕ) (k : Kernel) (w : State J) (l : Kernel) (v : State J) (how : Settled) : Type 0 where
+  pub fair : IsFair answer later terms none_before k w l v
+  pub defaults : AreDefaulted terms.hub k w.standings → AreDefaulted terms.hub l v.standings
+  pub ended : (i : ℕ) → LivedAs k l name i → IsAsJudged terms.hub l v.standings i ⊎ IsNamed fair.rest name
   pub nobody : how ≡ settled.Nobody → (i : ℕ) → LivedAs k l name i → ⊥
 
 -- where a kernel is told at its end, one was told at its start; and where that is sound and the standings are of its devices, that
 -- is so
-abbrev pub SettlesOne : {S J : Type 0} → (S → Option Kernel) → Answers J → Laters J → Bool → List ℕ → S → State J → S → State J → Settled → Type 0
-SettlesOne told answer later present name s w t v how = (l : Kernel) → told t ≡ Some l → (k : Kernel) × (told s ≡ Some k) × (IsKernel k → Stand k w.standings w.next → SettledOne answer later present name k w l v how)
+abbrev pub SettlesOne : {S J : Type 0} → (S → Option Kernel) → Answers J → Laters J → Terms → List ℕ → S → State J → S → State J → Settled → Type 0
+SettlesOne told answer later terms name s w t v how = (l : Kernel) → told t ≡ Some l → (k : Kernel) × (told s ≡ Some k) × (IsKernel k → Stand k w.standings w.next → SettledOne answer later terms name k w l v how)
 
 -- the standing's held file is the device's
 abbrev pub IsOf : Kernel → Standing → ℕ → Type 0
@@ -94,14 +96,15 @@ IsOf k s i = slice_get k.held s.held.0 ≡ Some (record { device = i; control = 
 
 -- A standing settled again is so fairly, whatever judge there is, as none is asked; its device, where it lived through, is as judged
 -- or its name is told; and where the answer says that there is nobody, it is gone.
-pub record ResettledOne (s : Standing) (k : Kernel) (w : State (Unit {0})) (l : Kernel) (v : State (Unit {0})) (how : Settled) : Type 0 where
-  pub fair : (answer : Answers (Unit {0})) (later : Laters (Unit {0})) (present : Bool) (tried : Tries) → IsFair answer later present tried k w l v
-  pub ended : (i : ℕ) (d : Device) → IsOf k s i → Lived k.devices l.devices i d → IsAsJudged l v.standings i ⊎ ((rest : List Entry) × (v.entries ≡ w.entries ++ rest) × IsNamed rest s.name)
+pub record ResettledOne (hub : Option Write) (s : Standing) (k : Kernel) (w : State (Unit {0})) (l : Kernel) (v : State (Unit {0})) (how : Settled) : Type 0 where
+  pub fair : (answer : Answers (Unit {0})) (later : Laters (Unit {0})) (present : Bool) (tried : Tries) → IsFair answer later (terms_of present hub) tried k w l v
+  pub defaults : AreDefaulted hub k w.standings → AreDefaulted hub l v.standings
+  pub ended : (i : ℕ) (d : Device) → IsOf k s i → Lived k.devices l.devices i d → IsAsJudged hub l v.standings i ⊎ ((rest : List Entry) × (v.entries ≡ w.entries ++ rest) × IsNamed rest s.name)
   pub nobody : how ≡ settled.Nobody → (i : ℕ) → IsOf k s i → IsGone l i
 
-abbrev pub ResettlesOne : {S : Type 0} → (S → Option Kernel) → ℕ → S → State (Unit {0}) → S → State (Unit {0}) → Settled → Type 0
-ResettlesOne told number s w t v how = (l : Kernel) → told t ≡ Some l → (k : Kernel) × (told s ≡ Some k) × (IsKernel k → Stand k w.standings w.next → (x : Standing) → numbered number w.standings ≡ Some x → ResettledOne x k w l v how)
+abbrev pub ResettlesOne : {S : Type 0} → Option Write → (S → Option Kernel) → ℕ → S → State (Unit {0}) → S → State (Unit {0}) → Settled → Type 0
+ResettlesOne hub told number s w t v how = (l : Kernel) → told t ≡ Some l → (k : Kernel) × (told s ≡ Some k) × (IsKernel k → Stand k w.standings w.next → (x : Standing) → numbered number w.standings ≡ Some x → ResettledOne hub x k w l v how)
 
--- the device of that number's standing is still to be removed
-abbrev pub NeedsRoom : ℕ → List Standing → Type 0
-NeedsRoom number ss = (s : Standing) × (numbered number ss ≡ Some s) × (is_to_go (known_of s) ≡ true)
+-- memory may be wanted for the device of that number's standing
+abbrev pub NeedsRoom : Option Write → ℕ → List Standing → Type 0
+NeedsRoom hub number ss = (s : Standing) × (numbered number ss ≡ Some s) × NeedsMemory hub s.name (known_of s)

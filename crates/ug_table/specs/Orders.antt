@@ -3,6 +3,7 @@ use Rattle.std.specs.Prelude.{◌≡◌, ℕ, Bool, ◌^◌, ◌<◌, ◌≤◌,
 use Rattle.ug_types.specs.Elements.{Has}
 use Rattle.ug_types.specs.Principals.{Named}
 use Rattle.ug_types.specs.declared.control.Control.TheVariants.{Authorized}
+use Rattle.ug_types.specs.declared.control.Write.{Write}
 use Rattle.ug_types.specs.declared.verdict.Cause.{Cause}
 use Rattle.ug_types.specs.declared.verdict.Cause.TheVariants as cause
 use Rattle.ug_types.specs.declared.verdict.Target.{Target}
@@ -19,12 +20,12 @@ use Rattle.ug_kernel.specs.Tree.{Prog, Return, Ask, then}
 use Rattle.ug_audit.specs.declared.entry.Entry.{Entry}
 use Rattle.ug_audit.specs.declared.entry.Entry.TheVariants as entry
 use Rattle.ug_table.specs.Bring.{bringing}
-use Rattle.ug_table.specs.Laws.{Stand, Tries, IsFair, IsGone, IsAsJudged}
+use Rattle.ug_table.specs.Laws.{Stand, AreDefaulted, Tries, IsFair, IsGone, IsAsJudged}
 use Rattle.ug_table.specs.One.{IsOf, whys, failed_of}
 use Rattle.ug_table.specs.Parts.{open_file, Behind, AreAbout, files_after, known_files, EndsAtFailure, AreDue, puts_of, AtMostOneEach, writes_in, TellsWrites, AllBear, number_of, AreOfNumber, numbers_given}
 use Rattle.ug_table.specs.Settle.{tried_standings}
 use Rattle.ug_table.specs.Standings.{known_of, numbered, standing_of}
-use Rattle.ug_table.specs.State.{State, Kept, Answers, Laters}
+use Rattle.ug_table.specs.State.{State, Kept, Answers, Laters, Terms}
 use Rattle.ug_table.specs.Sweep.{names_of}
 use Rattle.ug_table.specs.declared.standing.Settled.{Settled}
 use Rattle.ug_table.specs.declared.standing.Settled.TheVariants as settled
@@ -89,7 +90,7 @@ ordering number verdict who on k = to_order number verdict who on k (numbered nu
 
 -- the probe of that file was the last call
 abbrev pub behind_probe : ℕ → Told Probe → Behind
-behind_probe held t = record { last = Some (answered (Ask_alive held) t); earlier = None }
+behind_probe held t = record { last = Some (answered (Ask_alive held) t); earlier = None; found = Some (answered (Ask_alive held) t) }
 
 -- The calls of an order on that standing, which has the ordered verdict. They are about its name, and are over with one that fails;
 -- behind a probe that found the device alive with that value each write is due. Its verdict is told first, then the writes, and no
@@ -139,9 +140,10 @@ just_ordered number verdict who x w = record w { standings = with_order number v
 -- effect that the log gains is on the standing's own device. That device, where it lived through and had the value that was probed,
 -- is as ordered, or the answer tells what stopped it; and where the answer says that there is nobody, it is gone.
 pub record OrderedOne {J : Type 0} (number : ℕ) (verdict : Target) (who : Named) (on : Bool) (x : Standing) (k : Kernel) (w : State J) (l : Kernel) (v : State J) (how : Settled) : Type 0 where
-  pub fair : (answer : Answers J) (later : Laters J) (present : Bool) (tried : Tries) → IsFair answer later present tried k (just_ordered number verdict who x w) l v
+  pub fair : (answer : Answers J) (later : Laters J) (terms : Terms) (tried : Tries) → IsFair answer later terms tried k (just_ordered number verdict who x w) l v
+  pub defaults : (hub : Option Write) → AreDefaulted hub k w.standings → AreDefaulted hub l v.standings
   pub own : (e : Effect) → Has l.log e → Has k.log e ⊎ IsOf l x e.device
-  pub ended : (i : ℕ) (d : Device) → IsOf k x i → Lived k.devices l.devices i d → d.on ≡ on → IsAsJudged l v.standings i ⊎ IsStopped how
+  pub ended : (i : ℕ) (d : Device) → IsOf k x i → Lived k.devices l.devices i d → d.on ≡ on → IsAsJudged None l v.standings i ⊎ IsStopped how
   pub nobody : how ≡ settled.Nobody → (i : ℕ) → IsOf k x i → IsGone l i
 
 -- where a kernel is told at its end, one was told at its start; and where that is sound and the standings are of its devices, that

@@ -1,11 +1,11 @@
 -- A sweep's calls, in parts: the listing, and a part for each name; and which failed calls its `unsettled` entries tell.
-use Rattle.std.specs.Prelude.{◌≡◌, ℕ, ◌+◌, length, ◌^◌, ◌<◌, ◌≤◌, Bool, true, false, not, map, List, [], ◌∷◌, ◌++◌, Option, Some, None, Result, Err, ◌⊎◌, if◌then◌else◌, nat_eq}
+use Rattle.std.specs.Prelude.{◌≡◌, ℕ, ◌+◌, length, ◌^◌, ◌<◌, ◌≤◌, Bool, true, false, not, map, List, [], ◌∷◌, ◌++◌, Option, Some, None, Result, Err, ◌⊎◌, if◌then◌else◌, nat_eq, cond}
 use Rattle.std.specs.List.{filter}
 use Rattle.ug_types.specs.Elements.{Has, AllDistinct}
 use Rattle.ug_types.specs.Names.{parent_of}
 use Rattle.ug_types.specs.Sweep.{in_sweep_order}
 use Rattle.ug_types.specs.declared.control.Control.{Control}
-use Rattle.ug_types.specs.declared.control.Control.TheVariants.{Authorized, Remove}
+use Rattle.ug_types.specs.declared.control.Control.TheVariants.{Authorized, Remove, Default}
 use Rattle.ug_types.specs.declared.refusal.Refusal.{Refusal}
 use Rattle.ug_types.specs.declared.refusal.Refusal.TheVariants as refusal
 use Rattle.ug_types.specs.declared.control.Write.{Write}
@@ -32,7 +32,8 @@ use Rattle.ug_table.specs.Laws.{Stand, wrote_entries}
 use Rattle.ug_table.specs.declared.standing.Standing.{Standing}
 use Rattle.ug_table.specs.declared.standing.Known.{Known}
 use Rattle.ug_types.specs.declared.verdict.Held.{Held}
-use Rattle.ug_table.specs.Bring.{is_to_go}
+use Rattle.ug_table.specs.Done.{control_of}
+use Rattle.ug_table.specs.Bring.{NeedsMemory}
 
 -- the failed call that an `unsettled` entry tells
 abbrev pub told_by : Fault → List FailedCall
@@ -98,12 +99,6 @@ abbrev pub files_after : List OpenFile → List Made → List OpenFile
 files_after files [] = files
 files_after files (m ∷ ms) = files_after (files_left m.call m.answer files) ms
 
--- the file that a write goes to
-abbrev pub control_of : Write → Control
-control_of write.On = Authorized
-control_of write.Off = Authorized
-control_of write.Remove = Remove
-
 -- The call is about the name, whose open files these are: it goes to the name, or reads its parent's files, or goes to one of these.
 -- What is probed is an `authorized` file, and what is written is the file that the write goes to.
 abbrev pub IsAbout : List ℕ → List OpenFile → Call → Type 0
@@ -136,21 +131,29 @@ EndsAtFailure before (m ∷ ms) = ((before ≡ []) ⊎ IsClosing m.call) × Ends
 abbrev pub FoundAlive : Option Made → Bool → Type 0
 FoundAlive last on = (held : ℕ) × (t : Told Probe) × (last ≡ Some (answered (Ask_alive held) t)) × (t.answer ≡ probe.Alive on)
 
--- the last call opened that `remove` file
-abbrev pub OpenedRemove : Option Made → ℕ → Type 0
-OpenedRemove last file = (name : List ℕ) × (t : Told Opened) × (held : Held) × (last ≡ Some (answered (Open name Remove) t)) × (t.answer ≡ opened.Token held) × (held.0 ≡ file)
+-- the last call opened that file, of that control
+abbrev pub OpenedFile : Control → Option Made → ℕ → Type 0
+OpenedFile control last file = (name : List ℕ) × (t : Told Opened) × (held : Held) × (last ≡ Some (answered (Open name control) t)) × (t.answer ≡ opened.Token held) × (held.0 ≡ file)
 
--- the last two calls, the last one first
+-- the last two calls, the last one first; and the last one again if it probed, where no more than the default was written since
 pub record Behind : Type 0 where
   pub last : Option Made
   pub earlier : Option Made
+  pub found : Option Made
 
--- A write of a value stands directly behind a probe of its file that found the other value. A removal stands directly behind a probe
--- that found the device alive, and that directly behind the opening of its file.
+-- a write to a file that was opened just before, and behind it a probe found the device alive
+abbrev pub IsOnceDue : Control → Behind → ℕ → Type 0
+IsOnceDue control behind held = ((on : Bool) × FoundAlive behind.last on) × OpenedFile control behind.earlier held
+
+-- A write of a value stands directly behind a probe of its file that found the other value, but for a write to the default between
+-- them. A removal, and a write to a default, stands directly behind a probe that found the device alive, and that directly behind the
+-- opening of its file.
 abbrev pub IsWriteDue : Behind → ℕ → Write → Type 0
-IsWriteDue behind held write.On = (t : Told Probe) × (behind.last ≡ Some (answered (Ask_alive held) t)) × (t.answer ≡ probe.Alive false)
-IsWriteDue behind held write.Off = (t : Told Probe) × (behind.last ≡ Some (answered (Ask_alive held) t)) × (t.answer ≡ probe.Alive true)
-IsWriteDue behind held write.Remove = ((on : Bool) × FoundAlive behind.last on) × OpenedRemove behind.earlier held
+IsWriteDue behind held write.On = (t : Told Probe) × (behind.found ≡ Some (answered (Ask_alive held) t)) × (t.answer ≡ probe.Alive false)
+IsWriteDue behind held write.Off = (t : Told Probe) × (behind.found ≡ Some (answered (Ask_alive held) t)) × (t.answer ≡ probe.Alive true)
+IsWriteDue behind held write.Remove = IsOnceDue Remove behind held
+IsWriteDue behind held write.DefaultOff = IsOnceDue Default behind held
+IsWriteDue behind held write.DefaultOn = IsOnceDue Default behind held
 
 abbrev pub IsDue : Behind → Call → Type 0
 IsDue behind (Put held what) = IsWriteDue behind held what
@@ -160,9 +163,36 @@ IsDue behind (Read name attr) = Unit {0}
 IsDue behind (Ask_alive held) = Unit {0}
 IsDue behind (Close held) = Unit {0}
 
+-- whether the call opens a default, or goes to one
+abbrev pub is_default : Control → Bool
+is_default Authorized = false
+is_default Remove = false
+is_default Default = true
+
+abbrev pub opens : Call → Bool
+opens (Open name control) = is_default control
+opens Names = false
+opens (Read name attr) = false
+opens (Ask_alive held) = false
+opens (Put held what) = false
+opens (Close held) = false
+
+abbrev pub opens_default : Option Made → Bool
+opens_default None = false
+opens_default (Some m) = opens m.call
+
+-- the probe of a value, where it still counts behind a call more
+abbrev pub found_by : Call → Made → Option Made → Option Made → Option Made
+found_by (Ask_alive held) m last found = cond (opens_default last) found (Some m)
+found_by (Open name control) m last found = cond (is_default control) found None
+found_by (Put held what) m last found = cond (is_default (control_of what)) found None
+found_by (Close held) m last found = found
+found_by Names m last found = None
+found_by (Read name attr) m last found = None
+
 -- a call more
 abbrev pub behind_more : Behind → Made → Behind
-behind_more behind m = record { last = Some m; earlier = behind.last }
+behind_more behind m = record { last = Some m; earlier = behind.last; found = found_by m.call m behind.last behind.found }
 
 abbrev pub AreDue : Behind → List Made → Type 0
 AreDue behind [] = Unit {0}
@@ -262,37 +292,37 @@ abbrev pub known_files : Option Known → List OpenFile
 known_files None = []
 known_files (Some known) = open_file known.held.0 Authorized ∷ []
 
--- the device of a standing is still to be removed, and there was no memory to open its `remove` file
-abbrev pub LacksRoom : Option Known → List Made → Type 0
-LacksRoom stands calls = ((known : Known) × (stands ≡ Some known) × (is_to_go known ≡ true)) × ((name : List ℕ) × (t : Told Opened) × Has calls (answered (Open name Remove) t) × (t.answer ≡ opened.Memory))
+-- the device of a standing is still to be removed, or its default is still to be written, and there was no memory to open a file
+abbrev pub LacksRoom : Option Write → List ℕ → Option Known → List Made → Type 0
+LacksRoom hub name stands calls = ((known : Known) × (stands ≡ Some known) × NeedsMemory hub name known) × ((control : Control) × (other : List ℕ) × (t : Told Opened) × Has calls (answered (Open other control) t) × (t.answer ≡ opened.Memory))
 
 -- One name's part of a sweep, from the standings before it to those after it: its calls are about the name, and are over with
 -- one that fails; the files that are open after them are those that the name's standing holds; its entries tell that failure, and no
 -- other; what is told of want of memory is of a new device, or of one that is still to be removed; each write is due and told, and
 -- there is one of each kind at most; there are few calls; each entry bears the name, and the number of its standing; one number at
 -- most is given out; and the standings of other names stay.
-pub record Part (name : List ℕ) (before after : List Standing) (calls : List Made) (entries : List Entry) : Type 0 where
+pub record Part (hub : Option Write) (name : List ℕ) (before after : List Standing) (calls : List Made) (entries : List Entry) : Type 0 where
   pub about : AreAbout name (known_files (standing_of name before)) calls
   pub leaves : files_after (known_files (standing_of name before)) calls ≡ known_files (standing_of name after)
   pub ends : EndsAtFailure [] calls
   pub told : failures_told entries ≡ failures calls
   pub last : EndsUnsettled name entries
-  pub memory : Has entries (entry.Unsettled name fault.Memory) → IsBoundAnew (standing_of name before) calls ⊎ LacksRoom (standing_of name before) calls
-  pub due : AreDue (record { last = None; earlier = None }) calls
+  pub memory : Has entries (entry.Unsettled name fault.Memory) → IsBoundAnew (standing_of name before) calls ⊎ LacksRoom hub name (standing_of name before) calls
+  pub due : AreDue (record { last = None; earlier = None; found = None }) calls
   pub single : AtMostOneEach (puts_of calls)
   pub writes : TellsWrites name (puts_of calls) (writes_in entries)
-  pub few : count_calls calls ≤ 14
+  pub few : count_calls calls ≤ 17
   pub bears : AllBear name entries
   pub numbers : AreOfNumber (number_of (standing_of name before)) entries (number_of (standing_of name after))
   pub given : length (numbers_given entries) ≤ 1
   pub others : (other : List ℕ) → (other ≡ name → ⊥) → standing_of other after ≡ standing_of other before
 
 -- a part for each name, in this order
-abbrev pub InParts : List (List ℕ) → List Standing → List Standing → List Made → List Entry → Type 0
-InParts [] before after calls entries = (after ≡ before) × (calls ≡ []) × (entries ≡ [])
-InParts (name ∷ names) before after calls entries =
+abbrev pub InParts : Option Write → List (List ℕ) → List Standing → List Standing → List Made → List Entry → Type 0
+InParts hub [] before after calls entries = (after ≡ before) × (calls ≡ []) × (entries ≡ [])
+InParts hub (name ∷ names) before after calls entries =
     (mid : List Standing) × (now later : List Made) × (first rest : List Entry)
-    × (calls ≡ now ++ later) × (entries ≡ first ++ rest) × Part name before mid now first × InParts names mid after later rest
+    × (calls ≡ now ++ later) × (entries ≡ first ++ rest) × Part hub name before mid now first × InParts hub names mid after later rest
 
 -- these calls close those files, in order
 abbrev pub AreClosings : List Held → List Made → Type 0
@@ -338,7 +368,7 @@ pub record GoesInParts {S J : Type 0} (gives : S → (call : Call) → Answer ca
   pub made : List Made
   pub cut : later ≡ shut ++ made
   pub begins : AfterListing listed.answer (failure_of listed) w.standings head left names shut
-  pub parts : InParts names left v.standings made rest
+  pub parts : InParts w.hub names left v.standings made rest
   pub next : v.next ≡ w.next + length (numbers_given rest)
   pub given : length (numbers_given rest) ≤ count_listed listed.answer
 

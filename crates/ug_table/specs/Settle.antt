@@ -19,9 +19,10 @@ use Rattle.ug_audit.specs.declared.entry.Entry.{Entry}
 use Rattle.ug_audit.specs.declared.entry.Entry.TheVariants as entry
 use Rattle.ug_audit.specs.declared.entry.Fault.{Fault}
 use Rattle.ug_audit.specs.declared.entry.Fault.TheVariants as fault
-use Rattle.ug_table.specs.State.{State, noted, Kept, Answers, Laters}
-use Rattle.ug_table.specs.Standings.{standing_of, without, marked, with_standing, settled_standing}
-use Rattle.ug_table.specs.Bring.{bringing}
+use Rattle.ug_types.specs.declared.control.Write.{Write}
+use Rattle.ug_table.specs.State.{State, noted, Kept, Answers, Laters, Terms}
+use Rattle.ug_table.specs.Standings.{standing_of, without, did_default, marked, with_standing, settled_standing}
+use Rattle.ug_table.specs.Bring.{treating}
 use Rattle.ug_table.specs.declared.standing.Standing.{Standing}
 use Rattle.ug_table.specs.declared.standing.Known.{Known}
 use Rattle.ug_table.specs.declared.standing.Settled.{Settled}
@@ -47,8 +48,8 @@ kept_standings ss s settled.Stands = with_standing (settled_standing s) ss
 kept_standings ss s (settled.Fault failed) = with_standing s ss
 kept_standings ss s settled.Memory = with_standing s ss
 
-abbrev pub to_keep : {J : Type 0} → State J → Standing → Settled × List Entry → Prog (Settled × State J)
-to_keep w s p = Return (p.0, record w { standings = kept_standings w.standings s p.0; entries = p.1 ++ unsettled_by s.name p.0 })
+abbrev pub to_keep : {J : Type 0} → State J → Standing → Settled × Bool × List Entry → Prog (Settled × State J)
+to_keep w s p = Return (p.0, record w { standings = kept_standings w.standings (record s { defaulted = p.1 }) p.0; entries = p.2 ++ unsettled_by s.name p.0 })
 
 -- how a name ends whose settling a fault stopped
 abbrev pub stopped_by : Fault → Settled
@@ -73,45 +74,46 @@ standing_for w name held judged given = record {
   cause = given.1;
   settled = false;
   removed = false;
+  defaulted = false;
 }
 
 abbrev pub known_in : {J : Type 0} → State J → ℕ → Target × Cause → Known
-known_in w held given = record { number = w.next; held = record { 0 = held }; verdict = given.0; removed = false }
+known_in w held given = record { number = w.next; held = record { 0 = held }; verdict = given.0; removed = false; defaulted = false }
 
 abbrev pub judged_entry : {J : Type 0} → State J → List ℕ → ℕ → Target × Cause → Entry
 judged_entry w name held given = entry.Judged w.next name (record { 0 = held }) given.0 given.1
 
-abbrev pub judging : {J : Type 0} → J → State J → List ℕ → ℕ → Judged → Bool → Target × Cause → Prog (Settled × State J)
-judging later w name held judged on given =
-    then (bringing name (known_in w held given) on (w.entries ++ judged_entry w name held given ∷ []))
+abbrev pub judging : {J : Type 0} → Option Write → J → State J → List ℕ → ℕ → Judged → Bool → Target × Cause → Prog (Settled × State J)
+judging hub later w name held judged on given =
+    then (treating hub name (known_in w held given) on (w.entries ++ judged_entry w name held given ∷ []))
     (to_keep (record w { next = w.next + 1; judge = later }) (standing_for w name held judged given))
 
-abbrev pub to_judge : {J : Type 0} → Answers J → Laters J → List ℕ → Bool → State J → Bound → Judged → Prog (Settled × State J)
-to_judge answer later name present w b judged =
-    judging (later w.judge judged (is_none (parent_of name)) present b.on w.standings) w name b.held.0 judged b.on (answer w.judge judged (is_none (parent_of name)) present b.on w.standings)
+abbrev pub to_judge : {J : Type 0} → Answers J → Laters J → List ℕ → Terms → State J → Bound → Judged → Prog (Settled × State J)
+to_judge answer later name terms w b judged =
+    judging terms.hub (later w.judge judged (is_none (parent_of name)) terms.present b.on w.standings) w name b.held.0 judged b.on (answer w.judge judged (is_none (parent_of name)) terms.present b.on w.standings)
 
-abbrev pub if_place : {J : Type 0} → Answers J → Laters J → List ℕ → Bool → State J → Bound → Judged → Bool → Prog (Settled × State J)
-if_place answer later name present w b judged true = to_judge answer later name present w b judged
-if_place answer later name present w b judged false = no_room w name b.held.0
+abbrev pub if_place : {J : Type 0} → Answers J → Laters J → List ℕ → Terms → State J → Bound → Judged → Bool → Prog (Settled × State J)
+if_place answer later name terms w b judged true = to_judge answer later name terms w b judged
+if_place answer later name terms w b judged false = no_room w name b.held.0
 
-abbrev pub if_record : {J : Type 0} → Answers J → Laters J → List ℕ → Bool → State J → Bound → Bool → Prog (Settled × State J)
-if_record answer later name present w b true = Room (if_place answer later name present w b (judged_of name b.attrs b.parent))
-if_record answer later name present w b false = no_room w name b.held.0
+abbrev pub if_record : {J : Type 0} → Answers J → Laters J → List ℕ → Terms → State J → Bound → Bool → Prog (Settled × State J)
+if_record answer later name terms w b true = Room (if_place answer later name terms w b (judged_of name b.attrs b.parent))
+if_record answer later name terms w b false = no_room w name b.held.0
 
 -- a bound device gets room for its record and its standing, a verdict and its writes
-unfoldable pub admitting : {J : Type 0} → Answers J → Laters J → List ℕ → Bool → State J → Bound → Prog (Settled × State J)
-admitting answer later name present w b = Room (if_record answer later name present w b)
+unfoldable pub admitting : {J : Type 0} → Answers J → Laters J → List ℕ → Terms → State J → Bound → Prog (Settled × State J)
+admitting answer later name terms w b = Room (if_record answer later name terms w b)
 
-abbrev pub after_bind : {J : Type 0} → Answers J → Laters J → List ℕ → Bool → State J → Binding → Prog (Settled × State J)
-after_bind answer later name present w (bound.Bound b) = admitting answer later name present w b
-after_bind answer later name present w bound.Absent = Return (settled.Nobody, w)
-after_bind answer later name present w bound.Vanished = Return (settled.Nobody, w)
-after_bind answer later name present w (bound.Failed failed) = unsettled w name (fault.Call failed)
-after_bind answer later name present w bound.Memory = unsettled w name fault.Memory
+abbrev pub after_bind : {J : Type 0} → Answers J → Laters J → List ℕ → Terms → State J → Binding → Prog (Settled × State J)
+after_bind answer later name terms w (bound.Bound b) = admitting answer later name terms w b
+after_bind answer later name terms w bound.Absent = Return (settled.Nobody, w)
+after_bind answer later name terms w bound.Vanished = Return (settled.Nobody, w)
+after_bind answer later name terms w (bound.Failed failed) = unsettled w name (fault.Call failed)
+after_bind answer later name terms w bound.Memory = unsettled w name fault.Memory
 
 -- a name that has no standing
-unfoldable pub entering : {J : Type 0} → Answers J → Laters J → List ℕ → Bool → State J → Prog (Settled × State J)
-entering answer later name present w = then (binding name (parent_of name)) (after_bind answer later name present w)
+unfoldable pub entering : {J : Type 0} → Answers J → Laters J → List ℕ → Terms → State J → Prog (Settled × State J)
+entering answer later name terms w = then (binding name (parent_of name)) (after_bind answer later name terms w)
 
 -- a standing that was tried again
 abbrev pub tried_standings : List Standing → List ℕ → Settled → List Standing
@@ -120,8 +122,8 @@ tried_standings ss name settled.Stands = map (marked name true) ss
 tried_standings ss name (settled.Fault failed) = map (marked name false) ss
 tried_standings ss name settled.Memory = map (marked name false) ss
 
-abbrev pub to_mark : {J : Type 0} → State J → List ℕ → Settled × List Entry → Prog (Settled × State J)
-to_mark w name p = Return (p.0, record w { standings = tried_standings w.standings name p.0; entries = p.1 ++ unsettled_by name p.0 })
+abbrev pub to_mark : {J : Type 0} → State J → List ℕ → Settled × Bool × List Entry → Prog (Settled × State J)
+to_mark w name p = Return (p.0, record w { standings = tried_standings (did_default name p.1 w.standings) name p.0; entries = p.2 ++ unsettled_by name p.0 })
 
 -- a device that is gone loses its standing, and its held file is closed
 abbrev pub dropped : {J : Type 0} → State J → List ℕ → ℕ → State J
@@ -130,31 +132,31 @@ dropped w name number = record w { standings = without name w.standings; entries
 abbrev pub failed_probe : {J : Type 0} → State J → List ℕ → FailedCall → Prog (Settled × State J)
 failed_probe w name failed = Return (settled.Fault failed, record w { standings = tried_standings w.standings name (settled.Fault failed); entries = w.entries ++ entry.Unsettled name (fault.Call failed) ∷ [] })
 
-abbrev pub after_known : {J : Type 0} → Answers J → Laters J → List ℕ → Bool → State J → Known → Probe → FailedCall → Prog (Settled × State J)
-after_known answer later name present w known (probe.Alive on) failed = then (bringing name known on w.entries) (to_mark w name)
-after_known answer later name present w known probe.Gone failed = Ask (Close known.held.0) (λ closed. entering answer later name present (dropped w name known.number))
-after_known answer later name present w known probe.Failed failed = failed_probe w name failed
+abbrev pub after_known : {J : Type 0} → Answers J → Laters J → List ℕ → Terms → State J → Known → Probe → FailedCall → Prog (Settled × State J)
+after_known answer later name terms w known (probe.Alive on) failed = then (treating terms.hub name known on w.entries) (to_mark w name)
+after_known answer later name terms w known probe.Gone failed = Ask (Close known.held.0) (λ closed. entering answer later name terms (dropped w name known.number))
+after_known answer later name terms w known probe.Failed failed = failed_probe w name failed
 
-abbrev pub from_standing : {J : Type 0} → Answers J → Laters J → List ℕ → Bool → State J → Option Known → Prog (Settled × State J)
-from_standing answer later name present w (Some known) = Ask (Ask_alive known.held.0) (λ t. after_known answer later name present w known t.answer (failure_of t))
-from_standing answer later name present w None = entering answer later name present w
+abbrev pub from_standing : {J : Type 0} → Answers J → Laters J → List ℕ → Terms → State J → Option Known → Prog (Settled × State J)
+from_standing answer later name terms w (Some known) = Ask (Ask_alive known.held.0) (λ t. after_known answer later name terms w known t.answer (failure_of t))
+from_standing answer later name terms w None = entering answer later name terms w
 
 -- one listed name
-unfoldable pub settling : {J : Type 0} → Answers J → Laters J → List ℕ → Bool → State J → Prog (Settled × State J)
-settling answer later name present w = from_standing answer later name present w (standing_of name w.standings)
+unfoldable pub settling : {J : Type 0} → Answers J → Laters J → List ℕ → Terms → State J → Prog (Settled × State J)
+settling answer later name terms w = from_standing answer later name terms w (standing_of name w.standings)
 
-abbrev pub to_keep_mark : Kept → List ℕ → Settled × List Entry → Prog (Settled × Kept)
-to_keep_mark k name p = Return (p.0, record { standings = tried_standings k.standings name p.0; entries = p.1 ++ unsettled_by name p.0 })
+abbrev pub to_keep_mark : Kept → List ℕ → Settled × Bool × List Entry → Prog (Settled × Kept)
+to_keep_mark k name p = Return (p.0, record { standings = tried_standings (did_default name p.1 k.standings) name p.0; entries = p.2 ++ unsettled_by name p.0 })
 
-abbrev pub after_again : List ℕ → Kept → Known → Probe → FailedCall → Prog (Settled × Kept)
-after_again name k known (probe.Alive on) failed = then (bringing name known on k.entries) (to_keep_mark k name)
-after_again name k known probe.Gone failed = Ask (Close known.held.0) (λ closed. Return (settled.Nobody, record { standings = without name k.standings; entries = k.entries ++ entry.Gone known.number name ∷ [] }))
-after_again name k known probe.Failed failed = Return (settled.Fault failed, record { standings = tried_standings k.standings name (settled.Fault failed); entries = k.entries ++ entry.Unsettled name (fault.Call failed) ∷ [] })
+abbrev pub after_again : Option Write → List ℕ → Kept → Known → Probe → FailedCall → Prog (Settled × Kept)
+after_again hub name k known (probe.Alive on) failed = then (treating hub name known on k.entries) (to_keep_mark k name)
+after_again hub name k known probe.Gone failed = Ask (Close known.held.0) (λ closed. Return (settled.Nobody, record { standings = without name k.standings; entries = k.entries ++ entry.Gone known.number name ∷ [] }))
+after_again hub name k known probe.Failed failed = Return (settled.Fault failed, record { standings = tried_standings k.standings name (settled.Fault failed); entries = k.entries ++ entry.Unsettled name (fault.Call failed) ∷ [] })
 
-abbrev pub again : List ℕ → Kept → Option Known → Prog (Settled × Kept)
-again name k (Some known) = Ask (Ask_alive known.held.0) (λ t. after_again name k known t.answer (failure_of t))
-again name k None = Return (settled.Nobody, k)
+abbrev pub again : Option Write → List ℕ → Kept → Option Known → Prog (Settled × Kept)
+again hub name k (Some known) = Ask (Ask_alive known.held.0) (λ t. after_again hub name k known t.answer (failure_of t))
+again hub name k None = Return (settled.Nobody, k)
 
 -- one known name where the listing didn't succeed
-unfoldable pub resettling : List ℕ → Kept → Prog (Settled × Kept)
-resettling name k = again name k (standing_of name k.standings)
+unfoldable pub resettling : Option Write → List ℕ → Kept → Prog (Settled × Kept)
+resettling hub name k = again hub name k (standing_of name k.standings)

@@ -1,5 +1,5 @@
 -- The standings as a list, in sweep order of their names, each of which has one.
-use Rattle.std.specs.Prelude.{ℕ, ◌+◌, Bool, true, not, ◌&&◌, ◌||◌, List, [], ◌∷◌, Option, Some, None, if◌then◌else◌, nat_eq, insert}
+use Rattle.std.specs.Prelude.{ℕ, ◌+◌, Bool, true, not, ◌&&◌, ◌||◌, List, [], ◌∷◌, Option, Some, None, if◌then◌else◌, nat_eq, insert, map, false}
 use Rattle.std.specs.List.{filter, find, list_any}
 use Rattle.std.specs.Cmp.Lexicographic.{pointwise}
 use Rattle.std.specs.Ordering.{is_gt}
@@ -14,7 +14,7 @@ abbrev pub same_name : List ℕ → List ℕ → Bool
 same_name a b = pointwise nat_eq a b
 
 abbrev pub known_of : Standing → Known
-known_of s = record { number = s.number; held = s.held; verdict = s.verdict; removed = s.removed }
+known_of s = record { number = s.number; held = s.held; verdict = s.verdict; removed = s.removed; defaulted = s.defaulted }
 
 -- the standing of that name
 abbrev pub standing_of : List ℕ → List Standing → Option Known
@@ -42,6 +42,14 @@ marked name settled s = record s { settled = mark_of name settled s; removed = r
 -- the same of a standing by itself
 abbrev pub settled_standing : Standing → Standing
 settled_standing s = record s { settled = true; removed = s.removed || is_reject s.verdict }
+
+-- where its default was written, the standing of the name is marked so
+abbrev pub with_default : List ℕ → Standing → Standing
+with_default name s = record s { defaulted = same_name s.name name || s.defaulted }
+
+abbrev pub did_default : List ℕ → Bool → List Standing → List Standing
+did_default name true ss = map (with_default name) ss
+did_default name false ss = ss
 
 -- how many standings have names that come before it
 abbrev pub place_for : List ℕ → List Standing → ℕ

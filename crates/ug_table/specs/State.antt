@@ -1,5 +1,6 @@
 -- What an event works on.
-use Rattle.std.specs.Prelude.{ℕ, Bool, List, ◌∷◌, [], ◌++◌}
+use Rattle.std.specs.Prelude.{ℕ, Bool, not, List, ◌∷◌, [], ◌++◌, Option}
+use Rattle.ug_types.specs.declared.control.Write.{Write}
 use Rattle.ug_types.specs.declared.record.Judged.{Judged}
 use Rattle.ug_types.specs.declared.verdict.Target.{Target}
 use Rattle.ug_types.specs.declared.verdict.Cause.{Cause}
@@ -15,17 +16,30 @@ Answers J = J → Judged → Bool → Bool → Bool → List Standing → Target
 abbrev pub Laters : Type 0 → Type 0
 Laters J = J → Judged → Bool → Bool → Bool → List Standing → J
 
--- the standings, the number of the next, whether a listing has succeeded, the judge, and the event's entries so far
+-- whether devices were present at the start, and what is written to the default of each root hub
+pub record Terms : Type 0 where
+  pub present : Bool
+  pub hub : Option Write
+
+abbrev pub terms_of : Bool → Option Write → Terms
+terms_of present hub = record { present = present; hub = hub }
+
+-- the standings, the number of the next, whether a listing has succeeded, the judge, what is written to the default of each root hub, and the event's entries so far
 pub record State (J : Type 0) : Type 0 where
   pub standings : List Standing
   pub next : ℕ
   pub listed : Bool
   pub judge : J
+  pub hub : Option Write
   pub entries : List Entry
 
+-- what a sweep from it goes by
+abbrev pub terms_for : {J : Type 0} → State J → Terms
+terms_for w = terms_of (not w.listed) w.hub
+
 -- the same of the program's values
-abbrev pub state_of : {J : Type 0} → TableState → J → List Entry → State J
-state_of table judge entries = record { standings = table.standings; next = table.next; listed = table.listed; judge = judge; entries = entries }
+abbrev pub state_of : {J : Type 0} → Option Write → TableState → J → List Entry → State J
+state_of hub table judge entries = record { standings = table.standings; next = table.next; listed = table.listed; judge = judge; hub = hub; entries = entries }
 
 abbrev pub noted : {J : Type 0} → State J → Entry → State J
 noted w e = record w { entries = w.entries ++ e ∷ [] }

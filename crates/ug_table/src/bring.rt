@@ -1,15 +1,20 @@
 // Brings a device to its verdict.
-ghost use Rattle.std.specs.Prelude.{◌≡◌, ◌≤◌, ◌+◌};
+ghost use Rattle.std.specs.Prelude.{◌≡◌, ◌≤◌, ◌+◌, Some, None};
+ghost use Rattle.ug_types.specs.Names.{parent_of};
+ghost use Rattle.ug_types.specs.declared.control.Write.{Write};
+ghost use Rattle.ug_types.specs.declared.control.Control.TheVariants.{Default};
+ghost use Rattle.ug_types.specs.declared.control.Write.TheVariants.{Remove};
 ghost use Rattle.ug_kernel.specs.Tree.{Runs};
 ghost use Rattle.ug_audit.specs.Journal.{Notes, noted_in};
 ghost use Rattle.ug_table.specs.declared.standing.Settled.TheVariants.{Stands};
-ghost use Rattle.ug_table.specs.Bring.{wants, write_of, is_reject, is_to_go, valuing, to_remove, removing, writing, bringing};
+ghost use Rattle.ug_table.specs.Done.{control_of};
+ghost use Rattle.ug_table.specs.Bring.{wants, write_of, is_reject, is_to_go, valuing, to_once, after_hold, once, writing, bringing, default_of, default_due, defaulted_known, treating};
 
 use crate::standing::{Known, Settled};
 use std::alloc::Global;
 use ug_audit::{Auditor, Entry, Journal};
 use ug_kernel::{Sysfs, Write, Wrote};
-use ug_node::{RemoveHold, failed_call, hold_remove, put};
+use ug_node::{RemoveHold, failed_call, hold_default, hold_remove, put};
 use ug_types::{Held, NodeName, Target};
 
 /// Whether a verdict wants the device to be authorised.
@@ -94,20 +99,21 @@ fn set_value<Y: Sysfs>(
     }
 }
 
-// Writes to a device's `remove` file, and closes it.
-fn write_remove<Y: Sysfs>(
+// Writes to a file of a device that was held, and closes it.
+fn write_file<Y: Sysfs>(
     sysfs: &mut Y,
     name: &NodeName,
     known: Known,
+    write: Write,
     file: Held,
     out: &mut Journal,
 ) -> Settled
     requires { 3 ≤ (noted_in out.old).spare }
-    ensures runs { Runs Y.gives sysfs.old (to_remove name.now known file.0 (noted_in out.old).entries) (result, (noted_in out.new).entries) sysfs.new }
+    ensures runs { Runs Y.gives sysfs.old (to_once name.now known write file.0 (noted_in out.old).entries) (result, (noted_in out.new).entries) sysfs.new }
     ensures journal { Notes (λ b. ⟦<dyn Auditor as Auditor>⟧ b.vtable) 3 out.old out.new }
+    ensures stands { result ≡ Stands → (noted_in out.old).spare ≤ (noted_in out.new).spare + 2 }
 {
     let number = known.number;
-    let write = Write::Remove;
     let intent = Entry::Intent {
         number,
         name: *name,
@@ -136,21 +142,22 @@ fn write_remove<Y: Sysfs>(
     }
 }
 
-// Opens the `remove` file of a device, and writes to it.
-#[tactic(auto, unfolding(crate::specs::Bring::removing), using(ug_kernel::proofs::Runs::runs_then))]
-fn remove<Y: Sysfs>(
-    alloc: Global,
+// Writes to a file of a device where it is held.
+fn write_held<Y: Sysfs>(
     sysfs: &mut Y,
     name: &NodeName,
     known: Known,
+    write: Write,
+    hold: RemoveHold,
     out: &mut Journal,
 ) -> Settled
     requires { 3 ≤ (noted_in out.old).spare }
-    ensures runs { Runs Y.gives sysfs.old (removing name.now known (noted_in out.old).entries) (result, (noted_in out.new).entries) sysfs.new }
+    ensures runs { Runs Y.gives sysfs.old (after_hold name.now known write (noted_in out.old).entries hold) (result, (noted_in out.new).entries) sysfs.new }
     ensures journal { Notes (λ b. ⟦<dyn Auditor as Auditor>⟧ b.vtable) 3 out.old out.new }
+    ensures stands { result ≡ Stands → (noted_in out.old).spare ≤ (noted_in out.new).spare + 2 }
 {
-    match hold_remove(alloc, sysfs, name, known.held) {
-        RemoveHold::Ready(file) => write_remove(sysfs, name, known, file, out),
+    match hold {
+        RemoveHold::Ready(file) => write_file(sysfs, name, known, write, file, out),
         RemoveHold::Gone => {
             out.push(Entry::Gone {
                 number: known.number,
@@ -160,6 +167,118 @@ fn remove<Y: Sysfs>(
         }
         RemoveHold::Failed(failed) => Settled::Fault(failed),
         RemoveHold::Memory => Settled::Memory,
+    }
+}
+
+// Opens the `remove` file of a device, and writes to it.
+#[tactic(auto, unfolding(crate::specs::Bring::once), using(ug_kernel::proofs::Runs::runs_then))]
+fn remove<Y: Sysfs>(
+    alloc: Global,
+    sysfs: &mut Y,
+    name: &NodeName,
+    known: Known,
+    out: &mut Journal,
+) -> Settled
+    requires { 3 ≤ (noted_in out.old).spare }
+    ensures runs { Runs Y.gives sysfs.old (once name.now known Remove (noted_in out.old).entries) (result, (noted_in out.new).entries) sysfs.new }
+    ensures journal { Notes (λ b. ⟦<dyn Auditor as Auditor>⟧ b.vtable) 3 out.old out.new }
+{
+    let hold = hold_remove(alloc, sysfs, name, known.held);
+    write_held(sysfs, name, known, Write::Remove, hold, out)
+}
+
+// Opens the `authorized_default` file of a root hub, and writes to it.
+#[tactic(auto, unfolding(crate::specs::Bring::once), using(ug_kernel::proofs::Runs::runs_then))]
+fn write_default<Y: Sysfs>(
+    alloc: Global,
+    sysfs: &mut Y,
+    name: &NodeName,
+    known: Known,
+    write: Write,
+    out: &mut Journal,
+) -> Settled
+    requires root { parent_of name.now ≡ None }
+    requires file { control_of write ≡ Default }
+    requires room { 3 ≤ (noted_in out.old).spare }
+    ensures runs { Runs Y.gives sysfs.old (once name.now known write (noted_in out.old).entries) (result, (noted_in out.new).entries) sysfs.new }
+    ensures journal { Notes (λ b. ⟦<dyn Auditor as Auditor>⟧ b.vtable) 3 out.old out.new }
+    ensures stands { result ≡ Stands → (noted_in out.old).spare ≤ (noted_in out.new).spare + 2 }
+{
+    let hold = hold_default(alloc, sysfs, name, known.held);
+    write_held(sysfs, name, known, write, hold, out)
+}
+
+// What is written to the default of each root hub.
+fn default_of(hub_default: Option<Write>) -> Option<Write>
+    ensures { result ≡ default_of hub_default }
+{
+    match hub_default {
+        Some(Write::DefaultOff) => Some(Write::DefaultOff),
+        Some(Write::DefaultOn) => Some(Write::DefaultOn),
+        _ => None,
+    }
+}
+
+// What is still to be written to the default of a root hub.
+fn default_due(hub_default: Option<Write>, name: &NodeName, known: Known) -> Option<Write>
+    ensures due { result ≡ default_due hub_default name.now known }
+    ensures root { (what : Write) → result ≡ Some what → (parent_of name.now ≡ None) × (control_of what ≡ Default) }
+{
+    if name.parent().is_none() && !known.defaulted {
+        default_of(hub_default)
+    } else {
+        None
+    }
+}
+
+// Brings a device whose default was just written to its verdict.
+fn bring_defaulted<Y: Sysfs>(
+    alloc: Global,
+    sysfs: &mut Y,
+    name: &NodeName,
+    known: Known,
+    on: bool,
+    out: &mut Journal,
+) -> Settled
+    requires { 5 ≤ (noted_in out.old).spare }
+    ensures runs { Runs Y.gives sysfs.old (bringing name.now (defaulted_known known) on (noted_in out.old).entries) (result, (noted_in out.new).entries) sysfs.new }
+    ensures journal { Notes (λ b. ⟦<dyn Auditor as Auditor>⟧ b.vtable) 5 out.old out.new }
+{
+    let known = Known {
+        defaulted: true,
+        ..known
+    };
+    bring(alloc, sysfs, name, known, on, out)
+}
+
+/// Makes all writes of a sweep for a device: first that to the default of a root hub, where it is still to be made, and then those of
+/// its verdict. It tells whether the default was written.
+#[tactic(auto, unfolding(crate::specs::Bring::treating), using(ug_kernel::proofs::Runs::runs_then))]
+pub fn treat<Y: Sysfs>(
+    alloc: Global,
+    sysfs: &mut Y,
+    name: &NodeName,
+    known: Known,
+    on: bool,
+    hub_default: Option<Write>,
+    out: &mut Journal,
+) -> (Settled, bool)
+    requires { 7 ≤ (noted_in out.old).spare }
+    ensures runs { Runs Y.gives sysfs.old (treating hub_default name.now known on (noted_in out.old).entries) (result.0, result.1, (noted_in out.new).entries) sysfs.new }
+    ensures journal { Notes (λ b. ⟦<dyn Auditor as Auditor>⟧ b.vtable) 7 out.old out.new }
+{
+    let write = match default_due(hub_default, name, known) {
+        Some(write) => write,
+        None => return (bring(alloc, sysfs, name, known, on, out), false),
+    };
+    match write_default(alloc, sysfs, name, known, write, out) {
+        Settled::Stands => (bring_defaulted(alloc, sysfs, name, known, on, out), true),
+        Settled::Nobody => {
+            sysfs.close(known.held);
+            (Settled::Nobody, false)
+        }
+        Settled::Fault(failed) => (Settled::Fault(failed), false),
+        Settled::Memory => (Settled::Memory, false),
     }
 }
 

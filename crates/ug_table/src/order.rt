@@ -1,5 +1,5 @@
 // Orders on the device of one standing.
-ghost use Rattle.std.specs.Prelude.{◌≡◌, ◌≤◌, length, IsSome, Some};
+ghost use Rattle.std.specs.Prelude.{◌≡◌, ◌≤◌, length, IsSome, Some, None};
 ghost use Rattle.ug_kernel.specs.Calls.{Ask_alive};
 ghost use Rattle.ug_kernel.specs.Tree.{Runs};
 ghost use Rattle.ug_audit.specs.Journal.{Notes, noted_in};
@@ -59,11 +59,11 @@ impl Table {
             sysfs.old (noted_in out.old).entries
             sysfs.new self.new.standings (noted_in out.new).entries result }
         ensures law { OrdersOne {J = Unit {0}} Y.told number verdict who on
-            sysfs.old (state_of self.old tt (noted_in out.old).entries)
-            sysfs.new (state_of self.new tt (noted_in out.new).entries) result }
+            sysfs.old (state_of None self.old tt (noted_in out.old).entries)
+            sysfs.new (state_of None self.new tt (noted_in out.new).entries) result }
         ensures verdict { HasOrdered number verdict who self.old.standings self.new.standings }
-        ensures marks { LeavesMarks (has_number number) self.old.standings self.new.standings result }
-        ensures memory { result ≡ Memory → NeedsRoom number (with_order number verdict who self.old.standings) }
+        ensures marks { LeavesMarks None (has_number number) self.old.standings self.new.standings result }
+        ensures memory { result ≡ Memory → NeedsRoom None number (with_order number verdict who self.old.standings) }
         ensures journal { Notes (λ b. ⟦<dyn Auditor as Auditor>⟧ b.vtable) 6 out.old out.new }
         ensures len { length self.new.standings ≤ length self.old.standings }
         ensures next { self.new.next ≡ self.old.next }
@@ -155,6 +155,7 @@ fn order_standing<Y: Sysfs>(
                 held: s.held,
                 verdict,
                 removed: s.removed,
+                defaulted: s.defaulted,
             },
         ),
         None => return Settled::Nobody,
@@ -168,6 +169,6 @@ fn order_standing<Y: Sysfs>(
     });
     give_verdict(standings, number, verdict, who);
     let settled = bring(alloc, sysfs, &name, known, on, out);
-    remember(standings, &name, settled);
+    remember(standings, &name, false, settled);
     settled
 }

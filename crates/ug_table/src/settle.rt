@@ -4,22 +4,22 @@ ghost use Rattle.ug_types.specs.Names.{parent_of};
 ghost use Rattle.ug_kernel.specs.Tree.{Runs};
 ghost use Rattle.ug_audit.specs.Journal.{Notes, noted_in};
 ghost use Rattle.ug_audit.specs.declared.entry.Entry.TheVariants.{Unsettled};
-ghost use Rattle.ug_table.specs.State.{state_of, kept_of};
+ghost use Rattle.ug_table.specs.State.{state_of, kept_of, terms_of};
 ghost use Rattle.ug_table.specs.Order.{KeepsOrder};
-ghost use Rattle.ug_table.specs.Standings.{numbered, standing_of};
+ghost use Rattle.ug_table.specs.Standings.{numbered, standing_of, did_default};
 ghost use Rattle.ug_table.specs.One.{resettling_numbered, GoesAsPart, SettlesOne, ResettlesOne, NeedsRoom};
 ghost use Rattle.ug_table.specs.Marks.{LeavesMarks, has_name, has_number};
 ghost use Rattle.ug_table.specs.declared.standing.Standing.{Standing};
 ghost use Rattle.ug_table.specs.declared.standing.Settled.TheVariants.{Memory};
 ghost use Rattle.ug_table.specs.Settle.{stopped_by, unsettled_by, stands, kept_standings, tried_standings, no_room, to_judge, admitting, entering, settling, resettling};
 
-use crate::bring::{bring, is_reject};
+use crate::bring::{is_reject, treat};
 use crate::judge::Judge;
 use crate::standing::{Known, Settled, Standing};
-use crate::table::{Table, find, forget, known_of, mark, put_in};
+use crate::table::{Table, find, forget, known_of, mark, mark_default, put_in};
 use std::alloc::Global;
 use ug_audit::{Auditor, Entry, Fault, Journal};
-use ug_kernel::{Probe, Sysfs};
+use ug_kernel::{Probe, Sysfs, Write};
 use ug_node::{Binding, Bound, bind, failed_call, reprobe};
 use ug_record::record_of;
 use ug_types::{Held, Judged, NoMemory, NodeName};
@@ -41,12 +41,13 @@ fn is_stands(settled: Settled) -> bool
 }
 
 /// Keeps a new standing, unless its device is gone.
-fn keep(standings: &mut Vec<Standing>, standing: Standing, settled: Settled)
+fn keep(standings: &mut Vec<Standing>, standing: Standing, wrote: bool, settled: Settled)
     requires { length standings.old.items < vec_capacity standings.old }
-    ensures standings { standings.new.items ≡ kept_standings standings.old.items standing settled }
+    ensures standings { standings.new.items ≡ kept_standings standings.old.items (record standing { defaulted = wrote }) settled }
     ensures len { length standings.new.items ≤ length standings.old.items + 1 }
 {
     let mut standing = standing;
+    standing.defaulted = wrote;
     match settled {
         Settled::Nobody => {}
         Settled::Stands => {
@@ -71,10 +72,11 @@ fn entry_of(s: &Standing) -> Entry
 }
 
 /// Notes how a standing was settled.
-pub fn remember(standings: &mut Vec<Standing>, name: &NodeName, settled: Settled)
-    ensures standings { standings.new.items ≡ tried_standings standings.old.items name.now settled }
+pub fn remember(standings: &mut Vec<Standing>, name: &NodeName, wrote: bool, settled: Settled)
+    ensures standings { standings.new.items ≡ tried_standings (did_default name.now wrote standings.old.items) name.now settled }
     ensures len { length standings.new.items ≤ length standings.old.items }
 {
+    mark_default(standings, name, wrote);
     match settled {
         Settled::Nobody => forget(standings, name),
         _ => mark(standings, name, is_stands(settled)),
@@ -132,10 +134,11 @@ impl Table {
         name: &NodeName,
         held: Held,
         judge: &A,
+        hub_default: Option<Write>,
         out: &mut Journal,
     ) -> Settled
         requires { 1 ≤ (noted_in out.old).spare }
-        ensures runs { Runs Y.gives sysfs.old (no_room (state_of self.now (A.meaning judge.now) (noted_in out.old).entries) name.now held.0) (result, state_of self.now (A.meaning judge.now) (noted_in out.new).entries) sysfs.new }
+        ensures runs { Runs Y.gives sysfs.old (no_room (state_of hub_default self.now (A.meaning judge.now) (noted_in out.old).entries) name.now held.0) (result, state_of hub_default self.now (A.meaning judge.now) (noted_in out.new).entries) sysfs.new }
         ensures journal { Notes (λ b. ⟦<dyn Auditor as Auditor>⟧ b.vtable) 1 out.old out.new }
     {
         sysfs.close(held);
@@ -153,14 +156,15 @@ impl Table {
         judge: &mut A,
         bound: &Bound,
         judged: Judged,
+        hub_default: Option<Write>,
         out: &mut Journal,
     ) -> Settled
-        requires room { 7 ≤ (noted_in out.old).spare }
+        requires room { 9 ≤ (noted_in out.old).spare }
         requires next { self.old.next < 2 ^ 64 - 1 }
         requires place { length self.old.standings < self.old.room }
         requires absent { standing_of name.now self.old.standings ≡ None }
-        ensures runs { Runs Y.gives sysfs.old (to_judge A.answer A.later name.now present (state_of self.old (A.meaning judge.old) (noted_in out.old).entries) bound.now judged) (result, state_of self.new (A.meaning judge.new) (noted_in out.new).entries) sysfs.new }
-        ensures journal { Notes (λ b. ⟦<dyn Auditor as Auditor>⟧ b.vtable) 7 out.old out.new }
+        ensures runs { Runs Y.gives sysfs.old (to_judge A.answer A.later name.now (terms_of present hub_default) (state_of hub_default self.old (A.meaning judge.old) (noted_in out.old).entries) bound.now judged) (result, state_of hub_default self.new (A.meaning judge.new) (noted_in out.new).entries) sysfs.new }
+        ensures journal { Notes (λ b. ⟦<dyn Auditor as Auditor>⟧ b.vtable) 9 out.old out.new }
         ensures len { length self.new.standings ≤ length self.old.standings + 1 }
         ensures next { self.new.next ≤ self.old.next + 1 }
     {
@@ -177,11 +181,13 @@ impl Table {
             cause,
             settled: false,
             removed: false,
+            defaulted: false,
         };
         out.push(entry_of(&standing));
-        let settled = bring(alloc, sysfs, name, known_of(&standing), bound.on, out);
+        let known = known_of(&standing);
+        let (settled, wrote) = treat(alloc, sysfs, name, known, bound.on, hub_default, out);
         note_unsettled(out, name, settled);
-        keep(&mut self.standings, standing, settled);
+        keep(&mut self.standings, standing, wrote, settled);
         settled
     }
 
@@ -195,24 +201,35 @@ impl Table {
         present: bool,
         judge: &mut A,
         bound: Bound,
+        hub_default: Option<Write>,
         out: &mut Journal,
     ) -> Settled
-        requires room { 7 ≤ (noted_in out.old).spare }
+        requires room { 9 ≤ (noted_in out.old).spare }
         requires next { self.old.next < 2 ^ 64 - 1 }
         requires absent { standing_of name.now self.old.standings ≡ None }
-        ensures runs { Runs Y.gives sysfs.old (admitting A.answer A.later name.now present (state_of self.old (A.meaning judge.old) (noted_in out.old).entries) bound) (result, state_of self.new (A.meaning judge.new) (noted_in out.new).entries) sysfs.new }
-        ensures journal { Notes (λ b. ⟦<dyn Auditor as Auditor>⟧ b.vtable) 7 out.old out.new }
+        ensures runs { Runs Y.gives sysfs.old (admitting A.answer A.later name.now (terms_of present hub_default) (state_of hub_default self.old (A.meaning judge.old) (noted_in out.old).entries) bound) (result, state_of hub_default self.new (A.meaning judge.new) (noted_in out.new).entries) sysfs.new }
+        ensures journal { Notes (λ b. ⟦<dyn Auditor as Auditor>⟧ b.vtable) 9 out.old out.new }
         ensures len { length self.new.standings ≤ length self.old.standings + 1 }
         ensures next { self.new.next ≤ self.old.next + 1 }
     {
         let judged = match record_of(alloc, name, &bound.attrs, bound.parent.as_ref()) {
             Ok(judged) => judged,
-            Err(_) => return self.lack_memory(sysfs, name, bound.held, judge, out),
+            Err(_) => return self.lack_memory(sysfs, name, bound.held, judge, hub_default, out),
         };
         if self.make_room().is_err() {
-            return self.lack_memory(sysfs, name, bound.held, judge, out);
+            return self.lack_memory(sysfs, name, bound.held, judge, hub_default, out);
         }
-        self.judge_bound(alloc, sysfs, name, present, judge, &bound, judged, out)
+        self.judge_bound(
+            alloc,
+            sysfs,
+            name,
+            present,
+            judge,
+            &bound,
+            judged,
+            hub_default,
+            out,
+        )
     }
 
     /// Binds a name that has no standing, and judges its device.
@@ -224,18 +241,28 @@ impl Table {
         name: &NodeName,
         present: bool,
         judge: &mut A,
+        hub_default: Option<Write>,
         out: &mut Journal,
     ) -> Settled
-        requires room { 7 ≤ (noted_in out.old).spare }
+        requires room { 9 ≤ (noted_in out.old).spare }
         requires next { self.old.next < 2 ^ 64 - 1 }
         requires absent { standing_of name.now self.old.standings ≡ None }
-        ensures runs { Runs Y.gives sysfs.old (entering A.answer A.later name.now present (state_of self.old (A.meaning judge.old) (noted_in out.old).entries)) (result, state_of self.new (A.meaning judge.new) (noted_in out.new).entries) sysfs.new }
-        ensures journal { Notes (λ b. ⟦<dyn Auditor as Auditor>⟧ b.vtable) 7 out.old out.new }
+        ensures runs { Runs Y.gives sysfs.old (entering A.answer A.later name.now (terms_of present hub_default) (state_of hub_default self.old (A.meaning judge.old) (noted_in out.old).entries)) (result, state_of hub_default self.new (A.meaning judge.new) (noted_in out.new).entries) sysfs.new }
+        ensures journal { Notes (λ b. ⟦<dyn Auditor as Auditor>⟧ b.vtable) 9 out.old out.new }
         ensures len { length self.new.standings ≤ length self.old.standings + 1 }
         ensures next { self.new.next ≤ self.old.next + 1 }
     {
         match bind(alloc, sysfs, name) {
-            Binding::Bound(bound) => self.admit(alloc, sysfs, name, present, judge, bound, out),
+            Binding::Bound(bound) => self.admit(
+                alloc,
+                sysfs,
+                name,
+                present,
+                judge,
+                bound,
+                hub_default,
+                out,
+            ),
             Binding::Absent => Settled::Nobody,
             Binding::Vanished => Settled::Nobody,
             Binding::Failed(failed) => note_fault(out, name, Fault::Call(failed)),
@@ -252,21 +279,22 @@ impl Table {
         name: &NodeName,
         present: bool,
         judge: &mut A,
+        hub_default: Option<Write>,
         out: &mut Journal,
     ) -> Settled
-        requires room { 8 ≤ (noted_in out.old).spare }
+        requires room { 10 ≤ (noted_in out.old).spare }
         requires next { self.old.next < 2 ^ 64 - 1 }
-        ensures runs { Runs Y.gives sysfs.old (settling A.answer A.later name.now present (state_of self.old (A.meaning judge.old) (noted_in out.old).entries)) (result, state_of self.new (A.meaning judge.new) (noted_in out.new).entries) sysfs.new }
-        ensures part { GoesAsPart Y.gives Y.calls Y.faults name.now sysfs.old self.old.standings (noted_in out.old).entries sysfs.new self.new.standings (noted_in out.new).entries result }
-        ensures law { SettlesOne Y.told A.answer A.later present name.now sysfs.old (state_of self.old (A.meaning judge.old) (noted_in out.old).entries) sysfs.new (state_of self.new (A.meaning judge.new) (noted_in out.new).entries) result }
-        ensures marks { LeavesMarks (has_name name.now) self.old.standings self.new.standings result }
-        ensures journal { Notes (λ b. ⟦<dyn Auditor as Auditor>⟧ b.vtable) 8 out.old out.new }
+        ensures runs { Runs Y.gives sysfs.old (settling A.answer A.later name.now (terms_of present hub_default) (state_of hub_default self.old (A.meaning judge.old) (noted_in out.old).entries)) (result, state_of hub_default self.new (A.meaning judge.new) (noted_in out.new).entries) sysfs.new }
+        ensures part { GoesAsPart hub_default Y.gives Y.calls Y.faults name.now sysfs.old self.old.standings (noted_in out.old).entries sysfs.new self.new.standings (noted_in out.new).entries result }
+        ensures law { SettlesOne Y.told A.answer A.later (terms_of present hub_default) name.now sysfs.old (state_of hub_default self.old (A.meaning judge.old) (noted_in out.old).entries) sysfs.new (state_of hub_default self.new (A.meaning judge.new) (noted_in out.new).entries) result }
+        ensures marks { LeavesMarks hub_default (has_name name.now) self.old.standings self.new.standings result }
+        ensures journal { Notes (λ b. ⟦<dyn Auditor as Auditor>⟧ b.vtable) 10 out.old out.new }
         ensures len { length self.new.standings ≤ length self.old.standings + 1 }
         ensures next { self.new.next ≤ self.old.next + 1 }
     {
         // Its standings are in order.
         let _ = &self.next;
-        self.settle_name(alloc, sysfs, name, present, judge, out)
+        self.settle_name(alloc, sysfs, name, present, judge, hub_default, out)
     }
 
     /// Settles the standing of that number again, where the listing didn't succeed. It takes memory only to open the `remove`
@@ -276,23 +304,24 @@ impl Table {
         alloc: Global,
         sysfs: &mut Y,
         number: u64,
+        hub_default: Option<Write>,
         out: &mut Journal,
     ) -> Settled
         requires stands { IsSome (numbered number self.old.standings) }
-        requires room { 6 ≤ (noted_in out.old).spare }
-        ensures runs { Runs Y.gives sysfs.old (resettling_numbered number (kept_of self.old.standings (noted_in out.old).entries)) (result, kept_of self.new.standings (noted_in out.new).entries) sysfs.new }
-        ensures part { (s : Standing) → numbered number self.old.standings ≡ Some s → GoesAsPart Y.gives Y.calls Y.faults s.name sysfs.old self.old.standings (noted_in out.old).entries sysfs.new self.new.standings (noted_in out.new).entries result }
-        ensures law { ResettlesOne Y.told number sysfs.old (state_of self.old tt (noted_in out.old).entries) sysfs.new (state_of self.new tt (noted_in out.new).entries) result }
-        ensures marks { LeavesMarks (has_number number) self.old.standings self.new.standings result }
-        ensures memory { result ≡ Memory → NeedsRoom number self.old.standings }
-        ensures journal { Notes (λ b. ⟦<dyn Auditor as Auditor>⟧ b.vtable) 6 out.old out.new }
+        requires room { 8 ≤ (noted_in out.old).spare }
+        ensures runs { Runs Y.gives sysfs.old (resettling_numbered hub_default number (kept_of self.old.standings (noted_in out.old).entries)) (result, kept_of self.new.standings (noted_in out.new).entries) sysfs.new }
+        ensures part { (s : Standing) → numbered number self.old.standings ≡ Some s → GoesAsPart hub_default Y.gives Y.calls Y.faults s.name sysfs.old self.old.standings (noted_in out.old).entries sysfs.new self.new.standings (noted_in out.new).entries result }
+        ensures law { ResettlesOne hub_default Y.told number sysfs.old (state_of hub_default self.old tt (noted_in out.old).entries) sysfs.new (state_of hub_default self.new tt (noted_in out.new).entries) result }
+        ensures marks { LeavesMarks hub_default (has_number number) self.old.standings self.new.standings result }
+        ensures memory { result ≡ Memory → NeedsRoom hub_default number self.old.standings }
+        ensures journal { Notes (λ b. ⟦<dyn Auditor as Auditor>⟧ b.vtable) 8 out.old out.new }
         ensures len { length self.new.standings ≤ length self.old.standings }
         ensures next { self.new.next ≡ self.old.next }
         ensures listed { self.new.listed ≡ self.old.listed }
     {
         // Its standings are in order.
         let _ = &self.next;
-        self.settle_numbered(alloc, sysfs, number, out)
+        self.settle_numbered(alloc, sysfs, number, hub_default, out)
     }
 
     #[tactic(auto, unfolding(crate::specs::One::resettling_numbered))]
@@ -301,11 +330,12 @@ impl Table {
         alloc: Global,
         sysfs: &mut Y,
         number: u64,
+        hub_default: Option<Write>,
         out: &mut Journal,
     ) -> Settled
-        requires { 6 ≤ (noted_in out.old).spare }
-        ensures runs { Runs Y.gives sysfs.old (resettling_numbered number (kept_of self.old.standings (noted_in out.old).entries)) (result, kept_of self.new.standings (noted_in out.new).entries) sysfs.new }
-        ensures journal { Notes (λ b. ⟦<dyn Auditor as Auditor>⟧ b.vtable) 6 out.old out.new }
+        requires { 8 ≤ (noted_in out.old).spare }
+        ensures runs { Runs Y.gives sysfs.old (resettling_numbered hub_default number (kept_of self.old.standings (noted_in out.old).entries)) (result, kept_of self.new.standings (noted_in out.new).entries) sysfs.new }
+        ensures journal { Notes (λ b. ⟦<dyn Auditor as Auditor>⟧ b.vtable) 8 out.old out.new }
         ensures len { length self.new.standings ≤ length self.old.standings }
         ensures next { self.new.next ≡ self.old.next }
         ensures listed { self.new.listed ≡ self.old.listed }
@@ -314,7 +344,7 @@ impl Table {
             Some(s) => s.name,
             None => return Settled::Nobody,
         };
-        settle_known(alloc, &mut self.standings, sysfs, &name, out)
+        settle_known(alloc, &mut self.standings, sysfs, &name, hub_default, out)
     }
 
     #[tactic(auto, unfolding(crate::specs::Settle::settling), using(ug_kernel::proofs::Runs::runs_then))]
@@ -325,26 +355,30 @@ impl Table {
         name: &NodeName,
         present: bool,
         judge: &mut A,
+        hub_default: Option<Write>,
         out: &mut Journal,
     ) -> Settled
-        requires room { 8 ≤ (noted_in out.old).spare }
+        requires room { 10 ≤ (noted_in out.old).spare }
         requires next { self.old.next < 2 ^ 64 - 1 }
-        ensures runs { Runs Y.gives sysfs.old (settling A.answer A.later name.now present (state_of self.old (A.meaning judge.old) (noted_in out.old).entries)) (result, state_of self.new (A.meaning judge.new) (noted_in out.new).entries) sysfs.new }
-        ensures journal { Notes (λ b. ⟦<dyn Auditor as Auditor>⟧ b.vtable) 8 out.old out.new }
+        ensures runs { Runs Y.gives sysfs.old (settling A.answer A.later name.now (terms_of present hub_default) (state_of hub_default self.old (A.meaning judge.old) (noted_in out.old).entries)) (result, state_of hub_default self.new (A.meaning judge.new) (noted_in out.new).entries) sysfs.new }
+        ensures journal { Notes (λ b. ⟦<dyn Auditor as Auditor>⟧ b.vtable) 10 out.old out.new }
         ensures len { length self.new.standings ≤ length self.old.standings + 1 }
         ensures next { self.new.next ≤ self.old.next + 1 }
     {
         let known = match find(&self.standings, name) {
             Some(known) => known,
-            None => return self.enter(alloc, sysfs, name, present, judge, out),
+            None => return self.enter(alloc, sysfs, name, present, judge, hub_default, out),
         };
-        let settled = match reprobe(sysfs, known.held) {
+        let (settled, wrote) = match reprobe(sysfs, known.held) {
             Probe::Alive(on) => {
-                let settled = bring(alloc, sysfs, name, known, on, out);
+                let (settled, wrote) = treat(alloc, sysfs, name, known, on, hub_default, out);
                 note_unsettled(out, name, settled);
-                settled
+                (settled, wrote)
             }
-            Probe::Failed => note_fault(out, name, Fault::Call(failed_call(sysfs))),
+            Probe::Failed => {
+                let fault = Fault::Call(failed_call(sysfs));
+                (note_fault(out, name, fault), false)
+            }
             Probe::Gone => {
                 out.push(Entry::Gone {
                     number: known.number,
@@ -352,10 +386,10 @@ impl Table {
                 });
                 sysfs.close(known.held);
                 forget(&mut self.standings, name);
-                return self.enter(alloc, sysfs, name, present, judge, out);
+                return self.enter(alloc, sysfs, name, present, judge, hub_default, out);
             }
         };
-        remember(&mut self.standings, name, settled);
+        remember(&mut self.standings, name, wrote, settled);
         settled
     }
 }
@@ -367,11 +401,12 @@ pub fn settle_known<Y: Sysfs>(
     standings: &mut Vec<Standing>,
     sysfs: &mut Y,
     name: &NodeName,
+    hub_default: Option<Write>,
     out: &mut Journal,
 ) -> Settled
-    requires { 6 ≤ (noted_in out.old).spare }
-    ensures runs { Runs Y.gives sysfs.old (resettling name.now (kept_of standings.old.items (noted_in out.old).entries)) (result, kept_of standings.new.items (noted_in out.new).entries) sysfs.new }
-    ensures journal { Notes (λ b. ⟦<dyn Auditor as Auditor>⟧ b.vtable) 6 out.old out.new }
+    requires { 8 ≤ (noted_in out.old).spare }
+    ensures runs { Runs Y.gives sysfs.old (resettling hub_default name.now (kept_of standings.old.items (noted_in out.old).entries)) (result, kept_of standings.new.items (noted_in out.new).entries) sysfs.new }
+    ensures journal { Notes (λ b. ⟦<dyn Auditor as Auditor>⟧ b.vtable) 8 out.old out.new }
     ensures keeps { KeepsOrder standings.old.items standings.new.items }
     ensures len { length standings.new.items ≤ length standings.old.items }
 {
@@ -379,22 +414,25 @@ pub fn settle_known<Y: Sysfs>(
         Some(known) => known,
         None => return Settled::Nobody,
     };
-    let settled = match reprobe(sysfs, known.held) {
+    let (settled, wrote) = match reprobe(sysfs, known.held) {
         Probe::Alive(on) => {
-            let settled = bring(alloc, sysfs, name, known, on, out);
+            let (settled, wrote) = treat(alloc, sysfs, name, known, on, hub_default, out);
             note_unsettled(out, name, settled);
-            settled
+            (settled, wrote)
         }
-        Probe::Failed => note_fault(out, name, Fault::Call(failed_call(sysfs))),
+        Probe::Failed => {
+            let fault = Fault::Call(failed_call(sysfs));
+            (note_fault(out, name, fault), false)
+        }
         Probe::Gone => {
             out.push(Entry::Gone {
                 number: known.number,
                 name: *name,
             });
             sysfs.close(known.held);
-            Settled::Nobody
+            (Settled::Nobody, false)
         }
     };
-    remember(standings, name, settled);
+    remember(standings, name, wrote, settled);
     settled
 }

@@ -17,6 +17,8 @@ pub struct Standing {
     pub settled: bool,
     /// A removal of the device was written, and done.
     pub removed: bool,
+    /// Its default was written, and done.
+    pub defaulted: bool,
 }
 
 /// What the writes of a standing need.
@@ -26,6 +28,7 @@ pub struct Known {
     pub held: Held,
     pub verdict: Target,
     pub removed: bool,
+    pub defaulted: bool,
 }
 
 /// How the settling of a name ended.

@@ -4,7 +4,7 @@ ghost use Rattle.std.specs.List.{filter};
 ghost use Rattle.ug_types.specs.Sweep.{in_sweep_order};
 ghost use Rattle.ug_kernel.specs.Tree.{Runs};
 ghost use Rattle.ug_audit.specs.Journal.{Notes, SameEntries, noted_in};
-ghost use Rattle.ug_table.specs.State.{state_of, kept_of};
+ghost use Rattle.ug_table.specs.State.{state_of, kept_of, terms_of};
 ghost use Rattle.ug_table.specs.Order.{KeepsOrder};
 ghost use Rattle.ug_table.specs.Standings.{lists, farewells};
 ghost use Rattle.ug_table.specs.Sweep.{settling_all, resettling_all, closing_unlisted, parted, unlisted, sweeping, names_of};
@@ -17,7 +17,7 @@ use crate::standing::Standing;
 use crate::table::Table;
 use std::alloc::Global;
 use ug_audit::{Auditor, Entry, Fault, Journal};
-use ug_kernel::{Listing, Sysfs};
+use ug_kernel::{Listing, Sysfs, Write};
 use ug_node::failed_call;
 use ug_types::{List, NodeName, sort_names};
 
@@ -80,28 +80,36 @@ fn resettle_all<Y: Sysfs>(
     standings: &mut Vec<Standing>,
     sysfs: &mut Y,
     names: &[NodeName],
+    hub_default: Option<Write>,
     out: &mut Journal,
 )
-    requires { 6 * length names.now ≤ (noted_in out.old).spare }
-    ensures runs { Runs Y.gives sysfs.old (resettling_all names.now (kept_of standings.old.items (noted_in out.old).entries)) (kept_of standings.new.items (noted_in out.new).entries) sysfs.new }
-    ensures journal { Notes (λ b. ⟦<dyn Auditor as Auditor>⟧ b.vtable) (6 * length names.now) out.old out.new }
+    requires { 8 * length names.now ≤ (noted_in out.old).spare }
+    ensures runs { Runs Y.gives sysfs.old (resettling_all hub_default names.now (kept_of standings.old.items (noted_in out.old).entries)) (kept_of standings.new.items (noted_in out.new).entries) sysfs.new }
+    ensures journal { Notes (λ b. ⟦<dyn Auditor as Auditor>⟧ b.vtable) (8 * length names.now) out.old out.new }
     ensures keeps { KeepsOrder standings.old.items standings.new.items }
     ensures len { length standings.new.items ≤ length standings.old.items }
 {
     for name in names {
-        let _settled = settle_known(alloc, standings, sysfs, name, out);
+        let _settled = settle_known(alloc, standings, sysfs, name, hub_default, out);
     }
 }
 
 impl Table {
     /// Drops the standings of other names than these.
-    fn part<A: Judge>(&mut self, names: &[NodeName], judge: &A, out: &mut Journal)
+    fn part<A: Judge>(
+        &mut self,
+        names: &[NodeName],
+        judge: &A,
+        hub_default: Option<Write>,
+        out: &mut Journal,
+    )
         requires { length self.old.standings ≤ (noted_in out.old).spare }
-        ensures state { state_of self.new (A.meaning judge.now) (noted_in out.new).entries ≡ parted names.now (state_of self.old (A.meaning judge.now) (noted_in out.old).entries) }
+        ensures state { state_of hub_default self.new (A.meaning judge.now) (noted_in out.new).entries ≡ parted names.now (state_of hub_default self.old (A.meaning judge.now) (noted_in out.old).entries) }
         ensures journal { Notes (λ b. ⟦<dyn Auditor as Auditor>⟧ b.vtable) (length self.old.standings) out.old out.new }
         ensures next { self.new.next ≡ self.old.next }
         ensures len { length self.new.standings ≤ length self.old.standings }
     {
+        let _ = hub_default;
         bid(&self.standings, names, out);
         retain_listed(&mut self.standings, names);
     }
@@ -115,17 +123,18 @@ impl Table {
         names: &[NodeName],
         present: bool,
         judge: &mut A,
+        hub_default: Option<Write>,
         out: &mut Journal,
     )
-        requires room { 8 * length names.now ≤ (noted_in out.old).spare }
+        requires room { 10 * length names.now ≤ (noted_in out.old).spare }
         requires next { self.old.next + length names.now < 2 ^ 64 }
-        ensures runs { Runs Y.gives sysfs.old (settling_all A.answer A.later names.now present (state_of self.old (A.meaning judge.old) (noted_in out.old).entries)) (state_of self.new (A.meaning judge.new) (noted_in out.new).entries) sysfs.new }
+        ensures runs { Runs Y.gives sysfs.old (settling_all A.answer A.later names.now (terms_of present hub_default) (state_of hub_default self.old (A.meaning judge.old) (noted_in out.old).entries)) (state_of hub_default self.new (A.meaning judge.new) (noted_in out.new).entries) sysfs.new }
         ensures next { self.new.next ≤ self.old.next + length names.now }
-        ensures journal { Notes (λ b. ⟦<dyn Auditor as Auditor>⟧ b.vtable) (8 * length names.now) out.old out.new }
+        ensures journal { Notes (λ b. ⟦<dyn Auditor as Auditor>⟧ b.vtable) (10 * length names.now) out.old out.new }
         ensures len { length self.new.standings ≤ length self.old.standings + length names.now }
     {
         for name in names {
-            let _settled = self.settle(alloc, sysfs, name, present, judge, out);
+            let _settled = self.settle(alloc, sysfs, name, present, judge, hub_default, out);
         }
     }
 
@@ -137,18 +146,26 @@ impl Table {
         sysfs: &mut Y,
         fault: Fault,
         judge: &A,
+        hub_default: Option<Write>,
         out: &mut Journal,
     )
-        requires { 6 * length self.old.standings + 2 ≤ (noted_in out.old).spare }
-        ensures runs { Runs Y.gives sysfs.old (unlisted fault (state_of self.old (A.meaning judge.now) (noted_in out.old).entries)) (state_of self.new (A.meaning judge.now) (noted_in out.new).entries) sysfs.new }
+        requires { 8 * length self.old.standings + 2 ≤ (noted_in out.old).spare }
+        ensures runs { Runs Y.gives sysfs.old (unlisted fault (state_of hub_default self.old (A.meaning judge.now) (noted_in out.old).entries)) (state_of hub_default self.new (A.meaning judge.now) (noted_in out.new).entries) sysfs.new }
         ensures next { self.new.next ≡ self.old.next }
-        ensures journal { Notes (λ b. ⟦<dyn Auditor as Auditor>⟧ b.vtable) (6 * length self.old.standings + 1) out.old out.new }
+        ensures journal { Notes (λ b. ⟦<dyn Auditor as Auditor>⟧ b.vtable) (8 * length self.old.standings + 1) out.old out.new }
         ensures len { length self.new.standings ≤ length self.old.standings }
     {
         out.push(Entry::UnsettledAll { fault });
         self.names.clear();
         names_into(&self.standings, &mut self.names);
-        resettle_all(alloc, &mut self.standings, sysfs, &self.names, out);
+        resettle_all(
+            alloc,
+            &mut self.standings,
+            sysfs,
+            &self.names,
+            hub_default,
+            out,
+        );
     }
 
     /// Lists the names, drops the standings of names that aren't listed, and settles each listed name in sweep order.
@@ -158,20 +175,21 @@ impl Table {
         alloc: Global,
         sysfs: &mut Y,
         judge: &mut A,
+        hub_default: Option<Write>,
         out: &mut Journal,
     )
-        requires room { 8 * length self.old.standings + 2 ≤ (noted_in out.old).spare }
+        requires room { 10 * length self.old.standings + 2 ≤ (noted_in out.old).spare }
         requires next { self.old.next + 65536 < 2 ^ 64 }
-        ensures runs { Runs Y.gives sysfs.old (sweeping A.answer A.later (state_of self.old (A.meaning judge.old) (noted_in out.old).entries)) (state_of self.new (A.meaning judge.new) (noted_in out.new).entries) sysfs.new }
+        ensures runs { Runs Y.gives sysfs.old (sweeping A.answer A.later (state_of hub_default self.old (A.meaning judge.old) (noted_in out.old).entries)) (state_of hub_default self.new (A.meaning judge.new) (noted_in out.new).entries) sysfs.new }
         ensures next { self.new.next ≤ self.old.next + 65536 }
         ensures spare { 0 < (noted_in out.new).spare }
-        ensures room { 8 * length self.old.standings + 64 ≤ (noted_in out.old).room → 8 * length self.new.standings + 64 ≤ (noted_in out.new).room }
+        ensures room { 10 * length self.old.standings + 64 ≤ (noted_in out.old).room → 10 * length self.new.standings + 64 ≤ (noted_in out.new).room }
         ensures same { SameEntries (λ b. ⟦<dyn Auditor as Auditor>⟧ b.vtable) out.old out.new }
-        ensures swept { Sweeps Y.told A.answer A.later sysfs.old (state_of self.old (A.meaning judge.old) (noted_in out.old).entries) sysfs.new (state_of self.new (A.meaning judge.new) (noted_in out.new).entries) }
-        ensures once { NamesOnce Y.told sysfs.old (state_of self.old (A.meaning judge.old) (noted_in out.old).entries) sysfs.new (state_of self.new (A.meaning judge.new) (noted_in out.new).entries) }
-        ensures faults { TellsFaults Y.gives Y.calls Y.faults sysfs.old (state_of self.old (A.meaning judge.old) (noted_in out.old).entries) sysfs.new (state_of self.new (A.meaning judge.new) (noted_in out.new).entries) }
+        ensures swept { Sweeps Y.told A.answer A.later sysfs.old (state_of hub_default self.old (A.meaning judge.old) (noted_in out.old).entries) sysfs.new (state_of hub_default self.new (A.meaning judge.new) (noted_in out.new).entries) }
+        ensures once { NamesOnce Y.told sysfs.old (state_of hub_default self.old (A.meaning judge.old) (noted_in out.old).entries) sysfs.new (state_of hub_default self.new (A.meaning judge.new) (noted_in out.new).entries) }
+        ensures faults { TellsFaults Y.gives Y.calls Y.faults sysfs.old (state_of hub_default self.old (A.meaning judge.old) (noted_in out.old).entries) sysfs.new (state_of hub_default self.new (A.meaning judge.new) (noted_in out.new).entries) }
     {
-        self.sweep_names(alloc, sysfs, judge, out);
+        self.sweep_names(alloc, sysfs, judge, hub_default, out);
     }
 
     #[tactic(auto, unfolding(crate::specs::Sweep::sweeping), using(ug_kernel::proofs::Runs::runs_then))]
@@ -180,46 +198,47 @@ impl Table {
         alloc: Global,
         sysfs: &mut Y,
         judge: &mut A,
+        hub_default: Option<Write>,
         out: &mut Journal,
     )
-        requires room { 8 * length self.old.standings + 2 ≤ (noted_in out.old).spare }
+        requires room { 10 * length self.old.standings + 2 ≤ (noted_in out.old).spare }
         requires next { self.old.next + 65536 < 2 ^ 64 }
-        ensures runs { Runs Y.gives sysfs.old (sweeping A.answer A.later (state_of self.old (A.meaning judge.old) (noted_in out.old).entries)) (state_of self.new (A.meaning judge.new) (noted_in out.new).entries) sysfs.new }
+        ensures runs { Runs Y.gives sysfs.old (sweeping A.answer A.later (state_of hub_default self.old (A.meaning judge.old) (noted_in out.old).entries)) (state_of hub_default self.new (A.meaning judge.new) (noted_in out.new).entries) sysfs.new }
         ensures next { self.new.next ≤ self.old.next + 65536 }
         ensures spare { 0 < (noted_in out.new).spare }
-        ensures room { 8 * length self.old.standings + 64 ≤ (noted_in out.old).room → 8 * length self.new.standings + 64 ≤ (noted_in out.new).room }
+        ensures room { 10 * length self.old.standings + 64 ≤ (noted_in out.old).room → 10 * length self.new.standings + 64 ≤ (noted_in out.new).room }
         ensures same { SameEntries (λ b. ⟦<dyn Auditor as Auditor>⟧ b.vtable) out.old out.new }
     {
         let names = match sysfs.list(alloc) {
             Listing::Names(names) => sorted(names),
             Listing::Failed => {
                 let fault = Fault::Call(failed_call(sysfs));
-                self.go_unlisted(alloc, sysfs, fault, judge, out);
+                self.go_unlisted(alloc, sysfs, fault, judge, hub_default, out);
                 return;
             }
             Listing::Memory => {
-                self.go_unlisted(alloc, sysfs, Fault::Memory, judge, out);
+                self.go_unlisted(alloc, sysfs, Fault::Memory, judge, hub_default, out);
                 return;
             }
         };
         if out.reserve(room_for(&self.standings, &names)).is_err() {
-            self.go_unlisted(alloc, sysfs, Fault::Memory, judge, out);
+            self.go_unlisted(alloc, sysfs, Fault::Memory, judge, hub_default, out);
             return;
         }
         let present = !self.listed;
         close_unlisted(&self.standings, sysfs, &names);
-        self.part(&names, judge, out);
+        self.part(&names, judge, hub_default, out);
         self.listed = true;
-        self.settle_all(alloc, sysfs, &names, present, judge, out);
+        self.settle_all(alloc, sysfs, &names, present, judge, hub_default, out);
     }
 }
 
-// Eight entries for each name, and some for the event.
+// Ten entries for each name, and some for the event.
 fn room_for(standings: &[Standing], names: &[NodeName]) -> usize
-    ensures { result ≡ min (2 ^ 64 - 1) (8 * (length standings.now + length names.now) + 65) }
+    ensures { result ≡ min (2 ^ 64 - 1) (10 * (length standings.now + length names.now) + 65) }
 {
     let count = standings.len() as u128 + names.len() as u128;
-    let room = 8 * count + 65;
+    let room = 10 * count + 65;
     if room > usize::MAX as u128 {
         usize::MAX
     } else {

@@ -1,5 +1,5 @@
 // The list of standings, in sweep order of their names.
-ghost use Rattle.std.specs.Prelude.{◌≡◌, ◌↔◌, ◌≤◌, ◌<◌, ◌+◌, ◌++◌, [], map, length, vec_capacity, false, option_copied, IsNone};
+ghost use Rattle.std.specs.Prelude.{◌≡◌, ◌↔◌, ◌≤◌, ◌<◌, ◌+◌, ◌++◌, ◌||◌, [], map, length, vec_capacity, false, option_copied, IsNone};
 ghost use Rattle.ug_types.specs.Elements.{Has};
 ghost use Rattle.ug_table.specs.declared.standing.Standing.{Standing};
 ghost use Rattle.ug_table.specs.Order.{StandInOrder, IsNextNumbered, is_nearer};
@@ -7,7 +7,7 @@ ghost use Rattle.std.specs.List.{filter, list_any};
 ghost use Rattle.ug_match.specs.Queries.{query_matches};
 ghost use Rattle.ug_table.specs.Allowed.{allowed_of, allowed_records};
 ghost use Rattle.ug_table.specs.Orders.{with_order, verdict_by, cause_by};
-ghost use Rattle.ug_table.specs.Standings.{known_of, standing_of, numbered, without, marked, mark_of, removed_of, with_standing, place_for};
+ghost use Rattle.ug_table.specs.Standings.{known_of, standing_of, numbered, without, same_name, did_default, with_default, marked, mark_of, removed_of, with_standing, place_for};
 
 use crate::bring::is_reject;
 use crate::standing::{Known, Standing};
@@ -148,6 +148,7 @@ pub fn known_of(s: &Standing) -> Known
         held: s.held,
         verdict: s.verdict,
         removed: s.removed,
+        defaulted: s.defaulted,
     }
 }
 
@@ -170,6 +171,31 @@ pub fn forget(standings: &mut Vec<Standing>, name: &NodeName)
     ensures len { length standings.new.items ≤ length standings.old.items }
 {
     standings.retain(|s| s.name != *name);
+}
+
+/// Notes that the default of a name's device was written, where it was.
+#[tactic(auto, using(std::proofs::lemmas::List::Edits::map_over_more))]
+pub fn mark_default(standings: &mut [Standing], name: &NodeName, wrote: bool)
+    ensures { standings.new ≡ did_default name.now wrote standings.old }
+{
+    if wrote {
+        mark_written(standings, name);
+    }
+}
+
+#[tactic(auto, using(std::proofs::lemmas::List::Edits::map_over_more))]
+fn mark_written(standings: &mut [Standing], name: &NodeName)
+    ensures { standings.new ≡ map (with_default name.now) standings.old }
+{
+    for s in standings.iter_mut() {
+        s.defaulted = default_for(s, name);
+    }
+}
+
+fn default_for(s: &Standing, name: &NodeName) -> bool
+    ensures { result ≡ (same_name s.now.name name.now || s.now.defaulted) }
+{
+    s.name == *name || s.defaulted
 }
 
 /// Notes whether the standing of a name is settled. A rejected device that is settled was removed.

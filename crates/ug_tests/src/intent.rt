@@ -112,6 +112,8 @@ impl<Y: Sysfs + Drop> Sysfs for Watched<Y> {
             Write::On => b"call on",
             Write::Off => b"call off",
             Write::Remove => b"call remove",
+            Write::DefaultOff => b"call default-off",
+            Write::DefaultOn => b"call default-on",
         };
         append(&self.list, word);
         self.files.write(held, what)

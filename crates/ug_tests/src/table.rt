@@ -47,7 +47,7 @@ fn swept(alloc: Global, kernel: &mut SimKernel) -> Option<(Table, Entries)> {
     entries.reserve(64).ok()?;
     let mut nobody = Panel::new(Vec::new(alloc));
     let mut journal = Journal::join(&mut nobody, &mut entries);
-    table.sweep(alloc, kernel, &mut Rejecting {}, &mut journal);
+    table.sweep(alloc, kernel, &mut Rejecting {}, None, &mut journal);
     Some((table, entries))
 }
 
@@ -60,11 +60,11 @@ fn again(
     entries: &mut Entries,
 ) -> Option<Settled> {
     entries.clear();
-    entries.reserve(6).ok()?;
+    entries.reserve(8).ok()?;
     let _found = table.standing(number)?;
     let mut nobody = Panel::new(Vec::new(alloc));
     let mut journal = Journal::join(&mut nobody, entries);
-    Some(table.resettle(alloc, kernel, number, &mut journal))
+    Some(table.resettle(alloc, kernel, number, None, &mut journal))
 }
 
 fn notes(entries: &Entries, lines: &[&[u8]]) -> bool {

@@ -8,6 +8,7 @@ new_world = record {
   kernel = record { devices = []; held = []; log = [] };
   moves = [];
   fails = [];
+  halted = false;
   calls = 0;
   faults = 0;
   made = [];

@@ -1,10 +1,11 @@
 // The files of a device in sysfs, and what is written to them.
 
-/// A file that is written: sysfs-bus-usb, `authorized` and `remove`.
+/// A file that is written: sysfs-bus-usb, `authorized`, `remove`, and of a root hub `authorized_default`.
 #[derive(Clone, Copy, Debug, PartialEq, Eq)]
 pub enum Control {
     Authorized,
     Remove,
+    Default,
 }
 
 /// A file that is read: sysfs-bus-usb, `descriptors`, `product`, `serial` and `port/connect_type`.
@@ -16,10 +17,12 @@ pub enum Attr {
     Connect,
 }
 
-/// What is written: 1 or 0 to `authorized`, 1 to `remove`.
+/// What is written: 1 or 0 to `authorized`, 1 to `remove`, 0 or 1 to `authorized_default`.
 #[derive(Clone, Copy, Debug, PartialEq, Eq)]
 pub enum Write {
     On,
     Off,
     Remove,
+    DefaultOff,
+    DefaultOn,
 }

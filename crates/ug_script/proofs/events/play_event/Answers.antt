@@ -1,4 +1,4 @@
-use Rattle.std.proofs.Common.{rules, ◌≡◌, List, Option, Some, ◌∙◌, ap, subst, ℕ}
+use Rattle.std.proofs.Common.{rules, ◌≡◌, List, Option, Some, ◌∙◌, ap, sym, subst, ℕ}
 use Rattle.ug_audit.specs.declared.entry.Entry.{Entry}
 use Rattle.ug_proto.specs.declared.reply.Reply.{Reply}
 use Rattle.ug_core.specs.Event.{DaemonState, daemon_of}
@@ -13,6 +13,6 @@ same_text es fs q r same replied = ap (λ (x : List Entry). outcome_text (record
 pub returns-in-Ok-clause-ran : goal.returns-in-Ok-clause-ran
 returns-in-Ok-clause-ran g c =
     let e : DaemonState = daemon_of c.handle.new.session.daemon in
-    event_steps c.args.event.now (daemon_of c.args.session.now.daemon) c.args.kernel.now c.args.session.now.disk e c.handle.new.kernel c.handle.new.session.disk (g.K.Sink.held c.args.out.now) (g.K.Sink.held c.put_outcome.new.out) c.put_outcome.result c.handle.ensures.played (search rules) (search rules) (search rules)
+    event_steps c.args.event.now (daemon_of c.args.session.now.daemon) c.args.kernel.now c.args.session.now.disk e c.handle.new.kernel c.handle.new.session.disk (g.K.Sink.held c.args.out.now) (g.K.Sink.held c.put_outcome.new.out) c.put_outcome.result (c.handle.ensures.unstopped (sym c.stopped.ensures ∙ c.if-stopped.false)) (search rules) (search rules) (search rules)
     (subst (λ (x : List ℕ). Closes (Some x) (g.K.Sink.held c.args.out.now) (g.K.Sink.held c.put_outcome.new.out) c.put_outcome.result) (same_text _ _ _ _ (search rules) (search rules)) c.put_outcome.ensures.ran)
     (search rules) (search rules)

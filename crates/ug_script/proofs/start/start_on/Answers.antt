@@ -2,16 +2,17 @@ use Rattle.std.proofs.Common.{◌≡◌}
 use Rattle.ug_core.specs.Event.{daemon_of}
 use Rattle.ug_script.specs.Script.{no_start_of}
 use Rattle.ug_script.specs.declared.start.NoStart.TheVariants as no_start
+use Rattle.ug_script.proofs.Filed.{start_still}
 use Rattle.ug_script.proofs.Starts.{starts_on, start_refused}
 use Rattle.ug_script.proofs.start.start_on.Goals as goal
 
 pub returns-in-Ok-clause-started : goal.returns-in-Ok-clause-started
 returns-in-Ok-clause-started c = (starts_on c.args.setup.now _ _ c.args.disk.now (daemon_of c.in-Ok.daemon) c.start.new.disk
-    c.in_ok-settings.ensures c.zone_for-zone.ensures c.rng_for-rng.ensures c.in_ok-access.ensures c.in-Ok.ensures.starts).0
+    c.in_ok-settings.ensures.classes c.zone_for-zone.ensures c.rng_for-rng.ensures (c.in_ok-access.ensures, c.in_ok-settings.ensures.hub) c.in-Ok.ensures.starts).0
 
 pub returns-in-Ok-clause-read : goal.returns-in-Ok-clause-read
 returns-in-Ok-clause-read c other = (starts_on c.args.setup.now _ _ c.args.disk.now (daemon_of c.in-Ok.daemon) c.start.new.disk
-    c.in_ok-settings.ensures c.zone_for-zone.ensures c.rng_for-rng.ensures c.in_ok-access.ensures c.in-Ok.ensures.starts).1
+    c.in_ok-settings.ensures.classes c.zone_for-zone.ensures c.rng_for-rng.ensures (c.in_ok-access.ensures, c.in_ok-settings.ensures.hub) c.in-Ok.ensures.starts).1
 
 pub returns-in-Err-clause-bad : goal.returns-in-Err-clause-bad
 returns-in-Err-clause-bad c e =
@@ -26,3 +27,9 @@ returns-in-Err-clause-too_long c e =
 pub returns-in-Err-clause-read : goal.returns-in-Err-clause-read
 returns-in-Err-clause-read c other =
     (start_refused _ _ c.args.disk.now c.in-Err.fault c.start.new.disk c.in-Err.ensures.starts).read (λ e. other cc)
+
+pub returns-in-Ok-clause-still : goal.returns-in-Ok-clause-still
+returns-in-Ok-clause-still c = start_still _ _ c.args.disk.now _ c.start.new.disk c.in-Ok.ensures.starts
+
+pub returns-in-Err-clause-still : goal.returns-in-Err-clause-still
+returns-in-Err-clause-still c = start_still _ _ c.args.disk.now _ c.start.new.disk c.in-Err.ensures.starts

@@ -1,5 +1,11 @@
+use Rattle.ug_core.specs.Event.{daemon_of}
 use Rattle.ug_core.proofs.Noted.{more_noted}
+use Rattle.ug_core.proofs.Written.{order_writes}
 use Rattle.ug_core.proofs.daemon.Daemon.answer_order.Goals as goal
 
 pub returns-clause-noted : goal.returns-clause-noted
 returns-clause-noted g c = more_noted _ _ _ _ _ _ (more_noted _ _ _ _ _ _ c.store-stored.ensures.noted c.carry_out-reply.ensures.noted) c.reply.ensures.noted
+
+pub returns-clause-written : goal.returns-clause-written
+returns-clause-written g c =
+    order_writes g.Y.Sysfs.gives g.D.RuleDisk.keeps c.args.who.now c.args.line.now (daemon_of c.args.self.now) c.choose-choice.result c.args.sysfs.now c.choose-choice.new.sysfs c.args.disk.now c.store-stored.new.disk c.store-stored.result c.choose-choice.ensures.runs c.store-stored.ensures.runs c.store-stored.ensures.written

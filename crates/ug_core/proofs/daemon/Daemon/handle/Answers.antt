@@ -10,6 +10,8 @@ use Rattle.ug_core.proofs.Failures.{event_tells}
 use Rattle.ug_core.proofs.Kept.{file_kept}
 use Rattle.ug_core.proofs.Noted.{all_noted}
 use Rattle.ug_core.proofs.Plain.{event_keeps_rules}
+use Rattle.ug_core.proofs.Written.{ready_writes}
+use Rattle.ug_core.specs.Durable.{WritesEvent}
 use Rattle.ug_core.proofs.daemon.Daemon.handle.Goals as goal
 
 pub sweep-requires-clause-nameless : goal.sweep-requires-clause-nameless
@@ -58,6 +60,9 @@ returns-clause-handles g c =
       answered = a;
       answers = answers;
       answers_law = λ l told. let x = law l told in (x.0, sym began.0 ∙ x.1, x.2);
+      written = ready_writes event tried d became (subst (λ (x : DaemonState). WritesEvent event x became) is c.answer-stored.ensures.written);
+      saveable = c.stay_saveable.ensures;
+      saveable_after = c.stay_saveable-2.ensures;
       counted_store = c.answer-stored.ensures.counted;
       runs = c.sweep.ensures.runs;
       law = c.sweep.ensures.law;

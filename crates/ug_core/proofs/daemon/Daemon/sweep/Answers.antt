@@ -19,10 +19,11 @@ returns-clause-law g c = λ l e.
     let q = c.sweep.ensures.swept l e in (
       q.0,
       q.1,
-      λ sound stand. handled (daemon_of c.args.self.now) q.0 l (state_of c.sweep.new.self (judging_of g.R.Rng.stream c.sweep.new.judge) (noted_in c.sweep.new.out).entries) (noted_in c.join-journal.result).entries _
+      λ sound stand. handled (daemon_of c.args.self.now) q.0 l (state_of c.args.self.now.hub_default c.sweep.new.self (judging_of g.R.Rng.stream c.sweep.new.judge) (noted_in c.sweep.new.out).entries) (noted_in c.join-journal.result).entries _
           (ap (λ (v : Noted). without_drops v.entries) c.join-journal.ensures.now)
           (q.2 sound stand)
-          (ap (λ (es : List Entry). record (state_of c.sweep.new.self (judging_of g.R.Rng.stream c.sweep.new.judge) (noted_in c.sweep.new.out).entries) { entries = es }) c.push.ensures.entries)
+          (ap (λ (es : List Entry). record (state_of c.args.self.now.hub_default c.sweep.new.self (judging_of g.R.Rng.stream c.sweep.new.judge) (noted_in c.sweep.new.out).entries) { entries = es }) c.push.ensures.entries)
+          refl
           refl
           refl
           refl
@@ -33,7 +34,7 @@ returns-clause-law g c = λ l e.
 pub returns-clause-tells : goal.returns-clause-tells
 returns-clause-tells g c =
     let d = (daemon_of c.args.self.now).sweep in
-    let v : State Judging = state_of c.sweep.new.self (judging_of g.R.Rng.stream c.sweep.new.judge) (noted_in c.sweep.new.out).entries in
+    let v : State Judging = state_of c.args.self.now.hub_default c.sweep.new.self (judging_of g.R.Rng.stream c.sweep.new.judge) (noted_in c.sweep.new.out).entries in
     record {
       swept = v;
       tells = subst (λ (es : List Entry). TellsFaults g.Y.Sysfs.gives g.Y.Sysfs.calls g.Y.Sysfs.faults c.args.sysfs.now (record d { entries = es }) c.sweep.new.sysfs v) (ap (λ (x : Noted). without_drops x.entries) c.join-journal.ensures.now) c.sweep.ensures.faults;

@@ -1,29 +1,26 @@
-use Rattle.std.proofs.Common.{◌≡◌, ◌∙◌, ℕ, ◌-◌, List, sym, ap, subst, arith}
-use Rattle.std.specs.Global.{Vec}
-use Rattle.std.proofs.lemmas.Result.{on_ok_weaker, on_err_weaker}
+use Rattle.std.proofs.Common.{◌≡◌, ◌∙◌, ℕ, List, remove, sym, ap, subst}
+use Rattle.ug_index.specs.Candidates as places
+use Rattle.ug_index.proofs.Standing.{remove_map}
+use Rattle.ug_types.specs.declared.rule.Query.{Query}
 use Rattle.ug_policy.specs.declared.entry.RuleEntry.{RuleEntry}
-use Rattle.ug_policy.specs.Rules.{Rules, IsNumbered}
+use Rattle.ug_policy.specs.Rules.{Rules, IsNumbered, queries}
 use Rattle.ug_policy.specs.Kept.{StandsFor}
-use Rattle.ug_policy.proofs.Lists.{same_rules}
 use Rattle.ug_policy.proofs.Numbering.{numbered_removed}
 use Rattle.ug_policy.proofs.Stands.{stands_removed}
 use Rattle.ug_policy.proofs.list.RuleList.remove.Goals as goal
 
 pub invariant_of-self : goal.invariant_of-self
-invariant_of-self c = subst (λ (v : List RuleEntry). IsNumbered v c.self.inside.next_id) (sym c.remove_rule.ensures.entries) (numbered_removed c.args.id c.self.inside.next_id c.self.inside.entries.items c.self.invariant)
+invariant_of-self c =
+    let es = c.self.inside.entries.items in
+    let next = c.self.inside.next_id in
+    let taken : queries c.remove_rule.new.entries.items ≡ remove (queries es) c.in-Ok.place = ap (λ (v : List RuleEntry). queries v) c.in-Ok.ensures.place ∙ sym (remove_map (λ (e : RuleEntry). e.rule.query) es c.in-Ok.place) in
+    record {
+      numbered = subst (λ (v : List RuleEntry). IsNumbered v next) (sym c.remove_rule.ensures.entries) (numbered_removed c.args.id next es c.self.invariant.numbered);
+      stands = subst (λ (v : List Query). places.StandsFor c.remove.new.self v) (sym taken) (c.remove.ensures.stands (queries es) c.self.invariant.stands);
+    }
 
-pub returns-clause-err : goal.returns-clause-err
-returns-clause-err c = on_err_weaker c.remove_rule.result
-    (λ same. same_rules _ _ (ap (λ (v : Vec RuleEntry). v.items) same ∙ ap (λ (w : Rules). w.entries) c.self.view_is) (ap (λ (w : Rules). w.next) c.self.view_is) (ap (λ (v : Vec RuleEntry). v.cap - v.len) same ∙ ap (λ (w : Rules). w.spare) c.self.view_is))
-    c.remove_rule.ensures.same
-
-pub returns-clause-spare : goal.returns-clause-spare
-returns-clause-spare c =
-    let spare = ap (λ (w : Rules). w.spare) c.self.view_is in
-    on_ok_weaker c.remove_rule.result (λ less. omega (arith, less, spare, c.remove_rule.ensures.capacity, c.self.inside.entries.ok)) c.remove_rule.ensures.len
-
-pub returns-clause-history : goal.returns-clause-history
-returns-clause-history c = λ js s.
+pub returns-in-Ok-clause-history : goal.returns-in-Ok-clause-history
+returns-in-Ok-clause-history c = λ js s.
     let es = c.self.inside.entries.items in
     let next = c.self.inside.next_id in
     let as_seen : es ≡ c.args.self.now.entries = ap (λ (v : Rules). v.entries) c.self.view_is in

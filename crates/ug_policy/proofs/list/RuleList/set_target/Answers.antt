@@ -1,11 +1,14 @@
 use Rattle.std.proofs.Common.{◌≡◌, ◌∙◌, ◌++◌, ℕ, List, length, take, drop, sym, ap, subst}
 use Rattle.std.proofs.lemmas.List.{take_at}
 use Rattle.std.proofs.lemmas.Result.{on_err_weaker}
+use Rattle.ug_index.specs.Candidates as places
+use Rattle.ug_types.specs.declared.rule.Query.{Query}
 use Rattle.ug_policy.specs.declared.entry.RuleEntry.{RuleEntry}
-use Rattle.ug_policy.specs.Rules.{Rules, IsNumbered}
+use Rattle.ug_policy.specs.Rules.{Rules, IsNumbered, queries}
 use Rattle.ug_policy.specs.Kept.{StandsFor}
 use Rattle.ug_policy.specs.Edits.{retargeted}
 use Rattle.ug_policy.proofs.Numbering.{numbered_retargeted}
+use Rattle.ug_policy.proofs.Indexing.{queries_retargeted}
 use Rattle.ug_policy.proofs.Lists.{same_rules}
 use Rattle.ug_policy.proofs.Stands.{stands_retargeted}
 use Rattle.ug_policy.proofs.list.RuleList.set_target.Goals as goal
@@ -17,7 +20,11 @@ invariant_of-self c =
     let now : take c.self.inside.entries.len (ys ++ drop (length ys) es) ≡ retargeted c.args.id c.args.target es =
     take_at ys (drop (length ys) es) c.self.inside.entries.len (c.set_rule_target.ensures.len ∙ c.deref_mut.ensures.len)
     ∙ (c.set_rule_target.ensures.entries ∙ ap (retargeted c.args.id c.args.target) c.deref_mut.ensures.value) in
-    subst (λ (v : List RuleEntry). IsNumbered v c.self.inside.next_id) (sym now) (numbered_retargeted c.args.id c.args.target es c.self.inside.next_id c.self.invariant)
+    let same : queries (take c.self.inside.entries.len (ys ++ drop (length ys) es)) ≡ queries es = ap (λ (v : List RuleEntry). queries v) now ∙ queries_retargeted c.args.id c.args.target es in
+    record {
+      numbered = subst (λ (v : List RuleEntry). IsNumbered v c.self.inside.next_id) (sym now) (numbered_retargeted c.args.id c.args.target es c.self.inside.next_id c.self.invariant.numbered);
+      stands = subst (λ (v : List Query). places.StandsFor c.self.inside.index v) (sym same) c.self.invariant.stands;
+    }
 
 pub returns-clause-err : goal.returns-clause-err
 returns-clause-err c =

@@ -3,7 +3,7 @@ use Rattle.std.specs.Prelude.{All}
 use Rattle.ug_policy.specs.Edits.{IsThere, inserted, new_entry}
 use Rattle.ug_policy.specs.Rules.{Rules}
 use Rattle.ug_policy.specs.declared.entry.InsertFault.TheVariants as fault
-use Rattle.ug_rules.specs.RuleFile.{FitsFile, ReadsBack, rules_in}
+use Rattle.ug_rules.specs.RuleFile.{IsSaveable, ReadsBack, rules_in}
 use Rattle.ug_rules.specs.declared.edit.Edit.TheVariants.{Insert}
 use Rattle.ug_rules.proofs.Readable.{edited_reads, was_inserted}
 use Rattle.ug_rules.proofs.kept_rules.KeptRules.insert.Goals as goal
@@ -18,5 +18,5 @@ invariant_of-self c =
     let few : c.insert-id.result ≡ Err fault.Full → ⊥ = λ e. let full = c.insert-id.ensures.full.0 e in omega (arith, full.1, less) in
     let is = was_inserted c.insert-id.result there few c.insert-id.ensures.entries in (
       subst (All ReadsBack) (sym (ap rules_in is)) (edited_reads (Insert c.args.after c.args.rule c.args.temporary) was.next was.entries c.requires.reads c.self.invariant.0),
-      subst FitsFile (sym is) (subst (λ (v : Rules). FitsFile (inserted c.args.after (new_entry v.next c.args.rule c.args.temporary) v.entries)) same c.requires.fits),
+      subst IsSaveable (sym is) (subst (λ (v : Rules). IsSaveable (inserted c.args.after (new_entry v.next c.args.rule c.args.temporary) v.entries)) same c.requires.saves),
     )

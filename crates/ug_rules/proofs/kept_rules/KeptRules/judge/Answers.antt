@@ -1,12 +1,12 @@
 use Rattle.std.proofs.Common.{sym, ap, subst}
 use Rattle.std.specs.Prelude.{All}
-use Rattle.ug_rules.specs.RuleFile.{FitsFile, ReadsBack, rules_in}
-use Rattle.ug_rules.proofs.Given.{judged_fits, judged_reads}
+use Rattle.ug_rules.specs.RuleFile.{IsSaveable, ReadsBack, rules_in}
+use Rattle.ug_rules.proofs.Given.{judged_reads, judged_saves}
 use Rattle.ug_rules.proofs.kept_rules.KeptRules.judge.Goals as goal
 
 pub invariant_of-self : goal.invariant_of-self
 invariant_of-self g c =
     let was = c.self.inside.list in (
-      subst (All ReadsBack) (sym (ap rules_in c.judge.ensures.entries)) (judged_reads c.args.dev.now c.args.ctx.now (g.A.Allowed.records c.args.allowed.now) was.entries (g.R.Rng.stream c.args.rng.now) c.self.invariant.0),
-      subst FitsFile (sym c.judge.ensures.entries) (judged_fits c.args.dev.now c.args.ctx.now (g.A.Allowed.records c.args.allowed.now) was.entries (g.R.Rng.stream c.args.rng.now) c.self.invariant.1),
+      subst (All ReadsBack) (sym (ap rules_in c.judge.ensures.judged.entries)) (judged_reads c.args.dev.now c.args.ctx.now (g.A.Allowed.records c.args.allowed.now) was.entries (g.R.Rng.stream c.args.rng.now) c.self.invariant.0),
+      subst IsSaveable (sym c.judge.ensures.judged.entries) (judged_saves c.args.dev.now c.args.ctx.now (g.A.Allowed.records c.args.allowed.now) was.entries (g.R.Rng.stream c.args.rng.now) c.self.invariant.1),
     )

@@ -3,7 +3,7 @@ use Rattle.std.specs.Prelude.{All}
 use Rattle.ug_policy.specs.Edits.{retargeted}
 use Rattle.ug_policy.specs.Rules.{Rules}
 use Rattle.ug_rules.specs.RuleEdits.{EditReads}
-use Rattle.ug_rules.specs.RuleFile.{FitsFile, ReadsBack, rules_in}
+use Rattle.ug_rules.specs.RuleFile.{IsSaveable, ReadsBack, rules_in}
 use Rattle.ug_rules.specs.declared.edit.Edit.TheVariants.{Retarget}
 use Rattle.ug_rules.proofs.Readable.{edited_reads}
 use Rattle.ug_rules.proofs.kept_rules.KeptRules.retarget.Goals as goal
@@ -13,5 +13,5 @@ invariant_of-self c =
     let was = c.self.inside.list in
     let same = sym c.self.view_is in (
       subst (All ReadsBack) (sym (ap rules_in c.set_target-was_there.ensures.entries)) (edited_reads (Retarget c.args.id c.args.rule.now) was.next was.entries (subst (λ (v : Rules). EditReads (Retarget c.args.id c.args.rule.now) v.entries) same c.requires.reads) c.self.invariant.0),
-      subst FitsFile (sym c.set_target-was_there.ensures.entries) (subst (λ (v : Rules). FitsFile (retargeted c.args.id c.args.rule.now.target v.entries)) same c.requires.fits),
+      subst IsSaveable (sym c.set_target-was_there.ensures.entries) (subst (λ (v : Rules). IsSaveable (retargeted c.args.id c.args.rule.now.target v.entries)) same c.requires.saves),
     )

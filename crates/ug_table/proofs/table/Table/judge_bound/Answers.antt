@@ -16,8 +16,9 @@ invariant_of-self g c =
       cause = c.verdict-verdict.result.1;
       settled = false;
       removed = false;
+      defaulted = c.treat-settled.result.1;
     } in
-    kept_more c.self.inside.next _ _ _ c.self.inside.standings.items _ _ x c.bring-settled.result refl refl (ap (λ (v : TableState). v.standings) c.self.view_is) c.requires.absent (ap (λ (v : TableState). v.room) c.self.view_is) c.requires.place c.keep.ensures.standings c.keep.ensures.len c.self.invariant.0
+    kept_more c.self.inside.next _ _ _ c.self.inside.standings.items _ _ x c.treat-settled.result.0 refl refl (ap (λ (v : TableState). v.standings) c.self.view_is) c.requires.absent (ap (λ (v : TableState). v.room) c.self.view_is) c.requires.place c.keep.ensures.standings c.keep.ensures.len c.self.invariant.0
 
 pub returns-clause-journal : goal.returns-clause-journal
 returns-clause-journal g c = search (rules, arith, goes_on)

@@ -1,4 +1,4 @@
-use Rattle.std.proofs.Common.{refl, sym, subst}
+use Rattle.std.proofs.Common.{None, refl, sym, subst}
 use Rattle.ug_audit.specs.Journal.{noted_in}
 use Rattle.ug_table.specs.State.{State, state_of}
 use Rattle.ug_table.specs.Order.{StandInOrder}
@@ -15,9 +15,9 @@ returns-clause-part g c s e = order_part g.Y.Sysfs.gives g.Y.Sysfs.calls g.Y.Sys
 pub returns-clause-law : goal.returns-clause-law
 returns-clause-law g c =
     let h = c.order_numbered in
-    let w : State (Unit {0}) = state_of c.args.self.now tt (noted_in c.args.out.now).entries in
+    let w : State (Unit {0}) = state_of None c.args.self.now tt (noted_in c.args.out.now).entries in
     subst (λ (v : State (Unit {0})). OrdersOne g.Y.Sysfs.told c.args.number c.args.verdict c.args.who c.args.on c.args.sysfs.now w h.new.sysfs v h.result)
-    (sym (same_state h.new.self.standings h.new.self.standings _ _ _ _ tt (noted_in h.new.out).entries refl h.ensures.next h.ensures.listed))
+    (sym (same_state h.new.self.standings h.new.self.standings _ _ _ _ tt None (noted_in h.new.out).entries refl h.ensures.next h.ensures.listed))
     (told_orders g.Y.Sysfs.gives g.Y.Sysfs.told g.met.Y.Sysfs.did c.args.number c.args.verdict c.args.who c.args.on _ w _ _ h.ensures.runs)
 
 pub returns-clause-verdict : goal.returns-clause-verdict

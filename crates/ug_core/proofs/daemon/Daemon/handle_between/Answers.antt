@@ -1,0 +1,76 @@
+use Rattle.std.proofs.Common.{◌≡◌, ℕ, [], sym, ap, subst, ◌∙◌}
+use Rattle.ug_store.specs.Store.{RunsDisk}
+use Rattle.ug_table.specs.Order.{StandInOrder}
+use Rattle.ug_core.specs.Laws.{RunsAnswer}
+use Rattle.ug_core.specs.Event.{DaemonState, daemon_of, tried_with, ready, trying}
+use Rattle.ug_core.specs.Durable.{WritesEvent}
+use Rattle.ug_audit.proofs.Noting.{live_members}
+use Rattle.ug_audit.proofs.Texts.{all_entries}
+use Rattle.ug_core.proofs.Answered.{answering_made, ready_failures, ready_names}
+use Rattle.ug_core.proofs.Kept.{kept_event, sweep_adds}
+use Rattle.ug_core.proofs.Noted.{all_noted}
+use Rattle.ug_core.proofs.Plain.{event_keeps_rules}
+use Rattle.ug_core.proofs.Written.{ready_writes}
+use Rattle.ug_core.proofs.daemon.Daemon.handle_between.Goals as goal
+
+pub sweep-requires-clause-nameless : goal.sweep-requires-clause-nameless
+sweep-requires-clause-nameless g c =
+    let event = c.args.event.now in
+    let d : DaemonState = daemon_of c.args.self.now in
+    let tried = c.save_pending-tried.result in
+    let is : daemon_of c.save_pending-tried.new.self ≡ ready event tried d = c.save_pending-tried.ensures.daemon ∙ ap (λ (x : DaemonState). tried_with tried x) c.begin.ensures.daemon in
+    let began = g.met.Y.Sysfs.began c.args.sysfs.now c.begin-2.new.self c.begin-2.ensures in
+    let none : g.Y.Sysfs.calls c.pass.new.sysfs ≡ 0 = c.pass.ensures.calls ∙ began.1 in
+    let a : DaemonState = daemon_of c.answer-stored.new.self in
+    let answers = subst (λ (x : DaemonState). RunsAnswer g.Y.Sysfs.gives g.D.RuleDisk.keeps event c.pass.new.sysfs c.save_pending-tried.new.disk x c.answer-stored.result c.answer-stored.new.sysfs c.answer-stored.new.disk a) is c.answer-stored.ensures.runs in
+    (answering_made g.Y.Sysfs.gives g.Y.Sysfs.calls g.Y.Sysfs.faults g.met.Y.Sysfs.counted g.D.RuleDisk.keeps event c.pass.new.sysfs c.save_pending-tried.new.disk (ready event tried d) c.answer-stored.result c.answer-stored.new.sysfs c.answer-stored.new.disk a none (subst (λ (n : ℕ). StandInOrder n c.args.self.now.table.standings) c.next_number-next.ensures.next c.next_number-next.ensures.standings) (ready_failures event tried d) (ready_names event tried d) answers).nameless
+
+pub returns-clause-passes : goal.returns-clause-passes
+unfolding trying
+returns-clause-passes g c =
+    let event = c.args.event.now in
+    let d : DaemonState = daemon_of c.args.self.now in
+    let tried = c.save_pending-tried.result in
+    let became = c.answer-stored.result in
+    let is : daemon_of c.save_pending-tried.new.self ≡ ready event tried d = c.save_pending-tried.ensures.daemon ∙ ap (λ (x : DaemonState). tried_with tried x) c.begin.ensures.daemon in
+    let a : DaemonState = daemon_of c.answer-stored.new.self in
+    let e : DaemonState = daemon_of c.sweep.new.self in
+    let started = c.pass.new.sysfs in
+    let middle = c.answer-stored.new.sysfs in
+    let resumed = c.pass-2.new.sysfs in
+    let t = c.sweep.new.sysfs in
+    let o = c.args.disk.now in
+    let q = c.save_pending-tried.new.disk in
+    let p = c.answer-stored.new.disk in
+    let tries : RunsDisk g.D.RuleDisk.keeps o (trying d) tried q = subst (λ (x : DaemonState). RunsDisk g.D.RuleDisk.keeps o (trying x) tried q) c.begin.ensures.daemon c.save_pending-tried.ensures.runs in
+    let answers : RunsAnswer g.Y.Sysfs.gives g.D.RuleDisk.keeps event started q (ready event tried d) became middle p a = subst (λ (x : DaemonState). RunsAnswer g.Y.Sysfs.gives g.D.RuleDisk.keeps event started q x became middle p a) is c.answer-stored.ensures.runs in
+    let adds = sweep_adds g.Y.Sysfs.gives g.Y.Sysfs.calls g.Y.Sysfs.faults resumed a t e c.sweep.ensures.tells in
+    record {
+      tried = tried;
+      disk_tried = q;
+      tries = tries;
+      start = c.begin-2.new.self;
+      begun_there = c.begin-2.ensures;
+      started = started;
+      passes = c.pass.ensures.goes;
+      became = became;
+      middle = middle;
+      answered = a;
+      answers = answers;
+      resumed = resumed;
+      passes_on = c.pass-2.ensures.goes;
+      runs = c.sweep.ensures.runs;
+      written = ready_writes event tried d became (subst (λ (x : DaemonState). WritesEvent event x became) is c.answer-stored.ensures.written);
+      saveable = c.stay_saveable.ensures;
+      saveable_after = c.stay_saveable-2.ensures;
+      file = kept_event g.Y.Sysfs.gives g.D.RuleDisk.keeps g.D.RuleDisk.told g.met.D.RuleDisk.did event started o d tried q became middle p a e adds.0 tries answers adds.1 (event_keeps_rules g.Y.Sysfs.gives resumed a e t c.sweep.ensures.runs);
+    }
+
+pub returns-clause-noted : goal.returns-clause-noted
+returns-clause-noted g c =
+    all_noted _ _ _ _ _ (all_noted _ _ _ _ _ (all_noted _ _ _ _ _ c.begin.ensures.noted c.save_pending-tried.ensures.noted) c.answer-stored.ensures.noted) c.sweep.ensures.noted
+
+pub returns-clause-alone : goal.returns-clause-alone
+returns-clause-alone g c none =
+    all_entries _ _ [] _ (live_members _ _ _ _ ∙ none)
+    (all_noted _ _ _ _ _ (all_noted _ _ _ _ _ (all_noted _ _ _ _ _ c.begin.ensures.noted c.save_pending-tried.ensures.noted) c.answer-stored.ensures.noted) c.sweep.ensures.noted)

@@ -1,0 +1,4 @@
+pub mod Reaches
+pub mod Places
+pub mod Candidates
+pub mod Lists

@@ -1,0 +1,9 @@
+pub mod OneMore
+pub mod Matches
+pub mod Sure
+pub mod Found
+pub mod Deciders
+pub mod Alike
+pub mod FilledRules
+pub mod AllFound
+pub mod ReadRules
