@@ -1,6 +1,5 @@
 -- Parts from the left.
-use Rattle.std.proofs.Common.{◌≡◌, ℕ, suc, ◌+◌, ◌<◌, Bool, List, [], ◌∷◌, length, drop, map, slice_index_or, Bor, Result, Ok, Err, refl, sym, ap, ◌∙◌, arith, drop-cons}
-use Rattle.std.specs.Prelude.{◌||◌}
+use Rattle.std.proofs.Common.{◌≡◌, ℕ, suc, ◌+◌, ◌<◌, List, [], ◌∷◌, length, drop, map, slice_index_or, Bor, Result, Ok, Err, refl, sym, ap, ◌∙◌, arith, drop-cons}
 use Rattle.std.proofs.Math.Bool.{or-false, or_assoc}
 use Rattle.ug_types.specs.declared.access.Section.{Section}
 use Rattle.ug_types.specs.declared.text_fault.LineFault.TheVariants.{Bad, Memory}

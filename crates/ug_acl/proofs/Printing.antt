@@ -1,8 +1,8 @@
 -- A printed text reads as what was printed.
-use Rattle.std.proofs.Common.{◌≡◌, ◌≢◌, ◌⊎◌, inl, inr, ℕ, ◌+◌, Bool, true, false, cond, nat_eq, List, [], ◌∷◌, ◌++◌, refl, sym, ap, subst, ◌∙◌, append_assoc, arith}
-use Rattle.std.specs.Prelude.{Ok, Err, Result, Option, Some, None, codes, ◌&&◌, ◌||◌}
-use Rattle.std.specs.List.{filter, list_any, list_all}
-use Rattle.std.proofs.Math.Bool.{or-false, and-true, and-false, or_assoc}
+use Rattle.std.proofs.Common.{◌≡◌, ◌≢◌, ◌⊎◌, inl, inr, ℕ, ◌+◌, Bool, true, false, cond, nat_eq, List, [], ◌∷◌, ◌++◌, refl, sym, ap, ◌∙◌, append_assoc, arith}
+use Rattle.std.specs.Prelude.{Ok, Err, Result, Some, codes, ◌&&◌, ◌||◌}
+use Rattle.std.specs.List.{filter, list_all}
+use Rattle.std.proofs.Math.Bool.{or-false, and-true, and-false}
 use Rattle.std.proofs.lemmas.Bool.{false≢true}
 use Rattle.std.proofs.lemmas.Bool.Decides.{nat_tests}
 use Rattle.std.proofs.lemmas.List.{append-nil}
@@ -13,8 +13,7 @@ use Rattle.ug_types.specs.declared.access.Section.TheVariants.{Devices, Policy, 
 use Rattle.ug_types.specs.declared.access.Privilege.{Privilege}
 use Rattle.ug_types.specs.declared.access.Privilege.TheVariants.{Modify, Listen}
 use Rattle.ug_types.specs.declared.access.Privilege.TheVariants as privilege
-use Rattle.ug_types.specs.declared.text_fault.TextFault.{TextFault}
-use Rattle.ug_lines.specs.Lines.{lines_of, lines_from}
+use Rattle.ug_lines.specs.Lines.{lines_of}
 use Rattle.ug_lines.specs.Splitting.{IsLine}
 use Rattle.ug_lines.proofs.FirstLine.{lines_from-end, nothing}
 use Rattle.ug_lines.proofs.Splitting.{lines_from-run}

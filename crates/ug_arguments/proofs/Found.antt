@@ -1,6 +1,6 @@
 -- What a parse that ends says of what is found in the words.
-use Rattle.std.proofs.Common.{◌≡◌, ◌&&◌, Bool, true, false, ℕ, List, [], ◌∷◌, Option, Some, None, refl}
-use Rattle.clap.specs.Words.{App, HasMatchesOf, IsAmong, Kinds, Row, fault_of, found_of, is_simple, is_simple_and_free, matches_of, rows_of}
+use Rattle.std.proofs.Common.{◌≡◌, ◌&&◌, Bool, true, false, ℕ, List, [], ◌∷◌, Some, None, refl}
+use Rattle.clap.specs.Words.{App, HasMatchesOf, IsAmong, Kinds, fault_of, found_of, is_simple, is_simple_and_free, matches_of, rows_of}
 use Rattle.clap.specs.declared.error.kind.ErrorKind.{ErrorKind}
 use Rattle.clap.specs.declared.parser.matches.ArgMatches.{ArgMatches}
 use Rattle.ug_arguments.specs.SimpleCommands.{rows_in, unless_faulty}

@@ -1,7 +1,6 @@
 -- What auditors are given and take.
-use Rattle.std.specs.Prelude.{◌≡◌, ℕ, ◌+◌, ◌*◌, Bool, true, false, List, [], ◌∷◌, ◌++◌, Option, Some, None, if◌then◌else◌, ◌&&◌, not}
+use Rattle.std.specs.Prelude.{◌≡◌, ℕ, ◌+◌, List, [], ◌∷◌, ◌++◌, Option, Some, None}
 use Rattle.std.specs.Io.KnownBytes.{Appends}
-use Rattle.ug_types.specs.Ends.{IsCounted, Rose}
 use Rattle.ug_audit.specs.declared.auditor.Noted.{Noted}
 use Rattle.ug_audit.specs.declared.auditor.Noted.TheVariants as noted
 

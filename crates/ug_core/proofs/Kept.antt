@@ -28,15 +28,15 @@ use Rattle.ug_core.specs.declared.changes.Change.{Change}
 use Rattle.ug_core.specs.declared.changes.Change.TheVariants.{Rules, Set}
 use Rattle.ug_proto.specs.declared.reply.Reply.TheVariants as reply
 use Rattle.ug_proto.specs.declared.request.Request.{Request}
-use Rattle.ug_core.specs.Event.{DaemonState, first_entry, if_text, if_pending, trying, saved_entries, ready}
+use Rattle.ug_core.specs.Event.{DaemonState, if_text, if_pending, trying, ready}
 use Rattle.ug_core.specs.Laws.{TellsSweep, AnswersAtOnce, IsInForce, No_record, No_room, Outcome, RefusesBehind, RunsAnswer, StoreRefuses, TellsEvent, Unstored, Without_memory, change_of, if_watching}
 use Rattle.ug_core.specs.declared.daemon.Event.{Event}
 use Rattle.ug_core.specs.declared.daemon.Event.TheVariants.{Sweep, Order}
-use Rattle.ug_core.specs.Durable.{IsKept, KeepsFile, change_ordered, if_written, unsure_behind, unsure_with, as_list, text_of_change, text_of_request, texts_of}
+use Rattle.ug_core.specs.Durable.{IsKept, KeepsFile, if_written, unsure_behind, unsure_with, as_list, text_of_change, text_of_request, texts_of}
 use Rattle.ug_core.specs.Chain.{Happened, StaysOnDisk, Chain, IsKeptThroughout, unsure_past}
 use Rattle.ug_core.proofs.Plain.{SameRules}
 use Rattle.std.specs.Prelude.{IsSome, nat_le, length, Result}
-use Rattle.ug_types.proofs.Elements.{has_cases, has_left, has_right}
+use Rattle.ug_types.proofs.Elements.{has_left, has_right}
 use Rattle.ug_types.specs.Principals.{Named}
 use Rattle.ug_types.specs.declared.refusal.Refusal.{Refusal}
 use Rattle.ug_types.specs.declared.refusal.Refusal.TheVariants as refusal
@@ -48,7 +48,6 @@ use Rattle.ug_proto.specs.Requests.{request_read}
 use Rattle.ug_proto.specs.declared.request.Request.TheVariants as request
 use Rattle.ug_rules.specs.RuleEdits.{changes_file}
 use Rattle.ug_rules.specs.declared.edit.Edit.{Edit}
-use Rattle.ug_rules.specs.declared.edit.Edit.TheVariants.{Insert, Remove, Retarget}
 use Rattle.ug_rules.proofs.Edited.{text_stays}
 use Rattle.ug_rules.proofs.Given.{text_given}
 use Rattle.ug_store.specs.Disk.{IsImage}

@@ -1,5 +1,5 @@
 -- A sweep keeps the rules as they were given, and what is written to the defaults, whatever is answered.
-use Rattle.std.proofs.Common.{◌≡◌, ℕ, ◌+◌, Bool, true, false, not, is_none, List, [], ◌∷◌, ◌++◌, Option, Some, None, refl, sym, ◌∙◌, subst}
+use Rattle.std.proofs.Common.{◌≡◌, ℕ, ◌+◌, Bool, true, false, is_none, List, [], ◌∷◌, ◌++◌, Option, Some, None, refl, sym, ◌∙◌, subst}
 use Rattle.ug_types.specs.Names.{parent_of}
 use Rattle.ug_types.specs.Sweep.{in_sweep_order}
 use Rattle.ug_types.specs.declared.record.Judged.{Judged}

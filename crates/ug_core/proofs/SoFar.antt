@@ -12,12 +12,10 @@ use Rattle.ug_types.specs.declared.verdict.Target.{Target}
 use Rattle.ug_types.specs.declared.verdict.Cause.{Cause}
 use Rattle.ug_types.specs.declared.verdict.Moment.{Moment}
 use Rattle.ug_types.proofs.Elements.{distinct_one, has_left, has_map, has_right, has_cases, map_has}
-use Rattle.ug_kernel.specs.declared.device.Device.{Device}
 use Rattle.ug_kernel.specs.declared.device.Effect.{Effect}
-use Rattle.ug_kernel.specs.Kernel.{Kernel, Moved, Begins, Moves}
+use Rattle.ug_kernel.specs.Kernel.{Kernel}
 use Rattle.ug_kernel.specs.Quiet.{Grows, Quiet}
 use Rattle.ug_kernel.proofs.Grow.{quiet_grows}
-use Rattle.ug_kernel.proofs.Quiet.{stays_trans}
 use Rattle.ug_audit.specs.declared.entry.Entry.{Entry}
 use Rattle.ug_audit.specs.declared.entry.Entry.TheVariants as entry
 use Rattle.ug_conf.specs.declared.settings.Present.{Present}

@@ -20,11 +20,11 @@ use Rattle.ug_store.specs.declared.store.RecoverFault.{RecoverFault}
 use Rattle.ug_store.specs.declared.store.RecoverFault.TheVariants as recover
 use Rattle.ug_core.specs.Chain.{Happened, Chain, EachKept, KeptIn, unsure_of, unsure_past}
 use Rattle.ug_core.specs.Changes.{ChangeSaves, changed_by, is_saved, text_if_saved}
-use Rattle.ug_core.specs.Durable.{IsKept, KeepsRules, WritesEvent, as_list, change_in, if_written, rules_of, rules_of_change, text_of_change, texts_of, unsure_behind, unsure_with}
+use Rattle.ug_core.specs.Durable.{IsKept, WritesEvent, as_list, change_in, if_written, rules_of, rules_of_change, text_of_change, texts_of, unsure_behind, unsure_with}
 use Rattle.ug_core.specs.Event.{DaemonState}
 use Rattle.ug_core.specs.Policy.{Judging}
-use Rattle.ug_core.specs.Starting.{HoldsJust, Loads, StartsAfter, StartsWith, fault_of_recovery}
-use Rattle.ug_core.specs.Stops.{AllReadable, AreFiles, EachStops, IsReadable, LeavesRules, LoadsJust, NoneSaved, StartsJust, StartsSure, StopLeaves, StopsAlong, StopsIn, StopsLeaveRules, WasUnsaved, rules_past, unsure_rules}
+use Rattle.ug_core.specs.Starting.{HoldsJust, StartsAfter, fault_of_recovery}
+use Rattle.ug_core.specs.Stops.{AllReadable, AreFiles, EachStops, IsReadable, LeavesRules, LoadsJust, NoneSaved, StartsJust, StartsSure, StopsIn, StopsLeaveRules, WasUnsaved, rules_past, unsure_rules}
 use Rattle.ug_core.specs.Storing.{WritesRules}
 use Rattle.ug_core.specs.declared.changes.Change.{Change}
 use Rattle.ug_core.specs.declared.changes.Change.TheVariants.{Rules as Edits, Set}

@@ -13,8 +13,8 @@ use Rattle.ug_proto.specs.declared.request.Request.{Request}
 use Rattle.ug_proto.specs.declared.request.Request.TheVariants as request
 use Rattle.ug_types.specs.declared.verdict.Target.{Target}
 use Rattle.ug_core.specs.Answering.{asking}
-use Rattle.ug_core.specs.Changes.{ChangeSaves, change_asked}
-use Rattle.ug_core.specs.Durable.{WritesEvent, change_in, change_ordered}
+use Rattle.ug_core.specs.Changes.{change_asked}
+use Rattle.ug_core.specs.Durable.{WritesEvent, change_ordered}
 use Rattle.ug_core.specs.Event.{DaemonState, ready}
 use Rattle.ug_core.specs.Laws.{Outcome, change_of}
 use Rattle.ug_core.specs.Policy.{Judging}

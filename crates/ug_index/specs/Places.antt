@@ -1,5 +1,5 @@
 -- Places of a list of rules.
-use Rattle.std.specs.Prelude.{ℕ, suc, pred, ◌-◌, List, [], ◌∷◌, ◌++◌, Bool, true, false, nat_eq, nat_le, if◌then◌else◌, map, take, drop, insert, remove}
+use Rattle.std.specs.Prelude.{ℕ, suc, pred, ◌-◌, List, [], ◌∷◌, ◌++◌, Bool, true, nat_eq, nat_le, if◌then◌else◌, map, take, drop, insert, remove}
 use Rattle.std.specs.List.{list_all}
 use Rattle.ug_index.specs.declared.reach.Reach.{Reach}
 use Rattle.ug_index.specs.declared.reach.Reach.TheVariants as reach

@@ -1,8 +1,8 @@
 -- How devices start, as the kernel goes on.
-use Rattle.std.proofs.Common.{◌≡◌, ℕ, ◌<◌, ◌≤◌, Bool, List, length, Option, Some, None, refl, sym, ◌∙◌, ap, subst, arith, inl, inr, ◌⊎◌}
+use Rattle.std.proofs.Common.{◌≡◌, ℕ, ◌<◌, ◌≤◌, length, Option, Some, None, refl, sym, ◌∙◌, ap, subst, arith, inl, inr, ◌⊎◌}
 use Rattle.std.specs.List.{slice_get}
 use Rattle.ug_kernel.specs.declared.device.Device.{Device}
-use Rattle.ug_kernel.specs.Kernel.{Kernel, Moved, Begins, Moves, StartsUnder, Starts, default_in, is_off}
+use Rattle.ug_kernel.specs.Kernel.{Kernel, Moved, Moves, StartsUnder, Starts, default_in, is_off}
 use Rattle.ug_kernel.proofs.Stayed.{back_at, begins_then}
 use Rattle.ug_kernel.proofs.Guarded.{moves_default}
 

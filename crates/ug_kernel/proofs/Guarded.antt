@@ -12,10 +12,9 @@ use Rattle.ug_kernel.specs.declared.calls.Opened.{Opened}
 use Rattle.ug_kernel.specs.declared.calls.Opened.TheVariants as opened
 use Rattle.ug_kernel.specs.declared.calls.Wrote.{Wrote}
 use Rattle.ug_kernel.specs.declared.calls.Wrote.TheVariants as wrote
-use Rattle.ug_types.specs.declared.control.Control.{Control}
 use Rattle.ug_types.specs.declared.control.Control.TheVariants.{Default}
 use Rattle.ug_kernel.specs.Calls.{control_of, Call, Names, Open, Read, Ask_alive, Put, Close, Answer}
-use Rattle.ug_kernel.specs.Kernel.{Kernel, Moved, Begins, Moves, StartsUnder, is_off, default_in}
+use Rattle.ug_kernel.specs.Kernel.{Kernel, Moves, StartsUnder, is_off, default_in}
 use Rattle.ug_kernel.specs.Called.{value_after, default_after, written_to, does_open, does_put, Does, IsWritten, Called}
 use Rattle.ug_kernel.specs.Along.{Made, Along}
 use Rattle.ug_kernel.specs.Tree.{calls}

@@ -1,5 +1,5 @@
 -- When a rule is the one that is made of a device.
-use Rattle.std.proofs.Common.{◌≡◌, ◌↔◌, ℕ, suc, arith, Bool, true, false, ◌&&◌, is_none, nat_eq, IsTrue, List, [], ◌∷◌, length, map, Option, None, Some, refl, sym, ap, ◌∙◌, if◌then◌else◌}
+use Rattle.std.proofs.Common.{◌≡◌, ◌↔◌, ℕ, suc, arith, Bool, true, false, ◌&&◌, is_none, nat_eq, IsTrue, List, [], ◌∷◌, length, map, Option, None, Some, refl, ap, ◌∙◌, if◌then◌else◌}
 use Rattle.std.specs.Cmp.Lexicographic.{pointwise}
 use Rattle.std.specs.List.{list_all, zip}
 use Rattle.std.specs.Bool.{Decides}

@@ -1,5 +1,5 @@
 -- The rules that are saved of a list once it is edited.
-use Rattle.std.proofs.Common.{◌≡◌, ℕ, Bool, true, false, not, ◌&&◌, ◌||◌, cond, List, [], ◌∷◌, ◌++◌, Option, Some, None, inl, inr, refl, sym, ◌∙◌, ap, append_assoc, append-nil, ◌≤◌, length, subst}
+use Rattle.std.proofs.Common.{◌≡◌, ℕ, Bool, true, false, not, ◌&&◌, ◌||◌, cond, List, [], ◌∷◌, ◌++◌, Option, Some, None, inl, inr, refl, sym, ◌∙◌, ap, append_assoc, append-nil, subst}
 use Rattle.std.specs.Prelude.{flat_map}
 use Rattle.std.proofs.lemmas.Bool.{eqb-true}
 use Rattle.ug_types.specs.declared.rule.After.{After}
@@ -7,7 +7,7 @@ use Rattle.ug_types.specs.declared.rule.After.TheVariants as after
 use Rattle.ug_types.specs.declared.rule.Rule.{Rule}
 use Rattle.ug_policy.specs.Edits.{aimed, followed, has_id, inserted, new_entry, removed, retargeted}
 use Rattle.ug_policy.specs.declared.entry.RuleEntry.{RuleEntry}
-use Rattle.ug_print.specs.RuleTexts.{rules_limit, rules_text_of}
+use Rattle.ug_print.specs.RuleTexts.{rules_text_of}
 use Rattle.ug_rules.specs.RuleEdits.{EditReads, IsButForTarget, changes_file, edited_by, in_place, rules_after}
 use Rattle.ug_rules.specs.RuleFile.{CanSave, IsSaveable, permanent_rules, permanent_text, saved_of, saved_rule}
 use Rattle.ug_rules.specs.RulePlaces.{has_permanent}

@@ -1,5 +1,5 @@
 -- Judging leaves the rules as they were given.
-use Rattle.std.proofs.Common.{◌≡◌, ◌≤◌, ℕ, Bool, true, false, cond, length, List, [], ◌∷◌, ◌++◌, Some, refl, sym, ◌∙◌, ap, subst}
+use Rattle.std.proofs.Common.{◌≡◌, ℕ, Bool, true, false, cond, List, [], ◌∷◌, ◌++◌, Some, refl, sym, ◌∙◌, ap, subst}
 use Rattle.std.specs.Prelude.{All, map}
 use Rattle.rand_core.specs.Stream.{Stream}
 use Rattle.ug_types.specs.declared.record.DeviceRecord.{DeviceRecord}
@@ -11,7 +11,7 @@ use Rattle.ug_policy.specs.Edits.{new_entry}
 use Rattle.ug_policy.specs.Matching.{greatest, matched}
 use Rattle.ug_policy.specs.declared.entry.RuleEntry.{RuleEntry}
 use Rattle.ug_policy.proofs.Finding.{whole_list}
-use Rattle.ug_print.specs.RuleTexts.{rules_limit, rules_text_of}
+use Rattle.ug_print.specs.RuleTexts.{rules_text_of}
 use Rattle.ug_rules.specs.RuleFile.{CanSave, IsSaveable, ReadsBack, as_given, permanent_rules, permanent_text, rules_in, saved_of}
 
 abbrev given : RuleEntry → RuleEntry

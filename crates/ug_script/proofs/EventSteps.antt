@@ -42,7 +42,7 @@ use Rattle.ug_console.specs.declared.machine.Ran.TheVariants.{Done, Bad, TooLong
 use Rattle.ug_console.specs.Fold.{Outcome, Writes, Refused}
 use Rattle.ug_script.specs.Setup.{SetupState, rules_disk, started}
 use Rattle.ug_script.specs.Script.{Script, Phase, SettingUp, Unstarted, Started, has_started, fits_file}
-use Rattle.ug_script.specs.Replay.{IsEventPlayed, IsPlayedThrough, OrderPlayed, Played, answer_through, answered_by, came_of, event_by, event_from, event_taken, event_through, halted, in_script, left_played, outcome_of, outcome_text, swept_behind, swept_over, swept_through, tells, tried_by, with_choice, with_played, with_store}
+use Rattle.ug_script.specs.Replay.{IsEventPlayed, IsPlayedThrough, OrderPlayed, Played, answer_through, answered_by, came_of, event_by, event_from, event_taken, event_through, halted, in_script, left_played, outcome_of, outcome_text, swept_over, swept_through, tells, tried_by, with_choice, with_played, with_store}
 use Rattle.ug_script.proofs.Answers.{ActsSo, Asks, CanAct, SweepsSo, acting_ways, asking_ways, asks_can, asks_short, handling_ways, is_short_deed, short_asks, stored_can, stored_so}
 
 -- ---- an event that was handled is as its script fixes it, unless it tells want of memory or a world has run out

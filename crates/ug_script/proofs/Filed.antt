@@ -12,7 +12,6 @@ use Rattle.ug_lines.specs.Lines.{whole_from, rest_from}
 use Rattle.ug_lex.specs.Lexing.{tokens_of, tokens_from, front_of}
 use Rattle.ug_store.specs.Disk.{Disk, Images, Texts, Anything, IsImage}
 use Rattle.ug_store.specs.Scripted.{DiskWorld, MemKeeps, disk_told}
-use Rattle.ug_print.specs.RuleTexts.{rules_text_of}
 use Rattle.ug_policy.specs.declared.entry.RuleEntry.{RuleEntry}
 use Rattle.ug_rules.specs.RuleFile.{IsRuleFile, IsSaveable, permanent_rules, permanent_text}
 use Rattle.ug_rules.proofs.Readable.{saved_file}

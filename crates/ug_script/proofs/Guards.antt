@@ -11,7 +11,7 @@ use Rattle.ug_sysfs.specs.World.{World, answer_of, begun, over}
 use Rattle.ug_sysfs.specs.Law.{does_what_it_may}
 use Rattle.ug_sysfs.specs.Begins.{happened_moves}
 use Rattle.ug_play.specs.Play.{play}
-use Rattle.ug_play.proofs.Plays.{play_told, told_unless}
+use Rattle.ug_play.proofs.Plays.{told_unless}
 use Rattle.ug_store.specs.PlayDisk.{play_disk}
 use Rattle.ug_store.specs.Scripted.{DiskWorld}
 use Rattle.ug_core.specs.Answering.{acting, asking, deed_after}
@@ -20,7 +20,7 @@ use Rattle.ug_core.specs.Storing.{stored_with, storing}
 use Rattle.ug_core.specs.declared.daemon.Event.{Event}
 use Rattle.ug_core.specs.declared.daemon.Event.TheVariants.{Sweep, Order}
 use Rattle.ug_script.specs.Replay.{answered_by, answered_from, event_from, tried_by}
-use Rattle.ug_script.proofs.Lawful.{HoldsOf, told_at, answered_holds}
+use Rattle.ug_script.proofs.Lawful.{HoldsOf, told_at}
 
 called_at : (w : World) (call : Call) → w.ran_out ≡ false → IsKernel w.kernel → Called call (answer_of w call).0 w.kernel (answer_of w call).1.kernel
 called_at w call run sound =

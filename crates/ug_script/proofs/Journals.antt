@@ -18,7 +18,6 @@ use Rattle.ug_table.specs.Laws.{IsAsJudged}
 use Rattle.ug_play.specs.Play.{play, names_somebody, NameNobody}
 use Rattle.ug_play.proofs.Sweeps.{nobody_more}
 use Rattle.ug_play.proofs.Still.{lived_in_play, play_still}
-use Rattle.ug_acl.specs.Acls.{Addition}
 use Rattle.ug_conf.specs.Draft.{draft_of}
 use Rattle.ug_conf.specs.Settings.{defaults}
 use Rattle.ug_conf.specs.Texts.{setting_line, settled}

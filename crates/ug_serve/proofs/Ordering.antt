@@ -5,7 +5,7 @@ use Rattle.ug_kernel.specs.Calls.{Call, Answer}
 use Rattle.ug_kernel.specs.Kernel.{Kernel}
 use Rattle.ug_store.specs.Disk.{Disk}
 use Rattle.ug_store.specs.DiskCalls.{DiskCall, DiskTold}
-use Rattle.ug_serve.specs.Turns.{TurnEvent, CoreAndServer, AskedLine, HandsOutNext, has_room, IsOrder, AreOrders, ServesOrders, Events}
+use Rattle.ug_serve.specs.Turns.{TurnEvent, CoreAndServer, AskedLine, HandsOutNext, has_room, IsOrder, ServesOrders, Events}
 
 module _ {Y D : Type 0} (begins : Y → Y → Type 0) (gives : Y → (call : Call) → Answer call → Y → Type 0) (told : Y → Option Kernel) (calls faults : Y → ℕ) (keeps : D → (call : DiskCall) → DiskTold call → D → Type 0) (disk_told : D → Option Disk) (disk_faults : D → ℕ) where
   pub orders_more : (moment : Moment) (a : CoreAndServer Y D) (e : TurnEvent) (m : CoreAndServer Y D) (es : List TurnEvent) (whole : Bool) (b : CoreAndServer Y D)

@@ -9,13 +9,13 @@ use Rattle.ug_proto.specs.declared.reply.Reply.{Reply}
 use Rattle.ug_store.specs.Disk.{Disk}
 use Rattle.ug_store.specs.DiskCalls.{DiskCall, DiskTold}
 use Rattle.ug_table.specs.Orders.{ordering}
-use Rattle.ug_table.specs.State.{State, kept_of}
+use Rattle.ug_table.specs.State.{kept_of}
 use Rattle.ug_table.specs.Sweep.{sweeping}
 use Rattle.ug_core.specs.Answering.{acting, answered_with, deed_after}
 use Rattle.ug_core.specs.Event.{DaemonState, ended, handling, ready}
 use Rattle.ug_core.specs.Laws.{HandlesEvent}
 use Rattle.ug_core.specs.Storing.{stored_with}
-use Rattle.ug_core.specs.Policy.{Judging, policy_answer, policy_later}
+use Rattle.ug_core.specs.Policy.{policy_answer, policy_later}
 use Rattle.ug_core.specs.declared.choosing.Deed.{Deed}
 use Rattle.ug_core.specs.declared.choosing.Deed.TheVariants as deed
 use Rattle.ug_core.specs.declared.daemon.Event.{Event}

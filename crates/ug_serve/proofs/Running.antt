@@ -1,5 +1,5 @@
 -- What turns tell, and the run that they are.
-use Rattle.std.proofs.Common.{◌≡◌, ℕ, ◌+◌, ◌<◌, Bool, true, false, List, [], ◌∷◌, ◌++◌, Option, Some, None, inl, inr, length, map, refl, sym, ◌∙◌, ap, subst, append_assoc, append-nil, length-append}
+use Rattle.std.proofs.Common.{◌≡◌, ℕ, ◌+◌, ◌<◌, Bool, true, false, List, [], ◌∷◌, ◌++◌, Option, Some, inl, inr, length, map, refl, sym, ◌∙◌, ap, subst, append_assoc, append-nil, length-append}
 use Rattle.std.specs.List.{flat_map}
 use Rattle.ug_types.specs.declared.control.Write.{Write}
 use Rattle.ug_types.specs.declared.verdict.Moment.{Moment}
@@ -18,7 +18,7 @@ use Rattle.ug_core.specs.Policy.{Judging}
 use Rattle.ug_core.specs.Event.{DaemonState, IsStarted, ready}
 use Rattle.ug_core.specs.Durable.{KeepsFile}
 use Rattle.ug_core.specs.Laws.{AnswersEvent, Handled}
-use Rattle.ug_core.specs.Stops.{AllReadable, IsReadable}
+use Rattle.ug_core.specs.Stops.{AllReadable}
 use Rattle.ug_core.specs.Durable.{WritesEvent}
 use Rattle.ug_rules.specs.RuleFile.{IsSaveable}
 use Rattle.ug_core.specs.declared.storing.Stored.{Stored}
@@ -28,7 +28,6 @@ use Rattle.ug_store.specs.Disk.{Disk}
 use Rattle.ug_store.specs.DiskCalls.{DiskCall, DiskTold}
 use Rattle.ug_types.specs.declared.saved.Saved.{Saved}
 use Rattle.ug_core.proofs.Chained.{is_run}
-use Rattle.ug_audit.specs.Panels.{Member}
 use Rattle.ug_audit.specs.Noting.{NotesEntries, without_drops}
 use Rattle.ug_audit.proofs.Noting.{notes_on, drops_append}
 use Rattle.ug_links.specs.declared.step.LinkStep.{LinkStep}
@@ -37,7 +36,7 @@ use Rattle.ug_links.specs.Talk.{TellsSteps}
 use Rattle.ug_links.proofs.Told.{made_told}
 use Rattle.ug_links.proofs.Extending.{extends_nil, extends_more}
 use Rattle.ug_sessions.specs.States.{ServerState}
-use Rattle.ug_serve.specs.Turns.{TurnEvent, Turned, turns_events, events_entries, turns_entries, AreWhole, Core, CoreAndServer, with_server, TurnWorld, IsHandled, AreOrders, ServesOrders, Events, Sweeps, Sweeps_not, Serves, Serves_not, Sends, IsTurn, Turns, IsOutOfNumbers, FailsToWait, EndsTurn, FewerTurns, CutsTurns, ServesTurns}
+use Rattle.ug_serve.specs.Turns.{TurnEvent, Turned, turns_events, events_entries, turns_entries, AreWhole, Core, CoreAndServer, with_server, TurnWorld, IsHandled, AreOrders, ServesOrders, Events, Sweeps, Sweeps_not, Serves, Serves_not, Sends, IsTurn, Turns, EndsTurn, CutsTurns, ServesTurns}
 use Rattle.ug_serve.specs.declared.turn.TurnEnd.{TurnEnd}
 use Rattle.ug_serve.specs.declared.turn.TurnEnd.TheVariants as end
 use Rattle.ug_serve.specs.Telling.{turns_tokens, turns_moments, turns_calls, IsRunOfTurns, TurnsTell}

@@ -14,7 +14,6 @@ use Rattle.ug_kernel.specs.Kernel.{Kernel}
 use Rattle.ug_store.specs.Disk.{Disk}
 use Rattle.ug_store.specs.DiskCalls.{DiskCall, DiskTold}
 use Rattle.ug_core.specs.Event.{DaemonState}
-use Rattle.ug_core.specs.declared.daemon.Event.{Event}
 use Rattle.ug_core.specs.declared.daemon.Event.TheVariants.{Order}
 use Rattle.ug_links.specs.declared.step.LinkStep.{LinkStep}
 use Rattle.ug_links.specs.Steps.{ids_end}
@@ -23,14 +22,13 @@ use Rattle.ug_sessions.specs.declared.session.Session.{Session}
 use Rattle.ug_sessions.specs.Answering.{HandsFirst, is_due, may_listen}
 use Rattle.ug_sessions.specs.Due.{Said, Answered, Watched, Noticed, Overlong, overlong_all}
 use Rattle.ug_sessions.specs.Known.{AreKnown, AreSound}
-use Rattle.ug_sessions.specs.States.{ServerState}
 use Rattle.ug_sessions.proofs.Accepted.{steps_split}
 use Rattle.ug_sessions.proofs.AllKept.{hands_sound, passes_sound, answers_sound, watches_sound, notices_sound, untold_sound}
 use Rattle.ug_sessions.proofs.WholeTurn.{turn_keeps, flush_keeps}
 use Rattle.ug_serve.specs.Responses.{notice_section, NotifiesIf, Notifies, SendsReplyIf, SendsReply, grants_watch, WatchesIf, Responds}
-use Rattle.ug_serve.specs.Saying.{answered_by, watched_by, noticed_in, notices_in, said_in, asked_if, asked_in, without_overlong, HaveAccess, AreServed, TurnsServe}
+use Rattle.ug_serve.specs.Saying.{answered_by, watched_by, noticed_in, notices_in, said_in, asked_if, asked_in, without_overlong, HaveAccess, TurnsServe}
 use Rattle.ug_serve.specs.Telling.{turns_calls}
-use Rattle.ug_serve.specs.Turns.{TurnEvent, Turned, turns_events, AreWhole, CoreAndServer, with_server, TurnWorld, AskedLine, IsOrder, IsSweep, AreOrders, ServesOrders, Events, Sweeps, Sweeps_not, Serves, Serves_not, Sends, IsTurn, Turns}
+use Rattle.ug_serve.specs.Turns.{TurnEvent, Turned, turns_events, AreWhole, CoreAndServer, with_server, TurnWorld, IsOrder, IsSweep, AreOrders, ServesOrders, Events, Sweeps, Sweeps_not, Serves, Serves_not, Sends, IsTurn, Turns}
 use Rattle.ug_serve.proofs.Running.{flat-append}
 
 -- ---- what is said but for refusals

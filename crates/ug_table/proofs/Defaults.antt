@@ -1,12 +1,12 @@
 -- Defaults that were written stand, as long as one and the same is written.
-use Rattle.std.proofs.Common.{◌≡◌, ℕ, Bool, true, false, List, [], ◌∷◌, ◌++◌, Option, Some, ◌⊎◌, inl, inr, refl, sym, ◌∙◌, ap, subst, append_assoc, append-nil}
+use Rattle.std.proofs.Common.{◌≡◌, ℕ, List, [], ◌∷◌, ◌++◌, Option, Some, inl, inr, refl, sym, ◌∙◌, ap, subst, append_assoc, append-nil}
 use Rattle.std.proofs.lemmas.Bool.{both_ways}
 use Rattle.std.proofs.lemmas.Option.{same_Some}
 use Rattle.ug_kernel.specs.declared.device.Effect.{Effect}
-use Rattle.ug_kernel.specs.Guarded.{default_at, default_by, set_by, Logs}
+use Rattle.ug_kernel.specs.Guarded.{default_at, default_by, Logs}
 use Rattle.ug_kernel.proofs.Guarded.{AreMeant, default_stays, default_set}
 use Rattle.ug_table.specs.Laws.{AreDefaulted}
-use Rattle.ug_table.proofs.Common.{Has, AllDistinct, Terms, Write, Wrote, Control, Default, Authorized, Held, Target, Cause, Judged, Entry, Kernel, Tries, Answers, Laters, State, Standing, Account, Start, Note, Judge, Had, Had_not, Went, HasVerdict, IsDevice, IsFair, AreLeft, Stand, numbers_of, wrote_entries, TellsNeither, MayHaveNot, CallsFor, default_of, control_of, is_done, has_left, has_right, has_cases, last_is, distinct_one, cancel}
+use Rattle.ug_table.proofs.Common.{Has, AllDistinct, Terms, Write, Wrote, Default, Held, Target, Judged, Entry, Kernel, Tries, Answers, Laters, State, Standing, Account, Start, Note, Judge, Had, Had_not, Went, HasVerdict, IsDevice, IsFair, AreLeft, Stand, numbers_of, wrote_entries, TellsNeither, MayHaveNot, CallsFor, default_of, control_of, has_left, has_right, has_cases, last_is, distinct_one, cancel}
 use Rattle.ug_table.proofs.Shapes.{default_file}
 use Rattle.ug_table.proofs.Standings.{IsFileOf, file_same, file_later}
 

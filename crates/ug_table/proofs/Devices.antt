@@ -1,7 +1,7 @@
 -- What is known of a device stays, whatever the kernel does.
 use Rattle.std.proofs.Common.{◌≡◌, ℕ, Bool, List, Option, Some, None, sym, ◌∙◌, ap, subst}
 use Rattle.ug_types.specs.declared.record.Attrs.{Attrs}
-use Rattle.ug_table.proofs.Common.{Judged, Held, Device, Authorized, Kernel, Stays, Grows, IsRecordOf, IsDevice, IsGone, IsProbed, Stand, Standing, Has, Write, grows_trans, judged_of}
+use Rattle.ug_table.proofs.Common.{Judged, Held, Device, Authorized, Kernel, Stays, Grows, IsRecordOf, IsDevice, IsGone, IsProbed, Stand, Standing, Has, grows_trans, judged_of}
 use Rattle.ug_node.specs.Bound.{attrs_of, parent_attrs_of, IsParentRead}
 use Rattle.ug_table.proofs.Standings.{file_same, file_later}
 

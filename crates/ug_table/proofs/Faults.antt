@@ -2,7 +2,7 @@
 use Rattle.std.proofs.Common.{◌≡◌, ℕ, ◌+◌, ◌≤◌, length, Some, None, arith, Bool, true, false, List, [], ◌∷◌, ◌++◌, inl, inr, refl, sym, ◌∙◌, ap, subst}
 use Rattle.std.proofs.lemmas.List.{length-append}
 use Rattle.ug_types.proofs.Sorting.{length-sweep_order}
-use Rattle.ug_table.proofs.Common.{Terms, Write, in_sweep_order, FailedCall, Listing, Call, Names, Answer, Runs, Made, answered, Along, failure, failures, Rises, Entry, Fault, State, Answers, Laters, lists, farewells, told_by, failures_told, numbers_given, InParts, unlisted_files, AfterListing, GoesInParts, TellsFaults, Standing, names_of, sweeping, failures_more, filter}
+use Rattle.ug_table.proofs.Common.{Terms, in_sweep_order, FailedCall, Listing, Call, Names, Answer, Runs, Made, answered, Along, failure, failures, Rises, Entry, Fault, State, Answers, Laters, lists, farewells, told_by, failures_told, numbers_given, InParts, unlisted_files, AfterListing, GoesInParts, TellsFaults, Standing, names_of, sweeping, failures_more, filter}
 use Rattle.ug_kernel.proofs.Rises.{Counting, along_numbered, along_rises}
 use Rattle.ug_table.proofs.Shapes.{told_at, next_after}
 use Rattle.ug_table.proofs.OnePart.{told_more, given_count, given_more, flat_given, flat_none, flat_is_part}

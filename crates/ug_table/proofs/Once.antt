@@ -1,7 +1,7 @@
 -- The names that a sweep tells, none twice; and that no device is told for want of memory that had a standing, lived through it, and
 -- wasn't still to be removed.
-use Rattle.std.proofs.Common.{◌≡◌, ℕ, Bool, true, List, [], ◌∷◌, ◌++◌, Option, Some, ◌⊎◌, inl, inr, refl, sym, ◌∙◌, ap, subst, append_assoc}
-use Rattle.ug_table.proofs.Common.{Has, AllDistinct, Call, Answer, Names, Ask_alive, Kernel, Follows, says_probe, Runs, calls, Made, answered, Along, Entry, State, Answers, Laters, farewells, standing_of, name_in, unsettled_names, EndsUnsettled, NamesOnce, Part, Standing, in_sweep_order, Grows, Probe, Fault, Stand, IsSpared, Known, Listing, names_of, sweeping, has_cases, cancel, has_right, NeedsMemory, known_of, Terms, terms_for, Write, along_split, along_grows, some_same, called_grows, grows_trans, told_run}
+use Rattle.std.proofs.Common.{◌≡◌, ℕ, Bool, List, [], ◌∷◌, ◌++◌, Option, Some, ◌⊎◌, inl, inr, refl, sym, ◌∙◌, ap, subst, append_assoc}
+use Rattle.ug_table.proofs.Common.{Has, AllDistinct, Call, Answer, Names, Ask_alive, Kernel, Follows, says_probe, Runs, calls, Made, answered, Along, Entry, State, Answers, Laters, farewells, standing_of, name_in, unsettled_names, EndsUnsettled, NamesOnce, Part, Standing, in_sweep_order, Grows, Probe, Fault, Stand, IsSpared, Known, Listing, names_of, sweeping, has_cases, cancel, has_right, NeedsMemory, known_of, Terms, Write, along_split, along_grows, some_same, called_grows, grows_trans, told_run}
 use Rattle.ug_table.proofs.Marks.{order_distinct, ends_only, named_only, farewell_none}
 use Rattle.ug_table.proofs.Says.{none_named}
 use Rattle.ug_table.proofs.Chains.{Chain, Over, First, Goes, Listed, Unlisted, goes_entries, sweeping_run}

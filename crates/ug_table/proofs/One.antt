@@ -3,7 +3,7 @@ use Rattle.std.proofs.Common.{◌≡◌, ℕ, Bool, true, false, not, nat_eq, �
 use Rattle.std.proofs.lemmas.Bool.{false_from_ne_true, or_right}
 use Rattle.std.proofs.lemmas.Bool.Decides.{same_from_decides}
 use Rattle.std.specs.Cmp.Lexicographic.{bytes_decides}
-use Rattle.ug_table.proofs.Common.{Has, AllDistinct, Call, Answer, Runs, calls, Made, Along, Bound, Entry, State, Kept, Answers, Laters, kept_of, with_kept, same_name, known_of, numbered, without, marked, removed_of, Control, Remove, Default, is_done, Terms, terms_of, Write, Known, standing_of, did_default, with_default, default_due, NeedsMemory, with_standing, numbers_of, Tries, none_before, Stand, IsGone, IsNamed, HasStanding, IsAsJudged, Standing, Settled, Device, Kernel, IsKernel, Follows, names_of, stands, tried_standings, settling, resettling, filter_has, map_has, has_map, distinct_one, cancel, is_reject, is_to_go, grows_refl, some_same, resettling_numbered, NeedsRoom, failed_of, whys, why_of, GoesAsPart, LivedAs, SettledOne, SettlesOne, IsOf, ResettledOne, ResettlesOne, told_run, StandInOrder}
+use Rattle.ug_table.proofs.Common.{Has, AllDistinct, Call, Answer, Runs, calls, Made, Along, Bound, Entry, State, Kept, Answers, Laters, kept_of, with_kept, same_name, known_of, numbered, without, marked, removed_of, Control, Remove, Default, is_done, Terms, terms_of, Write, Known, standing_of, did_default, with_default, default_due, NeedsMemory, with_standing, numbers_of, Tries, none_before, Stand, IsGone, IsNamed, HasStanding, IsAsJudged, Standing, Settled, Device, Kernel, IsKernel, Follows, names_of, stands, tried_standings, settling, resettling, filter_has, map_has, has_map, distinct_one, cancel, is_reject, grows_refl, some_same, resettling_numbered, NeedsRoom, failed_of, whys, why_of, GoesAsPart, LivedAs, SettledOne, SettlesOne, IsOf, ResettledOne, ResettlesOne, told_run, StandInOrder}
 use Rattle.ug_table.specs.Marks.{has_name, has_number, stood_done, LeavesMarks}
 use Rattle.ug_table.proofs.Marks.{keeps_did, names_distinct, unnamed, flat_stands, flat_nobody}
 use Rattle.ug_table.proofs.Standings.{rest_map, known_as, default_as, default_own, default_other, did_stands, is_same, Test, own, rest_of, AreNamed, marked_rest, without_rest, of_name, without_with, each_with, same_is, found, missing, numbered_has, IsFileOf, file_same, file_later, LiveAs, IsOpen, or_none, open_name, open_later, open_named}

@@ -4,7 +4,7 @@ use Rattle.ug_table.proofs.Common.{Has, Held, Control, Default, Target, Authoriz
 use Rattle.ug_node.proofs.BindShapes.{way_binds, Holds_by, way_holds}
 use Rattle.ug_table.specs.Bring.{NeedsMemory}
 use Rattle.ug_table.proofs.Shapes.{Written, Done, Went, Valued, Same, Set, Unheld, Gone_by, Short_by, OnceMade, Not_held, Put_on, Carried, By_value, And_removal, Brought, Left_open, Let_go, Treated, No_default, And_default, Cut_default, Gone_default, due_is, due_once, Opening, Fresh, Lost, Unbound_end, Absent_so, Vanished_so, Flat, Unprobed, Tried, Stopped, Unbound, No_place, Judged_so, told_at, opening_none, flat_rest, new_known}
-use Rattle.ug_table.proofs.Standings.{known_as, did_stands, did_without, others_stand, stands_file, stands_number, without_own, tried_own}
+use Rattle.ug_table.proofs.Standings.{known_as, did_stands, others_stand, stands_file, stands_number, without_own, tried_own}
 use Rattle.ug_table.proofs.PartCalls.{has_want, failed_by, are_short, behind_after, CallsOf, calls_are, calls_more, calls_as, closed_first, binding_faults, binding_files, binds_calls, IsFound, bound_found, hold_faults, hold_files, holds_calls, ready_due, default_found, IsShort, hold_short}
 
 -- entries

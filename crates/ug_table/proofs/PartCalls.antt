@@ -2,7 +2,7 @@
 use Rattle.std.proofs.Common.{◌≡◌, ℕ, ◌+◌, ◌≤◌, Bool, true, false, cond, ◌||◌, List, [], ◌∷◌, ◌++◌, Some, inl, inr, refl, sym, ◌∙◌, ap, subst, append_assoc, append-nil, arith}
 use Rattle.std.specs.Prelude.{if◌then◌else◌, nat_eq}
 use Rattle.std.proofs.lemmas.List.Folds.{list_any-append}
-use Rattle.ug_table.proofs.Common.{Has, Held, Control, Authorized, IsOnce, IsOnceDue, control_of, Default, Put, Wrote, opens_default, found_by, FailedCall, Listing, Probe, Call, Names, Open, Read, Ask_alive, Close, Closing, Told, Answer, failed_read, Made, answered, failure, failures, count_calls, Bound, Binding, RemoveHold, Fault, OpenFile, open_file, close_file, files_left, files_after, AreAbout, EndsAtFailure, Behind, behind_more, IsWriteDue, AreDue, PutMade, put_of, puts_of, told_by, Write, failures_more, list_any, binding_of}
+use Rattle.ug_table.proofs.Common.{Has, Held, Control, Authorized, IsOnce, IsOnceDue, control_of, Default, Put, Wrote, opens_default, FailedCall, Listing, Probe, Call, Names, Open, Read, Ask_alive, Close, Closing, Told, Answer, failed_read, Made, answered, failure, failures, count_calls, Bound, Binding, RemoveHold, Fault, OpenFile, open_file, close_file, files_left, files_after, AreAbout, EndsAtFailure, Behind, behind_more, IsWriteDue, AreDue, PutMade, put_of, puts_of, told_by, Write, failures_more, list_any, binding_of}
 use Rattle.ug_types.specs.declared.control.Attr.{Attr}
 use Rattle.ug_kernel.specs.declared.calls.Opened.{Opened}
 use Rattle.ug_kernel.specs.declared.calls.ReadOut.{ReadOut}

@@ -1,5 +1,5 @@
 -- What a sweep does, in the words of devices and journal.
-use Rattle.std.specs.Prelude.{◌≡◌, ℕ, ◌+◌, ◌<◌, Bool, true, false, not, is_none, map, List, [], ◌∷◌, ◌++◌, Option, Some, None, ◌⊎◌, slice_get}
+use Rattle.std.specs.Prelude.{◌≡◌, ℕ, ◌+◌, ◌<◌, Bool, true, false, is_none, map, List, [], ◌∷◌, ◌++◌, Option, Some, None, ◌⊎◌, slice_get}
 use Rattle.ug_types.specs.Elements.{Has, AllDistinct}
 use Rattle.std.specs.Ordering.{is_lt}
 use Rattle.ug_types.specs.Names.{parent_of, sweep_cmp}

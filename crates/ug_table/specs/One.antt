@@ -1,5 +1,5 @@
 -- What the settling of one name does, in the words of calls, devices and journal.
-use Rattle.std.specs.Prelude.{◌≡◌, ℕ, Bool, ◌^◌, ◌<◌, List, [], ◌∷◌, ◌++◌, Option, Some, None, true, ◌⊎◌, slice_get}
+use Rattle.std.specs.Prelude.{◌≡◌, ℕ, Bool, ◌^◌, ◌<◌, List, [], ◌∷◌, ◌++◌, Option, Some, None, ◌⊎◌, slice_get}
 use Rattle.ug_types.specs.Elements.{Has}
 use Rattle.ug_kernel.specs.declared.device.Device.{Device}
 use Rattle.ug_types.specs.declared.control.Control.TheVariants.{Authorized}

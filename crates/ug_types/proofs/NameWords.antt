@@ -1,7 +1,6 @@
 -- Names of device nodes and principals are words.
-use Rattle.std.proofs.Common.{◌≡◌, ℕ, ◌<◌, ◌≤◌, ◌^◌, inl, inr, Bool, true, false, cond, nat_eq, nat_lt, nat_le, List, [], ◌∷◌, ◌++◌, refl, sym, ap, subst, ◌∙◌, arith}
-use Rattle.std.specs.Prelude.{codes, decimal, if◌then◌else◌, ◌&&◌, ◌||◌, IsTrue, length}
-use Rattle.std.specs.Char.{is_ascii_alphanumeric}
+use Rattle.std.proofs.Common.{◌≡◌, ℕ, inl, inr, Bool, true, false, nat_eq, nat_lt, nat_le, List, [], ◌∷◌, ◌++◌, refl, ap, ◌∙◌, arith}
+use Rattle.std.specs.Prelude.{codes, decimal, if◌then◌else◌, ◌&&◌, length}
 use Rattle.std.specs.Cmp.Lexicographic.{pointwise}
 use Rattle.std.specs.List.{list_all}
 use Rattle.std.specs.Str.Parse.{AllDigits}
@@ -9,7 +8,7 @@ use Rattle.std.proofs.lemmas.Bool.{and_parts, false≢true}
 use Rattle.std.proofs.lemmas.Bool.Decides.{nat_tests}
 use Rattle.std.proofs.lemmas.Fmt.{digits_decimal}
 use Rattle.std.proofs.lemmas.Str.Parse.{numerals_by_value, tells_digits, digit_from_value}
-use Rattle.ug_types.specs.NodeNames.{IsPort, ArePorts, joined, IsRootHub, IsDevice, IsNodeName}
+use Rattle.ug_types.specs.NodeNames.{IsPort, ArePorts, joined, IsNodeName}
 use Rattle.ug_types.specs.Principals.{Named, is_name_byte, is_name, principal_text}
 use Rattle.ug_types.proofs.SpacedWords.{is_graphic, number_graphic, both_graphic}
 

@@ -1,4 +1,4 @@
-use Rattle.std.proofs.Common.{◌≡◌, ◌+◌, ◌<◌, [], ◌∷◌, length, drop, map, slice_index_or, Bor, sym, ap, ◌∙◌, arith, List, ℕ}
+use Rattle.std.proofs.Common.{◌≡◌, ◌+◌, ◌<◌, [], length, drop, map, slice_index_or, Bor, sym, ap, ◌∙◌, arith, List, ℕ}
 use Rattle.std.proofs.lemmas.List.{drop_all}
 use Rattle.ug_acl.specs.Grammar.{width_of}
 use Rattle.ug_acl.specs.Lines.{parts_of, parts_read}

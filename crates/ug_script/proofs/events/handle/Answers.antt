@@ -1,4 +1,3 @@
-use Rattle.std.proofs.Common.{◌≡◌, false, ap, sym, ◌∙◌}
 use Rattle.ug_core.specs.Event.{daemon_of}
 use Rattle.ug_script.proofs.EventSteps.{stopped_played, unstopped_played}
 use Rattle.ug_script.proofs.Filed.{event_files}

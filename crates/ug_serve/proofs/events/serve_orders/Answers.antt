@@ -1,4 +1,4 @@
-use Rattle.std.proofs.Common.{◌≡◌, rules, arith, ◌<◌, ◌≤◌, [], ◌∷◌, true, false, Some, refl, sym, ◌∙◌}
+use Rattle.std.proofs.Common.{◌≡◌, rules, arith, ◌<◌, ◌≤◌, [], ◌∷◌, true, false, refl, sym, ◌∙◌}
 use Rattle.ug_audit.specs.Journal.{members}
 use Rattle.ug_core.specs.Event.{daemon_of}
 use Rattle.ug_core.specs.declared.daemon.Event.TheVariants.{Order}

@@ -1,4 +1,4 @@
-use Rattle.std.proofs.Common.{◌≡◌, take}
+use Rattle.std.proofs.Common.{take}
 use Rattle.ug_serve.specs.Access.{AreOnce}
 use Rattle.ug_serve.proofs.listed.list_once.Given as goal
 

@@ -1,4 +1,4 @@
-use Rattle.std.proofs.Common.{◌≡◌, ◌≤◌, drop}
+use Rattle.std.proofs.Common.{◌≤◌, drop}
 use Rattle.ug_links.specs.Talk.{Talks}
 use Rattle.ug_serve.specs.Listening.{listening}
 use Rattle.ug_serve.proofs.listening.listen_for_all.Given as goal

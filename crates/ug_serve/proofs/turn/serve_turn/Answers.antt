@@ -1,4 +1,4 @@
-use Rattle.std.proofs.Common.{[], ◌++◌, true, false, inl, inr, refl, sym, ◌∙◌, take}
+use Rattle.std.proofs.Common.{[], true, false, inl, inr, refl, sym, ◌∙◌, take}
 use Rattle.ug_links.proofs.Told.{path_made}
 use Rattle.ug_serve.proofs.Ordering.{events_as}
 use Rattle.ug_serve.proofs.turn.serve_turn.Goals as goal

@@ -1,4 +1,4 @@
-use Rattle.std.proofs.Common.{[], ◌∷◌, ◌++◌, inl, inr, refl, arith}
+use Rattle.std.proofs.Common.{[], refl, arith}
 use Rattle.ug_audit.specs.Journal.{members}
 use Rattle.ug_core.specs.Event.{daemon_of}
 use Rattle.ug_serve.specs.Turns.{core_of, turn_world}

@@ -1,4 +1,4 @@
-use Rattle.std.proofs.Common.{◌≡◌, ℕ, [], sym, ap, subst, ◌∙◌}
+use Rattle.std.proofs.Common.{◌≡◌, ℕ, [], ap, subst, ◌∙◌}
 use Rattle.ug_store.specs.Store.{RunsDisk}
 use Rattle.ug_table.specs.Order.{StandInOrder}
 use Rattle.ug_core.specs.Laws.{RunsAnswer}
