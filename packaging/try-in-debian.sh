@@ -127,6 +127,7 @@ show 'cd /usr/share/doc/usbguard*/examples && usbguard replay < first.script'
 show 'usbguard read-descriptor < /sys/bus/usb/devices/1-1/descriptors'
 show "printf 'allow 1050:0011 name \"Key\"\n' > /etc/usbguard/rules.conf"
 show 'usbguard check-rules < /etc/usbguard/rules.conf'
+show 'usbguard lint-rules < /etc/usbguard/rules.conf'
 show 'usbguard-script -c /etc/usbguard/usbguard-daemon.conf -r /etc/usbguard/rules.conf'
 show 'usbguard-script -c /etc/usbguard/usbguard-daemon.conf -r /etc/usbguard/rules.conf | usbguard replay'
 show 'timeout 3 usbguard daemon --conf /etc/usbguard/usbguard-daemon.conf'
@@ -145,8 +146,8 @@ completes() {
     check "bash: $1 -> $2" "$bash
         [ \"\$(complete_words $1)\" = '$2' ]"
 }
-completes "usbguard ''" 'add-user allow-device append-rule block-device check-rules daemon generate-policy get-parameter list-devices list-rules read-descriptor reject-device remove-rule replay set-parameter watch'
-for command in check-rules daemon generate-policy read-descriptor replay; do
+completes "usbguard ''" 'add-user allow-device append-rule block-device check-rules daemon generate-policy get-parameter lint-rules list-devices list-rules read-descriptor reject-device remove-rule replay set-parameter watch'
+for command in check-rules daemon generate-policy lint-rules read-descriptor replay; do
     completes "usbguard ${command%???}" "$command"
 done
 chroot "$root" usbguard --help 2>&1 | awk '/^  usbguard / {

@@ -29,6 +29,7 @@ _usbguard_options() {
     add-user) [[ $1 != -* ]] || _usbguard_words "$1" --devices --exceptions --parameters --policy ;;
     allow-device | block-device | reject-device) [[ $1 != -* ]] || _usbguard_words "$1" --socket -p ;;
     append-rule) [[ $1 != -* ]] || _usbguard_words "$1" --socket -a -t ;;
+    lint-rules) [[ $1 != -* ]] || _usbguard_words "$1" --prune ;;
     watch) [[ $1 != -* ]] || _usbguard_words "$1" --socket -n ;;
     get-parameter | list-devices | list-rules | remove-rule | set-parameter)
         [[ $1 != -* ]] || _usbguard_words "$1" --socket
@@ -43,7 +44,7 @@ _usbguard() {
         _usbguard_files "$word"
     elif ((COMP_CWORD == 1)); then
         _usbguard_words "$word" add-user allow-device append-rule block-device check-rules daemon generate-policy \
-            get-parameter list-devices list-rules read-descriptor reject-device remove-rule replay set-parameter watch
+            get-parameter lint-rules list-devices list-rules read-descriptor reject-device remove-rule replay set-parameter watch
     elif [[ $before == --socket ]]; then
         _usbguard_files "$word"
     else

@@ -11,6 +11,7 @@ _usbguard_commands() {
         'daemon:judge the devices of this machine'
         'generate-policy:write rules that allow the devices of a script'
         'get-parameter:print what a setting is'
+        'lint-rules:tell which rules of a text can never decide, or take them out'
         'list-devices:print all devices'
         'list-rules:print all rules'
         "read-descriptor:list what a device's file descriptors says"
@@ -43,6 +44,7 @@ _usbguard() {
             add-user) compadd -- --devices --exceptions --parameters --policy ;;
             allow-device|block-device|reject-device) compadd -- --socket -p ;;
             append-rule) compadd -- --socket -a -t ;;
+            lint-rules) compadd -- --prune ;;
             watch) compadd -- --socket -n ;;
             get-parameter|list-devices|list-rules|remove-rule|set-parameter) compadd -- --socket ;;
         esac

@@ -12,6 +12,7 @@ unfolding app_of_word clap_on_literals
 simple_and_free command.Replay = refl
 simple_and_free command.ReadDescriptor = refl
 simple_and_free command.CheckRules = refl
+simple_and_free command.LintRules = refl
 simple_and_free command.GeneratePolicy = refl
 simple_and_free command.AddUser = refl
 simple_and_free command.GetParameter = refl

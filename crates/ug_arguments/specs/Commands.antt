@@ -19,7 +19,7 @@ use Rattle.ug_arguments.specs.CommandWords.{word_in}
 use Rattle.ug_arguments.specs.SimpleCommands.{app_of_word, daemon_app, rows_in}
 use Rattle.ug_arguments.specs.Values.{is_line, is_most, is_rule, is_set, is_word, number_at, passing, text_at}
 use Rattle.ug_arguments.specs.declared.command.Command.{Command}
-use Rattle.ug_arguments.specs.declared.command.Command.TheVariants.{Replay, ReadDescriptor, CheckRules, GeneratePolicy, AddUser, Ask, Watch}
+use Rattle.ug_arguments.specs.declared.command.Command.TheVariants.{Replay, ReadDescriptor, CheckRules, LintRules, GeneratePolicy, AddUser, Ask, Watch}
 use Rattle.ug_arguments.specs.declared.command.WordsFault.{WordsFault}
 use Rattle.ug_arguments.specs.declared.command.WordsFault.TheVariants.{Bad, Memory}
 use Rattle.ug_arguments.specs.declared.command_word.CommandWord.{CommandWord}
@@ -127,6 +127,7 @@ unfoldable pub meaning : CommandWord → List Row → Option Command
 meaning command.Replay rows = Some Replay
 meaning command.ReadDescriptor rows = Some ReadDescriptor
 meaning command.CheckRules rows = Some CheckRules
+meaning command.LintRules rows = Some (LintRules (is_set (codes "prune") rows))
 meaning command.GeneratePolicy rows = Some GeneratePolicy
 meaning command.AddUser rows = add_user_in rows
 meaning command.GetParameter rows = ask_in (get_parameter_in rows) rows

@@ -22,6 +22,14 @@ short_option id letter = record (new_rule id) { short = Some letter }
 abbrev pub flag : List ℕ → ℕ → Rule
 flag id letter = record (new_rule id) { short = Some letter; action = Some SetTrue }
 
+-- `--NAME`, which may be left out
+abbrev pub long_flag : List ℕ → Rule
+long_flag id = record (new_rule id) { long = Some id; action = Some SetTrue }
+
+-- lint-rules [--prune]
+abbrev pub lint_rules_app : App
+lint_rules_app = with_rule (new_app (codes "lint-rules")) (long_flag (codes "prune"))
+
 -- add-user NAME [--devices LIST] [--policy LIST] [--exceptions LIST] [--parameters LIST]
 abbrev pub add_user_app : App
 add_user_app =
@@ -70,6 +78,7 @@ unfoldable pub app_of_word : CommandWord → App
 app_of_word command.Replay = new_app (codes "replay")
 app_of_word command.ReadDescriptor = new_app (codes "read-descriptor")
 app_of_word command.CheckRules = new_app (codes "check-rules")
+app_of_word command.LintRules = lint_rules_app
 app_of_word command.GeneratePolicy = new_app (codes "generate-policy")
 app_of_word command.AddUser = add_user_app
 app_of_word command.GetParameter = get_parameter_app

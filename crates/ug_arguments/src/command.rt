@@ -11,6 +11,8 @@ pub enum Command {
     Replay,
     ReadDescriptor,
     CheckRules,
+    /// Finds the rules that can never decide, or takes out those that earlier ones cover.
+    LintRules { prune: bool },
     GeneratePolicy,
     /// Adds privileges to the access text of a user or a group.
     AddUser { name: Principal, asked: Asked },

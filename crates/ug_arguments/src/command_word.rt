@@ -10,6 +10,7 @@ pub enum CommandWord {
     Replay,
     ReadDescriptor,
     CheckRules,
+    LintRules,
     GeneratePolicy,
     AddUser,
     GetParameter,
@@ -73,6 +74,9 @@ pub fn command_word(text: &str) -> Option<CommandWord>
     }
     if text == "check-rules" {
         return Some(CommandWord::CheckRules);
+    }
+    if text == "lint-rules" {
+        return Some(CommandWord::LintRules);
     }
     if text == "generate-policy" {
         return Some(CommandWord::GeneratePolicy);

@@ -6,6 +6,7 @@ ghost use Rattle.ug_arguments.specs.Commands.{NotRead, add_user_in, ask_in, aske
 
 use crate::command::{Command, WordsFault};
 use crate::command_word::CommandWord;
+use crate::matches::is_set;
 use crate::requests::{append_rule, device, get_parameter, remove_rule, sendable, set_parameter};
 use crate::values::{listed, most, principal, socket};
 use clap::ArgMatches;
@@ -71,6 +72,9 @@ pub fn meaning(
         CommandWord::Replay => Ok(Command::Replay),
         CommandWord::ReadDescriptor => Ok(Command::ReadDescriptor),
         CommandWord::CheckRules => Ok(Command::CheckRules),
+        CommandWord::LintRules => Ok(Command::LintRules {
+            prune: is_set(matches, "prune"),
+        }),
         CommandWord::GeneratePolicy => Ok(Command::GeneratePolicy),
         CommandWord::AddUser => add_user(matches),
         CommandWord::GetParameter => ask(alloc, matches, get_parameter(alloc, matches)?),

@@ -1,4 +1,6 @@
 pub mod Checking
 pub mod CheckingLines
+pub mod Linting
+pub mod LintingLines
 pub mod Listing
 pub mod ListingLines

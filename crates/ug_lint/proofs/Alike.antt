@@ -30,10 +30,10 @@ use Rattle.ug_lint.proofs.Found.{has_place}
 use Rattle.ug_lint.proofs.Matches.{query_less}
 use Rattle.ug_lint.proofs.Sure.{always_holds, words_behind}
 
-never : {P : Type 0} → false ≡ true → P
+pub never : {P : Type 0} → false ≡ true → P
 never h = let none : ⊥ = cc in absurd none
 
-not_true : (b : Bool) → (b ≡ true → ⊥) → b ≡ false
+pub not_true : (b : Bool) → (b ≡ true → ⊥) → b ≡ false
 not_true true h = absurd (h refl)
 not_true false h = refl
 
@@ -52,7 +52,7 @@ coverer_cond : (before : List Rule) (rule : Rule) (b : Bool) → tells_covered (
 coverer_cond before rule true h = never h
 coverer_cond before rule false h = coverer_at before rule (position (covers_rule rule) before) refl h
 
-coverer : (before : List Rule) (rule : Rule) → is_covered before rule ≡ true → Coverer before rule
+pub coverer : (before : List Rule) (rule : Rule) → is_covered before rule ≡ true → Coverer before rule
 coverer before rule h = coverer_cond before rule (never_hold rule.conds) h
 
 -- none of these rules that always holds matches the device

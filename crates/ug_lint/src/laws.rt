@@ -89,10 +89,11 @@ pub fn findings_law()
 {}
 
 /// Without the rules that are covered each device is judged as with them, and the histories of the others are the same after
-/// it.
+/// it. None of the others is covered by one of them.
 pub fn remaining_law()
     ensures alike { (dev : DeviceRecord) (ctx : when.Context) (records : List DeviceRecord)
         (entries : List RuleEntry) (stream : Stream) → All WellFormed (rules_in entries) → HasWords stream
         → PrunedAlike dev ctx records entries stream }
     ensures rules { (entries : List RuleEntry) → rules_in (remaining_entries entries) ≡ remaining (rules_in entries) }
+    ensures once { (rules : List types.Rule) → remaining (remaining rules) ≡ remaining rules }
 {}

@@ -25,6 +25,7 @@ impl Teller for Cases {
                 commands::tell_line(alloc, b"sweep 250000000000\n", &case.input)
             }
             "check-rules" => commands::tell_tool(alloc, "check-rules", case),
+            "lint-rules" => commands::tell_tool(alloc, "lint-rules", case),
             "read-descriptor" => commands::tell_tool(alloc, "read-descriptor", case),
             "read-descriptor-counts" => commands::count_tool(alloc, "read-descriptor", case),
             "generate-policy" => commands::tell_tool(alloc, "generate-policy", case),

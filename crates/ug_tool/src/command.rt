@@ -1,5 +1,5 @@
 // A command that was read.
-ghost use Rattle.std.specs.Prelude.{◌≡◌, ◌⊎◌, ◌++◌, [], ℕ, List, Option, Some, None, true, false};
+ghost use Rattle.std.specs.Prelude.{◌≡◌, ◌⊎◌, ◌++◌, [], ℕ, Bool, List, Option, Some, None, true, false};
 ghost use Rattle.ug_types.specs.Ends.{Rose};
 ghost use Rattle.ug_types.specs.Principals.{Named};
 ghost use Rattle.ug_console.specs.Fold.{of_first};
@@ -13,6 +13,7 @@ ghost use Rattle.ug_script.specs.Script.{Script};
 ghost use Rattle.ug_script.specs.Replay.{script_step, script_end};
 ghost use Rattle.ug_commands.specs.Listing as listing;
 ghost use Rattle.ug_commands.specs.Checking as checking;
+ghost use Rattle.ug_commands.specs.Linting as linting;
 ghost use Rattle.ug_users.specs.Adding as adding;
 ghost use Rattle.ug_users.specs.declared.asked.Asked.{Asked};
 ghost use Rattle.ug_proto.specs.declared.request.Request.{Request};
@@ -27,7 +28,7 @@ use crate::client::{ask_daemon, watch_daemon};
 use crate::replay::replay_over;
 use std::alloc::Global;
 use ug_arguments::Command;
-use ug_commands::{check_rules, list_descriptors};
+use ug_commands::{check_rules, lint_rules, list_descriptors};
 use ug_script::generate_policy;
 use ug_sysfs::SimKernel;
 use ug_types::{Link, Sink, Source};
@@ -47,6 +48,9 @@ pub fn carry_out<S: Source, K: Sink, L: Link>(
         → listing.Answers all base (S.left input.new) (K.held out.new) result }
     ensures checked { command.now ≡ commands.CheckRules → (all base : List ℕ) → S.left input.old ≡ Some all → K.held out.old ≡ Some base
         → checking.Answers all base (S.left input.new) (K.held out.new) result }
+    ensures linted { (prune : Bool) → command.now ≡ commands.LintRules prune
+        → (all base : List ℕ) → S.left input.old ≡ Some all → K.held out.old ≡ Some base
+        → linting.Answers prune all base (S.left input.new) (K.held out.new) result }
     ensures generated { command.now ≡ commands.GeneratePolicy → (all base : List ℕ)
         → S.left input.old ≡ Some all → K.held out.old ≡ Some base
         → (script : Option Script) × (world : World)
@@ -70,6 +74,8 @@ pub fn carry_out<S: Source, K: Sink, L: Link>(
         (K.held out.old) (K.held out.new) (L.faults link.old) (L.faults link.new) result }
     ensures ended { gives_ended command.now ≡ true → (ended : Ended) × (result ≡ status_of ended) }
     ensures checked_ended { command.now ≡ commands.CheckRules → (ended : Ended) × (result ≡ checking.status_of ended) }
+    ensures linted_ended { (prune : Bool) → command.now ≡ commands.LintRules prune
+        → (ended : Ended) × (result ≡ checking.status_of ended) }
     ensures read { result ≡ 4 → Rose (S.faults input.old) (S.faults input.new) }
     ensures written { result ≡ 5 → Rose (K.faults out.old) (K.faults out.new) }
     ensures input { asks_daemon command.now ≡ true → S.left input.new ≡ S.left input.old }
@@ -79,6 +85,7 @@ pub fn carry_out<S: Source, K: Sink, L: Link>(
         Command::Replay => replay_over(alloc, input, out, &mut SimKernel::new(alloc)),
         Command::ReadDescriptor => list_descriptors(alloc, input, out),
         Command::CheckRules => check_rules(alloc, input, out),
+        Command::LintRules { prune } => lint_rules(alloc, *prune, input, out),
         Command::GeneratePolicy => {
             generate_policy(alloc, input, out, &mut SimKernel::new(alloc))
         }

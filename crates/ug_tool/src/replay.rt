@@ -49,6 +49,7 @@ fn read_replay(alloc: Global, words: &[&str]) -> Result<(), WordsFault>
         Command::Replay => Ok(()),
         Command::ReadDescriptor
         | Command::CheckRules
+        | Command::LintRules { .. }
         | Command::GeneratePolicy
         | Command::AddUser { .. }
         | Command::Ask { .. }

@@ -19,7 +19,7 @@ const A_SCRIPT: &str =
 const A_SOCKET: &str =
     "PATH is the socket at which the daemon listens. Without it that is /run/usbguard/root.socket.";
 
-const USAGES: [Usage; 16] = [
+const USAGES: [Usage; 17] = [
     Usage {
         word: "add-user",
         line: "usbguard add-user NAME [--devices LIST] [--policy LIST] [--exceptions LIST] [--parameters LIST] < FILE",
@@ -59,6 +59,11 @@ const USAGES: [Usage; 16] = [
         word: "get-parameter",
         line: "usbguard get-parameter NAME [--socket PATH]",
         hint: "NAME is a setting's: ImplicitPolicyTarget or InsertedDevicePolicy.",
+    },
+    Usage {
+        word: "lint-rules",
+        line: "usbguard lint-rules [--prune] < RULES",
+        hint: "It reads standard input: write < before the name of a file. With --prune it writes the rules that no earlier one covers.",
     },
     Usage {
         word: "list-devices",
@@ -158,7 +163,7 @@ fn tell_words(rt: &HostRuntime, words: &[&str]) -> std::io::Result<()> {
 fn advice(status: u8) -> Option<&'static str> {
     match status {
         2 => Some("The input was refused, as the last line says: mend it, and try again."),
-        3 => Some("A rule is bad: mend the line that the last line names, and try again."),
+        3 => Some("The rules are refused, as the last line says: mend them, and try again."),
         4 => Some("The input could not be read: see that it can be opened and read to its end."),
         5 => Some(
             "The output could not be written: see that there is room, and that it is read to its end.",

@@ -6,6 +6,7 @@ use Rattle.ug_script.specs.Generating.{generate_end, generate_step}
 use Rattle.ug_script.specs.Replay.{script_step, script_end}
 use Rattle.ug_commands.specs.Listing as listing
 use Rattle.ug_commands.specs.Checking as checking
+use Rattle.ug_commands.specs.Linting as linting
 use Rattle.ug_users.specs.Adding as adding
 use Rattle.ug_client.specs.Asking.{request_line}
 use Rattle.ug_proto.specs.declared.request.Request.TheVariants as request
@@ -30,6 +31,9 @@ returns-in-Ok-clause-listed g c = λ e. c.carry_out.ensures.listed (same_command
 
 pub returns-in-Ok-clause-checked : goal.returns-in-Ok-clause-checked
 returns-in-Ok-clause-checked g c = λ e. c.carry_out.ensures.checked (same_command (command_in (map (λ (w : Bor (List ℕ)). w.now) c.args.words.now)) _ _ c.in-Ok.ensures.ok e)
+
+pub returns-in-Ok-clause-linted : goal.returns-in-Ok-clause-linted
+returns-in-Ok-clause-linted g c = λ prune e. c.carry_out.ensures.linted prune (same_command (command_in (map (λ (w : Bor (List ℕ)). w.now) c.args.words.now)) _ _ c.in-Ok.ensures.ok e)
 
 pub returns-in-Ok-clause-generated : goal.returns-in-Ok-clause-generated
 returns-in-Ok-clause-generated g c = λ e. c.carry_out.ensures.generated (same_command (command_in (map (λ (w : Bor (List ℕ)). w.now) c.args.words.now)) _ _ c.in-Ok.ensures.ok e)
@@ -72,6 +76,12 @@ returns-in-Err-clause-checked g c = λ e all base a b.
     let words = command_in (map (λ (w : Bor (List ℕ)). w.now) c.args.words.now) in
     let short = c.refuse.ensures.memory (fault_is_memory words _ c.in-Err.fault c.in-Err.ensures.err e) in
     rw a (input_unread checking.status_of input_limit checking.IsCounted checking.IsRefused all base (g.K.Sink.held c.refuse.new.out) c.refuse.result refl refl (rw b at short))
+
+pub returns-in-Err-clause-linted : goal.returns-in-Err-clause-linted
+returns-in-Err-clause-linted g c = λ prune e all base a b.
+    let words = command_in (map (λ (w : Bor (List ℕ)). w.now) c.args.words.now) in
+    let short = c.refuse.ensures.memory (fault_is_memory words _ c.in-Err.fault c.in-Err.ensures.err e) in
+    rw a (input_unread checking.status_of input_limit (linting.IsOutput prune) linting.IsRefused all base (g.K.Sink.held c.refuse.new.out) c.refuse.result refl refl (rw b at short))
 
 pub returns-in-Err-clause-generated : goal.returns-in-Err-clause-generated
 returns-in-Err-clause-generated g c = λ e all base a b.
