@@ -43,12 +43,13 @@ install: $(PROGRAM)
 	$(INSTALL) -d -m 755 "$(DESTDIR)$(docdir)" "$(DESTDIR)$(docdir)/docs" "$(DESTDIR)$(docdir)/examples"
 	$(INSTALL) -m 755 "$(PROGRAM)" "$(DESTDIR)$(bindir)/usbguard"
 	$(INSTALL) -m 755 bin/usbguard-script "$(DESTDIR)$(bindir)/usbguard-script"
+	$(INSTALL) -m 755 packaging/usbguard-prepare "$(DESTDIR)$(libexecdir)/usbguard-prepare"
 	$(INSTALL) -m 755 packaging/usbguard-sockets "$(DESTDIR)$(libexecdir)/usbguard-sockets"
 	$(INSTALL) -m 644 man/usbguard.1 "$(DESTDIR)$(mandir)/man1/usbguard.1"
 	ln -sf usbguard.1 "$(DESTDIR)$(mandir)/man1/usbguard-script.1"
 	$(INSTALL) -m 644 man/usbguard-daemon.conf.5 man/usbguard-replay.5 man/usbguard-rules.conf.5 \
 		"$(DESTDIR)$(mandir)/man5"
-	sed -e 's|/usr/bin/|$(bindir)/|' -e 's|/usr/libexec/|$(libexecdir)/|' packaging/usbguard.service \
+	sed -e 's|/usr/bin/usbguard|$(bindir)/usbguard|' -e 's|/usr/libexec/|$(libexecdir)/|' packaging/usbguard.service \
 		> "$(DESTDIR)$(unitdir)/usbguard.service"
 	chmod 644 "$(DESTDIR)$(unitdir)/usbguard.service"
 	$(INSTALL) -m 644 packaging/usbguard.bash "$(DESTDIR)$(bashdir)/usbguard"
