@@ -1,9 +1,12 @@
-# Installs the program with its manual pages, settings and service, and makes a
-# Debian package of them. It builds nothing: README.md says how the program is
-# built.
+# Builds the proved program by bin/build-usbguard, installs it with its manual
+# pages, settings and service, and makes a Debian package of them. Where the
+# program is proved of these sources already, nothing is built.
 #
+#   make
 #   make install DESTDIR=/somewhere
 #   make deb
+#
+# With PROGRAM=PATH that program is taken, and nothing is built.
 
 PROGRAM = crates/usbguard/out/usbguard
 DESTDIR =
@@ -30,16 +33,17 @@ confdir = $(sysconfdir)/usbguard
 INSTALL = install
 DOCS = README.md CHANGELOG.md CONTRIBUTING.md LICENSE $(sort $(wildcard docs/*.md))
 
-all:
-	@echo "make install DESTDIR=FOLDER, or make deb"
+all: program
 
-# The program, where it isn't built yet.
-$(PROGRAM):
-	@echo "make: there is no program at $@." >&2
-	@echo "Build it with bin/usbguard, or name another: make PROGRAM=PATH" >&2
-	@exit 1
+ifeq ($(origin PROGRAM),file)
+program:
+	@bin/build-usbguard
+else
+program:
+	@[ -x "$(PROGRAM)" ] || { echo "make: there is no program at $(PROGRAM)" >&2; exit 1; }
+endif
 
-install: $(PROGRAM)
+install: program
 	$(INSTALL) -d -m 755 "$(DESTDIR)$(bindir)" "$(DESTDIR)$(libexecdir)"
 	$(INSTALL) -d -m 755 "$(DESTDIR)$(mandir)/man1" "$(DESTDIR)$(mandir)/man5"
 	$(INSTALL) -d -m 755 "$(DESTDIR)$(unitdir)" "$(DESTDIR)$(bashdir)" "$(DESTDIR)$(zshdir)"
@@ -74,7 +78,7 @@ install-conf:
 	[ -e "$(DESTDIR)$(confdir)/rules.conf" ] || \
 		$(INSTALL) -m 600 /dev/null "$(DESTDIR)$(confdir)/rules.conf"
 
-deb: $(PROGRAM)
+deb: program
 	PROGRAM="$(PROGRAM)" packaging/make-deb.sh "$(PACKAGE)" "$(VERSION)"
 
-.PHONY: all install install-conf deb
+.PHONY: all program install install-conf deb

@@ -1,7 +1,7 @@
 #!/bin/sh
 # Times the judging of 1,000 devices against 1,000 and 65,536 rules of which only the last matches, and prints judgements
 # per second. What the same script takes without its sweep is told beside, and is taken off.
-# It wants the built program (bin/usbguard builds it), awk, and GNU time as /usr/bin/time.
+# It wants the built program (bin/build-usbguard builds it), awk, and GNU time as /usr/bin/time.
 set -eu
 . "$(dirname "$0")/program.sh"
 
