@@ -51,8 +51,8 @@ fake_sysfs() {
 boot() {
     systemd-nspawn --quiet --boot --register=no --keep-unit --private-network --directory="$root" >"$work/console" 2>&1 </dev/null &
     machine=$!
-    tries=100
-    until leader=$(pgrep -P "$machine") && run 'systemctl is-system-running | grep -qx -e running -e degraded'; do
+    tries=200
+    until leader=$(pgrep -P "$machine") && run 'systemctl is-active multi-user.target'; do
         tries=$((tries - 1))
         [ $tries -gt 0 ] || { cat "$work/console"; exit 1; }
         sleep 0.3
