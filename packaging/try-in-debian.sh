@@ -308,7 +308,7 @@ check 'zsh knows both' \
 # types SHELL KEYS WANTED: at the shell's prompt the keys give this command, as a function in the program's place shows it
 types() {
     printf "$2\\n" >"$root/tmp/keys"
-    check "$1, typed at: $2 -> $3" "{ sleep 2; cat /tmp/keys; sleep 2; printf 'exit\\n'; } | TERM=vt100 script -qec '$shell' /dev/null | tr -d '\\r' | grep -x '<$3>'"
+    check "$1, typed at: $2 -> $3" "{ sleep 2; cat /tmp/keys; sleep 2; printf 'exit\\n'; } | TERM=vt100 script -qec '$shell' /dev/null | grep -F '<$3>'"
 }
 mkdir -p "$root/run/usbguard"
 touch "$root/run/usbguard/root.socket"
@@ -319,7 +319,7 @@ types bash 'usbguard list-rules --socket=/run/usbg\t' 'usbguard list-rules --soc
 types bash 'usbguard add-user joe --devices=modify,listen --pol\t' 'usbguard add-user joe --devices=modify,listen --policy'
 types bash 'usbguard set-parameter Imp\tbl\t' 'usbguard set-parameter ImplicitPolicyTarget block'
 mkdir -p "$root/tmp/zsh"
-echo 'autoload -Uz compinit; compinit -D -u; PS1=; unsetopt zle_bracketed_paste; usbguard() { print -r -- "<usbguard $*>" }' >"$root/tmp/zsh/.zshrc"
+echo 'autoload -Uz compinit; compinit -D -u; PS1=; usbguard() { print -r -- "<usbguard $*>" }' >"$root/tmp/zsh/.zshrc"
 shell='env ZDOTDIR=/tmp/zsh zsh -i'
 types zsh 'usbguard list-ru\t--sock\t' 'usbguard list-rules --socket'
 types zsh 'usbguard list-rules --socket=/run/usbguard/r\t' 'usbguard list-rules --socket=/run/usbguard/root.socket'

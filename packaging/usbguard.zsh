@@ -23,11 +23,10 @@ _usbguard_commands() {
     _describe command commands
 }
 
-# The daemon's sockets, or other files.
+# The daemon's sockets, or other files where none begins like the word.
 _usbguard_socket() {
     local -a sockets=(/run/usbguard/*.socket(N))
-    compadd -- $sockets
-    _files
+    compadd -- $sockets || _files
 }
 
 # The privileges of an access file's section, with commas between.
