@@ -12,8 +12,12 @@ PROGRAM = crates/usbguard/out/usbguard
 DESTDIR =
 
 PACKAGE = usbguard-rattle
-# No release has been made: the date and the id of the commit.
-VERSION = 0~$(shell git log -1 --date=format:%Y%m%d --format=%cd.%h --abbrev=7)
+# The version that the program tells. Only the commit of that release's tag has just this; others have the date and the commit's id behind
+# it, which dpkg sorts before the release (~) until there is one, and then behind it (+).
+RELEASE = $(shell sed -n 's/^const VERSION.*"\(.*\)";/\1/p' crates/usbguard/src/about.rt)
+COMMIT = $(shell git log -1 --date=format:%Y%m%d --format=%cd.%h --abbrev=7)
+VERSION = $(RELEASE)$(shell git describe --exact-match --match v$(RELEASE) >/dev/null 2>&1 || \
+	{ git rev-parse -q --verify v$(RELEASE) >/dev/null && printf + || printf '~'; echo $(COMMIT); })
 
 prefix = /usr
 sysconfdir = /etc
@@ -27,8 +31,7 @@ zshdir = $(prefix)/share/zsh/vendor-completions
 
 confdir = $(sysconfdir)/usbguard
 INSTALL = install
-DOCS = README.md CHANGELOG.md LICENSE $(addprefix docs/,boot.md commands.md journal.md locked-out.md moving.md \
-	real-kernel.md rules.md)
+DOCS = README.md CHANGELOG.md CONTRIBUTING.md LICENSE $(sort $(wildcard docs/*.md))
 
 all: program
 
@@ -47,12 +50,14 @@ install: program
 	$(INSTALL) -d -m 755 "$(DESTDIR)$(docdir)" "$(DESTDIR)$(docdir)/docs" "$(DESTDIR)$(docdir)/examples"
 	$(INSTALL) -m 755 "$(PROGRAM)" "$(DESTDIR)$(bindir)/usbguard"
 	$(INSTALL) -m 755 bin/usbguard-script "$(DESTDIR)$(bindir)/usbguard-script"
+	$(INSTALL) -m 755 packaging/usbguard-prepare "$(DESTDIR)$(libexecdir)/usbguard-prepare"
+	$(INSTALL) -m 755 packaging/usbguard-carry "$(DESTDIR)$(libexecdir)/usbguard-carry"
 	$(INSTALL) -m 755 packaging/usbguard-sockets "$(DESTDIR)$(libexecdir)/usbguard-sockets"
 	$(INSTALL) -m 644 man/usbguard.1 "$(DESTDIR)$(mandir)/man1/usbguard.1"
 	ln -sf usbguard.1 "$(DESTDIR)$(mandir)/man1/usbguard-script.1"
 	$(INSTALL) -m 644 man/usbguard-daemon.conf.5 man/usbguard-replay.5 man/usbguard-rules.conf.5 \
 		"$(DESTDIR)$(mandir)/man5"
-	sed -e 's|/usr/bin/|$(bindir)/|' -e 's|/usr/libexec/|$(libexecdir)/|' packaging/usbguard.service \
+	sed -e 's|/usr/bin/usbguard|$(bindir)/usbguard|' -e 's|/usr/libexec/|$(libexecdir)/|' packaging/usbguard.service \
 		> "$(DESTDIR)$(unitdir)/usbguard.service"
 	chmod 644 "$(DESTDIR)$(unitdir)/usbguard.service"
 	$(INSTALL) -m 644 packaging/usbguard.bash "$(DESTDIR)$(bashdir)/usbguard"
@@ -71,7 +76,7 @@ install-conf:
 	[ -e "$(DESTDIR)$(confdir)/usbguard-daemon.conf" ] || \
 		$(INSTALL) -m 600 packaging/usbguard-daemon.conf "$(DESTDIR)$(confdir)/usbguard-daemon.conf"
 	[ -e "$(DESTDIR)$(confdir)/rules.conf" ] || \
-		$(INSTALL) -m 600 packaging/rules.conf "$(DESTDIR)$(confdir)/rules.conf"
+		$(INSTALL) -m 600 /dev/null "$(DESTDIR)$(confdir)/rules.conf"
 
 deb: program
 	PROGRAM="$(PROGRAM)" packaging/make-deb.sh "$(PACKAGE)" "$(VERSION)"
