@@ -224,7 +224,7 @@ check 'a rule that would match every device ends it' '! usbguard-script -w hash 
 
 echo
 echo "== Where a command waits for a terminal"
-for command in 'add-user joe --devices list' check-rules generate-policy read-descriptor replay; do
+for command in 'add-user joe --devices list' check-rules generate-policy lint-rules read-descriptor replay; do
     check "$command says what it reads" "script -qec 'usbguard $command' /dev/null </dev/null | grep 'from the terminal, up to Ctrl-D'"
 done
 check 'not where its input comes from a file' 'usbguard check-rules </dev/null 2>&1 | (! grep terminal)'

@@ -10,6 +10,10 @@ fn input_of(command: &Command) -> Option<(&'static str, &'static str)> {
             "usbguard add-user joe --devices list < FILE",
         )),
         Command::CheckRules => Some(("rules", "usbguard check-rules < /etc/usbguard/rules.conf")),
+        Command::LintRules { .. } => Some((
+            "rules",
+            "usbguard lint-rules < /etc/usbguard/rules.conf",
+        )),
         Command::GeneratePolicy => Some(("a script", "usbguard-script | usbguard generate-policy")),
         Command::ReadDescriptor => Some((
             "the descriptors of a device",
