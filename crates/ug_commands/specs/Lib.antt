@@ -1,4 +1,5 @@
 pub mod Checking
 pub mod CheckingLines
+pub mod GeneratedScripts
 pub mod Listing
 pub mod ListingLines
