@@ -41,7 +41,6 @@ fn put_opening<K: Sink>(out: &mut K) -> Put
 /// hub, or the device there goes, or a call of the event fails. Which it is, and where, is fixed by the start. Takes no
 /// memory. After a failed call of the sink nothing more is written.
 pub fn make_script<K: Sink>(events: u32, start: u32, out: &mut K) -> Put
-    requires { events ≤ 500000 }
     ensures put { Puts (K.held out.old) (K.held out.new) (generated_script events start) result }
     ensures counted { K.faults out.old ≤ K.faults out.new }
     ensures cause { result ≡ Put.Failed → Rose (K.faults out.old) (K.faults out.new) }

@@ -4,9 +4,9 @@
 
 mod checking;
 mod checking_lines;
+mod few_rules;
 mod generating;
 mod generating_lines;
-mod few_rules;
 mod linting;
 mod linting_lines;
 mod listing;

@@ -48,6 +48,8 @@ fn read_replay(alloc: Global, words: &[&str]) -> Result<(), WordsFault>
     match read_command(alloc, words)? {
         Command::Replay => Ok(()),
         Command::ReadDescriptor
+        | Command::Summarize
+        | Command::MakeScript { .. }
         | Command::CheckRules
         | Command::LintRules { .. }
         | Command::GeneratePolicy
