@@ -3,6 +3,11 @@ use Rattle.std.specs.Prelude.{Bool, true, false}
 use Rattle.ug_arguments.specs.declared.command.Command.{Command}
 use Rattle.ug_arguments.specs.declared.command.Command.TheVariants.{Replay, Summarize, MakeScript, ReadDescriptor, CheckRules, LintRules, GeneratePolicy, AddUser, Ask, Watch}
 
+-- the command `replay`, with `--summary` or without
+abbrev pub replay_of : Bool → Command
+replay_of true = Summarize
+replay_of false = Replay
+
 -- the command asks the daemon
 abbrev pub asks_daemon : Command → Bool
 asks_daemon Replay = false
