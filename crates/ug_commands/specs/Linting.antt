@@ -11,7 +11,8 @@ use Rattle.ug_rule.specs.Files.{file_read}
 use Rattle.ug_print.specs.RuleTexts.{rules_text_of}
 use Rattle.ug_lint.specs.declared.finding.Finding.{Finding}
 use Rattle.ug_lint.specs.Findings.{findings, found_place}
-use Rattle.ug_lint.specs.NeverDecides.{HasWords, NeverDecides, PrunedAlike, rules_of}
+use Rattle.ug_lint.specs.NeverDecides.{HasWords, NeverDecides, PrunedAlike}
+use Rattle.ug_policy.specs.Rules.{rules_in}
 use Rattle.ug_lint.specs.Remaining.{remaining, remaining_entries}
 use Rattle.ug_console.specs.WholeInputs as whole
 use Rattle.ug_console.specs.WholeInputs.{input_limit}
@@ -46,8 +47,8 @@ pub record IsPruned (bytes text : List ℕ) : Type 0 where
   pub is : text ≡ rules_text_of (remaining rules)
   pub reads : file_read text ≡ Ok (remaining rules)
   pub judges : (dev : DeviceRecord) (ctx : Context) (records : List DeviceRecord) (entries : List RuleEntry) (stream : Stream)
-      → rules_of entries ≡ rules → HasWords stream
-      → (rules_of (remaining_entries entries) ≡ remaining rules) × PrunedAlike dev ctx records entries stream
+      → rules_in entries ≡ rules → HasWords stream
+      → (rules_in (remaining_entries entries) ≡ remaining rules) × PrunedAlike dev ctx records entries stream
 
 -- a line of the text is bad, and the first such line is told
 abbrev pub IsBad : List ℕ → List ℕ → Type 0

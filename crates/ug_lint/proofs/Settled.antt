@@ -1,12 +1,11 @@
 -- What remains is covered by none of the rules that remain.
-use Rattle.std.proofs.Common.{◌≡◌, ℕ, zero, suc, ◌<◌, ◌+◌, List, [], ◌∷◌, ◌++◌, Bool, true, false, not, cond, length, nat_lt, Option, Some, None, arith, refl, sym, ap, ◌∙◌, subst, inl, inr}
+use Rattle.std.proofs.Common.{◌≡◌, ℕ, zero, suc, ◌<◌, ◌+◌, List, [], ◌∷◌, ◌++◌, Bool, true, false, not, cond, length, Some, None, arith, refl, sym, ap, ◌∙◌, subst, inl, inr}
 use Rattle.std.specs.Prelude.{position}
 use Rattle.std.specs.List.{position_or_len}
 use Rattle.std.proofs.lemmas.Bool.Decides.{Decides-ltb}
 use Rattle.ug_types.specs.Elements.{Has}
 use Rattle.ug_types.proofs.Elements.{has_cases, has_left, has_right}
 use Rattle.ug_types.specs.declared.rule.Rule.{Rule}
-use Rattle.ug_lint.specs.declared.finding.Finding.{Finding}
 use Rattle.ug_lint.specs.declared.finding.Finding.TheVariants.{Never}
 use Rattle.ug_lint.specs.Certain.{never_hold}
 use Rattle.ug_lint.specs.Findings.{covered_by, covers_rule}

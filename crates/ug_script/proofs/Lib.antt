@@ -10,7 +10,7 @@ pub mod Starts
 pub mod Restarts
 pub mod OrdersPlayed
 pub mod Lawful
-pub mod Guards
+pub mod OnEntries
 pub mod Spent
 pub mod Numbers
 pub mod Setups

@@ -26,7 +26,7 @@ mod words;
 
 pub use generator::generate_policy;
 pub use interpreter::Interpreter;
-pub use laws::{access_law, default_law, script_law, words_law, worked_law};
+pub use laws::{access_law, birth_law, default_law, script_law, words_law, worked_law};
 pub use parse::parse_line;
 pub use runner::Runner;
 pub use step::{AccessLine, Plan, SetupLine, Step, StepFault};

@@ -1,9 +1,15 @@
 // The program: the real objects and the top call.
 #![tactic(auto)]
 
+mod about;
+mod link_words;
 mod usage;
+mod waiting;
 
+use crate::about::tell_about;
+use crate::link_words::tell_link;
 use crate::usage::{tell, tell_unreadable};
+use crate::waiting::tell_waiting;
 use std::process::ExitCode;
 use std::{env, io};
 use ug_audit::{Auditor, Panel};
@@ -95,6 +101,10 @@ fn main(rt: HostRuntime) -> ExitCode {
             return end_with(&mut out, b"no memory\n", 6);
         }
     }
+    if let Some(status) = tell_about(&rt, &words) {
+        return ExitCode::from(status);
+    }
+    tell_waiting(&rt, &words);
     let mut input = ReaderSource::new(rt.reader());
     let status = match words.as_slice() {
         ["daemon", behind @ ..] => serve(rt, behind),
@@ -104,7 +114,11 @@ fn main(rt: HostRuntime) -> ExitCode {
         }
         _ => {
             let mut link = SocketLink::new(rt);
-            run_tool(alloc, &words, &mut input, &mut out, &mut link)
+            let status = run_tool(alloc, &words, &mut input, &mut out, &mut link);
+            if status == 8 {
+                tell_link(&rt, &link);
+            }
+            status
         }
     };
     tell(&rt, &words, status);

@@ -1,5 +1,7 @@
 // What the program tells a person, beside its output.
 
+use std::alloc::{AllocError, Global};
+
 /// A command's first word, how it is used, and what else to know of its words.
 struct Usage {
     word: &'static str,
@@ -111,27 +113,39 @@ fn usage_of(word: &str) -> Option<&'static Usage> {
     USAGES.iter().find(|usage| usage.word == word)
 }
 
+/// Whether that is a command's word.
+pub fn is_known(word: &str) -> bool {
+    usage_of(word).is_some()
+}
+
 // How the command is used.
-fn tell_usage(rt: &HostRuntime, usage: &Usage) -> std::io::Result<()> {
-    let line = usage.line;
-    let hint = usage.hint;
-    eprintln!(rt; "usage: {line}")?;
-    eprintln!(rt; "{hint}")?;
-    eprintln!(rt; "The manual page usbguard(1) says what it does.")
+fn text_of_one(alloc: Global, usage: &Usage) -> Result<String, AllocError> {
+    let mut text = String::from_str(alloc, "usage: ")?;
+    text.push_str(usage.line)?;
+    text.push('\n')?;
+    text.push_str(usage.hint)?;
+    text.push_str("\nThe manual page usbguard(1) says what it does.")?;
+    Ok(text)
 }
 
 // How each command is used.
-fn tell_usages(rt: &HostRuntime) -> std::io::Result<()> {
-    eprintln!(rt; "usage:")?;
+fn text_of_all(alloc: Global) -> Result<String, AllocError> {
+    let mut text = String::from_str(alloc, "usage:\n")?;
     for usage in USAGES.iter() {
-        let line = usage.line;
-        eprintln!(rt; "  {line}")?;
+        text.push_str("  ")?;
+        text.push_str(usage.line)?;
+        text.push('\n')?;
     }
-    eprintln!(rt; "The manual page usbguard(1) says what each does.")
+    text.push_str("The manual page usbguard(1) says what each does.")?;
+    Ok(text)
 }
 
-fn has(words: &[&str], long: &str, short: &str) -> bool {
-    words.iter().any(|word| *word == long || *word == short)
+/// How the command of that word is used, or each, where there is no such command.
+pub fn usage_text(alloc: Global, word: Option<&str>) -> Result<String, AllocError> {
+    match word.and_then(|word| usage_of(word)) {
+        Some(usage) => text_of_one(alloc, usage),
+        None => text_of_all(alloc),
+    }
 }
 
 // What is wrong with words that are no command.
@@ -145,18 +159,11 @@ fn complaint(words: &[&str], usage: Option<&Usage>) -> &'static str {
 
 // What to do about words that are no command.
 fn tell_words(rt: &HostRuntime, words: &[&str]) -> std::io::Result<()> {
-    if has(words, "--version", "-V") {
-        return eprintln!(rt; "usbguard, not released yet");
-    }
-    let usage = words.first().and_then(|word| usage_of(word));
-    if !has(words, "--help", "-h") {
-        let complaint = complaint(words, usage);
-        eprintln!(rt; "usbguard: {complaint}")?;
-    }
-    match usage {
-        Some(usage) => tell_usage(rt, usage),
-        None => tell_usages(rt),
-    }
+    let first = words.first().copied();
+    let complaint = complaint(words, first.and_then(|word| usage_of(word)));
+    let text = usage_text(rt.alloc(), first)?;
+    eprintln!(rt; "usbguard: {complaint}")?;
+    eprintln!(rt; "{text}")
 }
 
 // What to do where a command ended with that status.
@@ -170,9 +177,6 @@ fn advice(status: u8) -> Option<&'static str> {
         ),
         6 => Some("Memory ran out: try again with a smaller input, or with more memory."),
         7 => Some("The daemon refused, as the last line says: usbguard(1) lists the reasons."),
-        8 => Some(
-            "No whole reply came: see that usbguard daemon runs and listens at that socket, and that you may open it.",
-        ),
         _ => None,
     }
 }

@@ -1,12 +1,12 @@
--- A device that was born guarded is on only after an On entry, whatever is asked of the kernel, and whatever it does by itself.
+-- A device that was born while its controller's default was off is on only after an On entry, whatever is asked of the kernel, and whatever it does by itself.
 use Rattle.std.proofs.Common.{◌≡◌, true, false, inl, refl, sym, ◌∙◌, subst}
 use Rattle.std.proofs.lemmas.Option.{same_Some}
 use Rattle.ug_kernel.specs.Calls.{Call}
 use Rattle.ug_kernel.specs.Called.{Called}
-use Rattle.ug_kernel.specs.Guarded.{IsGuarded}
+use Rattle.ug_kernel.specs.Defaults.{HasOnEntries}
 use Rattle.ug_kernel.specs.Kernel.{Kernel, IsKernel}
 use Rattle.ug_kernel.specs.Tree.{Prog, Return, Ask, Room}
-use Rattle.ug_kernel.proofs.Guarded.{called_guarded, moves_guarded}
+use Rattle.ug_kernel.proofs.Defaults.{called_on_entries, moves_on_entries}
 use Rattle.ug_sysfs.specs.World.{World, answer_of, begun, over}
 use Rattle.ug_sysfs.specs.Law.{does_what_it_may}
 use Rattle.ug_sysfs.specs.Begins.{happened_moves}
@@ -30,13 +30,13 @@ called_at w call run sound =
     subst (λ (k : Kernel). Called call (answer_of w call).0 k t.kernel) same (x.called (subst (λ (k : Kernel). IsKernel k) (sym same) sound))
 
 abbrev IsGood : World → Type 0
-IsGood w = (w.ran_out ≡ false) × IsKernel w.kernel × IsGuarded w.kernel
+IsGood w = (w.ran_out ≡ false) × IsKernel w.kernel × HasOnEntries w.kernel
 
 play_good : {R : Type 0} (p : Prog R) (w : World) → IsGood w → IsGood (play p w).1
 play_good (Return value) w g = g
 play_good (Ask call next) w g =
     let c = called_at w call g.0 g.1 in
-    play_good (next (answer_of w call).0) (answer_of w call).1 (told_unless w call g.0, c.sound, called_guarded call (answer_of w call).0 w.kernel (answer_of w call).1.kernel c g.2)
+    play_good (next (answer_of w call).0) (answer_of w call).1 (told_unless w call g.0, c.sound, called_on_entries call (answer_of w call).0 w.kernel (answer_of w call).1.kernel c g.2)
 play_good (Room next) w g = play_good (next true) w g
 
 answered_good : (event : Event) (d : DaemonState) (w : World) (o : DiskWorld) → IsGood w → IsGood (answered_by event d w o).world
@@ -47,9 +47,9 @@ answered_good (Order moment who line) d w o g =
     play_good (acting who (stored_with b.0 c.0.change d) (deed_after b.0 c.0.deed)) c.1 (play_good (asking d who line) w g)
 
 -- an event, and what is still to come behind it
-pub event_guarded : (event : Event) (d : DaemonState) (w : World) (o : DiskWorld) → HoldsOf d w → IsGuarded w.kernel → IsGuarded (over (event_from event d w o).world).kernel
-event_guarded event d w o h g =
+pub event_on_entries : (event : Event) (d : DaemonState) (w : World) (o : DiskWorld) → HoldsOf d w → HasOnEntries w.kernel → HasOnEntries (over (event_from event d w o).world).kernel
+event_on_entries event d w o h g =
     let a = answered_from event d w o in
     let p = event_from event d w o in
     let good : IsGood p.world = play_good (handling a.daemon) a.world (answered_good event (ready event (tried_by d o).0 d) (begun w) (tried_by d o).1 (h.told, h.sound, g)) in
-    moves_guarded p.world.kernel (over p.world).kernel (happened_moves p.world.moves p.world.kernel) good.2
+    moves_on_entries p.world.kernel (over p.world).kernel (happened_moves p.world.moves p.world.kernel) good.2

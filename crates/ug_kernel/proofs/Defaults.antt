@@ -1,4 +1,4 @@
--- A device that was born guarded is on only by an On entry, through moves and calls; and the log fixes the defaults.
+-- A device that was born born_off is on only by an On entry, through moves and calls; and the log fixes the defaults.
 use Rattle.std.proofs.Common.{◌≡◌, ℕ, ◌<◌, ◌≤◌, Bool, true, false, cond, nat_eq, List, [], ◌∷◌, ◌++◌, length, Option, Some, None, refl, sym, ◌∙◌, ap, subst, arith, inl, inr, ◌⊎◌, true≢false, append_assoc, append-nil}
 use Rattle.std.proofs.lemmas.Bool.{cases_eq}
 use Rattle.std.proofs.lemmas.Option.{same_Some, none-some}
@@ -18,27 +18,27 @@ use Rattle.ug_kernel.specs.Kernel.{Kernel, Moves, StartsUnder, is_off, default_i
 use Rattle.ug_kernel.specs.Called.{value_after, default_after, written_to, does_open, does_put, Does, IsWritten, Called}
 use Rattle.ug_kernel.specs.Along.{Made, Along}
 use Rattle.ug_kernel.specs.Tree.{calls}
-use Rattle.ug_kernel.specs.Guarded.{IsGuarded, set_by, default_by, default_at, Logs}
+use Rattle.ug_kernel.specs.Defaults.{HasOnEntries, set_by, default_by, default_at, Logs}
 use Rattle.ug_kernel.proofs.Stayed.{back_at, stays_at}
 
 -- moves
 
--- a device that starts guarded starts off
+-- a device that is born while its controller's default is off starts off
 off_on : (o : Option Bool) (on : Bool) → is_off o ≡ true → ((v : Bool) → o ≡ Some v → on ≡ v) → on ≡ false
 off_on (Some false) on off h = h false refl
 off_on (Some true) on off h = let none : ⊥ = cc in absurd none
 off_on None on off h = let none : ⊥ = cc in absurd none
 
-born_off : (ds : List Device) (d : Device) (o : Option ℕ) → StartsUnder ds d o → d.guarded ≡ true → d.on ≡ false
-born_off ds d None h g = absurd (true≢false (sym g ∙ h))
-born_off ds d (Some r) h g = off_on (default_in (slice_get ds r)) d.on (sym h.guarded ∙ g) h.on
+starts_off : (ds : List Device) (d : Device) (o : Option ℕ) → StartsUnder ds d o → d.born_off ≡ true → d.on ≡ false
+starts_off ds d None h g = absurd (true≢false (sym g ∙ h))
+starts_off ds d (Some r) h g = off_on (default_in (slice_get ds r)) d.on (sym h.born_off ∙ g) h.on
 
-pub moves_guarded : (k l : Kernel) → Moves k l → IsGuarded k → IsGuarded l
-moves_guarded k l m g i e at guarded on = elim (old_or_new i (length k.devices)) [
+pub moves_on_entries : (k l : Kernel) → Moves k l → HasOnEntries k → HasOnEntries l
+moves_on_entries k l m g i e at born_off on = elim (old_or_new i (length k.devices)) [
   | inl lt ↦
       let x = back_at k.devices l.devices m.devices i e at lt in
-      subst (λ (v : List Effect). Has v (record { device = i; write = Write.On })) (sym m.log) (g i x.0 x.1 (sym x.2.stays.guarded ∙ guarded) (sym x.2.on ∙ on))
-  | inr new ↦ absurd (true≢false (sym on ∙ born_off l.devices e e.controller (m.born i e at new).1 guarded))
+      subst (λ (v : List Effect). Has v (record { device = i; write = Write.On })) (sym m.log) (g i x.0 x.1 (sym x.2.stays.born_off ∙ born_off) (sym x.2.on ∙ on))
+  | inr new ↦ absurd (true≢false (sym on ∙ starts_off l.devices e e.controller (m.born i e at new).1 born_off))
 ]
   where
     old_or_new : (i n : ℕ) → (i < n) ⊎ (n ≤ i)
@@ -52,57 +52,57 @@ was_on Write.On was e = inl refl
 was_on Write.Off was e = let none : ⊥ = cc in absurd none
 was_on x was e = inr e
 
-written_guarded : (held : ℕ) (what : Write) (k l : Kernel) → IsWritten held what k l → IsGuarded k → IsGuarded l
-written_guarded held what k l w g i e at guarded on = elim (cases_eq i w.i) [
+written_on_entries : (held : ℕ) (what : Write) (k l : Kernel) → IsWritten held what k l → HasOnEntries k → HasOnEntries l
+written_on_entries held what k l w g i e at born_off on = elim (cases_eq i w.i) [
   | inl is ↦
       let same : written_to what w.d ≡ e = same_Some (written_to what w.d) e (sym w.now ∙ ap (slice_get l.devices) (sym is) ∙ at) in
-      let marked : w.d.guarded ≡ true = ap (λ (x : Device). x.guarded) same ∙ guarded in
+      let marked : w.d.born_off ≡ true = ap (λ (x : Device). x.born_off) same ∙ born_off in
       let new : Effect = record { device = w.i; write = what } in
       let at_i : Has l.log (record { device = w.i; write = Write.On }) = elim (was_on what w.d.on (ap (λ (x : Device). x.on) same ∙ on)) [
         | inl own ↦ logged (record { device = w.i; write = Write.On }) (has_right k.log (new ∷ []) (record { device = w.i; write = Write.On }) (inl (ap (λ (x : Write). let f : Effect = record { device = w.i; write = x } in f) own)))
         | inr was ↦ logged (record { device = w.i; write = Write.On }) (has_left k.log (new ∷ []) (record { device = w.i; write = Write.On }) (g w.i w.d w.live.at marked was))
       ] in
       subst (λ (j : ℕ). Has l.log (record { device = j; write = Write.On })) (sym is) at_i
-  | inr apart ↦ logged (record { device = i; write = Write.On }) (has_left k.log (record { device = w.i; write = what } ∷ []) (record { device = i; write = Write.On }) (g i e (sym (w.others i apart) ∙ at) guarded on))
+  | inr apart ↦ logged (record { device = i; write = Write.On }) (has_left k.log (record { device = w.i; write = what } ∷ []) (record { device = i; write = Write.On }) (g i e (sym (w.others i apart) ∙ at) born_off on))
 ]
   where
     logged : (f : Effect) → Has (k.log ++ record { device = w.i; write = what } ∷ []) f → Has l.log f
     logged f h = subst (λ (v : List Effect). Has v f) (sym w.log) h
 
-same_guarded : (k l : Kernel) → l ≡ k → IsGuarded k → IsGuarded l
-same_guarded k l e g = subst IsGuarded (sym e) g
+same_on_entries : (k l : Kernel) → l ≡ k → HasOnEntries k → HasOnEntries l
+same_on_entries k l e g = subst HasOnEntries (sym e) g
 
-does_put_guarded : (held : ℕ) (what : Write) (answer : Wrote) (k l : Kernel) → does_put held what answer k l → IsGuarded k → IsGuarded l
-does_put_guarded held what wrote.Done k l h g = written_guarded held what k l h g
-does_put_guarded held what wrote.Gone k l h g = same_guarded k l h g
-does_put_guarded held what wrote.Failed k l (inl h) g = same_guarded k l h g
-does_put_guarded held what wrote.Failed k l (inr h) g = written_guarded held what k l h g
+does_put_on_entries : (held : ℕ) (what : Write) (answer : Wrote) (k l : Kernel) → does_put held what answer k l → HasOnEntries k → HasOnEntries l
+does_put_on_entries held what wrote.Done k l h g = written_on_entries held what k l h g
+does_put_on_entries held what wrote.Gone k l h g = same_on_entries k l h g
+does_put_on_entries held what wrote.Failed k l (inl h) g = same_on_entries k l h g
+does_put_on_entries held what wrote.Failed k l (inr h) g = written_on_entries held what k l h g
 
-does_open_guarded : (name : List ℕ) (answer : Opened) (k l : Kernel) (h : (l.devices ≡ k.devices) × (l.log ≡ k.log)) → IsGuarded k → IsGuarded l
-does_open_guarded name answer k l h g i e at guarded on = subst (λ (v : List Effect). Has v (record { device = i; write = Write.On })) (sym h.1) (g i e (ap (λ (v : List Device). slice_get v i) (sym h.0) ∙ at) guarded on)
+does_open_on_entries : (name : List ℕ) (answer : Opened) (k l : Kernel) (h : (l.devices ≡ k.devices) × (l.log ≡ k.log)) → HasOnEntries k → HasOnEntries l
+does_open_on_entries name answer k l h g i e at born_off on = subst (λ (v : List Effect). Has v (record { device = i; write = Write.On })) (sym h.1) (g i e (ap (λ (v : List Device). slice_get v i) (sym h.0) ∙ at) born_off on)
 
-does_guarded : (call : Call) (answer : Answer call) (k l : Kernel) → Does call answer k l → IsGuarded k → IsGuarded l
-does_guarded Names answer k l h g = same_guarded k l h g
-does_guarded (Open name control) answer k l h g = opening answer.answer h
+does_on_entries : (call : Call) (answer : Answer call) (k l : Kernel) → Does call answer k l → HasOnEntries k → HasOnEntries l
+does_on_entries Names answer k l h g = same_on_entries k l h g
+does_on_entries (Open name control) answer k l h g = opening answer.answer h
   where
-    opening : (r : Opened) → does_open name control r k l → IsGuarded l
-    opening (opened.Token file) o = does_open_guarded name (opened.Token file) k l (o.devices, o.log) g
-    opening x o = same_guarded k l o g
-does_guarded (Read name attr) answer k l h g = same_guarded k l h g
-does_guarded (Ask_alive held) answer k l h g = same_guarded k l h g
-does_guarded (Put held what) answer k l h g = does_put_guarded held what answer.answer k l h g
-does_guarded (Close held) answer k l h g = same_guarded k l h g
+    opening : (r : Opened) → does_open name control r k l → HasOnEntries l
+    opening (opened.Token file) o = does_open_on_entries name (opened.Token file) k l (o.devices, o.log) g
+    opening x o = same_on_entries k l o g
+does_on_entries (Read name attr) answer k l h g = same_on_entries k l h g
+does_on_entries (Ask_alive held) answer k l h g = same_on_entries k l h g
+does_on_entries (Put held what) answer k l h g = does_put_on_entries held what answer.answer k l h g
+does_on_entries (Close held) answer k l h g = same_on_entries k l h g
 
-pub called_guarded : (call : Call) (answer : Answer call) (k l : Kernel) → Called call answer k l → IsGuarded k → IsGuarded l
-called_guarded call answer k l c g = moves_guarded c.after l c.moves_after (does_guarded call answer c.before c.after c.effect (moves_guarded k c.before c.moves_before g))
+pub called_on_entries : (call : Call) (answer : Answer call) (k l : Kernel) → Called call answer k l → HasOnEntries k → HasOnEntries l
+called_on_entries call answer k l c g = moves_on_entries c.after l c.moves_after (does_on_entries call answer c.before c.after c.effect (moves_on_entries k c.before c.moves_before g))
 
-pub along_guarded : (ms : List Made) (k l : Kernel) → Along calls k ms l → IsGuarded k → IsGuarded l
-along_guarded [] k l a g = same_guarded k l a g
-along_guarded (m ∷ ms) k l a g = along_guarded ms a.0 l a.2 (called_guarded m.call m.answer k a.0 a.1 g)
+pub along_on_entries : (ms : List Made) (k l : Kernel) → Along calls k ms l → HasOnEntries k → HasOnEntries l
+along_on_entries [] k l a g = same_on_entries k l a g
+along_on_entries (m ∷ ms) k l a g = along_on_entries ms a.0 l a.2 (called_on_entries m.call m.answer k a.0 a.1 g)
 
 -- a kernel without devices
-pub empty_guarded : (k : Kernel) → k.devices ≡ [] → IsGuarded k
-empty_guarded k e i d at guarded on = let none : slice_get k.devices i ≡ None = ap (λ (v : List Device). slice_get v i) e in let f : ⊥ = cc in absurd f
+pub empty_on_entries : (k : Kernel) → k.devices ≡ [] → HasOnEntries k
+empty_on_entries k e i d at born_off on = let none : slice_get k.devices i ≡ None = ap (λ (v : List Device). slice_get v i) e in let f : ⊥ = cc in absurd f
 
 -- the log and the defaults
 

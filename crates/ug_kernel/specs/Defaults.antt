@@ -1,4 +1,4 @@
--- What an authorised device owes to the log: where a device was born guarded, it is on only after an On entry. And how the log fixes the defaults.
+-- What the log says of devices that are born off, and of the defaults of root hubs.
 use Rattle.std.specs.Prelude.{◌≡◌, ℕ, Bool, true, cond, nat_eq, List, [], ◌∷◌, ◌++◌, Option, Some, None, slice_get}
 use Rattle.ug_types.specs.Elements.{Has}
 use Rattle.ug_types.specs.declared.control.Write.{Write}
@@ -9,8 +9,8 @@ use Rattle.ug_kernel.specs.Kernel.{Kernel, default_in}
 use Rattle.ug_kernel.specs.Called.{default_after}
 
 -- a device that was born while its controller's default was off is on only where the log has an On entry of it
-abbrev pub IsGuarded : Kernel → Type 0
-IsGuarded k = (i : ℕ) (d : Device) → slice_get k.devices i ≡ Some d → d.guarded ≡ true → d.on ≡ true → Has k.log (record { device = i; write = On })
+abbrev pub HasOnEntries : Kernel → Type 0
+HasOnEntries k = (i : ℕ) (d : Device) → slice_get k.devices i ≡ Some d → d.born_off ≡ true → d.on ≡ true → Has k.log (record { device = i; write = On })
 
 -- the default of the device at that place after these entries
 abbrev pub default_by : ℕ → List Effect → Option Bool → Option Bool
