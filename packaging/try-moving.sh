@@ -202,6 +202,15 @@ show 'systemctl start usbguard; sleep 1; systemctl is-active usbguard'
 guards
 
 echo
+echo "== A rule file in another folder, as usbguard-daemon.conf(5) says"
+show 'mkdir /srv/usb && cp -p /etc/usbguard/rules.conf /srv/usb && sed -i "s|^RuleFile=.*|RuleFile=/srv/usb/rules.conf|" /etc/usbguard/usbguard-daemon.conf
+systemctl restart usbguard; sleep 1; usbguard append-rule "allow 1050:0099"'
+check 'without more an order is refused, since its save fails' 'usbguard append-rule "allow 1050:0099" | grep "^refused 10 store-fault" && ! grep 1050:0099 /srv/usb/rules.conf'
+show 'mkdir -p /etc/systemd/system/usbguard.service.d && printf "[Service]\nReadWritePaths=/srv/usb\n" > /etc/systemd/system/usbguard.service.d/rules.conf
+systemctl daemon-reload; systemctl restart usbguard; sleep 1; usbguard append-rule "allow 1050:0099"'
+check 'with ReadWritePaths it is saved there' 'grep 1050:0099 /srv/usb/rules.conf'
+
+echo
 echo "== apt-get install over the original, which is disabled and stopped"
 begin
 show "$policy; systemctl disable --now usbguard usbguard-dbus 2>&1"
