@@ -256,7 +256,7 @@ completes() {
     check "bash: $1 -> $2" "$bash
         [ \"\$(complete_words $1)\" = '$2' ]"
 }
-completes "usbguard ''" 'add-user allow-device append-rule block-device check-rules daemon generate-policy get-parameter lint-rules list-devices list-rules read-descriptor reject-device remove-rule replay set-parameter watch'
+completes "usbguard ''" 'add-user allow-device append-rule block-device check-rules daemon generate-policy get-parameter lint-rules list-devices list-rules make-script read-descriptor reject-device remove-rule replay set-parameter watch'
 for command in check-rules daemon generate-policy lint-rules read-descriptor replay; do
     completes "usbguard ${command%???}" "$command"
 done

@@ -72,6 +72,7 @@ _usbguard_options() {
     allow-device | block-device | reject-device) [[ $1 != -* ]] || _usbguard_words "$1" --socket -p ;;
     append-rule) [[ $1 != -* ]] || _usbguard_words "$1" --socket -a -t ;;
     lint-rules) [[ $1 != -* ]] || _usbguard_words "$1" --prune ;;
+    replay) [[ $1 != -* ]] || _usbguard_words "$1" --summary ;;
     watch) [[ $1 != -* ]] || _usbguard_words "$1" --socket -n ;;
     get-parameter | set-parameter)
         if [[ $1 == -* ]]; then
@@ -100,7 +101,7 @@ _usbguard() {
             _usbguard_words "$word" --help --version
         else
             _usbguard_words "$word" add-user allow-device append-rule block-device check-rules daemon generate-policy \
-                get-parameter lint-rules list-devices list-rules read-descriptor reject-device remove-rule replay set-parameter watch
+                get-parameter lint-rules list-devices list-rules make-script read-descriptor reject-device remove-rule replay set-parameter watch
         fi
     elif [[ $before == --socket ]]; then
         _usbguard_sockets "$word"

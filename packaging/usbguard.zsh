@@ -17,6 +17,7 @@ _usbguard_commands() {
         "read-descriptor:list what a device's file descriptors says"
         'reject-device:reject a device'
         'remove-rule:remove a rule'
+        'make-script:write a script of random events'
         'replay:run a script and write its journal'
         'set-parameter:change a setting until the daemon ends'
         'watch:print the notices that the daemon gives'
@@ -54,6 +55,7 @@ _usbguard_options() {
         allow-device|block-device|reject-device) compadd -- --socket -p ;;
         append-rule) compadd -- --socket -a -t ;;
         lint-rules) compadd -- --prune ;;
+        replay) compadd -- --summary ;;
         watch) compadd -- --socket -n ;;
         get-parameter|list-devices|list-rules|remove-rule|set-parameter) compadd -- --socket ;;
     esac

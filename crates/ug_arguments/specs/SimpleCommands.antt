@@ -26,6 +26,15 @@ flag id letter = record (new_rule id) { short = Some letter; action = Some SetTr
 abbrev pub long_flag : List ℕ → Rule
 long_flag id = record (new_rule id) { long = Some id; action = Some SetTrue }
 
+-- replay [--summary]
+abbrev pub replay_app : App
+replay_app = with_rule (new_app (codes "replay")) (long_flag (codes "summary"))
+
+-- make-script EVENTS START
+abbrev pub make_script_app : App
+make_script_app =
+    with_rule (with_rule (new_app (codes "make-script")) (required (codes "events"))) (required (codes "start"))
+
 -- lint-rules [--prune]
 abbrev pub lint_rules_app : App
 lint_rules_app = with_rule (new_app (codes "lint-rules")) (long_flag (codes "prune"))
@@ -75,7 +84,8 @@ abbrev pub daemon_app : App
 daemon_app = with_rule (new_app (codes "daemon")) (long_option (codes "conf"))
 
 unfoldable pub app_of_word : CommandWord → App
-app_of_word command.Replay = new_app (codes "replay")
+app_of_word command.Replay = replay_app
+app_of_word command.MakeScript = make_script_app
 app_of_word command.ReadDescriptor = new_app (codes "read-descriptor")
 app_of_word command.CheckRules = new_app (codes "check-rules")
 app_of_word command.LintRules = lint_rules_app

@@ -8,6 +8,7 @@ use ug_types::Target;
 #[derive(Clone, Copy, Debug)]
 pub enum CommandWord {
     Replay,
+    MakeScript,
     ReadDescriptor,
     CheckRules,
     LintRules,
@@ -68,6 +69,9 @@ pub fn command_word(text: &str) -> Option<CommandWord>
 {
     if text == "replay" {
         return Some(CommandWord::Replay);
+    }
+    if text == "make-script" {
+        return Some(CommandWord::MakeScript);
     }
     if text == "read-descriptor" {
         return Some(CommandWord::ReadDescriptor);

@@ -4,9 +4,9 @@ use Rattle.std.specs.List.{AllByRecursion}
 use Rattle.std.proofs.lemmas.List.Elements.{All-from_recursion, recursion_from_All}
 use Rattle.ug_types.specs.declared.rule.Rule.{Rule}
 use Rattle.ug_rule.specs.Grammar.{WellFormed}
-use Rattle.ug_lint.specs.Remaining.{is_covered, remaining, remaining_behind, unless}
+use Rattle.ug_lint.specs.Remaining.{is_covered, kept_unless, remaining, remaining_behind}
 
-unless_well : (covered : Bool) (rule : Rule) (rules : List Rule) → WellFormed rule → AllByRecursion WellFormed rules → AllByRecursion WellFormed (unless covered rule ++ rules)
+unless_well : (covered : Bool) (rule : Rule) (rules : List Rule) → WellFormed rule → AllByRecursion WellFormed rules → AllByRecursion WellFormed (kept_unless covered rule ++ rules)
 unless_well true rule rules well all = all
 unless_well false rule rules well all = (well, all)
 

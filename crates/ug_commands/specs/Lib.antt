@@ -1,5 +1,6 @@
 pub mod Checking
 pub mod CheckingLines
+pub mod GeneratedScripts
 pub mod Linting
 pub mod LintingLines
 pub mod Listing

@@ -1,9 +1,12 @@
-// The commands that read an input whole: what descriptors say, whether a text holds rules, and which of these can never decide.
+// The commands of one step: what descriptors say, whether a text holds rules, which of these can never decide, and a script of
+// random events.
 #![tactic(auto)]
 
 mod checking;
 mod checking_lines;
 mod few_rules;
+mod generating;
+mod generating_lines;
 mod linting;
 mod linting_lines;
 mod listing;
@@ -12,5 +15,6 @@ mod rule_lines;
 mod writing;
 
 pub use checking::check_rules;
+pub use generating::make_script;
 pub use linting::lint_rules;
 pub use listing::list_descriptors;

@@ -1,16 +1,15 @@
 -- What remains is covered by none of the rules that remain.
-use Rattle.std.proofs.Common.{◌≡◌, ℕ, zero, suc, ◌<◌, ◌+◌, List, [], ◌∷◌, ◌++◌, Bool, true, false, not, cond, length, nat_lt, Option, Some, None, arith, refl, sym, ap, ◌∙◌, subst, inl, inr}
+use Rattle.std.proofs.Common.{◌≡◌, ℕ, zero, suc, ◌<◌, ◌+◌, List, [], ◌∷◌, ◌++◌, Bool, true, false, not, cond, length, Some, None, arith, refl, sym, ap, ◌∙◌, subst, inl, inr}
 use Rattle.std.specs.Prelude.{position}
 use Rattle.std.specs.List.{position_or_len}
 use Rattle.std.proofs.lemmas.Bool.Decides.{Decides-ltb}
 use Rattle.ug_types.specs.Elements.{Has}
 use Rattle.ug_types.proofs.Elements.{has_cases, has_left, has_right}
 use Rattle.ug_types.specs.declared.rule.Rule.{Rule}
-use Rattle.ug_lint.specs.declared.finding.Finding.{Finding}
 use Rattle.ug_lint.specs.declared.finding.Finding.TheVariants.{Never}
 use Rattle.ug_lint.specs.Certain.{never_hold}
 use Rattle.ug_lint.specs.Findings.{covered_by, covers_rule}
-use Rattle.ug_lint.specs.Remaining.{is_covered, remaining, remaining_behind, tells_covered, unless}
+use Rattle.ug_lint.specs.Remaining.{is_covered, kept_unless, remaining, remaining_behind, tells_covered}
 use Rattle.ug_lint.proofs.Alike.{coverer, never, not_true}
 
 -- ---- an element that passes has a place
@@ -58,11 +57,11 @@ settled_behind kept before [] within = refl
 settled_behind kept before (rule ∷ rules) within =
     let next = before ++ rule ∷ [] in
     let rest = remaining_behind (λ (r : Rule). r) next rules in
-    let T : Bool → Type 0 = λ b. is_covered before rule ≡ b → remaining_behind (λ (r : Rule). r) kept (unless b rule ++ rest) ≡ unless b rule ++ rest in
+    let T : Bool → Type 0 = λ b. is_covered before rule ≡ b → remaining_behind (λ (r : Rule). r) kept (kept_unless b rule ++ rest) ≡ kept_unless b rule ++ rest in
     let f : (b : Bool) → T b = λ b. elim b as T [
       | true ↦ λ e. settled_behind kept next rules (λ r h. has_left before (rule ∷ []) r (within r h))
       | false ↦ λ e.
-          ap (λ (c : Bool). unless c rule ++ remaining_behind (λ (r : Rule). r) (kept ++ rule ∷ []) rest) (still_uncovered kept before rule within e)
+          ap (λ (c : Bool). kept_unless c rule ++ remaining_behind (λ (r : Rule). r) (kept ++ rule ∷ []) rest) (still_uncovered kept before rule within e)
           ∙ ap (λ (v : List Rule). rule ∷ v) (settled_behind (kept ++ rule ∷ []) next rules (within_more kept before rule within))
     ] in
     f (is_covered before rule) refl

@@ -17,3 +17,6 @@ pub mod Setups
 pub mod Skimmed
 pub mod Journals
 pub mod Filed
+mod WholeLines
+mod Counted
+mod Summed

@@ -21,7 +21,9 @@ mod setup;
 mod setup_lines;
 mod start;
 mod step;
+mod summarizer;
 mod text;
+mod totals;
 mod words;
 
 pub use generator::generate_policy;
@@ -30,3 +32,4 @@ pub use laws::{access_law, birth_law, default_law, script_law, words_law, worked
 pub use parse::parse_line;
 pub use runner::Runner;
 pub use step::{AccessLine, Plan, SetupLine, Step, StepFault};
+pub use summarizer::summarize;

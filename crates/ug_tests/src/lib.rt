@@ -24,6 +24,8 @@ mod host_journal;
 #[cfg(test)]
 mod host_sockets;
 #[cfg(test)]
+mod index;
+#[cfg(test)]
 mod intent;
 #[cfg(test)]
 mod link_faults;

@@ -21,7 +21,7 @@ const A_SCRIPT: &str =
 const A_SOCKET: &str =
     "PATH is the socket at which the daemon listens. Without it that is /run/usbguard/root.socket.";
 
-const USAGES: [Usage; 17] = [
+const USAGES: [Usage; 18] = [
     Usage {
         word: "add-user",
         line: "usbguard add-user NAME [--devices LIST] [--policy LIST] [--exceptions LIST] [--parameters LIST] < FILE",
@@ -78,6 +78,11 @@ const USAGES: [Usage; 17] = [
         hint: A_SOCKET,
     },
     Usage {
+        word: "make-script",
+        line: "usbguard make-script EVENTS START",
+        hint: "EVENTS is from 1 to 500000, and START from 0 to 4294967295: digits alone, with no leading zero.",
+    },
+    Usage {
         word: "read-descriptor",
         line: "usbguard read-descriptor < DESCRIPTORS",
         hint: AN_INPUT,
@@ -94,8 +99,8 @@ const USAGES: [Usage; 17] = [
     },
     Usage {
         word: "replay",
-        line: "usbguard replay < SCRIPT",
-        hint: A_SCRIPT,
+        line: "usbguard replay [--summary] < SCRIPT",
+        hint: "It reads standard input: write < before the name of a file, or usbguard-script | before usbguard. With --summary it writes numbers of the journal alone.",
     },
     Usage {
         word: "set-parameter",

@@ -19,11 +19,11 @@ fn input_of(command: &Command) -> Option<(&'static str, &'static str)> {
             "the descriptors of a device",
             "usbguard read-descriptor < /sys/bus/usb/devices/1-1/descriptors",
         )),
-        Command::Replay => Some((
+        Command::Replay | Command::Summarize => Some((
             "a script",
             "usbguard-script -r /etc/usbguard/rules.conf | usbguard replay",
         )),
-        Command::Ask { .. } | Command::Watch { .. } => None,
+        Command::MakeScript { .. } | Command::Ask { .. } | Command::Watch { .. } => None,
     }
 }
 

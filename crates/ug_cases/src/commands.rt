@@ -1,7 +1,7 @@
 // What commands write, and how they end.
 use crate::calls::{Call, Ran, ask, replay, tool};
 use std::alloc::Global;
-use ug_casefile::{Case, number_of};
+use ug_casefile::{Answer, Case, say};
 use ug_types::NoMemory;
 
 /// The words of a line, between which stand spaces.
@@ -37,23 +37,12 @@ fn push_whole_words<'a>(words: &mut Vec<&'a str>, case: &'a Case) -> Result<(), 
     Ok(())
 }
 
-pub fn numbers(alloc: Global, case: &Case, key: &[u8]) -> Result<Vec<u64>, NoMemory> {
-    let mut numbers = Vec::new(alloc);
-    let line = case.setting(key).unwrap_or(&[]);
-    for part in line.split(|byte| *byte == b' ') {
-        if let Some(number) = number_of(part) {
-            numbers.push(number)?;
-        }
-    }
-    Ok(numbers)
-}
-
 fn call<'a>(alloc: Global, case: &'a Case, word: &'a str) -> Result<Call<'a>, NoMemory> {
     Ok(Call {
         words: words(alloc, case, word)?,
-        input: Vec::from_slice(alloc, &case.input)?,
-        reads: numbers(alloc, case, b"reads")?,
-        writes: numbers(alloc, case, b"writes")?,
+        input: say(alloc, &case.input)?,
+        reads: case.numbers(alloc, b"reads")?,
+        writes: case.numbers(alloc, b"writes")?,
     })
 }
 
@@ -61,14 +50,21 @@ fn count_lines(text: &[u8]) -> usize {
     text.iter().filter(|byte| **byte == b'\n').count()
 }
 
+fn add_status(told: &mut Answer, status: u8) {
+    told.add(b"status ");
+    told.add_number(u64::from(status));
+}
+
 /// What a script writes, its status, and how many writes to devices had their effect.
 pub fn tell_replay(alloc: Global, case: &Case) -> Result<Vec<u8>, NoMemory> {
     let (ran, kernel) = replay(alloc, call(alloc, case, "replay")?)?;
-    let Ran { status, mut output } = ran;
-    let count = kernel.log().len();
-    let end = format!(in alloc; "status {status}, {count} writes")?;
-    output.extend_from_slice(end.as_bytes())?;
-    Ok(output)
+    let mut told = Answer::new(alloc);
+    told.add(&ran.output);
+    add_status(&mut told, ran.status);
+    told.add(b", ");
+    told.add_number(kernel.log().len() as u64);
+    told.add(b" writes");
+    told.finish()
 }
 
 /// How many lines a script writes, its status, and how many writes and devices there were.
@@ -86,23 +82,25 @@ pub fn count_replay(alloc: Global, case: &Case) -> Result<Vec<u8>, NoMemory> {
 
 /// What a command writes, and its status.
 pub fn tell_tool(alloc: Global, word: &str, case: &Case) -> Result<Vec<u8>, NoMemory> {
-    let Ran { status, mut output } = tool(alloc, call(alloc, case, word)?)?;
-    let end = format!(in alloc; "status {status}")?;
-    output.extend_from_slice(end.as_bytes())?;
-    Ok(output)
+    let ran = tool(alloc, call(alloc, case, word)?)?;
+    let mut told = Answer::new(alloc);
+    told.add(&ran.output);
+    add_status(&mut told, ran.status);
+    told.finish()
 }
 
 /// What a command sends and writes whose link gives the input, and its status. The setting `unreachable` stands where no
 /// daemon listens.
 pub fn tell_ask(alloc: Global, case: &Case) -> Result<Vec<u8>, NoMemory> {
     let reachable = case.setting(b"unreachable").is_none();
-    let (Ran { status, output }, sent) = ask(alloc, call(alloc, case, "")?, reachable)?;
-    let mut told = Vec::from_slice(alloc, b"sent ")?;
-    told.extend_from_slice(&sent)?;
-    told.extend_from_slice(b"printed ")?;
-    told.extend_from_slice(&output)?;
-    told.extend_from_slice(format!(in alloc; "status {status}")?.as_bytes())?;
-    Ok(told)
+    let (ran, sent) = ask(alloc, call(alloc, case, "")?, reachable)?;
+    let mut told = Answer::new(alloc);
+    told.add(b"sent ");
+    told.add(&sent);
+    told.add(b"printed ");
+    told.add(&ran.output);
+    add_status(&mut told, ran.status);
+    told.finish()
 }
 
 /// How many lines a command writes, and its status.
@@ -113,33 +111,24 @@ pub fn count_tool(alloc: Global, word: &str, case: &Case) -> Result<Vec<u8>, NoM
 }
 
 /// Adds what was written, in one line, and the status.
-pub fn push_in_one_line(alloc: Global, told: &mut Vec<u8>, ran: &Ran) -> Result<(), NoMemory> {
+pub fn add_in_one_line(told: &mut Answer, ran: &Ran) {
     for byte in ran.output.as_slice() {
         match *byte {
-            b'\n' => told.extend_from_slice(b"; ")?,
-            other => told.push(other)?,
+            b'\n' => told.add(b"; "),
+            other => told.add(&[other]),
         }
     }
-    let status = ran.status;
-    told.extend_from_slice(format!(in alloc; "status {status}")?.as_bytes())?;
-    Ok(())
+    add_status(told, ran.status);
 }
 
 /// What the script of the first line, some others and these writes, in one line, and its status.
 pub fn tell_line(alloc: Global, others: &[u8], lines: &[u8]) -> Result<Vec<u8>, NoMemory> {
-    let mut words = Vec::new(alloc);
-    words.push("replay")?;
-    let mut input = Vec::from_slice(alloc, b"usbguard-replay 1\n")?;
-    input.extend_from_slice(others)?;
-    input.extend_from_slice(lines)?;
-    let call = Call {
-        words,
-        input,
-        reads: Vec::new(alloc),
-        writes: Vec::new(alloc),
-    };
-    let (ran, _kernel) = replay(alloc, call)?;
-    let mut told = Vec::new(alloc);
-    push_in_one_line(alloc, &mut told, &ran)?;
-    Ok(told)
+    let mut input = Answer::new(alloc);
+    input.add(b"usbguard-replay 1\n");
+    input.add(others);
+    input.add(lines);
+    let (ran, _kernel) = replay(alloc, Call::of_script(alloc, input.finish()?)?)?;
+    let mut told = Answer::new(alloc);
+    add_in_one_line(&mut told, &ran);
+    told.finish()
 }

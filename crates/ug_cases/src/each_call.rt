@@ -1,21 +1,22 @@
 // A script with something at each of its calls in turn.
-use crate::calls::{Call, Ran, replay};
+use crate::calls::{Call, replay};
 use std::alloc::Global;
-use ug_casefile::{Case, Setting, number_of, push_escaped, push_number, push_pattern};
+use ug_casefile::{Answer, Case, Setting, add_pattern, number_of};
 use ug_sysfs::{SimKernel, Write};
 use ug_types::NoMemory;
 
 // The script of the case, its lines for these calls, and two events.
 fn script(alloc: Global, case: &Case, first: u64, second: u64) -> Result<Vec<u8>, NoMemory> {
-    let mut text = Vec::from_slice(alloc, &case.input)?;
+    let mut text = Answer::new(alloc);
+    text.add(&case.input);
     for setting in case.settings.as_slice() {
         if setting.key.as_slice() == b"line".as_slice() {
-            push_pattern(&mut text, &setting.value, first, second)?;
-            text.push(b'\n')?;
+            add_pattern(&mut text, &setting.value, first, second);
+            text.add(b"\n");
         }
     }
-    text.extend_from_slice(b"sweep 100\nsweep 101\n")?;
-    Ok(text)
+    text.add(b"sweep 100\nsweep 101\n");
+    text.finish()
 }
 
 fn holds(text: &[u8], part: &[u8]) -> bool {
@@ -61,35 +62,41 @@ fn is_met(setting: &Setting, output: &[u8], kernel: &SimKernel) -> bool {
     }
 }
 
+fn add_calls(told: &mut Answer, first: u64, second: u64) {
+    told.add(b"calls ");
+    told.add_number(first);
+    told.add(b" and ");
+    told.add_number(second);
+}
+
+fn add_unmet(told: &mut Answer, setting: &Setting) {
+    told.add(b": not ");
+    told.add_escaped(&setting.key);
+    told.add(b" ");
+    told.add_escaped(&setting.value);
+    told.add(b"\n");
+}
+
 // Adds a line for each thing that isn't as the settings say.
 fn judge(
     alloc: Global,
-    told: &mut Vec<u8>,
+    told: &mut Answer,
     case: &Case,
     first: u64,
     second: u64,
 ) -> Result<(), NoMemory> {
-    let mut words = Vec::new(alloc);
-    words.push("replay")?;
-    let call = Call {
-        words,
-        input: script(alloc, case, first, second)?,
-        reads: Vec::new(alloc),
-        writes: Vec::new(alloc),
-    };
-    let (Ran { status, output }, kernel) = replay(alloc, call)?;
-    if status != 0 {
-        let text = format!(in alloc; "calls {first} and {second}: status {status}\n")?;
-        told.extend_from_slice(text.as_bytes())?;
+    let call = Call::of_script(alloc, script(alloc, case, first, second)?)?;
+    let (ran, kernel) = replay(alloc, call)?;
+    if ran.status != 0 {
+        add_calls(told, first, second);
+        told.add(b": status ");
+        told.add_number(u64::from(ran.status));
+        told.add(b"\n");
     }
     for setting in case.settings.as_slice() {
-        if !is_met(setting, &output, &kernel) {
-            let text = format!(in alloc; "calls {first} and {second}: not ")?;
-            told.extend_from_slice(text.as_bytes())?;
-            push_escaped(told, &setting.key)?;
-            told.push(b' ')?;
-            push_escaped(told, &setting.value)?;
-            told.push(b'\n')?;
+        if !is_met(setting, &ran.output, &kernel) {
+            add_calls(told, first, second);
+            add_unmet(told, setting);
         }
     }
     Ok(())
@@ -99,23 +106,28 @@ fn last_call(case: &Case) -> u64 {
     case.setting(b"calls").and_then(number_of).unwrap_or(0)
 }
 
+fn finish(told: Answer, count: u64) -> Result<Vec<u8>, NoMemory> {
+    let mut told = told;
+    told.add_number(count);
+    told.add(b" scripts");
+    told.finish()
+}
+
 /// Runs the script of the case with its lines for each call from 1 to the setting `calls`, and tells which of its other
 /// settings aren't met, and how many scripts there were.
 pub fn tell(alloc: Global, case: &Case) -> Result<Vec<u8>, NoMemory> {
-    let mut told = Vec::new(alloc);
+    let mut told = Answer::new(alloc);
     let mut count: u64 = 0;
     for call in 1..=last_call(case) {
         judge(alloc, &mut told, case, call, call)?;
         count = count.saturating_add(1);
     }
-    push_number(&mut told, count)?;
-    told.extend_from_slice(b" scripts")?;
-    Ok(told)
+    finish(told, count)
 }
 
 fn judge_pairs(
     alloc: Global,
-    told: &mut Vec<u8>,
+    told: &mut Answer,
     case: &Case,
     second: u64,
 ) -> Result<u64, NoMemory> {
@@ -129,12 +141,10 @@ fn judge_pairs(
 
 /// The same for each two calls.
 pub fn tell_pairs(alloc: Global, case: &Case) -> Result<Vec<u8>, NoMemory> {
-    let mut told = Vec::new(alloc);
+    let mut told = Answer::new(alloc);
     let mut count: u64 = 0;
     for second in 1..=last_call(case) {
         count = count.saturating_add(judge_pairs(alloc, &mut told, case, second)?);
     }
-    push_number(&mut told, count)?;
-    told.extend_from_slice(b" scripts")?;
-    Ok(told)
+    finish(told, count)
 }

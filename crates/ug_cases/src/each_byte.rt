@@ -1,8 +1,8 @@
 // Commands that ask the daemon, over links that end, fail or give another byte at each byte of what they give.
 use crate::calls::{Call, Ran, ask};
-use crate::commands::{push_in_one_line, words_of};
+use crate::commands::{add_in_one_line, words_of};
 use std::alloc::Global;
-use ug_casefile::{Case, bytes_of_hex, push_escaped, push_number};
+use ug_casefile::{Answer, Case, bytes_of_hex};
 use ug_types::NoMemory;
 
 /// What happens at a byte.
@@ -24,30 +24,29 @@ struct Asking<'a> {
 /// What came of one place after another, with a line for those that have the same.
 #[derive(Drop)]
 struct Table {
-    lines: Vec<u8>,
+    lines: Answer,
     first: u64,
     last: u64,
     answer: Vec<u8>,
     count: u64,
 }
 
-fn push_turn(told: &mut Vec<u8>, turn: Turn) -> Result<(), NoMemory> {
+fn add_turn(told: &mut Answer, turn: Turn) {
     match turn {
-        Turn::Ends => told.extend_from_slice(b"ends at ")?,
-        Turn::Fails => told.extend_from_slice(b"fails at ")?,
+        Turn::Ends => told.add(b"ends at "),
+        Turn::Fails => told.add(b"fails at "),
         Turn::Other(byte) => {
-            told.extend_from_slice(b"has ")?;
-            push_escaped(told, &[byte])?;
-            told.extend_from_slice(b" at ")?;
+            told.add(b"has ");
+            told.add_escaped(&[byte]);
+            told.add(b" at ");
         }
     }
-    Ok(())
 }
 
 impl Table {
     fn new(alloc: Global) -> Table {
         Table {
-            lines: Vec::new(alloc),
+            lines: Answer::new(alloc),
             first: 0,
             last: 0,
             answer: Vec::new(alloc),
@@ -56,50 +55,43 @@ impl Table {
     }
 
     // Writes the line of the places that have the same answer.
-    fn close(&mut self, alloc: Global, turn: Turn) -> Result<(), NoMemory> {
+    fn close(&mut self, turn: Turn) {
         if self.answer.is_empty() {
-            return Ok(());
+            return;
         }
-        push_turn(&mut self.lines, turn)?;
-        push_number(&mut self.lines, self.first)?;
+        add_turn(&mut self.lines, turn);
+        self.lines.add_number(self.first);
         if self.first < self.last {
-            self.lines.extend_from_slice(b" to ")?;
-            push_number(&mut self.lines, self.last)?;
+            self.lines.add(b" to ");
+            self.lines.add_number(self.last);
         }
-        self.lines.extend_from_slice(b": ")?;
-        self.lines.extend_from_slice(&self.answer)?;
-        self.lines.push(b'\n')?;
-        self.answer = Vec::new(alloc);
-        Ok(())
+        self.lines.add(b": ");
+        self.lines.add(&self.answer);
+        self.lines.add(b"\n");
+        self.answer.clear();
     }
 
-    fn add(
-        &mut self,
-        alloc: Global,
-        turn: Turn,
-        place: u64,
-        answer: Vec<u8>,
-    ) -> Result<(), NoMemory> {
+    fn add(&mut self, turn: Turn, place: u64, answer: Vec<u8>) {
         self.count = self.count.saturating_add(1);
         if answer != self.answer {
-            self.close(alloc, turn)?;
+            self.close(turn);
             self.first = place;
             self.answer = answer;
         }
         self.last = place;
-        Ok(())
     }
 }
 
 // What a link gives whose bytes turn at that place.
 fn turned(alloc: Global, given: &[u8], place: usize, turn: Turn) -> Result<Vec<u8>, NoMemory> {
-    let mut bytes = Vec::from_slice(alloc, given.get(..place).unwrap_or(&[]))?;
+    let mut bytes = Answer::new(alloc);
+    bytes.add(given.get(..place).unwrap_or(&[]));
     if let Turn::Other(byte) = turn {
-        bytes.push(byte)?;
         let behind = place.saturating_add(1);
-        bytes.extend_from_slice(given.get(behind..).unwrap_or(&[]))?;
+        bytes.add(&[byte]);
+        bytes.add(given.get(behind..).unwrap_or(&[]));
     }
-    Ok(bytes)
+    bytes.finish()
 }
 
 // The number of the call of a link that fails: the bytes before it come in one call, if there are any.
@@ -137,15 +129,15 @@ impl<'a> Asking<'a> {
     // What is printed, the status, and whether it sent something else than before.
     fn answer(&self, alloc: Global, place: usize, turn: Turn) -> Result<Vec<u8>, NoMemory> {
         let (ran, sent) = self.run(alloc, place, turn)?;
-        let mut told = Vec::new(alloc);
-        push_in_one_line(alloc, &mut told, &ran)?;
+        let mut told = Answer::new(alloc);
+        add_in_one_line(&mut told, &ran);
         if sent != self.sent {
-            told.extend_from_slice(b", with another request")?;
+            told.add(b", with another request");
         }
-        Ok(told)
+        told.finish()
     }
 
-    fn push_places(
+    fn add_places(
         &self,
         alloc: Global,
         table: &mut Table,
@@ -154,19 +146,20 @@ impl<'a> Asking<'a> {
         end: usize,
     ) -> Result<(), NoMemory> {
         for place in first..end {
-            table.add(alloc, turn, place as u64, self.answer(alloc, place, turn)?)?;
+            table.add(turn, place as u64, self.answer(alloc, place, turn)?);
         }
-        table.close(alloc, turn)
+        table.close(turn);
+        Ok(())
     }
 
     fn table(&self, alloc: Global, first: usize, others: &[u8]) -> Result<Table, NoMemory> {
         let mut table = Table::new(alloc);
         let end = self.given.len();
         let behind = end.saturating_add(1);
-        self.push_places(alloc, &mut table, Turn::Ends, first, behind)?;
-        self.push_places(alloc, &mut table, Turn::Fails, first, behind)?;
+        self.add_places(alloc, &mut table, Turn::Ends, first, behind)?;
+        self.add_places(alloc, &mut table, Turn::Fails, first, behind)?;
         for byte in others {
-            self.push_places(alloc, &mut table, Turn::Other(*byte), first, end)?;
+            self.add_places(alloc, &mut table, Turn::Other(*byte), first, end)?;
         }
         Ok(table)
     }
@@ -193,31 +186,62 @@ fn without_newline(line: &[u8]) -> &[u8] {
     line.strip_suffix(b"\n").unwrap_or(line)
 }
 
+// The tables of commands, of which those one behind another that have the same are told once.
+#[derive(Drop)]
+struct Tables {
+    sent: Answer,
+    lines: Answer,
+    last: Vec<u8>,
+    count: u64,
+}
+
+impl Tables {
+    fn new(alloc: Global) -> Tables {
+        Tables {
+            sent: Answer::new(alloc),
+            lines: Answer::new(alloc),
+            last: Vec::new(alloc),
+            count: 0,
+        }
+    }
+
+    fn add(&mut self, sent: &[u8], table: Table) -> Result<(), NoMemory> {
+        let before: &[u8] = if self.sent.is_empty() {
+            b"sent "
+        } else {
+            b"; "
+        };
+        self.sent.add(before);
+        self.sent.add(without_newline(sent));
+        self.count = self.count.saturating_add(table.count);
+        let lines = table.lines.finish()?;
+        if lines != self.last {
+            self.lines.add(&lines);
+            self.last = lines;
+        }
+        Ok(())
+    }
+
+    fn finish(mut self) -> Result<Vec<u8>, NoMemory> {
+        self.sent.add(b"\n");
+        self.sent.add(&self.lines.finish()?);
+        self.sent.add_number(self.count);
+        self.sent.add(b" links");
+        self.sent.finish()
+    }
+}
+
 /// What each command sends of the setting `commands`, between which stands `|`, and what comes of a link that ends or fails at
 /// each place of the input, or with `whole` at its end alone, or has each byte of the setting `others` in place of each of its bytes.
 /// Commands one behind another of which the same comes have one table. At last, how many links there were.
 pub fn tell(alloc: Global, case: &Case) -> Result<Vec<u8>, NoMemory> {
     let others = others(alloc, case)?;
-    let mut told = Vec::new(alloc);
-    let mut tables = Vec::new(alloc);
-    let mut last = Vec::new(alloc);
-    let mut count: u64 = 0;
+    let mut tables = Tables::new(alloc);
     let commands = case.setting(b"commands").unwrap_or(&[]);
     for words in commands.split(|byte| *byte == b'|') {
         let asking = Asking::new(alloc, words, &case.input)?;
-        let before: &[u8] = if told.is_empty() { b"sent " } else { b"; " };
-        told.extend_from_slice(before)?;
-        told.extend_from_slice(without_newline(&asking.sent))?;
         let table = asking.table(alloc, first_place(case), &others)?;
-        count = count.saturating_add(table.count);
-        if table.lines != last {
-            tables.extend_from_slice(&table.lines)?;
-            last = table.lines;
-        }
+        tables.add(&asking.sent, table)?;
     }
-    told.push(b'\n')?;
-    told.extend_from_slice(&tables)?;
-    push_number(&mut told, count)?;
-    told.extend_from_slice(b" links")?;
-    Ok(told)
+    tables.finish()
 }
