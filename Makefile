@@ -24,7 +24,7 @@ zshdir = $(prefix)/share/zsh/vendor-completions
 
 confdir = $(sysconfdir)/usbguard
 INSTALL = install
-DOCS = README.md CHANGELOG.md LICENSE $(addprefix docs/,boot.md commands.md journal.md locked-out.md moving.md \
+DOCS = README.md CHANGELOG.md LICENSE SECURITY.md $(addprefix docs/,boot.md commands.md journal.md locked-out.md moving.md \
 	real-kernel.md rules.md)
 
 all:
