@@ -1,16 +1,23 @@
-# Installs the program with its manual pages, settings and service, and makes a
-# Debian package of them. It builds nothing: README.md says how the program is
-# built.
+# Builds the proved program by bin/build-usbguard, installs it with its manual
+# pages, settings and service, and makes a Debian package of them. Where the
+# program is proved of these sources already, nothing is built.
 #
+#   make
 #   make install DESTDIR=/somewhere
 #   make deb
+#
+# With PROGRAM=PATH that program is taken, and nothing is built.
 
 PROGRAM = crates/usbguard/out/usbguard
 DESTDIR =
 
 PACKAGE = usbguard-rattle
-# No release has been made: the date and the id of the commit.
-VERSION = 0~$(shell git log -1 --date=format:%Y%m%d --format=%cd.%h --abbrev=7)
+# The version that the program tells. Only the commit of that release's tag has just this; others have the date and the commit's id behind
+# it, which dpkg sorts before the release (~) until there is one, and then behind it (+).
+RELEASE = $(shell sed -n 's/^const VERSION.*"\(.*\)";/\1/p' crates/usbguard/src/about.rt)
+COMMIT = $(shell git log -1 --date=format:%Y%m%d --format=%cd.%h --abbrev=7)
+VERSION = $(RELEASE)$(shell git describe --exact-match --match v$(RELEASE) >/dev/null 2>&1 || \
+	{ git rev-parse -q --verify v$(RELEASE) >/dev/null && printf + || printf '~'; echo $(COMMIT); })
 
 prefix = /usr
 sysconfdir = /etc
@@ -24,19 +31,19 @@ zshdir = $(prefix)/share/zsh/vendor-completions
 
 confdir = $(sysconfdir)/usbguard
 INSTALL = install
-DOCS = README.md CHANGELOG.md LICENSE SECURITY.md $(addprefix docs/,boot.md commands.md journal.md locked-out.md moving.md \
-	real-kernel.md rules.md)
+DOCS = README.md CHANGELOG.md CONTRIBUTING.md LICENSE SECURITY.md $(sort $(wildcard docs/*.md))
 
-all:
-	@echo "make install DESTDIR=FOLDER, or make deb"
+all: program
 
-# The program, where it isn't built yet.
-$(PROGRAM):
-	@echo "make: there is no program at $@." >&2
-	@echo "Build it with bin/usbguard, or name another: make PROGRAM=PATH" >&2
-	@exit 1
+ifeq ($(origin PROGRAM),file)
+program:
+	@bin/build-usbguard
+else
+program:
+	@[ -x "$(PROGRAM)" ] || { echo "make: there is no program at $(PROGRAM)" >&2; exit 1; }
+endif
 
-install: $(PROGRAM)
+install: program
 	$(INSTALL) -d -m 755 "$(DESTDIR)$(bindir)" "$(DESTDIR)$(libexecdir)"
 	$(INSTALL) -d -m 755 "$(DESTDIR)$(mandir)/man1" "$(DESTDIR)$(mandir)/man5"
 	$(INSTALL) -d -m 755 "$(DESTDIR)$(unitdir)" "$(DESTDIR)$(bashdir)" "$(DESTDIR)$(zshdir)"
@@ -44,6 +51,7 @@ install: $(PROGRAM)
 	$(INSTALL) -m 755 "$(PROGRAM)" "$(DESTDIR)$(bindir)/usbguard"
 	$(INSTALL) -m 755 bin/usbguard-script "$(DESTDIR)$(bindir)/usbguard-script"
 	$(INSTALL) -m 755 packaging/usbguard-prepare "$(DESTDIR)$(libexecdir)/usbguard-prepare"
+	$(INSTALL) -m 755 packaging/usbguard-carry "$(DESTDIR)$(libexecdir)/usbguard-carry"
 	$(INSTALL) -m 755 packaging/usbguard-sockets "$(DESTDIR)$(libexecdir)/usbguard-sockets"
 	$(INSTALL) -m 644 man/usbguard.1 "$(DESTDIR)$(mandir)/man1/usbguard.1"
 	ln -sf usbguard.1 "$(DESTDIR)$(mandir)/man1/usbguard-script.1"
@@ -68,9 +76,9 @@ install-conf:
 	[ -e "$(DESTDIR)$(confdir)/usbguard-daemon.conf" ] || \
 		$(INSTALL) -m 600 packaging/usbguard-daemon.conf "$(DESTDIR)$(confdir)/usbguard-daemon.conf"
 	[ -e "$(DESTDIR)$(confdir)/rules.conf" ] || \
-		$(INSTALL) -m 600 packaging/rules.conf "$(DESTDIR)$(confdir)/rules.conf"
+		$(INSTALL) -m 600 /dev/null "$(DESTDIR)$(confdir)/rules.conf"
 
-deb: $(PROGRAM)
+deb: program
 	PROGRAM="$(PROGRAM)" packaging/make-deb.sh "$(PACKAGE)" "$(VERSION)"
 
-.PHONY: all install install-conf deb
+.PHONY: all program install install-conf deb

@@ -1,7 +1,7 @@
 #!/bin/sh
 # Fails each allocation of a run in turn, and says how the runs ended. Each has to end as the whole run does, or with status
 # 6: its output is then a front of the whole one, cut at a line, and the line `no memory`.
-# It wants the built program (bin/usbguard builds it) and a C compiler as cc.
+# It wants the built program (bin/build-usbguard builds it) and a C compiler as cc.
 set -eu
 . "$(dirname "$0")/program.sh"
 

@@ -1,6 +1,6 @@
 #!/bin/sh
 # Times check-rules on 65,536 rules, without conditions and with some, and prints rules per second and peak memory.
-# It wants the built program (bin/usbguard builds it), awk, and GNU time as /usr/bin/time.
+# It wants the built program (bin/build-usbguard builds it), awk, and GNU time as /usr/bin/time.
 set -eu
 . "$(dirname "$0")/program.sh"
 

@@ -1,6 +1,6 @@
 #!/bin/sh
 # Times generate-policy on scripts of 16,000 and 64,000 devices, and prints the time of each, their ratio, and peak memory.
-# It wants the built program (bin/usbguard builds it), awk, and GNU time as /usr/bin/time.
+# It wants the built program (bin/build-usbguard builds it), awk, and GNU time as /usr/bin/time.
 set -eu
 . "$(dirname "$0")/program.sh"
 

@@ -1,7 +1,8 @@
 #!/bin/sh
 # Times the judging of 1,000 devices against 1,000 and 65,536 rules of which only the last matches, and prints judgements
-# per second. What the same script takes without its sweep is told beside, and is taken off.
-# It wants the built program (bin/usbguard builds it), awk, and GNU time as /usr/bin/time.
+# per second of processor time. The daemon starts before the devices come. What the same script takes without the sweep that
+# judges them is told beside, and is taken off.
+# It wants the built program (bin/build-usbguard builds it), awk, and GNU time as /usr/bin/time.
 set -eu
 . "$(dirname "$0")/program.sh"
 
@@ -11,18 +12,19 @@ script() {
         print "usbguard-replay 1"
         for (i = 1; i < rules; i++) printf "rule block id 0001:%04x\n", i % 65536
         print "rule allow id 1050:0011"
+        print "sweep 1"
         for (bus = 1; bus <= 4; bus++) {
             printf "plug usb%d 1 %s - - -\n", bus, key
             for (port = 1; port <= 250; port++) printf "plug %d-%d 1 %s - - -\n", bus, port, key
         }
-        if (sweep) print "sweep 1"
+        if (sweep) print "sweep 2"
     }'
 }
 
 seconds_of() {
     script "$1" "$2" >"$folder/script"
-    /usr/bin/time -f '%e' -o "$folder/time" "$program" replay <"$folder/script" >"$folder/out"
-    cat "$folder/time"
+    /usr/bin/time -f '%U %S' -o "$folder/time" "$program" replay <"$folder/script" >"$folder/out"
+    awk '{ print $1 + $2 }' "$folder/time"
 }
 
 run() {

@@ -1,7 +1,7 @@
 #!/bin/sh
 # Times read-descriptor on 131,072 bytes of descriptors, and prints megabytes per second without the program's start, which
 # is timed on the 18 bytes of a device descriptor. The output goes to a file.
-# It wants the built program (bin/usbguard builds it), awk, and GNU date.
+# It wants the built program (bin/build-usbguard builds it), awk, and GNU date.
 set -eu
 . "$(dirname "$0")/program.sh"
 runs=${1:-200}

@@ -1,6 +1,6 @@
 #!/bin/sh
 # Times replay on scripts of many lines and of many live devices, and prints lines per second and peak memory.
-# It wants the built program (bin/usbguard builds it), awk, and GNU time as /usr/bin/time.
+# It wants the built program (bin/build-usbguard builds it), awk, and GNU time as /usr/bin/time.
 set -eu
 . "$(dirname "$0")/program.sh"
 

@@ -1,7 +1,7 @@
 #!/bin/sh
 # Times replay on two scripts of generated events, one ten times as long as the other, and prints the ratio of the
 # processor's times. Between the events devices come and go at eight ports, and calls are told to fail. It wants the
-# built program (bin/usbguard builds it), awk, and GNU time as /usr/bin/time. Words: how many events the shorter script
+# built program (bin/build-usbguard builds it), awk, and GNU time as /usr/bin/time. Words: how many events the shorter script
 # has (50000), and the number below 2^32 that the events come from (7).
 set -eu
 . "$(dirname "$0")/program.sh"

@@ -14,14 +14,21 @@ file=out/${name}_${version}_$architecture.deb
 rm -rf out/deb
 mkdir -p "$root/DEBIAN"
 make --no-print-directory install PROGRAM="$PROGRAM" PACKAGE="$name" DESTDIR="$root" >/dev/null
+strip --strip-unneeded --remove-section=.comment --remove-section=.note "$root/usr/bin/usbguard"
 gzip -9 -n "$root"/usr/share/man/man5/*.5 "$root/usr/share/man/man1/usbguard.1"
 ln -sf usbguard.1.gz "$root/usr/share/man/man1/usbguard-script.1.gz"
 rm "$root/usr/share/man/man1/usbguard-script.1"
 # Debian has the licence's text once for all packages, and the copyright file names it.
-rm "$root/usr/share/doc/$name/LICENSE"
+ln -sf ../../common-licenses/GPL-2 "$root/usr/share/doc/$name/LICENSE"
 install -m 644 packaging/copyright "$root/usr/share/doc/$name/copyright"
 git log -1 --format="$name ($version) unstable; urgency=medium%n%n  * Commit %h: see CHANGELOG.md.%n%n -- %an <%ae>  %cD" |
     gzip -9 -n >"$root/usr/share/doc/$name/changelog.gz"
+install -d -m 755 "$root/usr/share/lintian/overrides"
+install -m 644 packaging/lintian-overrides "$root/usr/share/lintian/overrides/$name"
+# What postinst puts where it is missing: dpkg doesn't know settings and rules.
+install -d -m 755 "$root/usr/share/$name"
+install -m 644 packaging/usbguard-daemon.conf packaging/usbguard.service "$root/usr/share/$name"
+rm -r "$root/etc"
 
 # The packages of the libraries that ldd names, which is libc6 alone. The program needs the version of glibc whose symbols it cites.
 packages=
@@ -47,10 +54,11 @@ Description: USB device authorisation by rules
  The daemon judges USB devices by the rules of usbguard-rules.conf(5), and
  notes each verdict and each write in its journal. A policy can be rehearsed
  before the daemon is started. The service is neither enabled nor started by
- this package.
+ this package, unless it was before.
 END
-printf '/etc/usbguard/%s\n' rules.conf usbguard-daemon.conf >"$root/DEBIAN/conffiles"
-install -m 755 packaging/prerm "$root/DEBIAN/prerm"
-(cd "$root" && find usr etc -type f -exec md5sum {} +) >"$root/DEBIAN/md5sums"
+for script in preinst postinst prerm postrm; do
+    install -m 755 "packaging/$script" "$root/DEBIAN/$script"
+done
+(cd "$root" && find usr -type f -exec md5sum {} +) >"$root/DEBIAN/md5sums"
 
 SOURCE_DATE_EPOCH=$(git log -1 --format=%ct) dpkg-deb --root-owner-group --build "$root" "$file"

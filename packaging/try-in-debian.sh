@@ -14,7 +14,7 @@ suite=${SUITE:-bookworm}
 mirror=${MIRROR:-}
 [ ! -e "$root" ] || { echo "try-in-debian: $root is there already" >&2; exit 1; }
 daemon=
-trap 'stop; rm -rf --one-file-system "$root"; rmdir "${root%/root}" 2>/dev/null || :' EXIT
+trap 'stop; umount "$root/dev/pts" 2>/dev/null || :; rm -rf --one-file-system "$root"; rmdir "${root%/root}" 2>/dev/null || :' EXIT
 
 failures=0
 
@@ -66,11 +66,41 @@ else
 fi
 chroot "$root" sh -c '. /etc/os-release; echo "$PRETTY_NAME"'
 
+# terminals
+mkdir -p "$root/dev/pts"
+mount -t devpts -o ptmxmode=666 devpts "$root/dev/pts"
+
 echo "== The package"
 cp "$package" "$root/tmp/package.deb"
 show 'dpkg -i /tmp/package.deb'
+check 'settings and rules are made, and dpkg asks about neither' \
+    'test -e /etc/usbguard/rules.conf && test ! -s /etc/usbguard/rules.conf && test -e /etc/usbguard/usbguard-daemon.conf && ! grep -q . /var/lib/dpkg/info/$(dpkg-deb -f /tmp/package.deb Package).conffiles'
+check 'usbguard --version tells the version of the package' \
+    'dpkg-deb -f /tmp/package.deb Version | grep -q "^$(usbguard --version | cut -d " " -f 2)"'
 show 'dpkg -L $(dpkg-deb -f /tmp/package.deb Package) | xargs ls -ld | grep -v ^d'
 show 'ls -ld /etc/usbguard/*'
+
+if command -v lintian >/dev/null; then
+    echo
+    echo "== lintian"
+    if lintian --allow-root --tag-display-limit 0 --fail-on error,warning "$package"; then
+        echo "ok: no error and no warning"
+    else
+        echo "FAILED: lintian"
+        failures=$((failures + 1))
+    fi
+fi
+
+echo
+echo "== Links in the documents"
+documents=$(echo "$root"/usr/share/doc/usbguard*)
+find "$documents" -name '*.md' | sort | while read -r page; do
+    grep -o '](\([^):]*\))' "$page" | sed 's/](//; s/)$//; s/#.*//' | grep . | sort -u | while read -r link; do
+        [ -e "$(dirname "$page")/$link" ] || [ -L "$(dirname "$page")/$link" ] || echo "${page#"$documents"/}: $link"
+    done
+done >"$root/tmp/dead"
+cat "$root/tmp/dead"
+check 'each link leads to a file' 'test ! -s /tmp/dead'
 
 echo
 echo "== Manual pages"
@@ -89,14 +119,19 @@ device usb1 1 "$hub"
 device 1-1 0 "$key"
 device 1-2 1 "$other"
 printf 'Key\n' >"$root/sys/bus/usb/devices/1-1/product"
+printf '0000:00:14.0\n' >"$root/sys/bus/usb/devices/usb1/serial"
 
 echo "== From the package to a policy in force: a first policy of the devices that are there, a look at it, the daemon, and who watches"
-show 'usbguard-script | usbguard generate-policy | sed "s/ parent-hash \"[^\"]*\"//" > /etc/usbguard/rules.conf; cat /etc/usbguard/rules.conf'
+show 'usbguard-script | usbguard generate-policy > /etc/usbguard/rules.conf; cat /etc/usbguard/rules.conf'
 show 'usbguard-script -c /etc/usbguard/usbguard-daemon.conf -r /etc/usbguard/rules.conf | usbguard replay'
 show 'useradd joe; useradd eve; printf "" | usbguard add-user joe --devices list > /etc/usbguard/IPCAccessControl.d/joe; grep . /etc/usbguard/IPCAccessControl.d/*'
 echo
-echo '# The service, by hand: there is no systemd here'
+echo '# The service, by hand: there is no systemd here. A user alice is there, and none of the name alice.smith'
+show 'useradd alice; printf "" | usbguard add-user alice.smith --devices list > /etc/usbguard/IPCAccessControl.d/alice.smith'
+chroot "$root" /usr/libexec/usbguard-prepare rules hashes
 start
+check "a socket isn't given to a user of another name" 'test "$(stat -c %U /run/usbguard/alice.smith.socket)" = root'
+check 'and is given to the user of its name' 'test "$(stat -c %U /run/usbguard/joe.socket)" = joe'
 show 'ls -l /run/usbguard'
 show 'usbguard list-devices'
 (sleep 2; device 1-3 1 "$stranger") &
@@ -113,13 +148,86 @@ show 'su eve -c "usbguard list-devices --socket /run/usbguard/joe.socket"'
 check 'joe may list devices' 'su joe -c "usbguard list-devices --socket /run/usbguard/joe.socket" | grep -q "^4: allow"'
 check 'and give no order' 'su joe -c "usbguard block-device 2 --socket /run/usbguard/joe.socket" | grep -qx "refused 2 denied Devices modify"'
 check "nor as root" 'su joe -c "usbguard block-device 2" | grep -qx "link fault"'
+check 'standard error says which socket, why, and which sockets are there' \
+    'su joe -c "usbguard list-devices" 2>&1 | grep "^usbguard: /run/usbguard/root.socket: this user may not open it" && su joe -c "usbguard list-devices" 2>&1 | grep -x -e "  --socket=/run/usbguard/joe.socket"'
+check 'behind a policy of generate-policy a permanent verdict turns the rule of the device' \
+    'usbguard block-device 2 -p && grep -q "^block id 1050:0011 " /etc/usbguard/rules.conf && ! grep -q "^allow id 1050:0011 " /etc/usbguard/rules.conf && usbguard allow-device 2 -p && grep -q "^allow id 1050:0011 " /etc/usbguard/rules.conf'
 check "another user can't even connect" 'su eve -c "usbguard list-devices --socket /run/usbguard/joe.socket" | grep -qx "link fault"'
 check 'a rule that was appended, and that of a permanent verdict, stand in the rule file, and nothing else is beside it' \
     'grep -qx "allow id 1050:0015" /etc/usbguard/rules.conf && grep "^allow id 1050:0013 " /etc/usbguard/rules.conf && ls /etc/usbguard | (! grep -v "^usbguard-daemon.conf$\|^rules.conf$\|^IPCAccessControl.d$")'
 check 'a device that no rule names was blocked, and then allowed by order' \
     'grep -x "judged 4 1-3 block implicit" /tmp/journal && grep -x "judged 4 1-3 allow order root" /tmp/journal && grep -x 1 /sys/bus/usb/devices/1-3/authorized'
 stop
-rm -r "$root/sys/bus/usb/devices/1-3" "$root/etc/usbguard/IPCAccessControl.d/joe" "$root/run/usbguard"
+rm -r "$root/sys/bus/usb/devices/1-3" "$root/etc/usbguard/IPCAccessControl.d/joe" "$root/etc/usbguard/IPCAccessControl.d/alice.smith" "$root/run/usbguard"
+
+echo
+echo "== Another kernel: the descriptors of the root hub hold its version"
+# kernel MAJOR MINOR: as octal digits, of each root hub in the folder
+kernel() {
+    for hub_folder in "$root"/sys/bus/usb/devices/usb*; do
+        printf "\\022\\001\\000\\002\\011\\000\\000\\100\\153\\035\\002\\000\\$2\\$1\\000\\000\\000\\001" >"$hub_folder/descriptors"
+    done
+}
+# judged NAME VERDICT: what a command line in the root answers, by the rules as they are
+judged() {
+    echo "usbguard-script -r /etc/usbguard/rules.conf | usbguard replay | grep -q '^judged [0-9]* $1 $2'"
+}
+show 'usbguard-script | usbguard generate-policy > /etc/usbguard/rules.conf; cat /etc/usbguard/rules.conf'
+old=$(sed -n 's/.* 1050:0011 .* parent-hash "\([^"]*\)".*/\1/p' "$root/etc/usbguard/rules.conf")
+printf '# parent-hash "%s"\nallow name "a parent-hash \\"%s\\"" # hash "%s"\n' "$old" "$old" "$old" >>"$root/etc/usbguard/rules.conf"
+cp "$root/etc/usbguard/rules.conf" "$root/tmp/old-rules"
+check 'before the first start nothing is changed' '/usr/libexec/usbguard-prepare hashes && cmp /tmp/old-rules /etc/usbguard/rules.conf'
+show 'cat /var/lib/usbguard/root-hubs'
+kernel 006 014
+check 'with the new kernel the key would be blocked' "$(judged 1-1 block)"
+show '/usr/libexec/usbguard-prepare hashes; diff /tmp/old-rules /etc/usbguard/rules.conf'
+check 'it is allowed' "$(judged 1-1 allow)"
+check 'comments and other strings stay' 'tail -n 2 /tmp/old-rules >/tmp/1; tail -n 2 /etc/usbguard/rules.conf | cmp /tmp/1 -'
+check 'owner and mode stay, and nothing is left beside the file' \
+    'test "$(stat -c "%U %a" /etc/usbguard/rules.conf)" = "root 600" && ! ls /etc/usbguard | grep new'
+kernel 001 000
+check 'and with the old kernel again' "/usr/libexec/usbguard-prepare hashes && cmp /tmp/old-rules /etc/usbguard/rules.conf && $(judged 1-1 allow)"
+mv "$root/sys/bus/usb/devices/usb1" "$root/sys/bus/usb/devices/usb4"
+mv "$root/sys/bus/usb/devices/1-1" "$root/sys/bus/usb/devices/4-1"
+kernel 006 014
+check 'also where the bus has another number' "/usr/libexec/usbguard-prepare hashes && $(judged 4-1 allow)"
+cp "$root/etc/usbguard/rules.conf" "$root/tmp/new-rules"
+cp -a "$root/sys/bus/usb/devices/usb4" "$root/sys/bus/usb/devices/usb5"
+kernel 006 015
+show '/usr/libexec/usbguard-prepare hashes'
+check 'where two hubs have one number, nothing is changed' 'cmp /tmp/new-rules /etc/usbguard/rules.conf'
+rm -r "$root/sys/bus/usb/devices/usb5"
+echo 'allow frob' >>"$root/etc/usbguard/rules.conf"
+cp "$root/etc/usbguard/rules.conf" "$root/tmp/new-rules"
+show '/usr/libexec/usbguard-prepare hashes'
+check 'where a line is bad, nothing is changed' 'cmp /tmp/new-rules /etc/usbguard/rules.conf'
+mv "$root/sys/bus/usb/devices/usb4" "$root/sys/bus/usb/devices/usb1"
+mv "$root/sys/bus/usb/devices/4-1" "$root/sys/bus/usb/devices/1-1"
+kernel 001 000
+
+echo
+echo "== Rules are rewritten by their tokens"
+cat >"$root/tmp/rules" <<'END'
+allow id 1050:0011 parent-hash "abc" name "a parent-hash \"abc\" b" # parent-hash "abc"
+allow serial "1" parent-hash one-of { "abc" "def" } if allowed-matches(parent-hash "abc")
+END
+cat >"$root/tmp/wanted" <<'END'
+allow id 1050:0011 name "a parent-hash \"abc\" b" # parent-hash "abc"
+allow serial "1" if allowed-matches(parent-hash "abc")
+END
+check 'an attribute goes, and no string or comment that looks like it' 'usbguard-script -w parent-hash -r /tmp/rules | cmp - /tmp/wanted'
+echo 'abc ghi' >"$root/tmp/hashes"
+show 'usbguard-script -m /tmp/hashes -r /tmp/rules'
+echo 'allow hash "abc" # x' >"$root/tmp/rules"
+show 'usbguard-script -w hash -r /tmp/rules'
+check 'a rule that would match every device ends it' '! usbguard-script -w hash -r /tmp/rules >/tmp/1 && test ! -s /tmp/1'
+
+echo
+echo "== Where a command waits for a terminal"
+for command in 'add-user joe --devices list' check-rules generate-policy lint-rules read-descriptor replay; do
+    check "$command says what it reads" "script -qec 'usbguard $command' /dev/null </dev/null | grep 'from the terminal, up to Ctrl-D'"
+done
+check 'not where its input comes from a file' 'usbguard check-rules </dev/null 2>&1 | (! grep terminal)'
 
 echo
 echo "== The commands"
@@ -127,6 +235,7 @@ show 'cd /usr/share/doc/usbguard*/examples && usbguard replay < first.script'
 show 'usbguard read-descriptor < /sys/bus/usb/devices/1-1/descriptors'
 show "printf 'allow 1050:0011 name \"Key\"\n' > /etc/usbguard/rules.conf"
 show 'usbguard check-rules < /etc/usbguard/rules.conf'
+show 'usbguard lint-rules < /etc/usbguard/rules.conf'
 show 'usbguard-script -c /etc/usbguard/usbguard-daemon.conf -r /etc/usbguard/rules.conf'
 show 'usbguard-script -c /etc/usbguard/usbguard-daemon.conf -r /etc/usbguard/rules.conf | usbguard replay'
 show 'timeout 3 usbguard daemon --conf /etc/usbguard/usbguard-daemon.conf'
@@ -138,6 +247,8 @@ show 'usbguard daemon --conf /etc/absent'
 
 echo
 echo "== Completion"
+mkdir -p "$root/run/usbguard"
+touch "$root/run/usbguard/root.socket"
 bash='source /usr/share/bash-completion/completions/usbguard
 complete_words() { COMP_WORDS=("$@"); COMP_CWORD=$(($# - 1)); "_${1//-/_}"; echo "${COMPREPLY[*]}"; }'
 # completes WORDS.. WANTED: the last word is completed to this
@@ -145,8 +256,8 @@ completes() {
     check "bash: $1 -> $2" "$bash
         [ \"\$(complete_words $1)\" = '$2' ]"
 }
-completes "usbguard ''" 'add-user allow-device append-rule block-device check-rules daemon generate-policy get-parameter list-devices list-rules read-descriptor reject-device remove-rule replay set-parameter watch'
-for command in check-rules daemon generate-policy read-descriptor replay; do
+completes "usbguard ''" 'add-user allow-device append-rule block-device check-rules daemon generate-policy get-parameter lint-rules list-devices list-rules make-script read-descriptor reject-device remove-rule replay set-parameter watch'
+for command in check-rules daemon generate-policy lint-rules read-descriptor replay; do
     completes "usbguard ${command%???}" "$command"
 done
 chroot "$root" usbguard --help 2>&1 | awk '/^  usbguard / {
@@ -175,7 +286,15 @@ completes "usbguard daemon --" '--conf'
 completes "usbguard daemon --conf /etc/usbguard/u" '/etc/usbguard/usbguard-daemon.conf'
 completes "usbguard check-rules '<' /etc/usbguard/r" '/etc/usbguard/rules.conf'
 completes "usbguard replay ''" ''
-completes "usbguard-script -" '-c -d -r'
+completes "usbguard list-rules --socket = /run/usbguard/r" '/run/usbguard/root.socket'
+completes "usbguard watch --socket /run/usbguard/r" '/run/usbguard/root.socket'
+completes "usbguard get-parameter ''" 'ImplicitPolicyTarget InsertedDevicePolicy'
+completes "usbguard set-parameter ImplicitPolicyTarget ''" 'allow block reject'
+completes "usbguard set-parameter InsertedDevicePolicy ''" 'apply-policy block reject'
+completes "usbguard add-user joe --devices = modify,l" 'modify,list modify,listen'
+completes "usbguard add-user joe --policy ''" 'modify list ALL'
+completes "usbguard-script -" '-c -d -m -o -r -u -w'
+completes "usbguard-script -w ''" 'hash parent-hash'
 completes "usbguard-script -r /etc/usbguard/r" '/etc/usbguard/rules.conf'
 completes "usbguard-script -d /sys/bus/usb/d" '/sys/bus/usb/devices'
 check 'bash-completion loads both by itself' \
@@ -186,6 +305,27 @@ check 'bash-completion loads both by itself' \
     done'
 check 'zsh knows both' \
     "zsh -fc 'autoload -Uz compinit && compinit -D -u && (( \$+_comps[usbguard] && \$+_comps[usbguard-script] ))'"
+
+# types SHELL KEYS WANTED: at the shell's prompt the keys give this command, as a function in the program's place shows it
+types() {
+    printf "$2\\n" >"$root/tmp/keys"
+    check "$1, typed at: $2 -> $3" "{ sleep 2; cat /tmp/keys; sleep 2; printf 'exit\\n'; } | TERM=vt100 script -qec '$shell' /dev/null | grep -F '<$3>'"
+}
+mkdir -p "$root/run/usbguard"
+touch "$root/run/usbguard/root.socket"
+echo '. /usr/share/bash-completion/bash_completion; PS1=; usbguard() { printf "<%s>\n" "usbguard $*"; }' >"$root/tmp/rc"
+shell='bash --rcfile /tmp/rc -i'
+types bash 'usbguard list-ru\t --sock\t' 'usbguard list-rules --socket'
+types bash 'usbguard list-rules --socket=/run/usbg\t' 'usbguard list-rules --socket=/run/usbguard/root.socket'
+types bash 'usbguard add-user joe --devices=modify,listen --pol\t' 'usbguard add-user joe --devices=modify,listen --policy'
+types bash 'usbguard set-parameter Imp\tbl\t' 'usbguard set-parameter ImplicitPolicyTarget block'
+mkdir -p "$root/tmp/zsh"
+echo 'autoload -Uz compinit; compinit -D -u; PS1=; usbguard() { print -r -- "<usbguard $*>" }' >"$root/tmp/zsh/.zshrc"
+shell='env ZDOTDIR=/tmp/zsh zsh -i'
+types zsh 'usbguard list-ru\t--sock\t' 'usbguard list-rules --socket'
+types zsh 'usbguard list-rules --socket=/run/usbguard/r\t' 'usbguard list-rules --socket=/run/usbguard/root.socket'
+types zsh 'usbguard set-parameter Imp\tbl\t' 'usbguard set-parameter ImplicitPolicyTarget block'
+rm -r "$root/run/usbguard"
 
 echo
 echo "== The package goes"

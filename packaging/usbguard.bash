@@ -12,9 +12,48 @@ _usbguard_words() {
     COMPREPLY=($(compgen -W "${*:2}" -- "$1"))
 }
 
+# Lists with commas between, whose last word begins like that of the first list: the words that it has not yet.
+_usbguard_lists() {
+    local written= last=$1 word
+    [[ $1 != *,* ]] || written=${1%,*}, last=${1##*,}
+    COMPREPLY=()
+    for word in "${@:2}"; do
+        [[ ,$written != *,$word,* && $word == "$last"* ]] && COMPREPLY+=("$written$word")
+    done
+}
+
+# The daemon's sockets, or other files where none begins like the word.
+_usbguard_sockets() {
+    local socket
+    for socket in /run/usbguard/*.socket; do
+        [[ -e $socket && $socket == "$1"* ]] && COMPREPLY+=("$socket")
+    done
+    ((${#COMPREPLY[@]})) || _usbguard_files "$1"
+}
+
 # Whether the word names a file behind < or >.
 _usbguard_redirects() {
     [[ $1 == '<' || $1 == '>' || $1 == '>>' ]]
+}
+
+# The privileges of an access file's section, behind its option.
+_usbguard_privileges() {
+    case $2 in
+    --devices) _usbguard_lists "$1" modify list listen ALL ;;
+    --policy) _usbguard_lists "$1" modify list ALL ;;
+    --exceptions) _usbguard_lists "$1" listen ALL ;;
+    --parameters) _usbguard_lists "$1" modify list listen ALL ;;
+    *) return 1 ;;
+    esac
+}
+
+# A setting's name behind get-parameter or set-parameter, and what it can be.
+_usbguard_parameter() {
+    case $COMP_CWORD,$2 in
+    2,*) _usbguard_words "$1" ImplicitPolicyTarget InsertedDevicePolicy ;;
+    3,ImplicitPolicyTarget) [[ $3 != set-parameter ]] || _usbguard_words "$1" allow block reject ;;
+    3,InsertedDevicePolicy) [[ $3 != set-parameter ]] || _usbguard_words "$1" apply-policy block reject ;;
+    esac
 }
 
 # The options of a command, behind its word.
@@ -26,26 +65,46 @@ _usbguard_options() {
         3) [[ $2 != --conf ]] || _usbguard_files "$1" ;;
         esac
         ;;
-    add-user) [[ $1 != -* ]] || _usbguard_words "$1" --devices --exceptions --parameters --policy ;;
+    add-user)
+        _usbguard_privileges "$1" "$2" || [[ $1 != -* ]] ||
+            _usbguard_words "$1" --devices --exceptions --parameters --policy
+        ;;
     allow-device | block-device | reject-device) [[ $1 != -* ]] || _usbguard_words "$1" --socket -p ;;
     append-rule) [[ $1 != -* ]] || _usbguard_words "$1" --socket -a -t ;;
+    lint-rules) [[ $1 != -* ]] || _usbguard_words "$1" --prune ;;
+    replay) [[ $1 != -* ]] || _usbguard_words "$1" --summary ;;
     watch) [[ $1 != -* ]] || _usbguard_words "$1" --socket -n ;;
-    get-parameter | list-devices | list-rules | remove-rule | set-parameter)
-        [[ $1 != -* ]] || _usbguard_words "$1" --socket
+    get-parameter | set-parameter)
+        if [[ $1 == -* ]]; then
+            _usbguard_words "$1" --socket
+        else
+            _usbguard_parameter "$1" "$2" "$3"
+        fi
         ;;
+    list-devices | list-rules | remove-rule) [[ $1 != -* ]] || _usbguard_words "$1" --socket ;;
     esac
 }
 
 _usbguard() {
     local word=${COMP_WORDS[COMP_CWORD]} before=${COMP_WORDS[COMP_CWORD - 1]}
     COMPREPLY=()
+    # --socket=PATH and --devices=LIST come as three words
+    if [[ $word == '=' ]]; then
+        word=
+    elif [[ $before == '=' ]]; then
+        before=${COMP_WORDS[COMP_CWORD - 2]}
+    fi
     if _usbguard_redirects "$before"; then
         _usbguard_files "$word"
     elif ((COMP_CWORD == 1)); then
-        _usbguard_words "$word" add-user allow-device append-rule block-device check-rules daemon generate-policy \
-            get-parameter list-devices list-rules read-descriptor reject-device remove-rule replay set-parameter watch
+        if [[ $word == -* ]]; then
+            _usbguard_words "$word" --help --version
+        else
+            _usbguard_words "$word" add-user allow-device append-rule block-device check-rules daemon generate-policy \
+                get-parameter lint-rules list-devices list-rules make-script read-descriptor reject-device remove-rule replay set-parameter watch
+        fi
     elif [[ $before == --socket ]]; then
-        _usbguard_files "$word"
+        _usbguard_sockets "$word"
     else
         _usbguard_options "$word" "$before" "${COMP_WORDS[1]}"
     fi
@@ -59,9 +118,10 @@ _usbguard_script() {
         return
     fi
     case $before in
-    -c | -r) _usbguard_files "$word" ;;
+    -c | -m | -r) _usbguard_files "$word" ;;
     -d) _usbguard_files "$word" -d ;;
-    *) _usbguard_words "$word" -c -d -r ;;
+    -w) _usbguard_words "$word" hash parent-hash ;;
+    *) _usbguard_words "$word" -c -d -m -o -r -u -w ;;
     esac
 }
 

@@ -11,11 +11,13 @@ _usbguard_commands() {
         'daemon:judge the devices of this machine'
         'generate-policy:write rules that allow the devices of a script'
         'get-parameter:print what a setting is'
+        'lint-rules:tell which rules of a text can never decide, or take them out'
         'list-devices:print all devices'
         'list-rules:print all rules'
         "read-descriptor:list what a device's file descriptors says"
         'reject-device:reject a device'
         'remove-rule:remove a rule'
+        'make-script:write a script of random events'
         'replay:run a script and write its journal'
         'set-parameter:change a setting until the daemon ends'
         'watch:print the notices that the daemon gives'
@@ -23,12 +25,54 @@ _usbguard_commands() {
     _describe command commands
 }
 
+# The daemon's sockets, or other files where none begins like the word.
+_usbguard_socket() {
+    local -a sockets=(/run/usbguard/*.socket(N))
+    compadd -- $sockets || _files
+}
+
+# The privileges of an access file's section, with commas between.
+_usbguard_privileges() {
+    case $1 in
+        --devices|--parameters) _values -s , privilege modify list listen ALL ;;
+        --policy) _values -s , privilege modify list ALL ;;
+        --exceptions) _values -s , privilege listen ALL ;;
+    esac
+}
+
+# A setting's name behind get-parameter or set-parameter, and what it can be.
+_usbguard_parameter() {
+    case $CURRENT,$words[CURRENT-1] in
+        3,*) compadd -- ImplicitPolicyTarget InsertedDevicePolicy ;;
+        4,ImplicitPolicyTarget) [[ $words[2] != set-parameter ]] || compadd -- allow block reject ;;
+        4,InsertedDevicePolicy) [[ $words[2] != set-parameter ]] || compadd -- apply-policy block reject ;;
+    esac
+}
+
+_usbguard_options() {
+    case $words[2] in
+        add-user) compadd -- --devices --exceptions --parameters --policy ;;
+        allow-device|block-device|reject-device) compadd -- --socket -p ;;
+        append-rule) compadd -- --socket -a -t ;;
+        lint-rules) compadd -- --prune ;;
+        replay) compadd -- --summary ;;
+        watch) compadd -- --socket -n ;;
+        get-parameter|list-devices|list-rules|remove-rule|set-parameter) compadd -- --socket ;;
+    esac
+}
+
 _usbguard() {
     if [[ $service == usbguard-script ]]; then
         _arguments -s \
             '-c[a file of settings]:settings:_files' \
             '-d[the folder of devices]:folder:_files -/' \
-            '-r[a file of rules]:rules:_files'
+            '-m[write the rules with other hashes]:hashes:_files' \
+            "-o[write the rules with this machine's hashes of root hubs]" \
+            '-r[a file of rules]:rules:_files' \
+            '-u[write the root hubs]' \
+            '-w[write the rules without an attribute]:attribute:(hash parent-hash)'
+    elif ((CURRENT == 2)) && [[ $words[2] == -* ]]; then
+        compadd -- --help --version
     elif ((CURRENT == 2)); then
         _usbguard_commands
     elif [[ $words[2] == daemon ]]; then
@@ -36,16 +80,18 @@ _usbguard() {
             3) compadd -- --conf ;;
             4) [[ $words[3] != --conf ]] || _files ;;
         esac
-    elif [[ $words[CURRENT-1] == --socket ]]; then
-        _files
+    elif [[ $words[CURRENT-1] == --socket ]] || compset -P '--socket='; then
+        _usbguard_socket
+    elif [[ $words[2] == add-user && $words[CURRENT-1] == --(devices|policy|exceptions|parameters) ]]; then
+        _usbguard_privileges $words[CURRENT-1]
+    elif [[ $words[2] == add-user && $words[CURRENT] == --(devices|policy|exceptions|parameters)=* ]]; then
+        local option=${words[CURRENT]%%=*}
+        compset -P '*='
+        _usbguard_privileges $option
     elif [[ $words[CURRENT] == -* ]]; then
-        case $words[2] in
-            add-user) compadd -- --devices --exceptions --parameters --policy ;;
-            allow-device|block-device|reject-device) compadd -- --socket -p ;;
-            append-rule) compadd -- --socket -a -t ;;
-            watch) compadd -- --socket -n ;;
-            get-parameter|list-devices|list-rules|remove-rule|set-parameter) compadd -- --socket ;;
-        esac
+        _usbguard_options
+    elif [[ $words[2] == (get|set)-parameter ]]; then
+        _usbguard_parameter
     fi
 }
 

@@ -10,8 +10,10 @@ use Rattle.ug_arguments.specs.declared.command_word.CommandWord.TheVariants as c
 pub simple_and_free : (word : CommandWord) → is_simple_and_free (app_of_word word) ≡ true
 unfolding app_of_word clap_on_literals
 simple_and_free command.Replay = refl
+simple_and_free command.MakeScript = refl
 simple_and_free command.ReadDescriptor = refl
 simple_and_free command.CheckRules = refl
+simple_and_free command.LintRules = refl
 simple_and_free command.GeneratePolicy = refl
 simple_and_free command.AddUser = refl
 simple_and_free command.GetParameter = refl

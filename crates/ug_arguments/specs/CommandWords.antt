@@ -21,7 +21,9 @@ asking_word_in text =
 unfoldable pub word_in : List ℕ → Option CommandWord
 word_in text =
     if bytes_eq text (codes "replay") then Some command.Replay else
+    if bytes_eq text (codes "make-script") then Some command.MakeScript else
     if bytes_eq text (codes "read-descriptor") then Some command.ReadDescriptor else
     if bytes_eq text (codes "check-rules") then Some command.CheckRules else
+    if bytes_eq text (codes "lint-rules") then Some command.LintRules else
     if bytes_eq text (codes "generate-policy") then Some command.GeneratePolicy else
     if bytes_eq text (codes "add-user") then Some command.AddUser else asking_word_in text

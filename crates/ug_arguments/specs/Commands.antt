@@ -1,5 +1,5 @@
 -- What the words of a command line mean.
-use Rattle.std.specs.Prelude.{ℕ, ◌≡◌, not, nat_eq, nat_le, List, [], ◌∷◌, length, Option, Some, None, if◌then◌else◌}
+use Rattle.std.specs.Prelude.{ℕ, ◌≡◌, ◌&&◌, not, nat_eq, nat_le, List, [], ◌∷◌, length, Option, Some, None, if◌then◌else◌}
 use Rattle.std.specs.Prelude.{option_and_then, option_map, unwrap_or, codes}
 use Rattle.clap.specs.Words.{Row, first_of}
 use Rattle.ug_types.specs.Principals.{principal_of}
@@ -17,13 +17,26 @@ use Rattle.ug_users.specs.declared.asked.Asked.{Asked}
 use Rattle.ug_users.specs.declared.lists.Listed.{Listed}
 use Rattle.ug_arguments.specs.CommandWords.{word_in}
 use Rattle.ug_arguments.specs.SimpleCommands.{app_of_word, daemon_app, rows_in}
-use Rattle.ug_arguments.specs.Values.{is_line, is_most, is_rule, is_set, is_word, number_at, passing, text_at}
+use Rattle.ug_arguments.specs.Values.{is_event_count, is_line, is_most, is_rule, is_set, is_start, is_word, number_at, passing, text_at}
 use Rattle.ug_arguments.specs.declared.command.Command.{Command}
-use Rattle.ug_arguments.specs.declared.command.Command.TheVariants.{Replay, ReadDescriptor, CheckRules, GeneratePolicy, AddUser, Ask, Watch}
+use Rattle.ug_arguments.specs.declared.command.Command.TheVariants.{Replay, Summarize, MakeScript, ReadDescriptor, CheckRules, LintRules, GeneratePolicy, AddUser, Ask, Watch}
 use Rattle.ug_arguments.specs.declared.command.WordsFault.{WordsFault}
 use Rattle.ug_arguments.specs.declared.command.WordsFault.TheVariants.{Bad, Memory}
 use Rattle.ug_arguments.specs.declared.command_word.CommandWord.{CommandWord}
 use Rattle.ug_arguments.specs.declared.command_word.CommandWord.TheVariants as command
+
+-- ---- scripts
+
+abbrev pub replay_in : List Row → Command
+replay_in rows = if is_set (codes "summary") rows then Summarize else Replay
+
+abbrev pub made_of : ℕ → ℕ → Option Command
+made_of events start = if is_event_count events && is_start start then Some (MakeScript events start) else None
+
+abbrev pub make_script_in : List Row → Option Command
+make_script_in rows =
+    option_and_then (λ events. option_and_then (λ start. made_of events start) (number_at (codes "start") rows))
+    (number_at (codes "events") rows)
 
 -- ---- add-user
 
@@ -124,9 +137,11 @@ watch_in rows =
 
 -- what the values mean that were found behind a command's word
 unfoldable pub meaning : CommandWord → List Row → Option Command
-meaning command.Replay rows = Some Replay
+meaning command.Replay rows = Some (replay_in rows)
+meaning command.MakeScript rows = make_script_in rows
 meaning command.ReadDescriptor rows = Some ReadDescriptor
 meaning command.CheckRules rows = Some CheckRules
+meaning command.LintRules rows = Some (LintRules (is_set (codes "prune") rows))
 meaning command.GeneratePolicy rows = Some GeneratePolicy
 meaning command.AddUser rows = add_user_in rows
 meaning command.GetParameter rows = ask_in (get_parameter_in rows) rows

@@ -22,6 +22,23 @@ short_option id letter = record (new_rule id) { short = Some letter }
 abbrev pub flag : List ℕ → ℕ → Rule
 flag id letter = record (new_rule id) { short = Some letter; action = Some SetTrue }
 
+-- `--NAME`, which may be left out
+abbrev pub long_flag : List ℕ → Rule
+long_flag id = record (new_rule id) { long = Some id; action = Some SetTrue }
+
+-- replay [--summary]
+abbrev pub replay_app : App
+replay_app = with_rule (new_app (codes "replay")) (long_flag (codes "summary"))
+
+-- make-script EVENTS START
+abbrev pub make_script_app : App
+make_script_app =
+    with_rule (with_rule (new_app (codes "make-script")) (required (codes "events"))) (required (codes "start"))
+
+-- lint-rules [--prune]
+abbrev pub lint_rules_app : App
+lint_rules_app = with_rule (new_app (codes "lint-rules")) (long_flag (codes "prune"))
+
 -- add-user NAME [--devices LIST] [--policy LIST] [--exceptions LIST] [--parameters LIST]
 abbrev pub add_user_app : App
 add_user_app =
@@ -67,9 +84,11 @@ abbrev pub daemon_app : App
 daemon_app = with_rule (new_app (codes "daemon")) (long_option (codes "conf"))
 
 unfoldable pub app_of_word : CommandWord → App
-app_of_word command.Replay = new_app (codes "replay")
+app_of_word command.Replay = replay_app
+app_of_word command.MakeScript = make_script_app
 app_of_word command.ReadDescriptor = new_app (codes "read-descriptor")
 app_of_word command.CheckRules = new_app (codes "check-rules")
+app_of_word command.LintRules = lint_rules_app
 app_of_word command.GeneratePolicy = new_app (codes "generate-policy")
 app_of_word command.AddUser = add_user_app
 app_of_word command.GetParameter = get_parameter_app

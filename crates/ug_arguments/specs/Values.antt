@@ -44,6 +44,14 @@ is_true (Some text) = bytes_eq text (codes "true")
 abbrev pub is_most : ℕ → Bool
 is_most n = nat_le 1 n && nat_le n 1000000
 
+-- how many events a script may be made of, and from which start
+
+abbrev pub is_event_count : ℕ → Bool
+is_event_count n = nat_le 1 n && nat_le n 500000
+
+abbrev pub is_start : ℕ → Bool
+is_start n = nat_le n 4294967295
+
 -- whether the flag of that name stands among the words
 abbrev pub is_set : List ℕ → List Row → Bool
 is_set id rows = is_true (first_of id rows)

@@ -9,8 +9,14 @@ use ug_users::Asked;
 #[derive(Drop)]
 pub enum Command {
     Replay,
+    /// Writes numbers of the journal that `Replay` writes.
+    Summarize,
+    /// Writes a script of that many events, at least 1 and at most 500,000.
+    MakeScript { events: u32, start: u32 },
     ReadDescriptor,
     CheckRules,
+    /// Finds the rules that can never decide, or takes out those that earlier ones cover.
+    LintRules { prune: bool },
     GeneratePolicy,
     /// Adds privileges to the access text of a user or a group.
     AddUser { name: Principal, asked: Asked },

@@ -8,8 +8,10 @@ use ug_types::Target;
 #[derive(Clone, Copy, Debug)]
 pub enum CommandWord {
     Replay,
+    MakeScript,
     ReadDescriptor,
     CheckRules,
+    LintRules,
     GeneratePolicy,
     AddUser,
     GetParameter,
@@ -68,11 +70,17 @@ pub fn command_word(text: &str) -> Option<CommandWord>
     if text == "replay" {
         return Some(CommandWord::Replay);
     }
+    if text == "make-script" {
+        return Some(CommandWord::MakeScript);
+    }
     if text == "read-descriptor" {
         return Some(CommandWord::ReadDescriptor);
     }
     if text == "check-rules" {
         return Some(CommandWord::CheckRules);
+    }
+    if text == "lint-rules" {
+        return Some(CommandWord::LintRules);
     }
     if text == "generate-policy" {
         return Some(CommandWord::GeneratePolicy);

@@ -2,17 +2,50 @@
 ghost use Rattle.std.specs.Prelude.{◌≡◌, IfOk, IfErr, Some};
 ghost use Rattle.clap.specs.Words.{found_of, rows_of};
 ghost use Rattle.ug_arguments.specs.Commands as commands;
-ghost use Rattle.ug_arguments.specs.Commands.{NotRead, add_user_in, ask_in, asked_in, watch_in};
+ghost use Rattle.ug_arguments.specs.Commands.{NotRead, add_user_in, ask_in, asked_in, made_of, make_script_in, replay_in, watch_in};
 
 use crate::command::{Command, WordsFault};
 use crate::command_word::CommandWord;
+use crate::matches::is_set;
 use crate::requests::{append_rule, device, get_parameter, remove_rule, sendable, set_parameter};
-use crate::values::{listed, most, principal, socket};
+use crate::values::{is_event_count, is_start, listed, most, number, principal, socket};
 use clap::ArgMatches;
 use std::alloc::Global;
 use ug_proto::Request;
 use ug_types::Section;
 use ug_users::Asked;
+
+fn replay(matches: &ArgMatches) -> Command
+    ensures { result ≡ replay_in (rows_of (found_of matches.now)) }
+{
+    if is_set(matches, "summary") {
+        Command::Summarize
+    } else {
+        Command::Replay
+    }
+}
+
+fn made(events: u64, start: u64) -> Result<Command, WordsFault>
+    ensures ok { IfOk result (λ c. made_of events start ≡ Some c) }
+    ensures err { IfErr result (NotRead (made_of events start)) }
+{
+    if is_event_count(events) && is_start(start) {
+        return Ok(Command::MakeScript {
+            events: events as u32,
+            start: start as u32,
+        });
+    }
+    Err(WordsFault::Bad)
+}
+
+fn make_script(matches: &ArgMatches) -> Result<Command, WordsFault>
+    ensures ok { IfOk result (λ c. make_script_in (rows_of (found_of matches.now)) ≡ Some c) }
+    ensures err { IfErr result (NotRead (make_script_in (rows_of (found_of matches.now)))) }
+{
+    let events = number(matches, "events")?;
+    let start = number(matches, "start")?;
+    made(events, start)
+}
 
 fn asked(matches: &ArgMatches) -> Result<Asked, WordsFault>
     ensures ok { IfOk result (λ a. asked_in (rows_of (found_of matches.now)) ≡ Some a) }
@@ -68,9 +101,13 @@ pub fn meaning(
     ensures err { IfErr result (NotRead (commands.meaning word (rows_of (found_of matches.now)))) }
 {
     match word {
-        CommandWord::Replay => Ok(Command::Replay),
+        CommandWord::Replay => Ok(replay(matches)),
+        CommandWord::MakeScript => make_script(matches),
         CommandWord::ReadDescriptor => Ok(Command::ReadDescriptor),
         CommandWord::CheckRules => Ok(Command::CheckRules),
+        CommandWord::LintRules => Ok(Command::LintRules {
+            prune: is_set(matches, "prune"),
+        }),
         CommandWord::GeneratePolicy => Ok(Command::GeneratePolicy),
         CommandWord::AddUser => add_user(matches),
         CommandWord::GetParameter => ask(alloc, matches, get_parameter(alloc, matches)?),

@@ -2,7 +2,7 @@
 ghost use Rattle.std.specs.Prelude.{◌≡◌, IfOk, false};
 ghost use Rattle.clap.specs.Words.{app_of, new_app, rule_of, with_rule};
 ghost use Rattle.ug_arguments.specs.SimpleCommands as simple;
-ghost use Rattle.ug_arguments.specs.SimpleCommands.{add_user_app, append_rule_app, app_of_word, asking_app, daemon_app, device_app};
+ghost use Rattle.ug_arguments.specs.SimpleCommands.{add_user_app, append_rule_app, app_of_word, asking_app, daemon_app, device_app, lint_rules_app, make_script_app, replay_app};
 
 use crate::command_word::CommandWord;
 use clap::{Arg, ArgAction, Command};
@@ -37,11 +37,40 @@ fn flag<'a>(alloc: Global, id: &'a str, letter: char) -> Arg<'a>
     Arg::new(alloc, id).short(letter).action(ArgAction::SetTrue)
 }
 
+fn long_flag<'a>(alloc: Global, id: &'a str) -> Arg<'a>
+    ensures rule { rule_of result ≡ simple.long_flag id.entry.now }
+    ensures own { result.global ≡ false }
+{
+    Arg::new(alloc, id).long(id).action(ArgAction::SetTrue)
+}
+
 fn with<'a>(command: Command<'a>, arg: Arg<'a>) -> Result<Command<'a>, NoMemory>
     requires { arg.global ≡ false }
     ensures { IfOk result (λ c. app_of c ≡ with_rule (app_of command.entry) (rule_of arg.entry)) }
 {
     Ok(command.arg(arg)?)
+}
+
+fn replay<'a>(alloc: Global) -> Result<Command<'a>, NoMemory>
+    ensures { IfOk result (λ c. app_of c ≡ replay_app) }
+{
+    with(Command::new(alloc, "replay"), long_flag(alloc, "summary"))
+}
+
+fn make_script<'a>(alloc: Global) -> Result<Command<'a>, NoMemory>
+    ensures { IfOk result (λ c. app_of c ≡ make_script_app) }
+{
+    let command = with(
+        Command::new(alloc, "make-script"),
+        required(alloc, "events"),
+    )?;
+    with(command, required(alloc, "start"))
+}
+
+fn lint_rules<'a>(alloc: Global) -> Result<Command<'a>, NoMemory>
+    ensures { IfOk result (λ c. app_of c ≡ lint_rules_app) }
+{
+    with(Command::new(alloc, "lint-rules"), long_flag(alloc, "prune"))
 }
 
 fn add_user<'a>(alloc: Global) -> Result<Command<'a>, NoMemory>
@@ -115,9 +144,11 @@ pub fn simple_command<'a>(alloc: Global, word: CommandWord) -> Result<Command<'a
     ensures { IfOk result (λ c. app_of c ≡ app_of_word word) }
 {
     match word {
-        CommandWord::Replay => Ok(Command::new(alloc, "replay")),
+        CommandWord::Replay => replay(alloc),
+        CommandWord::MakeScript => make_script(alloc),
         CommandWord::ReadDescriptor => Ok(Command::new(alloc, "read-descriptor")),
         CommandWord::CheckRules => Ok(Command::new(alloc, "check-rules")),
+        CommandWord::LintRules => lint_rules(alloc),
         CommandWord::GeneratePolicy => Ok(Command::new(alloc, "generate-policy")),
         CommandWord::AddUser => add_user(alloc),
         CommandWord::GetParameter => get_parameter(alloc),

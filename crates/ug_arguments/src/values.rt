@@ -101,6 +101,20 @@ fn is_most(number: u64) -> bool
     1 <= number && number <= 1_000_000
 }
 
+/// Whether a script can be made of so many events.
+pub fn is_event_count(number: u64) -> bool
+    ensures { result ≡ values.is_event_count number }
+{
+    1 <= number && number <= 500_000
+}
+
+/// Whether a script can be made from that start.
+pub fn is_start(number: u64) -> bool
+    ensures { result ≡ values.is_start number }
+{
+    number <= 4_294_967_295
+}
+
 fn read_most(text: &str) -> Result<u64, WordsFault>
     ensures ok { IfOk result (λ n. given_most text.now ≡ Some n) }
     ensures err { IfErr result (NotRead (given_most text.now)) }

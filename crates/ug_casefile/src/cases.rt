@@ -1,5 +1,7 @@
 // What a text of cases holds.
+use crate::words::number_of;
 use std::alloc::Global;
+use ug_types::NoMemory;
 
 #[derive(Drop)]
 pub struct Setting {
@@ -38,6 +40,18 @@ impl Case {
             }
         }
         None
+    }
+
+    /// The numbers of the first setting of that key.
+    pub fn numbers(&self, alloc: Global, key: &[u8]) -> Result<Vec<u64>, NoMemory> {
+        let mut numbers = Vec::new(alloc);
+        let line = self.setting(key).unwrap_or(&[]);
+        for part in line.split(|byte| *byte == b' ') {
+            if let Some(number) = number_of(part) {
+                numbers.push(number)?;
+            }
+        }
+        Ok(numbers)
     }
 
     /// The input as one line, without the newline at its end.

@@ -1,4 +1,5 @@
 // Names for texts that stand in many cases.
+use crate::answer::Answer;
 use crate::cases::Setting;
 use crate::words::split_word;
 use std::alloc::Global;
@@ -29,31 +30,30 @@ impl Names {
         Ok(true)
     }
 
-    fn push(&self, text: &mut Vec<u8>, part: &[u8]) -> Result<(), NoMemory> {
+    fn add(&self, text: &mut Answer, part: &[u8]) {
         for name in self.defined.as_slice() {
-            if part.starts_with(name.key.as_slice()) {
-                text.extend_from_slice(name.value.as_slice())?;
-                text.extend_from_slice(part.get(name.key.len()..).unwrap_or(&[]))?;
-                return Ok(());
+            if let Some(rest) = part.strip_prefix(name.key.as_slice()) {
+                text.add(&name.value);
+                text.add(rest);
+                return;
             }
         }
-        text.push(b'$')?;
-        text.extend_from_slice(part)?;
-        Ok(())
+        text.add(b"$");
+        text.add(part);
     }
 
     /// The text with each name that stands behind a `$` put in.
     pub fn expand(&self, alloc: Global, text: &[u8]) -> Result<Vec<u8>, NoMemory> {
-        let mut whole = Vec::new(alloc);
+        let mut whole = Answer::new(alloc);
         let mut first = true;
         for part in text.split(|byte| *byte == b'$') {
             if first {
-                whole.extend_from_slice(part)?;
+                whole.add(part);
             } else {
-                self.push(&mut whole, part)?;
+                self.add(&mut whole, part);
             }
             first = false;
         }
-        Ok(whole)
+        whole.finish()
     }
 }

@@ -1,6 +1,7 @@
 // A text of cases, line by line.
+use crate::answer::{Answer, say};
 use crate::cases::{Case, CaseFile, Setting};
-use crate::inputs::push_input;
+use crate::inputs::add_input;
 use crate::names::Names;
 use crate::words::split_word;
 use std::alloc::Global;
@@ -14,6 +15,8 @@ struct Reader {
     kind: Vec<u8>,
     // The case that the lines build, whether one of them began it, and whether an answer is wanted already.
     case: Case,
+    input: Answer,
+    wanted: Answer,
     begun: bool,
     answered: bool,
     file: CaseFile,
@@ -26,6 +29,8 @@ impl Reader {
             names: Names::new(alloc),
             kind: Vec::new(alloc),
             case: Case::new(alloc),
+            input: Answer::new(alloc),
+            wanted: Answer::new(alloc),
             begun: false,
             answered: false,
             file: CaseFile {
@@ -35,9 +40,16 @@ impl Reader {
         }
     }
 
+    fn take_case(&mut self) -> Result<Case, NoMemory> {
+        let mut case = mem::replace(&mut self.case, Case::new(self.alloc));
+        case.input = mem::replace(&mut self.input, Answer::new(self.alloc)).finish()?;
+        case.wanted = mem::replace(&mut self.wanted, Answer::new(self.alloc)).finish()?;
+        Ok(case)
+    }
+
     fn close(&mut self) -> Result<(), NoMemory> {
         if self.begun {
-            let case = mem::replace(&mut self.case, Case::new(self.alloc));
+            let case = self.take_case()?;
             self.file.cases.push(case)?;
         }
         self.begun = false;
@@ -51,7 +63,7 @@ impl Reader {
         }
         if !self.begun {
             self.case.line = number;
-            self.case.kind = Vec::from_slice(self.alloc, &self.kind)?;
+            self.case.kind = say(self.alloc, &self.kind)?;
             self.begun = true;
         }
         Ok(())
@@ -60,7 +72,7 @@ impl Reader {
     fn set(&mut self, number: u64, text: &[u8]) -> Result<bool, NoMemory> {
         self.begin(number)?;
         let (key, value) = split_word(text);
-        let key = Vec::from_slice(self.alloc, key)?;
+        let key = say(self.alloc, key)?;
         let value = self.names.expand(self.alloc, value)?;
         self.case.settings.push(Setting { key, value })?;
         Ok(true)
@@ -69,22 +81,21 @@ impl Reader {
     fn give(&mut self, number: u64, mark: u8, text: &[u8]) -> Result<bool, NoMemory> {
         self.begin(number)?;
         let text = self.names.expand(self.alloc, text)?;
-        push_input(self.alloc, &mut self.case.input, mark, &text)
+        add_input(self.alloc, &mut self.input, mark, &text)
     }
 
     fn want(&mut self, text: &[u8]) -> Result<bool, NoMemory> {
         if self.answered {
-            self.case.wanted.push(b'\n')?;
+            self.wanted.add(b"\n");
         }
-        let text = self.names.expand(self.alloc, text)?;
-        self.case.wanted.extend_from_slice(&text)?;
+        self.wanted.add(&self.names.expand(self.alloc, text)?);
         self.answered = true;
         Ok(self.begun)
     }
 
     fn name_kind(&mut self, text: &[u8]) -> Result<bool, NoMemory> {
         self.close()?;
-        self.kind = Vec::from_slice(self.alloc, text)?;
+        self.kind = say(self.alloc, text)?;
         Ok(true)
     }
 

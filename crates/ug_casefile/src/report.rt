@@ -1,6 +1,6 @@
 // The cases whose answers differ from those that are wanted.
+use crate::answer::Answer;
 use crate::cases::Case;
-use crate::words::{push_escaped, push_number};
 use std::alloc::Global;
 use ug_types::NoMemory;
 
@@ -9,61 +9,60 @@ const SHOWN: usize = 2000;
 
 #[derive(Drop)]
 pub struct Report {
-    lines: Vec<u8>,
+    lines: Answer,
     cases: u64,
     differing: u64,
+}
+
+fn front(text: &[u8]) -> &[u8] {
+    &text[..text.len().min(SHOWN)]
 }
 
 impl Report {
     pub fn new(alloc: Global) -> Report {
         Report {
-            lines: Vec::new(alloc),
+            lines: Answer::new(alloc),
             cases: 0,
             differing: 0,
         }
     }
 
-    fn show(&mut self, text: &[u8]) -> Result<(), NoMemory> {
-        self.lines.push(b'"')?;
-        push_escaped(&mut self.lines, &text[..text.len().min(SHOWN)])?;
-        self.lines.push(b'"')?;
-        Ok(())
+    /// Adds a line of that number that isn't in the format.
+    pub fn add_bad_line(&mut self, number: u64) {
+        self.differing = self.differing.saturating_add(1);
+        self.lines.add(b"line ");
+        self.lines.add_number(number);
+        self.lines.add(b": not in the format\n");
     }
 
-    /// Adds a line of that number that isn't in the format.
-    pub fn add_bad_line(&mut self, number: u64) -> Result<(), NoMemory> {
+    // A line with both texts.
+    fn add_differing(&mut self, case: &Case, told: &[u8]) {
         self.differing = self.differing.saturating_add(1);
-        self.lines.extend_from_slice(b"line ")?;
-        push_number(&mut self.lines, number)?;
-        self.lines.extend_from_slice(b": not in the format\n")?;
-        Ok(())
+        self.lines.add(b"line ");
+        self.lines.add_number(case.line);
+        self.lines.add(b", ");
+        self.lines.add_escaped(&case.kind);
+        self.lines.add(b": wanted ");
+        self.lines.add_quoted(front(&case.wanted));
+        self.lines.add(b", told ");
+        self.lines.add_quoted(front(told));
+        self.lines.add(b"\n");
     }
 
     /// Counts a case, and adds a line with both texts where the answer isn't the one that is wanted.
-    pub fn add(&mut self, case: &Case, told: &[u8]) -> Result<(), NoMemory> {
+    pub fn add(&mut self, case: &Case, told: &[u8]) {
         self.cases = self.cases.saturating_add(1);
-        if told == case.wanted.as_slice() {
-            return Ok(());
+        if told != case.wanted.as_slice() {
+            self.add_differing(case, told);
         }
-        self.differing = self.differing.saturating_add(1);
-        self.lines.extend_from_slice(b"line ")?;
-        push_number(&mut self.lines, case.line)?;
-        self.lines.extend_from_slice(b", ")?;
-        push_escaped(&mut self.lines, &case.kind)?;
-        self.lines.extend_from_slice(b": wanted ")?;
-        self.show(&case.wanted)?;
-        self.lines.extend_from_slice(b", told ")?;
-        self.show(told)?;
-        self.lines.push(b'\n')?;
-        Ok(())
     }
 
     /// The lines, and how many cases there were and how many lines and cases were wrong.
     pub fn finish(mut self) -> Result<Vec<u8>, NoMemory> {
-        push_number(&mut self.lines, self.cases)?;
-        self.lines.extend_from_slice(b" cases, ")?;
-        push_number(&mut self.lines, self.differing)?;
-        self.lines.extend_from_slice(b" differ\n")?;
-        Ok(self.lines)
+        self.lines.add_number(self.cases);
+        self.lines.add(b" cases, ");
+        self.lines.add_number(self.differing);
+        self.lines.add(b" differ\n");
+        self.lines.finish()
     }
 }

@@ -15,11 +15,11 @@ fn report<T: Teller>(alloc: Global, text: &[u8], teller: &T) -> Result<Vec<u8>, 
     let file = read_cases(alloc, text)?;
     let mut report = Report::new(alloc);
     for line in file.bad_lines.as_slice() {
-        report.add_bad_line(*line)?;
+        report.add_bad_line(*line);
     }
     for case in file.cases.as_slice() {
         let told = teller.tell(alloc, case)?;
-        report.add(case, &told)?;
+        report.add(case, &told);
     }
     report.finish()
 }

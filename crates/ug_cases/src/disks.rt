@@ -1,16 +1,17 @@
 // Rule files: what a start makes of a text, and what saves leave.
+use crate::rules::tell_file_fault;
 use jiff::tz::TimeZone;
 use rand_chacha::ChaCha20Rng;
 use rand_core::SeedableRng;
 use std::alloc::Global;
 use ug_acl::Acl;
-use ug_casefile::{number_of, push_escaped, push_number, split_word};
+use ug_casefile::{Answer, number_of, say, split_word};
 use ug_conf::default_settings;
 use ug_core::{Daemon, StartFault};
 use ug_print::{RulesTextFault, rules_text};
 use ug_rule::parse_file;
 use ug_store::{MemDisk, Mishap, RuleDisk, Saved, Store};
-use ug_types::{NoMemory, Rule, Text};
+use ug_types::{FileFault, NoMemory, Rule, Text};
 
 fn start(alloc: Global, disk: &mut MemDisk) -> Result<Option<StartFault>, NoMemory> {
     let settings = default_settings(alloc)?;
@@ -25,14 +26,11 @@ fn start(alloc: Global, disk: &mut MemDisk) -> Result<Option<StartFault>, NoMemo
 
 fn tell_start(alloc: Global, fault: Option<StartFault>) -> Result<Vec<u8>, NoMemory> {
     match fault {
-        None => Ok(Vec::from_slice(alloc, b"starts")?),
+        None => say(alloc, b"starts"),
         Some(StartFault::Disk(count)) => Ok(format!(in alloc; "disk {count}")?.into_bytes()),
-        Some(StartFault::BadRules(bad)) => Ok(format!(in alloc;
-            "fault {} {} {}",
-            bad.line, bad.kind, bad.place
-        )?.into_bytes()),
-        Some(StartFault::TooLong) => Ok(Vec::from_slice(alloc, b"too long")?),
-        Some(StartFault::TooMany) => Ok(Vec::from_slice(alloc, b"too many")?),
+        Some(StartFault::BadRules(bad)) => tell_file_fault(alloc, FileFault::Bad(bad)),
+        Some(StartFault::TooLong) => say(alloc, b"too long"),
+        Some(StartFault::TooMany) => say(alloc, b"too many"),
         Some(StartFault::Memory) => Err(NoMemory),
     }
 }
@@ -75,21 +73,26 @@ fn save_and_load(alloc: Global, text: &[u8]) -> Result<Text, NoMemory> {
     }
 }
 
+// Whether the rules of a text are saved, loaded and printed as they are, and a daemon starts from them.
+fn add_kept(alloc: Global, told: &mut Answer, printed: &[u8]) -> Result<(), NoMemory> {
+    let loaded = save_and_load(alloc, printed)?;
+    let again = text_of(alloc, &rules_of(alloc, loaded.bytes())?)?;
+    if again.bytes() == printed && loaded.bytes() == printed {
+        told.add(b" rules kept, ");
+    } else {
+        told.add(b" rules changed, ");
+    }
+    told.add(&tell(alloc, loaded.bytes())?);
+    Ok(())
+}
+
 /// How many rules a text has, and whether they are saved, loaded and printed as they are, and a daemon starts from them.
 pub fn tell_kept(alloc: Global, text: &[u8]) -> Result<Vec<u8>, NoMemory> {
     let rules = rules_of(alloc, text)?;
-    let printed = text_of(alloc, &rules)?;
-    let loaded = save_and_load(alloc, printed.bytes())?;
-    let again = text_of(alloc, &rules_of(alloc, loaded.bytes())?)?;
-    let mut told = Vec::new(alloc);
-    push_number(&mut told, u64::try_from(rules.len()).unwrap_or(u64::MAX))?;
-    if again.bytes() == printed.bytes() && loaded.bytes() == printed.bytes() {
-        told.extend_from_slice(b" rules kept, ")?;
-    } else {
-        told.extend_from_slice(b" rules changed, ")?;
-    }
-    told.extend_from_slice(&tell(alloc, loaded.bytes())?)?;
-    Ok(told)
+    let mut told = Answer::new(alloc);
+    told.add_number(rules.len() as u64);
+    add_kept(alloc, &mut told, text_of(alloc, &rules)?.bytes())?;
+    told.finish()
 }
 
 // A disk call that is to fail: its number, and `effect` behind it where it has its effect all the same.
@@ -106,42 +109,42 @@ fn plan(disk: &mut MemDisk, words: &[u8]) -> Result<(), NoMemory> {
     }
 }
 
-fn push_saved(told: &mut Vec<u8>, saved: Saved) -> Result<(), NoMemory> {
+// Whether there was memory for it.
+fn add_saved(told: &mut Answer, saved: Saved) -> Result<(), NoMemory> {
     match saved {
-        Saved::Done => told.extend_from_slice(b"done")?,
+        Saved::Done => told.add(b"done"),
         Saved::Failed(count) => {
-            told.extend_from_slice(b"failed ")?;
-            push_number(told, count)?;
+            told.add(b"failed ");
+            told.add_number(count);
         }
         Saved::Memory => return Err(NoMemory),
     }
     Ok(())
 }
 
-fn push_save(
+fn save(
     alloc: Global,
-    told: &mut Vec<u8>,
+    told: &mut Answer,
     store: &mut Store,
     disk: &mut MemDisk,
     text: &[u8],
 ) -> Result<(), NoMemory> {
     let saved = store.save(alloc, disk, text);
     if !told.is_empty() {
-        told.push(b'\n')?;
+        told.add(b"\n");
     }
-    push_saved(told, saved)?;
+    add_saved(told, saved)?;
     if store.pending() {
-        told.extend_from_slice(b", pending")?;
+        told.add(b", pending");
     }
-    told.extend_from_slice(b", holds \"")?;
-    push_escaped(told, disk.text())?;
-    told.push(b'"')?;
+    told.add(b", holds ");
+    told.add_quoted(disk.text());
     Ok(())
 }
 
 fn take_line(
     alloc: Global,
-    told: &mut Vec<u8>,
+    told: &mut Answer,
     store: &mut Store,
     disk: &mut MemDisk,
     line: &[u8],
@@ -154,7 +157,7 @@ fn take_line(
             disk.begin();
             Ok(())
         }
-        _ => push_save(alloc, told, store, disk, rest),
+        _ => save(alloc, told, store, disk, rest),
     }
 }
 
@@ -166,9 +169,9 @@ pub fn tell_saves(alloc: Global, lines: &[u8]) -> Result<Vec<u8>, NoMemory> {
         return Err(NoMemory);
     };
     disk.begin();
-    let mut told = Vec::new(alloc);
+    let mut told = Answer::new(alloc);
     for line in lines.split(|byte| *byte == b'\n') {
         take_line(alloc, &mut told, &mut store, &mut disk, line)?;
     }
-    Ok(told)
+    told.finish()
 }

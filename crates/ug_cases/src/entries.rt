@@ -1,7 +1,7 @@
 // Entries of a journal and their lines.
 use std::alloc::Global;
 use ug_audit::{ConfigPart, Entry, Fault, RuleChange, line_of};
-use ug_casefile::number_of;
+use ug_casefile::{number_of, say};
 use ug_kernel::{FailedCall, Write, Wrote};
 use ug_types::{
     Cause, Held, Moment, NoMemory, NodeName, ParameterName, Principal, Privilege, Refusal, Saved,
@@ -22,15 +22,6 @@ fn principal(word: &str) -> Option<Principal> {
 
 fn byte(word: &str) -> Option<u8> {
     u8::try_from(number(word)?).ok()
-}
-
-fn verdict(word: &str) -> Option<Target> {
-    match word {
-        "allow" => Some(Target::Allow),
-        "block" => Some(Target::Block),
-        "reject" => Some(Target::Reject),
-        _ => None,
-    }
 }
 
 fn cause(words: &[&str]) -> Option<Cause> {
@@ -174,7 +165,7 @@ fn entry_of_device(words: &[&str]) -> Option<Entry> {
             number: number(id)?,
             name: name(device)?,
             held: Held(3),
-            verdict: verdict(target)?,
+            verdict: Target::named(target.as_bytes())?,
             cause: cause(rest)?,
         }),
         ["intent", id, device, word] => Some(Entry::Intent {
@@ -226,7 +217,7 @@ pub fn tell(alloc: Global, line: &[u8]) -> Result<Vec<u8>, NoMemory> {
         words.push(str::from_utf8(word).unwrap_or(""))?;
     }
     match entry(words.as_slice()) {
-        Some(entry) => Ok(Vec::from_slice(alloc, line_of(&entry).bytes())?),
-        None => Ok(Vec::from_slice(alloc, b"no entry")?),
+        Some(entry) => say(alloc, line_of(&entry).bytes()),
+        None => say(alloc, b"no entry"),
     }
 }

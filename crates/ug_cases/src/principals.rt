@@ -1,5 +1,6 @@
 // Names of users and groups.
 use std::alloc::Global;
+use ug_casefile::{Answer, say};
 use ug_conf::Principal;
 use ug_types::NoMemory;
 
@@ -13,17 +14,18 @@ fn is_itself(principal: Principal) -> bool {
 /// `user NAME`, `group NAME`, or `none`.
 pub fn tell(alloc: Global, line: &[u8]) -> Result<Vec<u8>, NoMemory> {
     let Some(principal) = Principal::parse(line) else {
-        return Ok(Vec::from_slice(alloc, b"none")?);
+        return say(alloc, b"none");
     };
     if !is_itself(principal) {
-        return Ok(Vec::from_slice(alloc, b"not itself")?);
+        return say(alloc, b"not itself");
     }
     let word: &[u8] = if principal.is_group() {
         b"group "
     } else {
         b"user "
     };
-    let mut told = Vec::from_slice(alloc, word)?;
-    told.extend_from_slice(principal.name())?;
-    Ok(told)
+    let mut told = Answer::new(alloc);
+    told.add(word);
+    told.add(principal.name());
+    told.finish()
 }

@@ -1,6 +1,6 @@
 // Descriptors and files of devices, the rules made of them, and which rules match them.
 use std::alloc::Global;
-use ug_casefile::{Case, bytes_of_hex, push_escaped};
+use ug_casefile::{Answer, Case, bytes_of_hex, say};
 use ug_descr::{DescrFault, decode, ifaces};
 use ug_match::matches;
 use ug_print::{device_line, generated_rule, malformed_line, print_rule};
@@ -20,7 +20,7 @@ fn bytes_given(alloc: Global, case: &Case, key: &[u8]) -> Result<Text, NoMemory>
 fn file_given(alloc: Global, case: &Case, key: &[u8]) -> Result<Text, NoMemory> {
     match case.setting(key) {
         Some(text) => {
-            let mut bytes = Vec::from_slice(alloc, text)?;
+            let mut bytes = say(alloc, text)?;
             bytes.push(b'\n')?;
             Ok(Text::from_vec(bytes))
         }
@@ -60,7 +60,7 @@ fn judged(alloc: Global, case: &Case, name: &NodeName) -> Result<Judged, NoMemor
 // The record of the device that the settings of a case describe, or what is told in its place.
 fn record(alloc: Global, case: &Case) -> Result<Result<DeviceRecord, Vec<u8>>, NoMemory> {
     let Ok(name) = NodeName::parse(case.setting(b"name").unwrap_or(b"1-1")) else {
-        return Ok(Err(Vec::from_slice(alloc, b"no name")?));
+        return Ok(Err(say(alloc, b"no name")?));
     };
     match judged(alloc, case, &name)? {
         Judged::Good(record) => Ok(Ok(record)),
@@ -71,17 +71,14 @@ fn record(alloc: Global, case: &Case) -> Result<Result<DeviceRecord, Vec<u8>>, N
 }
 
 fn target(case: &Case) -> Target {
-    match str::from_utf8(case.setting(b"target").unwrap_or(&[])) {
-        Ok("block") => Target::Block,
-        Ok("reject") => Target::Reject,
-        _ => Target::Allow,
-    }
+    let word = case.setting(b"target").unwrap_or(&[]);
+    Target::named(word).unwrap_or(Target::Allow)
 }
 
 /// The line of a device with its verdict.
 pub fn tell_device_line(alloc: Global, case: &Case) -> Result<Vec<u8>, NoMemory> {
     let Ok(name) = NodeName::parse(case.setting(b"name").unwrap_or(b"1-1")) else {
-        return Ok(Vec::from_slice(alloc, b"no name")?);
+        return say(alloc, b"no name");
     };
     let line = match judged(alloc, case, &name)? {
         Judged::Good(record) => device_line(alloc, &record, target(case))?,
@@ -120,44 +117,46 @@ pub fn tell_match(alloc: Global, case: &Case) -> Result<Vec<u8>, NoMemory> {
         }
         Err(_) => b"no query",
     };
-    Ok(Vec::from_slice(alloc, answer)?)
+    say(alloc, answer)
 }
 
-fn push_triple(alloc: Global, told: &mut Vec<u8>, triple: Triple) -> Result<(), NoMemory> {
+fn add_triple(alloc: Global, told: &mut Answer, triple: Triple) -> Result<(), NoMemory> {
     let class = triple.class;
     let subclass = triple.subclass;
     let protocol = triple.protocol;
     let text = format!(in alloc; "{class:02x}:{subclass:02x}:{protocol:02x}")?;
-    told.extend_from_slice(text.as_bytes())?;
+    told.add(text.as_bytes());
     Ok(())
+}
+
+fn tell_triples(alloc: Global, triples: &[Triple]) -> Result<Vec<u8>, NoMemory> {
+    let mut told = Answer::new(alloc);
+    for triple in triples {
+        if !told.is_empty() {
+            told.add(b" ");
+        }
+        add_triple(alloc, &mut told, *triple)?;
+    }
+    told.finish()
 }
 
 /// The classes of a device's interfaces in order, or `fault KIND PLACE`.
 pub fn tell_interfaces(alloc: Global, digits: &[u8]) -> Result<Vec<u8>, NoMemory> {
     let Some(bytes) = bytes_of_hex(alloc, digits)? else {
-        return Ok(Vec::from_slice(alloc, b"no digits")?);
+        return say(alloc, b"no digits");
     };
-    let descriptors = match decode(alloc, &bytes) {
-        Ok(descriptors) => descriptors,
+    match decode(alloc, &bytes) {
+        Ok(descriptors) => tell_triples(alloc, ifaces(alloc, &descriptors)?.as_slice()),
         Err(DescrFault::Malformed { kind, place }) => {
-            return Ok(format!(in alloc; "fault {kind} {place}")?.into_bytes());
+            Ok(format!(in alloc; "fault {kind} {place}")?.into_bytes())
         }
-        Err(DescrFault::Memory) => return Err(NoMemory),
-    };
-    let mut told = Vec::new(alloc);
-    for triple in ifaces(alloc, &descriptors)?.as_slice() {
-        if !told.is_empty() {
-            told.push(b' ')?;
-        }
-        push_triple(alloc, &mut told, *triple)?;
+        Err(DescrFault::Memory) => Err(NoMemory),
     }
-    Ok(told)
 }
 
 /// The text of a file, in quotes.
 pub fn tell_file_text(alloc: Global, file: &[u8]) -> Result<Vec<u8>, NoMemory> {
-    let mut told = Vec::from_slice(alloc, b"\"")?;
-    push_escaped(&mut told, text_of(alloc, file)?.bytes())?;
-    told.push(b'"')?;
-    Ok(told)
+    let mut told = Answer::new(alloc);
+    told.add_quoted(text_of(alloc, file)?.bytes());
+    told.finish()
 }

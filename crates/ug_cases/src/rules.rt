@@ -1,6 +1,6 @@
 // Rules and queries as they are read and printed.
 use std::alloc::Global;
-use ug_casefile::push_escaped;
+use ug_casefile::{Answer, say};
 use ug_print::{RulesTextFault, print_rule, rules_text};
 use ug_rule::{RuleFault, count_rules, parse_file, parse_query, parse_rule};
 use ug_types::{FileFault, NoMemory, Rule, Target, Text};
@@ -27,9 +27,10 @@ fn printed(alloc: Global, rule: &Rule) -> Result<Text, NoMemory> {
     if prints_itself(alloc, text.bytes())? {
         return Ok(text);
     }
-    let mut told = Vec::from_slice(alloc, b"not read again: ")?;
-    push_escaped(&mut told, text.bytes())?;
-    Ok(Text::from_vec(told))
+    let mut told = Answer::new(alloc);
+    told.add(b"not read again: ");
+    told.add_escaped(text.bytes());
+    Ok(Text::from_vec(told.finish()?))
 }
 
 /// The rule of a line as it is printed, or `fault KIND PLACE`.
@@ -52,10 +53,11 @@ pub fn tell_query(alloc: Global, line: &[u8]) -> Result<Vec<u8>, NoMemory> {
         conds: None,
     };
     let text = printed(alloc, &rule)?;
-    Ok(Vec::from_slice(alloc, text.bytes().get(6..).unwrap_or(&[]))?)
+    say(alloc, text.bytes().get(6..).unwrap_or(&[]))
 }
 
-fn tell_file_fault(alloc: Global, fault: FileFault) -> Result<Vec<u8>, NoMemory> {
+/// `fault LINE KIND PLACE`
+pub fn tell_file_fault(alloc: Global, fault: FileFault) -> Result<Vec<u8>, NoMemory> {
     match fault {
         FileFault::Bad(fault) => Ok(format!(in alloc;
             "fault {} {} {}",
@@ -81,14 +83,14 @@ pub fn tell_saved(alloc: Global, text: &[u8]) -> Result<Vec<u8>, NoMemory> {
     };
     match rules_text(alloc, &rules) {
         Ok(text) => Ok(text.into_vec()),
-        Err(RulesTextFault::TooLong) => Ok(Vec::from_slice(alloc, b"too long")?),
+        Err(RulesTextFault::TooLong) => say(alloc, b"too long"),
         Err(RulesTextFault::Memory) => Err(NoMemory),
     }
 }
 
 // How many lines with another byte at that place got an answer.
 fn answer_each_byte(alloc: Global, line: &[u8], place: usize) -> Result<u64, NoMemory> {
-    let mut other = Vec::from_slice(alloc, line)?;
+    let mut other = say(alloc, line)?;
     let mut count: u64 = 0;
     for byte in 0..=255u8 {
         if let Some(at) = other.get_mut(place) {

@@ -3,7 +3,7 @@ use jiff::tz::TimeZone;
 use rand_chacha::ChaCha20Rng;
 use rand_core::{Rng, SeedableRng};
 use std::alloc::Global;
-use ug_casefile::{number_of, push_number, split_word};
+use ug_casefile::{Answer, number_of, say, split_word};
 use ug_cond::{Allowed, Context, History, holds, local_second};
 use ug_match::matches;
 use ug_policy::{InsertFault, RuleEntry, RuleList};
@@ -49,13 +49,10 @@ fn moment_of(word: &[u8]) -> Option<Moment> {
     number_of(word).map(Moment)
 }
 
-fn push_moment(text: &mut Vec<u8>, moment: Option<Moment>) -> Result<(), NoMemory> {
+fn add_moment(told: &mut Answer, moment: Option<Moment>) {
     match moment {
-        Some(moment) => push_number(text, moment.0),
-        None => {
-            text.push(b'-')?;
-            Ok(())
-        }
+        Some(moment) => told.add_number(moment.0),
+        None => told.add(b"-"),
     }
 }
 
@@ -81,7 +78,7 @@ impl Session {
     }
 
     fn say(&self, text: &[u8]) -> Result<Vec<u8>, NoMemory> {
-        Ok(Vec::from_slice(self.alloc, text)?)
+        say(self.alloc, text)
     }
 
     // A key of that id at the port 2 of bus 1, without interfaces.
@@ -168,14 +165,15 @@ impl Session {
     }
 
     fn ids(&self) -> Result<Vec<u8>, NoMemory> {
-        let mut told = self.say(b"rules")?;
+        let mut told = Answer::new(self.alloc);
+        told.add(b"rules");
         for place in 0..self.list.len() {
             if let Some(entry) = self.list.entry(place) {
-                told.push(b' ')?;
-                push_number(&mut told, entry.id)?;
+                told.add(b" ");
+                told.add_number(entry.id);
             }
         }
-        Ok(told)
+        told.finish()
     }
 
     fn length(&self) -> Result<Vec<u8>, NoMemory> {
@@ -185,11 +183,12 @@ impl Session {
     }
 
     fn past_of(&self, entry: &RuleEntry) -> Result<Vec<u8>, NoMemory> {
-        let mut told = self.say(b"evaluated ")?;
-        push_moment(&mut told, entry.history.evaluated)?;
-        told.extend_from_slice(b", applied ")?;
-        push_moment(&mut told, entry.history.applied)?;
-        Ok(told)
+        let mut told = Answer::new(self.alloc);
+        told.add(b"evaluated ");
+        add_moment(&mut told, entry.history.evaluated);
+        told.add(b", applied ");
+        add_moment(&mut told, entry.history.applied);
+        told.finish()
     }
 
     // The past of the rule at that place.
@@ -215,15 +214,16 @@ impl Session {
             Target::Block,
             &mut self.rng,
         );
-        let mut told = self.say(verdict.word())?;
+        let mut told = Answer::new(self.alloc);
+        told.add(verdict.word());
         match cause {
             Cause::Rule(id) => {
-                told.extend_from_slice(b" by rule ")?;
-                push_number(&mut told, id)?;
+                told.add(b" by rule ");
+                told.add_number(id);
             }
-            _ => told.extend_from_slice(b" by none")?,
+            _ => told.add(b" by none"),
         }
-        Ok(told)
+        told.finish()
     }
 
     // `MOMENT CONDITIONS`
@@ -279,36 +279,32 @@ impl Session {
         Ok(format!(in self.alloc; "{word:016x}")?.into_bytes())
     }
 
-    fn change(&mut self, verb: &str, rest: &[u8]) -> Result<Option<Vec<u8>>, NoMemory> {
-        Ok(Some(match verb {
-            "last" => self.add(After::End, rest)?,
-            "first" => self.add(After::Front, rest)?,
-            "behind" => self.add_behind(rest)?,
-            "fill" => self.fill(rest)?,
-            "remove" => self.remove(rest)?,
-            "target" => self.set_target(rest)?,
-            "history" => self.set_history(rest)?,
-            "allow" => self.allow(rest)?,
-            "seed" => self.seed()?,
-            _ => return Ok(None),
-        }))
+    fn answer_change(&mut self, verb: &str, rest: &[u8]) -> Result<Vec<u8>, NoMemory> {
+        match verb {
+            "last" => self.add(After::End, rest),
+            "first" => self.add(After::Front, rest),
+            "behind" => self.add_behind(rest),
+            "fill" => self.fill(rest),
+            "remove" => self.remove(rest),
+            "target" => self.set_target(rest),
+            "history" => self.set_history(rest),
+            "allow" => self.allow(rest),
+            "seed" => self.seed(),
+            _ => self.say(b"no such verb"),
+        }
     }
 
     /// What a line tells: a verb and its words.
     pub fn answer(&mut self, line: &[u8]) -> Result<Vec<u8>, NoMemory> {
         let (verb, rest) = split_word(line);
-        let verb = str::from_utf8(verb).unwrap_or("");
-        if let Some(told) = self.change(verb, rest)? {
-            return Ok(told);
-        }
-        match verb {
+        match str::from_utf8(verb).unwrap_or("") {
             "judge" => self.judge(rest),
             "ask" => self.ask(rest),
             "ids" => self.ids(),
             "length" => self.length(),
             "past" => self.past(rest),
             "word" => self.next_word(),
-            _ => self.say(b"no such verb"),
+            verb => self.answer_change(verb, rest),
         }
     }
 }

@@ -1,10 +1,12 @@
 // Settings, and the faults of their lines.
+use crate::rules::tell_file_fault;
 use std::alloc::Global;
-use ug_casefile::{push_escaped, push_number};
+use ug_casefile::Answer;
 use ug_conf::{
-    AuthDefault, LineFault, Present, Settings, SettingsReader, default_settings, parse_conf,
+    AuthDefault, FaultKind, LineFault, Present, Settings, SettingsReader, default_settings,
+    parse_conf,
 };
-use ug_types::{FileFault, NoMemory, Numbered};
+use ug_types::{NoMemory, Numbered};
 
 fn present_word(present: Present) -> &'static [u8] {
     match present {
@@ -25,93 +27,79 @@ fn default_word(default: AuthDefault) -> &'static [u8] {
     }
 }
 
-fn push_text(told: &mut Vec<u8>, key: &[u8], text: &[u8]) -> Result<(), NoMemory> {
-    told.extend_from_slice(key)?;
-    told.extend_from_slice(b" \"")?;
-    push_escaped(told, text)?;
-    told.extend_from_slice(b"\"\n")?;
-    Ok(())
-}
-
-fn push_word(told: &mut Vec<u8>, key: &[u8], word: &[u8]) -> Result<(), NoMemory> {
-    told.extend_from_slice(key)?;
-    told.push(b' ')?;
-    told.extend_from_slice(word)?;
-    told.push(b'\n')?;
-    Ok(())
-}
-
-fn push_users(told: &mut Vec<u8>, settings: &Settings) -> Result<(), NoMemory> {
-    told.extend_from_slice(b"users")?;
+fn add_users(told: &mut Answer, settings: &Settings) {
+    told.add(b"users");
     for user in settings.users.as_slice() {
-        told.extend_from_slice(if user.is_group() { b" :" } else { b" " })?;
-        told.extend_from_slice(user.name())?;
+        told.add(if user.is_group() { b" :" } else { b" " });
+        told.add(user.name());
     }
-    told.push(b'\n')?;
-    Ok(())
+    told.add(b"\n");
 }
 
-fn push_unused(told: &mut Vec<u8>, settings: &Settings) -> Result<(), NoMemory> {
-    told.extend_from_slice(b"unused")?;
+fn add_unused(told: &mut Answer, settings: &Settings) {
+    told.add(b"unused");
     for line in settings.unused.as_slice() {
-        told.push(b' ')?;
-        push_number(told, *line)?;
+        told.add(b" ");
+        told.add_number(*line);
     }
-    Ok(())
+}
+
+fn add_texts(told: &mut Answer, texts: &[(&[u8], &[u8])]) {
+    for (key, text) in texts {
+        told.add(key);
+        told.add(b" ");
+        told.add_quoted(text);
+        told.add(b"\n");
+    }
+}
+
+fn add_words(told: &mut Answer, words: &[(&[u8], &[u8])]) {
+    for (key, word) in words {
+        told.add(key);
+        told.add(b" ");
+        told.add(word);
+        told.add(b"\n");
+    }
+}
+
+fn word_of_bool(value: bool) -> &'static [u8] {
+    if value { b"true" } else { b"false" }
 }
 
 fn tell_settings(alloc: Global, settings: &Settings) -> Result<Vec<u8>, NoMemory> {
-    let mut told = Vec::new(alloc);
-    push_text(&mut told, b"RuleFile", settings.rule_file.bytes())?;
-    push_text(&mut told, b"RuleFolder", settings.rule_folder.bytes())?;
-    push_text(
+    let device = present_word(settings.present_device);
+    let controller = present_word(settings.present_controller);
+    let with_port = word_of_bool(settings.with_port);
+    let mut told = Answer::new(alloc);
+    add_texts(
         &mut told,
-        b"IPCAccessControlFiles",
-        settings.access_folder.bytes(),
-    )?;
-    push_word(&mut told, b"ImplicitPolicyTarget", settings.implicit.word())?;
-    push_word(
+        &[
+            (b"RuleFile", settings.rule_file.bytes()),
+            (b"RuleFolder", settings.rule_folder.bytes()),
+            (b"IPCAccessControlFiles", settings.access_folder.bytes()),
+        ],
+    );
+    add_words(
         &mut told,
-        b"PresentDevicePolicy",
-        present_word(settings.present_device),
-    )?;
-    push_word(
-        &mut told,
-        b"PresentControllerPolicy",
-        present_word(settings.present_controller),
-    )?;
-    push_word(&mut told, b"InsertedDevicePolicy", settings.inserted.word())?;
-    push_word(
-        &mut told,
-        b"AuthorizedDefault",
-        default_word(settings.default),
-    )?;
-    let with_port: &[u8] = if settings.with_port {
-        b"true"
-    } else {
-        b"false"
-    };
-    push_word(&mut told, b"DeviceRulesWithPort", with_port)?;
-    push_users(&mut told, settings)?;
-    push_unused(&mut told, settings)?;
-    Ok(told)
-}
-
-fn tell_fault(alloc: Global, fault: FileFault) -> Result<Vec<u8>, NoMemory> {
-    match fault {
-        FileFault::Bad(fault) => Ok(format!(in alloc;
-            "fault {} {} {}",
-            fault.line, fault.kind, fault.place
-        )?.into_bytes()),
-        FileFault::Memory => Err(NoMemory),
-    }
+        &[
+            (b"ImplicitPolicyTarget", settings.implicit.word()),
+            (b"PresentDevicePolicy", device),
+            (b"PresentControllerPolicy", controller),
+            (b"InsertedDevicePolicy", settings.inserted.word()),
+            (b"AuthorizedDefault", default_word(settings.default)),
+            (b"DeviceRulesWithPort", with_port),
+        ],
+    );
+    add_users(&mut told, settings);
+    add_unused(&mut told, settings);
+    told.finish()
 }
 
 /// The settings of a text, or `fault LINE KIND PLACE`.
 pub fn tell(alloc: Global, text: &[u8]) -> Result<Vec<u8>, NoMemory> {
     match parse_conf(alloc, text) {
         Ok(settings) => tell_settings(alloc, &settings),
-        Err(fault) => tell_fault(alloc, fault),
+        Err(fault) => tell_file_fault(alloc, fault),
     }
 }
 
@@ -126,26 +114,32 @@ pub fn tell_length(alloc: Global, text: &[u8]) -> Result<Vec<u8>, NoMemory> {
             let length = settings.rule_file.bytes().len();
             Ok(format!(in alloc; "{length} bytes")?.into_bytes())
         }
-        Err(fault) => tell_fault(alloc, fault),
+        Err(fault) => tell_file_fault(alloc, fault),
     }
+}
+
+fn add_answer(told: &mut Answer, answer: Result<(), LineFault<FaultKind>>) -> Result<(), NoMemory> {
+    match answer {
+        Ok(()) => told.add(b"good\n"),
+        Err(LineFault::Bad(fault)) => {
+            told.add(b"fault ");
+            told.add_number(u64::from(fault.kind.number()));
+            told.add(b" ");
+            told.add_number(fault.place);
+            told.add(b"\n");
+        }
+        Err(LineFault::Memory) => return Err(NoMemory),
+    }
+    Ok(())
 }
 
 /// The answer to each line, and the lines that are unused.
 pub fn tell_lines(alloc: Global, text: &[u8]) -> Result<Vec<u8>, NoMemory> {
     let mut reader = SettingsReader::new(alloc)?;
-    let mut told = Vec::new(alloc);
+    let mut told = Answer::new(alloc);
     for line in text.split(|byte| *byte == b'\n') {
-        match reader.line(line) {
-            Ok(()) => told.extend_from_slice(b"good\n")?,
-            Err(LineFault::Bad(fault)) => {
-                let kind = fault.kind.number();
-                let place = fault.place;
-                let text = format!(in alloc; "fault {kind} {place}\n")?;
-                told.extend_from_slice(text.as_bytes())?;
-            }
-            Err(LineFault::Memory) => return Err(NoMemory),
-        }
+        add_answer(&mut told, reader.line(line))?;
     }
-    push_unused(&mut told, &reader.finish())?;
-    Ok(told)
+    add_unused(&mut told, &reader.finish());
+    told.finish()
 }

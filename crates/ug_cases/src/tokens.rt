@@ -1,6 +1,6 @@
 // Tokens of lines.
 use std::alloc::Global;
-use ug_casefile::{Case, push_escaped, push_number};
+use ug_casefile::{Answer, Case};
 use ug_lex::{LexFault, Token, TokenKind, tokens};
 use ug_types::NoMemory;
 
@@ -17,19 +17,18 @@ fn letter(token: &Token) -> u8 {
 }
 
 // `LETTER START END`, and the text of a string that has one
-fn push_token(told: &mut Vec<u8>, token: &Token) -> Result<(), NoMemory> {
-    told.push(letter(token))?;
-    told.push(b' ')?;
-    push_number(told, token.start as u64)?;
-    told.push(b' ')?;
-    push_number(told, token.end as u64)?;
+fn add_token(told: &mut Answer, token: &Token) {
+    told.add(&[letter(token)]);
+    told.add(b" ");
+    told.add_number(token.start as u64);
+    told.add(b" ");
+    told.add_number(token.end as u64);
     if let TokenKind::Str(text) = &token.kind
         && !text.bytes().is_empty()
     {
-        told.push(b' ')?;
-        push_escaped(told, text.bytes())?;
+        told.add(b" ");
+        told.add_escaped(text.bytes());
     }
-    Ok(())
 }
 
 fn fault_words(fault: LexFault) -> Result<(&'static str, u64), NoMemory> {
@@ -43,29 +42,33 @@ fn fault_words(fault: LexFault) -> Result<(&'static str, u64), NoMemory> {
 
 fn tell_fault(alloc: Global, fault: LexFault) -> Result<Vec<u8>, NoMemory> {
     let (words, place) = fault_words(fault)?;
-    let mut told = Vec::from_slice(alloc, words.as_bytes())?;
-    told.push(b' ')?;
-    push_number(&mut told, place)?;
-    Ok(told)
+    let mut told = Answer::new(alloc);
+    told.add(words.as_bytes());
+    told.add(b" ");
+    told.add_number(place);
+    told.finish()
+}
+
+fn tell_tokens(alloc: Global, list: &[Token]) -> Result<Vec<u8>, NoMemory> {
+    let mut told = Answer::new(alloc);
+    for token in list {
+        if !told.is_empty() {
+            told.add(b", ");
+        }
+        add_token(&mut told, token);
+    }
+    if told.is_empty() {
+        told.add(b"none");
+    }
+    told.finish()
 }
 
 /// Each token, with commas between.
 pub fn tell(alloc: Global, line: &[u8]) -> Result<Vec<u8>, NoMemory> {
-    let list = match tokens(alloc, line) {
-        Ok(list) => list,
-        Err(fault) => return tell_fault(alloc, fault),
-    };
-    let mut told = Vec::new(alloc);
-    for token in list.as_slice() {
-        if !told.is_empty() {
-            told.extend_from_slice(b", ")?;
-        }
-        push_token(&mut told, token)?;
+    match tokens(alloc, line) {
+        Ok(list) => tell_tokens(alloc, list.as_slice()),
+        Err(fault) => tell_fault(alloc, fault),
     }
-    if told.is_empty() {
-        told.extend_from_slice(b"none")?;
-    }
-    Ok(told)
 }
 
 /// How many tokens there are, and how many bytes their strings spell.
@@ -113,28 +116,29 @@ fn mark(alloc: Global, line: &[u8], byte: u8) -> Result<[u8; 2], NoMemory> {
     }
 }
 
-fn push_row(alloc: Global, told: &mut Vec<u8>, case: &Case, first: u8) -> Result<(), NoMemory> {
+fn add_row(alloc: Global, told: &mut Answer, case: &Case, first: u8) -> Result<(), NoMemory> {
     for place in 0..16u8 {
         let byte = first | place;
-        let mut line = Vec::from_slice(alloc, case.setting(b"before").unwrap_or(&[]))?;
-        line.push(byte)?;
-        line.extend_from_slice(case.setting(b"behind").unwrap_or(&[]))?;
+        let mut line = Answer::new(alloc);
+        line.add(case.setting(b"before").unwrap_or(&[]));
+        line.add(&[byte]);
+        line.add(case.setting(b"behind").unwrap_or(&[]));
         if place != 0 {
-            told.push(b' ')?;
+            told.add(b" ");
         }
-        told.extend_from_slice(&mark(alloc, &line, byte)?)?;
+        told.add(&mark(alloc, &line.finish()?, byte)?);
     }
     Ok(())
 }
 
 /// Sixteen rows of marks for what each byte gives between two texts.
 pub fn tell_each_byte(alloc: Global, case: &Case) -> Result<Vec<u8>, NoMemory> {
-    let mut told = Vec::new(alloc);
+    let mut told = Answer::new(alloc);
     for row in 0..16u8 {
         if row != 0 {
-            told.push(b'\n')?;
+            told.add(b"\n");
         }
-        push_row(alloc, &mut told, case, row * 16)?;
+        add_row(alloc, &mut told, case, row * 16)?;
     }
-    Ok(told)
+    told.finish()
 }

@@ -1,7 +1,7 @@
 // Seconds of local days.
 use jiff::tz::{Offset, TimeZone};
 use std::alloc::Global;
-use ug_casefile::{number_of, split_word};
+use ug_casefile::{number_of, say, split_word};
 use ug_cond::local_second;
 use ug_types::{Moment, NoMemory};
 
@@ -30,6 +30,6 @@ pub fn tell(alloc: Global, line: &[u8]) -> Result<Vec<u8>, NoMemory> {
     let (zone, moment) = split_word(line);
     match second(zone, moment) {
         Some(second) => Ok(format!(in alloc; "{second}")?.into_bytes()),
-        None => Ok(Vec::from_slice(alloc, b"no zone or no moment")?),
+        None => say(alloc, b"no zone or no moment"),
     }
 }

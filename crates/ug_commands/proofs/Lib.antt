@@ -1,1 +1,4 @@
 pub mod Puts
+mod Events
+pub mod Linted
+pub mod Remaining

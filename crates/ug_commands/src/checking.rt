@@ -41,7 +41,7 @@ fn check_input<S: Source, K: Sink>(alloc: Global, input: &mut S, out: &mut K) ->
     }
 }
 
-fn status(ended: Ended) -> u8
+pub fn status(ended: Ended) -> u8
     ensures { result ≡ status_of ended }
 {
     match ended {

@@ -7,7 +7,7 @@ use Rattle.ug_types.specs.Principals.{Named}
 use Rattle.ug_types.proofs.Elements.{map_has}
 use Rattle.ug_kernel.specs.declared.device.Device.{Device}
 use Rattle.ug_kernel.specs.Kernel.{Kernel, default_in}
-use Rattle.ug_kernel.specs.Guarded.{default_at, set_by}
+use Rattle.ug_kernel.specs.Defaults.{default_at, set_by}
 use Rattle.ug_kernel.specs.Quiet.{Quiet}
 use Rattle.ug_table.specs.Laws.{Stand, AreDefaulted}
 use Rattle.ug_table.specs.Orders.{ordered_standing, with_order}

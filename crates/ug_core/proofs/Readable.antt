@@ -5,7 +5,7 @@ use Rattle.std.specs.List.{AllByRecursion}
 use Rattle.std.proofs.lemmas.List.Elements.{All-from_recursion, recursion_from_All}
 use Rattle.ug_types.specs.declared.rule.Rule.{Rule}
 use Rattle.ug_policy.specs.declared.entry.RuleEntry.{RuleEntry}
-use Rattle.ug_policy.specs.Rules.{Rules}
+use Rattle.ug_policy.specs.Rules.{Rules, rules_in}
 use Rattle.ug_rule.specs.Files.{file_read}
 use Rattle.ug_rule.specs.Grammar.{WellFormed}
 use Rattle.ug_rule.specs.Texts.{AreRules, NoLines, Blank, OneMore}
@@ -16,7 +16,7 @@ use Rattle.ug_print.specs.RuleTexts.{rules_limit, rules_text_of}
 use Rattle.ug_print.specs.Words.{rule_text}
 use Rattle.ug_print.proofs.Printed.{printed}
 use Rattle.ug_print.proofs.RuleTexts.{text_read}
-use Rattle.ug_rules.specs.RuleFile.{CanSave, IsSaveable, ReadsBack, permanent_rules, rules_in}
+use Rattle.ug_rules.specs.RuleFile.{CanSave, IsSaveable, ReadsBack, permanent_rules}
 use Rattle.ug_core.specs.Starting.{HoldsJust, permanent_entries}
 
 are_well : (lines : List (List ℕ)) (rules : List Rule) → AreRules lines rules → AllByRecursion WellFormed rules

@@ -15,7 +15,7 @@ use Rattle.ug_types.specs.Principals.{Named}
 use Rattle.ug_kernel.specs.declared.device.Device.{Device}
 use Rattle.ug_kernel.specs.declared.device.Effect.{Effect}
 use Rattle.ug_kernel.specs.declared.calls.Wrote.{Wrote}
-use Rattle.ug_kernel.specs.Guarded.{default_at, set_by}
+use Rattle.ug_kernel.specs.Defaults.{default_at, set_by}
 use Rattle.ug_kernel.specs.Kernel.{Kernel, Live, Moves}
 use Rattle.ug_audit.specs.declared.entry.Entry.{Entry}
 use Rattle.ug_audit.specs.declared.entry.Entry.TheVariants as entry
@@ -28,7 +28,7 @@ use Rattle.ug_proto.specs.Privileges.{needs}
 use Rattle.ug_proto.specs.Requests.{request_read}
 use Rattle.ug_store.specs.Disk.{Disk, IsAsItWas}
 use Rattle.ug_table.specs.Allowed.{allowed_records}
-use Rattle.ug_table.specs.Bring.{CallsFor, default_of}
+use Rattle.ug_table.specs.Bring.{CallsFor, default_write}
 use Rattle.ug_table.specs.Laws.{IsDevice, IsProbed, Stand, AreDefaulted, AreLeft, AreMarkedIn, swept_before, MayHave, wrote_entries, IsJudged, IsAsJudged}
 use Rattle.ug_table.specs.Standings.{numbered}
 use Rattle.ug_table.specs.declared.standing.Standing.{Standing}
@@ -222,7 +222,7 @@ pub record AllExplained (hub : Option Write) (policy : Judging) (hs : List Happe
 pub record IsJudgedOnce (hub : Option Write) (policy : Judging) (hs : List Happened) (steps : List PolicyStep) (k : Kernel) (standings : List Standing) (i : ℕ) : Type 0 where
   pub stands : IsAsJudged hub k standings i
   pub decided : WasDecided policy hs steps k i (decision_of stands.standing.s)
-  pub default : (what : Write) → parent_of stands.standing.s.name ≡ None → default_of hub ≡ Some what → default_at i k ≡ set_by what
+  pub default : (what : Write) → parent_of stands.standing.s.name ≡ None → default_write hub ≡ Some what → default_at i k ≡ set_by what
   pub once : (number : ℕ) → IsJudged k (journal hs) number i → number ≡ stands.standing.s.number
 
 -- the texts that aren't sure after an event, and after these events

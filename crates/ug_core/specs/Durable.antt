@@ -85,7 +85,8 @@ WritesEvent event d became = WritesRules became (change_in event d) d.sweep.judg
 
 -- At each moment of an event a crash leaves the text of the permanent rules in force, or one that isn't sure: within the calls of a pending
 -- save, one that wasn't sure before the event; within those of its order, the one that this writes, or one that still isn't sure; and after
--- it. It may leave the rule file as it is. The permanent rules stay as they were, unless the save of the order was done; and the entries tell what became of that.
+-- it. It may leave the rule file as it is. The permanent rules stay as they were, unless the save of the order was done; and the entries tell
+-- what became of that.
 pub record KeepsRules (texts : List (List ℕ)) (tried : Option Saved) (became : Stored) (d : DaemonState) (unsure : List (List ℕ)) (m : Disk) (e : DaemonState) (n : Disk) : Type 0 where
   pub saving : List Images
   pub ordering : List Images

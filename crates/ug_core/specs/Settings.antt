@@ -10,8 +10,8 @@ use Rattle.ug_core.specs.declared.classes.Classes.{Classes}
 abbrev pub classes_of : Settings → Classes
 classes_of s = record { implicit = s.implicit; present_device = s.present_device; present_controller = s.present_controller; inserted = s.inserted; with_port = s.with_port }
 
-abbrev pub hub_of : AuthDefault → Option Write
-hub_of default.Keep = None
-hub_of default.None = Some write.DefaultOff
-hub_of default.All = Some write.DefaultOn
-hub_of default.Internal = None
+abbrev pub hub_default : AuthDefault → Option Write
+hub_default default.Keep = None
+hub_default default.None = Some write.DefaultOff
+hub_default default.All = Some write.DefaultOn
+hub_default default.Internal = None

@@ -1,7 +1,7 @@
 // What the settings say of each class of devices.
 ghost use Rattle.std.specs.Prelude.{◌≡◌};
 ghost use Rattle.ug_core.specs.Policy as policy;
-ghost use Rattle.ug_core.specs.Settings.{classes_of, hub_of};
+ghost use Rattle.ug_core.specs.Settings.{classes_of, hub_default};
 
 use ug_conf::{AuthDefault, Present, Settings};
 use ug_types::{Cause, Inserted, Target, Write};
@@ -71,7 +71,7 @@ impl Classes {
 
 /// What is written to the default of each root hub.
 pub fn hub_default(default: AuthDefault) -> Option<Write>
-    ensures { result ≡ hub_of default }
+    ensures { result ≡ hub_default default }
 {
     match default {
         AuthDefault::Keep => None,

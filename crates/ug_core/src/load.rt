@@ -1,6 +1,7 @@
 // The rules of a disk's rule file.
 ghost use Rattle.std.specs.Prelude.{◌≡◌, false, All, IfOk};
-ghost use Rattle.ug_rules.specs.RuleFile.{IsSaveable, ReadsBack, rules_in};
+ghost use Rattle.ug_rules.specs.RuleFile.{IsSaveable, ReadsBack};
+ghost use Rattle.ug_policy.specs.Rules.{rules_in};
 ghost use Rattle.ug_core.specs.Starting.{Loads};
 
 use crate::rules::rules_of_text;

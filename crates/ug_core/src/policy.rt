@@ -6,7 +6,8 @@ ghost use Rattle.ug_table.specs.Allowed.{allowed_records};
 ghost use Rattle.ug_core.specs.Policy.{Judging, asks, by_class, clock_of, context_at, judging_of, policy_answer, policy_later, rules_if, stream_if};
 ghost use Rattle.ug_core.specs.Changes.{CanChange, ChangeReads, ChangeSaves, HasRoom, changed_by, is_saved, parameter_at, text_to_save, verdict_edit};
 ghost use Rattle.ug_rules.specs.RuleEdits.{EditReads, if_room_for};
-ghost use Rattle.ug_rules.specs.RuleFile.{FitsFile, IsSaveable, ReadsBack, permanent_rules, permanent_text, rules_in};
+ghost use Rattle.ug_rules.specs.RuleFile.{FitsFile, IsSaveable, ReadsBack, permanent_rules, permanent_text};
+ghost use Rattle.ug_policy.specs.Rules.{rules_in};
 ghost use Rattle.ug_rules.specs.RulePlaces.{has_rule, if_taken};
 ghost use Rattle.ug_rules.specs.RuleRows.{rule_rows};
 

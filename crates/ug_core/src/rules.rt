@@ -2,7 +2,8 @@
 ghost use Rattle.std.specs.Prelude.{◌≡◌, ◌<◌, ◌≤◌, ◌+◌, ◌-◌, ◌^◌, ◌++◌, ◌∷◌, [], false, All, IfOk, OnOk, length};
 ghost use Rattle.ug_policy.specs.Edits.{new_entry};
 ghost use Rattle.ug_policy.specs.Kept.{StandsFor};
-ghost use Rattle.ug_rules.specs.RuleFile.{IsSaveable, ReadsBack, rules_in};
+ghost use Rattle.ug_rules.specs.RuleFile.{IsSaveable, ReadsBack};
+ghost use Rattle.ug_policy.specs.Rules.{rules_in};
 ghost use Rattle.ug_core.specs.Starting.{HoldsJust, StartsWith};
 
 use crate::start_fault::StartFault;

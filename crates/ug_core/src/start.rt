@@ -3,8 +3,9 @@ ghost use Rattle.std.specs.Prelude.{◌≡◌, [], false, All, IfErr, IfOk};
 ghost use Rattle.ug_store.specs.Store.{seen_by};
 ghost use Rattle.ug_core.specs.Event.{daemon_of};
 ghost use Rattle.ug_core.specs.Policy.{clock_of};
-ghost use Rattle.ug_rules.specs.RuleFile.{IsSaveable, ReadsBack, rules_in};
-ghost use Rattle.ug_core.specs.Settings.{classes_of, hub_of};
+ghost use Rattle.ug_rules.specs.RuleFile.{IsSaveable, ReadsBack};
+ghost use Rattle.ug_policy.specs.Rules.{rules_in};
+ghost use Rattle.ug_core.specs.Settings.{classes_of, hub_default};
 ghost use Rattle.ug_core.specs.Starting.{Starts, StartsWithRules};
 ghost use Rattle.ug_core.specs.Verdicts.{IsLater};
 
@@ -88,7 +89,7 @@ impl<'z, R: Rng + Drop> Daemon<'z, R> {
     ) -> Result<Daemon<'z, R>, StartFault>
         ensures starts { Starts D.keeps D.told D.faults (record {
           classes = classes_of settings;
-          hub = hub_of settings.default;
+          hub = hub_default settings.default;
           access = acl;
           clock = clock_of zone.entry;
           words = R.stream rng;

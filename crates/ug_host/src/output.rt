@@ -1,6 +1,4 @@
 // A journal's output, which never waits.
-ghost use Rattle.std.specs.Prelude.{◌≡◌};
-
 use crate::at_once::{put_at_once, tell};
 use std::alloc::{AllocError, Global};
 use std::io::{self, Write};

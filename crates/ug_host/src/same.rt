@@ -1,6 +1,4 @@
 // Whether a file has a text, which takes no memory.
-ghost use Rattle.std.specs.Prelude.{◌≡◌};
-
 use crate::file::{FileFault, read_piece};
 use std::fs;
 use std::io::{ErrorKind, Read};

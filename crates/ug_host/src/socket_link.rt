@@ -5,10 +5,11 @@ ghost use Rattle.ug_types.specs.Ends.{Fits, IsCounted, Rose};
 use crate::auditor::put_all;
 use crate::file::{FileFault, read_piece};
 use crate::plain::text_of;
+use crate::reached::{Reached, refused};
 use std::alloc::Global;
 use std::net::Net;
 use std::os::unix::net::UnixStream;
-use ug_types::{Dialled, Link, Put, Taken};
+use ug_types::{Dialled, Link, Put, Taken, Text};
 
 /// A Unix stream, whose calls wait for the daemon. What comes is told by the machine alone.
 #[derive(Drop)]
@@ -16,6 +17,8 @@ pub struct SocketLink<R> {
     rt: R,
     stream: Option<UnixStream>,
     faults: u64,
+    path: Option<Text>,
+    reached: Reached,
 }
 
 fn receive_from(stream: &mut UnixStream, into: &mut [u8]) -> Taken
@@ -38,7 +41,22 @@ impl<R: Net> SocketLink<R> {
             rt,
             stream: None,
             faults: 0,
+            path: None,
+            reached: Reached::Nowhere,
         }
+    }
+
+    /// The path that was dialled last.
+    pub fn path(&self) -> Option<&[u8]> {
+        match &self.path {
+            Some(path) => Some(path.bytes()),
+            None => None,
+        }
+    }
+
+    /// How far the connection came that was dialled last.
+    pub fn reached(&self) -> Reached {
+        self.reached
     }
 
     // A failure more, if it is one.
@@ -51,8 +69,34 @@ impl<R: Net> SocketLink<R> {
         }
     }
 
-    fn connect(&self, path: &[u8]) -> Result<UnixStream, FileFault> {
-        Ok(UnixStream::connect(&self.rt, text_of(path)?)?)
+    // A call on the connection failed, if it is one that did.
+    fn note_break(&mut self, failed: bool)
+        ensures faults { self.new.faults ≡ self.old.faults }
+    {
+        if failed && self.stream.is_some() {
+            self.reached = Reached::Broken;
+        }
+    }
+
+    // Connects to the socket at a path, and keeps both.
+    fn connect(&mut self, alloc: Global, path: &[u8]) -> Result<(), FileFault>
+        ensures faults { self.new.faults ≡ self.old.faults }
+    {
+        self.stream = None;
+        self.reached = Reached::Nowhere;
+        self.path = Some(Text::of(alloc, path)?);
+        let text = text_of(path)?;
+        match UnixStream::connect(&self.rt, text) {
+            Ok(stream) => {
+                self.stream = Some(stream);
+                self.reached = Reached::Connected;
+                Ok(())
+            }
+            Err(error) => {
+                self.reached = refused(&error);
+                Err(FileFault::from(error))
+            }
+        }
     }
 }
 
@@ -63,13 +107,9 @@ impl<R: Net> Link for SocketLink<R> {
 
     ghost faults = { λ s. s.faults };
 
-    fn dial(&mut self, _alloc: Global, path: &[u8]) -> Dialled {
-        self.stream = None;
-        let answer = match self.connect(path) {
-            Ok(stream) => {
-                self.stream = Some(stream);
-                Dialled::Ready
-            }
+    fn dial(&mut self, alloc: Global, path: &[u8]) -> Dialled {
+        let answer = match self.connect(alloc, path) {
+            Ok(()) => Dialled::Ready,
             Err(FileFault::Memory) => Dialled::Memory,
             Err(_) => Dialled::Failed,
         };
@@ -82,6 +122,7 @@ impl<R: Net> Link for SocketLink<R> {
             Some(stream) => put_all(stream, bytes),
             None => Put::Failed,
         };
+        self.note_break(put == Put::Failed);
         self.count(put == Put::Failed);
         put
     }
@@ -91,6 +132,7 @@ impl<R: Net> Link for SocketLink<R> {
             Some(stream) => receive_from(stream, into),
             None => Taken::Failed,
         };
+        self.note_break(taken == Taken::Failed);
         self.count(taken == Taken::Failed);
         taken
     }

@@ -49,33 +49,33 @@ kept_taken test places new xs spare at x k taken within there = record {
 }
 
 -- each list
-pub each_put : (test : ℕ → Reach → Bool) (lists new : List (Vec ℕ)) (xs : List Reach) (spare at : ℕ) (x : Reach) → AreKept test lists xs spare → ArePutIn test x at lists new → length new ≡ length lists → at ≤ length xs → 0 < spare → AreKept test new (insert xs at x) (spare - 1)
-each_put test lists new xs spare at x k put long within some = λ r d lt.
+pub each_put : (lists new : List (Vec ℕ)) (xs : List Reach) (spare at : ℕ) (x : Reach) → AreKept lists xs spare → ArePutIn x at lists new → length new ≡ length lists → at ≤ length xs → 0 < spare → AreKept new (insert xs at x) (spare - 1)
+each_put lists new xs spare at x k put long within some = λ r d lt.
     let old : r < length lists = omega (arith, long) in
-    kept_put (test r) (get_or lists r d) (get_or new r d) xs spare at x (k r d old) (put r d old) within some
+    kept_put (reaches_to r) (get_or lists r d) (get_or new r d) xs spare at x (k r d old) (put r d old) within some
 
-pub each_taken : (test : ℕ → Reach → Bool) (lists new : List (Vec ℕ)) (xs : List Reach) (spare at : ℕ) (x : Reach) → AreKept test lists xs spare → AreTakenOut test x at lists new → length new ≡ length lists → at < length xs → x ≡ get_or xs at x → AreKept test new (remove xs at) spare
-each_taken test lists new xs spare at x k taken long within there = λ r d lt.
+pub each_taken : (lists new : List (Vec ℕ)) (xs : List Reach) (spare at : ℕ) (x : Reach) → AreKept lists xs spare → AreTakenOut x at lists new → length new ≡ length lists → at < length xs → x ≡ get_or xs at x → AreKept new (remove xs at) spare
+each_taken lists new xs spare at x k taken long within there = λ r d lt.
     let old : r < length lists = omega (arith, long) in
-    kept_taken (test r) (get_or lists r d) (get_or new r d) xs spare at x (k r d old) (taken r d old) within there
+    kept_taken (reaches_to r) (get_or lists r d) (get_or new r d) xs spare at x (k r d old) (taken r d old) within there
 
 -- an index
-pub index_put : (lists new : List (Vec ℕ)) (reaches later : Vec Reach) (spare at : ℕ) (x : Reach) → IsIndex lists reaches spare → ArePutIn reaches_to x at lists new → length new ≡ length lists → later.items ≡ insert reaches.items at x → vec_len later ≡ vec_len reaches + 1 → vec_capacity later ≡ vec_capacity reaches → at ≤ length reaches.items → length reaches.items < 65536 → 0 < spare → IsIndex new later (spare - 1)
+pub index_put : (lists new : List (Vec ℕ)) (reaches later : Vec Reach) (spare at : ℕ) (x : Reach) → IsIndex lists reaches spare → ArePutIn x at lists new → length new ≡ length lists → later.items ≡ insert reaches.items at x → vec_len later ≡ vec_len reaches + 1 → vec_capacity later ≡ vec_capacity reaches → at ≤ length reaches.items → length reaches.items < 65536 → 0 < spare → IsIndex new later (spare - 1)
 index_put lists new reaches later spare at x i put long items len capacity within few some =
     let more : length (insert reaches.items at x) ≡ length reaches.items + 1 = length-insert reaches.items at x within in
     record {
       long = long ∙ i.long;
-      kept = subst (λ (xs : List Reach). AreKept reaches_to new xs (spare - 1)) (sym items) (each_put reaches_to lists new reaches.items spare at x i.kept put long within some);
+      kept = subst (λ (xs : List Reach). AreKept new xs (spare - 1)) (sym items) (each_put lists new reaches.items spare at x i.kept put long within some);
       room = omega (arith, i.room);
       few = omega (arith, ap (λ (ys : List Reach). length ys) items);
     }
 
-pub index_taken : (lists new : List (Vec ℕ)) (reaches later : Vec Reach) (spare at : ℕ) (x : Reach) → IsIndex lists reaches spare → AreTakenOut reaches_to x at lists new → length new ≡ length lists → x ≡ get_or reaches.items at x → later.items ≡ remove reaches.items at → vec_len later + 1 ≡ vec_len reaches → vec_capacity later ≡ vec_capacity reaches → at < length reaches.items → IsIndex new later spare
+pub index_taken : (lists new : List (Vec ℕ)) (reaches later : Vec Reach) (spare at : ℕ) (x : Reach) → IsIndex lists reaches spare → AreTakenOut x at lists new → length new ≡ length lists → x ≡ get_or reaches.items at x → later.items ≡ remove reaches.items at → vec_len later + 1 ≡ vec_len reaches → vec_capacity later ≡ vec_capacity reaches → at < length reaches.items → IsIndex new later spare
 index_taken lists new reaches later spare at x i taken long there items len capacity within =
     let less : length (remove reaches.items at) + 1 ≡ length reaches.items = length-remove reaches.items at within in
     record {
       long = long ∙ i.long;
-      kept = subst (λ (xs : List Reach). AreKept reaches_to new xs spare) (sym items) (each_taken reaches_to lists new reaches.items spare at x i.kept taken long within there);
+      kept = subst (λ (xs : List Reach). AreKept new xs spare) (sym items) (each_taken lists new reaches.items spare at x i.kept taken long within there);
       room = omega (arith, i.room);
       few = omega (arith, i.few, ap (λ (ys : List Reach). length ys) items);
     }

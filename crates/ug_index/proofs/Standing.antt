@@ -21,6 +21,7 @@ use Rattle.ug_index.specs.Candidates.{AreCandidates}
 use Rattle.ug_index.specs.Places.{all_from, places_by, places_from, places_of, reaches_to}
 use Rattle.ug_index.specs.Reaches.{can_match, reach_of, reach_of_attribute, reach_of_numbers, reach_of_values, remainder}
 use Rattle.ug_index.proofs.Exact.{AllBelow, places_behind, places_below}
+use Rattle.ug_index.proofs.Narrow.{narrow_there}
 
 -- a rule that can match an id is in the list of its remainder
 reach_numbers : (a b : Option ℕ) (vendor product : ℕ) → (covers_number a vendor && covers_number b product) ≡ true → reaches_to (remainder vendor product) (reach_of_numbers a b) ≡ true
@@ -161,9 +162,10 @@ candidates_are queries vendor product =
       rise = places_rise kept 0 (map reach_of queries);
       below = λ k m. below_has (length queries) (places_by kept (map reach_of queries)) k (places_below kept 0 (length queries) (map reach_of queries) (omega (arith, long_map queries))) m;
       complete = λ k query there can. place_there kept 0 k queries k query (omega arith) there (reach_query query vendor product can);
-      apart = λ k r query there narrow other m.
-          let passes : kept (reach.Narrow r) ≡ true = ap kept (sym narrow) ∙ place_passes kept 0 k queries k query (omega arith) there m in
-          other (eqb-true r (remainder vendor product) passes);
+      apart = λ k own_vendor own_product query there narrow other m.
+          let own : ℕ = remainder own_vendor own_product in
+          let passes : kept (reach.Narrow own) ≡ true = ap kept (sym (narrow_there query own_vendor own_product narrow)) ∙ place_passes kept 0 k queries k query (omega arith) there m in
+          other (eqb-true own (remainder vendor product) passes);
     }
 
 -- a map of a list that is changed

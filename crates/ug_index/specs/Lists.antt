@@ -9,14 +9,14 @@ pub record IsKept (test : Reach → Bool) (places : Vec ℕ) (reaches : List Rea
   pub items : places.items ≡ places_by test reaches
   pub room : vec_len places + spare ≤ vec_capacity places
 
--- each list does, by a test for each remainder
-abbrev pub AreKept : (ℕ → Reach → Bool) → List (Vec ℕ) → List Reach → ℕ → Type 0
-AreKept test lists reaches spare = (r : ℕ) (d : Vec ℕ) → r < length lists → IsKept (test r) (get_or lists r d) reaches spare
+-- each list has those of the rules that can match ids of its remainder
+abbrev pub AreKept : List (Vec ℕ) → List Reach → ℕ → Type 0
+AreKept lists reaches spare = (r : ℕ) (d : Vec ℕ) → r < length lists → IsKept (reaches_to r) (get_or lists r d) reaches spare
 
 -- an index: its lists, the reach of each of at most 65,536 rules, and room for more of both
 pub record IsIndex (lists : List (Vec ℕ)) (reaches : Vec Reach) (spare : ℕ) : Type 0 where
   pub long : length lists ≡ 64
-  pub kept : AreKept reaches_to lists reaches.items spare
+  pub kept : AreKept lists reaches.items spare
   pub room : vec_len reaches + spare ≤ vec_capacity reaches
   pub few : length reaches.items ≤ 65536
 
@@ -35,8 +35,8 @@ pub record IsPutIn (here : Bool) (at : ℕ) (old new : Vec ℕ) : Type 0 where
   pub capacity : vec_capacity new ≡ vec_capacity old
 
 -- each list
-abbrev pub ArePutIn : (ℕ → Reach → Bool) → Reach → ℕ → List (Vec ℕ) → List (Vec ℕ) → Type 0
-ArePutIn test reach at old new = (r : ℕ) (d : Vec ℕ) → r < length old → IsPutIn (test r reach) at (get_or old r d) (get_or new r d)
+abbrev pub ArePutIn : Reach → ℕ → List (Vec ℕ) → List (Vec ℕ) → Type 0
+ArePutIn reach at old new = (r : ℕ) (d : Vec ℕ) → r < length old → IsPutIn (reaches_to r reach) at (get_or old r d) (get_or new r d)
 
 -- one list, where a rule was taken out
 pub record IsTakenOut (here : Bool) (at : ℕ) (old new : Vec ℕ) : Type 0 where
@@ -44,5 +44,5 @@ pub record IsTakenOut (here : Bool) (at : ℕ) (old new : Vec ℕ) : Type 0 wher
   pub len : vec_len new ≤ vec_len old
   pub capacity : vec_capacity new ≡ vec_capacity old
 
-abbrev pub AreTakenOut : (ℕ → Reach → Bool) → Reach → ℕ → List (Vec ℕ) → List (Vec ℕ) → Type 0
-AreTakenOut test reach at old new = (r : ℕ) (d : Vec ℕ) → r < length old → IsTakenOut (test r reach) at (get_or old r d) (get_or new r d)
+abbrev pub AreTakenOut : Reach → ℕ → List (Vec ℕ) → List (Vec ℕ) → Type 0
+AreTakenOut reach at old new = (r : ℕ) (d : Vec ℕ) → r < length old → IsTakenOut (reaches_to r reach) at (get_or old r d) (get_or new r d)

@@ -1,5 +1,5 @@
 -- Which ids a rule can match.
-use Rattle.std.specs.Prelude.{ℕ, ◌+◌, ◌%◌, List, [], ◌∷◌, Bool, Option, Some, None}
+use Rattle.std.specs.Prelude.{◌≡◌, ◌≢◌, ℕ, ◌+◌, ◌%◌, List, [], ◌∷◌, Bool, Option, Some, None}
 use Rattle.ug_types.specs.declared.rule.Id.{Id}
 use Rattle.ug_types.specs.declared.rule.Op.{Op}
 use Rattle.ug_types.specs.declared.rule.Op.TheVariants.{AllOf, OneOf, NoneOf, Equals, EqualsOrdered}
@@ -39,6 +39,16 @@ abbrev pub reach_of_attribute : Option (Values Id) → Reach
 reach_of_attribute None = reach.Wide
 reach_of_attribute (Some values) = reach_of_values values.op values.items
 
--- a query is narrow where its `id` is one item with both numbers, under another operator than `none-of`
+-- what the index knows of a query
 abbrev pub reach_of : Query → Reach
 reach_of query = reach_of_attribute query.id
+
+-- a query is narrow where its `id` is one item with both numbers, under another operator than `none-of`
+pub record IsNarrow (query : Query) (vendor product : ℕ) : Type 0 where
+  pub values : Values Id
+  pub id : Id
+  pub given : query.id ≡ Some values
+  pub one : values.items ≡ id ∷ []
+  pub other : values.op ≢ NoneOf
+  pub vendor_is : id.vendor ≡ Some vendor
+  pub product_is : id.product ≡ Some product

@@ -12,7 +12,7 @@ use std::alloc::Global;
 use std::marker::Model;
 use ug_types::{NoMemory, Query};
 
-pub fn no_lists(alloc: Global) -> [Vec<u32>; 64]
+fn no_lists(alloc: Global) -> [Vec<u32>; 64]
     ensures items { (r : ℕ) (d : Held ℕ) → r < 64 → (get_or result r d).items ≡ [] }
     ensures len { (r : ℕ) (d : Held ℕ) → r < 64 → vec_len (get_or result r d) ≡ 0 }
 {
@@ -20,7 +20,7 @@ pub fn no_lists(alloc: Global) -> [Vec<u32>; 64]
 }
 
 // The reach of a rule that is put in, for which there is room.
-pub fn put_reach(reaches: &mut Vec<Reach>, at: usize, reach: Reach)
+fn put_reach(reaches: &mut Vec<Reach>, at: usize, reach: Reach)
     requires place { at ≤ vec_len reaches.old }
     requires room { vec_len reaches.old < vec_capacity reaches.old }
     ensures items { reaches.new.items ≡ insert reaches.old.items at reach }
@@ -30,7 +30,7 @@ pub fn put_reach(reaches: &mut Vec<Reach>, at: usize, reach: Reach)
     let _put = reaches.insert(at, reach);
 }
 
-/// For each remainder the places of the rules of a list that can match its ids, and of each rule its reach.
+/// The places of the rules that can match ids of each remainder, in order, and the reach of each rule.
 #[derive(Drop)]
 pub struct Index {
     lists: [Vec<u32>; 64],
@@ -67,7 +67,6 @@ impl Index {
         ensures value { result ≡ length self.now.reaches }
         ensures few { length self.now.reaches ≤ 65536 }
     {
-        let _spare = self.spare;
         self.reaches.len()
     }
 
@@ -98,7 +97,8 @@ impl Index {
         requires spare { 0 < self.old.spare }
         ensures reaches { self.new.reaches ≡ insert self.old.reaches at (spec.reach_of query.now) }
         ensures spare { self.new.spare + 1 ≡ self.old.spare }
-        ensures stands { (queries : List rule.Query) → StandsFor self.old queries → StandsFor self.new (insert queries at query.now) }
+        ensures stands { (queries : List rule.Query) → StandsFor self.old queries
+            → StandsFor self.new (insert queries at query.now) }
     {
         let reach = reach_of(query);
         put_reach(&mut self.reaches, at, reach);
@@ -111,7 +111,8 @@ impl Index {
         requires place { at < length self.old.reaches }
         ensures reaches { self.new.reaches ≡ remove self.old.reaches at }
         ensures spare { self.new.spare ≡ self.old.spare }
-        ensures stands { (queries : List rule.Query) → StandsFor self.old queries → StandsFor self.new (remove queries at) }
+        ensures stands { (queries : List rule.Query) → StandsFor self.old queries
+            → StandsFor self.new (remove queries at) }
     {
         let reach = self.reaches.remove(at);
         take_out_each(&mut self.lists, at as u32, reach);
@@ -120,7 +121,8 @@ impl Index {
     /// The places of the rules that can match the id, in order. It takes no memory.
     pub fn candidates(&self, vendor: u16, product: u16) -> &[u32]
         ensures places { result.now ≡ places_of (spec.remainder vendor product) self.now.reaches }
-        ensures candidates { (queries : List rule.Query) → StandsFor self.now queries → AreCandidates queries vendor product result.now }
+        ensures candidates { (queries : List rule.Query) → StandsFor self.now queries
+            → AreCandidates queries vendor product result.now }
     {
         self.lists[remainder(vendor, product) as usize].as_slice()
     }

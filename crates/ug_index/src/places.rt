@@ -74,7 +74,7 @@ pub fn take_out(places: &mut Vec<u32>, at: u32, here: bool)
 
 pub fn put_in_each(lists: &mut [Vec<u32>], at: u32, reach: Reach)
     requires { HaveRoom lists.old }
-    ensures each { ArePutIn spec.reaches_to reach at lists.old lists.new }
+    ensures each { ArePutIn reach at lists.old lists.new }
     ensures len { length lists.new ≡ length lists.old }
 {
     for i in 0..lists.len() {
@@ -85,8 +85,9 @@ pub fn put_in_each(lists: &mut [Vec<u32>], at: u32, reach: Reach)
 
 pub fn take_out_each(lists: &mut [Vec<u32>], at: u32, reach: Reach)
     requires at { at < 2 ^ 32 - 1 }
-    requires there { (r : ℕ) (d : Held ℕ) → r < length lists.old → IsTrue (spec.reaches_to r reach) → 0 < spec.count_before (suc at) (get_or lists.old r d).items }
-    ensures each { AreTakenOut spec.reaches_to reach at lists.old lists.new }
+    requires there { (r : ℕ) (d : Held ℕ) → r < length lists.old → IsTrue (spec.reaches_to r reach)
+        → 0 < spec.count_before (suc at) (get_or lists.old r d).items }
+    ensures each { AreTakenOut reach at lists.old lists.new }
     ensures len { length lists.new ≡ length lists.old }
 {
     for i in 0..lists.len() {
@@ -97,8 +98,10 @@ pub fn take_out_each(lists: &mut [Vec<u32>], at: u32, reach: Reach)
 
 // Makes room in each list.
 pub fn reserve_each(lists: &mut [Vec<u32>]) -> Result<(), NoMemory>
-    ensures items { (r : ℕ) (d : Held ℕ) → r < length lists.old → (get_or lists.new r d).items ≡ (get_or lists.old r d).items }
-    ensures ok { OnOk result ((r : ℕ) (d : Held ℕ) → r < length lists.old → vec_len (get_or lists.new r d) < vec_capacity (get_or lists.new r d)) }
+    ensures items { (r : ℕ) (d : Held ℕ) → r < length lists.old
+        → (get_or lists.new r d).items ≡ (get_or lists.old r d).items }
+    ensures ok { OnOk result ((r : ℕ) (d : Held ℕ) → r < length lists.old
+        → vec_len (get_or lists.new r d) < vec_capacity (get_or lists.new r d)) }
     ensures len { length lists.new ≡ length lists.old }
 {
     for i in 0..lists.len() {

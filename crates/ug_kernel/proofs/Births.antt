@@ -4,13 +4,13 @@ use Rattle.std.specs.List.{slice_get}
 use Rattle.ug_kernel.specs.declared.device.Device.{Device}
 use Rattle.ug_kernel.specs.Kernel.{Kernel, Moved, Moves, StartsUnder, Starts, default_in, is_off}
 use Rattle.ug_kernel.proofs.Stayed.{back_at, begins_then}
-use Rattle.ug_kernel.proofs.Guarded.{moves_default}
+use Rattle.ug_kernel.proofs.Defaults.{moves_default}
 
 under_later : (k l : Kernel) (d e : Device) (o : Option ℕ) → Moves k l → Moved d e → StartsUnder k.devices d o → StartsUnder l.devices e o
-under_later k l d e None b m h = m.stays.guarded ∙ h
+under_later k l d e None b m h = m.stays.born_off ∙ h
 under_later k l d e (Some r) b m h =
     let same : default_in (slice_get l.devices r) ≡ default_in (slice_get k.devices r) = moves_default k l b r (slice_get k.devices r) refl (slice_get l.devices r) refl in
-    record { guarded = m.stays.guarded ∙ h.guarded ∙ ap is_off (sym same); on = λ v a. m.on ∙ h.on v (sym same ∙ a) }
+    record { born_off = m.stays.born_off ∙ h.born_off ∙ ap is_off (sym same); on = λ v a. m.on ∙ h.on v (sym same ∙ a) }
 
 pub starts_later : (k l : Kernel) (d e : Device) → Moves k l → Moved d e → Starts k.devices d → Starts l.devices e
 starts_later k l d e b m h = (m.default ∙ h.0, subst (λ (o : Option ℕ). StartsUnder l.devices e o) (sym m.stays.controller) (under_later k l d e d.controller b m h.1))

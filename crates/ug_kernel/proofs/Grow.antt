@@ -33,7 +33,7 @@ written_get : (held : ℕ) (write : Write) (k l : Kernel) (w : IsWritten held wr
 written_get held write k l w i d true c at =
     let is : i ≡ w.i = grind arith in
     let same : w.d ≡ d = some_same (slice_get k.devices w.i) w.d d w.live.at (subst (λ v. slice_get k.devices v ≡ Some d) is at) in
-    let stays : Stays w.d (written_to write w.d) = record { name = refl; parent = refl; controller = refl; descriptors = refl; product = refl; serial = refl; connect = refl; guarded = refl; gone = λ g. g } in
+    let stays : Stays w.d (written_to write w.d) = record { name = refl; parent = refl; controller = refl; descriptors = refl; product = refl; serial = refl; connect = refl; born_off = refl; gone = λ g. g } in
     (written_to write w.d, subst (λ v. slice_get l.devices v ≡ Some (written_to write w.d)) (sym is) w.now, subst (λ v. Stays v (written_to write w.d)) same stays)
 written_get held write k l w i d false c at =
     let apart : i ≡ w.i → ⊥ = λ e. let none : ⊥ = grind arith in none in

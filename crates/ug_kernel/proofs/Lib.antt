@@ -9,5 +9,5 @@ pub mod Told
 pub mod Counted
 pub mod Ways
 pub mod Rises
-pub mod Guarded
+pub mod Defaults
 pub mod Births

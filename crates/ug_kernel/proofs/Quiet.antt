@@ -19,7 +19,7 @@ get_end [] x = refl
 get_end (y ∷ xs) x = get_end xs x
 
 pub stays_refl : (d : Device) → Stays d d
-stays_refl d = record { name = refl; parent = refl; controller = refl; descriptors = refl; product = refl; serial = refl; connect = refl; guarded = refl; gone = λ g. g }
+stays_refl d = record { name = refl; parent = refl; controller = refl; descriptors = refl; product = refl; serial = refl; connect = refl; born_off = refl; gone = λ g. g }
 
 pub stays_trans : (a b c : Device) → Stays a b → Stays b c → Stays a c
 stays_trans a b c h k = record {
@@ -30,7 +30,7 @@ stays_trans a b c h k = record {
   product = k.product ∙ h.product;
   serial = k.serial ∙ h.serial;
   connect = k.connect ∙ h.connect;
-  guarded = k.guarded ∙ h.guarded;
+  born_off = k.born_off ∙ h.born_off;
   gone = λ g. k.gone (h.gone g);
 }
 

@@ -1,5 +1,5 @@
 -- What keeps a kernel sound.
-use Rattle.std.proofs.Common.{◌≡◌, ℕ, zero, suc, ◌+◌, ◌<◌, ◌≤◌, Bool, true, false, if◌then◌else◌, List, [], ◌∷◌, ◌++◌, length, set, Option, Some, None, refl, sym, ◌∙◌, ap, subst, arith, inl, inr}
+use Rattle.std.proofs.Common.{◌≡◌, ℕ, zero, suc, ◌+◌, ◌<◌, ◌≤◌, Bool, true, false, if◌then◌else◌, List, [], ◌∷◌, ◌++◌, length, set, Option, Some, None, is_none, refl, sym, ◌∙◌, ap, subst, arith, inl, inr}
 use Rattle.std.proofs.lemmas.Bool.{cases_eq}
 use Rattle.std.proofs.lemmas.Option.{slice_get_within, none-some, same_Some}
 use Rattle.std.specs.List.{slice_get}
@@ -8,7 +8,9 @@ use Rattle.ug_kernel.specs.declared.device.Device.{Device}
 use Rattle.ug_kernel.specs.declared.device.HeldFile.{HeldFile}
 use Rattle.ug_types.specs.declared.control.Write.{Write}
 use Rattle.ug_kernel.specs.Called.{written_to}
-use Rattle.ug_kernel.specs.Kernel.{Kernel, Live, live_count, hub_of, IsSound, IsKernel, Begins, Moves}
+use Rattle.ug_types.specs.declared.control.Control.{Control}
+use Rattle.ug_types.specs.declared.control.Control.TheVariants.{Authorized, Remove, Default}
+use Rattle.ug_kernel.specs.Kernel.{Kernel, Live, live_count, hub_of, has_file, IsOpenable, IsSound, IsKernel, Begins, Moves}
 use Rattle.ug_kernel.proofs.Places.{at_push, at_longer, at_set_same, at_set_other}
 use Rattle.ug_kernel.proofs.Stayed.{stays_at, back_at, live_back, live_count_begins, length_begins}
 
@@ -214,9 +216,42 @@ held_push held f n s lt h g a = elim (at_push held f h g a) [
   | inr q ↦ subst (λ (x : HeldFile). x.device < n) q.1 lt
 ]
 
+-- which files a device has
+
+pub has_stays : (control : Control) (d e : Device) → e.parent ≡ d.parent → has_file control e ≡ has_file control d
+has_stays Authorized d e p = refl
+has_stays Remove d e p = refl
+has_stays Default d e p = ap is_none p
+
+-- a live device has a file that can be opened by its name
+pub openable_has : (control : Control) (name : List ℕ) (ds : List Device) (i : ℕ) (d : Device) → IsSound ds → Live ds i d → d.name ≡ name → IsOpenable control name → has_file control d ≡ true
+openable_has Authorized name ds i d s live n o = refl
+openable_has Remove name ds i d s live n o = refl
+openable_has Default name ds i d s live n o = by d.parent refl
+  where
+    by : (p : Option ℕ) → d.parent ≡ p → is_none d.parent ≡ true
+    by None e = ap is_none e
+    by (Some p) e =
+        let u = s.parents i p d live e in
+        absurd (none-some u.0.name (sym o ∙ ap parent_of (sym n) ∙ s.named i p d u.0 live.at e u.1.at))
+
+-- each held file is one that its device has
+abbrev pub HaveFiles : List HeldFile → List Device → Type 0
+HaveFiles held ds = (h : ℕ) (f : HeldFile) (d : Device) → slice_get held h ≡ Some f → slice_get ds f.device ≡ Some d → has_file f.control d ≡ true
+
+pub files_push : (held : List HeldFile) (f : HeldFile) (ds : List Device) → HaveFiles held ds → ((d : Device) → slice_get ds f.device ≡ Some d → has_file f.control d ≡ true) → HaveFiles (held ++ f ∷ []) ds
+files_push held f ds s own h g d a at = elim (at_push held f h g a) [
+  | inl q ↦ s h g d q.1 at
+  | inr q ↦ subst (λ (x : HeldFile). slice_get ds x.device ≡ Some d → has_file x.control d ≡ true) q.1 (own d) at
+]
+
 -- moves that leave the devices sound leave the kernel sound
 pub kernel_moves : (k l : Kernel) → IsKernel k → Moves k l → IsSound l.devices → IsKernel l
 kernel_moves k l s m d = record {
   devices = d;
   held = λ h f a. omega (arith, s.held h f (ap (λ (files : List HeldFile). slice_get files h) (sym m.held) ∙ a), length_begins k.devices l.devices m.devices);
+  files = λ h f d a at.
+      let was : slice_get k.held h ≡ Some f = ap (λ (files : List HeldFile). slice_get files h) (sym m.held) ∙ a in
+      let q = back_at k.devices l.devices m.devices f.device d at (s.held h f was) in
+      has_stays f.control q.0 d q.2.stays.parent ∙ s.files h f q.0 was q.1;
 }

@@ -8,7 +8,7 @@ use Rattle.ug_kernel.specs.Kernel.{Kernel, Live, live_count, Stays, Moved, Begin
 use Rattle.ug_kernel.specs.Called.{Lived}
 
 pub stays : (d : Device) → Stays d d
-stays d = record { name = refl; parent = refl; controller = refl; descriptors = refl; product = refl; serial = refl; connect = refl; guarded = refl; gone = λ h. h }
+stays d = record { name = refl; parent = refl; controller = refl; descriptors = refl; product = refl; serial = refl; connect = refl; born_off = refl; gone = λ h. h }
 
 pub stays_then : (d e f : Device) → Stays d e → Stays e f → Stays d f
 stays_then d e f s t = record {
@@ -19,7 +19,7 @@ stays_then d e f s t = record {
   product = t.product ∙ s.product;
   serial = t.serial ∙ s.serial;
   connect = t.connect ∙ s.connect;
-  guarded = t.guarded ∙ s.guarded;
+  born_off = t.born_off ∙ s.born_off;
   gone = λ h. t.gone (s.gone h);
 }
 

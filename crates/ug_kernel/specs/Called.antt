@@ -19,12 +19,16 @@ use Rattle.ug_kernel.specs.declared.calls.Probe.TheVariants as probe
 use Rattle.ug_kernel.specs.declared.calls.Wrote.{Wrote}
 use Rattle.ug_kernel.specs.declared.calls.Wrote.TheVariants as wrote
 use Rattle.ug_kernel.specs.Calls.{Call, Names, Open, Read, Ask_alive, Put, Close, Answer}
-use Rattle.ug_kernel.specs.Kernel.{Kernel, Live, IsKernel, Moves}
+use Rattle.ug_kernel.specs.Kernel.{Kernel, Live, IsKernel, has_file, Moves}
 
 -- a device that lived from ds to es
 pub record Lived (ds es : List Device) (i : ℕ) (d : Device) : Type 0 where
   pub entry : Live ds i d
   pub exit : (e : Device) × Live es i e
+
+-- no device of the name that has that file lived through
+abbrev pub NoneHas : Control → List ℕ → Kernel → Kernel → Type 0
+NoneHas control name k l = (i : ℕ) (d : Device) → Lived k.devices l.devices i d → d.name ≡ name → has_file control d ≡ true → ⊥
 
 -- no device of the name lived through
 abbrev pub NoneLived : List ℕ → Kernel → Kernel → Type 0
@@ -71,12 +75,13 @@ pub record Holds (k : Kernel) (held i : ℕ) (d : Device) : Type 0 where
   pub is : file.device ≡ i
   pub device : slice_get k.devices i ≡ Some d
 
--- a file of that control is opened by name: it is the next held file, of a device of that name that is live at the effect
+-- a file of that control is opened by name: it is the next held file, of a device of that name that has it and is live at the effect
 pub record IsOpened (name : List ℕ) (control : Control) (held : ℕ) (k l : Kernel) : Type 0 where
   pub i : ℕ
   pub d : Device
   pub live : Live k.devices i d
   pub named : d.name ≡ name
+  pub has : has_file control d ≡ true
   pub next : held ≡ length k.held
   pub more : l.held ≡ k.held ++ record { device = i; control = control } ∷ []
   pub devices : l.devices ≡ k.devices
@@ -129,9 +134,9 @@ says_listing (listing.Names names) k l = ((i : ℕ) (d : Device) → Lived k.dev
 says_listing listing.Failed k l = Unit {0}
 says_listing listing.Memory k l = Unit {0}
 
-abbrev pub says_open : List ℕ → Opened → Kernel → Kernel → Type 0
-says_open name opened.Absent k l = NoneLived name k l
-says_open name answer k l = Unit {0}
+abbrev pub says_open : Control → List ℕ → Opened → Kernel → Kernel → Type 0
+says_open control name opened.Absent k l = NoneHas control name k l
+says_open control name answer k l = Unit {0}
 
 -- what was read is the file of each device of the name that lived through the call
 abbrev pub IsFile : List ℕ → Attr → ReadOut → Kernel → Kernel → Type 0
@@ -157,7 +162,7 @@ says_put held wrote.Failed k l = Unit {0}
 -- what an answer says of the kernel at the call's start and at its end
 abbrev pub Says : (call : Call) → Answer call → Kernel → Kernel → Type 0
 Says Names answer k l = says_listing answer.answer k l
-Says (Open name control) answer k l = says_open name answer.answer k l
+Says (Open name control) answer k l = says_open control name answer.answer k l
 Says (Read name attr) answer k l = says_read name attr answer.answer k l
 Says (Ask_alive held) answer k l = says_probe held answer.answer k l
 Says (Put held write) answer k l = says_put held answer.answer k l

@@ -1,5 +1,5 @@
 -- The kernel as plain data: devices, held files and the log of effects. And what it does by itself.
-use Rattle.std.specs.Prelude.{◌≡◌, ℕ, ◌+◌, ◌<◌, ◌≤◌, Bool, true, false, Option, if◌then◌else◌, List, [], ◌∷◌, length, Some, None, slice_get}
+use Rattle.std.specs.Prelude.{◌≡◌, ℕ, ◌+◌, ◌<◌, ◌≤◌, Bool, true, false, Option, if◌then◌else◌, List, [], ◌∷◌, length, Some, None, is_none, slice_get}
 use Rattle.ug_types.specs.Names.{parent_of}
 use Rattle.ug_types.specs.declared.control.Control.{Control}
 use Rattle.ug_types.specs.declared.control.Control.TheVariants.{Authorized, Remove, Default}
@@ -40,10 +40,17 @@ pub record IsSound (ds : List Device) : Type 0 where
   pub controllers : (i p : ℕ) (d e : Device) → slice_get ds i ≡ Some d → d.parent ≡ Some p → slice_get ds p ≡ Some e → d.controller ≡ Some (hub_of p e.controller)
   pub few : live_count ds ≤ 65536
 
--- and a held file is one of a device that was born
+-- whether a device has that file: a root hub alone has an `authorized_default`
+abbrev pub has_file : Control → Device → Bool
+has_file Authorized d = true
+has_file Remove d = true
+has_file Default d = is_none d.parent
+
+-- and a held file is one of a device that was born, and that has it
 pub record IsKernel (k : Kernel) : Type 0 where
   pub devices : IsSound k.devices
   pub held : (h : ℕ) (f : HeldFile) → slice_get k.held h ≡ Some f → f.device < length k.devices
+  pub files : (h : ℕ) (f : HeldFile) (d : Device) → slice_get k.held h ≡ Some f → slice_get k.devices f.device ≡ Some d → has_file f.control d ≡ true
 
 -- the file can be opened by that name: a default is a root hub's
 abbrev pub IsOpenable : Control → List ℕ → Type 0
@@ -51,7 +58,7 @@ IsOpenable Authorized name = Unit {0}
 IsOpenable Remove name = Unit {0}
 IsOpenable Default name = parent_of name ≡ None
 
--- e is what became of the device d: its facts and its birth mark stay, and gone never becomes not gone
+-- e is what became of the device d: its facts stay, and how it was born, and gone never becomes not gone
 pub record Stays (d e : Device) : Type 0 where
   pub name : e.name ≡ d.name
   pub parent : e.parent ≡ d.parent
@@ -60,7 +67,7 @@ pub record Stays (d e : Device) : Type 0 where
   pub product : e.product ≡ d.product
   pub serial : e.serial ≡ d.serial
   pub connect : e.connect ≡ d.connect
-  pub guarded : e.guarded ≡ d.guarded
+  pub born_off : e.born_off ≡ d.born_off
   pub gone : d.gone ≡ true → e.gone ≡ true
 
 -- a move leaves the authorised value too, and the default
@@ -85,14 +92,14 @@ abbrev pub default_in : Option Device → Option Bool
 default_in None = None
 default_in (Some d) = d.default
 
--- a device is born below a root hub of that default: its birth mark says whether that is off, and where it is set its value is that
+-- a device is born below a root hub of that default: it is marked where that is off, and where that is set its value is that
 pub record StartsBelow (default : Option Bool) (d : Device) : Type 0 where
-  pub guarded : d.guarded ≡ is_off default
+  pub born_off : d.born_off ≡ is_off default
   pub on : (v : Bool) → default ≡ Some v → d.on ≡ v
 
 -- how a device starts, by its controller
 abbrev pub StartsUnder : List Device → Device → Option ℕ → Type 0
-StartsUnder ds d None = d.guarded ≡ false
+StartsUnder ds d None = d.born_off ≡ false
 StartsUnder ds d (Some r) = StartsBelow (default_in (slice_get ds r)) d
 
 -- and its own default is unset

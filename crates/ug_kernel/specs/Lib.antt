@@ -6,4 +6,4 @@ pub mod Tree
 pub mod Along
 pub mod Few
 pub mod Entries
-pub mod Guarded
+pub mod Defaults

@@ -19,7 +19,7 @@ pub struct Device {
     /// Of a root hub the value of `authorized_default`, once it was written.
     pub default: Option<bool>,
     /// Of any other device whether its controller's default was off when it was born.
-    pub guarded: bool,
+    pub born_off: bool,
 }
 
 /// An open file of a device. Its place in the kernel's list is its number.

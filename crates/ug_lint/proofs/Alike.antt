@@ -18,22 +18,22 @@ use Rattle.ug_cond.specs.Words.{behind}
 use Rattle.ug_policy.specs.declared.entry.RuleEntry.{RuleEntry}
 use Rattle.ug_policy.specs.Deciding.{Found, conditions_take, decider, decides, find_decider, put_before, reached, rule_holds, rule_takes, rules_judged, seen, words_taken}
 use Rattle.ug_policy.specs.Matching.{answer_by, greatest, matched, noted}
-use Rattle.ug_policy.specs.Rules.{ids}
+use Rattle.ug_policy.specs.Rules.{ids, rules_in}
 use Rattle.ug_lint.specs.declared.finding.Finding.TheVariants.{Never}
 use Rattle.ug_lint.specs.Certain.{always_hold, never_hold}
 use Rattle.ug_lint.specs.Filled.{IsFilled}
 use Rattle.ug_lint.specs.Findings.{covered_by, covers_rule}
-use Rattle.ug_lint.specs.NeverDecides.{HasWords, PrunedAlike, rules_of}
-use Rattle.ug_lint.specs.Remaining.{is_covered, remaining_behind, remaining_entries, tells_covered, unless}
+use Rattle.ug_lint.specs.NeverDecides.{HasWords, PrunedAlike}
+use Rattle.ug_lint.specs.Remaining.{is_covered, remaining_behind, remaining_entries, tells_covered, kept_unless}
 use Rattle.ug_lint.proofs.Deciders.{AreFilled, cover_parts, decides_both}
 use Rattle.ug_lint.proofs.Found.{has_place}
 use Rattle.ug_lint.proofs.Matches.{query_less}
 use Rattle.ug_lint.proofs.Sure.{always_holds, words_behind}
 
-never : {P : Type 0} → false ≡ true → P
+pub never : {P : Type 0} → false ≡ true → P
 never h = let none : ⊥ = cc in absurd none
 
-not_true : (b : Bool) → (b ≡ true → ⊥) → b ≡ false
+pub not_true : (b : Bool) → (b ≡ true → ⊥) → b ≡ false
 not_true true h = absurd (h refl)
 not_true false h = refl
 
@@ -52,7 +52,7 @@ coverer_cond : (before : List Rule) (rule : Rule) (b : Bool) → tells_covered (
 coverer_cond before rule true h = never h
 coverer_cond before rule false h = coverer_at before rule (position (covers_rule rule) before) refl h
 
-coverer : (before : List Rule) (rule : Rule) → is_covered before rule ≡ true → Coverer before rule
+pub coverer : (before : List Rule) (rule : Rule) → is_covered before rule ≡ true → Coverer before rule
 coverer before rule h = coverer_cond before rule (never_hold rule.conds) h
 
 -- none of these rules that always holds matches the device
@@ -114,9 +114,6 @@ unmatched_takes dev e m = cond-false (matched dev e) (conditions_take e.rule.con
 abbrev with_moment : Moment → RuleEntry → RuleEntry
 with_moment moment e = record e { history = record e.history { evaluated = Some (greatest e.history.evaluated moment) } }
 
-unmatched_seen : (dev : DeviceRecord) (moment : Moment) (e : RuleEntry) → matched dev e ≡ false → seen dev moment e ≡ e
-unmatched_seen dev moment e m = cond-false (matched dev e) (with_moment moment e) e m
-
 seen_rule : (dev : DeviceRecord) (moment : Moment) (e : RuleEntry) → (seen dev moment e).rule ≡ e.rule
 seen_rule dev moment e =
     let T : Bool → Type 0 = λ b. (cond b (with_moment moment e) e).rule ≡ e.rule in
@@ -129,13 +126,13 @@ left before es = remaining_behind (λ e. e.rule) before es
 
 gone : (before : List Rule) (e f : RuleEntry) (es : List RuleEntry) → f.rule ≡ e.rule → is_covered before e.rule ≡ true → left before (f ∷ es) ≡ left (before ++ e.rule ∷ []) es
 gone before e f es same h =
-    ap (λ (r : Rule). unless (is_covered before r) f ++ left (before ++ r ∷ []) es) same
-    ∙ ap (λ (b : Bool). unless b f ++ left (before ++ e.rule ∷ []) es) h
+    ap (λ (r : Rule). kept_unless (is_covered before r) f ++ left (before ++ r ∷ []) es) same
+    ∙ ap (λ (b : Bool). kept_unless b f ++ left (before ++ e.rule ∷ []) es) h
 
 kept : (before : List Rule) (e f : RuleEntry) (es : List RuleEntry) → f.rule ≡ e.rule → is_covered before e.rule ≡ false → left before (f ∷ es) ≡ f ∷ left (before ++ e.rule ∷ []) es
 kept before e f es same h =
-    ap (λ (r : Rule). unless (is_covered before r) f ++ left (before ++ r ∷ []) es) same
-    ∙ ap (λ (b : Bool). unless b f ++ left (before ++ e.rule ∷ []) es) h
+    ap (λ (r : Rule). kept_unless (is_covered before r) f ++ left (before ++ r ∷ []) es) same
+    ∙ ap (λ (b : Bool). kept_unless b f ++ left (before ++ e.rule ∷ []) es) h
 
 -- ---- the search over all rules, and over those that remain
 
@@ -175,7 +172,7 @@ same_here dev moment before e es h = record {
 }
 
 walk : (dev : DeviceRecord) (ctx : Context) (records : List DeviceRecord) (before : List Rule) (es : List RuleEntry) (stream : Stream)
-    → HasWords stream → AreFilled before → AreFilled (rules_of es) → AreApart dev before
+    → HasWords stream → AreFilled before → AreFilled (rules_in es) → AreApart dev before
     → Same dev ctx.moment before (find_decider dev ctx records (left before es) stream) (find_decider dev ctx records es stream)
 walk dev ctx records before [] stream words filled rest apart = record { decides = refl; evaluated = refl; words = refl; later = refl }
 walk dev ctx records before (e ∷ es) stream words filled rest apart =
@@ -216,7 +213,7 @@ walk dev ctx records before (e ∷ es) stream words filled rest apart =
     ] in
     covered (is_covered before e.rule) refl
 
-pub pruned_alike : (dev : DeviceRecord) (ctx : Context) (records : List DeviceRecord) (entries : List RuleEntry) (stream : Stream) → HasWords stream → AreFilled (rules_of entries) → PrunedAlike dev ctx records entries stream
+pub pruned_alike : (dev : DeviceRecord) (ctx : Context) (records : List DeviceRecord) (entries : List RuleEntry) (stream : Stream) → HasWords stream → AreFilled (rules_in entries) → PrunedAlike dev ctx records entries stream
 pruned_alike dev ctx records entries stream words filled =
     let s = walk dev ctx records [] entries stream words (λ r h. absurd h) filled (λ r h. absurd h) in
     let one : Found = find_decider dev ctx records (remaining_entries entries) stream in
@@ -233,11 +230,11 @@ pruned_alike dev ctx records entries stream words filled =
     }
 
 -- the entries that remain have the rules that remain
-pub same_rules : (before : List Rule) (es : List RuleEntry) → rules_of (left before es) ≡ remaining_behind (λ rule. rule) before (rules_of es)
+pub same_rules : (before : List Rule) (es : List RuleEntry) → rules_in (left before es) ≡ remaining_behind (λ rule. rule) before (rules_in es)
 same_rules before [] = refl
 same_rules before (e ∷ es) =
     let next : List Rule = before ++ e.rule ∷ [] in
-    let T : Bool → Type 0 = λ b. rules_of (unless b e ++ left next es) ≡ unless b e.rule ++ remaining_behind (λ rule. rule) next (rules_of es) in
+    let T : Bool → Type 0 = λ b. rules_in (kept_unless b e ++ left next es) ≡ kept_unless b e.rule ++ remaining_behind (λ rule. rule) next (rules_in es) in
     let f : (b : Bool) → T b = λ b. elim b as T [
       | true ↦ same_rules next es
       | false ↦ ap (λ (v : List Rule). e.rule ∷ v) (same_rules next es)

@@ -19,19 +19,20 @@ use Rattle.ug_lint.specs.Certain.{always_hold, never_hold}
 use Rattle.ug_lint.specs.Implied.{query_implied}
 use Rattle.ug_lint.specs.Filled.{IsFilled}
 use Rattle.ug_lint.specs.Findings.{covers_rule, found_place, findings, IsCovered, IsFinding, IsNever}
-use Rattle.ug_lint.specs.NeverDecides.{NeverDecides, rules_of}
+use Rattle.ug_policy.specs.Rules.{rules_in}
+use Rattle.ug_lint.specs.NeverDecides.{NeverDecides}
 use Rattle.ug_lint.proofs.Found.{is_finding}
 use Rattle.ug_lint.proofs.Matches.{query_less}
 use Rattle.ug_lint.proofs.Sure.{always_holds, never_holds, words_behind}
 
 -- ---- rules and their entries
 
-pub rule_at : (entries : List RuleEntry) (i : ℕ) (e : RuleEntry) → slice_get entries i ≡ Some e → slice_get (rules_of entries) i ≡ Some e.rule
+pub rule_at : (entries : List RuleEntry) (i : ℕ) (e : RuleEntry) → slice_get entries i ≡ Some e → slice_get (rules_in entries) i ≡ Some e.rule
 rule_at [] i e h = absurd (none-some e h)
 rule_at (f ∷ entries) zero e h = ap (λ (v : RuleEntry). Some v.rule) (same_Some f e h)
 rule_at (f ∷ entries) (suc i) e h = rule_at entries i e h
 
-pub entry_at : (entries : List RuleEntry) (i : ℕ) (rule : Rule) → slice_get (rules_of entries) i ≡ Some rule → (e : RuleEntry) × (slice_get entries i ≡ Some e) × (e.rule ≡ rule)
+pub entry_at : (entries : List RuleEntry) (i : ℕ) (rule : Rule) → slice_get (rules_in entries) i ≡ Some rule → (e : RuleEntry) × (slice_get entries i ≡ Some e) × (e.rule ≡ rule)
 entry_at [] i rule h = absurd (none-some rule h)
 entry_at (f ∷ entries) zero rule h = (f, refl, same_Some f.rule rule h)
 entry_at (f ∷ entries) (suc i) rule h = entry_at entries i rule h

@@ -4,6 +4,7 @@ pub mod Sure
 pub mod Found
 pub mod Deciders
 pub mod Alike
+pub mod Settled
 pub mod FilledRules
 pub mod AllFound
 pub mod ReadRules

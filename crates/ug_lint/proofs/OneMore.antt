@@ -5,7 +5,7 @@ use Rattle.std.proofs.lemmas.List.{at_drop_more, take_more, append-nil, reverse-
 use Rattle.ug_types.specs.declared.rule.Rule.{Rule}
 use Rattle.ug_lint.specs.declared.finding.Finding.{Finding}
 use Rattle.ug_lint.specs.Findings.{finding_of, findings_behind}
-use Rattle.ug_lint.specs.Remaining.{is_covered, remaining, remaining_behind, unless}
+use Rattle.ug_lint.specs.Remaining.{is_covered, remaining, remaining_behind, kept_unless}
 
 pub found_more : (rules : List Rule) (found : List Finding) (i : ℕ) (d : Rule) → i < length rules
     → found ++ findings_behind (take i rules) (drop i rules) ≡ (found ++ option_to_list (finding_of (take i rules) (get_or rules i d))) ++ findings_behind (take (i + 1) rules) (drop (i + 1) rules)
@@ -21,25 +21,25 @@ found_more rules found i d lt =
 -- ---- the last rule
 
 last_behind : (before rules : List Rule) (rule : Rule)
-    → remaining_behind (λ r. r) before (rules ++ rule ∷ []) ≡ remaining_behind (λ r. r) before rules ++ unless (is_covered (before ++ rules) rule) rule
+    → remaining_behind (λ r. r) before (rules ++ rule ∷ []) ≡ remaining_behind (λ r. r) before rules ++ kept_unless (is_covered (before ++ rules) rule) rule
 last_behind before [] rule =
-    append-nil (unless (is_covered before rule) rule)
-    ∙ ap (λ (v : List Rule). unless (is_covered v rule) rule) (sym (append-nil before))
+    append-nil (kept_unless (is_covered before rule) rule)
+    ∙ ap (λ (v : List Rule). kept_unless (is_covered v rule) rule) (sym (append-nil before))
 last_behind before (first ∷ rules) rule =
-    let here = unless (is_covered before first) first in
+    let here = kept_unless (is_covered before first) first in
     let next = before ++ first ∷ [] in
     ap (λ (v : List Rule). here ++ v) (last_behind next rules rule)
-    ∙ sym (append_assoc here (remaining_behind (λ r. r) next rules) (unless (is_covered (next ++ rules) rule) rule))
-    ∙ ap (λ (v : List Rule). (here ++ remaining_behind (λ r. r) next rules) ++ unless (is_covered v rule) rule) (append_assoc before (first ∷ []) rules)
+    ∙ sym (append_assoc here (remaining_behind (λ r. r) next rules) (kept_unless (is_covered (next ++ rules) rule) rule))
+    ∙ ap (λ (v : List Rule). (here ++ remaining_behind (λ r. r) next rules) ++ kept_unless (is_covered v rule) rule) (append_assoc before (first ∷ []) rules)
 
-reverse_unless : (kept : List Rule) (b : Bool) (rule : Rule) → reverse (kept ++ unless b rule) ≡ unless b rule ++ reverse kept
+reverse_unless : (kept : List Rule) (b : Bool) (rule : Rule) → reverse (kept ++ kept_unless b rule) ≡ kept_unless b rule ++ reverse kept
 reverse_unless kept true rule = ap (λ (v : List Rule). reverse v) (append-nil kept)
 reverse_unless kept false rule = reverse-append kept (rule ∷ [])
 
 pub left_more : (rules before kept : List Rule) (rule : Rule) → rules ≡ before ++ rule ∷ []
-    → remaining rules ++ reverse kept ≡ remaining before ++ reverse (kept ++ unless (is_covered before rule) rule)
+    → remaining rules ++ reverse kept ≡ remaining before ++ reverse (kept ++ kept_unless (is_covered before rule) rule)
 left_more rules before kept rule e =
-    let here = unless (is_covered before rule) rule in
+    let here = kept_unless (is_covered before rule) rule in
     ap (λ (v : List Rule). remaining v ++ reverse kept) e
     ∙ ap (λ (v : List Rule). v ++ reverse kept) (last_behind [] before rule)
     ∙ append_assoc (remaining before) here (reverse kept)

@@ -11,7 +11,7 @@ abbrev pub MayHaveItem : {X : Type 0} → Option (Values X) → Type 0
 MayHaveItem None = Unit {0}
 MayHaveItem (Some values) = HasItem values.items
 
--- no set that the query gives is empty
+-- no set is empty that the query gives of an attribute of which a device has one value
 pub record IsFilled (query : Query) : Type 0 where
   pub id : MayHaveItem query.id
   pub serial : MayHaveItem query.serial

@@ -1,5 +1,5 @@
 -- What is said of judging by the rules that are found, and without them.
-use Rattle.std.specs.Prelude.{◌≡◌, ℕ, ◌<◌, ◌^◌, List, map}
+use Rattle.std.specs.Prelude.{◌≡◌, ℕ, ◌<◌, ◌^◌, List}
 use Rattle.rand_core.specs.Stream.{Stream, next_u64}
 use Rattle.ug_types.specs.declared.record.DeviceRecord.{DeviceRecord}
 use Rattle.ug_types.specs.declared.rule.Rule.{Rule}
@@ -9,21 +9,18 @@ use Rattle.ug_cond.specs.Words.{behind}
 use Rattle.ug_policy.specs.declared.entry.RuleEntry.{RuleEntry}
 use Rattle.ug_policy.specs.Deciding.{Found, IsDecider, decider, find_decider, judgement_found, reached, rules_judged, words_taken}
 use Rattle.ug_policy.specs.Matching.{answer_by}
+use Rattle.ug_policy.specs.Rules.{rules_in}
 use Rattle.ug_lint.specs.Remaining.{remaining_entries}
 
 -- the words that a generator gives have 64 bits
 abbrev pub HasWords : Stream → Type 0
 HasWords stream = (n : ℕ) → (next_u64 (behind n stream)).0 < 2 ^ 64
 
--- the rules of a list, without their ids and histories
-abbrev pub rules_of : List RuleEntry → List Rule
-rules_of entries = map (λ e. e.rule) entries
-
 -- for no device, moment, second of the day, allowed devices, histories and words does the rule at that place decide
 abbrev pub NeverDecides : List Rule → ℕ → Type 0
 NeverDecides rules place =
     (dev : DeviceRecord) (ctx : Context) (records : List DeviceRecord) (entries : List RuleEntry) (stream : Stream) (e : RuleEntry)
-    → rules_of entries ≡ rules → HasWords stream → ¬ IsDecider dev ctx records entries stream place e
+    → rules_in entries ≡ rules → HasWords stream → ¬ IsDecider dev ctx records entries stream place e
 
 -- two lists of rules judge a device alike: the answer, the rule that decides, the rules that were evaluated, and how
 -- many words were taken

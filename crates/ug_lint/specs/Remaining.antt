@@ -15,14 +15,15 @@ tells_covered (Some (Never rule)) = false
 abbrev pub is_covered : List Rule → Rule → Bool
 is_covered before rule = tells_covered (finding_of before rule)
 
-abbrev pub unless : {X : Type 0} → Bool → X → List X
-unless true x = []
-unless false x = x ∷ []
+-- none where that holds, else that alone
+abbrev pub kept_unless : {X : Type 0} → Bool → X → List X
+kept_unless true x = []
+kept_unless false x = x ∷ []
 
 -- of things that have a rule each, those whose rule isn't covered
 abbrev pub remaining_behind : {X : Type 0} → (X → Rule) → List Rule → List X → List X
 remaining_behind rule_of before [] = []
-remaining_behind rule_of before (x ∷ xs) = unless (is_covered before (rule_of x)) x ++ remaining_behind rule_of (before ++ rule_of x ∷ []) xs
+remaining_behind rule_of before (x ∷ xs) = kept_unless (is_covered before (rule_of x)) x ++ remaining_behind rule_of (before ++ rule_of x ∷ []) xs
 
 -- the rules that no earlier rule covers
 abbrev pub remaining : List Rule → List Rule

@@ -21,7 +21,7 @@ fn covers_rule(earlier: &Rule, rule: &Rule) -> bool
     is_implied(&earlier.query, &rule.query) && always_hold(&earlier.conds)
 }
 
-fn coverer(before: &[Rule], rule: &Rule) -> Option<usize>
+fn covering_place(before: &[Rule], rule: &Rule) -> Option<usize>
     ensures { result ≡ position (rules.covers_rule rule.now) before.now }
 {
     before.iter().position(|earlier| covers_rule(earlier, rule))
@@ -36,7 +36,7 @@ pub fn finding_of(before: &[Rule], rule: &Rule) -> Option<Finding>
     if never_hold(&rule.conds) {
         return Some(Finding::Never { rule: place });
     }
-    match coverer(before, rule) {
+    match covering_place(before, rule) {
         Some(by) => Some(Finding::Covered {
             rule: place,
             by: by as u32,

@@ -9,8 +9,6 @@ mod laws;
 mod linting;
 mod operators;
 mod pruning;
-#[cfg(test)]
-mod tests;
 
 pub use finding::Finding;
 pub use laws::{

@@ -5,7 +5,8 @@ ghost use Rattle.ug_types.specs.declared.record.DeviceRecord.{DeviceRecord};
 ghost use Rattle.ug_cond.specs.declared.context.Context as when;
 ghost use Rattle.ug_policy.specs.declared.entry.RuleEntry.{RuleEntry};
 ghost use Rattle.ug_rule.specs.Grammar.{WellFormed};
-ghost use Rattle.ug_lint.specs.NeverDecides.{HasWords, PrunedAlike, rules_of};
+ghost use Rattle.ug_policy.specs.Rules.{rules_in};
+ghost use Rattle.ug_lint.specs.NeverDecides.{HasWords, PrunedAlike};
 ghost use Rattle.ug_lint.specs.Remaining as left;
 
 use crate::finding::{Finding, finding_of};
@@ -26,7 +27,8 @@ fn is_covered(before: &[Rule], rule: &Rule) -> bool
 // Adds a rule, unless one of those before it covers it.
 fn keep(kept: &mut Vec<Rule>, before: &[Rule], rule: Rule) -> Result<(), NoMemory>
     requires { length before.now < 4096 }
-    ensures { OnOk result (kept.new.items ≡ kept.old.items ++ left.unless (left.is_covered before.now rule) rule) }
+    ensures { OnOk result (kept.new.items
+        ≡ kept.old.items ++ left.kept_unless (left.is_covered before.now rule) rule) }
 {
     if is_covered(before, &rule) {
         return Ok(());
@@ -43,9 +45,10 @@ pub fn prune(alloc: Global, mut rules: Vec<Rule>) -> Result<Vec<Rule>, NoMemory>
     requires few { vec_len rules ≤ 4096 }
     requires well_formed { All WellFormed rules.items }
     ensures remaining { IfOk result (λ kept. kept.items ≡ left.remaining rules.items) }
-    ensures judges { IfOk result (λ kept. (dev : DeviceRecord) (ctx : when.Context) (records : List DeviceRecord) (entries : List RuleEntry) (stream : Stream)
-        → rules_of entries ≡ rules.items → HasWords stream
-        → (rules_of (left.remaining_entries entries) ≡ kept.items) × PrunedAlike dev ctx records entries stream) }
+    ensures judges { IfOk result (λ kept. (dev : DeviceRecord) (ctx : when.Context)
+        (records : List DeviceRecord) (entries : List RuleEntry) (stream : Stream)
+        → rules_in entries ≡ rules.items → HasWords stream
+        → (rules_in (left.remaining_entries entries) ≡ kept.items) × PrunedAlike dev ctx records entries stream) }
 {
     let mut kept = Vec::new(alloc);
     while let Some(rule) = rules.pop() {

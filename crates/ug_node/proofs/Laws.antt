@@ -14,13 +14,14 @@ use Rattle.ug_kernel.specs.declared.calls.Opened.{Opened}
 use Rattle.ug_kernel.specs.declared.calls.Probe.{Probe}
 use Rattle.ug_kernel.specs.Calls.{Call, Answer, Open, Read, Ask_alive, Close, Told, Closing, failed_open, failed_read, failed_probe, Counted}
 use Rattle.ug_kernel.specs.Along.{Made, answered, Along, failure_of}
-use Rattle.ug_kernel.specs.Kernel.{Kernel, Live, Stays, IsSound, IsKernel, Moves}
-use Rattle.ug_kernel.specs.Called.{Lived, NoneLived, IsOpened, IsGoneAt, IsAlive, IsFile, within, text_within, read_of, says_read, Called, Follows, Holds}
+use Rattle.ug_kernel.specs.Kernel.{Kernel, Live, Stays, IsSound, IsKernel, IsOpenable, Moves}
+use Rattle.ug_kernel.specs.Called.{Lived, NoneHas, NoneLived, IsOpened, IsGoneAt, IsAlive, IsFile, within, text_within, read_of, says_read, Called, Follows, Holds}
 use Rattle.ug_kernel.specs.Quiet.{Quiet, Grows}
 use Rattle.ug_kernel.specs.Tree.{Runs, calls}
 use Rattle.ug_kernel.proofs.Quiet.{stays_trans, quiet_refl, quiet_trans, moves_quiet, opened_quiet, called_quiet, get_end}
 use Rattle.ug_kernel.proofs.Grow.{some_same, quiet_grows, grows_trans, called_grows, grows_refl}
 use Rattle.ug_kernel.proofs.Held.{live_before, lived_cut}
+use Rattle.ug_kernel.proofs.Sounds.{openable_has}
 use Rattle.ug_kernel.proofs.Told.{told_run}
 use Rattle.ug_kernel.proofs.Ways.{Sure, ways_run, along_split, along_sound, along_grows, Unwritten, unwritten_more, along_quiet}
 use Rattle.ug_node.specs.declared.files.Stop.{Stop}
@@ -223,7 +224,9 @@ stop_says {name} {of} k u w l may (No_descriptors call count) s c g j =
 stop_says k u w l may x s c g j = tt
 
 binds_say : {name : List ℕ} {ms : List Made} {r : Binding} (k l : Kernel) → Binds_by name ms r → Along calls k ms l → BindSays name k l r
-binds_say {name} k l (No_such call count) a = subst (λ v. NoneLived name k v) (sym a.2) a.1.says
+binds_say {name} k l (No_such call count) a =
+    let none = subst (λ v. NoneHas Authorized name k v) (sym a.2) a.1.says in
+    λ i d lives named. none i d lives named refl
 binds_say {name} k l (Cut file call count ms of at t shut why r n few may stops e) a =
     let cut = along_split calls ms (answered (Read of at) t ∷ answered (Close file.0) shut ∷ []) a.0 l a.2 in
     let g = grows_trans k a.0 cut.0 (called_grows (Open name Authorized) (told (Opened.Token file) call count) k a.0 a.1) (along_grows ms a.0 cut.0 cut.1) in
@@ -333,12 +336,14 @@ gone_dead k name held i f gone d live = gone i d (record { file = record { devic
 
 -- by cases
 
-holds_say : {control : Control} {name : List ℕ} {held : ℕ} {ms : List Made} {r : RemoveHold} (i : ℕ) (k l : Kernel) → Holds_by control name held ms r → IsAuthorizedFile k name held i → Along calls k ms l → HoldSays control held i l r
-holds_say {control} {name} {held} i k l (Not_there call count) f a =
+holds_say : {control : Control} {name : List ℕ} {held : ℕ} {ms : List Made} {r : RemoveHold} (i : ℕ) (k l : Kernel) → IsSound k.devices → IsOpenable control name → Holds_by control name held ms r → IsAuthorizedFile k name held i → Along calls k ms l → HoldSays control held i l r
+holds_say {control} {name} {held} i k l sound can (Not_there call count) f a =
     let g = along_grows (answered (Open name control) (told Opened.Absent call count) ∷ []) k l a in
-    let none = subst (λ v. NoneLived name k v) (sym a.2) a.1.says in
-    gone_later l l name held i (grows_refl l) (file_later k l name held i g f) (λ d live. none i f.d (record { entry = (live_before k l i f.d d g f.device live).0; exit = (d, live) }) f.named)
-holds_say {control} {name} {held} i k l (Held_on file on call count number total) f a =
+    let none = subst (λ v. NoneHas control name k v) (sym a.2) a.1.says in
+    gone_later l l name held i (grows_refl l) (file_later k l name held i g f) (λ d live.
+    let entry = (live_before k l i f.d d g f.device live).0 in
+    none i f.d (record { entry = entry; exit = (d, live) }) f.named (openable_has control name k.devices i f.d sound entry f.named can))
+holds_say {control} {name} {held} i k l sound can (Held_on file on call count number total) f a =
     let c = a.1 in
     let before = quiet_grows k c.before (moves_quiet k c.before c.moves_before) in
     let own = quiet_grows c.before c.after (opened_quiet name control file.0 c.before c.after c.effect) in
@@ -352,23 +357,23 @@ holds_say {control} {name} {held} i k l (Held_on file on call count number total
     let same = c.sound_before.devices.names c.effect.i i c.effect.d d.0 c.effect.live first (c.effect.named ∙ sym (d.2.name ∙ f.named)) in
     let at = subst (λ v. slice_get c.after.held file.0 ≡ Some (record { device = v; control = control })) same (opened_file name control file.0 c.before c.after c.effect) in
     (quiet_trans c.after a.0 l (moves_quiet c.after a.0 c.moves_after) (along_quiet last a.0 l (tt, tt) a.2)).held file.0 (record { device = i; control = control }) at
-holds_say {control} {name} {held} i k l (Died file call count number total shut) f a =
+holds_say {control} {name} {held} i k l sound can (Died file call count number total shut) f a =
     let to = grows_trans k a.0 a.2.0 (called_grows (Open name control) (told (Opened.Token file) call count) k a.0 a.1) (called_grows (Ask_alive held) (told Probe.Gone number total) a.0 a.2.0 a.2.1) in
     let now = file_later k a.2.0 name held i to f in
     gone_later a.2.0 l name held i (along_grows (answered (Close file.0) shut ∷ []) a.2.0 l a.2.2) now (gone_dead a.2.0 name held i now a.2.1.says)
-holds_say i k l x f a = tt
+holds_say i k l sound can x f a = tt
 
-pub holding_law : (control : Control) (name : List ℕ) (held i : ℕ) (r : RemoveHold) (k l : Kernel) → IsKernel k → IsAuthorizedFile k name held i → Runs calls k (holding control name held) r l → IsHold control held i k l r
-holding_law control name held i r k l sound f runs =
+pub holding_law : (control : Control) (name : List ℕ) (held i : ℕ) (r : RemoveHold) (k l : Kernel) → IsKernel k → IsOpenable control name → IsAuthorizedFile k name held i → Runs calls k (holding control name held) r l → IsHold control held i k l r
+holding_law control name held i r k l sound can f runs =
     let x = ways_run calls (Sure (Holds_by control name held)) (holding control name held) k r l (holds_by control name held) runs in
     record {
       sound = along_sound x.made k l sound x.along;
       quiet = along_quiet x.made k l (holds_unwritten x.so.1) x.along;
-      says = holds_say i k l x.so.1 f x.along;
+      says = holds_say i k l sound.devices can x.so.1 f x.along;
     }
 
 -- and over the states of a run
-pub told_holds : {S : Type 0} (gives : S → (call : Call) → Answer call → S → Type 0) (told : S → Option Kernel) (did : (s : S) (call : Call) (answer : Answer call) (t : S) (l : Kernel) → gives s call answer t → told t ≡ Some l → Follows call answer (told s) l) (control : Control) (name : List ℕ) (held : ℕ) (s : S) (r : RemoveHold) (t : S) → Runs gives s (holding control name held) r t → HoldsFile told control s name held r t
-told_holds gives told did control name held s r t runs = λ l e.
+pub told_holds : {S : Type 0} (gives : S → (call : Call) → Answer call → S → Type 0) (told : S → Option Kernel) (did : (s : S) (call : Call) (answer : Answer call) (t : S) (l : Kernel) → gives s call answer t → told t ≡ Some l → Follows call answer (told s) l) (control : Control) (name : List ℕ) (held : ℕ) (s : S) (r : RemoveHold) (t : S) → IsOpenable control name → Runs gives s (holding control name held) r t → HoldsFile told control s name held r t
+told_holds gives told did control name held s r t can runs = λ l e.
     let m = told_run gives told did (holding control name held) s r t l runs e in
-    (m.kernel, m.was, λ k i f. holding_law control name held i r m.kernel l k f (m.run k).0)
+    (m.kernel, m.was, λ k i f. holding_law control name held i r m.kernel l k can f (m.run k).0)

@@ -1,4 +1,4 @@
--- The opening of a second file of the device behind a held file, as its `remove`, and what it says: the file is that very device's.
+-- The opening of a second file of the device behind a held file, and what it says: the file is that very device's.
 use Rattle.std.specs.Prelude.{◌≡◌, ℕ, List, Option, Some, slice_get}
 use Rattle.ug_types.specs.declared.verdict.Held.{Held}
 use Rattle.ug_kernel.specs.declared.device.Device.{Device}
@@ -34,7 +34,7 @@ after_hold_open held opened.Absent failed = Return hold.Gone
 after_hold_open held opened.Failed failed = Return (hold.Failed failed)
 after_hold_open held opened.Memory failed = Return hold.Memory
 
--- the calls, in order: that file is opened by name, and the held file is probed
+-- the calls, in order: the second file is opened by name, and the held file is probed
 unfoldable pub holding : Control → List ℕ → ℕ → Prog RemoveHold
 holding control name held = Ask (Open name control) (λ t. after_hold_open held t.answer (failure_of t))
 
@@ -45,7 +45,7 @@ pub record IsAuthorizedFile (k : Kernel) (name : List ℕ) (held i : ℕ) : Type
   pub device : slice_get k.devices i ≡ Some d
   pub named : d.name ≡ name
 
--- the file is that one of that device, or the device of the held file is gone
+-- the answer has the file of that device, or the device of the held file is gone
 abbrev pub HoldSays : Control → ℕ → ℕ → Kernel → RemoveHold → Type 0
 HoldSays control held i l (hold.Ready file) = slice_get l.held file.0 ≡ Some (record { device = i; control = control })
 HoldSays control held i l hold.Gone = IsGoneAt held l

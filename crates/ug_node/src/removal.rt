@@ -1,4 +1,4 @@
-// Opens a second file of a held device, as the one by which it is removed.
+// Opens a second file of a held device: the one by which it is removed, or that of a root hub's default.
 ghost use Rattle.std.specs.Prelude.{◌≡◌};
 ghost use Rattle.ug_types.specs.declared.control.Control.TheVariants.{Remove, Default};
 ghost use Rattle.ug_kernel.specs.Kernel.{IsOpenable};
@@ -10,7 +10,7 @@ use std::alloc::Global;
 use ug_kernel::{Control, FailedCall, Opened, Probe, Sysfs};
 use ug_types::{Held, NodeName};
 
-/// The answer to the opening of a second file of a device, as its `remove`. The file is closed on each answer but `Ready`.
+/// The answer to the opening of a second file of a device. The file is closed on each answer but `Ready`.
 #[derive(Clone, Copy, Debug, PartialEq, Eq)]
 pub enum RemoveHold {
     /// The file of that very device.
@@ -31,7 +31,8 @@ pub fn hold_remove<Y: Sysfs>(
 ) -> RemoveHold
     ensures runs { Runs Y.gives sysfs.old (holding Remove name.now held.0) result sysfs.new }
     ensures law { HoldsFile Y.told Remove sysfs.old name.now held.0 result sysfs.new }
-    ensures fault { TellsHoldFault (Y.faults sysfs.old) (Y.calls sysfs.new) (Y.faults sysfs.new) result }
+    ensures fault { TellsHoldFault (Y.faults sysfs.old) (Y.calls sysfs.new) (Y.faults sysfs.new)
+        result }
 {
     hold_file(alloc, sysfs, name, Control::Remove, held)
 }
@@ -46,7 +47,8 @@ pub fn hold_default<Y: Sysfs>(
     requires { IsOpenable Default name.now }
     ensures runs { Runs Y.gives sysfs.old (holding Default name.now held.0) result sysfs.new }
     ensures law { HoldsFile Y.told Default sysfs.old name.now held.0 result sysfs.new }
-    ensures fault { TellsHoldFault (Y.faults sysfs.old) (Y.calls sysfs.new) (Y.faults sysfs.new) result }
+    ensures fault { TellsHoldFault (Y.faults sysfs.old) (Y.calls sysfs.new) (Y.faults sysfs.new)
+        result }
 {
     hold_file(alloc, sysfs, name, Control::Default, held)
 }
@@ -62,7 +64,8 @@ fn hold_file<Y: Sysfs>(
     requires { IsOpenable control name.now }
     ensures runs { Runs Y.gives sysfs.old (holding control name.now held.0) result sysfs.new }
     ensures law { HoldsFile Y.told control sysfs.old name.now held.0 result sysfs.new }
-    ensures fault { TellsHoldFault (Y.faults sysfs.old) (Y.calls sysfs.new) (Y.faults sysfs.new) result }
+    ensures fault { TellsHoldFault (Y.faults sysfs.old) (Y.calls sysfs.new) (Y.faults sysfs.new)
+        result }
 {
     open_file(alloc, sysfs, name, control, held)
 }

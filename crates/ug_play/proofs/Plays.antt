@@ -2,7 +2,7 @@
 use Rattle.std.proofs.Common.{◌≡◌, ℕ, Bool, true, false, refl, inl, nat_le, cond, ◌||◌, List, [], ◌∷◌, ◌++◌, length, Option, Some, None, ◌∙◌, ap, not, inr}
 use Rattle.ug_kernel.specs.Calls.{Call, Names, Open, Read, Ask_alive, Put, Close, Closed, Answer, Told, failed_listing, failed_open, failed_read, failed_probe, failed_put}
 use Rattle.ug_kernel.specs.Tree.{Prog, Return, Ask, Room, Runs, then}
-use Rattle.ug_sysfs.specs.World.{IsUnfailing, World, Gives, entered, answer_from, refusing, answer_of, answer_unless, fate, fate_of, effect, opened_at, read_from, read_at, alive_of, probed_at, put_at, live_held, Wants}
+use Rattle.ug_sysfs.specs.World.{IsUnfailing, World, Gives, entered, answer_from, refusing, answer_of, answer_unless, fate, fate_of, effect, with_file, opened_at, read_from, read_at, alive_of, probed_at, put_at, live_held, Wants}
 use Rattle.ug_play.specs.Play.{play, IsPlayed}
 use Rattle.std.specs.List.{slice_get}
 use Rattle.std.proofs.lemmas.Bool.{cond_both}
@@ -94,7 +94,7 @@ never_wants true s call = refl
 never_wants false s Names = elim (fate_of (entered s)) as (λ (f : Option Bool). short_listing (effect f Names (entered s).kernel).0 ≡ false) [ None ↦ refl | Some b ↦ refl ]
 never_wants false s (Open name control) =
     let k = (entered s).kernel in
-    elim (fate_of (entered s)) as (λ (f : Option Bool). short_open (effect f (Open name control) k).0 ≡ false) [ None ↦ (fine_opened control (find name 0 k.devices) k).0 | Some b ↦ refl ]
+    elim (fate_of (entered s)) as (λ (f : Option Bool). short_open (effect f (Open name control) k).0 ≡ false) [ None ↦ (fine_opened control (with_file control (find name 0 k.devices) k.devices) k).0 | Some b ↦ refl ]
 never_wants false s (Read name at) =
     let k = (entered s).kernel in
     elim (fate_of (entered s)) as (λ (f : Option Bool). short_read (effect f (Read name at) k).0 ≡ false) [ None ↦ (fine_at at (find name 0 k.devices) k.devices).0 | Some b ↦ refl ]
@@ -110,7 +110,7 @@ unscheduled s e = ap (λ (b : Bool). cond b (Some false) (fate (entered s).calls
 
 answers_calmly : (call : Call) (s : World) → fate_of s ≡ None → failure call (answer_from s call).0 ≡ []
 answers_calmly Names s e = none_failed failed_listing _ (ap (λ (f : Option Bool). failed_listing (effect f Names s.kernel).0) e)
-answers_calmly (Open name control) s e = none_failed failed_open _ (ap (λ (f : Option Bool). failed_open (effect f (Open name control) s.kernel).0) e ∙ (fine_opened control (find name 0 s.kernel.devices) s.kernel).1)
+answers_calmly (Open name control) s e = none_failed failed_open _ (ap (λ (f : Option Bool). failed_open (effect f (Open name control) s.kernel).0) e ∙ (fine_opened control (with_file control (find name 0 s.kernel.devices) s.kernel.devices) s.kernel).1)
 answers_calmly (Read name at) s e = none_failed failed_read _ (ap (λ (f : Option Bool). failed_read (effect f (Read name at) s.kernel).0) e ∙ (fine_at at (find name 0 s.kernel.devices) s.kernel.devices).1)
 answers_calmly (Ask_alive held) s e = none_failed failed_probe _ (ap (λ (f : Option Bool). failed_probe (effect f (Ask_alive held) s.kernel).0) e ∙ fine_probed (live_held held s.kernel.held s.kernel.devices) s.kernel.devices)
 answers_calmly (Put held write) s e = none_failed failed_put _ (ap (λ (f : Option Bool). failed_put (effect f (Put held write) s.kernel).0) e ∙ fine_put_at write (live_held held s.kernel.held s.kernel.devices) s.kernel)

@@ -7,7 +7,7 @@ use Rattle.ug_table.proofs.Common.{Device, Write, Call, Answer, Open, Put, Kerne
 use Rattle.ug_kernel.specs.Tree.{Prog, Return, Ask, Room}
 use Rattle.ug_sysfs.specs.Devices.{find}
 use Rattle.ug_sysfs.specs.declared.script.Scheduled.{Scheduled}
-use Rattle.ug_sysfs.specs.World.{World, happen, opened_at, switched_to, put_at, live_held, effect, shift, entered, fate_of, with_kernel, counted, answer_of, answer_from}
+use Rattle.ug_sysfs.specs.World.{World, happen, with_file, opened_at, switched_to, put_at, live_held, effect, shift, entered, fate_of, with_kernel, counted, answer_of, answer_from}
 use Rattle.ug_play.specs.Play.{play}
 use Rattle.ug_play.proofs.Plays.{unless_cases}
 
@@ -25,7 +25,7 @@ length_put write None k = refl
 length_put write (Some i) k = elim (slice_get k.devices i) as (λ (d : Option Device). length (switched_to write i d k.devices) ≡ length k.devices) [ None ↦ refl | Some d ↦ length-set k.devices i _ ]
 
 length_effect : (f : Option Bool) (call : Call) (k : Kernel) → length (effect f call k).1.devices ≡ length k.devices
-length_effect None (Open name control) k = elim (find name 0 k.devices) as (λ (o : Option ℕ). length (opened_at control o k).1.devices ≡ length k.devices) [ None ↦ refl | Some i ↦ refl ]
+length_effect None (Open name control) k = elim (with_file control (find name 0 k.devices) k.devices) as (λ (o : Option ℕ). length (opened_at control o k).1.devices ≡ length k.devices) [ None ↦ refl | Some i ↦ refl ]
 length_effect None (Put held write) k = length_put write (live_held held k.held k.devices) k
 length_effect (Some true) (Put held write) k = length_put write (live_held held k.held k.devices) k
 length_effect f call k = refl

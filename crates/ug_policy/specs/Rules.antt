@@ -2,6 +2,7 @@
 use Rattle.std.specs.Prelude.{ℕ, ◌<◌, ◌≤◌, List, map, length}
 use Rattle.ug_types.specs.Elements.{Has, AllDistinct}
 use Rattle.ug_types.specs.declared.rule.Query.{Query}
+use Rattle.ug_types.specs.declared.rule.Rule.{Rule}
 use Rattle.ug_index.specs.Candidates as places
 use Rattle.ug_policy.specs.declared.entry.RuleEntry.{RuleEntry}
 
@@ -13,6 +14,10 @@ pub record Rules : Type 0 where
 
 abbrev pub ids : List RuleEntry → List ℕ
 ids entries = map (λ e. e.id) entries
+
+-- the rules of a list, in order
+abbrev pub rules_in : List RuleEntry → List Rule
+rules_in entries = map (λ e. e.rule) entries
 
 abbrev pub queries : List RuleEntry → List Query
 queries entries = map (λ e. e.rule.query) entries

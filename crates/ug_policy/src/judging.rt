@@ -62,7 +62,7 @@ fn evaluate<A: Allowed, R: Rng>(
 }
 
 /// Judges by the first rule that matches and whose conditions hold, and brings the histories of the rules that were
-/// evaluated up to date. A rule that isn't at one of the places doesn't match, so that it is left alone.
+/// evaluated up to date. A rule that is at none of the places doesn't match.
 pub fn judge_by<A: Allowed, R: Rng>(
     entries: &mut [RuleEntry],
     places: &[u32],
@@ -73,7 +73,8 @@ pub fn judge_by<A: Allowed, R: Rng>(
     rng: &mut R,
 ) -> (Target, Cause)
     requires { AreCandidates (queries entries.old) dev.now.vendor dev.now.product places.now }
-    ensures judged { deciding.Judges dev.now ctx.now (A.records allowed.now) implicit entries.old (R.stream rng.old) result entries.new (R.stream rng.new) }
+    ensures judged { deciding.Judges dev.now ctx.now (A.records allowed.now) implicit
+        entries.old (R.stream rng.old) result entries.new (R.stream rng.new) }
     ensures len { length entries.new ≡ length entries.old }
 {
     for i in 0..places.len() {

@@ -36,7 +36,11 @@ impl Model for RuleList {
 
     ghost Value = { Rules };
 
-    ghost view = { λ l. record { entries = l.entries.items; next = l.next_id; spare = min l.index.spare (vec_capacity l.entries - vec_len l.entries) } };
+    ghost view = { λ l. record {
+      entries = l.entries.items;
+      next = l.next_id;
+      spare = min l.index.spare (vec_capacity l.entries - vec_len l.entries);
+    } };
 
     ghost invariant = { λ l. IsIndexed l.entries.items l.next_id l.index };
 }
@@ -109,13 +113,16 @@ impl RuleList {
         requires spare { 0 < self.old.spare }
         requires next { self.old.next < 2 ^ 64 - 1 }
         ensures id { IfOk result (λ id. id ≡ self.old.next) }
-        ensures entries { OnOk result (self.new.entries ≡ inserted after (new_entry self.old.next rule temporary) self.old.entries) }
+        ensures entries { OnOk result (self.new.entries
+            ≡ inserted after (new_entry self.old.next rule temporary) self.old.entries) }
         ensures next { OnOk result (self.new.next ≡ self.old.next + 1) }
         ensures spare { OnOk result (self.new.spare + 1 ≡ self.old.spare) }
         ensures no_rule { (result ≡ Err InsertFault.NoRule) ↔ (¬ IsThere after self.old.entries) }
-        ensures full { (result ≡ Err InsertFault.Full) ↔ (IsThere after self.old.entries × (length self.old.entries ≡ 65536)) }
+        ensures full { (result ≡ Err InsertFault.Full)
+            ↔ (IsThere after self.old.entries × (length self.old.entries ≡ 65536)) }
         ensures err { OnErr result (self.new ≡ self.old) }
-        ensures history { (judgements : List Judgement) → StandsFor self.old.entries self.old.next judgements → StandsFor self.new.entries self.new.next judgements }
+        ensures history { (judgements : List Judgement) → StandsFor self.old.entries self.old.next judgements
+            → StandsFor self.new.entries self.new.next judgements }
     {
         let Some(place) = place_after(self.entries.as_slice(), after) else {
             return Err(InsertFault::NoRule);
@@ -148,7 +155,8 @@ impl RuleList {
         ensures spare { self.old.spare ≤ self.new.spare }
         ensures no_rule { OnErr result (¬ Has (ids self.old.entries) id) }
         ensures err { OnErr result (self.new ≡ self.old) }
-        ensures history { (judgements : List Judgement) → StandsFor self.old.entries self.old.next judgements → StandsFor self.new.entries self.new.next judgements }
+        ensures history { (judgements : List Judgement) → StandsFor self.old.entries self.old.next judgements
+            → StandsFor self.new.entries self.new.next judgements }
     {
         match remove_rule(&mut self.entries, id) {
             Ok(place) => {
@@ -167,7 +175,8 @@ impl RuleList {
         ensures ok { OnOk result (Has (ids self.old.entries) id) }
         ensures no_rule { OnErr result (¬ Has (ids self.old.entries) id) }
         ensures err { OnErr result (self.new ≡ self.old) }
-        ensures history { (judgements : List Judgement) → StandsFor self.old.entries self.old.next judgements → StandsFor self.new.entries self.new.next judgements }
+        ensures history { (judgements : List Judgement) → StandsFor self.old.entries self.old.next judgements
+            → StandsFor self.new.entries self.new.next judgements }
     {
         set_rule_target(&mut self.entries, id, target)
     }
@@ -184,13 +193,28 @@ impl RuleList {
         implicit: Target,
         rng: &mut R,
     ) -> (Target, Cause)
-        ensures rule { (place : ℕ) (entry : stored.RuleEntry) → IsDecider dev.now ctx.now (A.records allowed.now) self.old.entries (R.stream rng.old) place entry → (result ≡ (entry.rule.target, Cause.Rule entry.id)) × (self.new.entries ≡ map (seen dev.now ctx.now.moment) (take place self.old.entries) ++ noted ctx.now.moment entry ∷ drop (place + 1) self.old.entries) × (R.stream rng.new ≡ behind (words_taken dev.now (take (place + 1) self.old.entries)) (R.stream rng.old)) }
-        ensures implicit { HasNoDecider dev.now ctx.now (A.records allowed.now) self.old.entries (R.stream rng.old) → (result ≡ (implicit, Cause.Implicit)) × (self.new.entries ≡ map (seen dev.now ctx.now.moment) self.old.entries) × (R.stream rng.new ≡ behind (words_taken dev.now self.old.entries) (R.stream rng.old)) }
-        ensures judged { Judges dev.now ctx.now (A.records allowed.now) implicit self.old.entries (R.stream rng.old) result self.new.entries (R.stream rng.new) }
+        ensures rule { (place : ℕ) (entry : stored.RuleEntry)
+            → IsDecider dev.now ctx.now (A.records allowed.now) self.old.entries (R.stream rng.old) place entry
+            → (result ≡ (entry.rule.target, Cause.Rule entry.id))
+            × (self.new.entries ≡ map (seen dev.now ctx.now.moment) (take place self.old.entries)
+            ++ noted ctx.now.moment entry ∷ drop (place + 1) self.old.entries)
+            × (R.stream rng.new
+            ≡ behind (words_taken dev.now (take (place + 1) self.old.entries)) (R.stream rng.old)) }
+        ensures implicit { HasNoDecider dev.now ctx.now (A.records allowed.now) self.old.entries (R.stream rng.old)
+            → (result ≡ (implicit, Cause.Implicit))
+            × (self.new.entries ≡ map (seen dev.now ctx.now.moment) self.old.entries)
+            × (R.stream rng.new ≡ behind (words_taken dev.now self.old.entries) (R.stream rng.old)) }
+        ensures judged { Judges dev.now ctx.now (A.records allowed.now) implicit
+            self.old.entries (R.stream rng.old) result self.new.entries (R.stream rng.new) }
         ensures next { self.new.next ≡ self.old.next }
         ensures spare { self.new.spare ≡ self.old.spare }
-        ensures history { (judgements : List Judgement) → StandsFor self.old.entries self.old.next judgements → StandsFor self.new.entries self.new.next (judgements ++ judgement_found dev.now ctx.now.moment (find_decider dev.now ctx.now (A.records allowed.now) self.old.entries (R.stream rng.old)) ∷ []) }
-        ensures plain { All (λ e. e.rule.conds ≡ None) self.old.entries → (result ≡ answered dev.now implicit self.old.entries) × (self.new.entries ≡ judged dev.now ctx.now.moment self.old.entries) × (R.stream rng.new ≡ R.stream rng.old) }
+        ensures history { (judgements : List Judgement) → StandsFor self.old.entries self.old.next judgements
+            → StandsFor self.new.entries self.new.next (judgements ++ judgement_found dev.now ctx.now.moment
+            (find_decider dev.now ctx.now (A.records allowed.now) self.old.entries (R.stream rng.old)) ∷ []) }
+        ensures plain { All (λ e. e.rule.conds ≡ None) self.old.entries
+            → (result ≡ answered dev.now implicit self.old.entries)
+            × (self.new.entries ≡ judged dev.now ctx.now.moment self.old.entries)
+            × (R.stream rng.new ≡ R.stream rng.old) }
     {
         let places = self.index.candidates(dev.vendor, dev.product);
         judge_by(&mut self.entries, places, dev, ctx, allowed, implicit, rng)

@@ -12,7 +12,8 @@ use Rattle.ug_policy.specs.Matching.{greatest, matched}
 use Rattle.ug_policy.specs.declared.entry.RuleEntry.{RuleEntry}
 use Rattle.ug_policy.proofs.Finding.{whole_list}
 use Rattle.ug_print.specs.RuleTexts.{rules_text_of}
-use Rattle.ug_rules.specs.RuleFile.{CanSave, IsSaveable, ReadsBack, as_given, permanent_rules, permanent_text, rules_in, saved_of}
+use Rattle.ug_rules.specs.RuleFile.{CanSave, IsSaveable, ReadsBack, as_given, permanent_rules, permanent_text, saved_of}
+use Rattle.ug_policy.specs.Rules.{rules_in}
 
 abbrev given : RuleEntry → RuleEntry
 given e = new_entry e.id e.rule e.temporary

@@ -5,7 +5,7 @@ use Rattle.std.specs.List.{AllByRecursion, flat_map}
 use Rattle.std.proofs.lemmas.Bool.{eqb-true}
 use Rattle.std.proofs.lemmas.List.{length-map}
 use Rattle.ug_types.specs.Elements.{AllDistinct, Has}
-use Rattle.ug_policy.specs.Rules.{ids}
+use Rattle.ug_policy.specs.Rules.{ids, rules_in}
 use Rattle.std.proofs.lemmas.List.Elements.{All-from_recursion, recursion_from_All}
 use Rattle.ug_types.specs.declared.rule.Rule.{Rule}
 use Rattle.ug_types.specs.declared.rule.After.{After}
@@ -22,7 +22,7 @@ use Rattle.ug_print.specs.RuleTexts.{rules_limit, rules_text_of}
 use Rattle.ug_print.specs.Words.{rule_text}
 use Rattle.ug_print.proofs.RuleTexts.{text_read}
 use Rattle.ug_rules.specs.RuleEdits.{CanEdit, EditReads, IsButForTarget, edited_by}
-use Rattle.ug_rules.specs.RuleFile.{CanSave, FitsFile, IsRuleFile, IsSaveable, ReadsBack, permanent_rules, permanent_text, rules_in, saved_rule}
+use Rattle.ug_rules.specs.RuleFile.{CanSave, FitsFile, IsRuleFile, IsSaveable, ReadsBack, permanent_rules, permanent_text, saved_rule}
 use Rattle.ug_rules.specs.declared.edit.Edit.{Edit}
 use Rattle.ug_rules.specs.declared.edit.Edit.TheVariants.{Insert, Remove, Retarget}
 
@@ -98,14 +98,16 @@ was_inserted (Err fault.Full) there few p = absurd (few refl)
 pub record TextOf {E : Type 0} (too_long : E) (es : List RuleEntry) (r : Result (List ℕ) E) : Type 0 where
   pub text : IfOk r (λ text. text ≡ permanent_text es)
   pub reads : IfOk r (λ text. file_read text ≡ Ok (permanent_rules es))
-  pub saves : OnOk r (IsSaveable es)
+  pub fits : OnOk r (FitsFile es)
+  pub saves : length (permanent_rules es) ≤ 65536 → OnOk r (IsSaveable es)
   pub long : r ≡ Err too_long → FitsFile es → ⊥
 
-pub text_of_list : {E : Type 0} (too_long : E) (es : List RuleEntry) (rules : List Rule) (r : Result (List ℕ) E) → rules ≡ permanent_rules es → All ReadsBack (rules_in es) → IfOk r (λ text. text ≡ rules_text_of rules) → OnOk r (All RuleOfBytes rules) → IfOk r (λ text. length text ≤ rules_limit) → (r ≡ Err too_long → rules_limit < length (rules_text_of rules)) → length (permanent_rules es) ≤ 65536 → TextOf too_long es r
-text_of_list {E} too_long es rules r same back is bytes fits long few = record {
+pub text_of_list : {E : Type 0} (too_long : E) (es : List RuleEntry) (rules : List Rule) (r : Result (List ℕ) E) → rules ≡ permanent_rules es → All ReadsBack (rules_in es) → IfOk r (λ text. text ≡ rules_text_of rules) → OnOk r (All RuleOfBytes rules) → IfOk r (λ text. length text ≤ rules_limit) → (r ≡ Err too_long → rules_limit < length (rules_text_of rules)) → TextOf too_long es r
+text_of_list {E} too_long es rules r same back is bytes fits long = record {
   text = by_text r is;
   reads = text_reads es rules r same back is bytes;
-  saves = by_saves r is bytes fits;
+  fits = by_fits r is fits;
+  saves = λ few. by_saves few r is bytes fits;
   long = λ e k. let over = long e in let under : length (rules_text_of rules) ≤ rules_limit = subst (λ (rs : List Rule). length (rules_text_of rs) ≤ rules_limit) (sym same) k in omega (arith, over, under);
 }
   where
@@ -113,13 +115,17 @@ text_of_list {E} too_long es rules r same back is bytes fits long few = record {
     by_text (Ok text) is = is ∙ ap (λ (rs : List Rule). rules_text_of rs) same
     by_text (Err e) is = tt
 
-    by_saves : (r : Result (List ℕ) E) → IfOk r (λ text. text ≡ rules_text_of rules) → OnOk r (All RuleOfBytes rules) → IfOk r (λ text. length text ≤ rules_limit) → OnOk r (IsSaveable es)
-    by_saves (Ok text) is b h = record {
+    by_fits : (r : Result (List ℕ) E) → IfOk r (λ text. text ≡ rules_text_of rules) → IfOk r (λ text. length text ≤ rules_limit) → OnOk r (FitsFile es)
+    by_fits (Ok text) is h = subst (λ (t : List ℕ). length t ≤ rules_limit) (is ∙ ap (λ (rs : List Rule). rules_text_of rs) same) h
+    by_fits (Err e) is h = tt
+
+    by_saves : length (permanent_rules es) ≤ 65536 → (r : Result (List ℕ) E) → IfOk r (λ text. text ≡ rules_text_of rules) → OnOk r (All RuleOfBytes rules) → IfOk r (λ text. length text ≤ rules_limit) → OnOk r (IsSaveable es)
+    by_saves few (Ok text) is b h = record {
       reads = permanent_reads es back (subst (All RuleOfBytes) same b);
-      fits = subst (λ (t : List ℕ). length t ≤ rules_limit) (is ∙ ap (λ (rs : List Rule). rules_text_of rs) same) h;
+      fits = by_fits (Ok text) is h;
       few = few;
     }
-    by_saves (Err e) is b h = tt
+    by_saves few (Err e) is b h = tt
 
 -- ---- how many permanent rules there are
 

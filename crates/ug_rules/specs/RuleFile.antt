@@ -8,10 +8,6 @@ use Rattle.ug_print.specs.Words.{rule_text}
 use Rattle.ug_policy.specs.Edits.{new_entry}
 use Rattle.ug_policy.specs.declared.entry.RuleEntry.{RuleEntry}
 
--- the rules of a list, in order
-abbrev pub rules_in : List RuleEntry → List Rule
-rules_in entries = map (λ e. e.rule) entries
-
 -- the rules as they were given, without their histories
 abbrev pub as_given : List RuleEntry → List RuleEntry
 as_given entries = map (λ e. new_entry e.id e.rule e.temporary) entries

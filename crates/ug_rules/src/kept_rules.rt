@@ -6,7 +6,8 @@ ghost use Rattle.ug_print.specs.Generated.{generated_of};
 ghost use Rattle.ug_rule.specs.Files.{file_read};
 ghost use Rattle.ug_types.specs.declared.verdict.Target.{Target};
 ghost use Rattle.ug_rules.specs.RuleEdits.{CanEdit, EditReads, HasRoomFor, IsButForTarget, changes_file, edited_by, if_room_for, next_after};
-ghost use Rattle.ug_rules.specs.RuleFile.{FitsFile, IsSaveable, ReadsBack, permanent_rules, permanent_text, rules_in};
+ghost use Rattle.ug_rules.specs.RuleFile.{FitsFile, IsSaveable, ReadsBack, permanent_rules, permanent_text};
+ghost use Rattle.ug_policy.specs.Rules.{rules_in};
 ghost use Rattle.ug_rules.specs.RulePlaces.{has_permanent, has_rule, if_few, if_place, if_taken, made_rule};
 ghost use Rattle.ug_rules.specs.RuleRows.{rule_rows};
 
@@ -29,8 +30,8 @@ pub struct KeptRules {
 
 impl Model for KeptRules {
     ghost use Rattle.std.specs.Prelude.{All};
-    ghost use Rattle.ug_policy.specs.Rules.{Rules};
-    ghost use Rattle.ug_rules.specs.RuleFile.{IsSaveable, ReadsBack, rules_in};
+    ghost use Rattle.ug_policy.specs.Rules.{Rules, rules_in};
+    ghost use Rattle.ug_rules.specs.RuleFile.{IsSaveable, ReadsBack};
 
     ghost Value = { Rules };
 
@@ -226,14 +227,15 @@ impl KeptRules {
         }
     }
 
-    /// The same once the edit is done.
+    /// The same once the edit is done. Where it can be done, its rules can be saved.
     pub fn text_after(&self, alloc: Global, edit: &Edit) -> Result<Text, RulesTextFault>
-        requires can { CanEdit edit.now self.now.entries }
-        requires reads { EditReads edit.now self.now.entries }
+        requires { EditReads edit.now self.now.entries }
         ensures text { IfOk result (λ text. text ≡ permanent_text (edited_by edit.now self.now.next self.now.entries)) }
         ensures reads { IfOk result (λ text. file_read text
             ≡ Ok (permanent_rules (edited_by edit.now self.now.next self.now.entries))) }
-        ensures saves { OnOk result (IsSaveable (edited_by edit.now self.now.next self.now.entries)) }
+        ensures fits { OnOk result (FitsFile (edited_by edit.now self.now.next self.now.entries)) }
+        ensures saves { CanEdit edit.now self.now.entries
+            → OnOk result (IsSaveable (edited_by edit.now self.now.next self.now.entries)) }
         ensures too_long { result ≡ Err RulesTextFault.TooLong
             → FitsFile (edited_by edit.now self.now.next self.now.entries) → ⊥ }
     {
@@ -252,11 +254,12 @@ impl KeptRules {
 
     /// The same, where the edit changes rules that aren't temporary.
     pub fn text_if_saved(&self, alloc: Global, edit: &Edit) -> Result<Option<Text>, RulesTextFault>
-        requires can { CanEdit edit.now self.now.entries }
-        requires reads { EditReads edit.now self.now.entries }
+        requires { EditReads edit.now self.now.entries }
         ensures text { IfOk result (λ text. text ≡ (if changes_file edit.now self.now.entries
             then Some (permanent_text (edited_by edit.now self.now.next self.now.entries)) else None)) }
-        ensures saves { OnOk result (IsSaveable (edited_by edit.now self.now.next self.now.entries)) }
+        ensures fits { OnOk result (FitsFile (edited_by edit.now self.now.next self.now.entries)) }
+        ensures saves { CanEdit edit.now self.now.entries
+            → OnOk result (IsSaveable (edited_by edit.now self.now.next self.now.entries)) }
         ensures too_long { result ≡ Err RulesTextFault.TooLong
             → IsTrue (changes_file edit.now self.now.entries)
             × (FitsFile (edited_by edit.now self.now.next self.now.entries) → ⊥) }

@@ -5,8 +5,8 @@ use Rattle.std.proofs.Common.{◌≡◌, ℕ, ◌+◌, ◌*◌, ◌<◌, ◌≤�
 use Rattle.std.specs.Cmp.Lexicographic.{pointwise}
 use Rattle.std.specs.List.{list_any}
 use Rattle.ug_types.specs.Elements.{Has}
-use Rattle.ug_kernel.specs.Guarded.{IsGuarded}
-use Rattle.ug_kernel.proofs.Guarded.{moves_guarded}
+use Rattle.ug_kernel.specs.Defaults.{HasOnEntries}
+use Rattle.ug_kernel.proofs.Defaults.{moves_on_entries}
 use Rattle.ug_kernel.specs.Kernel.{Kernel, IsKernel, Moves}
 use Rattle.ug_kernel.proofs.Stayed.{unmoving}
 use Rattle.ug_sysfs.specs.World.{IsUnfailing, World, begun, moved, over}
@@ -63,7 +63,7 @@ use Rattle.ug_script.specs.Script.{Script, Phase, fresh, takes_setup, has_starte
 use Rattle.ug_script.specs.Replay.{header, outcome_of, outcome_text, quiet, bad, line_added, with_devices, with_plan, with_played, with_restart, planned, answered_by, answered_from, answered_of, came_of, disk_of, event_from, event_of, in_script, left_played, restarted, taken, taken_if, tried_by, script_step}
 use Rattle.ug_script.specs.Laws.{calls_of, faults_of, StaysLawful}
 use Rattle.ug_script.specs.Journal.{happened_at, left_by, left_behind, EventsOfRuns, no_events, with_events, runs_by, runs_after, runs_in, journals, journal_of, events_text, runs_text, text_of_runs, RunStart, first_start, HoldsAtStart, IsDaemonRun, EndedRun, AreSuccessive, JudgesOnce, is_quiet, AreQuiet, Recorded, StaysRecorded}
-use Rattle.ug_script.proofs.Guards.{event_guarded}
+use Rattle.ug_script.proofs.OnEntries.{event_on_entries}
 use Rattle.ug_script.proofs.Phases.{open_unstarted, closed_daemon, closed_disk, closed_started}
 use Rattle.ug_script.proofs.Lawful.{Holds, HoldsOf, answers, handled, event_disk, event_holds, event_nobody, event_saved, move_holds, order_runs, plan_holds, no_standing, tells_event, lawful_event}
 use Rattle.ug_script.proofs.Numbers.{Fits, FitsOf, fits_more, event_fits, started_fits, fits_numbers}
@@ -77,7 +77,7 @@ quiet_front (x ∷ steps) step q = let k = quiet_front steps step q.1 in ((q.0, 
 record Kept (first : World) (n : ℕ) (done : List (Option Step)) (runs : EventsOfRuns) (text : List ℕ) (s : Script) (w : World) : Type 0 where
   few : n ≤ 1048576
   holds : HoldsOf (daemon_in s) w
-  guarded : IsGuarded first.kernel → IsGuarded w.kernel
+  on_entries : HasOnEntries first.kernel → HasOnEntries w.kernel
   fits : first.faults ≡ 0 → FitsOf n (daemon_in s) w (disk_in s)
   given : IsGiven n done s.setup
   kept : (disk_in s).ran_out ≡ false
@@ -130,7 +130,7 @@ setup_kept first n done runs text s w step setup lt opened h given =
     record {
       few = omega (arith, lt);
       holds = subst (λ (d : DaemonState). HoldsOf d w) (sym new) (record { told = h.holds.told; sound = h.holds.sound; stand = no_standing w.kernel });
-      guarded = h.guarded;
+      on_entries = h.on_entries;
       fits = λ e.
           let low : w.faults ≤ 2199023255552 * n = (h.fits e).few_faults in
           let more : w.faults ≤ 2199023255552 * (n + 1) = omega (arith, low) in
@@ -170,7 +170,7 @@ on_kept first n done runs text s w v step phase plan lt h same on begun given ho
     record {
       few = omega (arith, lt);
       holds = subst (λ (d : DaemonState). HoldsOf d v) (sym same) holds;
-      guarded = λ g. moves_guarded w.kernel v.kernel moves (h.guarded g);
+      on_entries = λ g. moves_on_entries w.kernel v.kernel moves (h.on_entries g);
       fits = λ e.
           let d : DaemonState = daemon_in s in
           let o : DiskWorld = disk_in s in
@@ -265,7 +265,7 @@ event_kept first n done runs text event s w lt h =
     record {
       few = omega (arith, lt);
       holds = event_holds event d w o h.holds;
-      guarded = λ g. event_guarded event d w o h.holds (h.guarded g);
+      on_entries = λ g. event_on_entries event d w o h.holds (h.on_entries g);
       fits = λ e. event_fits n event d w o lt h.holds h.kept (h.fits e);
       given = given_still n done step s.setup refl refl refl refl refl h.given;
       kept = event_disk event d w o h.kept;
@@ -398,7 +398,7 @@ restart_kept first n done runs text s w rules lt loaded h =
     record {
       few = omega (arith, lt);
       holds = record { told = h.holds.told; sound = h.holds.sound; stand = no_standing w.kernel };
-      guarded = h.guarded;
+      on_entries = h.on_entries;
       fits = λ e.
           let low : w.faults ≤ 2199023255552 * n = (h.fits e).few_faults in
           let low_disk : o.faults ≤ 2 * n = (h.fits e).few_disk_faults in
@@ -550,7 +550,7 @@ kept_fresh : (first : World) → Holds [] 1 first → Kept first 1 [] no_events 
 kept_fresh first h = record {
   few = omega arith;
   holds = h;
-  guarded = λ g. g;
+  on_entries = λ g. g;
   fits = λ e. started_fits 1 1 [] first.faults 0 (omega arith) (omega arith) (omega (arith, e)) (omega arith);
   given = given_first;
   kept = refl;
@@ -634,7 +634,7 @@ stays_lawful first run sound lines n text s w e =
     let h : Kept first n (steps_of lines) (runs_in first lines) text s w = kept_all first run sound lines n text s w e in
     record {
       sound = h.holds.sound;
-      guarded = h.guarded;
+      on_entries = h.on_entries;
       stand = h.holds.stand;
       events = λ event. lawful_event event s w h.holds h.kept;
       told = h.kept;

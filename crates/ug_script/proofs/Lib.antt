@@ -10,10 +10,13 @@ pub mod Starts
 pub mod Restarts
 pub mod OrdersPlayed
 pub mod Lawful
-pub mod Guards
+pub mod OnEntries
 pub mod Spent
 pub mod Numbers
 pub mod Setups
 pub mod Skimmed
 pub mod Journals
 pub mod Filed
+mod WholeLines
+mod Counted
+mod Summed

@@ -91,16 +91,16 @@ abbrev pub failing : List Failing
 failing = record { call = 12; effect = true } ∷ []
 
 -- no rule, and no device that comes is authorised
-abbrev pub guarding : SetupState
-guarding = record no_setup { settings = record no_setup.settings { draft = record no_setup.settings.draft { settings = record no_setup.settings.draft.settings { default = auth.None } } } }
+abbrev pub with_none : SetupState
+with_none = record no_setup { settings = record no_setup.settings { draft = record no_setup.settings.draft { settings = record no_setup.settings.draft.settings { default = auth.None } } } }
 
 -- a daemon with that, over the root hub
-abbrev pub guarded_first : Played
-guarded_first = record { daemon = started guarding; world = hub_world; disk = rules_disk guarding }
+abbrev pub first_with_none : Played
+first_with_none = record { daemon = started with_none; world = hub_world; disk = rules_disk with_none }
 
 -- a device is plugged in that would start authorised
-abbrev pub born_behind : Played → Played
-born_behind p = record p { world = with_devices (plugged (record key { on = true }) (over p.world).kernel.devices) (over p.world) }
+abbrev pub born_later : Played → Played
+born_later p = record p { world = with_devices (plugged (record key { on = true }) (over p.world).kernel.devices) (over p.world) }
 
 -- the tenth call fails, and has no effect
 abbrev pub tenth_fails : List Failing

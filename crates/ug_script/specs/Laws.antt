@@ -1,7 +1,7 @@
 -- What holds wherever a script has come to.
 use Rattle.std.specs.Prelude.{◌≡◌, ℕ, true, false, List, [], Option, Some, None}
 use Rattle.ug_types.specs.Elements.{AllDistinct}
-use Rattle.ug_kernel.specs.Guarded.{IsGuarded}
+use Rattle.ug_kernel.specs.Defaults.{HasOnEntries}
 use Rattle.ug_kernel.specs.Kernel.{IsKernel}
 use Rattle.ug_sysfs.specs.World.{World, Gives, begun}
 use Rattle.ug_table.specs.Laws.{Stand}
@@ -41,12 +41,12 @@ pub record IsLawfulEvent (event : Event) (s : Script) (w : World) : Type 0 where
   pub once : AllDistinct (unsettled_names (event_of event s w).daemon.sweep.entries)
   pub room : tells_memory (event_of event s w).daemon.sweep.entries ≡ false
 
--- The kernel is sound, and a device that was born guarded is on only after an On entry, if it was so in the first world; and each standing of the daemon, or of the one that an event would start, is of one of its devices; and so is an
+-- The kernel is sound, and a device that was born while its controller's default was off is on only after an On entry, if it was so in the first world; and each standing of the daemon, or of the one that an event would start, is of one of its devices; and so is an
 -- event, if one comes next. The disk is told, and a crash may leave the rule file as it is. And where the first world had no fault, the
 -- numbers leave room for one, so that the line of an event is never bad.
 pub record IsLawful (first : World) (s : Script) (w : World) : Type 0 where
   pub sound : IsKernel w.kernel
-  pub guarded : IsGuarded first.kernel → IsGuarded w.kernel
+  pub on_entries : HasOnEntries first.kernel → HasOnEntries w.kernel
   pub stand : Stand w.kernel (daemon_in s).sweep.standings (daemon_in s).sweep.next
   pub events : (event : Event) → IsLawfulEvent event s w
   pub told : (disk_in s).ran_out ≡ false

@@ -5,6 +5,7 @@ pub mod Setup
 pub mod Script
 pub mod Replay
 pub mod Generating
+pub mod Summing
 pub mod Laws
 pub mod Journal
 pub mod Example

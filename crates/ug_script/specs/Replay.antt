@@ -1,5 +1,5 @@
 -- What each line of a script writes, and what it leaves.
-use Rattle.std.specs.Prelude.{◌≡◌, ◌⊎◌, ℕ, ◌+◌, ◌-◌, true, false, nat_eq, cond, List, [], ◌∷◌, ◌++◌, codes, decimal, Option, Some, None, Result, Ok, Err, flat_map}
+use Rattle.std.specs.Prelude.{◌≡◌, ◌⊎◌, ℕ, ◌+◌, ◌-◌, Bool, true, false, nat_eq, cond, List, [], ◌∷◌, ◌++◌, codes, decimal, Option, Some, None, Result, Ok, Err, flat_map}
 use Rattle.std.specs.Cmp.Lexicographic.{pointwise}
 use Rattle.ug_types.specs.Principals.{Named}
 use Rattle.ug_types.specs.declared.rule.Rule as types
@@ -53,6 +53,11 @@ started_script setup session plan = record { setup = setup; phase = Started (dae
 abbrev pub script_in : Option Running → Option Script
 script_in None = None
 script_in (Some r) = Some (script_of r)
+
+-- the first line was taken
+abbrev pub has_begun : Option Script → Bool
+has_begun None = false
+has_begun (Some s) = true
 
 abbrev pub interpreter_state : Interpreter → Option Script
 interpreter_state interpreter = script_in interpreter.running

@@ -17,7 +17,7 @@ use Rattle.ug_conf.specs.Reader.{Progress, next_number}
 use Rattle.ug_conf.specs.Texts.{setting_line}
 use Rattle.ug_lines.specs.LineReading.{lines_read}
 use Rattle.ug_core.specs.Starting.{permanent_entries}
-use Rattle.ug_core.specs.Settings.{classes_of, hub_of}
+use Rattle.ug_core.specs.Settings.{classes_of, hub_default}
 use Rattle.ug_core.specs.Policy.{Judging}
 use Rattle.ug_core.specs.Event.{DaemonState}
 use Rattle.ug_print.specs.RuleTexts.{rules_limit, rules_text_of}
@@ -133,7 +133,7 @@ pub record Beside : Type 0 where
   pub hub : Option Write
 
 abbrev pub beside_of : SetupState → Beside
-beside_of s = record { access = access_of s; hub = hub_of s.settings.draft.settings.default }
+beside_of s = record { access = access_of s; hub = hub_default s.settings.draft.settings.default }
 
 -- a disk behind a reading of its rule file: the moment within that call is past
 abbrev pub after_reading : DiskWorld → DiskWorld
@@ -216,6 +216,6 @@ pub record IsSetup (steps : List (Option Step)) (beside : Beside) (policy : Judg
   pub next : policy.next ≡ length (flat_map rule_asked steps) + 1
   pub clock : policy.clock ≡ clock_ahead (first_or (pos 0) (flat_map zone_asked steps))
   pub ctx : policy.ctx ≡ record { moment = record { 0 = 0 }; second = 0 }
-  pub hub : beside.hub ≡ hub_of draft.settings.default
+  pub hub : beside.hub ≡ hub_default draft.settings.default
   pub allowed : beside.access ≡ map everything draft.settings.users ++ map granted (flat_map access_asked steps)
   pub words : policy.stream ≡ seeded (first_or no_seed (flat_map seed_asked steps))

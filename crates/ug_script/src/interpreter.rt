@@ -6,7 +6,7 @@ ghost use Rattle.ug_types.specs.Ends.{Rose};
 ghost use Rattle.ug_script.specs.Script.{Script};
 ghost use Rattle.ug_sysfs.specs.World.{World};
 ghost use Rattle.ug_script.specs.Generating.{generate_end, generate_step};
-ghost use Rattle.ug_script.specs.Replay.{Begins, done_line, first_step, interpreter_state, script_step, script_end};
+ghost use Rattle.ug_script.specs.Replay.{Begins, done_line, first_step, has_begun, interpreter_state, script_step, script_end};
 
 use crate::progress::Running;
 use crate::step::StepFault;
@@ -30,6 +30,13 @@ impl Interpreter {
         ensures { interpreter_state result ≡ None }
     {
         Interpreter { running: None }
+    }
+
+    /// Whether the first line was taken.
+    pub fn has_begun(&self) -> bool
+        ensures { result ≡ has_begun (interpreter_state self.now) }
+    {
+        self.running.is_some()
     }
 
     /// Takes the first line, and writes nothing.

@@ -5,11 +5,14 @@ ghost use Rattle.ug_types.specs.declared.verdict.Target.TheVariants as target;
 ghost use Rattle.ug_types.specs.declared.verdict.Cause.TheVariants as cause;
 ghost use Rattle.ug_types.specs.declared.control.Write.TheVariants as write;
 ghost use Rattle.ug_kernel.specs.declared.calls.Wrote.TheVariants as wrote;
-ghost use Rattle.ug_kernel.specs.Kernel.{IsKernel};
+ghost use Rattle.ug_kernel.specs.Along.{Along, Made};
+ghost use Rattle.ug_kernel.specs.Defaults.{HasOnEntries};
+ghost use Rattle.ug_kernel.specs.Kernel.{IsKernel, Kernel, Moves};
+ghost use Rattle.ug_kernel.specs.Tree.{calls};
 ghost use Rattle.ug_sysfs.specs.World.{World};
 ghost use Rattle.ug_audit.specs.declared.entry.Entry.TheVariants as entry;
 ghost use Rattle.ug_audit.specs.declared.entry.Fault.TheVariants as fault;
-ghost use Rattle.ug_script.specs.Example.{first_played, event_at, event_with, plugged_in, replaced, failing, guarded_first, born_behind, tenth_fails};
+ghost use Rattle.ug_script.specs.Example.{first_played, event_at, event_with, plugged_in, replaced, failing, first_with_none, born_later, tenth_fails};
 ghost use Rattle.ug_script.specs.declared.step.AccessLine.{AccessLine};
 ghost use Rattle.ug_script.specs.declared.step.SetupLine.TheVariants.{Access};
 ghost use Rattle.ug_script.specs.Grammar.{grant_of, IsAccess};
@@ -34,6 +37,15 @@ pub fn access_law()
 pub fn script_law()
     ensures lawful { (w : World) → w.ran_out ≡ false → IsKernel w.kernel → StaysLawful w }
     ensures recorded { (w : World) → w.ran_out ≡ false → IsKernel w.kernel → StaysRecorded w }
+{}
+
+/// That a device which was born while its controller's default was off is on only after an On entry holds where there is no device, and
+/// each move and each call keeps it. So it holds behind each call of an event that `lawful` speaks of, wherever that is stopped.
+pub fn birth_law()
+    ensures empty { (k : Kernel) → k.devices ≡ [] → HasOnEntries k }
+    ensures moves { (k l : Kernel) → Moves k l → HasOnEntries k → HasOnEntries l }
+    ensures behind { (ms : List Made) (k l : Kernel) → Along calls k ms l
+        → HasOnEntries k → HasOnEntries l }
 {}
 
 /// Events worked by hand. The key is judged and allowed. Where another device takes its place just before the write, the write
@@ -77,24 +89,24 @@ pub fn worked_law()
 /// Events under `AuthorizedDefault=none`, worked by hand. The default of the root hub is switched off, and a device that comes then is
 /// born off. Where that write fails, the hub is named, the device is born on, and the next event makes both writes.
 pub fn default_law()
-    ensures written { (event_at 100 guarded_first).daemon.sweep.entries
+    ensures written { (event_at 100 first_with_none).daemon.sweep.entries
         ≡ entry.Event 1 (record { 0 = 100 })
         ∷ entry.Judged 1 (codes "usb1") (record { 0 = 0 }) target.Allow cause.Keep
         ∷ entry.Intent 1 (codes "usb1") write.DefaultOff
         ∷ entry.Wrote 1 (codes "usb1") write.DefaultOff wrote.Done
         ∷ entry.End 1 ∷ [] }
-    ensures born_off { (event_at 101 (born_behind (event_at 100 guarded_first))).daemon.sweep.entries
+    ensures born_off { (event_at 101 (born_later (event_at 100 first_with_none))).daemon.sweep.entries
         ≡ entry.Event 2 (record { 0 = 101 })
         ∷ entry.Judged 2 (codes "1-1") (record { 0 = 2 }) target.Block cause.Implicit
         ∷ entry.End 2 ∷ [] }
-    ensures failed { (event_with 100 [] tenth_fails guarded_first).daemon.sweep.entries
+    ensures failed { (event_with 100 [] tenth_fails first_with_none).daemon.sweep.entries
         ≡ entry.Event 1 (record { 0 = 100 })
         ∷ entry.Judged 1 (codes "usb1") (record { 0 = 0 }) target.Allow cause.Keep
         ∷ entry.Intent 1 (codes "usb1") write.DefaultOff
         ∷ entry.Wrote 1 (codes "usb1") write.DefaultOff wrote.Failed
         ∷ entry.Unsettled (codes "usb1") (fault.Call (record { call = 10; count = 1 }))
         ∷ entry.End 1 ∷ [] }
-    ensures born_on { (event_at 101 (born_behind (event_with 100 [] tenth_fails guarded_first))).daemon.sweep.entries
+    ensures born_on { (event_at 101 (born_later (event_with 100 [] tenth_fails first_with_none))).daemon.sweep.entries
         ≡ entry.Event 2 (record { 0 = 101 })
         ∷ entry.Intent 1 (codes "usb1") write.DefaultOff
         ∷ entry.Wrote 1 (codes "usb1") write.DefaultOff wrote.Done

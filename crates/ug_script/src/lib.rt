@@ -21,12 +21,15 @@ mod setup;
 mod setup_lines;
 mod start;
 mod step;
+mod summarizer;
 mod text;
+mod totals;
 mod words;
 
 pub use generator::generate_policy;
 pub use interpreter::Interpreter;
-pub use laws::{access_law, default_law, script_law, words_law, worked_law};
+pub use laws::{access_law, birth_law, default_law, script_law, words_law, worked_law};
 pub use parse::parse_line;
 pub use runner::Runner;
 pub use step::{AccessLine, Plan, SetupLine, Step, StepFault};
+pub use summarizer::summarize;

@@ -5,7 +5,7 @@ ghost use Rattle.ug_rules.specs.RuleFile.{IsSaveable};
 ghost use Rattle.ug_script.specs.RuleFiles.{IsStillOn};
 ghost use Rattle.ug_core.specs.Event.{daemon_of};
 ghost use Rattle.ug_core.specs.Policy.{clock_of};
-ghost use Rattle.ug_core.specs.Settings.{classes_of, hub_of};
+ghost use Rattle.ug_core.specs.Settings.{classes_of, hub_default};
 ghost use Rattle.ug_rule.specs.Files.{file_read};
 ghost use Rattle.ug_store.specs.Scripted.{world_at_first};
 ghost use Rattle.ug_print.specs.RuleTexts.{rules_text_of};
@@ -92,7 +92,7 @@ fn rng_for(setup: &Setup) -> ChaCha20Rng
 fn settings_of(alloc: Global, setup: &Setup) -> Result<Settings, NoMemory>
     ensures classes { IfOk result (λ settings. classes_of settings
         ≡ classes_of setup.now.settings.draft.settings) }
-    ensures hub { IfOk result (λ settings. hub_of settings.default
+    ensures hub { IfOk result (λ settings. hub_default settings.default
         ≡ (beside_of setup.now).hub) }
 {
     let given = setup.settings.so_far();

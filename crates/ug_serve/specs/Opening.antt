@@ -15,7 +15,7 @@ use Rattle.ug_audit.specs.declared.entry.Entry.{Entry}
 use Rattle.ug_audit.specs.declared.entry.Entry.TheVariants as entry
 use Rattle.ug_audit.specs.declared.entry.ConfigPart.TheVariants as part
 use Rattle.ug_core.specs.Event.{DaemonState}
-use Rattle.ug_core.specs.Settings.{classes_of, hub_of}
+use Rattle.ug_core.specs.Settings.{classes_of, hub_default}
 use Rattle.ug_core.specs.Starting.{Outset, Starts}
 use Rattle.ug_core.specs.declared.start_fault.StartFault.{StartFault}
 use Rattle.ug_acl.specs.Acls.{Addition}
@@ -57,7 +57,7 @@ words_of_seed seed = stream_of (steps_u32 (next_word 10)) (of_seed seed)
 
 -- what a daemon starts with: its settings, who may do what, the clock of its zone, and the words of its seed. Its first event is number 1
 abbrev pub outset_of : Settings → List Addition → (ℕ → ℕ) → Stream → Outset
-outset_of settings acl clock words = record { classes = classes_of settings; hub = hub_of settings.default; access = acl; clock = clock; words = words; first = 1 }
+outset_of settings acl clock words = record { classes = classes_of settings; hub = hub_default settings.default; access = acl; clock = clock; words = words; first = 1 }
 
 -- a daemon that started, and those that it is open to
 pub record Started : Type 0 where

@@ -4,7 +4,7 @@ use Rattle.std.proofs.lemmas.Bool.{cond_both, both_ways}
 use Rattle.ug_store.specs.DiskCalls.{DiskCall, Load, Write_new, Sync_new, Swap, DiskTold}
 use Rattle.ug_store.specs.Disk.{Disk, IsImage}
 use Rattle.ug_store.specs.Store.{DiskProg, Ended, AskDisk, DiskRoom, RunsDisk, then_disk, after_swap, after_sync_new, after_write_new, saving}
-use Rattle.ug_store.specs.Scripted.{DiskWorld, IsUnplanned, word_at, fate_by, stops_by, answer_of_fate, faults_by, with_number, fate_at, reply_by, world_after, answering_on, disk_answer, MemKeeps}
+use Rattle.ug_store.specs.Scripted.{DiskWorld, IsUnplanned, plan_at, fate_by, stops_by, answer_of_fate, faults_by, with_number, fate_at, reply_by, world_after, answering_on, disk_answer, MemKeeps}
 use Rattle.ug_store.specs.MemLaw.{told_in, mem_did, up_within}
 use Rattle.ug_store.specs.PlayDisk.{play_disk}
 use Rattle.ug_store.proofs.Playing.{EndsByMemory}
@@ -43,19 +43,12 @@ by_script : (w : DiskWorld) (call : DiskCall) (P : DiskTold call × DiskWorld �
     → P (answering_on call (reply_by call (fate_at call (with_number call w)) w.disk) (world_after call (with_number call w))) → P (disk_answer w call)
 by_script w call P e h = cond_both w.ran_out _ _ P (λ out. absurd (both_ways w.ran_out e out)) (λ told. h)
 
--- a number changes neither what is planned nor whether the disk has run out
-
+-- a number doesn't change whether the disk has run out
 same_out : (call : DiskCall) (w : DiskWorld) → (with_number call w).ran_out ≡ w.ran_out
 same_out Load w = refl
 same_out (Write_new text) w = refl
 same_out Sync_new w = refl
 same_out Swap w = refl
-
-same_plan : (call : DiskCall) (w : DiskWorld) → (with_number call w).planned ≡ w.planned
-same_plan Load w = refl
-same_plan (Write_new text) w = refl
-same_plan Sync_new w = refl
-same_plan Swap w = refl
 
 told_still : (w : DiskWorld) (call : DiskCall) → w.ran_out ≡ false → (disk_answer w call).1.ran_out ≡ false
 told_still w call e = by_script w call (λ (p : DiskTold call × DiskWorld). p.1.ran_out ≡ false) e (same_out call w ∙ e)
@@ -65,8 +58,8 @@ play_stays_told (Ended value) w e = e
 play_stays_told (AskDisk call next) w e = play_stays_told (next (disk_answer w call).0) (disk_answer w call).1 (told_still w call e)
 play_stays_told (DiskRoom next) w e = play_stays_told (next true) w e
 
-unplanned_by : (planned : List Planned) (stopped : Bool) (n : ℕ) → planned ≡ [] → stopped ≡ false → (stopped || stops_by (word_at n None planned)) ≡ false
-unplanned_by planned stopped n plan unstopped = ap (λ (b : Bool). b || stops_by (word_at n None planned)) unstopped ∙ ap (λ (ps : List Planned). stops_by (word_at n None ps)) plan
+unplanned_by : (planned : List Planned) (stopped : Bool) (n : ℕ) → planned ≡ [] → stopped ≡ false → (stopped || stops_by (plan_at n None planned)) ≡ false
+unplanned_by planned stopped n plan unstopped = ap (λ (b : Bool). b || stops_by (plan_at n None planned)) unstopped ∙ ap (λ (ps : List Planned). stops_by (plan_at n None ps)) plan
 
 unplanned_still : (w : DiskWorld) (call : DiskCall) → IsUnplanned w → IsUnplanned (disk_answer w call).1
 unplanned_still w Load e = cond_both w.ran_out _ _ (λ (p : DiskTold Load × DiskWorld). IsUnplanned p.1) (λ out. e) (λ told. e)
@@ -86,22 +79,14 @@ or_first false y e = refl
 -- the machine that hasn't stopped behind a call hadn't before it
 unstopped_still : (w : DiskWorld) (call : DiskCall) → (disk_answer w call).1.stopped ≡ false → w.stopped ≡ false
 unstopped_still w Load = cond_both w.ran_out _ _ (λ (p : DiskTold Load × DiskWorld). p.1.stopped ≡ false → w.stopped ≡ false) (λ out e. e) (λ told e. e)
-unstopped_still w (Write_new text) = cond_both w.ran_out _ _ (λ (p : DiskTold (Write_new text) × DiskWorld). p.1.stopped ≡ false → w.stopped ≡ false) (λ out e. e) (λ told e. or_first w.stopped (stops_by (word_at (with_number (Write_new text) w).calls None w.planned)) e)
-unstopped_still w Sync_new = cond_both w.ran_out _ _ (λ (p : DiskTold Sync_new × DiskWorld). p.1.stopped ≡ false → w.stopped ≡ false) (λ out e. e) (λ told e. or_first w.stopped (stops_by (word_at (with_number Sync_new w).calls None w.planned)) e)
-unstopped_still w Swap = cond_both w.ran_out _ _ (λ (p : DiskTold Swap × DiskWorld). p.1.stopped ≡ false → w.stopped ≡ false) (λ out e. e) (λ told e. or_first w.stopped (stops_by (word_at (with_number Swap w).calls None w.planned)) e)
+unstopped_still w (Write_new text) = cond_both w.ran_out _ _ (λ (p : DiskTold (Write_new text) × DiskWorld). p.1.stopped ≡ false → w.stopped ≡ false) (λ out e. e) (λ told e. or_first w.stopped (stops_by (plan_at (with_number (Write_new text) w).calls None w.planned)) e)
+unstopped_still w Sync_new = cond_both w.ran_out _ _ (λ (p : DiskTold Sync_new × DiskWorld). p.1.stopped ≡ false → w.stopped ≡ false) (λ out e. e) (λ told e. or_first w.stopped (stops_by (plan_at (with_number Sync_new w).calls None w.planned)) e)
+unstopped_still w Swap = cond_both w.ran_out _ _ (λ (p : DiskTold Swap × DiskWorld). p.1.stopped ≡ false → w.stopped ≡ false) (λ out e. e) (λ told e. or_first w.stopped (stops_by (plan_at (with_number Swap w).calls None w.planned)) e)
 
 pub play_unstopped : {R : Type 0} (p : DiskProg R) (w : DiskWorld) → (play_disk p w).1.stopped ≡ false → w.stopped ≡ false
 play_unstopped (Ended value) w e = e
 play_unstopped (AskDisk call next) w e = unstopped_still w call (play_unstopped (next (disk_answer w call).0) (disk_answer w call).1 e)
 play_unstopped (DiskRoom next) w e = play_unstopped (next true) w e
-
-plan_still : (w : DiskWorld) (call : DiskCall) → (disk_answer w call).1.planned ≡ w.planned
-plan_still w call = cond_both w.ran_out _ _ (λ (p : DiskTold call × DiskWorld). p.1.planned ≡ w.planned) (λ out. same_plan call w) (λ told. same_plan call w)
-
-pub play_keeps_plan : {R : Type 0} (p : DiskProg R) (w : DiskWorld) → (play_disk p w).1.planned ≡ w.planned
-play_keeps_plan (Ended value) w = refl
-play_keeps_plan (AskDisk call next) w = play_keeps_plan (next (disk_answer w call).0) (disk_answer w call).1 ∙ plan_still w call
-play_keeps_plan (DiskRoom next) w = play_keeps_plan (next true) w
 
 -- a crash may leave the rule file as it is, after a call and so after a play
 image_still : (w : DiskWorld) (call : DiskCall) → w.ran_out ≡ false → IsImage w.disk.left w.disk.text → IsImage (disk_answer w call).1.disk.left (disk_answer w call).1.disk.text
@@ -128,8 +113,8 @@ went_by : (fate : Option Mishap) (w t : DiskWorld) → (IsUnplanned w → fate �
 went_by None w t calm same = same
 went_by (Some m) w t calm same = (λ e. let planned : Some m ≡ None = calm e in let none : ⊥ = cc in absurd none, subst (λ (n : ℕ). n ≤ w.faults + 1) (sym same) (up_within w.faults).1)
 
-none_planned : (n : ℕ) (swaps : Bool) (w : DiskWorld) → IsUnplanned w → fate_by w.stopped swaps (word_at n None w.planned) ≡ None
-none_planned n swaps w e = ap (λ (b : Bool). fate_by b swaps (word_at n None w.planned)) e.1 ∙ ap (λ (ps : List Planned). fate_by false swaps (word_at n None ps)) e.0
+none_planned : (n : ℕ) (swaps : Bool) (w : DiskWorld) → IsUnplanned w → fate_by w.stopped swaps (plan_at n None w.planned) ≡ None
+none_planned n swaps w e = ap (λ (b : Bool). fate_by b swaps (plan_at n None w.planned)) e.1 ∙ ap (λ (ps : List Planned). fate_by false swaps (plan_at n None ps)) e.0
 
 write_went : (text : List ℕ) (w : DiskWorld) → w.ran_out ≡ false → Went (disk_answer w (Write_new text)).0.answer w (disk_answer w (Write_new text)).1
 write_went text w e =

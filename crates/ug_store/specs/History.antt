@@ -82,8 +82,3 @@ StaysPossible = (call : DiskCall) (told : DiskTold call) (m n : Disk) → DiskCa
 abbrev pub LeavesInside : Type 0
 LeavesInside = (call : DiskCall) (told : DiskTold call) (m n : Disk) → DiskCalled call told m n
     → IsImage m.left m.text → IsImage (inside call m) n.text
-
--- The machine comes up again behind a stop: the rule file has one of these texts, and a further stop leaves no other.
-pub record ComesUp (images : Images) (n : Disk) : Type 0 where
-  pub stood : IsImage images n.text
-  pub left : n.left ≡ Texts (n.text ∷ [])

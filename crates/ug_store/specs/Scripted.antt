@@ -32,10 +32,10 @@ world_at_first text = record { disk = disk_at_first text; planned = []; stopped 
 abbrev pub one_up : ℕ → ℕ
 one_up n = cond (nat_lt n (2 ^ 64 - 1)) (n + 1) n
 
--- the word on call n, if there is one. The last counts
-abbrev pub word_at : ℕ → Option Planned → List Planned → Option Planned
-word_at n so_far [] = so_far
-word_at n so_far (p ∷ ps) = word_at n (cond (nat_eq p.call n) (Some p) so_far) ps
+-- what is planned for call n, if anything is. The last plan counts
+abbrev pub plan_at : ℕ → Option Planned → List Planned → Option Planned
+plan_at n so_far [] = so_far
+plan_at n so_far (p ∷ ps) = plan_at n (cond (nat_eq p.call n) (Some p) so_far) ps
 
 -- A call in which the machine stops has its effect only where it swaps.
 abbrev pub mishap_of : Bool → Planned → Mishap
@@ -43,7 +43,7 @@ mishap_of swaps p = cond (p.stops && not swaps) mishap.NoEffect p.mishap
 
 -- how a call fails, if it does: behind a stop each does, and has no effect
 abbrev pub fate_by : Bool → Bool → Option Planned → Option Mishap
-fate_by true swaps word = Some mishap.NoEffect
+fate_by true swaps plan = Some mishap.NoEffect
 fate_by false swaps None = None
 fate_by false swaps (Some p) = Some (mishap_of swaps p)
 
@@ -118,16 +118,16 @@ with_number Swap w = record w { calls = one_up w.calls }
 
 abbrev pub fate_at : DiskCall → DiskWorld → Option Mishap
 fate_at Load w = None
-fate_at (Write_new text) w = fate_by w.stopped false (word_at w.calls None w.planned)
-fate_at Sync_new w = fate_by w.stopped false (word_at w.calls None w.planned)
-fate_at Swap w = fate_by w.stopped true (word_at w.calls None w.planned)
+fate_at (Write_new text) w = fate_by w.stopped false (plan_at w.calls None w.planned)
+fate_at Sync_new w = fate_by w.stopped false (plan_at w.calls None w.planned)
+fate_at Swap w = fate_by w.stopped true (plan_at w.calls None w.planned)
 
 -- the machine has stopped in this call, or before it
 abbrev pub stopped_at : DiskCall → DiskWorld → Bool
 stopped_at Load w = w.stopped
-stopped_at (Write_new text) w = w.stopped || stops_by (word_at w.calls None w.planned)
-stopped_at Sync_new w = w.stopped || stops_by (word_at w.calls None w.planned)
-stopped_at Swap w = w.stopped || stops_by (word_at w.calls None w.planned)
+stopped_at (Write_new text) w = w.stopped || stops_by (plan_at w.calls None w.planned)
+stopped_at Sync_new w = w.stopped || stops_by (plan_at w.calls None w.planned)
+stopped_at Swap w = w.stopped || stops_by (plan_at w.calls None w.planned)
 
 abbrev pub reply_by : (call : DiskCall) → Option Mishap → Disk → DiskReply call
 reply_by Load fate m = loaded_of m.text

@@ -71,8 +71,8 @@ SavedAs saved.Done text m n = (n.text ≡ text) × (n.left ≡ Texts (text ∷ [
 SavedAs (saved.Failed count) text m n = ((n.text ≡ m.text) ⊎ (n.text ≡ text)) × IsOldOr m.left text n.left
 SavedAs saved.Memory text m n = IsAsItWas m n
 
--- within each call since, a crash leaves what it might have left before, or the text; and what it might have left before, where memory was
--- refused for the new file
+-- Within each call since, a crash leaves what it might have left before, or the text. Where memory was refused for the new file, it leaves
+-- just what it might have left before.
 pub record HasSaved (text : List ℕ) (m : Disk) (r : Saved) (n : Disk) : Type 0 where
   pub since : List Images
   pub past : n.past ≡ m.past ++ since

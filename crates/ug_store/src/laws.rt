@@ -2,7 +2,7 @@
 ghost use Rattle.std.specs.Prelude.{◌≡◌, ℕ, ◌++◌, ◌∷◌, [], true, None, Some, List};
 ghost use Rattle.ug_store.specs.declared.mishap.Planned.{Planned};
 ghost use Rattle.ug_store.specs.DiskCalls.{DiskCall, DiskTold};
-ghost use Rattle.ug_store.specs.Scripted.{DiskWorld, MemKeeps, word_at};
+ghost use Rattle.ug_store.specs.Scripted.{DiskWorld, MemKeeps, plan_at};
 ghost use Rattle.ug_store.specs.PlayDisk.{SavesAsPlayed, ReadsAsPlayed};
 ghost use Rattle.ug_store.specs.History.{StandsAfter, StandsWithin, ReadsStanding, CoversEnds, LeavesInside, StaysPossible};
 
@@ -23,12 +23,12 @@ pub fn moment_law()
     ensures inside { LeavesInside }
 {}
 
-/// A call of a disk in memory fails where it is planned to. The last word on it counts.
+/// A call of a disk in memory fails where it is planned to. The last plan for it counts.
 pub fn mishap_law()
-    ensures none { (n : ℕ) → word_at n None [] ≡ None }
-    ensures last { (n : ℕ) (ps : List Planned) (p : Planned) → p.call ≡ n → word_at n None (ps ++ p ∷ []) ≡ Some p }
+    ensures none { (n : ℕ) → plan_at n None [] ≡ None }
+    ensures last { (n : ℕ) (ps : List Planned) (p : Planned) → p.call ≡ n → plan_at n None (ps ++ p ∷ []) ≡ Some p }
     ensures other { (n : ℕ) (ps : List Planned) (p : Planned) → ¬ (p.call ≡ n)
-        → word_at n None (ps ++ p ∷ []) ≡ word_at n None ps }
+        → plan_at n None (ps ++ p ∷ []) ≡ plan_at n None ps }
 {}
 
 /// Over a disk in memory, a save and a reading are those that its script fixes, unless they tell want of memory or the

@@ -2,7 +2,7 @@
 ghost use Rattle.std.specs.Prelude.{◌≡◌, ◌⊎◌, ◌||◌, ◌++◌, ◌∷◌, [], true, false, None, IsOk, IfOk, OnOk, OnErr};
 ghost use Rattle.ug_store.specs.MemLaw.{mem_did, mem_counted};
 ghost use Rattle.ug_store.specs.Passed.{any_settles};
-ghost use Rattle.ug_store.specs.Scripted.{coming_up, fate_by, stops_by, forgetting, world_at_first, word_at, takes_effect, goes_well, answer_of_fate, faults_by, written_if, traded_if, loaded_of, one_up, begun_on, over_on, disk_told, MemKeeps, IsNoted};
+ghost use Rattle.ug_store.specs.Scripted.{coming_up, fate_by, stops_by, forgetting, world_at_first, plan_at, takes_effect, goes_well, answer_of_fate, faults_by, written_if, traded_if, loaded_of, one_up, begun_on, over_on, disk_told, MemKeeps, IsNoted};
 
 use crate::disk::{DiskAnswer, Loaded, RuleDisk};
 use crate::mishap::{Mishap, Planned};
@@ -115,7 +115,7 @@ impl MemDisk {
         self.stopped = false;
     }
 
-    /// A call of the event that is to fail. The last word on a call counts.
+    /// A call of the event that is to fail. The last plan for a call counts.
     pub fn plan(&mut self, planned: Planned) -> Result<(), NoMemory>
         ensures ok { OnOk result (self.new ≡ record self.old { planned = self.old.planned ++ planned ∷ [] }) }
         ensures err { OnErr result (self.new ≡ self.old) }
@@ -231,16 +231,16 @@ impl MemDisk {
 
     // How the call is to fail, if it is.
     fn fate(&self, swaps: bool) -> Option<Mishap>
-        ensures { result ≡ fate_by self.now.stopped swaps (word_at self.now.calls None self.now.planned) }
+        ensures { result ≡ fate_by self.now.stopped swaps (plan_at self.now.calls None self.now.planned) }
     {
-        fate_by(self.stopped, swaps, word_at(&self.planned, self.calls))
+        fate_by(self.stopped, swaps, plan_at(&self.planned, self.calls))
     }
 
     // The machine may stop in this call.
     fn stop_here(&mut self)
-        ensures { self.new ≡ record self.old { stopped = self.old.stopped || stops_by (word_at self.old.calls None self.old.planned) } }
+        ensures { self.new ≡ record self.old { stopped = self.old.stopped || stops_by (plan_at self.old.calls None self.old.planned) } }
     {
-        self.stopped = self.stopped || stops_by(word_at(&self.planned, self.calls));
+        self.stopped = self.stopped || stops_by(plan_at(&self.planned, self.calls));
     }
 
     fn answer(&mut self, fate: Option<Mishap>) -> DiskAnswer
@@ -289,9 +289,9 @@ fn any_settles(passed: &[Passed]) -> bool
     false
 }
 
-// The word on a call, if there is one.
-fn word_at(planned: &[Planned], call: u64) -> Option<Planned>
-    ensures { result ≡ word_at call None planned.now }
+// What is planned for a call, if anything is.
+fn plan_at(planned: &[Planned], call: u64) -> Option<Planned>
+    ensures { result ≡ plan_at call None planned.now }
 {
     let mut found = None;
     for plan in planned {
@@ -302,23 +302,23 @@ fn word_at(planned: &[Planned], call: u64) -> Option<Planned>
     found
 }
 
-fn fate_by(stopped: bool, swaps: bool, word: Option<Planned>) -> Option<Mishap>
-    ensures { result ≡ fate_by stopped swaps word }
+fn fate_by(stopped: bool, swaps: bool, plan: Option<Planned>) -> Option<Mishap>
+    ensures { result ≡ fate_by stopped swaps plan }
 {
     if stopped {
         return Some(Mishap::NoEffect);
     }
-    match word {
+    match plan {
         None => None,
         Some(planned) if planned.stops && !swaps => Some(Mishap::NoEffect),
         Some(planned) => Some(planned.mishap),
     }
 }
 
-fn stops_by(word: Option<Planned>) -> bool
-    ensures { result ≡ stops_by word }
+fn stops_by(plan: Option<Planned>) -> bool
+    ensures { result ≡ stops_by plan }
 {
-    match word {
+    match plan {
         None => false,
         Some(planned) => planned.stops,
     }

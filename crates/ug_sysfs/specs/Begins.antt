@@ -13,14 +13,14 @@ use Rattle.ug_sysfs.specs.declared.script.NewDevice.{NewDevice}
 use Rattle.ug_sysfs.specs.declared.script.Move.{Move}
 use Rattle.ug_sysfs.specs.declared.script.Move.TheVariants.{Plug, Unplug}
 use Rattle.ug_sysfs.specs.declared.script.Scheduled.{Scheduled}
-use Rattle.ug_sysfs.specs.Devices.{controller_under, default_of, starts_on, born_with, born_as, born, find, felled, fall, unplug_at, unplugged, born_under, placed, plug_at, plugged}
+use Rattle.ug_sysfs.specs.Devices.{controller_under, controller_default, starts_on, born_with, born_as, born, find, felled, fall, unplug_at, unplugged, born_under, placed, plug_at, plugged}
 use Rattle.ug_sysfs.specs.World.{moved, due, happen, happen_all}
 
 or_true : (b c : Bool) → b ≡ true → b || c ≡ true
 or_true b c h = rw h refl
 
 moved_felled : (target : ℕ) (bs : List Device) (d : Device) → Moved d (felled target bs d)
-moved_felled target bs d = record { stays = record { name = refl; parent = refl; controller = refl; descriptors = refl; product = refl; serial = refl; connect = refl; guarded = refl; gone = λ h. or_true d.gone _ h }; on = refl; default = refl }
+moved_felled target bs d = record { stays = record { name = refl; parent = refl; controller = refl; descriptors = refl; product = refl; serial = refl; connect = refl; born_off = refl; gone = λ h. or_true d.gone _ h }; on = refl; default = refl }
 
 begins_fall : (target : ℕ) (bs ds : List Device) → Begins (bs ++ ds) (fall target bs ds)
 begins_fall target bs [] = rw append-nil (begins bs)
@@ -69,9 +69,9 @@ begins_all (m ∷ ms) ds = begins_then _ _ _ (begins_moved m.action ds) (begins_
 
 -- how devices start
 
-starts_with : (ds es : List Device) (d : NewDevice) (p c : Option ℕ) → ((r : ℕ) → c ≡ Some r → default_in (slice_get es r) ≡ default_in (slice_get ds r)) → Starts es (born_with d p c (default_of c ds))
+starts_with : (ds es : List Device) (d : NewDevice) (p c : Option ℕ) → ((r : ℕ) → c ≡ Some r → default_in (slice_get es r) ≡ default_in (slice_get ds r)) → Starts es (born_with d p c (controller_default c ds))
 starts_with ds es d p None same = (refl, refl)
-starts_with ds es d p (Some r) same = (refl, record { guarded = ap is_off (sym (same r refl)); on = λ v e. ap (λ (o : Option Bool). starts_on o d.on) (sym (same r refl) ∙ e) })
+starts_with ds es d p (Some r) same = (refl, record { born_off = ap is_off (sym (same r refl)); on = λ v e. ap (λ (o : Option Bool). starts_on o d.on) (sym (same r refl) ∙ e) })
 
 -- one more has no default
 same_default : (ds : List Device) (x : Device) (r : ℕ) → x.default ≡ None → default_in (slice_get (ds ++ x ∷ []) r) ≡ default_in (slice_get ds r)

@@ -11,7 +11,7 @@ use Rattle.ug_kernel.specs.Kernel.{Kernel}
 use Rattle.ug_kernel.specs.Called.{read_of, within, text_within}
 use Rattle.ug_sysfs.specs.Devices.{find}
 use Rattle.ug_sysfs.specs.Reply.{Reply, failure, is_failure, IsMemory}
-use Rattle.ug_sysfs.specs.World.{World, one_more, opened_at, read_from, read_at, live_held, alive_of, probed_at, put_at, act, effect, entered, fate_of, faults_after, told_as, answer_from, refusing, answer_unless, answer_of, IsListed, Gives}
+use Rattle.ug_sysfs.specs.World.{World, one_more, with_file, opened_at, read_from, read_at, live_held, alive_of, probed_at, put_at, act, effect, entered, fate_of, faults_after, told_as, answer_from, refusing, answer_unless, answer_of, IsListed, Gives}
 
 more_within : (n : ℕ) → (n ≤ one_more n) × (one_more n ≤ n + 1)
 more_within n =
@@ -54,7 +54,7 @@ read_true attr.Connect d = text_true d.connect
 -- no call fails by itself
 act_true : (c : Call) (k : Kernel) → is_failure c (act c k).0 ≡ false
 act_true Names k = refl
-act_true (Open name control) k = at (find name 0 k.devices)
+act_true (Open name control) k = at (with_file control (find name 0 k.devices) k.devices)
   where
     at : (o : Option ℕ) → failed_open (opened_at control o k).0 ≡ false
     at None = refl

@@ -80,9 +80,9 @@ controller_under None ds = None
 controller_under (Some p) ds = Some (hub_under p (slice_get ds p))
 
 -- and the default of that controller
-abbrev pub default_of : Option ℕ → List Device → Option Bool
-default_of None ds = None
-default_of (Some r) ds = default_in (slice_get ds r)
+abbrev pub controller_default : Option ℕ → List Device → Option Bool
+controller_default None ds = None
+controller_default (Some r) ds = default_in (slice_get ds r)
 
 -- a default that is set is the value that a device starts with
 abbrev pub starts_on : Option Bool → Bool → Bool
@@ -102,11 +102,11 @@ born_with d parent controller default = record {
   gone = false;
   on = starts_on default d.on;
   default = None;
-  guarded = is_off default;
+  born_off = is_off default;
 }
 
 abbrev pub born_as : NewDevice → Option ℕ → List Device → Device
-born_as d parent ds = born_with d parent (controller_under parent ds) (default_of (controller_under parent ds) ds)
+born_as d parent ds = born_with d parent (controller_under parent ds) (controller_default (controller_under parent ds) ds)
 
 abbrev pub born : NewDevice → Option ℕ → List Device → List Device
 born d parent ds = ds ++ born_as d parent ds ∷ []

@@ -1,6 +1,6 @@
 -- What a script answers is what the kernel may answer.
-use Rattle.std.proofs.Common.{◌≡◌, ℕ, ◌<◌, Bool, true, false, cond, List, length, Option, Some, None, refl, sym, ◌∙◌, ap, subst, arith, inl, inr, length-set}
-use Rattle.std.proofs.lemmas.Bool.{both_ways}
+use Rattle.std.proofs.Common.{◌≡◌, ℕ, ◌<◌, Bool, true, false, cond, List, length, set, Option, Some, None, refl, sym, ◌∙◌, ap, subst, arith, inl, inr, length-set}
+use Rattle.std.proofs.lemmas.Bool.{both_ways, cases_eq}
 use Rattle.std.proofs.lemmas.Option.{slice_get_within, none-some, same_Some}
 use Rattle.std.specs.List.{slice_get}
 use Rattle.ug_types.specs.Elements.{Has}
@@ -13,16 +13,16 @@ use Rattle.ug_types.specs.declared.control.Write.{Write}
 use Rattle.ug_kernel.specs.declared.calls.ReadOut.{ReadOut}
 use Rattle.ug_kernel.specs.declared.calls.ReadOut.TheVariants as out
 use Rattle.ug_kernel.specs.Calls.{Call, Names, Open, Read, Ask_alive, Put, Close, Closing, Answer, raised}
-use Rattle.ug_kernel.specs.Kernel.{Kernel, Live, IsKernel, Stays, Moves}
-use Rattle.ug_kernel.specs.Called.{NoneLived, read_of, within, text_within, written_to, IsWritten, Does, IsGoneAt, IsAlive, IsFile, says_read, Says, Called, Follows}
+use Rattle.ug_kernel.specs.Kernel.{Kernel, Live, IsKernel, has_file, Stays, Moves}
+use Rattle.ug_kernel.specs.Called.{NoneHas, NoneLived, read_of, within, text_within, written_to, IsWritten, Does, IsGoneAt, IsAlive, IsFile, says_read, Says, Called, Follows}
 use Rattle.ug_kernel.proofs.Places.{at_set_same, at_set_other}
 use Rattle.ug_kernel.proofs.Stayed.{live_back, lived_at, unmoving}
-use Rattle.ug_kernel.proofs.Sounds.{sound_set, held_push, kernel_moves}
+use Rattle.ug_kernel.proofs.Sounds.{sound_set, held_push, has_stays, files_push, kernel_moves}
 use Rattle.ug_sysfs.specs.Devices.{find}
 use Rattle.ug_sysfs.specs.Reply.{Reply, failure, IsMemory}
-use Rattle.ug_sysfs.specs.World.{World, opened_at, read_from, read_at, live_held, live_names, probed_at, put_at, act, hidden, effect, shift, entered, ended, fate_of, counted, with_kernel, told_as, answer_from, answer_unless, Wants, Gives, begun, told}
+use Rattle.ug_sysfs.specs.World.{World, if_has, with_file, opened_at, read_from, read_at, live_held, live_names, probed_at, put_at, act, hidden, effect, shift, entered, ended, fate_of, counted, with_kernel, told_as, answer_from, answer_unless, Wants, Gives, begun, told}
 use Rattle.ug_sysfs.specs.Begins.{happen_moves}
-use Rattle.ug_sysfs.specs.Find.{find_some, find_none, listed_live, distinct_names, HeldLive, live_held_some, live_held_none}
+use Rattle.ug_sysfs.specs.Find.{Found, find_some, find_none, listed_live, distinct_names, HeldLive, live_held_some, live_held_none}
 use Rattle.ug_sysfs.specs.Sound.{sound_happen}
 
 -- what holds of the effect of a call
@@ -36,18 +36,57 @@ none_lived name x k y h a b i d lived n =
     let p = lived_at x.devices k.devices y.devices i d a.devices b.devices lived in
     find_none name 0 k.devices h i p.0 p.1 (p.2.name ∙ n)
 
-ready_open : (name : List ℕ) (control : Control) (w : World) (k : Kernel) (o : Option ℕ) → find name 0 k.devices ≡ o → Ready (Open name control) (told_as (Open name control) (opened_at control o k).0 w) k (opened_at control o k).1
+-- the device of a name with that file
+
+found_with : (control : Control) (name : List ℕ) (i j : ℕ) (ds : List Device) (f : Found name j ds) (b : Bool) → has_file control f.device ≡ b → cond b (Some j) None ≡ Some i → (g : Found name i ds) × (has_file control g.device ≡ true)
+found_with control name i j ds f true e h =
+    let P : ℕ → Type 0 = λ n. (g : Found name n ds) × (has_file control g.device ≡ true) in
+    subst P (let same : j ≡ i = cc in same) (f, e)
+found_with control name i j ds f false e h = absurd (none-some i h)
+
+with_file_some : (control : Control) (name : List ℕ) (i : ℕ) (ds : List Device) → with_file control (find name 0 ds) ds ≡ Some i → (g : Found name i ds) × (has_file control g.device ≡ true)
+with_file_some control name i ds h = by (find name 0 ds) refl h
+  where
+    by : (o : Option ℕ) → find name 0 ds ≡ o → with_file control o ds ≡ Some i → (g : Found name i ds) × (has_file control g.device ≡ true)
+    by None e g = absurd (none-some i g)
+    by (Some j) e g =
+        let f = find_some name j ds e in
+        found_with control name i j ds f (has_file control f.device) refl (sym (ap (if_has control j) f.live.at) ∙ g)
+
+with_file_none : (control : Control) (name : List ℕ) (k : Kernel) (i : ℕ) (d : Device) → with_file control (find name 0 k.devices) k.devices ≡ None → IsKernel k → Live k.devices i d → d.name ≡ name → has_file control d ≡ true → ⊥
+with_file_none control name k i d h s live n has = by (find name 0 k.devices) refl h
+  where
+    by : (o : Option ℕ) → find name 0 k.devices ≡ o → with_file control o k.devices ≡ None → ⊥
+    by None e g = find_none name 0 k.devices e i d live n
+    by (Some j) e g =
+        let f = find_some name j k.devices e in
+        let same : i ≡ j = s.devices.names i j d f.device live f.live (n ∙ sym f.named) in
+        let at : slice_get k.devices j ≡ Some d = ap (slice_get k.devices) (sym same) ∙ live.at in
+        none-some j (sym g ∙ ap (if_has control j) at ∙ ap (λ (b : Bool). cond b (Some j) None) has)
+
+none_has : (control : Control) (name : List ℕ) (x k y : Kernel) → with_file control (find name 0 k.devices) k.devices ≡ None → IsKernel k → Moves x k → Moves k y → NoneHas control name x y
+none_has control name x k y h s a b i d lived n has =
+    let p = lived_at x.devices k.devices y.devices i d a.devices b.devices lived in
+    with_file_none control name k i p.0 h s p.1 (p.2.name ∙ n) (has_stays control d p.0 p.2.parent ∙ has)
+
+ready_open : (name : List ℕ) (control : Control) (w : World) (k : Kernel) (o : Option ℕ) → with_file control (find name 0 k.devices) k.devices ≡ o → Ready (Open name control) (told_as (Open name control) (opened_at control o k).0 w) k (opened_at control o k).1
 ready_open name control w k None h = record {
   does = refl;
-  says = λ x y sx sk a b. none_lived name x k y h a b;
+  says = λ x y sx sk a b. none_has control name x k y h sk a b;
   sound = λ s. s;
 }
 ready_open name control w k (Some i) h =
-    let f = find_some name i k.devices h in
+    let g = with_file_some control name i k.devices h in
+    let f = g.0 in
+    let file : HeldFile = record { device = i; control = control } in
     record {
-      does = record { i = i; d = f.device; live = f.live; named = f.named; next = refl; more = refl; devices = refl; log = refl };
+      does = record { i = i; d = f.device; live = f.live; named = f.named; has = g.1; next = refl; more = refl; devices = refl; log = refl };
       says = λ x y sx sk a b. tt;
-      sound = λ s. record { devices = s.devices; held = held_push k.held (record { device = i; control = control }) (length k.devices) s.held (slice_get_within k.devices i f.device f.live.at) };
+      sound = λ s. record {
+        devices = s.devices;
+        held = held_push k.held file (length k.devices) s.held (slice_get_within k.devices i f.device f.live.at);
+        files = files_push k.held file k.devices s.files (λ d at. subst (λ (e : Device). has_file control e ≡ true) (same_Some f.device d (sym f.live.at ∙ at)) g.1);
+      };
     }
 
 says_file : (name : List ℕ) (at : Attr) (r : ReadOut) (x y : Kernel) → IsFile name at r x y → says_read name at r x y
@@ -129,6 +168,12 @@ written_sound : (write : Write) (i : ℕ) (d : Device) (k : Kernel) → Live k.d
 written_sound write i d k l s = rw l.at (record {
   devices = sound_set write k.devices i d l.at s.devices;
   held = λ h f a. omega (arith, s.held h f a, length-set k.devices i (written_to write d));
+  files = λ h f e a at. elim (cases_eq f.device i) [
+    | inl p ↦
+        let same : written_to write d ≡ e = same_Some (written_to write d) e (sym (at_set_same k.devices i d (written_to write d) l.at) ∙ ap (slice_get (set k.devices i (written_to write d))) (sym p) ∙ at) in
+        has_stays f.control d e (ap (λ (x : Device). x.parent) (sym same)) ∙ s.files h f d a (ap (slice_get k.devices) p ∙ l.at)
+    | inr n ↦ s.files h f e a (sym (at_set_other k.devices i f.device (written_to write d) n) ∙ at)
+  ];
 })
 
 ready_put : (h : ℕ) (write : Write) (w : World) (k : Kernel) (o : Option ℕ) → live_held h k.held k.devices ≡ o → Ready (Put h write) (told_as (Put h write) (put_at write o k).0 w) k (put_at write o k).1
@@ -156,7 +201,7 @@ ready_act Names w k = record {
   );
   sound = λ s. s;
 }
-ready_act (Open name control) w k = ready_open name control w k (find name 0 k.devices) refl
+ready_act (Open name control) w k = ready_open name control w k (with_file control (find name 0 k.devices) k.devices) refl
 ready_act (Read name at) w k = ready_read name at w k (find name 0 k.devices) refl
 ready_act (Ask_alive h) w k = ready_probe h w k (live_held h k.held k.devices) refl
 ready_act (Put h write) w k = ready_put h write w k (live_held h k.held k.devices) refl

@@ -133,4 +133,5 @@ new_sound = record {
     few = omega arith;
   };
   held = λ h f a. absurd (none-some f a);
+  files = λ h f d a at. absurd (none-some f a);
 }

@@ -16,7 +16,7 @@ use Rattle.ug_kernel.specs.declared.calls.Probe.TheVariants as probe
 use Rattle.ug_kernel.specs.declared.calls.Wrote.{Wrote}
 use Rattle.ug_kernel.specs.declared.calls.Wrote.TheVariants as wrote
 use Rattle.ug_kernel.specs.Calls.{Call, Names, Open, Read, Ask_alive, Put, Close, Closed, Answer, raised}
-use Rattle.ug_kernel.specs.Kernel.{Kernel}
+use Rattle.ug_kernel.specs.Kernel.{Kernel, has_file}
 use Rattle.ug_kernel.specs.Called.{read_of, written_to}
 use Rattle.ug_sysfs.specs.declared.script.Failing.{Failing}
 use Rattle.ug_sysfs.specs.declared.script.Move.{Move}
@@ -81,6 +81,16 @@ abbrev pub live_names : List Device → List (List ℕ)
 live_names [] = []
 live_names (d ∷ ds) = cond d.gone (live_names ds) (d.name ∷ live_names ds)
 
+-- the device at a place, where it has that file
+
+abbrev pub if_has : Control → ℕ → Option Device → Option ℕ
+if_has control i None = None
+if_has control i (Some d) = cond (has_file control d) (Some i) None
+
+abbrev pub with_file : Control → Option ℕ → List Device → Option ℕ
+with_file control None ds = None
+with_file control (Some i) ds = if_has control i (slice_get ds i)
+
 abbrev pub opened_at : Control → Option ℕ → Kernel → Opened × Kernel
 opened_at control None k = (opened.Absent, k)
 opened_at control (Some i) k = (opened.Token (record { 0 = length k.held }), record k { held = k.held ++ record { device = i; control = control } ∷ [] })
@@ -127,7 +137,7 @@ put_at write (Some i) k = (wrote.Done, record k { devices = switched write i k.d
 -- what a call answers, and what it does
 abbrev pub act : (call : Call) → Kernel → Reply call × Kernel
 act Names k = (listing.Names (live_names k.devices), k)
-act (Open name control) k = opened_at control (find name 0 k.devices) k
+act (Open name control) k = opened_at control (with_file control (find name 0 k.devices) k.devices) k
 act (Read name attr) k = (read_at attr (find name 0 k.devices) k.devices, k)
 act (Ask_alive held) k = (probed_at (live_held held k.held k.devices) k.devices, k)
 act (Put held write) k = put_at write (live_held held k.held k.devices) k

@@ -2,10 +2,11 @@
 ghost use Rattle.std.specs.Prelude.{◌≡◌, ◌⊎◌, IfOk};
 ghost use Rattle.ug_kernel.specs.Called.{read_of, within, text_within};
 ghost use Rattle.ug_sysfs.specs.Living.{name_at, names_at};
-ghost use Rattle.ug_sysfs.specs.World.{live_held};
+ghost use Rattle.ug_sysfs.specs.World.{live_held, with_file};
+ghost use Rattle.ug_kernel.specs.Kernel.{has_file};
 
 use std::alloc::Global;
-use ug_kernel::{Attr, Device, HeldFile, ReadOut};
+use ug_kernel::{Attr, Control, Device, HeldFile, ReadOut};
 use ug_types::{List, NoMemory, NodeName, Text};
 
 fn name_at(devices: &[Device], place: usize) -> Option<NodeName>
@@ -65,6 +66,33 @@ pub fn read_file(alloc: Global, device: &Device, attr: Attr) -> ReadOut
         Attr::Product => read_text(alloc, &device.product),
         Attr::Serial => read_text(alloc, &device.serial),
         Attr::Connect => read_text(alloc, &device.connect),
+    }
+}
+
+fn has_file(device: &Device, control: Control) -> bool
+    ensures { result ≡ has_file control device.now }
+{
+    match control {
+        Control::Authorized => true,
+        Control::Remove => true,
+        Control::Default => device.parent.is_none(),
+    }
+}
+
+/// The device at a place, where it has that file.
+pub fn with_file(devices: &[Device], place: Option<usize>, control: Control) -> Option<usize>
+    ensures { result ≡ with_file control place devices.now }
+{
+    match place {
+        Some(i) => match devices.get(i) {
+            Some(device) => if has_file(device, control) {
+                Some(i)
+            } else {
+                None
+            },
+            None => None,
+        },
+        None => None,
     }
 }
 

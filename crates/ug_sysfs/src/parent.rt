@@ -4,7 +4,7 @@ ghost use Rattle.ug_types.specs.Names.{parent_of};
 ghost use Rattle.ug_kernel.specs.Kernel.{live_count};
 ghost use Rattle.std.specs.List.{slice_get};
 ghost use Rattle.ug_kernel.specs.Kernel.{is_off};
-ghost use Rattle.ug_sysfs.specs.Devices.{plugged, sought, hub_under, controller_under, default_of, starts_on};
+ghost use Rattle.ug_sysfs.specs.Devices.{plugged, sought, hub_under, controller_under, controller_default, starts_on};
 
 use crate::census::Census;
 use crate::script::NewDevice;
@@ -59,8 +59,8 @@ fn controller_under(devices: &[Device], parent: Option<usize>) -> Option<usize>
 }
 
 // The default of a controller.
-fn default_of(devices: &[Device], controller: Option<usize>) -> Option<bool>
-    ensures { result ≡ default_of controller devices.now }
+fn controller_default(devices: &[Device], controller: Option<usize>) -> Option<bool>
+    ensures { result ≡ controller_default controller devices.now }
 {
     match controller {
         Some(controller) => match devices.get(controller) {
@@ -110,7 +110,7 @@ pub fn plug(census: &mut Census, device: NewDevice)
         Parent::Missing => return,
     };
     let controller = controller_under(census.devices(), parent);
-    let default = default_of(census.devices(), controller);
+    let default = controller_default(census.devices(), controller);
     census.push(Device {
         name: device.name,
         parent,
@@ -122,6 +122,6 @@ pub fn plug(census: &mut Census, device: NewDevice)
         gone: false,
         on: starts_on(default, device.on),
         default: None,
-        guarded: is_off(default),
+        born_off: is_off(default),
     });
 }

@@ -10,7 +10,7 @@ ghost use Rattle.ug_sysfs.specs.Noted.{notes_itself, begins_empty};
 ghost use Rattle.ug_sysfs.specs.World.{halting, moved, Gives, Effects, RunsOut, Puts, Ends, Enters, begun, over, fate_of, counted, told};
 
 use crate::census::Census;
-use crate::devices::{live_held, read_file};
+use crate::devices::{live_held, read_file, with_file};
 use crate::failures::Failures;
 use crate::kinds::{kind_of_listing, kind_of_opened, kind_of_probe, kind_of_read, kind_of_wrote};
 use crate::parent::plug;
@@ -272,7 +272,7 @@ impl SimKernel {
     {
         match self.fate() {
             Some(_) => Opened::Failed,
-            None => match self.census.find(name) {
+            None => match with_file(self.census.devices(), self.census.find(name), control) {
                 Some(device) => {
                     let number = self.held.len() as u64;
                     match self.held.push(HeldFile { device, control }) {

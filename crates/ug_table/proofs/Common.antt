@@ -9,7 +9,7 @@ pub use Rattle.ug_kernel.proofs.Ways.{Sure, Unwritten, Way, Ways, Went as Ran, a
 pub use Rattle.ug_kernel.specs.Along.{Made, answered, Along, failure_of, failures, count_calls, failure, Rises}
 pub use Rattle.ug_kernel.specs.Called.{Follows, says_probe, IsWritten, IsGoneAt, says_put, Called, says_listing, Lived, value_after, written_to, does_put, IsAlive}
 pub use Rattle.ug_kernel.specs.Calls.{Call, Answer, Names, Ask_alive, Put, Close, Told, Closing, Open, Read, failed_read}
-pub use Rattle.ug_kernel.specs.Kernel.{Kernel, Moves, IsKernel, Live, Stays}
+pub use Rattle.ug_kernel.specs.Kernel.{Kernel, Moves, IsKernel, IsOpenable, Live, Stays}
 pub use Rattle.ug_kernel.specs.Quiet.{Grows, Quiet}
 pub use Rattle.ug_kernel.specs.Tree.{Runs, calls, Ask}
 pub use Rattle.ug_kernel.specs.declared.calls.FailedCall.{FailedCall}
@@ -22,7 +22,7 @@ pub use Rattle.ug_node.specs.declared.identity.Binding.{Binding}
 pub use Rattle.ug_node.specs.declared.identity.Bound.{Bound}
 pub use Rattle.ug_node.specs.declared.removal.RemoveHold.{RemoveHold}
 pub use Rattle.ug_record.specs.Records.{judged_of}
-pub use Rattle.ug_table.specs.Bring.{CallsFor, NeedsMemory, after_default, by_default, default_due, default_of, defaulted_known, after_hold, after_value, after_write, close_gone, if_to_go, is_reject, is_to_go, to_value, wants, write_of}
+pub use Rattle.ug_table.specs.Bring.{CallsFor, NeedsMemory, after_default, by_default, default_due, default_write, defaulted_known, after_hold, after_value, after_write, close_gone, if_to_go, is_reject, is_to_go, to_value, wants, write_of}
 pub use Rattle.ug_table.specs.Done.{IsOnce, control_of, is_done}
 unfoldable pub use Rattle.ug_table.specs.Bring.{bringing, once, treating, valuing, writing}
 pub use Rattle.ug_table.specs.Laws.{Stand, IsSpared, Tries, IsDevice, MayHave, MayHaveNot, wrote_entries, HasDone, IsFirst, Account, Start, Had, Had_not, AreInOrder, none_before, IsProbed, numbers_of, Judge, IsOne, IsTold, HasStanding, IsFair, IsDoneMarked, swept_before, IsGone, Went, gone_of, IsRecordOf, IsNamed, IsAsJudged, IsSettled, TellsNeither, HasVerdict, Note, Swept, Sweeps, IsMarked, IsUnlisted, IsListed, IsMarkedIn, AreMarkedIn, Stands, IsJudged, AreLeft, WasDone, TellsDone}

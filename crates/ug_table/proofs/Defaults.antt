@@ -3,14 +3,14 @@ use Rattle.std.proofs.Common.{◌≡◌, ℕ, List, [], ◌∷◌, ◌++◌, Opt
 use Rattle.std.proofs.lemmas.Bool.{both_ways}
 use Rattle.std.proofs.lemmas.Option.{same_Some}
 use Rattle.ug_kernel.specs.declared.device.Effect.{Effect}
-use Rattle.ug_kernel.specs.Guarded.{default_at, default_by, Logs}
-use Rattle.ug_kernel.proofs.Guarded.{AreMeant, default_stays, default_set}
+use Rattle.ug_kernel.specs.Defaults.{default_at, default_by, Logs}
+use Rattle.ug_kernel.proofs.Defaults.{AreMeant, default_stays, default_set}
 use Rattle.ug_table.specs.Laws.{AreDefaulted}
-use Rattle.ug_table.proofs.Common.{Has, AllDistinct, Terms, Write, Wrote, Default, Held, Target, Judged, Entry, Kernel, Tries, Answers, Laters, State, Standing, Account, Start, Note, Judge, Had, Had_not, Went, HasVerdict, IsDevice, IsFair, AreLeft, Stand, numbers_of, wrote_entries, TellsNeither, MayHaveNot, CallsFor, default_of, control_of, has_left, has_right, has_cases, last_is, distinct_one, cancel}
+use Rattle.ug_table.proofs.Common.{Has, AllDistinct, Terms, Write, Wrote, Default, Held, Target, Judged, Entry, Kernel, Tries, Answers, Laters, State, Standing, Account, Start, Note, Judge, Had, Had_not, Went, HasVerdict, IsDevice, IsFair, AreLeft, Stand, numbers_of, wrote_entries, TellsNeither, MayHaveNot, CallsFor, default_write, control_of, has_left, has_right, has_cases, last_is, distinct_one, cancel}
 use Rattle.ug_table.proofs.Shapes.{default_file}
 use Rattle.ug_table.proofs.Standings.{IsFileOf, file_same, file_later}
 
-called_default : (hub : Option Write) (name : List ℕ) (verdict : Target) (what : Write) → CallsFor hub name verdict what → control_of what ≡ Default → default_of hub ≡ Some what
+called_default : (hub : Option Write) (name : List ℕ) (verdict : Target) (what : Write) → CallsFor hub name verdict what → control_of what ≡ Default → default_write hub ≡ Some what
 called_default hub name verdict Write.DefaultOff c e = c.1
 called_default hub name verdict Write.DefaultOn c e = c.1
 called_default hub name verdict x c e = let none : ⊥ = cc in absurd none
@@ -29,7 +29,7 @@ record IsLogged (k : Kernel) (before : List Standing) (es : List Entry) (more : 
 record Adds (hub : Option Write) (k : Kernel) (before : List Standing) (log0 : List Effect) (es : List Entry) (log : List Effect) : Type 0 where
   more : List Effect
   is : log ≡ log0 ++ more
-  meant : (e : Effect) → Has more e → control_of e.write ≡ Default → default_of hub ≡ Some e.write
+  meant : (e : Effect) → Has more e → control_of e.write ≡ Default → default_write hub ≡ Some e.write
   done : (number : ℕ) (name : List ℕ) (what : Write) → Has es (Entry.Wrote number name what Wrote.Done) → IsLogged k before es more number name what
 
 verdict_more : (before : List Standing) (es fs : List Entry) (number : ℕ) (name : List ℕ) (held : Held) (verdict : Target) → HasVerdict before es number name held verdict → HasVerdict before (es ++ fs) number name held verdict
@@ -74,7 +74,7 @@ account_adds {terms = terms} {k = k} {before = before} {log0 = log0} (Had es log
       is = ap (λ (v : List Effect). v ++ new ∷ []) a.is ∙ append_assoc log0 a.more (new ∷ []);
       meant = λ e b c. elim (last_is a.more new e b) [
         | inl x ↦ a.meant e x c
-        | inr is ↦ subst (λ (v : Effect). default_of terms.hub ≡ Some v.write) is (called_default terms.hub name verdict what due (ap (λ (v : Effect). control_of v.write) is ∙ c))
+        | inr is ↦ subst (λ (v : Effect). default_write terms.hub ≡ Some v.write) is (called_default terms.hub name verdict what due (ap (λ (v : Effect). control_of v.write) is ∙ c))
       ];
       done = λ n m w b. elim (has_cases es told (Entry.Wrote n m w Wrote.Done) b) [
         | inl x ↦ logged_more k before es told a.more (new ∷ []) n m w (a.done n m w x)

@@ -1,7 +1,7 @@
 -- A part is fair, and so is a sweep.
 use Rattle.std.proofs.Common.{◌≡◌, ℕ, Bool, true, false, not, ◌&&◌, List, [], ◌∷◌, ◌++◌, ◌⊎◌, Some, slice_get, inl, inr, refl, sym, ◌∙◌, ap, subst, append_assoc, append-nil, ◌+◌, ◌<◌, is_none, Option, None, arith, cond, map, true≢false}
 use Rattle.std.proofs.lemmas.Bool.{and_parts, and_cases, both_ways, not-true, not-false, cond_both, cases_Bool}
-use Rattle.ug_table.proofs.Common.{Has, AllDistinct, Terms, terms_for, did_default, with_default, defaulted_known, default_due, default_of, Default, Target, Control, Authorized, Remove, Write, Wrote, Put, Close, Told, Closing, Ask_alive, Names, Kernel, Moves, IsKernel, Live, IsWritten, IsGoneAt, says_put, Called, says_listing, Grows, Quiet, calls, Runs, RemoveHold, Entry, State, Answers, Laters, known_of, standing_of, without, with_standing, place_for, lists, farewells, Tries, IsDevice, MayHave, MayHaveNot, wrote_entries, HasDone, WasDone, IsOnce, control_of, is_done, IsFirst, Account, Start, Had, Had_not, AreInOrder, none_before, IsProbed, Stand, numbers_of, Judge, IsOne, IsTold, HasStanding, IsFair, IsDoneMarked, swept_before, IsGone, Went as WentAway, gone_of, Standing, Settled, Made, answered, Along, failure_of, FailedCall, parent_of, Judged, Held, Cause, Bound, Binding, Known, in_sweep_order, unlisted_files, Fault, Probe, Listing, names_of, parted, marked_listed, sweeping, unsettled_by, standing_for, judged_entry, tried_standings, dropped, has_right, distinct_one, has_map, has_new, has_old, filter_has, has_filter, write_of, is_reject, CallsFor, is_to_go, Way, way_runs, along_split, filter, some_same, called_grows, quiet_grows, grows_refl, judged_of, binding, map_has, distinct_filter}
+use Rattle.ug_table.proofs.Common.{Has, IsOpenable, AllDistinct, Terms, terms_for, did_default, with_default, defaulted_known, default_due, default_write, Default, Target, Control, Authorized, Remove, Write, Wrote, Put, Close, Told, Closing, Ask_alive, Names, Kernel, Moves, IsKernel, Live, IsWritten, IsGoneAt, says_put, Called, says_listing, Grows, Quiet, calls, Runs, RemoveHold, Entry, State, Answers, Laters, known_of, standing_of, without, with_standing, place_for, lists, farewells, Tries, IsDevice, MayHave, MayHaveNot, wrote_entries, HasDone, WasDone, IsOnce, control_of, is_done, IsFirst, Account, Start, Had, Had_not, AreInOrder, none_before, IsProbed, Stand, numbers_of, Judge, IsOne, IsTold, HasStanding, IsFair, IsDoneMarked, swept_before, IsGone, Went as WentAway, gone_of, Standing, Settled, Made, answered, Along, failure_of, FailedCall, parent_of, Judged, Held, Cause, Bound, Binding, Known, in_sweep_order, unlisted_files, Fault, Probe, Listing, names_of, parted, marked_listed, sweeping, unsettled_by, standing_for, judged_entry, tried_standings, dropped, has_right, distinct_one, has_map, has_new, has_old, filter_has, has_filter, write_of, is_reject, CallsFor, is_to_go, Way, way_runs, along_split, filter, some_same, called_grows, quiet_grows, grows_refl, judged_of, binding, map_has, distinct_filter}
 use Rattle.ug_kernel.specs.declared.device.HeldFile.{HeldFile}
 use Rattle.ug_kernel.specs.declared.device.Effect.{Effect}
 use Rattle.ug_node.specs.Removal.{holding, HoldSays}
@@ -170,21 +170,21 @@ unheld_fair {u = u} s i file P after (Failed_by failed) has says a h = let mark 
 unheld_fair {u = u} s i file P after Short_by has says a h = none_more (record u { standings = after Settled.Memory }) (then_same (after Settled.Memory) a.short.0 a.short.1 h)
 
 -- a second file of the standing's device
-held_fair : {J : Type 0} {answer : Answers J} {later : Laters J} {terms : Terms} {tried : Tries} {k m : Kernel} {w u : State J} (l : Kernel) (s : Standing) (control : Control) (ms : List Made) (r : RemoveHold) → Has u.standings s → Way (holding control s.name s.held.0) ms r → Along calls m ms l → FairFrom answer later terms tried k w m u → (i : ℕ) × IsDevice l i s.name s.held s.judged × HoldSays control s.held.0 i l r × FairFrom answer later terms tried k w l u
-held_fair {J} {answer} {later} {terms} {tried} {k} {m} {w} {u} l s control ms r has way a h =
+held_fair : {J : Type 0} {answer : Answers J} {later : Laters J} {terms : Terms} {tried : Tries} {k m : Kernel} {w u : State J} (l : Kernel) (s : Standing) (control : Control) (ms : List Made) (r : RemoveHold) → IsOpenable control s.name → Has u.standings s → Way (holding control s.name s.held.0) ms r → Along calls m ms l → FairFrom answer later terms tried k w m u → (i : ℕ) × IsDevice l i s.name s.held s.judged × HoldSays control s.held.0 i l r × FairFrom answer later terms tried k w l u
+held_fair {J} {answer} {later} {terms} {tried} {k} {m} {w} {u} l s control ms r can has way a h =
     let x = h.fair.stand.devices s has in
-    let law = holding_law control s.name s.held.0 x.0 r m l h.fair.sound (record { d = x.1.d; file = x.1.file; device = x.1.device; named = x.1.named }) (way_runs calls (holding control s.name s.held.0) ms m r l way a) in
+    let law = holding_law control s.name s.held.0 x.0 r m l h.fair.sound can (record { d = x.1.d; file = x.1.file; device = x.1.device; named = x.1.named }) (way_runs calls (holding control s.name s.held.0) ms m r l way a) in
     let later_h : FairFrom answer later terms tried k w l u = then_quiet l law.sound law.quiet h in
     (x.0, device_stays m l x.0 s.name s.held s.judged (quiet_grows m l law.quiet) x.1, law.says, later_h)
 
 -- a write that is made once, where it is due and the standing isn't marked with its file
-once_fair : {J : Type 0} {answer : Answers J} {later : Laters J} {terms : Terms} {tried : Tries} {k m : Kernel} {w u : State J} {what : Write} {ms : List Made} {es : List Entry} {how : Settled} (l : Kernel) (s : Standing) (P : Type 0) (after : Settled → List Standing) → OnceMade s.name (known_of s) what ms es how → CallsFor terms.hub s.name s.verdict what → P → is_done (control_of what) s ≡ false → Has u.standings s → Ends (control_of what) P s u.standings after → FairFrom answer later terms tried k w m u → Along calls m ms l → FairFrom answer later terms tried k w l (more u (after how) es)
-once_fair {what = what} l s P after (Not_held ms r es how way v) due p fresh has a h along =
-    let x = held_fair l s (control_of what) ms r has way along h in
+once_fair : {J : Type 0} {answer : Answers J} {later : Laters J} {terms : Terms} {tried : Tries} {k m : Kernel} {w u : State J} {what : Write} {ms : List Made} {es : List Entry} {how : Settled} (l : Kernel) (s : Standing) (P : Type 0) (after : Settled → List Standing) → IsOpenable (control_of what) s.name → OnceMade s.name (known_of s) what ms es how → CallsFor terms.hub s.name s.verdict what → P → is_done (control_of what) s ≡ false → Has u.standings s → Ends (control_of what) P s u.standings after → FairFrom answer later terms tried k w m u → Along calls m ms l → FairFrom answer later terms tried k w l (more u (after how) es)
+once_fair {what = what} l s P after can (Not_held ms r es how way v) due p fresh has a h along =
+    let x = held_fair l s (control_of what) ms r can has way along h in
     unheld_fair s x.0 (control_of what) P after v has x.2 a x.3
-once_fair {m = m} {u = u} {what = what} l s P after (Put_on ms file t shut es how way v) due p fresh has a h along =
+once_fair {m = m} {u = u} {what = what} l s P after can (Put_on ms file t shut es how way v) due p fresh has a h along =
     let cut = along_split calls ms (answered (Put file.0 what) t ∷ answered (Close file.0) shut ∷ []) m l along in
-    let x = held_fair cut.0 s (control_of what) ms (RemoveHold.Ready file) has way cut.1 h in
+    let x = held_fair cut.0 s (control_of what) ms (RemoveHold.Ready file) can has way cut.1 h in
     fair_end l (more u (after how) es) refl cut.2.2.2
     (put_on_fair cut.2.0 cut.2.2.0 s x.0 file.0 what P after shut v (has, x.1) x.2 due p fresh a cut.2.1
     cut.2.2.1 x.3)
@@ -204,7 +204,7 @@ carried_fair {u = u} l s after (By_value ms es how v f) has a h along = only_val
 carried_fair {m = m} {u = u} l s after (And_removal ms ns es fs how go v r) has a h along =
     let cut = along_split calls ms ns m l along in
     let parts = and_parts (is_reject s.verdict) (not s.removed) go in
-    joined u (after how) es fs (once_fair l s (is_reject s.verdict ≡ true) after r parts.0 parts.0 (not-true s.removed parts.1) has (removal_ends u.standings s after a) (valued_fair cut.0 s after v has a h cut.1) cut.2)
+    joined u (after how) es fs (once_fair l s (is_reject s.verdict ≡ true) after tt r parts.0 parts.0 (not-true s.removed parts.1) has (removal_ends u.standings s after a) (valued_fair cut.0 s after v has a h cut.1) cut.2)
 
 pub brought_fair : {J : Type 0} {answer : Answers J} {later : Laters J} {terms : Terms} {tried : Tries} {k m : Kernel} {w u : State J} {on : Bool} {ms : List Made} {es : List Entry} {how : Settled} (l : Kernel) (s : Standing) (after : Settled → List Standing) → Brought s.name (known_of s) on ms es how → Has u.standings s → ((how : Settled) → After s u.standings how (after how)) → FairFrom answer later terms tried k w m u → Along calls m ms l → FairFrom answer later terms tried k w l (record u { standings = after how; entries = u.entries ++ es })
 brought_fair l s after (Left_open ms es how c n) has a h along = carried_fair l s after c has a h along
@@ -330,7 +330,7 @@ known_brought {m = m} {u = u} {ms = ms} {es = es} {how = how} l name known on at
 
 -- the write to the default of a root hub that is due
 
-default_calls : (hub : Option Write) (name : List ℕ) (verdict : Target) (what : Write) → control_of what ≡ Default → parent_of name ≡ None → default_of hub ≡ Some what → CallsFor hub name verdict what
+default_calls : (hub : Option Write) (name : List ℕ) (verdict : Target) (what : Write) → control_of what ≡ Default → parent_of name ≡ None → default_write hub ≡ Some what → CallsFor hub name verdict what
 default_calls hub name verdict Write.DefaultOff f r e = (r, e)
 default_calls hub name verdict Write.DefaultOn f r e = (r, e)
 default_calls hub name verdict x f r e = let none : ⊥ = cc in absurd none
@@ -363,7 +363,7 @@ default_fair {terms = terms} {m = m} {u = u} {ds = ds} {fs = fs} {how = how} l n
     let own : OnceMade s.name (known_of s) what ds fs how = subst (λ (v : Known). OnceMade s.name v what ds fs how) (sym f.known) named in
     let fresh : is_done (control_of what) s ≡ false = ap (λ (c : Control). is_done c s) due.file ∙ ap (λ (v : Known). v.defaulted) f.known ∙ due.fresh in
     let root : parent_of s.name ≡ None = ap parent_of f.named ∙ due.root in
-    once_fair l s (Unit {0}) (default_after u.standings name) own (default_calls terms.hub s.name s.verdict what due.file root due.is) tt fresh f.has (default_ends m u.standings u.next name s what due.file f.has f.named h.fair.stand) h along
+    once_fair l s (Unit {0}) (default_after u.standings name) (subst (λ (c : Control). IsOpenable c s.name) (sym due.file) root) own (default_calls terms.hub s.name s.verdict what due.file root due.is) tt fresh f.has (default_ends m u.standings u.next name s what due.file f.has f.named h.fair.stand) h along
 
 -- a known device has all its writes
 known_treated : {J : Type 0} {answer : Answers J} {later : Laters J} {terms : Terms} {tried : Tries} {k m : Kernel} {w u : State J} {d : Bool} {ms : List Made} {es : List Entry} {how : Settled} (l : Kernel) (name : List ℕ) (known : Known) (on : Bool) → standing_of name u.standings ≡ Some known → FairFrom answer later terms tried k w m u → Treated terms.hub name known on d ms es how → Along calls m ms l → FairFrom answer later terms tried k w l (record u { standings = tried_standings (did_default name d u.standings) name how; entries = u.entries ++ es })

@@ -1,7 +1,7 @@
 -- What settling names leaves of devices: each one that lived through is as judged, or is told.
 use Rattle.std.proofs.Common.{◌≡◌, ℕ, Bool, List, [], ◌∷◌, ◌++◌, Option, Some, refl, sym, ◌∙◌, ap, subst, append_assoc, slice_get, false, ◌⊎◌, inl, inr, true, None, true≢false, cond, is_none, not, ◌&&◌}
-use Rattle.ug_table.proofs.Common.{Terms, did_default, defaulted_known, known_of, default_due, default_of, Default, Has, parent_of, Ask_alive, Put, Close, Closing, Told, Names, Authorized, Remove, Kernel, IsKernel, Quiet, Grows, Made, answered, Along, Runs, calls, RemoveHold, Bound, Binding, Entry, State, Answers, Laters, standing_of, without, with_standing, place_for, same_name, lists, farewells, Standing, Known, Settled, Held, Target, Wrote, IsOnce, control_of, Device, Control, IsGoneAt, Called, Lived, IsNamed, HasStanding, Stand, IsAsJudged, IsSettled, FailedCall, in_sweep_order, Fault, unlisted_files, Probe, Write, Listing, names_of, sweeping, unsettled_by, tried_standings, has_right, has_left, has_new, cancel, filter_has, has_map, write_of, wants, is_reject, Way, way_runs, along_split, along_sound, along_grows, quiet_grows, called_grows, some_same, grows_refl, grows_trans, binding, called_quiet, quiet_refl, quiet_trans}
-use Rattle.ug_table.proofs.Shapes.{Piece, Valued, Same, Set, OnceMade, Not_held, Put_on, Carried, By_value, And_removal, Brought, Left_open, Let_go, Treated, No_default, And_default, Cut_default, Gone_default, due_is, due_once, treated_done, Opening, Fresh, Lost, Flat, Unprobed, Tried, Stopped, Unbound, No_place, Judged_so, told_at, Written, Done, Went, Broke, Unheld, Gone_by, Failed_by, Short_by, Unbound_end, Failed_so, Short_so, opening_absent, opening_less, flat_rest}
+use Rattle.ug_table.proofs.Common.{Terms, did_default, defaulted_known, known_of, default_due, default_write, Default, Has, parent_of, Ask_alive, Put, Close, Closing, Told, Names, Authorized, Remove, Kernel, IsKernel, IsOpenable, Quiet, Grows, Made, answered, Along, Runs, calls, RemoveHold, Bound, Binding, Entry, State, Answers, Laters, standing_of, without, with_standing, place_for, same_name, lists, farewells, Standing, Known, Settled, Held, Target, Wrote, IsOnce, control_of, Device, Control, IsGoneAt, Called, Lived, IsNamed, HasStanding, Stand, IsAsJudged, IsSettled, FailedCall, in_sweep_order, Fault, unlisted_files, Probe, Write, Listing, names_of, sweeping, unsettled_by, tried_standings, has_right, has_left, has_new, cancel, filter_has, has_map, write_of, wants, is_reject, Way, way_runs, along_split, along_sound, along_grows, quiet_grows, called_grows, some_same, grows_refl, grows_trans, binding, called_quiet, quiet_refl, quiet_trans}
+use Rattle.ug_table.proofs.Shapes.{Piece, Valued, Same, Set, OnceMade, Not_held, Put_on, Carried, By_value, And_removal, Brought, Left_open, Let_go, Treated, No_default, And_default, Cut_default, Gone_default, due_is, due_open, due_once, treated_done, Opening, Fresh, Lost, Flat, Unprobed, Tried, Stopped, Unbound, No_place, Judged_so, told_at, Written, Done, Went, Broke, Unheld, Gone_by, Failed_by, Short_by, Unbound_end, Failed_so, Short_so, opening_absent, opening_less, flat_rest}
 use Rattle.ug_node.specs.Removal.{holding, HoldSays}
 use Rattle.ug_node.proofs.Laws.{holding_law, binding_law}
 use Rattle.ug_node.specs.Bound.{BindSays}
@@ -22,21 +22,21 @@ valued_apart {name} {known} k l (Set t es how e w) o a = subst (λ v. Others nam
 -- a write that is made once
 
 -- a second file of the device of an open file
-pub hold_open : (control : Control) (name : List ℕ) (held : ℕ) (answer : RemoveHold) (k l : Kernel) → IsKernel k → (o : IsOpen k name held) → Runs calls k (holding control name held) answer l → Quiet k l × ((now : IsOpen l name held) × HoldSays control held now.i l answer)
-hold_open control name held answer k l sound o r =
-    let law = holding_law control name held o.i answer k l sound (record { d = o.d; file = o.file; device = o.device; named = o.named }) r in
+pub hold_open : (control : Control) (name : List ℕ) (held : ℕ) (answer : RemoveHold) (k l : Kernel) → IsKernel k → IsOpenable control name → (o : IsOpen k name held) → Runs calls k (holding control name held) answer l → Quiet k l × ((now : IsOpen l name held) × HoldSays control held now.i l answer)
+hold_open control name held answer k l sound can o r =
+    let law = holding_law control name held o.i answer k l sound can (record { d = o.d; file = o.file; device = o.device; named = o.named }) r in
     let x = (quiet_grows k l law.quiet).devices o.i o.d o.device in
     let now : IsOpen l name held = record { i = o.i; d = x.0; file = law.quiet.held held (record { device = o.i; control = Authorized }) o.file; device = x.1; named = x.2.name ∙ o.named } in
     (law.quiet, (now, law.says))
 
-once_apart : {what : Write} {name : List ℕ} {known : Known} {ms : List Made} {es : List Entry} {how : Settled} (k l : Kernel) → OnceMade name known what ms es how → IsKernel k → IsOpen k name known.held.0 → Along calls k ms l → Others name k l
-once_apart {what} {name} {known} k l (Not_held ms r es how way u) sound o a = others_quiet name k l (hold_open (control_of what) name known.held.0 r k l sound o (way_runs calls (holding (control_of what) name known.held.0) ms k r l way a)).0
-once_apart {what} {name} {known} k l (Put_on ms file t shut es how way w) sound o a =
+once_apart : {what : Write} {name : List ℕ} {known : Known} {ms : List Made} {es : List Entry} {how : Settled} (k l : Kernel) → IsOpenable (control_of what) name → OnceMade name known what ms es how → IsKernel k → IsOpen k name known.held.0 → Along calls k ms l → Others name k l
+once_apart {what} {name} {known} k l can (Not_held ms r es how way u) sound o a = others_quiet name k l (hold_open (control_of what) name known.held.0 r k l sound can o (way_runs calls (holding (control_of what) name known.held.0) ms k r l way a)).0
+once_apart {what} {name} {known} k l can (Put_on ms file t shut es how way w) sound o a =
     let cut = along_split calls ms (answered (Put file.0 what) t ∷ answered (Close file.0) shut ∷ []) k l a in
     let m = cut.0 in
     let n = cut.2.0 in
     let put = cut.2.1 in
-    let x = hold_open (control_of what) name known.held.0 (RemoveHold.Ready file) k m sound o (way_runs calls (holding (control_of what) name known.held.0) ms k (RemoveHold.Ready file) m way cut.1) in
+    let x = hold_open (control_of what) name known.held.0 (RemoveHold.Ready file) k m sound can o (way_runs calls (holding (control_of what) name known.held.0) ms k (RemoveHold.Ready file) m way cut.1) in
     let rest = others_trans name m n l (called_grows (Put file.0 what) t m n put) (others_put name known.held.0 file.0 (control_of what) what t m n x.1.0 x.1.1 put) (subst (λ v. Others name n v) (sym cut.2.2.2) (others_quiet name n cut.2.2.0 (called_quiet (Close file.0) shut n cut.2.2.0 tt cut.2.2.1))) in
     others_trans name k m l (quiet_grows k m x.0) (others_quiet name k m x.0) rest
 
@@ -46,7 +46,7 @@ carried_apart {name} {known} k l (And_removal ms ns es fs how go v r) sound o a 
     let cut = along_split calls ms ns k l a in
     let m = cut.0 in
     let g = along_grows ms k m cut.1 in
-    others_trans name k m l g (valued_apart k m v o cut.1) (once_apart m l r (along_sound ms k m sound cut.1) (open_later k m name known.held.0 g o) cut.2)
+    others_trans name k m l g (valued_apart k m v o cut.1) (once_apart m l tt r (along_sound ms k m sound cut.1) (open_later k m name known.held.0 g o) cut.2)
 
 brought_apart : {name : List ℕ} {known : Known} {on : Bool} {ms : List Made} {es : List Entry} {how : Settled} (k l : Kernel) → Brought name known on ms es how → IsKernel k → IsOpen k name known.held.0 → Along calls k ms l → Others name k l
 brought_apart k l (Left_open ms es how c n) sound o a = carried_apart k l c sound o a
@@ -59,17 +59,17 @@ brought_apart {name} {known} k l (Let_go ms es shut c) sound o a =
 -- all writes of a sweep
 treated_apart : {hub : Option Write} {name : List ℕ} {known : Known} {on d : Bool} {ms : List Made} {es : List Entry} {how : Settled} (k l : Kernel) → Treated hub name known on d ms es how → IsKernel k → IsOpen k name known.held.0 → Along calls k ms l → Others name k l
 treated_apart k l (No_default ms es how e b) sound o a = brought_apart k l b sound o a
-treated_apart {name = name} {known = known} k l (And_default what ds ms fs es how e w b) sound o a =
+treated_apart {hub} {name} {known} k l (And_default what ds ms fs es how e w b) sound o a =
     let cut = along_split calls ds ms k l a in
     let m = cut.0 in
     let g = along_grows ds k m cut.1 in
-    others_trans name k m l g (once_apart k m w sound o cut.1) (brought_apart m l b (along_sound ds k m sound cut.1) (open_later k m name known.held.0 g o) cut.2)
-treated_apart k l (Cut_default what ds fs how e w c) sound o a = once_apart k l w sound o a
-treated_apart {name = name} {known = known} k l (Gone_default what ds fs shut e w) sound o a =
+    others_trans name k m l g (once_apart k m (due_open (due_is hub name known what e)) w sound o cut.1) (brought_apart m l b (along_sound ds k m sound cut.1) (open_later k m name known.held.0 g o) cut.2)
+treated_apart {hub} {name} {known} k l (Cut_default what ds fs how e w c) sound o a = once_apart k l (due_open (due_is hub name known what e)) w sound o a
+treated_apart {hub} {name} {known} k l (Gone_default what ds fs shut e w) sound o a =
     let cut = along_split calls ds (answered (Close known.held.0) shut ∷ []) k l a in
     let m = cut.0 in
     let q = subst (λ v. Quiet m v) (sym cut.2.2) (called_quiet (Close known.held.0) shut m cut.2.0 tt cut.2.1) in
-    others_trans name k m l (along_grows ds k m cut.1) (once_apart k m w sound o cut.1) (others_quiet name m l q)
+    others_trans name k m l (along_grows ds k m cut.1) (once_apart k m (due_open (due_is hub name known what e)) w sound o cut.1) (others_quiet name m l q)
 
 -- a name
 
@@ -215,21 +215,21 @@ put_own {what} {name} i file on shut k x l once (Went failed) live of v c d =
 put_own i file on shut k x l once (Broke failed) live of v c d = inr (Fault.Call failed, inl refl)
 
 -- the second file is the device's
-hold_own : (control : Control) (name : List ℕ) (held i : ℕ) (on : Bool) (r : RemoveHold) (ms : List Made) (k m l : Kernel) → Way (holding control name held) ms r → IsKernel k → LiveAs l i name → IsFileOf k held i → Value k i on → Along calls k ms m → Grows m l → IsFileOf m held i × (Value m i on × HoldSays control held i m r)
-hold_own control name held i on r ms k m l way sound live file v a g =
-    let x = hold_open control name held r k m sound (open_of k l i held on name (grows_trans k m l (along_grows ms k m a) g) live file v) (way_runs calls (holding control name held) ms k r m way a) in
+hold_own : (control : Control) (name : List ℕ) (held i : ℕ) (on : Bool) (r : RemoveHold) (ms : List Made) (k m l : Kernel) → Way (holding control name held) ms r → IsKernel k → IsOpenable control name → LiveAs l i name → IsFileOf k held i → Value k i on → Along calls k ms m → Grows m l → IsFileOf m held i × (Value m i on × HoldSays control held i m r)
+hold_own control name held i on r ms k m l way sound can live file v a g =
+    let x = hold_open control name held r k m sound can (open_of k l i held on name (grows_trans k m l (along_grows ms k m a) g) live file v) (way_runs calls (holding control name held) ms k r m way a) in
     let later = file_later k m held i (quiet_grows k m x.0) file in
     let is : x.1.0.i ≡ i = file_same m held x.1.0.i i x.1.0.file later in
     (later, (quiet_value k m i on x.0 v, subst (λ (j : ℕ). HoldSays control held j m r) is x.1.1))
 
-once_own : {what : Write} {name : List ℕ} {known : Known} {ms : List Made} {es : List Entry} {how : Settled} (i : ℕ) (on : Bool) (k l : Kernel) → IsOnce (control_of what) → OnceMade name known what ms es how → IsKernel k → LiveAs l i name → IsFileOf k known.held.0 i → Value k i on → Along calls k ms l → Ends l how i name on
-once_own {what} {name} {known} i on k l once (Not_held ms r es how way u) sound live file v a =
-    let x = hold_own (control_of what) name known.held.0 i on r ms k l l way sound live file v a (grows_refl l) in
+once_own : {what : Write} {name : List ℕ} {known : Known} {ms : List Made} {es : List Entry} {how : Settled} (i : ℕ) (on : Bool) (k l : Kernel) → IsOnce (control_of what) → IsOpenable (control_of what) name → OnceMade name known what ms es how → IsKernel k → LiveAs l i name → IsFileOf k known.held.0 i → Value k i on → Along calls k ms l → Ends l how i name on
+once_own {what} {name} {known} i on k l once can (Not_held ms r es how way u) sound live file v a =
+    let x = hold_own (control_of what) name known.held.0 i on r ms k l l way sound can live file v a (grows_refl l) in
     unheld_own (control_of what) known.held.0 i on l l u live x.0 x.1.0 (grows_refl l) x.1.1
-once_own {what} {name} {known} i on k l once (Put_on ms file t shut es how way w) sound live own v a =
+once_own {what} {name} {known} i on k l once can (Put_on ms file t shut es how way w) sound live own v a =
     let cut = along_split calls ms (answered (Put file.0 what) t ∷ answered (Close file.0) shut ∷ []) k l a in
     let m = cut.0 in
-    let x = hold_own (control_of what) name known.held.0 i on (RemoveHold.Ready file) ms k m l way sound live own v cut.1 (along_grows (answered (Put file.0 what) t ∷ answered (Close file.0) shut ∷ []) m l cut.2) in
+    let x = hold_own (control_of what) name known.held.0 i on (RemoveHold.Ready file) ms k m l way sound can live own v cut.1 (along_grows (answered (Put file.0 what) t ∷ answered (Close file.0) shut ∷ []) m l cut.2) in
     put_own i file.0 on shut m cut.2.0 l once w live x.1.1 x.1.0 cut.2.1 (subst (λ y. Called (Close file.0) shut cut.2.0 y) (sym cut.2.2.2) cut.2.2.1)
 
 -- a device that is live at the end was so before
@@ -247,7 +247,7 @@ carried_own {name} {known} {on} i k l (And_removal ms ns es fs how go v r) sound
     let g = along_grows ms k m cut.1 in
     let j = along_grows ns m l cut.2 in
     elim (valued_own i k m v (live_mid k m l i known.held.0 on name g j live file at) file at cut.1) [
-      | inl h ↦ once_own i (wants known.verdict) m l tt r (along_sound ms k m sound cut.1) live (file_later k m known.held.0 i g file) h.1 cut.2
+      | inl h ↦ once_own i (wants known.verdict) m l tt tt r (along_sound ms k m sound cut.1) live (file_later k m known.held.0 i g file) h.1 cut.2
       | inr none ↦ absurd none.1
     ]
 
@@ -270,12 +270,12 @@ treated_own {hub} {name} {known} {on} i k l (And_default what ds ms fs es how e 
     let m = cut.0 in
     let g = along_grows ds k m cut.1 in
     let mid = live_mid k m l i known.held.0 on name g (along_grows ms m l cut.2) live file at in
-    elim (once_own i on k m (due_once (due_is hub name known what e)) w sound mid file at cut.1) [
+    elim (once_own i on k m (due_once (due_is hub name known what e)) (due_open (due_is hub name known what e)) w sound mid file at cut.1) [
       | inl h ↦ brought_own i m l b (along_sound ds k m sound cut.1) live (file_later k m known.held.0 i g file) h.1 cut.2
       | inr none ↦ absurd none.1
     ]
 treated_own {hub} {name} {known} {on} i k l (Cut_default what ds fs how e w c) sound live file at a =
-    elim (once_own i on k l (due_once (due_is hub name known what e)) w sound live file at a) [
+    elim (once_own i on k l (due_once (due_is hub name known what e)) (due_open (due_is hub name known what e)) w sound live file at a) [
       | inl h ↦ absurd (c.0 h.0)
       | inr n ↦ inr n
     ]
@@ -284,7 +284,7 @@ treated_own {hub} {name} {known} {on} i k l (Gone_default what ds fs shut e w) s
     let cut = along_split calls ds last k l a in
     let m = cut.0 in
     let mid = live_mid k m l i known.held.0 on name (along_grows ds k m cut.1) (along_grows last m l cut.2) live file at in
-    elim (once_own i on k m (due_once (due_is hub name known what e)) w sound mid file at cut.1) [
+    elim (once_own i on k m (due_once (due_is hub name known what e)) (due_open (due_is hub name known what e)) w sound mid file at cut.1) [
       | inl h ↦ let e = h.0 in absurd (let none : ⊥ = cc in none)
       | inr n ↦ inr n
     ]
@@ -564,10 +564,10 @@ judged_at hub l ss next i stand h = record {
   removal = λ e.
       let w = stand.done Remove h.standing.s h.standing.has (h.removed (ap is_reject e)) i h.standing.file in
       subst (λ (v : Write). Has l.log (record { device = i; write = v })) (removes w.0 w.1) w.2;
-  marked = λ what root e. due_none (parent_of h.standing.s.name) h.standing.s.defaulted (default_of hub) what h.default root e;
+  marked = λ what root e. due_none (parent_of h.standing.s.name) h.standing.s.defaulted (default_write hub) what h.default root e;
   default = λ what root e.
       let s = h.standing.s in
-      stand.done Default s h.standing.has (due_none (parent_of s.name) s.defaulted (default_of hub) what h.default root e) i h.standing.file;
+      stand.done Default s h.standing.has (due_none (parent_of s.name) s.defaulted (default_write hub) what h.default root e) i h.standing.file;
 }
 
 -- whatever the entries that were added

@@ -15,7 +15,7 @@ use Rattle.ug_kernel.proofs.Rises.{Counting, along_numbered, along_rises}
 use Rattle.ug_table.proofs.Steps.{FairFrom, had_before, fair_refl}
 use Rattle.ug_table.proofs.Lived.{IsDefaultedIf, as_due, as_number, as_removed, none_stands, lives_first, lives_last, stand_files, judged_at, piece_well}
 use Rattle.ug_table.proofs.Fair.{piece_fair}
-use Rattle.ug_kernel.proofs.Guarded.{along_logs}
+use Rattle.ug_kernel.proofs.Defaults.{along_logs}
 use Rattle.ug_table.proofs.Defaults.{fair_defaults}
 
 -- How the settling of a name leaves the marks, whatever the kernel answers.

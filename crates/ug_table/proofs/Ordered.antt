@@ -2,7 +2,7 @@
 use Rattle.std.proofs.Common.{◌≡◌, ℕ, ◌≤◌, Bool, true, false, cond, nat_eq, List, [], ◌∷◌, ◌++◌, Option, Some, None, is_none, not, ◌&&◌, map, ◌⊎◌, inl, inr, refl, sym, ◌∙◌, ap, subst, append_assoc, arith}
 use Rattle.ug_types.specs.Principals.{Named}
 use Rattle.ug_kernel.specs.declared.device.Effect.{Effect}
-use Rattle.ug_table.proofs.Common.{Has, Control, Authorized, Remove, Default, is_done, Terms, terms_of, Write, default_of, parent_of, open_file, Quiet, says_probe, none_before, Held, Target, Call, Answer, Ask_alive, Told, Follows, Runs, calls, Made, Entry, State, Kept, Answers, Laters, kept_of, with_kept, known_of, known_files, standing_of, numbered, number_of, AreOfNumber, numbers_given, AtMostOneEach, TellsWrites, writes_in, HasDone, wrote_entries, Account, Start, Note, Judge, Had, Had_not, Went, Tries, IsNamed, Stand, IsDevice, Standing, Settled, Probe, Kernel, IsKernel, Cause, names_of, unsettled_by, tried_standings, cancel, has_left, has_right, last_is, map_has, distinct_one, bringing, Ways, Sure, Ran, ways_run, sure_last, NeedsRoom, told_run, called_quiet, StandInOrder, KeepsOrder, AllBear}
+use Rattle.ug_table.proofs.Common.{Has, Control, Authorized, Remove, Default, is_done, Terms, terms_of, Write, default_write, parent_of, open_file, Quiet, says_probe, none_before, Held, Target, Call, Answer, Ask_alive, Told, Follows, Runs, calls, Made, Entry, State, Kept, Answers, Laters, kept_of, with_kept, known_of, known_files, standing_of, numbered, number_of, AreOfNumber, numbers_given, AtMostOneEach, TellsWrites, writes_in, HasDone, wrote_entries, Account, Start, Note, Judge, Had, Had_not, Went, Tries, IsNamed, Stand, IsDevice, Standing, Settled, Probe, Kernel, IsKernel, Cause, names_of, unsettled_by, tried_standings, cancel, has_left, has_right, last_is, map_has, distinct_one, bringing, Ways, Sure, Ran, ways_run, sure_last, NeedsRoom, told_run, called_quiet, StandInOrder, KeepsOrder, AllBear}
 use Rattle.ug_table.specs.Marks.{has_number, stood_done, LeavesMarks}
 use Rattle.ug_table.specs.Orders.{to_probe, probing, ProbesOne, with_verdict, ordered_standing, with_order, verdict_entry, to_tried, to_order, ordering, behind_probe, GoesAsOrder, HasOrdered, IsStopped, just_ordered, OrderedOne, OrdersOne}
 use Rattle.ug_kernel.specs.Along.{count_calls}
@@ -12,7 +12,7 @@ use Rattle.ug_table.proofs.PartCalls.{has_want, are_short}
 use Rattle.ug_kernel.proofs.Rises.{Counting, along_numbered, along_rises}
 use Rattle.ug_kernel.proofs.Runs.{runs_then}
 use Rattle.ug_table.proofs.Fair.{known_brought}
-use Rattle.ug_kernel.proofs.Guarded.{along_logs}
+use Rattle.ug_kernel.proofs.Defaults.{along_logs}
 use Rattle.ug_table.specs.Laws.{AreDefaulted}
 use Rattle.ug_table.proofs.Defaults.{fair_defaults}
 use Rattle.ug_table.proofs.Lived.{StandsSo, as_judged, brought_own, judged_at, lives_first, lives_last, stand_files}
@@ -163,7 +163,7 @@ order_part gives calls faults counted next number verdict who on k x s p t order
     }
 
 -- where no default is written, none is due
-none_for : (b : Bool) → cond b (default_of None) None ≡ None
+none_for : (b : Bool) → cond b (default_write None) None ≡ None
 none_for true = refl
 none_for false = refl
 

@@ -1,7 +1,7 @@
 -- One name's part, flat: each way through the trees of a settling and a resettling has one of these shapes.
 use Rattle.ug_kernel.specs.Tree.{Return}
 use Rattle.std.proofs.Common.{cond, ◌≡◌, ℕ, ◌+◌, Bool, true, false, ◌&&◌, not, is_none, List, [], ◌∷◌, ◌++◌, Option, Some, None, refl, sym, ◌∙◌, ap, subst, append_assoc, append-nil}
-use Rattle.ug_table.proofs.Common.{parent_of, Judged, Held, Target, Cause, Probe, Write, Wrote, Ask_alive, Put, Close, Closing, Told, Made, answered, failure_of, Bound, Binding, RemoveHold, Entry, State, Kept, with_kept, Answers, Laters, Has, known_of, standing_of, did_default, defaulted_known, default_due, default_of, IsOnce, Default, Terms, treating, after_default, by_default, same_name, without, with_standing, Standing, Known, Settled, FailedCall, Fault, names_of, unsettled_by, kept_standings, to_keep, no_room, standing_for, known_in, judged_entry, if_place, if_record, admitting, after_bind, entering, tried_standings, to_mark, after_known, from_standing, settling, to_keep_mark, after_again, again, resettling, filter_has, wants, write_of, after_write, to_value, valuing, after_hold, once, control_of, is_to_go, if_to_go, after_value, writing, close_gone, bringing, Ways, Sure, Way, ways_more, behind_sure, sure_last, judged_of, binding}
+use Rattle.ug_table.proofs.Common.{Control, IsOpenable, parent_of, Judged, Held, Target, Cause, Probe, Write, Wrote, Ask_alive, Put, Close, Closing, Told, Made, answered, failure_of, Bound, Binding, RemoveHold, Entry, State, Kept, with_kept, Answers, Laters, Has, known_of, standing_of, did_default, defaulted_known, default_due, default_write, IsOnce, Default, Terms, treating, after_default, by_default, same_name, without, with_standing, Standing, Known, Settled, FailedCall, Fault, names_of, unsettled_by, kept_standings, to_keep, no_room, standing_for, known_in, judged_entry, if_place, if_record, admitting, after_bind, entering, tried_standings, to_mark, after_known, from_standing, settling, to_keep_mark, after_again, again, resettling, filter_has, wants, write_of, after_write, to_value, valuing, after_hold, once, control_of, is_to_go, if_to_go, after_value, writing, close_gone, bringing, Ways, Sure, Way, ways_more, behind_sure, sure_last, judged_of, binding}
 use Rattle.ug_node.specs.Removal.{holding}
 use Rattle.ug_node.proofs.BindShapes.{sure_binding, sure_hold}
 use Rattle.ug_table.proofs.Standings.{known_as, did_without, did_with, missing, without_own, without_with, with_own, kept_tried, tried_without}
@@ -54,7 +54,7 @@ pub data Treated (hub : Option Write) (name : List ℕ) (known : Known) (on : Bo
 
 -- what is due
 
-pub default_file : (hub : Option Write) (what : Write) → default_of hub ≡ Some what → control_of what ≡ Default
+pub default_file : (hub : Option Write) (what : Write) → default_write hub ≡ Some what → control_of what ≡ Default
 default_file None what e = let none : ⊥ = cc in absurd none
 default_file (Some Write.DefaultOff) what e = let same : what ≡ Write.DefaultOff = cc in ap control_of same
 default_file (Some Write.DefaultOn) what e = let same : what ≡ Write.DefaultOn = cc in ap control_of same
@@ -64,18 +64,22 @@ default_file (Some x) what e = let none : ⊥ = cc in absurd none
 pub record IsDue (hub : Option Write) (name : List ℕ) (known : Known) (what : Write) : Type 0 where
   pub root : parent_of name ≡ None
   pub fresh : known.defaulted ≡ false
-  pub is : default_of hub ≡ Some what
+  pub is : default_write hub ≡ Some what
   pub file : control_of what ≡ Default
 
 pub due_is : (hub : Option Write) (name : List ℕ) (known : Known) (what : Write) → default_due hub name known ≡ Some what → IsDue hub name known what
 due_is hub name known what e = by (parent_of name) refl known.defaulted refl e
   where
-    by : (o : Option (List ℕ)) → parent_of name ≡ o → (b : Bool) → known.defaulted ≡ b → cond (is_none o && not b) (default_of hub) None ≡ Some what → IsDue hub name known what
+    by : (o : Option (List ℕ)) → parent_of name ≡ o → (b : Bool) → known.defaulted ≡ b → cond (is_none o && not b) (default_write hub) None ≡ Some what → IsDue hub name known what
     by None r false f h = record { root = r; fresh = f; is = h; file = default_file hub what h }
     by None r true f h = let none : ⊥ = cc in absurd none
     by (Some p) r b f h = let none : ⊥ = cc in absurd none
 
--- so it goes to a file that is written once
+-- so its file can be opened
+pub due_open : {hub : Option Write} {name : List ℕ} {known : Known} {what : Write} → IsDue hub name known what → IsOpenable (control_of what) name
+due_open {name = name} due = subst (λ (c : Control). IsOpenable c name) (sym due.file) due.root
+
+-- and is one that is written once
 pub due_once : {hub : Option Write} {name : List ℕ} {known : Known} {what : Write} → IsDue hub name known what → IsOnce (control_of what)
 due_once due = subst IsOnce (sym due.file) tt
 
@@ -83,7 +87,7 @@ due_once due = subst IsOnce (sym due.file) tt
 pub none_due : (hub : Option Write) (name : List ℕ) (known : Known) → default_due hub name (defaulted_known known) ≡ None
 none_due hub name known = by (is_none (parent_of name))
   where
-    by : (b : Bool) → cond (b && false) (default_of hub) None ≡ None
+    by : (b : Bool) → cond (b && false) (default_write hub) None ≡ None
     by true = refl
     by false = refl
 

@@ -2,7 +2,7 @@
 use Rattle.std.proofs.Common.{◌≡◌, Option, Some}
 use Rattle.ug_table.proofs.Common.{Call, Answer, Kernel, IsKernel, Follows, Runs, calls, State, Answers, Laters, Stand, Swept, Sweeps, sweeping, told_run}
 use Rattle.ug_table.proofs.Fair.{sweeping_fair}
-use Rattle.ug_kernel.proofs.Guarded.{along_logs}
+use Rattle.ug_kernel.proofs.Defaults.{along_logs}
 use Rattle.ug_table.proofs.Chains.{sweeping_run}
 use Rattle.ug_table.proofs.Defaults.{fair_defaults}
 use Rattle.ug_table.proofs.Lived.{sweeping_settled}

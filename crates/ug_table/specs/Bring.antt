@@ -38,18 +38,18 @@ is_reject target.Block = false
 is_reject target.Reject = true
 
 -- what is written to the default of each root hub
-abbrev pub default_of : Option Write → Option Write
-default_of (Some write.DefaultOff) = Some write.DefaultOff
-default_of (Some write.DefaultOn) = Some write.DefaultOn
-default_of other = None
+abbrev pub default_write : Option Write → Option Write
+default_write (Some write.DefaultOff) = Some write.DefaultOff
+default_write (Some write.DefaultOn) = Some write.DefaultOn
+default_write other = None
 
 -- The writes that are called for: by the verdict, and to the default of a root hub.
 abbrev pub CallsFor : Option Write → List ℕ → Target → Write → Type 0
 CallsFor hub name verdict write.On = wants verdict ≡ true
 CallsFor hub name verdict write.Off = wants verdict ≡ false
 CallsFor hub name verdict write.Remove = is_reject verdict ≡ true
-CallsFor hub name verdict write.DefaultOff = (parent_of name ≡ None) × (default_of hub ≡ Some write.DefaultOff)
-CallsFor hub name verdict write.DefaultOn = (parent_of name ≡ None) × (default_of hub ≡ Some write.DefaultOn)
+CallsFor hub name verdict write.DefaultOff = (parent_of name ≡ None) × (default_write hub ≡ Some write.DefaultOff)
+CallsFor hub name verdict write.DefaultOn = (parent_of name ≡ None) × (default_write hub ≡ Some write.DefaultOn)
 
 -- the outcome of a write is journalled
 abbrev pub after_write : List ℕ → ℕ → Write → List Entry → Wrote → FailedCall → Prog (Settled × List Entry)
@@ -117,7 +117,7 @@ bringing name known on entries = then (writing name known on entries) (λ p. clo
 
 -- what is still to be written to it for a standing of that name
 abbrev pub default_due : Option Write → List ℕ → Known → Option Write
-default_due hub name known = cond (is_none (parent_of name) && not known.defaulted) (default_of hub) None
+default_due hub name known = cond (is_none (parent_of name) && not known.defaulted) (default_write hub) None
 
 -- a known device whose default was written
 abbrev pub defaulted_known : Known → Known

@@ -19,7 +19,7 @@ use Rattle.ug_kernel.specs.declared.calls.Wrote.TheVariants as wrote
 use Rattle.ug_kernel.specs.Kernel.{Kernel, IsKernel}
 use Rattle.ug_kernel.specs.Called.{Lived}
 use Rattle.ug_kernel.specs.Quiet.{Grows}
-use Rattle.ug_kernel.specs.Guarded.{default_at, set_by}
+use Rattle.ug_kernel.specs.Defaults.{default_at, set_by}
 use Rattle.ug_record.specs.Records.{judged_of}
 use Rattle.ug_node.specs.Bound.{attrs_of, IsParentRead, LivedUntilProbe}
 use Rattle.ug_audit.specs.declared.entry.Entry.{Entry}
@@ -28,7 +28,7 @@ use Rattle.ug_audit.specs.declared.entry.Fault.{Fault}
 use Rattle.ug_audit.specs.declared.entry.Fault.TheVariants as fault
 use Rattle.ug_types.specs.declared.control.Control.{Control}
 use Rattle.ug_table.specs.Done.{control_of, IsOnce, is_done}
-use Rattle.ug_table.specs.Bring.{wants, CallsFor, default_of, NeedsMemory}
+use Rattle.ug_table.specs.Bring.{wants, CallsFor, default_write, NeedsMemory}
 use Rattle.ug_table.specs.Standings.{known_of}
 use Rattle.ug_table.specs.State.{State, Answers, Laters, Terms, terms_for}
 use Rattle.ug_table.specs.Sweep.{names_of}
@@ -94,7 +94,7 @@ pub record Stand (k : Kernel) (ss : List Standing) (next : ℕ) : Type 0 where
 
 -- each device whose standing is marked as one whose default was written has the default that is written to root hubs
 abbrev pub AreDefaulted : Option Write → Kernel → List Standing → Type 0
-AreDefaulted hub k ss = (s : Standing) → Has ss s → s.defaulted ≡ true → (i : ℕ) → slice_get k.held s.held.0 ≡ Some (record { device = i; control = Authorized }) → (what : Write) → default_of hub ≡ Some what → default_at i k ≡ set_by what
+AreDefaulted hub k ss = (s : Standing) → Has ss s → s.defaulted ≡ true → (i : ℕ) → slice_get k.held s.held.0 ≡ Some (record { device = i; control = Authorized }) → (what : Write) → default_write hub ≡ Some what → default_at i k ≡ set_by what
 
 -- an entry that tells no verdict, no write and no end of a standing
 abbrev pub TellsNeither : Entry → Type 0
@@ -235,8 +235,8 @@ pub record IsAsJudged (hub : Option Write) (k : Kernel) (ss : List Standing) (i 
   pub device : slice_get k.devices i ≡ Some d
   pub value : d.on ≡ wants standing.s.verdict
   pub removal : standing.s.verdict ≡ target.Reject → Has k.log (record { device = i; write = write.Remove })
-  pub marked : (what : Write) → parent_of standing.s.name ≡ None → default_of hub ≡ Some what → standing.s.defaulted ≡ true
-  pub default : (what : Write) → parent_of standing.s.name ≡ None → default_of hub ≡ Some what → (w : Write) × (control_of w ≡ Default) × Has k.log (record { device = i; write = w })
+  pub marked : (what : Write) → parent_of standing.s.name ≡ None → default_write hub ≡ Some what → standing.s.defaulted ≡ true
+  pub default : (what : Write) → parent_of standing.s.name ≡ None → default_write hub ≡ Some what → (w : Write) × (control_of w ≡ Default) × Has k.log (record { device = i; write = w })
 
 -- the listing is told as one that didn't succeed
 abbrev pub IsUnlisted : List Entry → Type 0

@@ -8,7 +8,7 @@ ghost use Rattle.ug_kernel.specs.Tree.{Runs};
 ghost use Rattle.ug_audit.specs.Journal.{Notes, noted_in};
 ghost use Rattle.ug_table.specs.declared.standing.Settled.TheVariants.{Stands};
 ghost use Rattle.ug_table.specs.Done.{control_of};
-ghost use Rattle.ug_table.specs.Bring.{wants, write_of, is_reject, is_to_go, valuing, to_once, after_hold, once, writing, bringing, default_of, default_due, defaulted_known, treating};
+ghost use Rattle.ug_table.specs.Bring.{wants, write_of, is_reject, is_to_go, valuing, to_once, after_hold, once, writing, bringing, default_write, default_due, defaulted_known, treating};
 
 use crate::standing::{Known, Settled};
 use std::alloc::Global;
@@ -209,8 +209,8 @@ fn write_default<Y: Sysfs>(
 }
 
 // What is written to the default of each root hub.
-fn default_of(hub_default: Option<Write>) -> Option<Write>
-    ensures { result ≡ default_of hub_default }
+fn default_write(hub_default: Option<Write>) -> Option<Write>
+    ensures { result ≡ default_write hub_default }
 {
     match hub_default {
         Some(Write::DefaultOff) => Some(Write::DefaultOff),
@@ -225,7 +225,7 @@ fn default_due(hub_default: Option<Write>, name: &NodeName, known: Known) -> Opt
     ensures root { (what : Write) → result ≡ Some what → (parent_of name.now ≡ None) × (control_of what ≡ Default) }
 {
     if name.parent().is_none() && !known.defaulted {
-        default_of(hub_default)
+        default_write(hub_default)
     } else {
         None
     }

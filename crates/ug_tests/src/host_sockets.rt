@@ -5,7 +5,7 @@ use std::os::unix::fs::{FileTypeExt, MetadataExt};
 use std::os::unix::net::{UnixListener, UnixStream};
 use std::test::Fail;
 use std::time::Instant;
-use ug_host::{SocketFolder, SocketLink, SocketWaiter};
+use ug_host::{Reached, SocketFolder, SocketLink, SocketWaiter};
 use ug_links::{Accepted, LinkRead, LinkWrote, Links, Listening};
 use ug_types::{Dialled, Link, LinkId, Principal, Put, Ready, Taken, Waiter, Woken};
 
@@ -202,6 +202,7 @@ fn a_link_that_fails(rt: HostRuntime) -> Result<(), Fail> {
     assert!(rt; link.send(b"x") == Put::Failed && link.faults() == 1);
     assert!(rt; link.receive(&mut [0u8; 4]) == Taken::Failed && link.faults() == 2);
     assert!(rt; link.dial(rt.alloc(), path.as_bytes()) == Dialled::Failed && link.faults() == 3);
+    assert!(rt; link.reached() == Reached::Refused(2) && link.path() == Some(path.as_bytes()));
     fs::remove_dir_all(&rt, folder.as_str())?;
     Ok(())
 }

@@ -30,6 +30,8 @@ mod host_sockets;
 #[cfg(test)]
 mod host_trust;
 #[cfg(test)]
+mod index;
+#[cfg(test)]
 mod intent;
 #[cfg(test)]
 mod link_faults;

@@ -99,6 +99,55 @@ fn an_auditor_that_fails_is_told_to_the_other(rt: HostRuntime) {
     assert!(rt; took(&panel, 1, SWEEP_WITH_DROP));
 }
 
+// 64 auditors, of whom each fails one line behind the one before it, the first at its first line.
+fn failing_in_turn(alloc: Global) -> Option<Panel> {
+    let mut members: Vec<Box<dyn Auditor>> = Vec::new(alloc);
+    for i in 0..64u64 {
+        members.push(auditor(alloc, &[i + 1]).ok()?).ok()?;
+    }
+    if members.len() > 64 {
+        return None;
+    }
+    Some(Panel::new(members))
+}
+
+// Whether the member of that number took that many lines.
+fn took_lines(panel: &Panel, i: usize, count: usize) -> bool {
+    if i >= panel.len() {
+        return false;
+    }
+    match panel.text(i) {
+        Some(text) => text.iter().filter(|byte| **byte == b'\n').count() == count,
+        None => false,
+    }
+}
+
+// Whether the last member took the lines that tell of the others.
+fn was_told(panel: &Panel) -> bool {
+    if panel.len() != 64 {
+        return false;
+    }
+    match panel.text(63) {
+        Some(text) => {
+            text.starts_with(b"event 1 sweep 100\ndropped 0\ndropped 1\n")
+                && text.ends_with(b"dropped 60\ndropped 61\n")
+        }
+        None => false,
+    }
+}
+
+#[test]
+fn auditors_that_fail_in_turn_are_told_in_turn(rt: HostRuntime) {
+    let alloc = rt.alloc();
+    let mut files = files(alloc, USUAL, Some(b"")).expect(&rt, "memory");
+    let mut panel = failing_in_turn(alloc).expect(&rt, "memory");
+    assert!(rt; run(alloc, &[], &mut files, b"", 1, &mut panel) == Some(0));
+    for i in 0..64usize {
+        assert!(rt; took_lines(&panel, i, i));
+    }
+    assert!(rt; was_told(&panel));
+}
+
 const TWO_SWEEPS: &[u8] = b"note unused-key 2
 event 1 sweep 100
 judged 1 usb1 allow keep

@@ -11,6 +11,8 @@ use Rattle.ug_client.specs.declared.asked.Asked.TheVariants as asked
 use Rattle.ug_client.proofs.Ending.{unsent_memory}
 use Rattle.ug_client.proofs.WatchCalls.{ends_before}
 use Rattle.ug_script.specs.Generating.{TellsFaultAlone}
+use Rattle.ug_script.specs.Summing.{TellsSummary}
+use Rattle.ug_sysfs.specs.World.{World}
 use Rattle.ug_tool.specs.Client.{AsksAndEnds, WatchesAndEnds}
 use Rattle.ug_arguments.specs.Commands.{NotRead}
 use Rattle.ug_arguments.specs.declared.command.WordsFault.{WordsFault}
@@ -121,6 +123,20 @@ memory_alone base held status (inl (is, appended)) = record {
   memory = λ _. appends_known base no_memory held appended;
 }
 memory_alone base held status (inr (is, cut)) = record {
+  bad = λ e. absurd (omega (arith, e, is));
+  read = λ e. absurd (omega (arith, e, is));
+  memory = λ e. absurd (omega (arith, e, is));
+}
+
+pub memory_summary : (first : World) (all base : List ℕ) (held : Option (List ℕ)) (status : ℕ) → IsOutOfMemory (Some base) held status → TellsSummary first all base held status
+memory_summary first all base held status (inl (is, appended)) = record {
+  done = λ e. absurd (omega (arith, e, is));
+  bad = λ e. absurd (omega (arith, e, is));
+  read = λ e. absurd (omega (arith, e, is));
+  memory = λ _. appends_known base no_memory held appended;
+}
+memory_summary first all base held status (inr (is, cut)) = record {
+  done = λ e. absurd (omega (arith, e, is));
   bad = λ e. absurd (omega (arith, e, is));
   read = λ e. absurd (omega (arith, e, is));
   memory = λ e. absurd (omega (arith, e, is));

@@ -1,5 +1,5 @@
 // The commands by their words.
-ghost use Rattle.std.specs.Prelude.{◌≡◌, ◌⊎◌, ◌++◌, [], ℕ, List, Option, Some, None, map, true, false};
+ghost use Rattle.std.specs.Prelude.{◌≡◌, ◌⊎◌, ◌++◌, [], ℕ, Bool, List, Option, Some, None, map, true, false};
 ghost use Rattle.ug_types.specs.Ends.{Rose};
 ghost use Rattle.ug_types.specs.Principals.{Named};
 ghost use Rattle.ug_console.specs.Fold.{of_first};
@@ -13,8 +13,11 @@ ghost use Rattle.ug_lines.specs.Lines.{lines_of};
 ghost use Rattle.ug_script.specs.Generating.{IsFirstPolicy, TellsFaultAlone, generate_end, generate_step};
 ghost use Rattle.ug_script.specs.Script.{Script};
 ghost use Rattle.ug_script.specs.Replay.{script_step, script_end};
+ghost use Rattle.ug_script.specs.Summing.{Summary, TellsSummary, no_totals, summary_end, summary_step};
+ghost use Rattle.ug_commands.specs.GeneratedScripts.{generated_script};
 ghost use Rattle.ug_commands.specs.Listing as listing;
 ghost use Rattle.ug_commands.specs.Checking as checking;
+ghost use Rattle.ug_commands.specs.Linting as linting;
 ghost use Rattle.ug_users.specs.Adding as adding;
 ghost use Rattle.ug_users.specs.declared.asked.Asked.{Asked};
 ghost use Rattle.ug_proto.specs.declared.request.Request.{Request};
@@ -24,7 +27,7 @@ ghost use Rattle.ug_arguments.specs.Commands.{command_in};
 ghost use Rattle.ug_arguments.specs.declared.command.Command.{Command};
 ghost use Rattle.ug_arguments.specs.declared.command.Command.TheVariants as command;
 ghost use Rattle.ug_tool.specs.Client.{AsksAndEnds, WatchesAndEnds};
-ghost use Rattle.ug_tool.specs.Faults.{IsOutOfMemory, IsRefused};
+ghost use Rattle.ug_tool.specs.Faults.{EndsIn, IsOutOfMemory, IsRefused};
 ghost use Rattle.ug_tool.specs.Replay.{new_world};
 ghost use Rattle.ug_tool.specs.Tool.{asks_daemon, gives_ended};
 
@@ -35,11 +38,14 @@ use ug_arguments::read_command;
 use ug_types::{Link, Sink, Source};
 
 /// Carries out a command, whose words are those of the command line behind the program's name. `replay` does what
-/// `run_replay` does, over a new kernel of its own. `read-descriptor` reads the file `descriptors` of a device, at most
+/// `run_replay` does, over a new kernel of its own, and with `--summary` writes numbers of that journal alone. `make-script` writes a
+/// script of random events. `read-descriptor` reads the file `descriptors` of a device, at most
 /// 67,108,864 bytes, and writes what it says. `check-rules` reads a text of rules, of as many bytes at most, and writes their
-/// number. `generate-policy` reads a script, and writes the rules that allow its devices. `add-user` reads an access text, of as many bytes at most, and writes it with privileges added. The others ask the
+/// number. `lint-rules` reads one too, of at most 4,096 rules, and writes which of them can never decide, or with `--prune`
+/// those that no earlier one covers. `generate-policy` reads a script, and writes the rules that allow its devices. `add-user`
+/// reads an access text, of as many bytes at most, and writes it with privileges added. The others ask the
 /// daemon over the link, and print its reply. The status is 0; 1 for other words; 2 where the input is refused; 3 where a text
-/// of rules has a bad line; 4 for a read fault; 5 for a write fault; 6 for want of memory; 7 for a refusal; 8 where the link
+/// of rules has a bad line, or is linted and has more rules; 4 for a read fault; 5 for a write fault; 6 for want of memory; 7 for a refusal; 8 where the link
 /// gave no reply.
 pub fn run_tool<S: Source, K: Sink, L: Link>(
     alloc: Global,
@@ -55,10 +61,24 @@ pub fn run_tool<S: Source, K: Sink, L: Link>(
         → (script : Option Script) × (world : World) × lines.Answers script_step (of_first script_end) (None, new_world) all base (S.left input.new) (K.held out.new) (script, world) result }
     ensures laws { StaysLawful new_world }
     ensures recorded { StaysRecorded new_world }
+    ensures summarized { command_in (map (λ word. word.now) words.now) ≡ Some command.Summarize → (all base : List ℕ) → S.left input.old ≡ Some all → K.held out.old ≡ Some base
+        → (summary : Summary) × (world : World)
+        × lines.Answers summary_step summary_end ((None, no_totals), new_world) all base
+        (S.left input.new) (K.held out.new) (summary, world) result }
+    ensures summary { command_in (map (λ word. word.now) words.now) ≡ Some command.Summarize → (all base : List ℕ) → S.left input.old ≡ Some all → K.held out.old ≡ Some base
+        → TellsSummary new_world all base (K.held out.new) result }
+    ensures made { (events start : ℕ) → command_in (map (λ word. word.now) words.now) ≡ Some (command.MakeScript events start)
+        → EndsIn (generated_script events start) 0 (K.held out.old) (K.held out.new) result
+        ⊎ IsOutOfMemory (K.held out.old) (K.held out.new) result }
+    ensures unread { (events start : ℕ) → command_in (map (λ word. word.now) words.now) ≡ Some (command.MakeScript events start)
+        → S.left input.new ≡ S.left input.old }
     ensures listed { command_in (map (λ word. word.now) words.now) ≡ Some command.ReadDescriptor → (all base : List ℕ) → S.left input.old ≡ Some all → K.held out.old ≡ Some base
         → listing.Answers all base (S.left input.new) (K.held out.new) result }
     ensures checked { command_in (map (λ word. word.now) words.now) ≡ Some command.CheckRules → (all base : List ℕ) → S.left input.old ≡ Some all → K.held out.old ≡ Some base
         → checking.Answers all base (S.left input.new) (K.held out.new) result }
+    ensures linted { (prune : Bool) → command_in (map (λ word. word.now) words.now) ≡ Some (command.LintRules prune)
+        → (all base : List ℕ) → S.left input.old ≡ Some all → K.held out.old ≡ Some base
+        → linting.Answers prune all base (S.left input.new) (K.held out.new) result }
     ensures generated { command_in (map (λ word. word.now) words.now) ≡ Some command.GeneratePolicy → (all base : List ℕ)
         → S.left input.old ≡ Some all → K.held out.old ≡ Some base
         → (script : Option Script) × (world : World)
@@ -82,6 +102,8 @@ pub fn run_tool<S: Source, K: Sink, L: Link>(
         (K.held out.old) (K.held out.new) (L.faults link.old) (L.faults link.new) result }
     ensures ended { (c : Command) → command_in (map (λ word. word.now) words.now) ≡ Some c → gives_ended c ≡ true → (ended : Ended) × (result ≡ status_of ended) }
     ensures checked_ended { command_in (map (λ word. word.now) words.now) ≡ Some command.CheckRules → (ended : Ended) × (result ≡ checking.status_of ended) }
+    ensures linted_ended { (prune : Bool) → command_in (map (λ word. word.now) words.now) ≡ Some (command.LintRules prune)
+        → (ended : Ended) × (result ≡ checking.status_of ended) }
     ensures read { result ≡ 4 → Rose (S.faults input.old) (S.faults input.new) }
     ensures written { result ≡ 5 → Rose (K.faults out.old) (K.faults out.new) }
     ensures input { (c : Command) → command_in (map (λ word. word.now) words.now) ≡ Some c → asks_daemon c ≡ true → S.left input.new ≡ S.left input.old }

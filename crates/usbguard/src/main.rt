@@ -1,16 +1,22 @@
 // The program: the real objects and the top call.
 #![tactic(auto)]
 
+mod about;
 mod last_line;
+mod link_words;
 mod serve;
 mod shown;
 mod told;
 mod usage;
+mod waiting;
 mod words;
 
+use crate::about::tell_about;
 use crate::last_line::{LastLine, tell_line};
+use crate::link_words::tell_link;
 use crate::serve::serve;
 use crate::usage::{tell, tell_unreadable};
+use crate::waiting::tell_waiting;
 use std::process::ExitCode;
 use std::{env, io};
 use ug_host::{SocketLink, fill_standard_files};
@@ -53,6 +59,10 @@ fn main(rt: HostRuntime) -> ExitCode {
             return end_with(&mut out, b"no memory\n", 6);
         }
     }
+    if let Some(status) = tell_about(&rt, &words) {
+        return ExitCode::from(status);
+    }
+    tell_waiting(&rt, &words);
     let mut input = ReaderSource::new(rt.reader());
     let status = match words.as_slice() {
         ["daemon", behind @ ..] => serve(rt, behind),
@@ -62,7 +72,11 @@ fn main(rt: HostRuntime) -> ExitCode {
         }
         _ => {
             let mut link = SocketLink::new(rt);
-            run_tool(alloc, &words, &mut input, &mut out, &mut link)
+            let status = run_tool(alloc, &words, &mut input, &mut out, &mut link);
+            if status == 8 {
+                tell_link(&rt, &link);
+            }
+            status
         }
     };
     tell_line(&rt, lines.text());

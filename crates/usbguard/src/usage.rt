@@ -1,5 +1,7 @@
 // What the program tells a person, beside its output.
 
+use std::alloc::{AllocError, Global};
+
 /// A command's first word, how it is used, and what else to know of its words.
 struct Usage {
     word: &'static str,
@@ -19,7 +21,7 @@ const A_SCRIPT: &str =
 const A_SOCKET: &str =
     "PATH is the socket at which the daemon listens. Without it that is /run/usbguard/root.socket.";
 
-const USAGES: [Usage; 16] = [
+const USAGES: [Usage; 18] = [
     Usage {
         word: "add-user",
         line: "usbguard add-user NAME [--devices LIST] [--policy LIST] [--exceptions LIST] [--parameters LIST] < FILE",
@@ -61,6 +63,11 @@ const USAGES: [Usage; 16] = [
         hint: "NAME is a setting's: ImplicitPolicyTarget or InsertedDevicePolicy.",
     },
     Usage {
+        word: "lint-rules",
+        line: "usbguard lint-rules [--prune] < RULES",
+        hint: "It reads standard input: write < before the name of a file. With --prune it writes the rules that no earlier one covers.",
+    },
+    Usage {
         word: "list-devices",
         line: "usbguard list-devices [--socket PATH]",
         hint: A_SOCKET,
@@ -69,6 +76,11 @@ const USAGES: [Usage; 16] = [
         word: "list-rules",
         line: "usbguard list-rules [--socket PATH]",
         hint: A_SOCKET,
+    },
+    Usage {
+        word: "make-script",
+        line: "usbguard make-script EVENTS START",
+        hint: "EVENTS is from 1 to 500000, and START from 0 to 4294967295: digits alone, with no leading zero.",
     },
     Usage {
         word: "read-descriptor",
@@ -87,8 +99,8 @@ const USAGES: [Usage; 16] = [
     },
     Usage {
         word: "replay",
-        line: "usbguard replay < SCRIPT",
-        hint: A_SCRIPT,
+        line: "usbguard replay [--summary] < SCRIPT",
+        hint: "It reads standard input: write < before the name of a file, or usbguard-script | before usbguard. With --summary it writes numbers of the journal alone.",
     },
     Usage {
         word: "set-parameter",
@@ -106,27 +118,39 @@ fn usage_of(word: &str) -> Option<&'static Usage> {
     USAGES.iter().find(|usage| usage.word == word)
 }
 
+/// Whether that is a command's word.
+pub fn is_known(word: &str) -> bool {
+    usage_of(word).is_some()
+}
+
 // How the command is used.
-fn tell_usage(rt: &HostRuntime, usage: &Usage) -> std::io::Result<()> {
-    let line = usage.line;
-    let hint = usage.hint;
-    eprintln!(rt; "usage: {line}")?;
-    eprintln!(rt; "{hint}")?;
-    eprintln!(rt; "The manual page usbguard(1) says what it does.")
+fn text_of_one(alloc: Global, usage: &Usage) -> Result<String, AllocError> {
+    let mut text = String::from_str(alloc, "usage: ")?;
+    text.push_str(usage.line)?;
+    text.push('\n')?;
+    text.push_str(usage.hint)?;
+    text.push_str("\nThe manual page usbguard(1) says what it does.")?;
+    Ok(text)
 }
 
 // How each command is used.
-fn tell_usages(rt: &HostRuntime) -> std::io::Result<()> {
-    eprintln!(rt; "usage:")?;
+fn text_of_all(alloc: Global) -> Result<String, AllocError> {
+    let mut text = String::from_str(alloc, "usage:\n")?;
     for usage in USAGES.iter() {
-        let line = usage.line;
-        eprintln!(rt; "  {line}")?;
+        text.push_str("  ")?;
+        text.push_str(usage.line)?;
+        text.push('\n')?;
     }
-    eprintln!(rt; "The manual page usbguard(1) says what each does.")
+    text.push_str("The manual page usbguard(1) says what each does.")?;
+    Ok(text)
 }
 
-fn has(words: &[&str], long: &str, short: &str) -> bool {
-    words.iter().any(|word| *word == long || *word == short)
+/// How the command of that word is used, or each, where there is no such command.
+pub fn usage_text(alloc: Global, word: Option<&str>) -> Result<String, AllocError> {
+    match word.and_then(|word| usage_of(word)) {
+        Some(usage) => text_of_one(alloc, usage),
+        None => text_of_all(alloc),
+    }
 }
 
 // What is wrong with words that are no command.
@@ -140,34 +164,24 @@ fn complaint(words: &[&str], usage: Option<&Usage>) -> &'static str {
 
 // What to do about words that are no command.
 fn tell_words(rt: &HostRuntime, words: &[&str]) -> std::io::Result<()> {
-    if has(words, "--version", "-V") {
-        return eprintln!(rt; "usbguard, not released yet");
-    }
-    let usage = words.first().and_then(|word| usage_of(word));
-    if !has(words, "--help", "-h") {
-        let complaint = complaint(words, usage);
-        eprintln!(rt; "usbguard: {complaint}")?;
-    }
-    match usage {
-        Some(usage) => tell_usage(rt, usage),
-        None => tell_usages(rt),
-    }
+    let first = words.first().copied();
+    let complaint = complaint(words, first.and_then(|word| usage_of(word)));
+    let text = usage_text(rt.alloc(), first)?;
+    eprintln!(rt; "usbguard: {complaint}")?;
+    eprintln!(rt; "{text}")
 }
 
 // What to do where a command ended with that status.
 fn advice(status: u8) -> Option<&'static str> {
     match status {
         2 => Some("The input was refused, as the last line says: mend it, and try again."),
-        3 => Some("A rule is bad: mend the line that the last line names, and try again."),
+        3 => Some("The rules are refused, as the last line says: mend them, and try again."),
         4 => Some("The input could not be read: see that it can be opened and read to its end."),
         5 => Some(
             "The output could not be written: see that there is room, and that it is read to its end.",
         ),
         6 => Some("Memory ran out: try again with a smaller input, or with more memory."),
         7 => Some("The daemon refused, as the last line says: usbguard(1) lists the reasons."),
-        8 => Some(
-            "No whole reply came: see that usbguard daemon runs and listens at that socket, and that you may open it.",
-        ),
         _ => None,
     }
 }

@@ -12,3 +12,11 @@ returns-in-GeneratePolicy-clause-generated g c = λ is all base a b.
 
 pub returns-in-GeneratePolicy-clause-policy : goal.returns-in-GeneratePolicy-clause-policy
 returns-in-GeneratePolicy-clause-policy g c = λ is all base a b. rw c.new-in-GeneratePolicy.ensures at (c.generate_policy.ensures.policy all base a b)
+
+pub returns-in-Summarize-clause-summarized : goal.returns-in-Summarize-clause-summarized
+returns-in-Summarize-clause-summarized g c = λ is all base a b.
+    let r = rw c.new-in-Summarize.ensures at (c.summarize.ensures.answers all base a b) in
+    (r.0, c.summarize.new.kernel, r.1)
+
+pub returns-in-Summarize-clause-summary : goal.returns-in-Summarize-clause-summary
+returns-in-Summarize-clause-summary g c = λ is all base a b. rw c.new-in-Summarize.ensures at (c.summarize.ensures.told all base a b)

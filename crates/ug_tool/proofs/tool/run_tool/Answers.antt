@@ -1,11 +1,13 @@
-use Rattle.std.proofs.Common.{ℕ, List, None, Bor, map, refl}
+use Rattle.std.proofs.Common.{ℕ, List, None, Bor, inl, inr, map, refl}
 use Rattle.ug_console.specs.Fold.{of_first}
 use Rattle.ug_console.specs.Statuses.{status_of}
 use Rattle.ug_console.specs.WholeInputs.{input_limit}
 use Rattle.ug_script.specs.Generating.{generate_end, generate_step}
 use Rattle.ug_script.specs.Replay.{script_step, script_end}
+use Rattle.ug_script.specs.Summing.{no_totals, summary_end, summary_step}
 use Rattle.ug_commands.specs.Listing as listing
 use Rattle.ug_commands.specs.Checking as checking
+use Rattle.ug_commands.specs.Linting as linting
 use Rattle.ug_users.specs.Adding as adding
 use Rattle.ug_client.specs.Asking.{request_line}
 use Rattle.ug_proto.specs.declared.request.Request.TheVariants as request
@@ -13,7 +15,7 @@ use Rattle.ug_arguments.specs.Commands.{command_in}
 use Rattle.ug_sysfs.specs.Sound.{new_sound}
 use Rattle.ug_script.proofs.Journals.{stays_lawful, stays_recorded}
 use Rattle.ug_tool.specs.Replay.{new_world}
-use Rattle.ug_tool.proofs.Memory.{fault_is_memory, input_unread, lines_unread, memory_alone, memory_undone, request_unsent, same_command, watch_unsent}
+use Rattle.ug_tool.proofs.Memory.{fault_is_memory, input_unread, lines_unread, memory_alone, memory_summary, memory_undone, request_unsent, same_command, watch_unsent}
 use Rattle.ug_tool.proofs.tool.run_tool.Goals as goal
 
 pub returns-in-Ok-clause-laws : goal.returns-in-Ok-clause-laws
@@ -25,11 +27,26 @@ returns-in-Ok-clause-recorded g c = stays_recorded new_world refl new_sound
 pub returns-in-Ok-clause-replayed : goal.returns-in-Ok-clause-replayed
 returns-in-Ok-clause-replayed g c = λ e. c.carry_out.ensures.replayed (same_command (command_in (map (λ (w : Bor (List ℕ)). w.now) c.args.words.now)) _ _ c.in-Ok.ensures.ok e)
 
+pub returns-in-Ok-clause-summarized : goal.returns-in-Ok-clause-summarized
+returns-in-Ok-clause-summarized g c = λ e. c.carry_out.ensures.summarized (same_command (command_in (map (λ (w : Bor (List ℕ)). w.now) c.args.words.now)) _ _ c.in-Ok.ensures.ok e)
+
+pub returns-in-Ok-clause-summary : goal.returns-in-Ok-clause-summary
+returns-in-Ok-clause-summary g c = λ e. c.carry_out.ensures.summary (same_command (command_in (map (λ (w : Bor (List ℕ)). w.now) c.args.words.now)) _ _ c.in-Ok.ensures.ok e)
+
+pub returns-in-Ok-clause-made : goal.returns-in-Ok-clause-made
+returns-in-Ok-clause-made g c = λ events start e. inl (c.carry_out.ensures.made events start (same_command (command_in (map (λ (w : Bor (List ℕ)). w.now) c.args.words.now)) _ _ c.in-Ok.ensures.ok e))
+
+pub returns-in-Ok-clause-unread : goal.returns-in-Ok-clause-unread
+returns-in-Ok-clause-unread g c = λ events start e. c.carry_out.ensures.unread events start (same_command (command_in (map (λ (w : Bor (List ℕ)). w.now) c.args.words.now)) _ _ c.in-Ok.ensures.ok e)
+
 pub returns-in-Ok-clause-listed : goal.returns-in-Ok-clause-listed
 returns-in-Ok-clause-listed g c = λ e. c.carry_out.ensures.listed (same_command (command_in (map (λ (w : Bor (List ℕ)). w.now) c.args.words.now)) _ _ c.in-Ok.ensures.ok e)
 
 pub returns-in-Ok-clause-checked : goal.returns-in-Ok-clause-checked
 returns-in-Ok-clause-checked g c = λ e. c.carry_out.ensures.checked (same_command (command_in (map (λ (w : Bor (List ℕ)). w.now) c.args.words.now)) _ _ c.in-Ok.ensures.ok e)
+
+pub returns-in-Ok-clause-linted : goal.returns-in-Ok-clause-linted
+returns-in-Ok-clause-linted g c = λ prune e. c.carry_out.ensures.linted prune (same_command (command_in (map (λ (w : Bor (List ℕ)). w.now) c.args.words.now)) _ _ c.in-Ok.ensures.ok e)
 
 pub returns-in-Ok-clause-generated : goal.returns-in-Ok-clause-generated
 returns-in-Ok-clause-generated g c = λ e. c.carry_out.ensures.generated (same_command (command_in (map (λ (w : Bor (List ℕ)). w.now) c.args.words.now)) _ _ c.in-Ok.ensures.ok e)
@@ -61,6 +78,23 @@ returns-in-Err-clause-replayed g c = λ e all base a b.
     let short = c.refuse.ensures.memory (fault_is_memory words _ c.in-Err.fault c.in-Err.ensures.err e) in
     (None, new_world, rw a (lines_unread script_step (of_first script_end) (None, new_world) all base (g.K.Sink.held c.refuse.new.out) c.refuse.result (rw b at short)))
 
+pub returns-in-Err-clause-summarized : goal.returns-in-Err-clause-summarized
+returns-in-Err-clause-summarized g c = λ e all base a b.
+    let words = command_in (map (λ (w : Bor (List ℕ)). w.now) c.args.words.now) in
+    let short = c.refuse.ensures.memory (fault_is_memory words _ c.in-Err.fault c.in-Err.ensures.err e) in
+    ((None, no_totals), new_world, rw a (lines_unread summary_step summary_end ((None, no_totals), new_world) all base (g.K.Sink.held c.refuse.new.out) c.refuse.result (rw b at short)))
+
+pub returns-in-Err-clause-summary : goal.returns-in-Err-clause-summary
+returns-in-Err-clause-summary g c = λ e all base a b.
+    let words = command_in (map (λ (w : Bor (List ℕ)). w.now) c.args.words.now) in
+    let short = c.refuse.ensures.memory (fault_is_memory words _ c.in-Err.fault c.in-Err.ensures.err e) in
+    memory_summary new_world all base (g.K.Sink.held c.refuse.new.out) c.refuse.result (rw b at short)
+
+pub returns-in-Err-clause-made : goal.returns-in-Err-clause-made
+returns-in-Err-clause-made g c = λ events start e.
+    let words = command_in (map (λ (w : Bor (List ℕ)). w.now) c.args.words.now) in
+    inr (c.refuse.ensures.memory (fault_is_memory words _ c.in-Err.fault c.in-Err.ensures.err e))
+
 pub returns-in-Err-clause-listed : goal.returns-in-Err-clause-listed
 returns-in-Err-clause-listed g c = λ e all base a b.
     let words = command_in (map (λ (w : Bor (List ℕ)). w.now) c.args.words.now) in
@@ -72,6 +106,12 @@ returns-in-Err-clause-checked g c = λ e all base a b.
     let words = command_in (map (λ (w : Bor (List ℕ)). w.now) c.args.words.now) in
     let short = c.refuse.ensures.memory (fault_is_memory words _ c.in-Err.fault c.in-Err.ensures.err e) in
     rw a (input_unread checking.status_of input_limit checking.IsCounted checking.IsRefused all base (g.K.Sink.held c.refuse.new.out) c.refuse.result refl refl (rw b at short))
+
+pub returns-in-Err-clause-linted : goal.returns-in-Err-clause-linted
+returns-in-Err-clause-linted g c = λ prune e all base a b.
+    let words = command_in (map (λ (w : Bor (List ℕ)). w.now) c.args.words.now) in
+    let short = c.refuse.ensures.memory (fault_is_memory words _ c.in-Err.fault c.in-Err.ensures.err e) in
+    rw a (input_unread checking.status_of input_limit (linting.IsOutput prune) linting.IsRefused all base (g.K.Sink.held c.refuse.new.out) c.refuse.result refl refl (rw b at short))
 
 pub returns-in-Err-clause-generated : goal.returns-in-Err-clause-generated
 returns-in-Err-clause-generated g c = λ e all base a b.

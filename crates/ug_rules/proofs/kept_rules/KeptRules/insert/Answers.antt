@@ -1,9 +1,9 @@
 use Rattle.std.proofs.Common.{◌≡◌, ◌<◌, Err, length, sym, ap, subst, arith}
 use Rattle.std.specs.Prelude.{All}
 use Rattle.ug_policy.specs.Edits.{IsThere, inserted, new_entry}
-use Rattle.ug_policy.specs.Rules.{Rules}
+use Rattle.ug_policy.specs.Rules.{Rules, rules_in}
 use Rattle.ug_policy.specs.declared.entry.InsertFault.TheVariants as fault
-use Rattle.ug_rules.specs.RuleFile.{IsSaveable, ReadsBack, rules_in}
+use Rattle.ug_rules.specs.RuleFile.{IsSaveable, ReadsBack}
 use Rattle.ug_rules.specs.declared.edit.Edit.TheVariants.{Insert}
 use Rattle.ug_rules.proofs.Readable.{edited_reads, was_inserted}
 use Rattle.ug_rules.proofs.kept_rules.KeptRules.insert.Goals as goal

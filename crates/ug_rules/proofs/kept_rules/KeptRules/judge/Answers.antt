@@ -1,6 +1,7 @@
 use Rattle.std.proofs.Common.{sym, ap, subst}
 use Rattle.std.specs.Prelude.{All}
-use Rattle.ug_rules.specs.RuleFile.{IsSaveable, ReadsBack, rules_in}
+use Rattle.ug_rules.specs.RuleFile.{IsSaveable, ReadsBack}
+use Rattle.ug_policy.specs.Rules.{rules_in}
 use Rattle.ug_rules.proofs.Given.{judged_reads, judged_saves}
 use Rattle.ug_rules.proofs.kept_rules.KeptRules.judge.Goals as goal
 

@@ -1,8 +1,8 @@
 use Rattle.std.proofs.Common.{sym, ap, subst}
 use Rattle.std.specs.Prelude.{All}
 use Rattle.ug_policy.specs.Edits.{removed}
-use Rattle.ug_policy.specs.Rules.{Rules}
-use Rattle.ug_rules.specs.RuleFile.{IsSaveable, ReadsBack, rules_in}
+use Rattle.ug_policy.specs.Rules.{Rules, rules_in}
+use Rattle.ug_rules.specs.RuleFile.{IsSaveable, ReadsBack}
 use Rattle.ug_rules.specs.declared.edit.Edit.TheVariants.{Remove}
 use Rattle.ug_rules.proofs.Readable.{edited_reads}
 use Rattle.ug_rules.proofs.kept_rules.KeptRules.remove.Goals as goal

@@ -1,9 +1,9 @@
 use Rattle.std.proofs.Common.{sym, ap, subst}
 use Rattle.std.specs.Prelude.{All}
 use Rattle.ug_policy.specs.Edits.{retargeted}
-use Rattle.ug_policy.specs.Rules.{Rules}
+use Rattle.ug_policy.specs.Rules.{Rules, rules_in}
 use Rattle.ug_rules.specs.RuleEdits.{EditReads}
-use Rattle.ug_rules.specs.RuleFile.{IsSaveable, ReadsBack, rules_in}
+use Rattle.ug_rules.specs.RuleFile.{IsSaveable, ReadsBack}
 use Rattle.ug_rules.specs.declared.edit.Edit.TheVariants.{Retarget}
 use Rattle.ug_rules.proofs.Readable.{edited_reads}
 use Rattle.ug_rules.proofs.kept_rules.KeptRules.retarget.Goals as goal

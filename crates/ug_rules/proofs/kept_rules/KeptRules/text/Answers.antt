@@ -10,6 +10,6 @@ use Rattle.ug_rules.proofs.kept_rules.KeptRules.text.Goals as goal
 pub returns-in-Ok-clause-reads : goal.returns-in-Ok-clause-reads
 returns-in-Ok-clause-reads c =
     let list : Rules = c.self.inside.list in
-    let told = text_of_list fault.TooLong list.entries (rules_after None list.entries) (Ok c.in-Ok.text) (sym (unedited_rules list.entries)) c.self.invariant.0 c.in-Ok.ensures.text c.in-Ok.ensures.bytes c.in-Ok.ensures.fits c.in-Ok.ensures.too_long c.self.invariant.1.few in
+    let told = text_of_list fault.TooLong list.entries (rules_after None list.entries) (Ok c.in-Ok.text) (sym (unedited_rules list.entries)) c.self.invariant.0 c.in-Ok.ensures.text c.in-Ok.ensures.bytes c.in-Ok.ensures.fits c.in-Ok.ensures.too_long in
     let is = subst (λ (v : Rules). TextOf fault.TooLong v.entries (Ok c.in-Ok.text)) c.self.view_is told in
     is.reads

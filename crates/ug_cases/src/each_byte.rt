@@ -1,0 +1,247 @@
+// Commands that ask the daemon, over links that end, fail or give another byte at each byte of what they give.
+use crate::calls::{Call, Ran, ask};
+use crate::commands::{add_in_one_line, words_of};
+use std::alloc::Global;
+use ug_casefile::{Answer, Case, bytes_of_hex};
+use ug_types::NoMemory;
+
+/// What happens at a byte.
+#[derive(Clone, Copy)]
+enum Turn {
+    Ends,
+    Fails,
+    Other(u8),
+}
+
+/// A command, what its link gives, and what it sends over one that ends there.
+#[derive(Drop)]
+struct Asking<'a> {
+    words: &'a [u8],
+    given: &'a [u8],
+    sent: Vec<u8>,
+}
+
+/// What came of one place after another, with a line for those that have the same.
+#[derive(Drop)]
+struct Table {
+    lines: Answer,
+    first: u64,
+    last: u64,
+    answer: Vec<u8>,
+    count: u64,
+}
+
+fn add_turn(told: &mut Answer, turn: Turn) {
+    match turn {
+        Turn::Ends => told.add(b"ends at "),
+        Turn::Fails => told.add(b"fails at "),
+        Turn::Other(byte) => {
+            told.add(b"has ");
+            told.add_escaped(&[byte]);
+            told.add(b" at ");
+        }
+    }
+}
+
+impl Table {
+    fn new(alloc: Global) -> Table {
+        Table {
+            lines: Answer::new(alloc),
+            first: 0,
+            last: 0,
+            answer: Vec::new(alloc),
+            count: 0,
+        }
+    }
+
+    // Writes the line of the places that have the same answer.
+    fn close(&mut self, turn: Turn) {
+        if self.answer.is_empty() {
+            return;
+        }
+        add_turn(&mut self.lines, turn);
+        self.lines.add_number(self.first);
+        if self.first < self.last {
+            self.lines.add(b" to ");
+            self.lines.add_number(self.last);
+        }
+        self.lines.add(b": ");
+        self.lines.add(&self.answer);
+        self.lines.add(b"\n");
+        self.answer.clear();
+    }
+
+    fn add(&mut self, turn: Turn, place: u64, answer: Vec<u8>) {
+        self.count = self.count.saturating_add(1);
+        if answer != self.answer {
+            self.close(turn);
+            self.first = place;
+            self.answer = answer;
+        }
+        self.last = place;
+    }
+}
+
+// What a link gives whose bytes turn at that place.
+fn turned(alloc: Global, given: &[u8], place: usize, turn: Turn) -> Result<Vec<u8>, NoMemory> {
+    let mut bytes = Answer::new(alloc);
+    bytes.add(given.get(..place).unwrap_or(&[]));
+    if let Turn::Other(byte) = turn {
+        let behind = place.saturating_add(1);
+        bytes.add(&[byte]);
+        bytes.add(given.get(behind..).unwrap_or(&[]));
+    }
+    bytes.finish()
+}
+
+// The number of the call of a link that fails: the bytes before it come in one call, if there are any.
+fn failing_calls(alloc: Global, place: usize, turn: Turn) -> Result<Vec<u64>, NoMemory> {
+    let mut calls = Vec::new(alloc);
+    match turn {
+        Turn::Fails => calls.push(if place == 0 { 1 } else { 2 })?,
+        _ => {}
+    }
+    Ok(calls)
+}
+
+impl<'a> Asking<'a> {
+    fn new(alloc: Global, words: &'a [u8], given: &'a [u8]) -> Result<Asking<'a>, NoMemory> {
+        let mut asking = Asking {
+            words,
+            given,
+            sent: Vec::new(alloc),
+        };
+        let (_ran, sent) = asking.run(alloc, given.len(), Turn::Ends)?;
+        asking.sent = sent;
+        Ok(asking)
+    }
+
+    fn run(&self, alloc: Global, place: usize, turn: Turn) -> Result<(Ran, Vec<u8>), NoMemory> {
+        let call = Call {
+            words: words_of(alloc, self.words)?,
+            input: turned(alloc, self.given, place, turn)?,
+            reads: failing_calls(alloc, place, turn)?,
+            writes: Vec::new(alloc),
+        };
+        ask(alloc, call, true)
+    }
+
+    // What is printed, the status, and whether it sent something else than before.
+    fn answer(&self, alloc: Global, place: usize, turn: Turn) -> Result<Vec<u8>, NoMemory> {
+        let (ran, sent) = self.run(alloc, place, turn)?;
+        let mut told = Answer::new(alloc);
+        add_in_one_line(&mut told, &ran);
+        if sent != self.sent {
+            told.add(b", with another request");
+        }
+        told.finish()
+    }
+
+    fn add_places(
+        &self,
+        alloc: Global,
+        table: &mut Table,
+        turn: Turn,
+        first: usize,
+        end: usize,
+    ) -> Result<(), NoMemory> {
+        for place in first..end {
+            table.add(turn, place as u64, self.answer(alloc, place, turn)?);
+        }
+        table.close(turn);
+        Ok(())
+    }
+
+    fn table(&self, alloc: Global, first: usize, others: &[u8]) -> Result<Table, NoMemory> {
+        let mut table = Table::new(alloc);
+        let end = self.given.len();
+        let behind = end.saturating_add(1);
+        self.add_places(alloc, &mut table, Turn::Ends, first, behind)?;
+        self.add_places(alloc, &mut table, Turn::Fails, first, behind)?;
+        for byte in others {
+            self.add_places(alloc, &mut table, Turn::Other(*byte), first, end)?;
+        }
+        Ok(table)
+    }
+}
+
+// The first place: with the setting `whole`, that behind the whole input.
+fn first_place(case: &Case) -> usize {
+    match case.setting(b"whole") {
+        Some(_) => case.input.len(),
+        None => 0,
+    }
+}
+
+// The bytes of the setting `others`, in hexadecimal digits.
+fn others(alloc: Global, case: &Case) -> Result<Vec<u8>, NoMemory> {
+    let digits = case.setting(b"others").unwrap_or(&[]);
+    match bytes_of_hex(alloc, digits)? {
+        Some(bytes) => Ok(bytes),
+        None => Ok(Vec::new(alloc)),
+    }
+}
+
+fn without_newline(line: &[u8]) -> &[u8] {
+    line.strip_suffix(b"\n").unwrap_or(line)
+}
+
+// The tables of commands, of which those one behind another that have the same are told once.
+#[derive(Drop)]
+struct Tables {
+    sent: Answer,
+    lines: Answer,
+    last: Vec<u8>,
+    count: u64,
+}
+
+impl Tables {
+    fn new(alloc: Global) -> Tables {
+        Tables {
+            sent: Answer::new(alloc),
+            lines: Answer::new(alloc),
+            last: Vec::new(alloc),
+            count: 0,
+        }
+    }
+
+    fn add(&mut self, sent: &[u8], table: Table) -> Result<(), NoMemory> {
+        let before: &[u8] = if self.sent.is_empty() {
+            b"sent "
+        } else {
+            b"; "
+        };
+        self.sent.add(before);
+        self.sent.add(without_newline(sent));
+        self.count = self.count.saturating_add(table.count);
+        let lines = table.lines.finish()?;
+        if lines != self.last {
+            self.lines.add(&lines);
+            self.last = lines;
+        }
+        Ok(())
+    }
+
+    fn finish(mut self) -> Result<Vec<u8>, NoMemory> {
+        self.sent.add(b"\n");
+        self.sent.add(&self.lines.finish()?);
+        self.sent.add_number(self.count);
+        self.sent.add(b" links");
+        self.sent.finish()
+    }
+}
+
+/// What each command sends of the setting `commands`, between which stands `|`, and what comes of a link that ends or fails at
+/// each place of the input, or with `whole` at its end alone, or has each byte of the setting `others` in place of each of its bytes.
+/// Commands one behind another of which the same comes have one table. At last, how many links there were.
+pub fn tell(alloc: Global, case: &Case) -> Result<Vec<u8>, NoMemory> {
+    let others = others(alloc, case)?;
+    let mut tables = Tables::new(alloc);
+    let commands = case.setting(b"commands").unwrap_or(&[]);
+    for words in commands.split(|byte| *byte == b'|') {
+        let asking = Asking::new(alloc, words, &case.input)?;
+        let table = asking.table(alloc, first_place(case), &others)?;
+        tables.add(&asking.sent, table)?;
+    }
+    tables.finish()
+}

@@ -1,0 +1,150 @@
+// A script with something at each of its calls in turn.
+use crate::calls::{Call, replay};
+use std::alloc::Global;
+use ug_casefile::{Answer, Case, Setting, add_pattern, number_of};
+use ug_sysfs::{SimKernel, Write};
+use ug_types::NoMemory;
+
+// The script of the case, its lines for these calls, and two events.
+fn script(alloc: Global, case: &Case, first: u64, second: u64) -> Result<Vec<u8>, NoMemory> {
+    let mut text = Answer::new(alloc);
+    text.add(&case.input);
+    for setting in case.settings.as_slice() {
+        if setting.key.as_slice() == b"line".as_slice() {
+            add_pattern(&mut text, &setting.value, first, second);
+            text.add(b"\n");
+        }
+    }
+    text.add(b"sweep 100\nsweep 101\n");
+    text.finish()
+}
+
+fn holds(text: &[u8], part: &[u8]) -> bool {
+    !part.is_empty() && text.windows(part.len()).any(|window| window == part)
+}
+
+// What stands behind the first line of the second event.
+fn later(text: &[u8]) -> &[u8] {
+    let line: &[u8] = b"event 2 sweep 101\n";
+    match text.windows(line.len()).position(|window| window == line) {
+        Some(at) => text.get(at..).unwrap_or(&[]),
+        None => &[],
+    }
+}
+
+fn live_are_on(kernel: &SimKernel) -> bool {
+    kernel
+        .devices()
+        .iter()
+        .all(|device| device.gone || device.on)
+}
+
+// Devices are counted from 1 in the order of their births.
+fn was_switched_on(kernel: &SimKernel, number: &[u8]) -> bool {
+    let Some(place) = number_of(number).and_then(|number| number.checked_sub(1)) else {
+        return true;
+    };
+    kernel.log().iter().any(|effect| effect.device as u64 == place
+        && matches!(effect.write, Write::On))
+}
+
+fn is_met(setting: &Setting, output: &[u8], kernel: &SimKernel) -> bool {
+    let value = setting.value.as_slice();
+    match str::from_utf8(&setting.key).unwrap_or("") {
+        "calls" | "line" => true,
+        "holds" => holds(output, value),
+        "lacks" => !holds(output, value),
+        "later-lacks" => !holds(later(output), value),
+        "live-are-on" => live_are_on(kernel),
+        "never-on" => !was_switched_on(kernel, value),
+        "devices" => number_of(value) == Some(kernel.devices().len() as u64),
+        _ => false,
+    }
+}
+
+fn add_calls(told: &mut Answer, first: u64, second: u64) {
+    told.add(b"calls ");
+    told.add_number(first);
+    told.add(b" and ");
+    told.add_number(second);
+}
+
+fn add_unmet(told: &mut Answer, setting: &Setting) {
+    told.add(b": not ");
+    told.add_escaped(&setting.key);
+    told.add(b" ");
+    told.add_escaped(&setting.value);
+    told.add(b"\n");
+}
+
+// Adds a line for each thing that isn't as the settings say.
+fn judge(
+    alloc: Global,
+    told: &mut Answer,
+    case: &Case,
+    first: u64,
+    second: u64,
+) -> Result<(), NoMemory> {
+    let call = Call::of_script(alloc, script(alloc, case, first, second)?)?;
+    let (ran, kernel) = replay(alloc, call)?;
+    if ran.status != 0 {
+        add_calls(told, first, second);
+        told.add(b": status ");
+        told.add_number(u64::from(ran.status));
+        told.add(b"\n");
+    }
+    for setting in case.settings.as_slice() {
+        if !is_met(setting, &ran.output, &kernel) {
+            add_calls(told, first, second);
+            add_unmet(told, setting);
+        }
+    }
+    Ok(())
+}
+
+fn last_call(case: &Case) -> u64 {
+    case.setting(b"calls").and_then(number_of).unwrap_or(0)
+}
+
+fn finish(told: Answer, count: u64) -> Result<Vec<u8>, NoMemory> {
+    let mut told = told;
+    told.add_number(count);
+    told.add(b" scripts");
+    told.finish()
+}
+
+/// Runs the script of the case with its lines for each call from 1 to the setting `calls`, and tells which of its other
+/// settings aren't met, and how many scripts there were.
+pub fn tell(alloc: Global, case: &Case) -> Result<Vec<u8>, NoMemory> {
+    let mut told = Answer::new(alloc);
+    let mut count: u64 = 0;
+    for call in 1..=last_call(case) {
+        judge(alloc, &mut told, case, call, call)?;
+        count = count.saturating_add(1);
+    }
+    finish(told, count)
+}
+
+fn judge_pairs(
+    alloc: Global,
+    told: &mut Answer,
+    case: &Case,
+    second: u64,
+) -> Result<u64, NoMemory> {
+    let mut count: u64 = 0;
+    for first in 1..second {
+        judge(alloc, told, case, first, second)?;
+        count = count.saturating_add(1);
+    }
+    Ok(count)
+}
+
+/// The same for each two calls.
+pub fn tell_pairs(alloc: Global, case: &Case) -> Result<Vec<u8>, NoMemory> {
+    let mut told = Answer::new(alloc);
+    let mut count: u64 = 0;
+    for second in 1..=last_call(case) {
+        count = count.saturating_add(judge_pairs(alloc, &mut told, case, second)?);
+    }
+    finish(told, count)
+}

@@ -1,0 +1,55 @@
+-- A device that was born while its controller's default was off is on only after an On entry, whatever is asked of the kernel, and whatever it does by itself.
+use Rattle.std.proofs.Common.{◌≡◌, true, false, inl, refl, sym, ◌∙◌, subst}
+use Rattle.std.proofs.lemmas.Option.{same_Some}
+use Rattle.ug_kernel.specs.Calls.{Call}
+use Rattle.ug_kernel.specs.Called.{Called}
+use Rattle.ug_kernel.specs.Defaults.{HasOnEntries}
+use Rattle.ug_kernel.specs.Kernel.{Kernel, IsKernel}
+use Rattle.ug_kernel.specs.Tree.{Prog, Return, Ask, Room}
+use Rattle.ug_kernel.proofs.Defaults.{called_on_entries, moves_on_entries}
+use Rattle.ug_sysfs.specs.World.{World, answer_of, begun, over}
+use Rattle.ug_sysfs.specs.Law.{does_what_it_may}
+use Rattle.ug_sysfs.specs.Begins.{happened_moves}
+use Rattle.ug_play.specs.Play.{play}
+use Rattle.ug_play.proofs.Plays.{told_unless}
+use Rattle.ug_store.specs.PlayDisk.{play_disk}
+use Rattle.ug_store.specs.Scripted.{DiskWorld}
+use Rattle.ug_core.specs.Answering.{acting, asking, deed_after}
+use Rattle.ug_core.specs.Event.{DaemonState, handling, ready}
+use Rattle.ug_core.specs.Storing.{stored_with, storing}
+use Rattle.ug_core.specs.declared.daemon.Event.{Event}
+use Rattle.ug_core.specs.declared.daemon.Event.TheVariants.{Sweep, Order}
+use Rattle.ug_script.specs.Replay.{answered_by, answered_from, event_from, tried_by}
+use Rattle.ug_script.proofs.Lawful.{HoldsOf, told_at}
+
+called_at : (w : World) (call : Call) → w.ran_out ≡ false → IsKernel w.kernel → Called call (answer_of w call).0 w.kernel (answer_of w call).1.kernel
+called_at w call run sound =
+    let t : World = (answer_of w call).1 in
+    let x = does_what_it_may w call (answer_of w call).0 t t.kernel (inl (refl, refl)) (told_at t (told_unless w call run)) in
+    let same : x.kernel ≡ w.kernel = same_Some x.kernel w.kernel (sym x.was ∙ told_at w run) in
+    subst (λ (k : Kernel). Called call (answer_of w call).0 k t.kernel) same (x.called (subst (λ (k : Kernel). IsKernel k) (sym same) sound))
+
+abbrev IsGood : World → Type 0
+IsGood w = (w.ran_out ≡ false) × IsKernel w.kernel × HasOnEntries w.kernel
+
+play_good : {R : Type 0} (p : Prog R) (w : World) → IsGood w → IsGood (play p w).1
+play_good (Return value) w g = g
+play_good (Ask call next) w g =
+    let c = called_at w call g.0 g.1 in
+    play_good (next (answer_of w call).0) (answer_of w call).1 (told_unless w call g.0, c.sound, called_on_entries call (answer_of w call).0 w.kernel (answer_of w call).1.kernel c g.2)
+play_good (Room next) w g = play_good (next true) w g
+
+answered_good : (event : Event) (d : DaemonState) (w : World) (o : DiskWorld) → IsGood w → IsGood (answered_by event d w o).world
+answered_good (Sweep moment) d w o g = g
+answered_good (Order moment who line) d w o g =
+    let c = play (asking d who line) w in
+    let b = play_disk (storing d c.0.change) o in
+    play_good (acting who (stored_with b.0 c.0.change d) (deed_after b.0 c.0.deed)) c.1 (play_good (asking d who line) w g)
+
+-- an event, and what is still to come behind it
+pub event_on_entries : (event : Event) (d : DaemonState) (w : World) (o : DiskWorld) → HoldsOf d w → HasOnEntries w.kernel → HasOnEntries (over (event_from event d w o).world).kernel
+event_on_entries event d w o h g =
+    let a = answered_from event d w o in
+    let p = event_from event d w o in
+    let good : IsGood p.world = play_good (handling a.daemon) a.world (answered_good event (ready event (tried_by d o).0 d) (begun w) (tried_by d o).1 (h.told, h.sound, g)) in
+    moves_on_entries p.world.kernel (over p.world).kernel (happened_moves p.world.moves p.world.kernel) good.2

@@ -1,0 +1,83 @@
+-- What a line of a script writes is whole lines.
+use Rattle.std.proofs.Common.{◌≡◌, ℕ, Bool, true, false, cond, nat_eq, List, [], ◌∷◌, ◌++◌, Option, Some, None, Result, Ok, Err, refl, ap, ◌∙◌, flat_map}
+use Rattle.std.specs.Cmp.Lexicographic.{pointwise}
+use Rattle.ug_types.specs.declared.rule.Rule as types
+use Rattle.ug_audit.specs.Lines.{entry_line}
+use Rattle.ug_lines.specs.Lines.{lines_of, rest_from}
+use Rattle.ug_lines.proofs.Lines.{rest_from-append, rest_from-end, rest_from-nil}
+use Rattle.ug_proto.specs.declared.reply.Reply.{Reply}
+use Rattle.ug_proto.specs.Replies.{reply_text}
+use Rattle.ug_sysfs.specs.World.{World}
+use Rattle.ug_console.specs.Fold.{Fault, Outcome, Writes, Refused, BadLine, InputTooLong}
+use Rattle.ug_core.specs.Event.{has_numbers}
+use Rattle.ug_script.specs.declared.step.Step.{Step}
+use Rattle.ug_script.specs.declared.step.Step.TheVariants as step
+use Rattle.ug_script.specs.Grammar.{step_of_line}
+use Rattle.ug_script.specs.Script.{Script, can_start, daemon_in, disk_in, fresh, takes_setup}
+use Rattle.ug_script.specs.Setup.{SetupState, one_line_more, rules_from}
+use Rattle.ug_script.specs.Replay.{EventOutcome, Played, bad, begun_disk, came_of, event_by, event_from, header, in_script, line_added, lines_text, outcome_of, outcome_text, quiet, quoted, reply_lines, restarted, script_step, taken, taken_if, terminated}
+
+-- the text is empty or ends with a newline
+abbrev pub IsWhole : List ℕ → Type 0
+IsWhole text = rest_from [] text ≡ []
+
+pub none_whole : IsWhole []
+none_whole = rest_from-nil []
+
+pub both_whole : (a b : List ℕ) → IsWhole a → IsWhole b → IsWhole (a ++ b)
+both_whole a b e f = rest_from-append [] a b ∙ ap (λ (line : List ℕ). rest_from line b) e ∙ f
+
+line_whole : (line : List ℕ) → IsWhole (line ++ 10 ∷ [])
+line_whole line = rest_from-append [] line (10 ∷ []) ∙ rest_from-end (rest_from [] line) 10 [] refl ∙ rest_from-nil []
+
+each_whole : {X : Type 0} (f : X → List ℕ) → ((x : X) → IsWhole (f x)) → (xs : List X) → IsWhole (flat_map f xs)
+each_whole f whole [] = none_whole
+each_whole f whole (x ∷ xs) = both_whole (f x) (flat_map f xs) (whole x) (each_whole f whole xs)
+
+reply_whole : (reply : Option Reply) → IsWhole (reply_lines reply)
+reply_whole None = none_whole
+reply_whole (Some reply) = each_whole quoted (λ line. line_whole (62 ∷ 32 ∷ line)) (lines_of (reply_text reply))
+
+outcome_whole : (outcome : EventOutcome) → IsWhole (outcome_text outcome)
+outcome_whole outcome = both_whole (lines_text outcome.entries) (reply_lines outcome.reply) (each_whole terminated (λ entry. line_whole (entry_line entry)) outcome.entries) (reply_whole outcome.reply)
+
+abbrev pub WritesWhole : {M : Type 0} → Outcome M → Type 0
+WritesWhole (Writes text p) = IsWhole text
+WritesWhole (Refused fault p) = Unit {0}
+
+either : {M : Type 0} (b : Bool) (x y : Outcome M) → WritesWhole x → WritesWhole y → WritesWhole (cond b x y)
+either true x y p q = p
+either false x y p q = q
+
+script_whole : (s : Script) (o : Outcome Played) → WritesWhole o → WritesWhole (in_script s o)
+script_whole s (Writes text p) w = w
+script_whole s (Refused fault p) w = tt
+
+added_whole : (setup : Option SetupState) (s : Script) (w : World) → WritesWhole (line_added setup s w)
+added_whole None s w = tt
+added_whole (Some setup) s w = none_whole
+
+restarted_whole : (rules : Result (List types.Rule) Fault) (s : Script) (w : World) → WritesWhole (restarted rules s w)
+restarted_whole (Ok rules) s w = none_whole
+restarted_whole (Err fault) s w = tt
+
+taken_whole : (what : Step) (s : Script) (w : World) → WritesWhole (taken what s w)
+taken_whole step.Skip s w = none_whole
+taken_whole (step.Setup line) s w = either (takes_setup s.phase) (line_added (one_line_more line s.setup) s w) (bad s w) (added_whole (one_line_more line s.setup) s w) tt
+taken_whole (step.Move action) s w = none_whole
+taken_whole (step.Schedule plan) s w = none_whole
+taken_whole (step.Event event) s w =
+    let played = event_from event (daemon_in s) w (begun_disk s.planned (disk_in s)) in
+    either (can_start s.setup s.phase) (in_script s (event_by event s.planned (daemon_in s) w (disk_in s))) (Refused InputTooLong (Some s, w))
+    (script_whole s (event_by event s.planned (daemon_in s) w (disk_in s))
+    (either (has_numbers (daemon_in s) w.faults (disk_in s).faults) (came_of played) (Refused BadLine (record { daemon = daemon_in s; world = w; disk = disk_in s })) (outcome_whole (outcome_of played.daemon)) tt))
+    tt
+taken_whole step.Restart s w = either (can_start s.setup s.phase) (restarted (rules_from (disk_in s).disk.text) s w) (Refused InputTooLong (Some s, w)) (restarted_whole (rules_from (disk_in s).disk.text) s w) tt
+
+if_whole : (what : Option Step) (s : Script) (w : World) → WritesWhole (taken_if what s w)
+if_whole None s w = tt
+if_whole (Some what) s w = taken_whole what s w
+
+pub step_whole : (p : Option Script × World) (line : List ℕ) → WritesWhole (script_step p line)
+step_whole (None, w) line = either (pointwise nat_eq line header) (quiet fresh w) (Refused BadLine (None, w)) none_whole tt
+step_whole (Some s, w) line = if_whole (step_of_line line) s w

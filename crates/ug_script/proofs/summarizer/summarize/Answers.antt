@@ -1,0 +1,10 @@
+use Rattle.ug_script.specs.Summing.{summary_of}
+use Rattle.ug_script.proofs.Summed.{summary_told}
+use Rattle.ug_script.proofs.summarizer.summarize.Goals as goal
+
+pub returns-clause-answers : goal.returns-clause-answers
+returns-clause-answers g c = λ all base a b. (summary_of c.run.new.machine, rw c.new-summarizer.ensures at (c.run.ensures.answers all base a b))
+
+pub returns-clause-told : goal.returns-clause-told
+returns-clause-told g c = λ all base a b.
+    summary_told c.args.kernel.now all base _ _ _ _ (rw c.new-summarizer.ensures at (c.run.ensures.answers all base a b))

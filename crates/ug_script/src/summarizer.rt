@@ -1,0 +1,96 @@
+// The machine that counts a script's journal in place of writing it.
+ghost use Rattle.std.specs.Prelude.{◌≡◌, ℕ, List, Some, None};
+ghost use Rattle.ug_types.specs.Ends.{Rose};
+ghost use Rattle.ug_console.specs.Statuses.{Answers, status_of};
+ghost use Rattle.ug_console.specs.declared.results.Ended.{Ended};
+ghost use Rattle.ug_script.specs.Summing.{Summary, TellsSummary, no_totals, summary_end, summary_of, summary_step};
+
+use crate::interpreter::Interpreter;
+use crate::text::put;
+use crate::totals::{Totals, line_of_totals};
+use std::alloc::Global;
+use ug_console::{Machine, Ran, run};
+use ug_sysfs::SimKernel;
+use ug_types::{MemSink, Sink, Source};
+
+/// A machine of `ug_console` that runs a script over the kernel that it is lent, and keeps four numbers of its journal.
+#[derive(Drop)]
+pub struct Summarizer {
+    script: Interpreter,
+    totals: Totals,
+}
+
+impl Summarizer {
+    pub fn new() -> Summarizer
+        ensures { summary_of result ≡ (None, no_totals) }
+    {
+        Summarizer {
+            script: Interpreter::new(),
+            totals: Totals::new(),
+        }
+    }
+}
+
+impl Machine<SimKernel> for Summarizer {
+    ghost State = { Summary };
+
+    ghost state = { summary_of };
+
+    ghost step_of = { summary_step };
+
+    ghost closing = { summary_end };
+
+    ghost keeps = { λ m w. Unit {0} };
+
+    fn step<K: Sink>(
+        &mut self,
+        alloc: Global,
+        world: &mut SimKernel,
+        line: &[u8],
+        _out: &mut K,
+    ) -> Ran {
+        let mut text = MemSink::new(alloc, Vec::new(alloc));
+        match self.script.step(alloc, world, line, &mut text) {
+            Ran::Done => {
+                self.totals = self.totals.with_text(text.bytes());
+                Ran::Done
+            }
+            Ran::Bad => Ran::Bad,
+            Ran::TooLong => Ran::TooLong,
+            // The text finds no memory.
+            Ran::SinkFailed => Ran::Memory,
+            Ran::Memory => Ran::Memory,
+        }
+    }
+
+    fn finish<K: Sink>(&self, _alloc: Global, _world: &SimKernel, out: &mut K) -> Ran {
+        if self.script.has_begun() {
+            put(out, line_of_totals(&self.totals).bytes())
+        } else {
+            Ran::Bad
+        }
+    }
+}
+
+/// Runs the script that the input holds, and writes one line with numbers of its journal: how many events it has, and how many
+/// lines `judged`, `wrote` and `unsettled`. A number of 2^64 or more is told as 2^64 - 1. The status is 0; 2 where a line isn't in the
+/// grammar or a limit is passed; 4 for a read fault; 5 for a write fault; 6 for want of memory. With 2, 4 and 6 a fault line is all
+/// that is written.
+pub fn summarize<S: Source, K: Sink>(
+    alloc: Global,
+    input: &mut S,
+    out: &mut K,
+    kernel: &mut SimKernel,
+) -> u8
+    ensures answers { (all base : List ℕ) → S.left input.old ≡ Some all → K.held out.old ≡ Some base
+        → (summary : Summary) × Answers summary_step summary_end ((None, no_totals), kernel.old)
+        all base (S.left input.new) (K.held out.new) (summary, kernel.new) result }
+    ensures told { (all base : List ℕ) → S.left input.old ≡ Some all → K.held out.old ≡ Some base
+        → TellsSummary kernel.old all base (K.held out.new) result }
+    ensures ended { (ended : Ended) × (result ≡ status_of ended) }
+    ensures read { result ≡ 4 → Rose (S.faults input.old) (S.faults input.new) }
+    ensures written { result ≡ 5 → Rose (K.faults out.old) (K.faults out.new) }
+{
+    let mut summarizer = Summarizer::new();
+    run(alloc, input, out, &mut summarizer, kernel)
+}

@@ -1,0 +1,88 @@
+// What the program tells a person of the daemon's socket.
+use std::{fs, str};
+use ug_host::{Reached, SocketLink};
+
+/// The folder of the daemon's sockets.
+const SOCKETS: &str = "/run/usbguard";
+
+// What the numbers of errno(3) say that connect(2) gives here, and what to do.
+fn reason(errno: i32) -> &'static str {
+    match errno {
+        2 => {
+            "there is no such socket: the daemon isn't running, or nobody of that name may give orders."
+        }
+        13 => "this user may not open it: a socket is its user's or its group's alone.",
+        20 => "a part of the path is no folder.",
+        111 => "nobody listens there: the daemon has ended, and left its socket.",
+        11 => "the daemon has too many connections that wait: try again.",
+        91 => "that is no socket of the daemon's.",
+        _ => "the system refused the connection.",
+    }
+}
+
+// What became of the connection.
+fn outcome(reached: Reached) -> &'static str {
+    match reached {
+        Reached::Nowhere => "the path can't be that of a socket.",
+        Reached::Refused(errno) => reason(errno),
+        Reached::Connected => {
+            "the connection ended without a whole reply: the daemon has as many connections as it takes, a list would be too long, or it isn't the daemon."
+        }
+        Reached::Broken => "the connection broke: the daemon has ended, or has closed it.",
+    }
+}
+
+// The sockets that are there, and how to name one.
+fn tell_sockets(rt: &HostRuntime) -> std::io::Result<()> {
+    let mut any = false;
+    for entry in fs::read_dir(rt, SOCKETS)? {
+        let entry = entry?;
+        let name = entry.file_name();
+        let Ok(name) = str::from_utf8(name.as_bytes()) else {
+            continue;
+        };
+        if !name.ends_with(".socket") {
+            continue;
+        }
+        if !any {
+            eprintln!(rt;
+                "usbguard: these sockets are there. Yours bears your name, or a colon and a group's:"
+            )?;
+            any = true;
+        }
+        eprintln!(rt; "  --socket={SOCKETS}/{name}")?;
+    }
+    if !any {
+        eprintln!(rt;
+            "usbguard: there is no socket in {SOCKETS}. `systemctl status usbguard` says whether the daemon runs."
+        )?;
+    }
+    Ok(())
+}
+
+/// Tells on standard error at which socket a command asked in vain, why, and which sockets are there.
+pub fn tell_link(rt: &HostRuntime, link: &SocketLink<HostRuntime>) {
+    let Some(path) = link.path() else {
+        return;
+    };
+    let path = match str::from_utf8(path) {
+        Ok(path) => path,
+        Err(_) => "the socket",
+    };
+    let outcome = outcome(link.reached());
+    let _told = match link.reached() {
+        Reached::Refused(errno) => {
+            eprintln!(rt; "usbguard: {path}: {outcome} (error {errno} of errno(3))")
+        }
+        Reached::Nowhere | Reached::Connected | Reached::Broken => {
+            eprintln!(rt; "usbguard: {path}: {outcome}")
+        }
+    };
+    if let Reached::Refused(_) = link.reached() {
+        if tell_sockets(rt).is_err() {
+            let _told = eprintln!(rt;
+                "usbguard: the folder {SOCKETS} isn't there: the daemon isn't running. Start it: systemctl start usbguard"
+            );
+        }
+    }
+}

@@ -1,0 +1,43 @@
+// What the program tells a person who is to type its input.
+use std::io::IsTerminal;
+use ug_arguments::{Command, read_command};
+
+// What a command reads, and the usual way to give it; None where it reads nothing.
+fn input_of(command: &Command) -> Option<(&'static str, &'static str)> {
+    match command {
+        Command::AddUser { .. } => Some((
+            "the text of an access file",
+            "usbguard add-user joe --devices list < FILE",
+        )),
+        Command::CheckRules => Some(("rules", "usbguard check-rules < /etc/usbguard/rules.conf")),
+        Command::LintRules { .. } => Some((
+            "rules",
+            "usbguard lint-rules < /etc/usbguard/rules.conf",
+        )),
+        Command::GeneratePolicy => Some(("a script", "usbguard-script | usbguard generate-policy")),
+        Command::ReadDescriptor => Some((
+            "the descriptors of a device",
+            "usbguard read-descriptor < /sys/bus/usb/devices/1-1/descriptors",
+        )),
+        Command::Replay | Command::Summarize => Some((
+            "a script",
+            "usbguard-script -r /etc/usbguard/rules.conf | usbguard replay",
+        )),
+        Command::MakeScript { .. } | Command::Ask { .. } | Command::Watch { .. } => None,
+    }
+}
+
+/// Tells on standard error what a command waits for, where its standard input is a terminal.
+pub fn tell_waiting(rt: &HostRuntime, words: &[&str]) {
+    if !rt.stdin().is_terminal() {
+        return;
+    }
+    let Ok(command) = read_command(rt.alloc(), words) else {
+        return;
+    };
+    if let Some((input, usual)) = input_of(&command) {
+        let _told = eprintln!(rt;
+            "usbguard: reading {input} from the terminal, up to Ctrl-D on a line of its own. The usual way is: {usual}"
+        );
+    }
+}

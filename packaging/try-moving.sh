@@ -1,0 +1,223 @@
+#!/bin/sh
+# Makes clean Debian roots with the original USBGuard under a real systemd, installs the package over it, and shows what an administrator
+# finds then. As root, with debootstrap, systemd-nspawn, nsenter and the network:
+#
+#   packaging/try-moving.sh PACKAGE.deb [FOLDER]
+#
+# FOLDER, which must not exist, is made and removed; without it that is a new one under /tmp. SUITE and MIRROR choose another Debian. BASE
+# is a root that an earlier run kept: with KEEP=FOLDER it is copied there. Plain files take the place of sysfs: a root hub, a key that the
+# rules of the original allow, and a stranger.
+set -eu
+export LC_ALL=C
+usage='usage: packaging/try-moving.sh PACKAGE.deb [FOLDER]'
+package=$(realpath -e "${1:?$usage}")
+work=${2:-$(mktemp -d /tmp/usbguard-moving-XXXXXX)/work}
+suite=${SUITE:-bookworm}
+[ ! -e "$work" ] || { echo "try-moving: $work is there already" >&2; exit 1; }
+mkdir -p "$work"
+root=$work/root
+machine=
+trap 'halt; rm -rf --one-file-system "$work"; rmdir "${work%/work}" 2>/dev/null || :' EXIT
+failures=0
+
+# device FOLDER ID PRODUCT SERIAL DESCRIPTORS: the files of a device, as the original and this program read them
+device() {
+    mkdir -p "$1"
+    printf "$5" >"$1/descriptors"
+    printf '%s\n' "$3" >"$1/product"
+    printf '%s\n' "$4" >"$1/serial"
+    printf '%s\n' "${2%:*}" >"$1/idVendor"
+    printf '%s\n' "${2#*:}" >"$1/idProduct"
+    for file in authorized authorized_default devnum busnum bConfigurationValue; do echo 1 >"$1/$file"; done
+    printf 'DEVTYPE=usb_device\nDRIVER=usb\n' >"$1/uevent"
+}
+
+# fake_sysfs: what stands at /sys/devices and /sys/bus in the machine
+fake_sysfs() {
+    sys=$root/root/sys
+    controller=$sys/devices/pci0000:00/0000:00:14.0
+    device "$controller/usb1" 1d6b:0002 'xHCI Host Controller' 0000:00:14.0 \
+        '\022\001\000\002\011\000\001\100\153\035\002\000\001\006\003\002\001\001\011\002\031\000\001\001\000\340\000\011\004\000\000\001\011\000\000\000\007\005\201\003\004\000\014'
+    echo DRIVER=xhci_hcd >"$controller/uevent"
+    : >"$sys/devices/pci0000:00/uevent"
+    device "$controller/usb1/1-1" 1050:0011 Key 42 \
+        '\022\001\000\002\000\000\000\100\120\020\021\000\000\001\001\002\000\001\011\002\022\000\001\001\000\200\062\011\004\000\000\000\003\001\001\000'
+    mkdir -p "$controller/usb1/1-1/port" "$sys/bus/usb/devices"
+    echo hotplug >"$controller/usb1/1-1/port/connect_type"
+    ln -s ../../../devices/pci0000:00/0000:00:14.0/usb1 "$sys/bus/usb/devices/usb1"
+    ln -s ../../../devices/pci0000:00/0000:00:14.0/usb1/1-1 "$sys/bus/usb/devices/1-1"
+}
+
+boot() {
+    systemd-nspawn --quiet --boot --register=no --keep-unit --private-network --directory="$root" >"$work/console" 2>&1 </dev/null &
+    machine=$!
+    tries=200
+    until leader=$(pgrep -P "$machine") && run 'systemctl is-active multi-user.target'; do
+        tries=$((tries - 1))
+        [ $tries -gt 0 ] || { cat "$work/console"; exit 1; }
+        sleep 0.3
+    done
+    run 'mount --bind /root/sys/devices /sys/devices && mount --bind /root/sys/bus /sys/bus'
+}
+
+halt() {
+    [ -n "$machine" ] || return 0
+    kill -s RTMIN+4 "$machine" 2>/dev/null || :
+    run 'systemctl poweroff' >/dev/null 2>&1 || :
+    wait "$machine" || :
+    machine=
+}
+
+# run COMMAND: in the machine, whose output is lost
+run() {
+    nsenter --target "$leader" --all sh -c "$1" >/dev/null 2>&1
+}
+
+# show COMMAND: a command line in the machine, and its output
+show() {
+    printf '\n# %s\n' "$1"
+    nsenter --target "$leader" --all sh -c "$1" 2>&1 </dev/null || printf '(status %d)\n' $?
+}
+
+# check WHAT COMMAND: whether the command succeeds in the machine
+check() {
+    if run "$2"; then
+        echo "ok: $1"
+    else
+        echo "FAILED: $1"
+        failures=$((failures + 1))
+    fi
+}
+
+# begin: a new machine with the original, as apt-get left it
+begin() {
+    halt
+    rm -rf --one-file-system "$root"
+    cp -a "$work/base" "$root"
+    cp "$package" "$root/root/package.deb"
+    cp "$work/next.deb" "$root/root/next.deb"
+    fake_sysfs
+    boot
+}
+
+echo "== Debian $suite with the original USBGuard"
+if [ -n "${BASE:-}" ]; then
+    cp -a "$BASE" "$work/base"
+else
+    debootstrap --variant=minbase --include=systemd,systemd-sysv,dbus "$suite" "$work/base" ${MIRROR:+"$MIRROR"} >"$work/log" 2>&1 ||
+        { cat "$work/log"; exit 1; }
+    printf '#!/bin/sh\nexit 101\n' >"$work/base/usr/sbin/policy-rc.d"
+    chmod +x "$work/base/usr/sbin/policy-rc.d"
+    chroot "$work/base" apt-get install -y --no-install-recommends usbguard >"$work/log" 2>&1 || { cat "$work/log"; exit 1; }
+    rm "$work/base/usr/sbin/policy-rc.d"
+    [ -z "${KEEP:-}" ] || cp -a "$work/base" "$KEEP"
+fi
+# The same package with a later version.
+dpkg-deb -R "$package" "$work/next"
+sed -i 's/^Version: .*/&.1/' "$work/next/DEBIAN/control"
+dpkg-deb --root-owner-group -Zgzip -z1 --build "$work/next" "$work/next.deb" >/dev/null
+name=$(dpkg-deb -f "$package" Package)
+
+# ours: what holds wherever our package has taken the place of the original
+ours() {
+    check 'our unit is there, and is the one that systemd has' \
+        "dpkg -V $name && systemctl cat usbguard | grep -q '^ExecStart=.*/usr/bin/usbguard daemon' && systemctl show -p FragmentPath usbguard | grep -q /lib/systemd/system/usbguard.service"
+    check "the original's start scripts make no service" \
+        'test ! -x /etc/init.d/usbguard && test ! -x /etc/init.d/usbguard-dbus && ! systemctl is-active usbguard-dbus'
+    check 'dpkg asked nothing, and left the settings and rules of before' \
+        'cmp /etc/usbguard/usbguard-daemon.conf /root/settings && test ! -e /etc/usbguard/usbguard-daemon.conf.dpkg-dist'
+}
+
+# guards: our daemon runs, by the rules of the original
+guards() {
+    check 'our daemon runs' 'systemctl is-active usbguard && grep -qa "usbguard.daemon" /proc/$(systemctl show --value -p MainPID usbguard)/cmdline'
+    check 'the key is allowed by its rule, whose parent is a root hub' \
+        'for i in 1 2 3 4 5 6 7 8 9; do journalctl -o cat -u usbguard | grep -q "^judged 2 1-1 allow rule 2" && exit; sleep 0.5; done; exit 1'
+}
+
+# policy: the original has rules for the devices that are there
+policy='usbguard generate-policy > /etc/usbguard/rules.conf; cp -p /etc/usbguard/rules.conf /root/rules; cp /etc/usbguard/usbguard-daemon.conf /root/settings'
+
+echo
+echo "== dpkg -i over the original, which is enabled and runs"
+begin
+show "$policy; systemctl restart usbguard; sleep 1; systemctl is-enabled usbguard; systemctl is-active usbguard; usbguard list-devices"
+show 'dpkg -i /root/package.deb'
+show 'systemctl is-enabled usbguard; systemctl is-active usbguard; journalctl -o cat -u usbguard | grep -v -e ^event -e ^end | tail -n 12'
+ours
+guards
+check 'it is enabled still' 'systemctl is-enabled usbguard'
+check 'a root hub has its own hash in the rules, and nothing else is changed' \
+    'diff /root/rules /etc/usbguard/rules.conf | grep -c "^>" | grep -qx 2'
+show 'diff /root/rules /etc/usbguard/rules.conf'
+
+echo
+echo "== An upgrade, which runs the new program"
+show 'systemctl show -p MainPID usbguard; dpkg -i /root/next.deb; systemctl show -p MainPID usbguard'
+ours
+guards
+check 'the program that runs is the one that is installed' \
+    '[ "$(readlink /proc/$(systemctl show --value -p MainPID usbguard)/exe)" = /usr/bin/usbguard ]'
+check 'it is enabled still' 'systemctl is-enabled usbguard'
+
+echo
+echo "== Our package is removed, and installed again"
+show "dpkg -r $name; systemctl is-active usbguard; ls -l /etc/systemd/system/*/usbguard.service; ls /etc/usbguard"
+show 'dpkg -i /root/package.deb'
+ours
+guards
+check 'it is enabled still' 'systemctl is-enabled usbguard'
+
+echo
+echo "== The original is purged, as docs/moving.md says"
+show 'cp -a /etc/usbguard /root/usbguard.kept && dpkg --purge usbguard
+cp -aT /root/usbguard.kept /etc/usbguard && systemctl enable usbguard'
+check 'settings and rules are there, the service is enabled and runs, and nothing of our package is missing' \
+    "cmp /etc/usbguard/rules.conf /root/usbguard.kept/rules.conf && cmp /etc/usbguard/usbguard-daemon.conf /root/settings && systemctl is-enabled usbguard && systemctl is-active usbguard && dpkg -V $name"
+show 'systemctl restart usbguard; sleep 1; systemctl is-active usbguard'
+guards
+
+echo
+echo "== Ours is purged"
+show "dpkg -P $name; systemctl daemon-reload; systemctl is-enabled usbguard; ls -d /etc/usbguard /var/lib/usbguard /usr/lib/systemd/system/usbguard.service"
+check 'nothing is left' 'test ! -e /etc/usbguard && test ! -e /var/lib/usbguard && test ! -e /usr/lib/systemd/system/usbguard.service && ! ls /etc/systemd/system/*/usbguard.service'
+
+echo
+echo "== apt-get install over the original, which is enabled and runs"
+begin
+show "$policy; systemctl restart usbguard; sleep 1; systemctl is-active usbguard"
+show 'DEBIAN_FRONTEND=noninteractive apt-get install -y /root/package.deb 2>&1 | grep -v ^Reading'
+ours
+guards
+check 'it is enabled still' 'systemctl is-enabled usbguard'
+
+echo
+echo "== dpkg -i over the original, which is disabled and stopped"
+begin
+show "$policy; systemctl disable --now usbguard usbguard-dbus 2>&1; systemctl is-enabled usbguard; systemctl is-active usbguard"
+show 'dpkg -i /root/package.deb'
+ours
+check 'it is disabled still, and not started' '! systemctl is-enabled usbguard && ! systemctl is-active usbguard'
+show 'systemctl start usbguard; sleep 1; systemctl is-active usbguard'
+guards
+
+echo
+echo "== A rule file in another folder, as usbguard-daemon.conf(5) says"
+show 'mkdir /srv/usb && cp -p /etc/usbguard/rules.conf /srv/usb && sed -i "s|^RuleFile=.*|RuleFile=/srv/usb/rules.conf|" /etc/usbguard/usbguard-daemon.conf
+systemctl restart usbguard; sleep 1; usbguard append-rule "allow 1050:0099"'
+check 'without more an order is refused, since its save fails' 'usbguard append-rule "allow 1050:0099" | grep "^refused 10 store-fault" && ! grep 1050:0099 /srv/usb/rules.conf'
+show 'mkdir -p /etc/systemd/system/usbguard.service.d && printf "[Service]\nReadWritePaths=/srv/usb\n" > /etc/systemd/system/usbguard.service.d/rules.conf
+systemctl daemon-reload; systemctl restart usbguard; sleep 1; usbguard append-rule "allow 1050:0099"'
+check 'with ReadWritePaths it is saved there' 'grep 1050:0099 /srv/usb/rules.conf'
+
+echo
+echo "== apt-get install over the original, which is disabled and stopped"
+begin
+show "$policy; systemctl disable --now usbguard usbguard-dbus 2>&1"
+show 'DEBIAN_FRONTEND=noninteractive apt-get install -y /root/package.deb 2>&1 | grep -v ^Reading'
+ours
+check 'it is disabled still, and not started' '! systemctl is-enabled usbguard && ! systemctl is-active usbguard'
+
+echo
+echo "$failures failed"
+[ "$failures" -eq 0 ]
