@@ -31,7 +31,7 @@ zshdir = $(prefix)/share/zsh/vendor-completions
 
 confdir = $(sysconfdir)/usbguard
 INSTALL = install
-DOCS = README.md CHANGELOG.md CONTRIBUTING.md LICENSE $(sort $(wildcard docs/*.md))
+DOCS = README.md CHANGELOG.md CONTRIBUTING.md LICENSE SECURITY.md $(sort $(wildcard docs/*.md))
 
 all: program
 

@@ -1,11 +1,11 @@
 #!/usr/bin/env python3
-"""Talks to a running daemon by 64 peers at once, and checks that each gets just the replies to its own requests.
+"""Talks to a running daemon by the 16 peers that a socket has at once, and checks that each gets just the replies to its own requests.
 
     bench/peers.py [--socket PATH] [--seconds N] [--seed N]
 
-The socket's user or group needs Devices=modify,list and Policy=list. First 64 peers connect, and each is answered; a 65th has to be
-turned away, and let in once another has gone. Then for N seconds 16 peers ask in bursts and at last close their own direction, 16 send a
-byte at a time, 16 vanish amid a line and come back, 8 send nonsense, and 8 ask for lists and read the replies late. At last one peer
+The socket's user or group needs Devices=modify,list and Policy=list. First 16 peers connect, and each is answered; a 17th has to wait,
+and is answered once another has gone. Then for N seconds 4 peers ask in bursts and at last close their own direction, 4 send a
+byte at a time, 4 vanish amid a line and come back, 2 send nonsense, and 2 ask for lists and read the replies late. At last one peer
 more is answered. The devices mustn't change meanwhile; nothing is asked for that changes them or the rules. Exit status 0 where all held.
 Needs Python 3.9.
 """
@@ -63,7 +63,7 @@ class Peer:
 class Try:
     def __init__(self, path, seconds, seed):
         self.path, self.seconds, self.seed = path, seconds, seed
-        self.answered, self.turned_away, self.vanished = [0] * 64, 0, 0
+        self.answered, self.turned_away, self.vanished = [0] * 16, 0, 0
         self.wrong, self.lock = [], threading.Lock()
         peer = Peer(path)
         self.lists = {request: peer.ask(request) for request in (b"list-devices", b"list-rules")}
@@ -178,27 +178,32 @@ class Try:
         time.sleep(0.5)
 
     def places(self):
-        peers = [Peer(self.path) for _ in range(64)]
+        peers = [Peer(self.path) for _ in range(16)]
         for k, peer in enumerate(peers):
             got = peer.ask(b"allow-device %d" % (10**6 + k))
-            self.expect("peer %d of 64 is answered" % k, got == b"refused 4 no-device %d" % (10**6 + k), got)
+            self.expect("peer %d of 16 is answered" % k, got == b"refused 4 no-device %d" % (10**6 + k), got)
         more = Peer(self.path)
-        self.expect("the 65th is turned away", more.line() is None)
+        more.send(b"list-rules\n")
+        more.socket.settimeout(2)
+        try:
+            self.expect("the 17th waits", False, more.line())
+        except TimeoutError:
+            pass
+        more.socket.settimeout(PATIENCE)
         self.leave([peers.pop()])
-        more = Peer(self.path)
-        got = more.ask(b"list-rules")
-        self.expect("the 65th is let in once another has gone", got == self.lists[b"list-rules"], got)
+        got = more.reply()
+        self.expect("the 17th is answered once another has gone", got == self.lists[b"list-rules"], got)
         self.leave(peers + [more])
 
     def run_one(self, k, sort, until):
         try:
-            sort(k, random.Random(self.seed * 64 + k), until)
+            sort(k, random.Random(self.seed * 16 + k), until)
         except (OSError, Wrong) as fault:
             self.expect("peer %d (%s)" % (k, sort.__name__), False, str(fault))
 
     def all_at_once(self):
         until = time.monotonic() + self.seconds
-        sorts = [self.bursts] * 16 + [self.slow] * 16 + [self.nonsense] * 8 + [self.late] * 8 + [self.vanishing] * 16
+        sorts = [self.bursts] * 4 + [self.slow] * 4 + [self.nonsense] * 2 + [self.late] * 2 + [self.vanishing] * 4
         threads = [threading.Thread(target=self.run_one, args=(k, sort, until)) for k, sort in enumerate(sorts)]
         for thread in threads:
             thread.start()
@@ -212,9 +217,9 @@ class Try:
         peer = Peer(self.path)
         got = peer.ask(b"list-devices")
         self.expect("a peer that comes at last is answered", got == self.lists[b"list-devices"], got)
-        asking = self.answered[:48]
-        self.expect("each of the 48 that stayed is answered", min(asking) > 0, min(asking))
-        print("%d requests answered in %g s, %d to %d of each of 48 peers; %d connections vanished, %d of them turned away"
+        asking = self.answered[:12]
+        self.expect("each of the 12 that stayed is answered", min(asking) > 0, min(asking))
+        print("%d requests answered in %g s, %d to %d of each of 12 peers; %d connections vanished, %d of them turned away"
               % (sum(asking), self.seconds, min(asking), max(asking), self.vanished, self.turned_away))
         for wrong in self.wrong[:20]:
             print("WRONG " + wrong)

@@ -44,33 +44,24 @@ pub fn replay(alloc: Global, call: Call) -> Result<(Ran, SimKernel), NoMemory> {
     Ok((Ran { status, output }, kernel))
 }
 
-// A command over an input and a link, and what the link was sent.
-fn run(
-    alloc: Global,
-    words: &[&str],
-    input: MemSource,
-    writes: Vec<u64>,
-    coming: MemSource,
-    reachable: bool,
-) -> Result<(Ran, Vec<u8>), NoMemory> {
-    let mut input = input;
-    let mut out = MemSink::new(alloc, writes);
-    let mut link = MemLink::new(reachable, coming, MemSink::new(alloc, Vec::new(alloc)));
-    let status = run_tool(alloc, words, &mut input, &mut out, &mut link);
-    let output = say(alloc, out.bytes())?;
-    Ok((Ran { status, output }, say(alloc, link.sent())?))
-}
-
 /// A command that asks the daemon, over a link that gives the input, or one that can't be dialled; and what it sent.
 pub fn ask(alloc: Global, call: Call, reachable: bool) -> Result<(Ran, Vec<u8>), NoMemory> {
-    let input = MemSource::new(Vec::new(alloc), Vec::new(alloc));
+    let mut input = MemSource::new(Vec::new(alloc), Vec::new(alloc));
+    let mut out = MemSink::new(alloc, call.writes);
     let coming = MemSource::new(call.input, call.reads);
-    run(alloc, &call.words, input, call.writes, coming, reachable)
+    let mut link = MemLink::new(reachable, coming, MemSink::new(alloc, Vec::new(alloc)));
+    let status = run_tool(alloc, &call.words, &mut input, &mut out, &mut link);
+    let output = say(alloc, out.bytes())?;
+    let sent = say(alloc, link.sent())?;
+    Ok((Ran { status, output }, sent))
 }
 
 pub fn tool(alloc: Global, call: Call) -> Result<Ran, NoMemory> {
-    let input = MemSource::new(call.input, call.reads);
+    let mut input = MemSource::new(call.input, call.reads);
+    let mut out = MemSink::new(alloc, call.writes);
     let coming = MemSource::new(Vec::new(alloc), Vec::new(alloc));
-    let (ran, _sent) = run(alloc, &call.words, input, call.writes, coming, false)?;
-    Ok(ran)
+    let mut link = MemLink::new(false, coming, MemSink::new(alloc, Vec::new(alloc)));
+    let status = run_tool(alloc, &call.words, &mut input, &mut out, &mut link);
+    let output = say(alloc, out.bytes())?;
+    Ok(Ran { status, output })
 }

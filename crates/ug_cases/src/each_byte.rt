@@ -186,49 +186,19 @@ fn without_newline(line: &[u8]) -> &[u8] {
     line.strip_suffix(b"\n").unwrap_or(line)
 }
 
-// The tables of commands, of which those one behind another that have the same are told once.
-#[derive(Drop)]
-struct Tables {
-    sent: Answer,
-    lines: Answer,
-    last: Vec<u8>,
-    count: u64,
+fn add_sent(told: &mut Answer, sent: &[u8]) {
+    let before: &[u8] = if told.is_empty() { b"sent " } else { b"; " };
+    told.add(before);
+    told.add(without_newline(sent));
 }
 
-impl Tables {
-    fn new(alloc: Global) -> Tables {
-        Tables {
-            sent: Answer::new(alloc),
-            lines: Answer::new(alloc),
-            last: Vec::new(alloc),
-            count: 0,
-        }
-    }
-
-    fn add(&mut self, sent: &[u8], table: Table) -> Result<(), NoMemory> {
-        let before: &[u8] = if self.sent.is_empty() {
-            b"sent "
-        } else {
-            b"; "
-        };
-        self.sent.add(before);
-        self.sent.add(without_newline(sent));
-        self.count = self.count.saturating_add(table.count);
-        let lines = table.lines.finish()?;
-        if lines != self.last {
-            self.lines.add(&lines);
-            self.last = lines;
-        }
-        Ok(())
-    }
-
-    fn finish(mut self) -> Result<Vec<u8>, NoMemory> {
-        self.sent.add(b"\n");
-        self.sent.add(&self.lines.finish()?);
-        self.sent.add_number(self.count);
-        self.sent.add(b" links");
-        self.sent.finish()
-    }
+fn finish(sent: Answer, tables: &[u8], count: u64) -> Result<Vec<u8>, NoMemory> {
+    let mut told = sent;
+    told.add(b"\n");
+    told.add(tables);
+    told.add_number(count);
+    told.add(b" links");
+    told.finish()
 }
 
 /// What each command sends of the setting `commands`, between which stands `|`, and what comes of a link that ends or fails at
@@ -236,12 +206,21 @@ impl Tables {
 /// Commands one behind another of which the same comes have one table. At last, how many links there were.
 pub fn tell(alloc: Global, case: &Case) -> Result<Vec<u8>, NoMemory> {
     let others = others(alloc, case)?;
-    let mut tables = Tables::new(alloc);
+    let mut sent = Answer::new(alloc);
+    let mut tables = Answer::new(alloc);
+    let mut last = Vec::new(alloc);
+    let mut count: u64 = 0;
     let commands = case.setting(b"commands").unwrap_or(&[]);
     for words in commands.split(|byte| *byte == b'|') {
         let asking = Asking::new(alloc, words, &case.input)?;
         let table = asking.table(alloc, first_place(case), &others)?;
-        tables.add(&asking.sent, table)?;
+        add_sent(&mut sent, &asking.sent);
+        count = count.saturating_add(table.count);
+        let lines = table.lines.finish()?;
+        if lines != last {
+            tables.add(&lines);
+        }
+        last = lines;
     }
-    tables.finish()
+    finish(sent, &tables.finish()?, count)
 }

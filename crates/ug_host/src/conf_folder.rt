@@ -10,11 +10,14 @@ use crate::plain::{read_at, text_of};
 use std::alloc::Global;
 use std::rt::Files;
 use ug_conf::{ConfFiles, FileRead, FolderRead};
+use ug_types::Text;
 
-/// Files and folders of this machine. A link is followed. What it answers is told by the machine alone.
+/// Files and folders of this machine. A link is followed. What it answers is told by the machine alone. A file that another user than
+/// root and the daemon's own may have written fails, and so does one whose folder such a user may change.
 #[derive(Drop)]
 pub struct ConfFolder<R> {
     rt: R,
+    last: Option<Text>,
     faults: u64,
 }
 
@@ -22,7 +25,26 @@ impl<R: Files + AllocGlobal + Clone + Drop> ConfFolder<R> {
     pub fn new(rt: R) -> ConfFolder<R>
         ensures faults { result.faults ≡ 0 }
     {
-        ConfFolder { rt, faults: 0 }
+        ConfFolder {
+            rt,
+            last: None,
+            faults: 0,
+        }
+    }
+
+    /// The path of the last call.
+    pub fn last_path(&self) -> &[u8] {
+        match &self.last {
+            Some(path) => path.bytes(),
+            None => b"",
+        }
+    }
+
+    // Keeps a path, as far as there is memory for it.
+    fn keep(&mut self, alloc: Global, path: &[u8])
+        ensures { self.new.faults ≡ self.old.faults }
+    {
+        self.last = Text::of(alloc, path).ok();
     }
 
     // A failure more, if it is one.
@@ -83,12 +105,14 @@ impl<R: Files + AllocGlobal + Clone + Drop> ConfFiles for ConfFolder<R> {
     ghost tells = { λ s step t tree gives told. untold tree told };
 
     fn read_file(&mut self, alloc: Global, path: &[u8]) -> FileRead {
+        self.keep(alloc, path);
         let answer = self.read(alloc, path);
         self.count(is_failed_file(&answer));
         answer
     }
 
     fn list_folder(&mut self, alloc: Global, path: &[u8]) -> FolderRead {
+        self.keep(alloc, path);
         let answer = self.list(alloc, path);
         self.count(is_failed_folder(&answer));
         answer

@@ -1,10 +1,12 @@
 // A new file that is to take another's place: rename(2), fsync(2).
 use crate::file::FileFault;
 use crate::linked::{folder_of, resolve};
+use crate::listening::check;
 use std::alloc::Global;
 use std::fs;
 use std::fs::{OpenFile, OpenOptions};
 use std::io::{ErrorKind, Write};
+use std::os::fd::AsRawFd;
 use std::os::unix::fs::{MetadataExt, OpenOptionsExt, PermissionsExt};
 use std::rt::Files;
 
@@ -50,7 +52,10 @@ fn remove_old<R: Files>(rt: &R, path: &str) -> Result<(), FileFault> {
 }
 
 /// Gives a file the owner and the mode of the one at the other path. Where there is none, it keeps those that it was made with.
-fn take_over<R: Files>(rt: &R, file: &R::File, path: &str, target: &str) -> Result<(), FileFault> {
+fn take_over<R: Files>(rt: &R, file: &R::File, target: &str) -> Result<(), FileFault>
+where
+    R::File: AsRawFd,
+{
     let old = match fs::metadata(rt, target) {
         Ok(old) => old,
         Err(e) => {
@@ -62,7 +67,7 @@ fn take_over<R: Files>(rt: &R, file: &R::File, path: &str, target: &str) -> Resu
     };
     let new = file.metadata()?;
     if old.uid() != new.uid() || old.gid() != new.gid() {
-        rt.lchown(path, Some(old.uid()), Some(old.gid()))?;
+        check(libc::fchown(file.as_raw_fd(), old.uid(), old.gid()))?;
     }
     let mut mode = old.permissions();
     mode.set_mode(old.mode() & 0o7777);
@@ -77,7 +82,10 @@ pub fn make<R: Files>(
     alloc: Global,
     path: &str,
     bytes: &[u8],
-) -> Result<Fresh<R::File>, FileFault> {
+) -> Result<Fresh<R::File>, FileFault>
+where
+    R::File: AsRawFd,
+{
     let target = resolve(rt, alloc, path)?;
     let mut path = String::from_str(alloc, target.as_str())?;
     path.push_str(ENDING)?;
@@ -89,7 +97,7 @@ pub fn make<R: Files>(
         .create_new(true)
         .mode(0o600)
         .open(rt, path.as_str())?;
-    take_over(rt, &file, path.as_str(), target.as_str())?;
+    take_over(rt, &file, target.as_str())?;
     file.write_all(bytes)?;
     Ok(Fresh {
         file,

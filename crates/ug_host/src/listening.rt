@@ -56,8 +56,8 @@ fn remove_left<R: Files>(rt: &R, path: &str) -> io::Result<()> {
     }
 }
 
-// The error of the call that has just answered that status, if it failed.
-fn check(status: i32) -> io::Result<()> {
+/// The error of the call that has just answered that status, if it failed.
+pub fn check(status: i32) -> io::Result<()> {
     if status < 0 {
         Err(io::Error::from_raw_os_error(os::errno()))
     } else {

@@ -4,17 +4,30 @@ ghost use Rattle.std.specs.IoError.{error_kind};
 ghost use Rattle.ug_links.specs.Steps.{FitsRead, FitsWrite};
 
 use crate::file::read_piece;
+use crate::passed_files::{has_none, peek};
 use crate::tokens::token_of;
+use mio::event::Source;
 use mio::net::UnixStream;
 use mio::{Interest, Registry};
+use std::alloc::Global;
 use std::io::{self, ErrorKind, Write};
+use std::net::Shutdown;
+use std::os::fd::AsRawFd;
+use std::rt::Files;
 use ug_links::{LinkRead, LinkWrote};
 use ug_types::{LinkId, Ready};
 
 /// A client's session, over the daemon's end of its stream.
+///
+/// Closing a descriptor that the client sent can take as long as the client likes, and it is closed with the bytes that bear it, or with
+/// the stream. So no bytes are taken while there is one, and the stream isn't closed.
 #[derive(Drop)]
 pub struct Peer {
     pub id: LinkId,
+    /// The listener to which it came.
+    pub listener: u32,
+    /// Whether the session is over, and the stream is kept for a descriptor in its queue.
+    pub over: bool,
     stream: UnixStream,
     /// Whether bytes wait until the stream takes more.
     waits: bool,
@@ -53,20 +66,29 @@ fn write_answer(written: io::Result<usize>, size: usize) -> LinkWrote
 }
 
 impl Peer {
-    /// A session over that stream, which waits tell from now on.
-    pub fn new(id: LinkId, mut stream: UnixStream, registry: &Registry) -> io::Result<Peer>
-        ensures { IfOk result (λ peer. peer.id ≡ id) }
+    /// A session over that stream. No wait tells of it yet.
+    pub fn new(id: LinkId, listener: u32, stream: UnixStream) -> Peer
+        ensures { result.id ≡ id }
     {
-        registry.register(
-            &mut stream,
-            token_of(Ready::Session(id)),
-            Interest::READABLE,
-        )?;
-        Ok(Peer {
+        Peer {
             id,
+            listener,
+            over: false,
             stream,
             waits: false,
-        })
+        }
+    }
+
+    /// Has waits tell of it from now on. Where that can't be had, it is over.
+    pub fn begin(&mut self, registry: &Registry) -> io::Result<()>
+        ensures id { self.new.id ≡ self.old.id }
+    {
+        let token = token_of(Ready::Session(self.id));
+        let begun = registry.register(&mut self.stream, token, Interest::READABLE);
+        if begun.is_err() {
+            self.end(registry);
+        }
+        begun
     }
 
     // Has the next wait tell what is ready now. Where that can't be had, a wait may miss it.
@@ -82,15 +104,34 @@ impl Peer {
         let _again = registry.reregister(&mut self.stream, token, interests);
     }
 
-    /// Reads what has come.
-    pub fn read(&mut self, registry: &Registry, into: &mut [u8]) -> LinkRead
+    // Takes what has come, if no descriptor came along. What is looked at first was there before the look for descriptors.
+    fn take<R: Files>(&mut self, rt: &R, alloc: Global, into: &mut [u8]) -> io::Result<usize>
+        ensures bound { IfOk result (λ n. n ≤ length into.old) }
+        ensures length { length into.new ≡ length into.old }
+        ensures id { self.new.id ≡ self.old.id }
+    {
+        let count = peek(self.stream.as_raw_fd(), into)?;
+        if count > 0 && !has_none(rt, alloc, self.stream.as_raw_fd()) {
+            return Err(io::Error::from(ErrorKind::PermissionDenied));
+        }
+        read_piece(&mut self.stream, &mut into[..count])
+    }
+
+    /// Reads what has come. Where a descriptor came along it fails.
+    pub fn read<R: Files>(
+        &mut self,
+        rt: &R,
+        alloc: Global,
+        registry: &Registry,
+        into: &mut [u8],
+    ) -> LinkRead
         requires { 0 < length into.old }
         ensures size { FitsRead (length into.old) result }
         ensures length { length into.new ≡ length into.old }
         ensures id { self.new.id ≡ self.old.id }
     {
         let room = into.len();
-        let answer = read_answer(read_piece(&mut self.stream, into), room);
+        let answer = read_answer(self.take(rt, alloc, into), room);
         if matches!(answer, LinkRead::Took(_)) {
             self.watch_again(registry);
         }
@@ -114,5 +155,19 @@ impl Peer {
             self.watch_again(registry);
         }
         answer
+    }
+
+    /// Ends the session: nothing more comes or goes, and no wait tells of it.
+    pub fn end(&mut self, registry: &Registry)
+        ensures id { self.new.id ≡ self.old.id }
+    {
+        self.over = true;
+        let _shut = self.stream.shutdown(Shutdown::Both);
+        let _unwatched = registry.deregister(&mut self.stream);
+    }
+
+    /// Whether the stream of a session that is over may be closed.
+    pub fn is_done<R: Files>(&self, rt: &R, alloc: Global) -> bool {
+        self.over && has_none(rt, alloc, self.stream.as_raw_fd())
     }
 }

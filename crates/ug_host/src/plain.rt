@@ -3,26 +3,20 @@ ghost use Rattle.std.specs.Prelude.{IfOk};
 ghost use Rattle.ug_host.specs.Content.{FitsIfThere};
 
 use crate::file::{Content, FileFault, read_content};
+use crate::trusted::open_trusted;
 use std::alloc::Global;
-use std::io::ErrorKind;
 use std::rt::Files;
-use std::{fs, str};
+use std::str;
 
 /// The most bytes that are read of an ordinary file.
 pub const LIMIT: usize = 67_108_864;
 
-/// Reads the file at a path, and gives None where there is none.
+/// Reads the file at a path, and gives None where there is none. It fails where others may have written it.
 pub fn read_at<R: Files>(rt: &R, alloc: Global, path: &str) -> Result<Option<Content>, FileFault>
     ensures { IfOk result FitsIfThere }
 {
-    let mut file = match fs::open(rt, path) {
-        Ok(file) => file,
-        Err(e) => {
-            return match e.kind() {
-                ErrorKind::NotFound => Ok(None),
-                _ => Err(FileFault::from(e)),
-            };
-        }
+    let Some(mut file) = open_trusted(rt, alloc, path)? else {
+        return Ok(None);
     };
     Ok(Some(read_content(alloc, &mut file, LIMIT)?))
 }

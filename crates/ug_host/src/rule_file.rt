@@ -5,25 +5,42 @@ ghost use Rattle.ug_store.specs.DiskCalls.{CountsOnDisk, FitsFile, NeedsNoMemory
 ghost use Rattle.ug_host.specs.RuleFiles.{CallsAt, moved};
 ghost use Rattle.ug_host.specs.Untold.{untold};
 
+use crate::at_once::tell;
 use crate::file::{Content, FileFault};
 use crate::fresh::{Fresh, make};
 use crate::plain::{read_at, text_of};
+use crate::same::has_text;
 use std::alloc::Global;
+use std::os::fd::AsRawFd;
 use std::rt::Files;
 use ug_store::{DiskAnswer, Loaded, RuleDisk};
 use ug_types::{NoMemory, Text};
 
 /// A rule file of this machine. A save writes a new file beside it, which has its owner and mode, and then takes its place; a link in
 /// the rule file's place is followed, and stays. What it answers is told by the machine alone.
+///
+/// A text that the daemon doesn't know is never overwritten: where the file has neither the text that was loaded, nor the one that was
+/// saved since, nor the one that a failed save tried to write, a save fails. That is told on standard error, once for each text. A file
+/// that is gone is written anew.
 #[derive(Drop)]
 pub struct RuleFile<R: Files> {
     rt: R,
     path: Text,
     fresh: Option<Fresh<R::File>>,
+    /// The text that the file had when it was last known, and the one that a save since then tried to write.
+    known: Text,
+    tried: Option<Text>,
+    /// The text that is to take the file's place.
+    coming: Option<Text>,
+    /// The last text of which a person was told.
+    told: Option<Text>,
     faults: u64,
 }
 
-impl<R: Files> RuleFile<R> {
+impl<R: Files> RuleFile<R>
+where
+    R::File: AsRawFd,
+{
     /// No rule file is named yet. It takes no memory.
     pub fn new(rt: R, alloc: Global) -> RuleFile<R>
         ensures faults { result.faults ≡ 0 }
@@ -32,8 +49,17 @@ impl<R: Files> RuleFile<R> {
             rt,
             path: Text::new(alloc),
             fresh: None,
+            known: Text::new(alloc),
+            tried: None,
+            coming: None,
+            told: None,
             faults: 0,
         }
+    }
+
+    /// The path that was named last.
+    pub fn path(&self) -> &[u8] {
+        self.path.bytes()
     }
 
     // A failure more, if it is one.
@@ -63,14 +89,123 @@ impl<R: Files> RuleFile<R> {
         }
     }
 
+    // Keeps the text that was loaded, as far as there is memory: else the next save finds another one.
+    fn keep_loaded(&mut self, alloc: Global, loaded: &Loaded)
+        ensures faults { self.new.faults ≡ self.old.faults }
+        ensures path { self.new.path ≡ self.old.path }
+    {
+        let bytes = match loaded {
+            Loaded::Bytes(text) => text.bytes(),
+            _ => b"".as_slice(),
+        };
+        self.tried = None;
+        self.known = match Text::of(alloc, bytes) {
+            Ok(text) => text,
+            Err(_) => Text::new(alloc),
+        };
+    }
+
+    // Whether the file has that text, or is gone.
+    fn has(&self, text: &Text) -> Result<bool, FileFault> {
+        has_text(&self.rt, text_of(self.path.bytes())?, text.bytes())
+    }
+
+    // Whether the file may be overwritten: it has the known text, or the one that was tried, which is then the known one.
+    fn is_known(&mut self) -> Result<bool, FileFault>
+        ensures faults { self.new.faults ≡ self.old.faults }
+        ensures path { self.new.path ≡ self.old.path }
+    {
+        if self.has(&self.known)? {
+            return Ok(true);
+        }
+        match self.tried.take() {
+            Some(tried) => {
+                let is = self.has(&tried)?;
+                if is {
+                    self.known = tried;
+                } else {
+                    self.tried = Some(tried);
+                }
+                Ok(is)
+            }
+            None => Ok(false),
+        }
+    }
+
+    // Whether a person was told of just this text.
+    fn was_told(&self, found: &Text) -> bool {
+        match &self.told {
+            Some(told) => told.bytes() == found.bytes(),
+            None => false,
+        }
+    }
+
+    // Tells a person what became of the file, and gives what it has, unless that was told before.
+    fn find_untold(&self, alloc: Global) -> Result<Option<Text>, FileFault> {
+        let path = text_of(self.path.bytes())?;
+        let Some(Content::Whole(found)) = read_at(&self.rt, alloc, path)? else {
+            return Ok(None);
+        };
+        if self.was_told(&found) {
+            return Ok(None);
+        }
+        let sentence = format!(in alloc;
+            "usbguard: {path} was changed by another hand, so rules aren't saved in it. To take what stands there, restart the daemon; to go on with the daemon's rules, move the file away.\n"
+        )?;
+        tell(sentence.as_str());
+        Ok(Some(found))
+    }
+
+    // Tells a person that the file has another text, once for each.
+    fn tell_other(&mut self, alloc: Global) -> Result<(), FileFault>
+        ensures faults { self.new.faults ≡ self.old.faults }
+        ensures path { self.new.path ≡ self.old.path }
+    {
+        if let Some(found) = self.find_untold(alloc)? {
+            self.told = Some(found);
+        }
+        Ok(())
+    }
+
     fn write(&mut self, alloc: Global, text: &[u8]) -> Result<(), FileFault>
         ensures faults { self.new.faults ≡ self.old.faults }
         ensures path { self.new.path ≡ self.old.path }
     {
         self.fresh = None;
+        self.coming = None;
+        if !self.is_known()? {
+            self.tell_other(alloc)?;
+            return Err(FileFault::Failed);
+        }
+        let coming = Text::of(alloc, text)?;
         let path = text_of(self.path.bytes())?;
         self.fresh = Some(make(&self.rt, alloc, path, text)?);
+        self.coming = Some(coming);
         Ok(())
+    }
+
+    // Puts the new file in the other's place, if that has the known text still. From then on the file has the new text, or may have it.
+    fn replace(&mut self) -> Result<(), FileFault>
+        ensures faults { self.new.faults ≡ self.old.faults }
+        ensures path { self.new.path ≡ self.old.path }
+    {
+        let (Some(fresh), Some(coming)) = (self.fresh.take(), self.coming.take()) else {
+            return Err(FileFault::Missing);
+        };
+        if !self.has(&self.known)? {
+            return Err(FileFault::Failed);
+        }
+        match fresh.swap(&self.rt) {
+            Ok(()) => {
+                self.known = coming;
+                self.tried = None;
+                Ok(())
+            }
+            Err(fault) => {
+                self.tried = Some(coming);
+                Err(fault)
+            }
+        }
     }
 }
 
@@ -104,7 +239,10 @@ fn is_failed(answer: DiskAnswer) -> bool
     matches!(answer, DiskAnswer::Failed)
 }
 
-impl<R: Files> RuleDisk for RuleFile<R> {
+impl<R: Files> RuleDisk for RuleFile<R>
+where
+    R::File: AsRawFd,
+{
     ghost keeps = { λ s call answer t. CallsAt call answer s.path s.faults t.path t.faults };
 
     ghost told = { λ s. None };
@@ -127,6 +265,7 @@ impl<R: Files> RuleDisk for RuleFile<R> {
 
     fn load(&mut self, alloc: Global) -> Loaded {
         let answer = self.read(alloc);
+        self.keep_loaded(alloc, &answer);
         self.count(is_failed_load(&answer));
         answer
     }
@@ -147,11 +286,7 @@ impl<R: Files> RuleDisk for RuleFile<R> {
     }
 
     fn swap(&mut self) -> DiskAnswer {
-        let answer = answer_without_memory(match &self.fresh {
-            Some(fresh) => fresh.swap(&self.rt),
-            None => Err(FileFault::Missing),
-        });
-        self.fresh = None;
+        let answer = answer_without_memory(self.replace());
         self.count(is_failed(answer));
         answer
     }

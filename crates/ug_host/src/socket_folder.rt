@@ -9,6 +9,7 @@ use crate::listening::{listen_at, make_folder};
 use crate::peer::Peer;
 use crate::socket_waiter::SocketWaiter;
 use crate::tokens::{FIRST_SESSION, token_of};
+use crate::trusted::tell_failed;
 use mio::net::{UnixListener, UnixStream};
 use mio::{Interest, Registry};
 use std::alloc::Global;
@@ -19,17 +20,56 @@ use std::str;
 use ug_links::{Accepted, LinkRead, LinkWrote, Links, Listening};
 use ug_types::{LinkId, Principal, Ready};
 
+/// The most sessions of one listener, and of all but root's.
+const MOST_OF_ONE: usize = 16;
+
+const MOST_OF_OTHERS: usize = 56;
+
+/// A socket at which the daemon listens.
+#[derive(Drop)]
+struct Listener {
+    number: u32,
+    socket: UnixListener,
+    is_roots: bool,
+    /// Whether somebody may wait who wasn't accepted for want of a place.
+    is_full: bool,
+}
+
+impl Listener {
+    // Has the next wait tell whether somebody waits.
+    fn watch_again(&mut self, registry: &Registry) {
+        self.is_full = false;
+        let token = token_of(Ready::Listener(self.number));
+        let _again = registry.reregister(&mut self.socket, token, Interest::READABLE);
+    }
+}
+
+// Has the next wait tell of each listener at which somebody may wait for a place.
+fn watch_full(listeners: &mut [Listener], registry: &Registry) {
+    for listener in listeners {
+        if listener.is_full {
+            listener.watch_again(registry);
+        }
+    }
+}
+
 /// Unix sockets in a folder, each named by its principal's text and `.socket`. What they answer is told by the machine alone.
 ///
 /// The folder is made where it is missing, with mode 0700, and a socket with mode 0600: owner and mode of both are the
-/// administrator's to give. A socket that a dead daemon left is replaced; one at which a program listens is not. No call waits for a
-/// peer. Descriptors that a peer sends along are dropped with the bytes that bear them.
+/// administrator's to give. A socket that a dead daemon left is replaced; one at which a program listens is not.
+///
+/// No call waits for a peer. A session to which a descriptor was sent fails, and its stream is neither read nor closed.
+///
+/// At a listener with 16 sessions nobody more is accepted, nor at one other than root's where these together have 56: so no user or
+/// group takes all places, and root finds some. Who waits there is told again once a session has been closed.
 #[derive(Drop)]
 pub struct SocketFolder<R> {
     rt: R,
+    alloc: Global,
     registry: Registry,
     folder: String,
-    listeners: Vec<UnixListener>,
+    last: Option<String>,
+    listeners: Vec<Listener>,
     peers: Vec<Peer>,
     next: u64,
     faults: u64,
@@ -47,8 +87,10 @@ impl<R: Files + Net + Copy> SocketFolder<R> {
     {
         Ok(SocketFolder {
             rt,
+            alloc,
             registry: waiter.registry()?,
             folder,
+            last: None,
             listeners: Vec::new(alloc),
             peers: Vec::new(alloc),
             next: FIRST_SESSION,
@@ -66,6 +108,14 @@ fn next_stream(listener: &UnixListener) -> Result<Option<UnixStream>, FileFault>
 }
 
 impl<R: Files + Net> SocketFolder<R> {
+    /// The path of a socket that couldn't be had; else the folder's.
+    pub fn last_path(&self) -> &str {
+        match &self.last {
+            Some(path) => path.as_str(),
+            None => self.folder.as_str(),
+        }
+    }
+
     // A failure more, if it is one.
     fn count(&mut self, failed: bool)
         ensures counted { IsCounted self.old.faults self.new.faults }
@@ -96,11 +146,23 @@ impl<R: Files + Net> SocketFolder<R> {
         let path = self.path_of(alloc, principal)?;
         self.listeners.reserve(1)?;
         make_folder(&self.rt, self.folder.as_str())?;
-        let mut listener = listen_at(&self.rt, path.as_str())?;
+        let mut socket = match listen_at(&self.rt, path.as_str()) {
+            Ok(socket) => socket,
+            Err(e) => {
+                tell_failed(alloc, "listened at", path.as_str(), &e);
+                self.last = Some(path);
+                return Err(FileFault::from(e));
+            }
+        };
         let token = token_of(Ready::Listener(number));
         self.registry
-            .register(&mut listener, token, Interest::READABLE)?;
-        self.listeners.push_reserved(listener);
+            .register(&mut socket, token, Interest::READABLE)?;
+        self.listeners.push_reserved(Listener {
+            number,
+            socket,
+            is_roots: principal.text().bytes() == b"root".as_slice(),
+            is_full: false,
+        });
         Ok(number)
     }
 
@@ -110,9 +172,63 @@ impl<R: Files + Net> SocketFolder<R> {
         ensures faults { self.new.faults ≡ self.old.faults }
         ensures next { self.new.next ≡ self.old.next }
     {
-        let token = token_of(Ready::Listener(listener));
-        let socket = &mut self.listeners[listener as usize];
-        let _again = self.registry.reregister(socket, token, Interest::READABLE);
+        self.listeners[listener as usize].watch_again(&self.registry);
+    }
+
+    // How many sessions a listener has.
+    fn count_of(&self, listener: u32) -> usize {
+        let peers = self.peers.iter();
+        peers.filter(|peer| peer.listener == listener).count()
+    }
+
+    // How many sessions all listeners but root's have.
+    fn count_of_others(&self) -> usize {
+        let peers = self.peers.iter();
+        peers.filter(|peer| !self.is_roots(peer.listener)).count()
+    }
+
+    fn is_roots(&self, listener: u32) -> bool {
+        match self.listeners.get(listener as usize) {
+            Some(listener) => listener.is_roots,
+            None => false,
+        }
+    }
+
+    // Whether a session more finds a place at the listener.
+    fn has_place(&self, listener: u32) -> bool {
+        self.count_of(listener) < MOST_OF_ONE
+            && (self.is_roots(listener) || self.count_of_others() < MOST_OF_OTHERS)
+    }
+
+    // Closes the streams of sessions that are over, but for those that bear a descriptor.
+    fn close_done(&mut self)
+        ensures faults { self.new.faults ≡ self.old.faults }
+        ensures next { self.new.next ≡ self.old.next }
+    {
+        let (rt, alloc) = (&self.rt, self.alloc);
+        self.peers.retain(|peer| !peer.is_done(rt, alloc));
+    }
+
+    // Whether a session more finds a place at the listener, once those that are over have left theirs.
+    fn finds_place(&mut self, listener: u32) -> bool
+        ensures faults { self.new.faults ≡ self.old.faults }
+        ensures next { self.new.next ≡ self.old.next }
+    {
+        if self.has_place(listener) {
+            return true;
+        }
+        self.close_done();
+        self.has_place(listener)
+    }
+
+    // Remembers that somebody may wait at the listener.
+    fn note_full(&mut self, listener: u32)
+        ensures faults { self.new.faults ≡ self.old.faults }
+        ensures next { self.new.next ≡ self.old.next }
+    {
+        if let Some(listener) = self.listeners.get_mut(listener as usize) {
+            listener.is_full = true;
+        }
     }
 
     fn accept_at(&mut self, listener: u32) -> Result<Option<LinkId>, FileFault>
@@ -121,17 +237,24 @@ impl<R: Files + Net> SocketFolder<R> {
         ensures grows { self.old.next ≤ self.new.next }
         ensures faults { self.new.faults ≡ self.old.faults }
     {
-        let Some(socket) = self.listeners.get(listener as usize) else {
+        if !self.finds_place(listener) {
+            self.note_full(listener);
+            return Ok(None);
+        }
+        let Some(at) = self.listeners.get(listener as usize) else {
             return Err(FileFault::Failed);
         };
         self.peers.reserve(1)?;
-        let Some(stream) = next_stream(socket)? else {
+        let id = LinkId(self.next);
+        let next = self.next.checked_add(1).ok_or(FileFault::Failed)?;
+        let Some(stream) = next_stream(&at.socket)? else {
             return Ok(None);
         };
-        let id = LinkId(self.next);
-        self.next = self.next.checked_add(1).ok_or(FileFault::Failed)?;
-        self.peers
-            .push_reserved(Peer::new(id, stream, &self.registry)?);
+        self.next = next;
+        let mut peer = Peer::new(id, listener, stream);
+        let begun = peer.begin(&self.registry);
+        self.peers.push_reserved(peer);
+        begun?;
         self.watch_again(listener);
         Ok(Some(id))
     }
@@ -139,7 +262,9 @@ impl<R: Files + Net> SocketFolder<R> {
     fn place_of(&self, id: LinkId) -> Option<usize>
         ensures { IfSome result (λ i. i < length self.now.peers.items) }
     {
-        self.peers.iter().position(|peer| peer.id == id)
+        self.peers
+            .iter()
+            .position(|peer| peer.id == id && !peer.over)
     }
 }
 
@@ -169,13 +294,16 @@ impl<R: Files + Net> Links for SocketFolder<R> {
             Err(FileFault::Memory) => Accepted::Memory,
             Err(_) => Accepted::Failed,
         };
+        if matches!(answer, Accepted::Memory | Accepted::Failed) {
+            self.note_full(listener);
+        }
         self.count(answer == Accepted::Failed);
         answer
     }
 
     fn read(&mut self, id: LinkId, into: &mut [u8]) -> LinkRead {
         let answer = match self.place_of(id) {
-            Some(i) => self.peers[i].read(&self.registry, into),
+            Some(i) => self.peers[i].read(&self.rt, self.alloc, &self.registry, into),
             None => LinkRead::Failed,
         };
         self.count(answer == LinkRead::Failed);
@@ -192,7 +320,11 @@ impl<R: Files + Net> Links for SocketFolder<R> {
     }
 
     fn close(&mut self, id: LinkId) {
-        self.peers.retain(|peer| peer.id != id);
+        if let Some(i) = self.place_of(id) {
+            self.peers[i].end(&self.registry);
+        }
+        self.close_done();
+        watch_full(self.listeners.as_mut_slice(), &self.registry);
     }
 
     fn faults(&self) -> u64 {

@@ -4,6 +4,7 @@ ghost use Rattle.ug_types.specs.Waits.{FitsWait};
 ghost use Rattle.ug_host.specs.Untold.{untold};
 
 use crate::announced::Announced;
+use crate::readiness::Readiness;
 use crate::tokens::put_tokens;
 use mio::{Events, Poll, Registry};
 use std::alloc::Global;
@@ -24,13 +25,19 @@ const PAUSE: u64 = 20;
 
 /// Waits for a second at most. It ends as soon as something comes at a socket of the links that were made with it, or the kernel
 /// announces any event, which it looks for every 20 milliseconds in a file such as `/sys/kernel/uevent_seqnum`; where that can't be
-/// read, it waits for sockets alone. What was announced between two waits ends the second at once, and the first wait ends at once
-/// too. The sockets that are ready are told either way.
+/// read, it waits for sockets alone. What was announced between two waits ends the second behind a first pause of 20 milliseconds, so
+/// that whoever has the kernel announce events calls for no more than fifty ends in a second. The first wait ends at once. The sockets
+/// that are ready are told either way.
+///
+/// A second wait shows that the daemon has looked at all devices once. From then on it tells a service manager that the daemon is
+/// ready, until that takes the message.
 #[derive(Drop)]
 pub struct SocketWaiter<R> {
     announced: Announced<R>,
     poll: Poll,
     events: Events,
+    readiness: Option<Readiness>,
+    waited: bool,
     faults: u64,
 }
 
@@ -41,8 +48,15 @@ impl<R: Files + Net + Copy> SocketWaiter<R> {
             announced: Announced::new(rt, path),
             poll: Poll::new(&rt)?,
             events: Events::with_capacity(alloc, TOKENS)?,
+            readiness: None,
+            waited: false,
             faults: 0,
         })
+    }
+
+    /// The second and later waits tell the service manager at that socket that the daemon is ready.
+    pub fn set_manager(&mut self, socket: &str) {
+        self.readiness = Readiness::at(socket.as_bytes());
     }
 
     /// What it waits for. Whoever has it may add to that.
@@ -66,21 +80,44 @@ impl<R: Files> SocketWaiter<R> {
         }
     }
 
+    // Tells the manager of a daemon that has waited before.
+    fn tell_ready(&mut self)
+        ensures faults { self.new.faults ≡ self.old.faults }
+    {
+        if let Some(readiness) = &self.readiness
+            && self.waited
+            && readiness.tell()
+        {
+            self.readiness = None;
+        }
+    }
+
+    // The pause comes before the look, so that announcements end at most fifty waits in a second.
     fn wait_second(&mut self, into: &mut [Ready]) -> Woken
         requires { length into.old ≡ 256 }
         ensures size { FitsWait result }
         ensures faults { self.new.faults ≡ self.old.faults }
     {
-        for _ in 1..LOOKS {
-            if self.announced.is_other() {
-                return self.wait_for(0, into);
-            }
+        for _ in 0..LOOKS {
             match self.wait_for(PAUSE, into) {
                 Woken::Got(0) => {}
                 woken => return woken,
             }
+            if self.announced.is_other() {
+                break;
+            }
         }
-        let _other = self.announced.is_other();
+        self.wait_for(0, into)
+    }
+
+    // The first wait looks once.
+    fn wait_first(&mut self, into: &mut [Ready]) -> Woken
+        requires { length into.old ≡ 256 }
+        ensures size { FitsWait result }
+        ensures faults { self.new.faults ≡ self.old.faults }
+    {
+        self.waited = true;
+        let _first = self.announced.is_other();
         self.wait_for(0, into)
     }
 }
@@ -95,7 +132,12 @@ impl<R: Files> Waiter for SocketWaiter<R> {
     ghost tells = { λ s waited t after gives told. untold after told };
 
     fn wait(&mut self, into: &mut [Ready]) -> Woken {
-        let woken = self.wait_second(into);
+        self.tell_ready();
+        let woken = if self.waited {
+            self.wait_second(into)
+        } else {
+            self.wait_first(into)
+        };
         if woken == Woken::Failed {
             self.faults = self.faults.saturating_add(1);
         }

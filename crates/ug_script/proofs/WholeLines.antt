@@ -1,8 +1,7 @@
 -- What a line of a script writes is whole lines.
-use Rattle.std.proofs.Common.{◌≡◌, ℕ, Bool, true, false, cond, nat_eq, List, [], ◌∷◌, ◌++◌, Option, Some, None, Result, Ok, Err, refl, sym, ap, ◌∙◌, flat_map}
+use Rattle.std.proofs.Common.{◌≡◌, ℕ, Bool, true, false, cond, nat_eq, List, [], ◌∷◌, ◌++◌, Option, Some, None, Result, Ok, Err, refl, ap, ◌∙◌, flat_map}
 use Rattle.std.specs.Cmp.Lexicographic.{pointwise}
 use Rattle.ug_types.specs.declared.rule.Rule as types
-use Rattle.ug_audit.specs.declared.entry.Entry.{Entry}
 use Rattle.ug_audit.specs.Lines.{entry_line}
 use Rattle.ug_lines.specs.Lines.{lines_of, rest_from}
 use Rattle.ug_lines.proofs.Lines.{rest_from-append, rest_from-end, rest_from-nil}
@@ -10,13 +9,13 @@ use Rattle.ug_proto.specs.declared.reply.Reply.{Reply}
 use Rattle.ug_proto.specs.Replies.{reply_text}
 use Rattle.ug_sysfs.specs.World.{World}
 use Rattle.ug_console.specs.Fold.{Fault, Outcome, Writes, Refused, BadLine, InputTooLong}
-use Rattle.ug_core.specs.Event.{daemon_of, has_numbers}
+use Rattle.ug_core.specs.Event.{has_numbers}
 use Rattle.ug_script.specs.declared.step.Step.{Step}
 use Rattle.ug_script.specs.declared.step.Step.TheVariants as step
 use Rattle.ug_script.specs.Grammar.{step_of_line}
-use Rattle.ug_script.specs.Script.{Script, can_start, daemon_in, disk_in, fresh, takes_setup, with_setup_closed}
+use Rattle.ug_script.specs.Script.{Script, can_start, daemon_in, disk_in, fresh, takes_setup}
 use Rattle.ug_script.specs.Setup.{SetupState, one_line_more, rules_from}
-use Rattle.ug_script.specs.Replay.{EventOutcome, Played, bad, begun_disk, came_of, event_by, event_from, event_taken, first_step, header, in_script, line_added, line_taken, lines_text, outcome_of, outcome_text, quiet, quoted, quoted_lines, reply_lines, restart_taken, restarted, script_step, taken, taken_if, terminated}
+use Rattle.ug_script.specs.Replay.{EventOutcome, Played, bad, begun_disk, came_of, event_by, event_from, header, in_script, line_added, lines_text, outcome_of, outcome_text, quiet, quoted, reply_lines, restarted, script_step, taken, taken_if, terminated}
 
 -- the text is empty or ends with a newline
 abbrev pub IsWhole : List ℕ → Type 0

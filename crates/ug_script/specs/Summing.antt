@@ -1,5 +1,5 @@
 -- What each line of a script is to `replay --summary`, and the line that is written behind the last.
-use Rattle.std.specs.Prelude.{◌≡◌, ℕ, ◌+◌, ◌-◌, ◌^◌, min, Bool, nat_eq, List, [], ◌++◌, filter, length, codes, decimal, Option, Some, None}
+use Rattle.std.specs.Prelude.{◌≡◌, ℕ, ◌+◌, ◌-◌, ◌^◌, min, nat_eq, List, [], ◌++◌, filter, length, codes, decimal, Option, Some, None}
 use Rattle.std.specs.List.{starts_with}
 use Rattle.ug_lines.specs.Lines.{lines_of}
 use Rattle.ug_sysfs.specs.World.{World}

@@ -52,7 +52,7 @@ impl Seek for Busy {
 
 impl OpenFile for Busy {
     fn metadata(&self) -> io::Result<Metadata> {
-        refuse()
+        Ok(Metadata::of_file(1))
     }
 
     fn set_len(&self, _size: u64) -> io::Result<()> {
@@ -68,7 +68,7 @@ impl OpenFile for Busy {
     }
 }
 
-/// A system each of whose files is such a one.
+/// A system each of whose files is such a one, and root's.
 #[derive(Clone, Copy, Drop)]
 struct BusyFiles {}
 
@@ -89,11 +89,11 @@ impl Files for BusyFiles {
     }
 
     fn metadata(&self, _path: &str) -> io::Result<Metadata> {
-        refuse()
+        Ok(Metadata::of_file(1))
     }
 
     fn symlink_metadata(&self, _path: &str) -> io::Result<Metadata> {
-        refuse()
+        Ok(Metadata::of_file(1))
     }
 
     fn copy(&self, _from: &str, _to: &str) -> io::Result<u64> {

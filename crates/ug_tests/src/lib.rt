@@ -22,7 +22,13 @@ mod host_hubs;
 #[cfg(test)]
 mod host_journal;
 #[cfg(test)]
+mod host_output;
+#[cfg(test)]
+mod host_places;
+#[cfg(test)]
 mod host_sockets;
+#[cfg(test)]
+mod host_trust;
 #[cfg(test)]
 mod index;
 #[cfg(test)]

@@ -2,22 +2,24 @@
 #![tactic(auto)]
 
 mod about;
+mod last_line;
 mod link_words;
+mod serve;
+mod shown;
+mod told;
 mod usage;
 mod waiting;
+mod words;
 
 use crate::about::tell_about;
+use crate::last_line::{LastLine, tell_line};
 use crate::link_words::tell_link;
+use crate::serve::serve;
 use crate::usage::{tell, tell_unreadable};
 use crate::waiting::tell_waiting;
 use std::process::ExitCode;
 use std::{env, io};
-use ug_audit::{Auditor, Panel};
-use ug_host::{
-    ConfFolder, LocalZone, RuleFile, SocketFolder, SocketLink, SocketWaiter, SysfsFolder,
-    SystemClock, WriterAuditor, read_seed,
-};
-use ug_serve::run_daemon;
+use ug_host::{SocketLink, fill_standard_files};
 use ug_sysfs::SimKernel;
 use ug_tool::{run_replay, run_tool};
 use ug_types::{Put, ReaderSource, Sink, WriterSink};
@@ -30,55 +32,11 @@ fn end_with<K: Sink>(out: &mut K, line: &[u8], status: u8) -> ExitCode {
     }
 }
 
-/// The daemon over this machine's own devices, files, clock and zone, with its journal on standard output, and its status. The words
-/// are those behind `daemon`. Where the system has no random bytes, the status is 4, and 11 where it has nothing to wait with.
-fn serve(rt: HostRuntime, words: &[&str]) -> u8 {
-    let alloc = rt.alloc();
-    let Ok(devices) = String::from_str(alloc, "/sys/bus/usb/devices") else {
-        return 6;
-    };
-    let Ok(announced) = String::from_str(alloc, "/sys/kernel/uevent_seqnum") else {
-        return 6;
-    };
-    let Ok(sockets) = String::from_str(alloc, "/run/usbguard") else {
-        return 6;
-    };
-    let Ok(output) = Box::new(alloc, WriterAuditor::new(rt.stdout())) else {
-        return 6;
-    };
-    let mut members: Vec<Box<dyn Auditor>> = Vec::new(alloc);
-    if members.push(output).is_err() {
-        return 6;
-    }
-    let Ok(seed) = read_seed(&rt) else {
-        return 4;
-    };
-    let Ok(mut waiter) = SocketWaiter::new(rt, alloc, announced) else {
-        return 11;
-    };
-    let Ok(mut links) = SocketFolder::new(rt, alloc, sockets, &waiter) else {
-        return 11;
-    };
-    let zone = LocalZone::read(&rt, alloc, "/etc/localtime");
-    run_daemon(
-        alloc,
-        words,
-        seed,
-        zone.time_zone(),
-        &mut SysfsFolder::new(rt, alloc, devices),
-        &mut RuleFile::new(rt, alloc),
-        &mut ConfFolder::new(rt),
-        &mut links,
-        &mut waiter,
-        &mut SystemClock::new(rt),
-        &mut Panel::new(members),
-        u64::MAX,
-    )
-}
-
 fn main(rt: HostRuntime) -> ExitCode {
+    fill_standard_files();
     let alloc = rt.alloc();
-    let mut out = WriterSink::new(io::writer(&rt));
+    let mut lines = LastLine::new(alloc, io::writer(&rt));
+    let mut out = WriterSink::new(&mut lines);
     let texts = match env::args(&rt) {
         Ok(texts) => texts,
         Err(e) if e.kind() == io::ErrorKind::OutOfMemory => {
@@ -121,6 +79,7 @@ fn main(rt: HostRuntime) -> ExitCode {
             status
         }
     };
+    tell_line(&rt, lines.text());
     tell(&rt, &words, status);
     ExitCode::from(status)
 }

@@ -1,0 +1,458 @@
+#!/usr/bin/env python3
+"""Tries what a peer, a user, a full disk or a wrong file could do to stop the guard, on the real program.
+
+    checks/edge.py [--program PATH] [TRIAL..]
+
+A folder with files like those of sysfs stands in the place of /sys/bus, in a mount namespace of its own; /run is empty. Each trial starts
+the daemon, does its worst, and then looks whether a device that is plugged in gets its verdict, and how soon. Without names all trials
+run; exit status 0 where all held. Needs root, unshare(1), mount(8), prlimit(1) and Python 3.9.
+"""
+
+import argparse
+import array
+import os
+import resource
+import shutil
+import socket
+import struct
+import subprocess
+import sys
+import tempfile
+import threading
+import time
+from pathlib import Path
+
+HERE = Path(__file__).resolve().parent
+sys.path.insert(0, str(HERE.parent / "bench"))
+from daemon import DEVICES, KEY, Machine  # noqa: E402
+
+RUN = Path("/run/usbguard")
+failures = []
+
+
+def check(what, held, seen=""):
+    print("%s: %s%s" % ("ok" if held else "FAILED", what, " (%s)" % seen if seen != "" else ""), flush=True)
+    if not held:
+        failures.append(what)
+
+
+class Guard:
+    """The program over the machine, with its journal, and what it says on standard error, in files."""
+
+    def __init__(self, o, folder, settings="", rules="allow id 1050:0011\n", output=None, environment={}, wrap=[], access={}):
+        self.folder = folder
+        (folder / "rules.conf").write_text(rules)
+        (folder / "access").mkdir(exist_ok=True)
+        for name, text in access.items():
+            (folder / "access" / name).write_text(text)
+        (folder / "settings.conf").write_text("RuleFile=%s\nIPCAllowedUsers=root\nIPCAccessControlFiles=%s\n%s" % (
+            folder / "rules.conf", folder / "access", settings))
+        self.journal = folder / "journal"
+        self.errors = folder / "errors"
+        self.output = output
+        self.command = [*wrap, o.program, "daemon", "--conf", str(folder / "settings.conf")]
+        self.environment = {**os.environ, **environment}
+        self.start()
+
+    def start(self):
+        shutil.rmtree(RUN, ignore_errors=True)
+        RUN.mkdir(parents=True)
+        with open(self.journal, "wb") as journal, open(self.errors, "wb") as errors:
+            self.run = subprocess.Popen(self.command, stdin=subprocess.DEVNULL, stdout=self.output or journal, stderr=errors,
+                                        env=self.environment)
+
+    def lines(self):
+        return self.journal.read_text(errors="replace").splitlines()
+
+    def told(self):
+        return self.errors.read_text(errors="replace")
+
+    def await_line(self, start, patience=20):
+        """Waits for a line of the journal that begins so."""
+        until = time.monotonic() + patience
+        while time.monotonic() < until:
+            if any(line.startswith(start) for line in self.lines()):
+                return True
+            if self.run.poll() is not None:
+                return any(line.startswith(start) for line in self.lines())
+            time.sleep(0.01)
+        return False
+
+    def end(self):
+        self.run.kill()
+        self.run.wait()
+
+    def connect(self, name="root"):
+        peer = socket.socket(socket.AF_UNIX)
+        peer.settimeout(10)
+        peer.connect(str(RUN / (name + ".socket")))
+        return peer
+
+
+def authorized(name):
+    return (DEVICES / name / "authorized").read_text().strip()
+
+
+def time_of_verdict(machine, name, number, patience=30):
+    """Plugs in a device that no rule allows, and tells how long it stays on."""
+    descriptors = bytearray(KEY)
+    descriptors[10] ^= 0x77
+    made = machine.made
+    (made / "port").mkdir(parents=True)
+    files = {"authorized": b"1\n", "devnum": b"%d\n" % number, "descriptors": bytes(descriptors), "remove": b"",
+             "port/connect_type": b"hotplug\n"}
+    for file, text in files.items():
+        (made / file).write_bytes(text)
+    made.rename(DEVICES / name)
+    began = time.monotonic()
+    machine.announce()
+    while time.monotonic() < began + patience:
+        if not authorized(name).startswith("1"):
+            return time.monotonic() - began
+        time.sleep(0.002)
+    return patience
+
+
+def judges(machine, what, number=[10]):
+    number[0] += 1
+    name = "1-%d" % number[0]
+    took = time_of_verdict(machine, name, number[0])
+    check("%s: a device is blocked within a second" % what, took < 1, "%.0f ms" % (1000 * took))
+    machine.unplug(name)
+
+
+def lingering_socket(seconds):
+    """A TCP connection whose last closing takes so long: bytes are left that the other end never reads."""
+    listener = socket.socket()
+    listener.setsockopt(socket.SOL_SOCKET, socket.SO_RCVBUF, 4096)
+    listener.bind(("127.0.0.1", 0))
+    listener.listen(1)
+    sender = socket.socket()
+    sender.connect(listener.getsockname())
+    other, _ = listener.accept()
+    sender.setsockopt(socket.SOL_SOCKET, socket.SO_LINGER, struct.pack("ii", 1, seconds))
+    sender.setblocking(False)
+    try:
+        while True:
+            sender.send(bytes(65536))
+    except BlockingIOError:
+        pass
+    return sender, (listener, other)
+
+
+def pass_file(peer, file, data):
+    peer.sendmsg([data], [(socket.SOL_SOCKET, socket.SCM_RIGHTS, array.array("i", [file.fileno()]))])
+    file.close()
+
+
+def trial_lingering(o, machine, folder):
+    """A peer passes a descriptor whose closing lingers for twelve seconds."""
+    guard = Guard(o, folder, access={"nobody": "Devices=list\n"})
+    guard.await_line("end ")
+    kept = []
+    for data in (b"list-devices\n", b"list-dev", b"x" * 60000 + b"\n"):
+        peer = guard.connect()
+        sender, rest = lingering_socket(12)
+        kept += [peer, rest]
+        pass_file(peer, sender, data)
+        judges(machine, "a descriptor with %d bytes" % len(data))
+    # One that comes behind other bytes, and one whose sender goes at once.
+    peer = guard.connect()
+    sender, rest = lingering_socket(12)
+    kept += [peer, rest]
+    peer.sendall(b"list-devices\n")
+    check("the request before the descriptor is answered", peer.recv(65536).startswith(b"ok "))
+    pass_file(peer, sender, b"list-devices\n")
+    judges(machine, "a descriptor behind a request")
+    peer = guard.connect()
+    sender, rest = lingering_socket(12)
+    kept += [rest]
+    pass_file(peer, sender, b"list-devices\n")
+    peer.close()
+    judges(machine, "a descriptor whose sender is gone")
+    # More sessions than there are places, each with a descriptor.
+    for _ in range(70):
+        peer = guard.connect("nobody")
+        sender, rest = lingering_socket(12)
+        kept += [peer, rest]
+        pass_file(peer, sender, b"list-devices\n")
+    judges(machine, "70 sessions with a descriptor each")
+    last = guard.connect()
+    last.sendall(b"list-devices\n")
+    check("root is answered still", last.recv(65536).startswith(b"ok "))
+    began = time.monotonic()
+    guard.run.terminate()
+    guard.run.wait()
+    check("the daemon ends at once", time.monotonic() - began < 1, "%.2f s" % (time.monotonic() - began))
+
+
+def trial_output(o, machine, folder):
+    """Standard output is a pipe that nobody reads, then one whose reader comes back, then one whose reader is gone."""
+    read, write = os.pipe()
+    guard = Guard(o, folder, output=write)
+    os.close(write)
+    time.sleep(1)
+    peers = [guard.connect() for _ in range(8)]
+    for k in range(8000):
+        peers[k % 8].sendall(b"allow-device 999\n")
+        peers[k % 8].recv(4096)
+    judges(machine, "a pipe that nobody reads")
+    check("lost lines are told on standard error", "Lines of the journal that were lost" in guard.told())
+    taken = 0
+    os.set_blocking(read, False)
+    until = time.monotonic() + 5
+    while time.monotonic() < until:
+        try:
+            taken += len(os.read(read, 65536))
+        except BlockingIOError:
+            time.sleep(0.05)
+    check("what waited goes out once the pipe is read", taken > 300000, "%d bytes" % taken)
+    check("it is told that lines go out again", "takes lines again" in guard.told())
+    os.close(read)
+    judges(machine, "a pipe whose reader is gone")
+    check("the daemon goes on", guard.run.poll() is None)
+    guard.end()
+
+
+def trial_idle(o, machine, folder):
+    """An idle event leaves nothing in the journal where the environment asks for that."""
+    guard = Guard(o, folder, environment={"USBGUARD_IDLE_EVENTS": "omit"})
+    guard.await_line("end ")
+    time.sleep(4)
+    check("three idle seconds leave no line", sum(line.startswith("event ") for line in guard.lines()) == 1)
+    judges(machine, "idle events are omitted")
+    check("an event with a verdict has its first line", any(a.startswith("event ") and b.startswith("judged ")
+                                                           for a, b in zip(guard.lines(), guard.lines()[1:])))
+    guard.end()
+
+
+def trial_announcements(o, machine, folder):
+    """Announcements without end: as any user can make the kernel give."""
+    guard = Guard(o, folder)
+    guard.await_line("end ")
+    stop = threading.Event()
+
+    def announce():
+        while not stop.is_set():
+            machine.announce()
+            time.sleep(0.0005)
+
+    thread = threading.Thread(target=announce)
+    before = len(guard.lines())
+    thread.start()
+    time.sleep(5)
+    count = sum(line.startswith("event ") for line in guard.lines()[before:])
+    stop.set()
+    thread.join()
+    check("at most fifty events in a second", count <= 255, "%d in 5 s" % count)
+    judges(machine, "behind them")
+    guard.end()
+
+
+def trial_places(o, machine, folder):
+    """One user and one group take all the places that they get."""
+    guard = Guard(o, folder, access={"nobody": "Devices=list\n", "daemon": "Devices=list\n", "bin": "Devices=list\n",
+                                     "sys": "Devices=list\n"})
+    guard.await_line("end ")
+    peers = [guard.connect(name) for name in ("nobody", "daemon", "bin", "sys") for _ in range(40)]
+    time.sleep(1)
+    root = [guard.connect() for _ in range(8)]
+    for peer in root:
+        peer.sendall(b"list-devices\n")
+    check("eight sessions of root are answered beside 160 of others", all(peer.recv(4096).startswith(b"ok ") for peer in root))
+    last = guard.connect("nobody")
+    last.sendall(b"list-devices\n")
+    peers[0].close()
+    for peer in peers[1:16]:
+        peer.close()
+    waiting = peers[16:40]
+    for peer in waiting:
+        peer.close()
+    try:
+        check("one who waited is answered once places are free", last.recv(4096).startswith(b"ok "))
+    except TimeoutError:
+        check("one who waited is answered once places are free", False, "nothing came")
+    judges(machine, "full places")
+    guard.end()
+
+
+def trial_few_files(o, machine, folder):
+    """Fewer descriptors than devices."""
+    for k in range(101, 141):
+        machine.plug("1-%d" % k, k)
+    guard = Guard(o, folder, rules="block\n", wrap=["prlimit", "--nofile=32"])
+    guard.await_line("end ")
+    named = {line.split()[1] for line in guard.lines() if line.startswith("unsettled ")}
+    check("newcomers without a descriptor are named unsettled", len(named) > 5, "%d of 41" % len(named))
+    blocked = sum(authorized("1-%d" % k).startswith("0") for k in range(101, 141))
+    check("the others are judged", blocked > 5, "%d blocked" % blocked)
+    check("the daemon goes on", guard.run.poll() is None)
+    check("who isn't blocked is named", 40 - blocked <= len(named))
+    guard.end()
+    for k in range(101, 141):
+        machine.unplug("1-%d" % k)
+
+
+def trial_closed(o, machine, folder):
+    """Standard files that are closed."""
+    guard = Guard(o, folder)
+    guard.await_line("end ")
+
+    def run(line):
+        return subprocess.run(["sh", "-c", line.replace("usbguard", o.program, 1)], capture_output=True, text=True)
+
+    check("a client without output ends with 5", run("usbguard list-devices >&-").returncode == 5)
+    check("check-rules without input ends with 4", run("usbguard check-rules <&-").returncode == 4)
+    check("check-rules without output ends with 5", run("echo allow | usbguard check-rules >&-").returncode == 5)
+    check("nothing was written into the daemon's socket", not any("bad-request" in line for line in guard.lines()))
+    check("a client without standard error works", run("usbguard list-devices 2>&-").returncode == 0)
+    guard.end()
+    guard.command = ["sh", "-c", 'exec "$0" "$@" >&- 2>&- <&-', *guard.command]
+    guard.start()
+    time.sleep(1)
+    judges(machine, "a daemon without standard files")
+    guard.end()
+
+
+def refused(guard, what, status, *words):
+    guard.start()
+    try:
+        code = guard.run.wait(5)
+    except subprocess.TimeoutExpired:
+        guard.end()
+        code = None
+    told = guard.told()
+    check("%s: status %d" % (what, status), code == status, code)
+    check("%s: standard error says so" % what, all(word in told for word in words), told)
+
+
+def trial_refusals(o, machine, folder):
+    """Refused starts say why, in words."""
+    guard = Guard(o, folder)
+    guard.await_line("end ")
+    guard.end()
+    rules, settings = folder / "rules.conf", folder / "settings.conf"
+    rules.write_text("allow id 1050:0011\nallow frob\n")
+    refused(guard, "a bad rule", 3, "%s, line 2, column 7" % rules, "no attribute", "    allow frob\n          ^")
+    rules.write_text("allow\n")
+    text = settings.read_text()
+    settings.write_text(text + "  Frob=1\n")
+    refused(guard, "a bad setting", 3, "%s, line 4" % settings, "no such key", "    Frob=1\n    ^")
+    settings.write_text(text)
+    settings.chmod(0o666)
+    refused(guard, "settings that all may write", 4, str(settings), "mode 666")
+    settings.chmod(0o600)
+    rules.chmod(0o622)
+    refused(guard, "rules that all may write", 9, str(rules), "mode 622")
+    rules.chmod(0o600)
+    os.chown(rules, 65534, -1)
+    refused(guard, "rules of another owner", 9, str(rules), "owner is 65534")
+    os.chown(rules, 0, -1)
+    (folder / "access/joe~").write_text("")
+    refused(guard, "an odd access file", 3, "%s/joe~" % (folder / "access"), "none of a user or a group")
+    (folder / "access/joe~").unlink()
+    (folder / "access/joe").write_text("Devices=list\nPolicy=frob\n")
+    refused(guard, "a bad access file", 3, "%s, line 2, column 8" % (folder / "access/joe"), "no such privilege", "Policy=frob")
+    (folder / "access/joe").write_text("Devices=list\n")
+    guard.start()
+    guard.await_line("end ")
+    other = socket.socket(socket.AF_UNIX)
+    guard.end()
+    shutil.rmtree(RUN)
+    RUN.mkdir()
+    (RUN / "joe.socket").write_text("")
+    guard.run = subprocess.Popen(guard.command, stdout=open(guard.journal, "wb"), stderr=open(guard.errors, "wb"))
+    check("a socket that can't be had: status 11", guard.run.wait() == 11)
+    check("a socket that can't be had: standard error says so", str(RUN / "joe.socket") in guard.told(), guard.told())
+    other.close()
+    (folder / "access/joe").unlink()
+
+
+def trial_rules_by_hand(o, machine, folder):
+    """The rule file is edited by hand while the daemon runs."""
+    rules = folder / "rules.conf"
+    guard = Guard(o, folder, rules="allow id 1050:0011\n")
+    guard.await_line("end ")
+    client = [o.program, "append-rule", "allow id 1111:0001"]
+    check("an order is saved", subprocess.run(client, capture_output=True).returncode == 0 and "1111:0001" in rules.read_text())
+    rules.write_text("block\n")
+    client[2] = "allow id 1111:0002"
+    done = subprocess.run(client, capture_output=True, text=True)
+    check("behind the edit an order is refused", done.returncode == 7 and "store-fault" in done.stdout, done.stdout.strip())
+    check("the edit stays", rules.read_text() == "block\n")
+    time.sleep(2.5)
+    check("a person is told once", guard.told().count("another hand") == 1, guard.told())
+    rules.rename(folder / "mine.conf")
+    time.sleep(2.5)
+    done = subprocess.run(client, capture_output=True, text=True)
+    check("once the file is moved away orders are saved", done.returncode == 0 and "1111:0001" in rules.read_text(), done.stdout)
+    judges(machine, "rules by hand")
+    guard.end()
+
+
+def trial_ready(o, machine, folder):
+    """The service manager is told once the first event has ended."""
+    manager = socket.socket(socket.AF_UNIX, socket.SOCK_DGRAM)
+    path = str(folder / "manager")
+    manager.bind(path)
+    manager.settimeout(5)
+    guard = Guard(o, folder, environment={"NOTIFY_SOCKET": path})
+    message = manager.recv(100)
+    check("the manager is told", message == b"READY=1\n", message)
+    check("the first event had ended", any(line.startswith("end 1") for line in guard.lines()))
+    manager.settimeout(2.5)
+    try:
+        check("it is told once", False, manager.recv(100))
+    except TimeoutError:
+        check("it is told once", True)
+    guard.end()
+    name = b"\0usbguard-check-%d" % os.getpid()
+    manager = socket.socket(socket.AF_UNIX, socket.SOCK_DGRAM)
+    manager.bind(name)
+    manager.settimeout(5)
+    guard = Guard(o, folder, environment={"NOTIFY_SOCKET": "@" + name[1:].decode()})
+    check("so is one in the abstract namespace", manager.recv(100) == b"READY=1\n")
+    guard.end()
+    full = socket.socket(socket.AF_UNIX, socket.SOCK_DGRAM)
+    full.connect(name)
+    full.setblocking(False)
+    try:
+        while True:
+            full.send(b"x")
+    except BlockingIOError:
+        pass
+    guard = Guard(o, folder, environment={"NOTIFY_SOCKET": "@" + name[1:].decode()})
+    guard.await_line("end ")
+    judges(machine, "a manager that takes no message")
+    guard.end()
+
+
+def main():
+    trials = {name[6:].replace("_", "-"): value for name, value in globals().items() if name.startswith("trial_")}
+    a = argparse.ArgumentParser(description=__doc__, formatter_class=argparse.RawDescriptionHelpFormatter)
+    a.add_argument("--program", default=str(HERE.parent / "crates/usbguard/out/usbguard"))
+    a.add_argument("trial", nargs="*", help=", ".join(trials))
+    o = a.parse_args()
+    if "USBGUARD_CHECK" not in os.environ:
+        os.environ["USBGUARD_CHECK"] = "1"
+        os.execvp("unshare", ["unshare", "-m", "--propagation", "private", sys.executable, *sys.argv])
+    o.program = str(Path(o.program).resolve())
+    os.umask(0o022)
+    resource.setrlimit(resource.RLIMIT_NOFILE, (8192, 8192))
+    folder = Path(tempfile.mkdtemp(prefix="usbguard-check-"))
+    try:
+        subprocess.run(["mount", "-t", "tmpfs", "run", "/run"], check=True)
+        machine = Machine(folder)
+        for name in o.trial or trials:
+            print("== %s: %s" % (name, trials[name].__doc__), flush=True)
+            place = folder / name
+            place.mkdir()
+            trials[name](o, machine, place)
+    finally:
+        shutil.rmtree(folder, ignore_errors=True)
+    print("%d failed" % len(failures))
+    return 1 if failures else 0
+
+
+if __name__ == "__main__":
+    sys.exit(main())

@@ -1,0 +1,43 @@
+// Writing that never waits.
+ghost use Rattle.std.specs.Prelude.{◌≤◌, length};
+
+use libc::net::{POLLOUT, poll};
+use libc::types::pollfd;
+
+/// Standard error.
+const STANDARD_ERROR: i32 = 2;
+
+/// The most bytes of one write. A pipe or a socket that has room at all takes so many without waiting: pipe(7), unix(7).
+const PIECE: usize = 4096;
+
+/// Whether a write of a piece wouldn't wait.
+fn has_room(output: i32) -> bool {
+    let mut asked = [pollfd {
+        fd: output,
+        events: POLLOUT,
+        revents: 0,
+    }];
+    poll(&mut asked, 0) > 0 && asked[0].revents & POLLOUT != 0
+}
+
+/// Writes a front of the bytes to an open descriptor, as much as it takes at once, and tells how much that was: nothing where it has no
+/// room, or the write fails.
+pub fn put_at_once(output: i32, bytes: &[u8]) -> usize
+    ensures { result ≤ length bytes.now }
+{
+    if bytes.is_empty() || !has_room(output) {
+        return 0;
+    }
+    let piece = &bytes[..bytes.len().min(PIECE)];
+    let written = os::write_no_sigpipe(output, piece);
+    if written < 0 {
+        0
+    } else {
+        (written as usize).min(bytes.len())
+    }
+}
+
+/// Tells a person a sentence on standard error. Where that takes nothing, the sentence is lost.
+pub fn tell(sentence: &str) {
+    let _told = put_at_once(STANDARD_ERROR, sentence.as_bytes());
+}

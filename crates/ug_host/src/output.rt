@@ -1,0 +1,167 @@
+// A journal's output, which never waits.
+use crate::at_once::{put_at_once, tell};
+use std::alloc::{AllocError, Global};
+use std::io::{self, Write};
+
+/// The most bytes that wait for the output.
+const MOST: usize = 262_144;
+
+/// The most pieces that are written of it at once.
+const PIECES: u32 = 256;
+
+/// How many lines are lost from one sentence to the next.
+const STEP: u64 = 1000;
+
+/// How an event's first line begins, and its last.
+const EVENT: &[u8] = b"event ";
+
+const END: &[u8] = b"end ";
+
+/// Lines that wait for an open descriptor.
+#[derive(Drop)]
+struct Waiting {
+    alloc: Global,
+    output: i32,
+    bytes: Vec<u8>,
+    lost: u64,
+}
+
+impl Waiting {
+    // Writes a front, and tells whether the output took any of it.
+    fn send_piece(&mut self) -> bool {
+        let count = put_at_once(self.output, self.bytes.as_slice());
+        if count == 0 {
+            return false;
+        }
+        let _written = self.bytes.drain(..count);
+        true
+    }
+
+    // Writes as much as the output takes.
+    fn send(&mut self) {
+        for _ in 0..PIECES {
+            if !self.send_piece() {
+                break;
+            }
+        }
+        if self.bytes.is_empty() && self.lost > 0 {
+            self.tell_lost(
+                "standard output takes lines again. Lines of the journal that were lost",
+            );
+            self.lost = 0;
+        }
+    }
+
+    fn add(&mut self, line: &[u8]) -> Result<(), AllocError> {
+        if line.len() > MOST.saturating_sub(self.bytes.len()) {
+            return Err(AllocError);
+        }
+        self.bytes.extend_from_slice(line)
+    }
+
+    // Puts a line behind the others. Where there is no room for it, it is lost.
+    fn pass(&mut self, line: &[u8]) {
+        if self.add(line).is_err() {
+            self.lose();
+        }
+    }
+
+    fn lose(&mut self) {
+        if self.lost % STEP == 0 {
+            self.tell_lost(
+                "standard output takes nothing. Lines of the journal that were lost before this one",
+            );
+        }
+        self.lost = self.lost.saturating_add(1);
+    }
+
+    fn tell_lost(&self, what: &str) {
+        let lost = self.lost;
+        if let Ok(sentence) = format!(in self.alloc; "usbguard: {what}: {lost}\n") {
+            tell(sentence.as_str());
+        }
+    }
+}
+
+/// Takes each line of a journal at once, and writes it to an open descriptor as soon as that takes it: what isn't taken waits, and goes
+/// out before later lines. A line for which there is no room is lost, and the next one is tried anew; how many were lost is told on
+/// standard error. So no write fails, and none waits.
+///
+/// Where idle events are omitted, the first line of a sweep's event goes out with the line behind it; where that is the event's last,
+/// neither does.
+#[derive(Drop)]
+pub struct JournalOutput {
+    omits_idle: bool,
+    /// A line that hasn't ended yet.
+    line: Vec<u8>,
+    /// Whether there was no memory for a part of it.
+    cut: bool,
+    /// An event's first line.
+    held: Vec<u8>,
+    waiting: Waiting,
+}
+
+fn is_sweep(line: &[u8]) -> bool {
+    line.starts_with(EVENT) && line.windows(7).any(|word| word == b" sweep ".as_slice())
+}
+
+impl JournalOutput {
+    /// An output over that descriptor, which stays open. It takes no memory.
+    pub fn new(alloc: Global, output: i32, omits_idle: bool) -> JournalOutput {
+        JournalOutput {
+            omits_idle,
+            line: Vec::new(alloc),
+            cut: false,
+            held: Vec::new(alloc),
+            waiting: Waiting {
+                alloc,
+                output,
+                bytes: Vec::new(alloc),
+                lost: 0,
+            },
+        }
+    }
+
+    // Whether the line is kept back until the next one comes.
+    fn holds_back(&mut self) -> bool {
+        self.omits_idle
+            && is_sweep(self.line.as_slice())
+            && self.held.extend_from_slice(self.line.as_slice()).is_ok()
+    }
+
+    // A line has ended.
+    fn end_line(&mut self) {
+        if self.cut {
+            self.waiting.lose();
+        } else if !self.held.is_empty() && self.line.starts_with(END) {
+            self.held.clear();
+        } else {
+            if !self.held.is_empty() {
+                self.waiting.pass(self.held.as_slice());
+                self.held.clear();
+            }
+            if !self.holds_back() {
+                self.waiting.pass(self.line.as_slice());
+            }
+        }
+        self.line.clear();
+        self.cut = false;
+    }
+}
+
+impl Write for JournalOutput {
+    fn write(&mut self, bytes: &[u8]) -> io::Result<usize> {
+        if self.line.extend_from_slice(bytes).is_err() {
+            self.cut = true;
+        }
+        if bytes.ends_with(b"\n") {
+            self.end_line();
+        }
+        Ok(bytes.len())
+    }
+
+    fn flush(&mut self) -> io::Result<()> {
+        self.waiting.send();
+        Ok(())
+    }
+}

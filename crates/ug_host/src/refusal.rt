@@ -1,0 +1,91 @@
+// The line of a journal that says why a daemon doesn't start.
+ghost use Rattle.std.specs.Prelude.{◌≡◌, None};
+ghost use Rattle.std.specs.Option.{option_copied};
+ghost use Rattle.ug_types.specs.Ends.{IsCounted, Rose};
+ghost use Rattle.ug_audit.specs.Auditors.{TakesLine};
+
+use std::cell::Cell;
+use std::rc::Rc;
+use std::str;
+use ug_audit::{Auditor, Noted};
+
+/// A part of a configuration.
+#[derive(Clone, Copy, Debug, PartialEq, Eq, Drop)]
+pub enum RefusedPart {
+    Settings,
+    Access,
+    Rules,
+}
+
+/// The part that isn't taken, and the line, the kind and the place of its fault.
+#[derive(Clone, Copy, Debug, PartialEq, Eq, Drop)]
+pub struct StartRefusal {
+    pub part: RefusedPart,
+    pub line: u64,
+    pub kind: u64,
+    pub place: u64,
+}
+
+fn part_of(word: &str) -> Option<RefusedPart> {
+    match word {
+        "settings" => Some(RefusedPart::Settings),
+        "access" => Some(RefusedPart::Access),
+        "rules" => Some(RefusedPart::Rules),
+        _ => None,
+    }
+}
+
+fn number_of(word: Option<&str>) -> Option<u64> {
+    word?.parse::<u64>().ok()
+}
+
+fn refusal_of(line: &[u8]) -> Option<StartRefusal> {
+    let text = str::from_utf8(line).ok()?;
+    let mut words = text.strip_prefix("start-refused ")?.split(' ');
+    let part = part_of(words.next()?)?;
+    let line = number_of(words.next())?;
+    let kind = number_of(words.next())?;
+    let place = number_of(words.next())?;
+    Some(StartRefusal {
+        part,
+        line,
+        kind,
+        place,
+    })
+}
+
+/// Reads along in a journal, and keeps the last refusal of a start for whoever has a handle on it.
+#[derive(Drop)]
+pub struct RefusalReader {
+    refusal: Rc<Cell<Option<StartRefusal>>>,
+}
+
+impl RefusalReader {
+    /// A reader that leaves what it finds there.
+    pub fn new(refusal: Rc<Cell<Option<StartRefusal>>>) -> RefusalReader {
+        RefusalReader { refusal }
+    }
+}
+
+impl Auditor for RefusalReader {
+    ghost text = { λ a. None };
+
+    ghost faults = { λ a. 0 };
+
+    fn note(&mut self, line: &[u8]) -> Noted {
+        if let Some(refusal) = refusal_of(line) {
+            self.refusal.set(Some(refusal));
+        }
+        Noted::Done
+    }
+
+    fn taken(&self) -> Option<&[u8]>
+        ensures { option_copied result ≡ None }
+    {
+        None
+    }
+
+    fn faults(&self) -> u64 {
+        0
+    }
+}

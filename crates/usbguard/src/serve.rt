@@ -1,0 +1,154 @@
+// The daemon over this machine.
+use crate::told::{LastPaths, tell_end};
+use std::alloc::AllocError;
+use std::cell::Cell;
+use std::rc::Rc;
+use std::{env, io, mem};
+use ug_audit::{Auditor, Panel};
+use ug_host::{
+    ConfFolder, JournalOutput, LocalZone, RefusalReader, RuleFile, SocketFolder, SocketWaiter,
+    StartRefusal, SysfsFolder, SystemClock, WriterAuditor, read_seed,
+};
+use ug_serve::run_daemon;
+
+/// Where the devices are, what counts the kernel's announcements, and where the sockets come.
+const DEVICES: &str = "/sys/bus/usb/devices";
+
+const ANNOUNCED: &str = "/sys/kernel/uevent_seqnum";
+
+const SOCKETS: &str = "/run/usbguard";
+
+/// Standard output's number.
+const OUTPUT: i32 = 1;
+
+type Found = Rc<Cell<Option<StartRefusal>>>;
+
+// Whether the environment asks that an event in which nothing happened leaves nothing in the journal.
+fn omits_idle(rt: &HostRuntime) -> bool {
+    match env::var(rt, "USBGUARD_IDLE_EVENTS") {
+        Ok(value) => value.as_str() == "omit",
+        Err(_) => false,
+    }
+}
+
+// A waiter that tells the service manager which the environment names.
+fn make_waiter(rt: HostRuntime) -> io::Result<SocketWaiter<HostRuntime>> {
+    let alloc = rt.alloc();
+    let announced = String::from_str(alloc, ANNOUNCED)?;
+    let mut waiter = SocketWaiter::new(rt, alloc, announced)?;
+    if let Ok(manager) = env::var(&rt, "NOTIFY_SOCKET") {
+        waiter.set_manager(manager.as_str());
+    }
+    Ok(waiter)
+}
+
+fn make_links(
+    rt: HostRuntime,
+    waiter: &SocketWaiter<HostRuntime>,
+) -> io::Result<SocketFolder<HostRuntime>> {
+    let folder = String::from_str(rt.alloc(), SOCKETS)?;
+    SocketFolder::new(rt, rt.alloc(), folder, waiter)
+}
+
+// The journal goes to standard output, and is read along for a refusal.
+fn make_panel(rt: &HostRuntime, refusal: Found) -> Result<Panel, AllocError> {
+    let alloc = rt.alloc();
+    let output = JournalOutput::new(alloc, OUTPUT, omits_idle(rt));
+    let mut members: Vec<Box<dyn Auditor>> = Vec::new(alloc);
+    members.push(Box::new(alloc, WriterAuditor::new(output))?)?;
+    members.push(Box::new(alloc, RefusalReader::new(refusal))?)?;
+    Ok(Panel::new(members))
+}
+
+fn make_found(rt: &HostRuntime) -> Result<Found, AllocError> {
+    Ok(Rc::new(rt.alloc(), Cell::new(None))?)
+}
+
+// The status of a daemon that lacks something before its start.
+fn status_without(error: &io::Error) -> u8 {
+    if error.kind() == io::ErrorKind::OutOfMemory {
+        6
+    } else {
+        11
+    }
+}
+
+// The daemon with what waits and listens for it.
+fn serve_with(
+    rt: HostRuntime,
+    words: &[&str],
+    seed: [u8; 32],
+    devices: String,
+    waiter: &mut SocketWaiter<HostRuntime>,
+    links: &mut SocketFolder<HostRuntime>,
+    found: Found,
+    panel: &mut Panel,
+) -> u8 {
+    let alloc = rt.alloc();
+    let zone = LocalZone::read(&rt, alloc, "/etc/localtime");
+    let mut files = ConfFolder::new(rt);
+    let mut disk = RuleFile::new(rt, alloc);
+    let status = run_daemon(
+        alloc,
+        words,
+        seed,
+        zone.time_zone(),
+        &mut SysfsFolder::new(rt, alloc, devices),
+        &mut disk,
+        &mut files,
+        links,
+        waiter,
+        &mut SystemClock::new(rt),
+        panel,
+        u64::MAX,
+    );
+    let paths = LastPaths {
+        files: files.last_path(),
+        rules: disk.path(),
+        socket: links.last_path(),
+    };
+    tell_end(&rt, status, found.get(), &paths);
+    status
+}
+
+/// The daemon over this machine's own devices, files, clock and zone, with its journal on standard output, and its status. The words
+/// are those behind `daemon`. Where the system has no random bytes, the status is 4, and 11 where it has nothing to wait with.
+///
+/// Sessions are left to the end of the process, which waits for no peer.
+pub fn serve(rt: HostRuntime, words: &[&str]) -> u8 {
+    let Ok(devices) = String::from_str(rt.alloc(), DEVICES) else {
+        return 6;
+    };
+    let Ok(found) = make_found(&rt) else {
+        return 6;
+    };
+    let Ok(reader) = found.clone() else {
+        return 6;
+    };
+    let Ok(mut panel) = make_panel(&rt, reader) else {
+        return 6;
+    };
+    let Ok(seed) = read_seed(&rt) else {
+        return 4;
+    };
+    let mut waiter = match make_waiter(rt) {
+        Ok(waiter) => waiter,
+        Err(e) => return status_without(&e),
+    };
+    let mut links = match make_links(rt, &waiter) {
+        Ok(links) => links,
+        Err(e) => return status_without(&e),
+    };
+    let status = serve_with(
+        rt,
+        words,
+        seed,
+        devices,
+        &mut waiter,
+        &mut links,
+        found,
+        &mut panel,
+    );
+    mem::forget(links);
+    status
+}

@@ -1,0 +1,66 @@
+// A line of a file, with a mark below the place of its fault.
+use std::io::Read;
+use std::rt::Files;
+use std::{fs, str};
+
+/// The most bytes that are looked at for a line.
+const MOST: u64 = 67_108_864;
+
+/// How much of a line is shown before the fault and behind it.
+const BEFORE: usize = 60;
+
+const BEHIND: usize = 40;
+
+/// The bytes of a line of a text, which is counted from 1, without the blanks that begin it.
+fn line_of(text: &[u8], line: u64) -> Option<&[u8]> {
+    let before = usize::try_from(line.checked_sub(1)?).ok()?;
+    let bytes = text.split(|byte| *byte == b'\n').nth(before)?;
+    Some(bytes.trim_ascii_start())
+}
+
+/// A text with a mark for each character that a terminal wouldn't show.
+fn put_plain(shown: &mut String, text: &str) -> Option<()> {
+    for letter in text.chars() {
+        let plain = if letter.is_control() { '?' } else { letter };
+        shown.push(plain).ok()?;
+    }
+    Some(())
+}
+
+/// The characters about a place, and how many of them stand before it.
+fn around(text: &str, place: usize) -> Option<(&str, usize)> {
+    let before = text.get(..place)?;
+    let from = match before.char_indices().rev().nth(BEFORE) {
+        Some((at, _)) => at,
+        None => 0,
+    };
+    let behind = text.get(place..)?;
+    let to = match behind.char_indices().nth(BEHIND) {
+        Some((at, _)) => at.checked_add(place)?,
+        None => text.len(),
+    };
+    let count = text.get(from..place)?.chars().count();
+    Some((text.get(from..to)?, count))
+}
+
+fn read_text(rt: &HostRuntime, path: &str) -> Option<Vec<u8>> {
+    let mut text = Vec::new(rt.alloc());
+    let file = fs::open(rt, path).ok()?;
+    file.take(MOST).read_to_end(&mut text).ok()?;
+    Some(text)
+}
+
+/// The line of a file in which a fault stands, and a caret below its place: two lines, each with its end. None where they can't be had.
+pub fn show_line(rt: &HostRuntime, path: &str, line: u64, place: u64) -> Option<String> {
+    let text = read_text(rt, path)?;
+    let line = str::from_utf8(line_of(text.as_slice(), line)?).ok()?;
+    let (part, count) = around(line, usize::try_from(place).ok()?)?;
+    let mut shown = String::from_str(rt.alloc(), "    ").ok()?;
+    put_plain(&mut shown, part)?;
+    shown.push_str("\n    ").ok()?;
+    for _ in 0..count {
+        shown.push(' ').ok()?;
+    }
+    shown.push_str("^\n").ok()?;
+    Some(shown)
+}

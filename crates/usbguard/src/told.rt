@@ -1,0 +1,110 @@
+// What a daemon that has ended tells a person.
+use crate::shown::show_line;
+use crate::words::{access_fault, rule_fault, settings_fault};
+use std::{fs, str};
+use ug_host::{RefusedPart, StartRefusal};
+use ug_types::Principal;
+
+/// The paths of the files and sockets that were used last.
+#[derive(Drop)]
+pub struct LastPaths<'a> {
+    pub files: &'a [u8],
+    pub rules: &'a [u8],
+    pub socket: &'a str,
+}
+
+fn text_of(path: &[u8]) -> &str {
+    str::from_utf8(path).unwrap_or("a path that isn't UTF-8")
+}
+
+fn fault_of(refusal: StartRefusal) -> &'static str {
+    match refusal.part {
+        RefusedPart::Settings => settings_fault(refusal.kind),
+        RefusedPart::Access => access_fault(refusal.kind),
+        RefusedPart::Rules => rule_fault(refusal.kind),
+    }
+}
+
+// The first name in a folder, in byte order, that is none of a user or a group.
+fn odd_name(rt: &HostRuntime, folder: &str) -> Option<String> {
+    let mut odd: Option<String> = None;
+    for entry in fs::read_dir(rt, folder).ok()? {
+        let entry = entry.ok()?;
+        let name = entry.file_name();
+        if Principal::parse(name.as_bytes()).is_none() {
+            let first = match &odd {
+                Some(other) => name.as_bytes() < other.as_bytes(),
+                None => true,
+            };
+            if first {
+                odd = Some(String::from_str(rt.alloc(), name).ok()?);
+            }
+        }
+    }
+    odd
+}
+
+// A name in the folder of access files that can't be taken.
+fn tell_name(rt: &HostRuntime, folder: &str, fault: &str) -> std::io::Result<()> {
+    match odd_name(rt, folder) {
+        Some(name) => {
+            let name = name.as_str();
+            eprintln!(rt;
+                "usbguard: {folder}/{name} isn't taken: {fault}. Remove it, or name it after a user, or after a group behind a colon."
+            )
+        }
+        None => eprintln!(rt; "usbguard: a file in {folder} isn't taken: {fault}."),
+    }
+}
+
+// A part that isn't taken.
+fn tell_refusal(rt: &HostRuntime, refusal: StartRefusal, path: &str) -> std::io::Result<()> {
+    let fault = fault_of(refusal);
+    let (line, column) = (refusal.line, refusal.place.saturating_add(1));
+    if line > 0 {
+        eprintln!(rt; "usbguard: {path}, line {line}, column {column}: {fault}.")?;
+        if let Some(shown) = show_line(rt, path, line, refusal.place) {
+            let shown = shown.as_str();
+            eprint!(rt; "{shown}")?;
+        }
+        return Ok(());
+    }
+    if refusal.part == RefusedPart::Access && refusal.kind > 0 {
+        return tell_name(rt, path, fault);
+    }
+    eprintln!(rt; "usbguard: {path} isn't taken: {fault}.")
+}
+
+fn tell_status(rt: &HostRuntime, status: u8, paths: &LastPaths<'_>) -> std::io::Result<()> {
+    let files = text_of(paths.files);
+    let rules = text_of(paths.rules);
+    let socket = paths.socket;
+    match status {
+        4 => eprintln!(rt; "usbguard: not started: {files} can't be read."),
+        6 => eprintln!(rt; "usbguard: not started: memory is short."),
+        9 => eprintln!(rt; "usbguard: not started: the rule file {rules} can't be read."),
+        10 => eprintln!(rt; "usbguard: ended: its numbers have run out."),
+        11 => eprintln!(rt; "usbguard: ended: it can't listen at {socket}, or a wait failed."),
+        _ => Ok(()),
+    }
+}
+
+/// Tells on standard error why a daemon has ended with that status: the file or the socket, and of a refusal the line and the place too.
+/// A failed write there changes nothing.
+pub fn tell_end(
+    rt: &HostRuntime,
+    status: u8,
+    refusal: Option<StartRefusal>,
+    paths: &LastPaths<'_>,
+) {
+    let _told = match refusal {
+        Some(refusal) if status == 3 => {
+            let path = match refusal.part {
+                RefusedPart::Rules => paths.rules,
+                RefusedPart::Settings | RefusedPart::Access => paths.files,
+            };
+            tell_refusal(rt, refusal, text_of(path))
+        }
+        _ => tell_status(rt, status, paths),
+    };
+}
