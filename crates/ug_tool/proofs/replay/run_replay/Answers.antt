@@ -1,10 +1,11 @@
-use Rattle.std.proofs.Common.{None, refl}
+use Rattle.std.proofs.Common.{None, true, false, refl}
 use Rattle.ug_console.specs.Fold.{of_first}
 use Rattle.ug_script.specs.Replay.{script_step, script_end}
+use Rattle.ug_script.specs.Summing.{no_totals, summary_end, summary_step}
 use Rattle.ug_sysfs.specs.Sound.{new_sound}
 use Rattle.ug_script.proofs.Journals.{stays_lawful, stays_recorded}
 use Rattle.ug_tool.specs.Replay.{new_world}
-use Rattle.ug_tool.proofs.Memory.{lines_unread, only_memory}
+use Rattle.ug_tool.proofs.Memory.{lines_unread, memory_summary, only_memory}
 use Rattle.ug_tool.proofs.replay.run_replay.Goals as goal
 
 pub returns-in-Ok-clause-laws : goal.returns-in-Ok-clause-laws
@@ -21,5 +22,15 @@ returns-in-Err-clause-recorded g c = stays_recorded new_world refl new_sound
 
 pub returns-in-Err-clause-replayed : goal.returns-in-Err-clause-replayed
 returns-in-Err-clause-replayed g c = λ e all base a b.
-    let short = c.refuse.ensures.memory (only_memory c.in-Err.fault c.in-Err.ensures.bad e) in
+    let short = c.refuse.ensures.memory (only_memory c.in-Err.fault (λ is. c.in-Err.ensures.bad is false) e) in
     (None, rw (a, c.requires) (lines_unread script_step (of_first script_end) (None, new_world) all base (g.K.Sink.held c.refuse.new.out) c.refuse.result (rw b at short)))
+
+pub returns-in-Err-clause-summarized : goal.returns-in-Err-clause-summarized
+returns-in-Err-clause-summarized g c = λ e all base a b.
+    let short = c.refuse.ensures.memory (only_memory c.in-Err.fault (λ is. c.in-Err.ensures.bad is true) e) in
+    ((None, no_totals), rw (a, c.requires) (lines_unread summary_step summary_end ((None, no_totals), new_world) all base (g.K.Sink.held c.refuse.new.out) c.refuse.result (rw b at short)))
+
+pub returns-in-Err-clause-summary : goal.returns-in-Err-clause-summary
+returns-in-Err-clause-summary g c = λ e all base a b.
+    let short = c.refuse.ensures.memory (only_memory c.in-Err.fault (λ is. c.in-Err.ensures.bad is true) e) in
+    memory_summary new_world all base (g.K.Sink.held c.refuse.new.out) c.refuse.result (rw b at short)
