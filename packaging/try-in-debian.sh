@@ -14,7 +14,7 @@ suite=${SUITE:-bookworm}
 mirror=${MIRROR:-}
 [ ! -e "$root" ] || { echo "try-in-debian: $root is there already" >&2; exit 1; }
 daemon=
-trap 'stop; umount "$root/dev/pts" 2>/dev/null || :; rm -rf --one-file-system "$root"; rmdir "${root%/root}" 2>/dev/null || :' EXIT
+trap 'stop; umount "$root/dev/pts" "$root/proc" 2>/dev/null || :; rm -rf --one-file-system "$root"; rmdir "${root%/root}" 2>/dev/null || :' EXIT
 
 failures=0
 
@@ -66,9 +66,10 @@ else
 fi
 chroot "$root" sh -c '. /etc/os-release; echo "$PRETTY_NAME"'
 
-# terminals
+# terminals, and the processes, of which the daemon reads its own open files
 mkdir -p "$root/dev/pts"
 mount -t devpts -o ptmxmode=666 devpts "$root/dev/pts"
+mount -t proc proc "$root/proc"
 
 echo "== The package"
 cp "$package" "$root/tmp/package.deb"

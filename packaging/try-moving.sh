@@ -62,9 +62,8 @@ boot() {
 
 halt() {
     [ -n "$machine" ] || return 0
-    kill -s RTMIN+4 "$machine" 2>/dev/null || :
-    run 'systemctl poweroff' >/dev/null 2>&1 || :
-    wait "$machine" || :
+    run 'systemctl poweroff' || kill "$machine" 2>/dev/null || :
+    wait "$machine" 2>/dev/null || :
     machine=
 }
 
