@@ -368,13 +368,54 @@ def trial_refusals(o, machine, folder):
     (folder / "access/joe").unlink()
 
 
+def at_terminal(words, given=b"", of=None):
+    """What a command tells where standard error is a terminal."""
+    import pty
+    master, slave = pty.openpty()
+    with tempfile.TemporaryFile() as text:
+        text.write(given)
+        text.seek(0)
+        subprocess.run(words, stdin=text, stdout=subprocess.DEVNULL, stderr=slave)
+    os.close(slave)
+    told = b""
+    while True:
+        try:
+            piece = os.read(master, 4096)
+        except OSError:
+            break
+        told += piece
+    os.close(master)
+    return told.decode().replace("\r\n", "\n")
+
+
+def trial_terminal(o, machine, folder):
+    """At a terminal commands say in words what their output says in numbers."""
+    guard = Guard(o, folder)
+    guard.await_line("end ")
+    told = at_terminal([o.program, "check-rules"], b"allow\n  allow name \"a\n")
+    check("check-rules", all(x in told for x in ("line 2, column 14", "a string has no end", "    allow name \"a\n               ^")), told)
+    told = at_terminal([o.program, "add-user", "joe", "--devices", "list"], b"Frob=list\n")
+    check("add-user", all(x in told for x in ("line 1, column 1", "no such section", "    Frob=list\n    ^")), told)
+    told = at_terminal([o.program, "allow-device", "999"])
+    check("a refused order", "no device has that number" in told, told)
+    told = at_terminal([o.program, "append-rule", "allow frob"])
+    check("a refused rule", "the rule is bad" in told and "no attribute" in told, told)
+    told = subprocess.run([o.program, "allow-device", "999"], capture_output=True, text=True).stderr
+    check("elsewhere they don't", "no device has that number" not in told, told)
+    guard.end()
+
+
 def trial_rules_by_hand(o, machine, folder):
     """The rule file is edited by hand while the daemon runs."""
     rules = folder / "rules.conf"
     guard = Guard(o, folder, rules="allow id 1050:0011\n")
     guard.await_line("end ")
     client = [o.program, "append-rule", "allow id 1111:0001"]
+    os.chown(rules, 0, 65534)
+    rules.chmod(0o640)
     check("an order is saved", subprocess.run(client, capture_output=True).returncode == 0 and "1111:0001" in rules.read_text())
+    seen = rules.stat()
+    check("the file keeps its group and mode", (seen.st_uid, seen.st_gid, seen.st_mode & 0o7777) == (0, 65534, 0o640))
     rules.write_text("block\n")
     client[2] = "allow id 1111:0002"
     done = subprocess.run(client, capture_output=True, text=True)

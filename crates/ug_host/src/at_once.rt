@@ -10,14 +10,14 @@ const STANDARD_ERROR: i32 = 2;
 /// The most bytes of one write. A pipe or a socket that has room at all takes so many without waiting: pipe(7), unix(7).
 const PIECE: usize = 4096;
 
-/// Whether a write of a piece wouldn't wait.
+/// Whether a write of a piece would neither wait nor find that nobody reads any more, which can end the process: signal(7), SIGPIPE.
 fn has_room(output: i32) -> bool {
     let mut asked = [pollfd {
         fd: output,
         events: POLLOUT,
         revents: 0,
     }];
-    poll(&mut asked, 0) > 0 && asked[0].revents & POLLOUT != 0
+    poll(&mut asked, 0) > 0 && asked[0].revents == POLLOUT
 }
 
 /// Writes a front of the bytes to an open descriptor, as much as it takes at once, and tells how much that was: nothing where it has no
@@ -29,7 +29,7 @@ pub fn put_at_once(output: i32, bytes: &[u8]) -> usize
         return 0;
     }
     let piece = &bytes[..bytes.len().min(PIECE)];
-    let written = os::write_no_sigpipe(output, piece);
+    let written = libc::write(output, piece);
     if written < 0 {
         0
     } else {

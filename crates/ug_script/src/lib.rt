@@ -33,3 +33,4 @@ pub use parse::parse_line;
 pub use runner::Runner;
 pub use step::{AccessLine, Plan, SetupLine, Step, StepFault};
 pub use summarizer::summarize;
+pub use totals::Totals;

@@ -5,7 +5,7 @@ use Rattle.ug_node.proofs.BindShapes.{way_binds, Holds_by, way_holds}
 use Rattle.ug_table.specs.Bring.{NeedsMemory}
 use Rattle.ug_table.proofs.Shapes.{Written, Done, Went, Valued, Same, Set, Unheld, Gone_by, Short_by, OnceMade, Not_held, Put_on, Carried, By_value, And_removal, Brought, Left_open, Let_go, Treated, No_default, And_default, Cut_default, Gone_default, due_is, due_once, Opening, Fresh, Lost, Unbound_end, Absent_so, Vanished_so, Flat, Unprobed, Tried, Stopped, Unbound, No_place, Judged_so, told_at, opening_none, flat_rest, new_known}
 use Rattle.ug_table.proofs.Standings.{known_as, did_stands, others_stand, stands_file, stands_number, without_own, tried_own}
-use Rattle.ug_table.proofs.PartCalls.{has_want, failed_by, are_short, behind_after, CallsOf, calls_are, calls_more, calls_as, closed_first, binding_faults, binding_files, binds_calls, IsFound, bound_found, hold_faults, hold_files, holds_calls, ready_due, default_found, IsShort, hold_short}
+use Rattle.ug_table.proofs.PartCalls.{has_want, failed_by, are_short, behind_after, CallsOf, calls_are, calls_more, calls_within, calls_as, closed_first, binding_faults, binding_files, binds_calls, bound_few, treating_most, both_most, treating_least, root_most, IsFound, bound_found, hold_faults, hold_files, holds_calls, ready_due, default_found, IsShort, hold_short}
 
 -- entries
 
@@ -355,20 +355,22 @@ once_found : {what : Write} {name : List ℕ} {known : Known} {ds : List Made} {
 once_found b file (Not_held ms r es how way u) e f = absurd (unheld_stops u e)
 once_found {what} {name} {known} b file (Put_on ms held t shut es how way w) e f = default_found what t shut b file (way_holds (control_of what) name known.held.0 ms (RemoveHold.Ready held) way) f
 
-pub treated_goes : {hub : Option Write} {name : List ℕ} {known : Known} {on d : Bool} {ms : List Made} {es : List Entry} {how : Settled} (b : Behind) → IsFound b known.held.0 on → Treated hub name known on d ms es how → let own = open_file known.held.0 Authorized ∷ [] in Goes AtMostOneEach (Lacks hub name known ms) name known own b ms es how (ended_files how known.held.0) 7
-treated_goes b f (No_default ms es how e x) =
+pub treated_goes : {hub : Option Write} {name : List ℕ} {known : Known} {on d : Bool} {ms : List Made} {es : List Entry} {how : Settled} (b : Behind) → IsFound b known.held.0 on → Treated hub name known on d ms es how → let own = open_file known.held.0 Authorized ∷ [] in Goes AtMostOneEach (Lacks hub name known ms) name known own b ms es how (ended_files how known.held.0) (treating_most name)
+treated_goes {name = name} b f (No_default ms es how e x) =
     let h = brought_goes b f x in
-    goes_are (calls_as refl (omega arith) h.calls) h.entries h.single.0 (λ m. let y = h.short m in (inl y.0, (Remove, y.1)))
+    goes_are (calls_as refl (treating_least name) h.calls) h.entries h.single.0 (λ m. let y = h.short m in (inl y.0, (Remove, y.1)))
 treated_goes {hub} {name} {known} b f (And_default what ds ms fs es how e w x) =
     let due = due_is hub name known what e in
     let k = once_goes b (due_once due) w in
     let h = brought_goes (behind_after b ds) (once_found b due.file w refl f) x in
-    goes_are (calls_more k.calls h.calls) (entries_more k.entries h.entries) (single_default what k.ps h.ps due.file k.single h.single)
+    let most = root_most name due.root in
+    goes_are (calls_as refl (omega (arith, most)) (calls_more k.calls h.calls)) (entries_more k.entries h.entries) (single_default what k.ps h.ps due.file k.single h.single)
     (λ m. let y = h.short m in (inl y.0, (Remove, (y.1.0, y.1.1, has_right ds ms (answered (Open y.1.0 Remove) y.1.1) y.1.2, y.1.3))))
 treated_goes {hub} {name} {known} b f (Cut_default what ds fs how e w cut) =
     let due = due_is hub name known what e in
     let k = once_goes b (due_once due) w in
-    goes_are (calls_as (still_open how known.held.0 cut.1) (omega arith) k.calls) k.entries (single_once what k.ps k.single)
+    let most = root_most name due.root in
+    goes_are (calls_as (still_open how known.held.0 cut.1) (omega (arith, most)) k.calls) k.entries (single_once what k.ps k.single)
     (λ m. (inr (what, e), (control_of what, k.short m)))
 treated_goes {hub} {name} {known} b f (Gone_default what ds fs shut e w) =
     let due = due_is hub name known what e in
@@ -379,8 +381,10 @@ treated_goes {hub} {name} {known} b f (Gone_default what ds fs shut e w) =
     calls_are ((Authorized, inl refl), tt) (inl refl, tt) (tt, tt)
     (closed_first known.held.0 Authorized [])
     refl refl refl (omega arith) in
-    let all = calls_more k.calls end in
-    goes_are (subst (λ v. CallsOf name own b (ds ++ last) [] [] v 7) (append-nil k.ps) (calls_as refl (omega arith) all))
+    let most = root_most name due.root in
+    let all : CallsOf name own b (ds ++ last) [] [] (k.ps ++ []) (treating_most name) =
+    calls_as refl (omega (arith, most)) (calls_more k.calls end) in
+    goes_are (subst (λ v. CallsOf name own b (ds ++ last) [] [] v (treating_most name)) (append-nil k.ps) all)
     k.entries (single_once what k.ps k.single) (λ m. let none : ⊥ = cc in absurd none)
 
 -- the name is told behind them where it ended unsettled
@@ -480,7 +484,7 @@ record FlatGoes (hub : Option Write) (binds : Bool) (name : List ℕ) (o p : Opt
   faults : List Fault
   ps : List PutMade
   ns : List ℕ
-  calls : CallsOf name (known_files o) start ms (known_files p) faults ps 17
+  calls : CallsOf name (known_files o) start ms (known_files p) faults ps 14
   entries : EntriesOf name (number_of o) es (number_of p) (why_of how) ps ns
   single : AtMostOneEach ps
   failed : failed_by faults ≡ failed_by (why_of how)
@@ -490,7 +494,7 @@ record FlatGoes (hub : Option Write) (binds : Bool) (name : List ℕ) (o p : Opt
 
 flat_are : {hub : Option Write} {binds : Bool} {name : List ℕ} {o p : Option Known} {ok : Bool} {ms : List Made}
     {es : List Entry} {how : Settled} {given : ℕ} {faults : List Fault} {ps : List PutMade}
-    {ns : List ℕ} → CallsOf name (known_files o) start ms (known_files p) faults ps 17
+    {ns : List ℕ} → CallsOf name (known_files o) start ms (known_files p) faults ps 14
     → EntriesOf name (number_of o) es (number_of p) (why_of how) ps ns → AtMostOneEach ps
     → failed_by faults ≡ failed_by (why_of how)
     → (not ok || are_short faults) ≡ are_short (why_of how)
@@ -519,7 +523,7 @@ flat_goes {hub} {binds} {name = name} {ss = ss} {how = how} {rs = rs} (Unprobed 
     let own : List OpenFile = open_file known.held.0 Authorized ∷ [] in
     let e : Entry = Entry.Unsettled name (Fault.Call failed) in
     let so = tried_so name ss how known at in
-    let one : CallsOf name own start (m ∷ []) own (Fault.Call failed ∷ []) [] 17 =
+    let one : CallsOf name own start (m ∷ []) own (Fault.Call failed ∷ []) [] 14 =
     calls_are (inl refl, tt) (inl refl, tt) (tt, tt) refl refl refl refl (omega arith) in
     subst (λ o. FlatGoes hub binds name o (standing_of name rs) true (m ∷ []) (e ∷ []) how 0) (sym at)
     (flat_are (calls_as so.0 (omega arith) one)
@@ -531,11 +535,12 @@ flat_goes {hub} {binds} {name = name} {ss = ss} {rs = rs} (Tried known on failed
     let own : List OpenFile = open_file known.held.0 Authorized ∷ [] in
     let so = tried_so name (did_default name d ss) how (known_as d known) (did_stands name d ss known at) in
     let h = treated_goes (behind_more start m) (t, refl, refl) brought in
+    let most = both_most name in
     let one : CallsOf name own start (m ∷ []) own [] [] 1 =
     calls_are (inl refl, tt) (inl refl, tt) (tt, tt) refl refl refl refl (omega arith) in
     let all = es ++ unsettled_by name how in
     subst (λ o. FlatGoes hub binds name o (standing_of name rs) true (m ∷ ms) all how 0) (sym at)
-    (flat_are (calls_as (known_file d known how ∙ so.0) (omega arith) (calls_more one h.calls))
+    (flat_are (calls_as (known_file d known how ∙ so.0) (omega (arith, most)) (calls_more one h.calls))
     (entries_to (known_number d known how ∙ so.1) (told_entries known.number how h.entries))
     h.single refl refl
     (λ e. let x = h.short e in inr ((known, refl, x.0), (x.1.0, x.1.1.0, x.1.1.1, inr x.1.1.2, x.1.1.3))) refl)
@@ -578,8 +583,9 @@ flat_goes {name = name} (Judged_so ms ns os es fs rs v x d how t opening way giv
     let e : List Entry = Entry.Judged x.number name x.held x.verdict x.cause ∷ [] in
     let given : EntriesOf name None e (Some x.number) [] [] (x.number ∷ []) =
     entries_are (refl, refl) refl refl (tt, tt) (refl, tt) refl in
-    let bound = calls_as {m = 9} held (omega arith) (binds_calls [] c by) in
-    flat_are (calls_as (known_file d (known_of x) how ∙ so.0) (omega arith) (calls_more h.calls (calls_more bound k.calls)))
+    let bound = calls_within held (bound_few by) (binds_calls [] c by) in
+    let most = both_most name in
+    flat_are (calls_as (known_file d (known_of x) how ∙ so.0) (omega (arith, most)) (calls_more h.calls (calls_more bound k.calls)))
     (entries_to (known_number d (known_of x) how ∙ so.1)
     (entries_more h.entries (entries_more given (told_entries x.number how k.entries))))
     k.single refl refl (λ e. inl (t, h.anew (ns ++ os))) refl
@@ -636,7 +642,7 @@ module _ {hub : Option Write} {binds : Bool} {given : List Standing → Bound �
   pub flat_short : (not ok || has_want ms) ≡ are_short (why_of how)
   flat_short = let h = flat_goes f in ap (λ (v : Bool). not ok || v) h.calls.short ∙ h.short
 
-  pub flat_few : count_calls ms ≤ 17
+  pub flat_few : count_calls ms ≤ 14
   flat_few = (flat_goes f).calls.few
 
   -- a number is given out where a device is judged

@@ -1,13 +1,14 @@
 -- The calls of one name's part of a sweep, and those of a binding and of the opening of a second file.
-use Rattle.std.proofs.Common.{◌≡◌, ℕ, ◌+◌, ◌≤◌, Bool, true, false, cond, ◌||◌, List, [], ◌∷◌, ◌++◌, Some, inl, inr, refl, sym, ◌∙◌, ap, subst, append_assoc, append-nil, arith}
+use Rattle.std.proofs.Common.{◌≡◌, ℕ, ◌+◌, ◌≤◌, Bool, true, false, cond, ◌||◌, is_none, List, [], ◌∷◌, ◌++◌, Option, Some, None, inl, inr, refl, sym, ◌∙◌, ap, subst, append_assoc, append-nil, arith}
 use Rattle.std.specs.Prelude.{if◌then◌else◌, nat_eq}
 use Rattle.std.proofs.lemmas.List.Folds.{list_any-append}
-use Rattle.ug_table.proofs.Common.{Has, Held, Control, Authorized, IsOnce, IsOnceDue, control_of, Default, Put, Wrote, opens_default, FailedCall, Listing, Probe, Call, Names, Open, Read, Ask_alive, Close, Closing, Told, Answer, failed_read, Made, answered, failure, failures, count_calls, Bound, Binding, RemoveHold, Fault, OpenFile, open_file, close_file, files_left, files_after, AreAbout, EndsAtFailure, Behind, behind_more, IsWriteDue, AreDue, PutMade, put_of, puts_of, told_by, Write, failures_more, list_any, binding_of}
+use Rattle.ug_table.proofs.Common.{parent_of, Has, Held, Control, Authorized, IsOnce, IsOnceDue, control_of, Default, Put, Wrote, opens_default, FailedCall, Listing, Probe, Call, Names, Open, Read, Ask_alive, Close, Closing, Told, Answer, failed_read, Made, answered, failure, failures, count_calls, Bound, Binding, RemoveHold, Fault, OpenFile, open_file, close_file, files_left, files_after, AreAbout, EndsAtFailure, Behind, behind_more, IsWriteDue, AreDue, PutMade, put_of, puts_of, told_by, Write, failures_more, list_any, binding_of}
 use Rattle.ug_types.specs.declared.control.Attr.{Attr}
+use Rattle.ug_types.specs.declared.record.Attrs.{Attrs}
 use Rattle.ug_kernel.specs.declared.calls.Opened.{Opened}
 use Rattle.ug_kernel.specs.declared.calls.ReadOut.{ReadOut}
 use Rattle.ug_node.specs.declared.files.Stop.{Stop}
-use Rattle.ug_node.proofs.BindShapes.{told, IsReadable, Came, Reads, No_more, Then_read, Stops, No_descriptors, Binds_by, Cut, Probed_gone, Probe_failed, Bound_by, Holds_by, No_memory, Held_on, Died, Unasked, count_more}
+use Rattle.ug_node.proofs.BindShapes.{told, IsReadable, Came, Reads, No_more, Then_read, Stops, No_descriptors, Binds_by, Cut, Probed_gone, Probe_failed, Bound_by, Files, Alone, Below, Holds_by, No_memory, Held_on, Died, Unasked, count_more}
 
 -- answers that are want of memory
 
@@ -131,11 +132,15 @@ calls_more {name} {files} {b = b} {ms = ms} {ns = ns} {ps = ps} h k =
       few = omega (arith, h.few, k.few, count_more ms ns);
     }
 
+pub calls_within : {name : List ℕ} {files after other : List OpenFile} {b : Behind} {ms : List Made}
+    {faults : List Fault} {ps : List PutMade} {n m : ℕ} → after ≡ other → count_calls ms ≤ m
+    → CallsOf name files b ms after faults ps n → CallsOf name files b ms other faults ps m
+calls_within e few h = calls_are h.about h.ends h.due (h.left ∙ e) h.failed h.short h.puts few
+
 pub calls_as : {name : List ℕ} {files after other : List OpenFile} {b : Behind} {ms : List Made}
     {faults : List Fault} {ps : List PutMade} {n m : ℕ} → after ≡ other → n ≤ m
     → CallsOf name files b ms after faults ps n → CallsOf name files b ms other faults ps m
-calls_as e le h =
-    calls_are h.about h.ends h.due (h.left ∙ e) h.failed h.short h.puts (omega (arith, h.few, le))
+calls_as e le h = calls_within e (omega (arith, h.few, le)) h
 
 -- what was opened last is closed
 pub closed_first : (held : ℕ) (control : Control) (files : List OpenFile)
@@ -229,6 +234,37 @@ binds_calls files b (Bound_by call count number total ms x a few are) =
 binds_calls files b x = calls_are (refl, tt) (inl refl, tt) (tt, tt) refl refl refl refl
     (omega arith)
 
+-- the most calls that bind a device of that name, and that write to it: a root hub has no parent's files, and it alone a default
+abbrev pub binding_most : List ℕ → ℕ
+binding_most name = cond (is_none (parent_of name)) 6 9
+
+abbrev pub treating_most : List ℕ → ℕ
+treating_most name = cond (is_none (parent_of name)) 7 4
+
+pub both_most : (name : List ℕ) → binding_most name + treating_most name ≤ 13
+both_most name = by (is_none (parent_of name))
+  where
+    by : (root : Bool) → cond root 6 9 + cond root 7 4 ≤ 13
+    by true = omega arith
+    by false = omega arith
+
+pub treating_least : (name : List ℕ) → 4 ≤ treating_most name
+treating_least name = by (is_none (parent_of name))
+  where
+    by : (root : Bool) → 4 ≤ cond root 7 4
+    by true = omega arith
+    by false = omega arith
+
+pub root_most : (name : List ℕ) → parent_of name ≡ None → treating_most name ≡ 7
+root_most name root = ap (λ (o : Option (List ℕ)). cond (is_none o) 7 4) root
+
+files_few : {name : List ℕ} {ms : List Made} {attrs : Attrs} {parent : Option Attrs}
+    → Files name ms attrs parent → count_calls ms + 2 ≤ binding_most name
+files_few (Alone d p s c e) =
+    subst (λ (o : Option (List ℕ)). 6 ≤ cond (is_none o) 6 9) (sym e) (omega arith)
+files_few (Below of d p s c x y z e) =
+    subst (λ (o : Option (List ℕ)). 9 ≤ cond (is_none o) 6 9) (sym e) (omega arith)
+
 -- the device of that open file was found alive last
 abbrev pub IsFound : Behind → ℕ → Bool → Type 0
 IsFound b held on = (t : Told Probe) × (b.found ≡ Some (answered (Ask_alive held) t)) ×
@@ -242,6 +278,16 @@ stop_unbound y x e = let none : ⊥ = cc in none
 reads_open : {name : List ℕ} {ms : List Made} (b : Behind) → Reads name ms → opens_default b.last ≡ false → opens_default (behind_after b ms).last ≡ false
 reads_open b No_more e = e
 reads_open b (Then_read of at t ms may came r) e = reads_open (behind_more b (answered (Read of at) t)) r refl
+
+pub bound_few : {name : List ℕ} {ms : List Made} {x : Bound}
+    → Binds_by name ms (Binding.Bound x) → count_calls ms ≤ binding_most name
+bound_few {x = x} (Cut file call count ms of at t shut why r a few may stops e) =
+    absurd (stop_unbound why x e)
+bound_few (Bound_by call count number total ms x a few are) =
+    let end : Made = answered (Ask_alive x.held.0) (told (Probe.Alive x.on) number total) in
+    let most = files_few are in
+    let sum = count_more ms (end ∷ []) in
+    omega (arith, most, sum)
 
 pub bound_found : {name : List ℕ} {ms : List Made} {x : Bound} (b : Behind)
     → Binds_by name ms (Binding.Bound x) → IsFound (behind_after b ms) x.held.0 x.on

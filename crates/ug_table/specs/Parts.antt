@@ -311,7 +311,7 @@ pub record Part (hub : Option Write) (name : List ℕ) (before after : List Stan
   pub due : AreDue (record { last = None; earlier = None; found = None }) calls
   pub single : AtMostOneEach (puts_of calls)
   pub writes : TellsWrites name (puts_of calls) (writes_in entries)
-  pub few : count_calls calls ≤ 17
+  pub few : count_calls calls ≤ 14
   pub bears : AllBear name entries
   pub numbers : AreOfNumber (number_of (standing_of name before)) entries (number_of (standing_of name after))
   pub given : length (numbers_given entries) ≤ 1

@@ -51,13 +51,17 @@ fn make_links(
 }
 
 // The journal goes to standard output, and is read along for a refusal.
-fn make_panel(rt: &HostRuntime, refusal: Found) -> Result<Panel, AllocError> {
+fn make_auditors(
+    rt: &HostRuntime,
+    found: &Found,
+) -> Result<(Box<WriterAuditor<JournalOutput>>, Box<RefusalReader>), AllocError> {
     let alloc = rt.alloc();
     let output = JournalOutput::new(alloc, OUTPUT, omits_idle(rt));
-    let mut members: Vec<Box<dyn Auditor>> = Vec::new(alloc);
-    members.push(Box::new(alloc, WriterAuditor::new(output))?)?;
-    members.push(Box::new(alloc, RefusalReader::new(refusal))?)?;
-    Ok(Panel::new(members))
+    let reader = RefusalReader::new(found.clone()?);
+    Ok((
+        Box::new(alloc, WriterAuditor::new(output))?,
+        Box::new(alloc, reader)?,
+    ))
 }
 
 fn make_found(rt: &HostRuntime) -> Result<Found, AllocError> {
@@ -82,9 +86,15 @@ fn serve_with(
     waiter: &mut SocketWaiter<HostRuntime>,
     links: &mut SocketFolder<HostRuntime>,
     found: Found,
-    panel: &mut Panel,
 ) -> u8 {
     let alloc = rt.alloc();
+    let Ok((output, reader)) = make_auditors(&rt, &found) else {
+        return 6;
+    };
+    let mut members: Vec<Box<dyn Auditor>> = Vec::new(alloc);
+    if members.push(output).is_err() || members.push(reader).is_err() {
+        return 6;
+    }
     let zone = LocalZone::read(&rt, alloc, "/etc/localtime");
     let mut files = ConfFolder::new(rt);
     let mut disk = RuleFile::new(rt, alloc);
@@ -99,7 +109,7 @@ fn serve_with(
         links,
         waiter,
         &mut SystemClock::new(rt),
-        panel,
+        &mut Panel::new(members),
         u64::MAX,
     );
     let paths = LastPaths {
@@ -122,12 +132,6 @@ pub fn serve(rt: HostRuntime, words: &[&str]) -> u8 {
     let Ok(found) = make_found(&rt) else {
         return 6;
     };
-    let Ok(reader) = found.clone() else {
-        return 6;
-    };
-    let Ok(mut panel) = make_panel(&rt, reader) else {
-        return 6;
-    };
     let Ok(seed) = read_seed(&rt) else {
         return 4;
     };
@@ -139,16 +143,7 @@ pub fn serve(rt: HostRuntime, words: &[&str]) -> u8 {
         Ok(links) => links,
         Err(e) => return status_without(&e),
     };
-    let status = serve_with(
-        rt,
-        words,
-        seed,
-        devices,
-        &mut waiter,
-        &mut links,
-        found,
-        &mut panel,
-    );
+    let status = serve_with(rt, words, seed, devices, &mut waiter, &mut links, found);
     mem::forget(links);
     status
 }
