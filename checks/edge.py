@@ -394,6 +394,8 @@ def trial_terminal(o, machine, folder):
     guard.await_line("end ")
     told = at_terminal([o.program, "check-rules"], b"allow\nallow name \"a\n")
     check("check-rules", all(x in told for x in ("line 2, column 12", "a string has no end", "    allow name \"a\n               ^")), told)
+    told = at_terminal([o.program, "check-rules"], b"allow\n  allow name \"a\n")
+    check("check-rules, with blanks before the rule", all(x in told for x in ("line 2, column 14", "      allow name \"a\n                 ^")), told)
     told = at_terminal([o.program, "add-user", "joe", "--devices", "list"], b"Frob=list\n")
     check("add-user", all(x in told for x in ("line 1, column 1", "no such section", "    Frob=list\n    ^")), told)
     told = at_terminal([o.program, "allow-device", "999"])

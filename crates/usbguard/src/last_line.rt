@@ -1,5 +1,5 @@
 // The last line that a command writes.
-use crate::shown::show_line;
+use crate::shown::{Spot, show_line};
 use crate::words::{access_fault, order_fault, rule_fault};
 use std::io::{self, IsTerminal, Write};
 use std::{fs, str};
@@ -72,11 +72,16 @@ fn tell_input(rt: &HostRuntime, line: &str, fault: &str) -> Option<io::Result<()
     let number = number_behind(line, "line")?;
     let place = number_behind(line, "place")?;
     let column = place.saturating_add(1);
+    let spot = Spot {
+        line: number,
+        place,
+        counts_blanks: line.starts_with("bad rules "),
+    };
     let told = eprintln!(rt; "usbguard: line {number}, column {column}: {fault}.");
     if told.is_err() || !fs::metadata(rt, "/dev/stdin").ok()?.is_file() {
         return Some(told);
     }
-    let shown = show_line(rt, "/dev/stdin", number, place)?;
+    let shown = show_line(rt, "/dev/stdin", spot)?;
     let shown = shown.as_str();
     Some(eprint!(rt; "{shown}"))
 }

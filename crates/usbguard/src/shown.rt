@@ -11,11 +11,26 @@ const BEFORE: usize = 60;
 
 const BEHIND: usize = 40;
 
-/// The bytes of a line of a text, which is counted from 1, without the blanks that begin it.
-fn line_of(text: &[u8], line: u64) -> Option<&[u8]> {
-    let before = usize::try_from(line.checked_sub(1)?).ok()?;
+/// Where a fault stands in a line.
+#[derive(Clone, Copy, Drop)]
+pub struct Spot {
+    /// The line's number, from 1.
+    pub line: u64,
+    /// How many bytes stand before the fault.
+    pub place: u64,
+    /// Whether blanks that begin the line are among them.
+    pub counts_blanks: bool,
+}
+
+/// The bytes of a text's line that are counted.
+fn line_of(text: &[u8], spot: Spot) -> Option<&[u8]> {
+    let before = usize::try_from(spot.line.checked_sub(1)?).ok()?;
     let bytes = text.split(|byte| *byte == b'\n').nth(before)?;
-    Some(bytes.trim_ascii_start())
+    if spot.counts_blanks {
+        Some(bytes)
+    } else {
+        Some(bytes.trim_ascii_start())
+    }
 }
 
 /// A text with a mark for each character that a terminal wouldn't show.
@@ -51,10 +66,10 @@ fn read_text(rt: &HostRuntime, path: &str) -> Option<Vec<u8>> {
 }
 
 /// The line of a file in which a fault stands, and a caret below its place: two lines, each with its end. None where they can't be had.
-pub fn show_line(rt: &HostRuntime, path: &str, line: u64, place: u64) -> Option<String> {
+pub fn show_line(rt: &HostRuntime, path: &str, spot: Spot) -> Option<String> {
     let text = read_text(rt, path)?;
-    let line = str::from_utf8(line_of(text.as_slice(), line)?).ok()?;
-    let (part, count) = around(line, usize::try_from(place).ok()?)?;
+    let line = str::from_utf8(line_of(text.as_slice(), spot)?).ok()?;
+    let (part, count) = around(line, usize::try_from(spot.place).ok()?)?;
     let mut shown = String::from_str(rt.alloc(), "    ").ok()?;
     put_plain(&mut shown, part)?;
     shown.push_str("\n    ").ok()?;

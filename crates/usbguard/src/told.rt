@@ -1,5 +1,5 @@
 // What a daemon that has ended tells a person.
-use crate::shown::show_line;
+use crate::shown::{Spot, show_line};
 use crate::words::{access_fault, rule_fault, settings_fault};
 use std::{fs, str};
 use ug_host::{RefusedPart, StartRefusal};
@@ -63,7 +63,12 @@ fn tell_refusal(rt: &HostRuntime, refusal: StartRefusal, path: &str) -> std::io:
     let (line, column) = (refusal.line, refusal.place.saturating_add(1));
     if line > 0 {
         eprintln!(rt; "usbguard: {path}, line {line}, column {column}: {fault}.")?;
-        if let Some(shown) = show_line(rt, path, line, refusal.place) {
+        let spot = Spot {
+            line,
+            place: refusal.place,
+            counts_blanks: refusal.part == RefusedPart::Rules,
+        };
+        if let Some(shown) = show_line(rt, path, spot) {
             let shown = shown.as_str();
             eprint!(rt; "{shown}")?;
         }
