@@ -12,7 +12,7 @@ const BEFORE: usize = 60;
 const BEHIND: usize = 40;
 
 /// Where a fault stands in a line.
-#[derive(Clone, Copy, Drop)]
+#[derive(Clone, Copy)]
 pub struct Spot {
     /// The line's number, from 1.
     pub line: u64,
