@@ -1,6 +1,6 @@
 #!/bin/sh
 # Times lint-rules and lint-rules --prune on 4,096 rules, the most that it takes: some 8 million pairs. Prints what each said, seconds, and peak
-# memory. It wants the built program (bin/usbguard builds it), awk, and GNU time as /usr/bin/time.
+# memory. It wants the built program (bin/build-usbguard builds it), awk, and GNU time as /usr/bin/time.
 set -eu
 . "$(dirname "$0")/program.sh"
 
